@@ -1,0 +1,3 @@
+pub mod LeastLemmas
+pub mod NeedLemmas
+pub mod PlaceLemmas

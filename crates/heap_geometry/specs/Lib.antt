@@ -1,0 +1,3 @@
+pub mod Geometry
+pub mod Need
+pub mod Place
