@@ -1,0 +1,5 @@
+pub mod Calls
+pub mod Faults
+pub mod Memory
+pub mod Real
+pub mod Source
