@@ -1,0 +1,3 @@
+pub mod FirstPath
+pub mod Reading
+pub mod Text

@@ -1,0 +1,56 @@
+-- The canonical text of a trace.
+use Rattle.std.specs.Prelude.{ℕ, List, [], ◌∷◌, ◌++◌, codes, if◌then◌else◌}
+use Rattle.std.specs.List.{flat_map, join_with_byte}
+use Rattle.std.specs.Fmt.{decimal}
+use Rattle.trace_text.specs.declared.limits.TheConstants.{SPACE, LINE_FEED}
+use Rattle.trace_text.specs.declared.trace.Op.{Op}
+use Rattle.trace_text.specs.declared.trace.Op.TheVariants.{Alloc, Free, Fill, Check, Put, Take}
+use Rattle.trace_text.specs.declared.trace.OrderRun.{OrderRun}
+use Rattle.trace_text.specs.declared.trace.Trace.{Trace}
+
+-- a line: its fields parted by one space, and one line feed
+abbrev pub line : List (List ℕ) → List ℕ
+line fields = join_with_byte SPACE fields ++ LINE_FEED ∷ []
+
+-- the turn limit, where the trace names it
+abbrev pub limit_fields : Trace → List (List ℕ)
+limit_fields trace = if trace.named_limit then decimal trace.heap.turn_limit ∷ [] else []
+
+-- the fields of the heap line
+abbrev pub heap_fields : Trace → List (List ℕ)
+heap_fields trace =
+    codes "heap" ∷ decimal trace.heap.frames ∷ decimal trace.heap.heaps ∷ decimal trace.heap.units ∷ limit_fields trace
+
+-- the fields of an operation
+unfoldable pub op_fields : Op → List (List ℕ)
+op_fields (Alloc r need v) = codes "a" ∷ decimal r ∷ decimal need ∷ decimal v ∷ []
+op_fields (Free r) = codes "f" ∷ decimal r ∷ []
+op_fields (Fill r v) = codes "w" ∷ decimal r ∷ decimal v ∷ []
+op_fields (Check r) = codes "c" ∷ decimal r ∷ []
+op_fields (Put r shelf) = codes "p" ∷ decimal r ∷ decimal shelf ∷ []
+op_fields (Take r shelf) = codes "t" ∷ decimal r ∷ decimal shelf ∷ []
+
+-- the line of an operation
+abbrev pub op_line : Op → List ℕ
+op_line op = line (op_fields op)
+
+-- the first line of a lane
+abbrev pub lane_line : List ℕ
+lane_line = line (codes "lane" ∷ [])
+
+-- the lines of a lane: the word `lane`, and then a line for each operation
+abbrev pub lane_lines : List Op → List ℕ
+lane_lines ops = lane_line ++ flat_map op_line ops
+
+-- the line of an order run
+abbrev pub order_line : OrderRun → List ℕ
+order_line run = line (codes "order" ∷ decimal run.lane ∷ decimal run.steps ∷ [])
+
+-- the last line
+abbrev pub end_line : List ℕ
+end_line = line (codes "end" ∷ [])
+
+-- the canonical text: the heap line, the lanes, the order lines and the last line
+unfoldable pub canonical_of : Trace → List ℕ
+canonical_of trace =
+    line (heap_fields trace) ++ flat_map lane_lines trace.lanes ++ flat_map order_line trace.orders ++ end_line

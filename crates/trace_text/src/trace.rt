@@ -1,0 +1,124 @@
+//! What a trace is: the heap that it runs on, and what each lane does there.
+
+ghost use Rattle.std.specs.Prelude.{◌≡◌, map};
+
+use heap_geometry::geometry::Geometry;
+use std::marker::Model;
+
+/// A trace. Contracts see it as plain data: a lane is a list of operations.
+#[derive(Debug, Drop)]
+pub struct Trace {
+    /// The heap that the trace runs on. Each lane is a caller, and there is one caller where there
+    /// is no lane.
+    pub heap: Geometry,
+    /// Whether the text names the heap's turn limit.
+    pub named_limit: bool,
+    /// What each lane does.
+    pub lanes: Lanes,
+    /// The order in which lanes take their steps, where the trace gives one.
+    pub orders: Orders,
+}
+
+/// What a lane does next. `r` is one of its registers, below `REGISTERS`.
+#[derive(Clone, Copy, Debug, PartialEq, Eq)]
+pub enum Op {
+    /// Allocates `need` words into the register, and fills them with `v`.
+    Alloc { r: u16, need: u32, v: u64 },
+    /// Frees the register's block.
+    Free { r: u16 },
+    /// Fills the register's block with `v`.
+    Fill { r: u16, v: u64 },
+    /// Sums the words of the register's block.
+    Check { r: u16 },
+    /// Puts the register's block on a shelf.
+    Put { r: u16, shelf: u8 },
+    /// Takes a block from a shelf into the register.
+    Take { r: u16, shelf: u8 },
+}
+
+/// A run of steps of one lane.
+#[derive(Clone, Copy, Debug, PartialEq, Eq)]
+pub struct OrderRun {
+    /// The lane that takes the steps.
+    pub lane: u8,
+    /// How many steps, from 1 on.
+    pub steps: u32,
+}
+
+/// The lanes of a trace, each with its operations in their order.
+#[derive(Debug, Drop)]
+pub struct Lanes {
+    lanes: Vec<Vec<Op>>,
+}
+
+impl Model for Lanes {
+    ghost use Rattle.std.specs.Prelude.{List, map};
+    ghost use Rattle.trace_text.specs.declared.trace.Op.{Op};
+
+    ghost Value = { List (List Op) };
+
+    ghost view = { λ a. map (λ ops. ops.items) a.lanes.items };
+}
+
+impl Lanes {
+    /// The lanes, which take no further memory.
+    pub fn new(lanes: Vec<Vec<Op>>) -> Self
+        ensures { result ≡ map (λ ops. ops.items) lanes.items }
+    {
+        Lanes { lanes }
+    }
+
+    /// The lanes, to be looked at.
+    pub fn as_slice(&self) -> &[Vec<Op>]
+        ensures { map (λ ops. ops.items) result.now ≡ self.now }
+    {
+        self.lanes.as_slice()
+    }
+
+    /// The lanes, given back.
+    pub fn into_vec(self) -> Vec<Vec<Op>>
+        ensures { map (λ ops. ops.items) result.items ≡ self }
+    {
+        let Lanes { lanes } = self;
+        lanes
+    }
+}
+
+/// The order runs of a trace.
+#[derive(Debug, Drop)]
+pub struct Orders {
+    runs: Vec<OrderRun>,
+}
+
+impl Model for Orders {
+    ghost use Rattle.std.specs.Prelude.{List};
+    ghost use Rattle.trace_text.specs.declared.trace.OrderRun.{OrderRun};
+
+    ghost Value = { List OrderRun };
+
+    ghost view = { λ a. a.runs.items };
+}
+
+impl Orders {
+    /// The order runs, which take no further memory.
+    pub fn new(runs: Vec<OrderRun>) -> Self
+        ensures { result ≡ runs.items }
+    {
+        Orders { runs }
+    }
+
+    /// The order runs, to be looked at.
+    pub fn as_slice(&self) -> &[OrderRun]
+        ensures { result.now ≡ self.now }
+    {
+        self.runs.as_slice()
+    }
+
+    /// The order runs, given back.
+    pub fn into_vec(self) -> Vec<OrderRun>
+        ensures { result.items ≡ self }
+    {
+        let Orders { runs } = self;
+        runs
+    }
+}
