@@ -1,0 +1,7 @@
+pub mod Active
+pub mod Anchor
+pub mod Fields
+pub mod Head
+pub mod Info
+pub mod Prefix
+pub mod Shelf

@@ -1,0 +1,4 @@
+pub mod Actions
+pub mod Counts
+pub mod Table
+pub mod Words

@@ -1,0 +1,88 @@
+//! The order of the words, by the table of their numbers, and the five actions.
+#![tactic(auto, unfolding(crate::specs::Counts::descriptor_count, crate::specs::Counts::word_count))]
+
+use crate::action::{Action, Found, apply};
+use crate::layout::Layout;
+use crate::name::WordName;
+use heap_geometry::geometry::Geometry;
+
+const SMALL: Geometry = Geometry {
+    frames: 4,
+    heaps: 2,
+    units: 2,
+    callers: 1,
+    turn_limit: 1,
+};
+
+const LARGEST: Geometry = Geometry {
+    frames: 1024,
+    heaps: 16,
+    units: 64,
+    callers: 16,
+    turn_limit: 274_877_906_943,
+};
+
+#[test]
+fn the_largest_heap(rt: HostRuntime) {
+    let layout = Layout::new(LARGEST);
+    assert_eq!(rt; layout.words(), 2_262_637);
+    assert_eq!(rt; layout.descriptors(), 10_992);
+    assert_eq!(rt; layout.index(WordName::Shelf(63)), 2_262_636);
+}
+
+// 6 * 2048 words of the arena, then three groups of 10 * (4 + 2 + 2 * 1) + 1 * 2 = 82 words.
+#[test]
+fn words_of_descriptors(rt: HostRuntime) {
+    let layout = Layout::new(SMALL);
+    assert_eq!(rt; layout.geometry(), SMALL);
+    assert_eq!(rt; layout.descriptors(), 82);
+    assert_eq!(rt; layout.index(WordName::Arena(12_287)), 12_287);
+    assert_eq!(rt; layout.index(WordName::Anchor(0)), 12_288);
+    assert_eq!(rt; layout.index(WordName::Next(0)), 12_370);
+    assert_eq!(rt; layout.index(WordName::Info(0)), 12_452);
+    assert_eq!(rt; layout.name(12_369), WordName::Anchor(81));
+    assert_eq!(rt; layout.name(12_533), WordName::Info(81));
+}
+
+// Two groups of 2 * 10 words, in which the words of one heap stand together.
+#[test]
+fn words_of_heaps(rt: HostRuntime) {
+    let layout = Layout::new(SMALL);
+    assert_eq!(rt; layout.index(WordName::Active(0, 0)), 12_534);
+    assert_eq!(rt; layout.index(WordName::Active(1, 3)), 12_547);
+    assert_eq!(rt; layout.index(WordName::Slot(0, 0)), 12_554);
+    assert_eq!(rt; layout.index(WordName::ListHead(0)), 12_574);
+    assert_eq!(rt; layout.name(12_544), WordName::Active(1, 0));
+    assert_eq!(rt; layout.name(12_573), WordName::Slot(1, 9));
+}
+
+#[test]
+fn other_words(rt: HostRuntime) {
+    let layout = Layout::new(SMALL);
+    assert_eq!(rt; layout.index(WordName::FrameNext(0)), 12_584);
+    assert_eq!(rt; layout.index(WordName::FrameHead), 12_588);
+    assert_eq!(rt; layout.index(WordName::DescHead), 12_589);
+    assert_eq!(rt; layout.name(12_590), WordName::Hazard(0));
+    assert_eq!(rt; layout.name(12_591), WordName::Units);
+    assert_eq!(rt; layout.name(12_592), WordName::Shelf(0));
+    assert_eq!(rt; layout.words(), 12_656);
+}
+
+#[test]
+fn actions(rt: HostRuntime) {
+    let name = WordName::Units;
+    let won = Found {
+        value: 12,
+        won: true,
+    };
+    let lost = Found {
+        value: 12,
+        won: false,
+    };
+    assert_eq!(rt; apply(&Action::Load(name), 12), (12, won));
+    assert_eq!(rt; apply(&Action::Store(name, 3), 12), (3, won));
+    assert_eq!(rt; apply(&Action::Cas(name, 12, 3), 12), (3, won));
+    assert_eq!(rt; apply(&Action::Cas(name, 11, 3), 12), (12, lost));
+    assert_eq!(rt; apply(&Action::Swap(name, 3), 12), (3, won));
+    assert_eq!(rt; apply(&Action::And(name, 10), 12), (8, won));
+}
