@@ -1,0 +1,14 @@
+pub mod PoolLemmas
+pub mod HistoryLemmas
+pub mod NeedOfLemmas
+pub mod WellFormedLemmas
+pub mod OwnerLemmas
+pub mod CountLemmas
+pub mod KeptLemmas
+pub mod VisitLemmas
+pub mod PlacesLemmas
+pub mod FreeLemmas
+pub mod ChosenLemmas
+pub mod RefusalLemmas
+pub mod AnswerLemmas
+pub mod CapacityLemmas

@@ -1,0 +1,10 @@
+pub mod Histories
+pub mod Pool
+pub mod Legal
+pub mod Calls
+pub mod WellFormed
+pub mod Counts
+pub mod Plain
+pub mod Answers
+pub mod Stored
+pub mod Search
