@@ -1,0 +1,11 @@
+mod EdgeLemmas
+mod RegisterLemmas
+mod FillLemmas
+mod HoldLemmas
+mod LaneLemmas
+mod RunLemmas
+mod FitLemmas
+mod ReportLemmas
+mod LanesLemmas
+mod WordLemmas
+mod CountedLemmas

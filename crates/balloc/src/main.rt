@@ -1,0 +1,53 @@
+//! Replays allocation traces, and reports what became of each operation.
+#![tactic(auto)]
+
+use edge_io::gate::NoGate;
+use edge_io::real::{StdSink, StdSource};
+use run::run;
+use status::OUT_OF_MEMORY;
+use std::alloc::Global;
+use std::process::ExitCode;
+use std::rt::Env;
+use std::{env, io};
+
+mod closing;
+mod counted;
+mod input;
+mod lane;
+mod laws;
+mod outcome;
+mod output;
+mod registers;
+mod replay;
+mod report;
+mod run;
+mod status;
+#[cfg(test)]
+mod tests;
+
+/// The words behind the program's name.
+fn words<R: Env + AllocGlobal>(rt: &R, alloc: Global) -> io::Result<Vec<String>> {
+    let mut words = Vec::new(alloc);
+    for word in env::args(rt)?.skip(1) {
+        words.push(word)?;
+    }
+    Ok(words)
+}
+
+fn main(rt: HostRuntime) -> ExitCode {
+    let alloc = rt.alloc();
+    let Ok(words) = words(&rt, alloc) else {
+        return ExitCode::from(OUT_OF_MEMORY);
+    };
+    let mut source = StdSource::new(rt.reader());
+    let mut sink = StdSink::new(io::writer(&rt));
+    let ended = run(
+        &rt,
+        alloc,
+        words.as_slice(),
+        &mut source,
+        &mut sink,
+        &NoGate,
+    );
+    ExitCode::from(ended.status)
+}

@@ -1,0 +1,19 @@
+//! The statuses that the program ends with.
+
+/// The whole report was written.
+pub const REPORTED: u8 = 0;
+
+/// The words are none of the program's commands.
+pub const USAGE: u8 = 2;
+
+/// The input is no text of a trace.
+pub const REFUSED: u8 = 3;
+
+/// The source failed.
+pub const READ_FAULT: u8 = 4;
+
+/// The sink failed.
+pub const WRITE_FAULT: u8 = 5;
+
+/// Memory was not found.
+pub const OUT_OF_MEMORY: u8 = 6;
