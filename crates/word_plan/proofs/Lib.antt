@@ -2,5 +2,6 @@ pub mod ActionLemmas
 pub mod CountLemmas
 pub mod GroupLemmas
 pub mod NameLemmas
+pub mod SeatLemmas
 pub mod TableLemmas
 pub mod WordLemmas

@@ -1,4 +1,6 @@
 pub mod Actions
 pub mod Counts
+pub mod Seats
+pub mod Sites
 pub mod Table
 pub mod Words

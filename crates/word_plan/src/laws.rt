@@ -3,14 +3,18 @@
 ghost use Rattle.std.specs.Prelude.{ℕ, List, length, slice_index, slice_set, ◌≡◌, ◌≢◌, ◌<◌, ◌≤◌, ◌^◌, ◌⊎◌};
 ghost use Rattle.heap_geometry.specs.declared.geometry.Geometry.{Geometry};
 ghost use Rattle.heap_geometry.specs.Geometry.{IsChecked};
+ghost use Rattle.heap_geometry.specs.Need.{block_count_of};
+ghost use Rattle.heap_geometry.specs.Place.{block_place};
 ghost use Rattle.packed_words.specs.declared.widths.TheConstants.{DESC_BITS};
 ghost use Rattle.word_plan.specs.Actions.{after_action, IsLost};
 ghost use Rattle.word_plan.specs.Counts.{descriptor_count, word_count};
+ghost use Rattle.word_plan.specs.Seats.{SeatFields, heap_of};
 ghost use Rattle.word_plan.specs.Table.{Exists, word_index, word_name};
 ghost use Rattle.word_plan.specs.Words.{word_in, Writes};
 ghost use Rattle.word_plan.specs.declared.action.Action.{Action};
 ghost use Rattle.word_plan.specs.declared.limits.TheConstants.{MAX_DESCRIPTORS, MAX_WORDS};
 ghost use Rattle.word_plan.specs.declared.name.WordName.{WordName};
+ghost use Rattle.word_plan.specs.declared.name.WordName.TheVariants.{Arena};
 
 /// No heap has more descriptors or words than the largest one, and each descriptor's index plus 1
 /// fits the bits that a packed word has for it.
@@ -28,6 +32,13 @@ pub fn places_are_exact()
     ensures forth { (g : Geometry) (index : ℕ) → index < word_count g → word_index g (word_name g index) ≡ index }
     ensures apart { (g : Geometry) (m n : WordName) → Exists g m → Exists g n → m ≢ n
         → word_index g m ≢ word_index g n }
+{}
+
+/// A frame's blocks lie in the arena, and the processor heap of a caller is one of the heap's.
+pub fn seats_have_their_words()
+    ensures block { (g : Geometry) (frame class index : ℕ) → frame < g.frames → index < block_count_of class
+        → Exists g (Arena (block_place frame class index)) }
+    ensures heap { (s : SeatFields) → 0 < s.geometry.heaps → heap_of s < s.geometry.heaps }
 {}
 
 /// Two names are one or are not.

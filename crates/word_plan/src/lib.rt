@@ -10,5 +10,6 @@ pub mod laws;
 pub mod layout;
 pub mod limits;
 pub mod name;
+pub mod seat;
 #[cfg(test)]
 mod tests;

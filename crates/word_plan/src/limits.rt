@@ -3,6 +3,7 @@
 use heap_geometry::limits::{
     CLASSES, FRAME_WORDS, MAX_CALLERS, MAX_FRAMES, MAX_HEAPS, MAX_UNITS, SHELVES, UNIT_WORDS,
 };
+use packed_words::widths::CREDIT_BITS;
 
 /// The most descriptors of a heap.
 pub const MAX_DESCRIPTORS: u32 = CLASSES as u32 * (MAX_FRAMES + MAX_HEAPS + 2 * MAX_CALLERS)
@@ -18,3 +19,6 @@ pub const MAX_WORDS: u32 = FRAME_WORDS * MAX_FRAMES
     + MAX_CALLERS
     + SHELVES as u32
     + 3;
+
+/// The most blocks of a superblock that an active word offers at once.
+pub const MOST_CREDITS: u16 = 1 << CREDIT_BITS;

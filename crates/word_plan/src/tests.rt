@@ -4,7 +4,10 @@
 use crate::action::{Action, Found, apply};
 use crate::layout::Layout;
 use crate::name::WordName;
+use crate::seat::{Seat, Site};
 use heap_geometry::geometry::Geometry;
+use packed_words::anchor::{Anchor, State};
+use packed_words::info::Info;
 
 const SMALL: Geometry = Geometry {
     frames: 4,
@@ -85,4 +88,50 @@ fn actions(rt: HostRuntime) {
     assert_eq!(rt; apply(&Action::Cas(name, 11, 3), 12), (12, lost));
     assert_eq!(rt; apply(&Action::Swap(name, 3), 12), (3, won));
     assert_eq!(rt; apply(&Action::And(name, 10), 12), (8, won));
+}
+
+/// The second to last of four callers, in a heap of three processor heaps, at blocks of 1024 words.
+fn seat() -> Seat {
+    let geometry = Geometry {
+        frames: 4,
+        heaps: 3,
+        units: 2,
+        callers: 4,
+        turn_limit: 1,
+    };
+    Seat::new(geometry, 2, 9)
+}
+
+// 10 * (4 + 3 + 2 * 4) + 4 * 5 = 170 descriptors.
+#[test]
+fn seats(rt: HostRuntime) {
+    assert_eq!(rt; seat().geometry().frames, 4);
+    assert_eq!(rt; seat().caller(), 2);
+    assert_eq!(rt; seat().class(), 9);
+    assert_eq!(rt; seat().heap(), 2);
+    assert_eq!(rt; seat().descriptors(), 170);
+    assert_eq!(rt; seat().block_count(), 2);
+    assert_eq!(rt; seat().place(3, 1), 7168);
+    let site = Site {
+        seat: seat(),
+        desc: 5,
+        frame: 3,
+    };
+    assert_eq!(rt; site.place(1), 7168);
+    assert_eq!(rt; site.info_word(), 3 + 2 * 65_536 + 9 * 16_777_216);
+}
+
+// What a found word names, where the heap has it.
+#[test]
+fn found_words(rt: HostRuntime) {
+    assert_eq!(rt; seat().desc_named(0), None);
+    assert_eq!(rt; seat().desc_named(1), Some(0));
+    assert_eq!(rt; seat().desc_named(170), Some(169));
+    assert_eq!(rt; seat().desc_named(171), None);
+    let info = Info::new(3, 2, 9);
+    assert_eq!(rt; seat().info(3 + 2 * 65_536 + 9 * 16_777_216), Some(info));
+    assert_eq!(rt; seat().info(4), None);
+    assert_eq!(rt; seat().info(3 * 65_536), None);
+    assert_eq!(rt; seat().anchor(1), Some(Anchor::new(1, 0, State::Active, 0)));
+    assert_eq!(rt; seat().anchor(2), None);
 }

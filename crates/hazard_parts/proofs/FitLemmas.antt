@@ -1,0 +1,106 @@
+-- Everything that a point remembers exists in its heap, before and after each step.
+use Rattle.std.proofs.Common.{ℕ, Bool, true, false, ◌≡◌, ◌+◌, ◌-◌, ◌<◌, ◌≤◌, ◌^◌, ◌∙◌, Option, Some, None, arith, ap, length-set}
+use Rattle.std.specs.Prelude.{List, ◌==◌, nat_lt, nat_le, slice_set, if◌then◌else◌}
+use Rattle.std.proofs.lemmas.Bool.{cond_both, ltb-true, leb-true, and_parts}
+use Rattle.heap_geometry.specs.declared.geometry.Geometry.{Geometry}
+use Rattle.heap_geometry.specs.Geometry.{IsChecked}
+use Rattle.packed_words.specs.Fields.{is_within}
+use Rattle.word_plan.specs.declared.action.Found.{Found}
+use Rattle.word_plan.specs.Actions.{name_of}
+use Rattle.word_plan.specs.Counts.{descriptor_count}
+use Rattle.word_plan.specs.Seats.{SeatFields, desc_named}
+use Rattle.word_plan.specs.Sites.{IsSeatOf}
+use Rattle.word_plan.specs.Table.{Exists}
+use Rattle.hazard_parts.specs.declared.point.DescPoint.{DescPoint}
+use Rattle.hazard_parts.specs.declared.point.DescPoint.TheVariants.{LoadDescHead, StoreHazard, ReloadDescHead, LoadNextDesc, PopDesc, ClearAfterPop, ClearHazard, ReadHazard, LoadHeadToPush, StoreNextDesc, PushDesc, Got, Cleared, Scanned, Pushed}
+use Rattle.hazard_parts.specs.Fits.{IsScanOf, FitsDesc}
+use Rattle.hazard_parts.specs.Points.{plan_desc_of, settle_desc_of, link_in, after_head, after_next, after_hazard, after_top}
+
+-- the word that a point's action is on exists
+pub plan-exists :
+    (g : Geometry) (who : ℕ) (p : DescPoint) → IsChecked g → who < g.callers → FitsDesc g who p
+    → Exists g (name_of (plan_desc_of p))
+plan-exists g who (LoadDescHead s) checked has h = tt
+plan-exists g who (StoreHazard s d) checked has h = omega (arith, h.seat.caller)
+plan-exists g who (ReloadDescHead s d) checked has h = tt
+plan-exists g who (LoadNextDesc s d) checked has h = h.desc
+plan-exists g who (PopDesc s d next) checked has h = tt
+plan-exists g who (ClearAfterPop s d) checked has h = omega (arith, h.seat.caller)
+plan-exists g who (ClearHazard s) checked has h = omega (arith, h.caller)
+plan-exists g who (ReadHazard s held at) checked has h = h.1
+plan-exists g who (LoadHeadToPush s d) checked has h = tt
+plan-exists g who (StoreNextDesc s d top) checked has h = h.desc.desc
+plan-exists g who (PushDesc s d top) checked has h = tt
+plan-exists g who (Got s d) checked has h = tt
+plan-exists g who (Cleared s) checked has h = tt
+plan-exists g who (Scanned s held) checked has h = tt
+plan-exists g who (Pushed s d) checked has h = tt
+
+-- a choice fits where both points do
+either :
+    (g : Geometry) (who : ℕ) (b : Bool) (x y : DescPoint) → (b ≡ true → FitsDesc g who x) → (b ≡ false → FitsDesc g who y)
+    → FitsDesc g who (if b then x else y)
+either g who b x y = cond_both b x y (FitsDesc g who)
+
+-- what holds of each descriptor that the heap has, and of none, holds of what a word names
+each-desc :
+    (g : Geometry) (P : Option ℕ → Type 0) (word : ℕ) → P None
+    → ((d : ℕ) → d < descriptor_count g → P (Some d)) → P (desc_named g word)
+each-desc g P word none some =
+    cond_both (is_within 1 (descriptor_count g) word) (Some (word - 1)) None P
+    (λ e. let parts = and_parts (nat_le 1 word) (nat_le word (descriptor_count g)) e in
+    some (word - 1) (omega (arith, leb-true 1 word parts.0, leb-true word (descriptor_count g) parts.1)))
+    (λ e. none)
+
+-- what holds of each word that names a descriptor or is 0, and of none, holds of what is found
+each-link :
+    (g : Geometry) (P : Option ℕ → Type 0) (word : ℕ) → P None
+    → (word ≤ descriptor_count g → P (Some word)) → P (link_in g word)
+each-link g P word none some =
+    cond_both (nat_le word (descriptor_count g)) (Some word) None P
+    (λ e. some (leb-true word (descriptor_count g) e))
+    (λ e. none)
+
+-- the heap of a seat has the descriptors of the caller's heap
+same-count : (g : Geometry) (who : ℕ) (s : SeatFields) → IsSeatOf g who s → descriptor_count s.geometry ≡ descriptor_count g
+same-count g who s seat = ap descriptor_count seat.geometry
+
+-- where a caller's hazard word leads
+fits-hazard :
+    (g : Geometry) (who : ℕ) (s : SeatFields) (held : List ℕ) (at word : ℕ) → IsScanOf g who s held
+    → FitsDesc g who (after_hazard s held at word)
+fits-hazard g who s held at word h =
+    let noted = slice_set held at word in
+    let scan : IsScanOf g who s noted = record { seat = h.seat; words = length-set held at word ∙ h.words } in
+    either g who (nat_lt (at + 1) s.geometry.callers) (ReadHazard s noted (at + 1)) (Scanned s noted)
+    (λ e. (scan, omega (arith, ltb-true (at + 1) s.geometry.callers e, ap (λ x. x.callers) h.seat.geometry)))
+    (λ e. scan)
+
+-- the point after a step fits
+pub settle-fits :
+    (g : Geometry) (who : ℕ) (p : DescPoint) (x : Found) → IsChecked g → x.value < 2 ^ 64 → FitsDesc g who p
+    → FitsDesc g who (settle_desc_of p x)
+settle-fits g who (LoadDescHead s) x checked word h =
+    each-desc s.geometry (λ o. FitsDesc g who (after_head s o)) x.value h
+    (λ d has. record { seat = h; desc = omega (arith, has, same-count g who s h) })
+settle-fits g who (StoreHazard s d) x checked word h = h
+settle-fits g who (ReloadDescHead s d) x checked word h =
+    either g who (x.value == d + 1) (LoadNextDesc s d) (LoadDescHead s) (λ e. h) (λ e. h.seat)
+settle-fits g who (LoadNextDesc s d) x checked word h =
+    each-link s.geometry (λ o. FitsDesc g who (after_next s d o)) x.value h
+    (λ most. record { desc = h; link = omega (arith, most, same-count g who s h.seat) })
+settle-fits g who (PopDesc s d next) x checked word h =
+    either g who x.won (ClearAfterPop s d) (LoadDescHead s) (λ e. h.desc) (λ e. h.desc.seat)
+settle-fits g who (ClearAfterPop s d) x checked word h = h
+settle-fits g who (ClearHazard s) x checked word h = h
+settle-fits g who (ReadHazard s held at) x checked word h = fits-hazard g who s held at x.value h.0
+settle-fits g who (LoadHeadToPush s d) x checked word h =
+    each-link s.geometry (λ o. FitsDesc g who (after_top s d o)) x.value h
+    (λ most. record { desc = h; link = omega (arith, most, same-count g who s h.seat) })
+settle-fits g who (StoreNextDesc s d top) x checked word h = h
+settle-fits g who (PushDesc s d top) x checked word h =
+    either g who x.won (Pushed s d) (LoadHeadToPush s d) (λ e. h.desc) (λ e. h.desc)
+settle-fits g who (Got s d) x checked word h = h
+settle-fits g who (Cleared s) x checked word h = h
+settle-fits g who (Scanned s held) x checked word h = h
+settle-fits g who (Pushed s d) x checked word h = h

@@ -1,0 +1,4 @@
+pub mod FitLemmas
+pub mod PickLemmas
+pub mod RemoveLemmas
+pub mod SeatLemmas

@@ -1,0 +1,14 @@
+use Rattle.hazard_parts.proofs.PickLemmas.{none-all, all-none, some-listed, some-free, some-picked}
+use Rattle.hazard_parts.proofs.laws.picked_is_not_held.Goals as goal
+
+pub returns-clause-listed : goal.returns-clause-listed
+returns-clause-listed c = some-listed
+
+pub returns-clause-free : goal.returns-clause-free
+returns-clause-free c = some-free
+
+pub returns-clause-none : goal.returns-clause-none
+returns-clause-none c = λ held ds. (none-all held ds, all-none held ds)
+
+pub returns-clause-some : goal.returns-clause-some
+returns-clause-some c = some-picked

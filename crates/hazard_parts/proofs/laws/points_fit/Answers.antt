@@ -1,0 +1,12 @@
+use Rattle.hazard_parts.proofs.FitLemmas.{plan-exists, settle-fits}
+use Rattle.hazard_parts.proofs.SeatLemmas.{settle-seat}
+use Rattle.hazard_parts.proofs.laws.points_fit.Goals as goal
+
+pub returns-clause-names : goal.returns-clause-names
+returns-clause-names c = plan-exists
+
+pub returns-clause-keeps : goal.returns-clause-keeps
+returns-clause-keeps c = settle-fits
+
+pub returns-clause-seat : goal.returns-clause-seat
+returns-clause-seat c = settle-seat

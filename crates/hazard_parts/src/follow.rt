@@ -1,0 +1,88 @@
+//! Where a found word leads.
+
+ghost use Rattle.std.specs.Prelude.{◌≡◌, slice_set};
+ghost use Rattle.word_plan.specs.Seats.{desc_named};
+ghost use Rattle.hazard_parts.specs.Points.{link_in, after_head, after_reload, after_next, after_hazard, after_top};
+
+use crate::limits::HELD_MOST;
+use crate::plan::name_of_desc;
+use crate::point::DescPoint;
+use word_plan::seat::Seat;
+
+/// A word that is 0 or names a descriptor that the heap has; `None` where it does neither.
+fn link_in(seat: Seat, word: u64) -> Option<u16>
+    ensures { result ≡ link_in seat.geometry word }
+{
+    if word <= u64::from(seat.descriptors()) {
+        Some(word as u16)
+    } else {
+        None
+    }
+}
+
+/// From the head, to take the top descriptor.
+pub fn after_head(seat: Seat, word: u64) -> DescPoint
+    ensures { result ≡ after_head seat (desc_named seat.geometry word) }
+{
+    match seat.desc_named(word) {
+        Some(desc) => DescPoint::StoreHazard { seat, desc },
+        None => DescPoint::LoadDescHead { seat },
+    }
+}
+
+/// From the head that is loaded again.
+pub fn after_reload(seat: Seat, desc: u16, word: u64) -> DescPoint
+    ensures { result ≡ after_reload seat desc word }
+{
+    if word == name_of_desc(desc) {
+        DescPoint::LoadNextDesc { seat, desc }
+    } else {
+        DescPoint::LoadDescHead { seat }
+    }
+}
+
+/// From the word that says which descriptor is below.
+pub fn after_next(seat: Seat, desc: u16, word: u64) -> DescPoint
+    ensures { result ≡ after_next seat desc (link_in seat.geometry word) }
+{
+    match link_in(seat, word) {
+        Some(next) => DescPoint::PopDesc { seat, desc, next },
+        None => DescPoint::LoadNextDesc { seat, desc },
+    }
+}
+
+/// From the hazard word of caller `at`.
+pub fn after_hazard(seat: Seat, held: [u64; HELD_MOST], at: u8, word: u64) -> DescPoint
+    ensures { result ≡ after_hazard seat held at word }
+{
+    let held = noted(held, at, word);
+    if u32::from(at) + 1 < seat.geometry().callers {
+        DescPoint::ReadHazard {
+            seat,
+            held,
+            at: at + 1,
+        }
+    } else {
+        DescPoint::Scanned { seat, held }
+    }
+}
+
+/// The hazard words that were read, with that of caller `at`.
+fn noted(mut held: [u64; HELD_MOST], at: u8, word: u64) -> [u64; HELD_MOST]
+    ensures { result ≡ slice_set held at word }
+{
+    if usize::from(at) < held.len() {
+        held[usize::from(at)] = word;
+    }
+    held
+}
+
+/// From the head, to push a descriptor.
+pub fn after_top(seat: Seat, desc: u16, word: u64) -> DescPoint
+    ensures { result ≡ after_top seat desc (link_in seat.geometry word) }
+{
+    match link_in(seat, word) {
+        Some(top) => DescPoint::StoreNextDesc { seat, desc, top },
+        None => DescPoint::LoadHeadToPush { seat, desc },
+    }
+}

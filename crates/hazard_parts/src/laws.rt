@@ -1,0 +1,43 @@
+//! Laws of hazard words and retired descriptors: theorems about the definitions, on functions that
+//! do nothing.
+
+ghost use Rattle.std.specs.Prelude.{ℕ, List, ◌≡◌, ◌≢◌, ◌<◌, ◌+◌, ◌++◌, ◌∷◌, ◌^◌, ◌↔◌, Some, None, length, All, AllPairs, Contains, IsSome, count_by, nat_lt};
+ghost use Rattle.heap_geometry.specs.declared.geometry.Geometry.{Geometry};
+ghost use Rattle.heap_geometry.specs.Geometry.{IsChecked};
+ghost use Rattle.word_plan.specs.declared.action.Found.{Found};
+ghost use Rattle.word_plan.specs.Actions.{name_of};
+ghost use Rattle.word_plan.specs.Table.{Exists};
+ghost use Rattle.hazard_parts.specs.Fits.{FitsDesc};
+ghost use Rattle.hazard_parts.specs.Points.{plan_desc_of, seat_of_desc, settle_desc_of};
+ghost use Rattle.hazard_parts.specs.Retired.{first_unheld, without};
+ghost use Rattle.hazard_parts.specs.declared.point.DescPoint.{DescPoint};
+
+/// A point whose memory exists in a heap acts on a word that exists there, and leads to such a
+/// point of the same seat, whatever it finds.
+pub fn points_fit()
+    ensures names { (g : Geometry) (who : ℕ) (p : DescPoint) → IsChecked g → who < g.callers
+        → FitsDesc g who p → Exists g (name_of (plan_desc_of p)) }
+    ensures keeps { (g : Geometry) (who : ℕ) (p : DescPoint) (x : Found) → IsChecked g
+        → x.value < 2 ^ 64 → FitsDesc g who p → FitsDesc g who (settle_desc_of p x) }
+    ensures seat { (p : DescPoint) (x : Found)
+        → seat_of_desc (settle_desc_of p x) ≡ seat_of_desc p }
+{}
+
+/// What is picked is listed, and no hazard word names it. Nothing is picked exactly where each
+/// listed descriptor is named; and this can't be so where the listed descriptors are all different
+/// and more than the hazard words that are in use.
+pub fn picked_is_not_held()
+    ensures listed { (held ds : List ℕ) (d : ℕ) → first_unheld held ds ≡ Some d → Contains ds d }
+    ensures free { (held ds : List ℕ) (d : ℕ) → first_unheld held ds ≡ Some d
+        → ¬ Contains held (d + 1) }
+    ensures none { (held ds : List ℕ)
+        → (first_unheld held ds ≡ None) ↔ All (λ d. Contains held (d + 1)) ds }
+    ensures some { (held ds : List ℕ) → AllPairs (λ a b. a ≢ b) ds
+        → count_by (λ word. nat_lt 0 word) held < length ds → IsSome (first_unheld held ds) }
+{}
+
+/// Taking a descriptor off a list joins what stood before it and what stood after it.
+pub fn others_keep_their_order()
+    ensures { (d : ℕ) (before after : List ℕ) → ¬ Contains before d
+        → without d (before ++ d ∷ after) ≡ before ++ after }
+{}

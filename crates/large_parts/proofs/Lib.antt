@@ -1,0 +1,3 @@
+pub mod FitLemmas
+pub mod LowestLemmas
+pub mod UnitLemmas

@@ -1,0 +1,15 @@
+use Rattle.large_parts.proofs.FitLemmas.{take-step}
+use Rattle.large_parts.proofs.UnitLemmas.{with_run-inside, with_run-outside, with_run-below}
+use Rattle.large_parts.proofs.laws.run_is_taken.Goals as goal
+
+pub returns-clause-inside : goal.returns-clause-inside
+returns-clause-inside c = with_run-inside
+
+pub returns-clause-outside : goal.returns-clause-outside
+returns-clause-outside c = with_run-outside
+
+pub returns-clause-within : goal.returns-clause-within
+returns-clause-within c = with_run-below
+
+pub returns-clause-step : goal.returns-clause-step
+returns-clause-step c = take-step

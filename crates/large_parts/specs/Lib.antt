@@ -1,0 +1,4 @@
+pub mod Fits
+pub mod Points
+pub mod Runs
+pub mod Units

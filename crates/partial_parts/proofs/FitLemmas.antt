@@ -1,0 +1,167 @@
+-- Everything that a point remembers exists in its heap, before and after each step.
+use Rattle.std.proofs.Common.{ℕ, Bool, true, false, ◌≡◌, ◌+◌, ◌-◌, ◌<◌, ◌≤◌, ◌^◌, Option, Some, None, arith, ap}
+use Rattle.std.specs.Prelude.{◌==◌, ◌&&◌, nat_lt, nat_le, if◌then◌else◌}
+use Rattle.std.proofs.lemmas.Bool.{cond_both, ltb-true, leb-true, and_parts}
+use Rattle.heap_geometry.specs.declared.geometry.Geometry.{Geometry}
+use Rattle.heap_geometry.specs.declared.limits.TheConstants.{CLASSES}
+use Rattle.heap_geometry.specs.Geometry.{IsChecked}
+use Rattle.heap_geometry.specs.Need.{block_count_of}
+use Rattle.packed_words.specs.Anchor.{AnchorFields, anchor_of}
+use Rattle.packed_words.specs.Fields.{is_within}
+use Rattle.packed_words.specs.Info.{InfoFields, info_of}
+use Rattle.packed_words.proofs.AnchorLemmas.{IsAnchor-anchor_of}
+use Rattle.word_plan.specs.declared.action.Found.{Found}
+use Rattle.word_plan.specs.Actions.{name_of}
+use Rattle.word_plan.specs.Counts.{descriptor_count}
+use Rattle.word_plan.specs.Seats.{SeatFields, heap_of, desc_named, info_within, info_in, anchor_in}
+use Rattle.word_plan.specs.Sites.{IsSeatOf, IsAnchorOf}
+use Rattle.word_plan.specs.Table.{Exists}
+use Rattle.word_plan.proofs.SeatLemmas.{heap_of-within}
+use Rattle.partial_parts.specs.declared.point.PartialPoint.{PartialPoint}
+use Rattle.partial_parts.specs.declared.point.PartialPoint.TheVariants.{LoadSlot, TakeSlot, LoadTakenInfo, StoreOwner, LoadGrantAnchor, Grant, LoadOwner, PutSlot, LoadHeldSlot, RemoveFromSlot, LoadListedAnchor, SlotEmpty, Granted, TookEmpty, SlotFilled, Displaced, NotInSlot, Removed, ListedEmpty, ListedPartial}
+use Rattle.partial_parts.specs.Fits.{IsDescOf, FitsPartial}
+use Rattle.partial_parts.specs.Grants.{grant_more, is_empty}
+use Rattle.partial_parts.specs.Points.{plan_partial_of, settle_partial_of, after_kept, after_taken_info, after_live, after_owner, after_displaced}
+use Rattle.partial_parts.proofs.GrantLemmas.{grant_more-within}
+
+-- the slot of a caller's processor heap exists
+slot-exists : (g : Geometry) (who : ℕ) (s : SeatFields) → IsChecked g → IsSeatOf g who s → (heap_of s < g.heaps) × (s.class < CLASSES)
+slot-exists g who s checked seat =
+    let same : s.geometry.heaps ≡ g.heaps = ap (λ x. x.heaps) seat.geometry in
+    (omega (arith, heap_of-within s (omega (arith, checked.heaps.0)), same), seat.class)
+
+-- the word that a point's action is on exists
+pub plan-exists :
+    (g : Geometry) (who : ℕ) (p : PartialPoint) → IsChecked g → who < g.callers → FitsPartial g who p
+    → Exists g (name_of (plan_partial_of p))
+plan-exists g who (LoadSlot s) checked has h = slot-exists g who s checked h
+plan-exists g who (TakeSlot s d) checked has h = slot-exists g who s checked h.seat
+plan-exists g who (LoadTakenInfo s d) checked has h = h.desc
+plan-exists g who (StoreOwner at) checked has h = h.desc
+plan-exists g who (LoadGrantAnchor at) checked has h = h.desc
+plan-exists g who (Grant at a) checked has h = h.0.desc
+plan-exists g who (LoadOwner s d) checked has h = h.desc
+plan-exists g who (PutSlot s d heap) checked has h = (h.owner, h.seat.class)
+plan-exists g who (LoadHeldSlot s d heap) checked has h = (h.owner, h.seat.class)
+plan-exists g who (RemoveFromSlot s d heap) checked has h = (h.owner, h.seat.class)
+plan-exists g who (LoadListedAnchor s d) checked has h = h.desc
+plan-exists g who (SlotEmpty s) checked has h = tt
+plan-exists g who (Granted at more) checked has h = tt
+plan-exists g who (TookEmpty at) checked has h = tt
+plan-exists g who (SlotFilled s) checked has h = tt
+plan-exists g who (Displaced s d) checked has h = tt
+plan-exists g who (NotInSlot s) checked has h = tt
+plan-exists g who (Removed s d) checked has h = tt
+plan-exists g who (ListedEmpty s d) checked has h = tt
+plan-exists g who (ListedPartial s d) checked has h = tt
+
+-- a choice fits where both points do
+either :
+    (g : Geometry) (who : ℕ) (b : Bool) (x y : PartialPoint) → (b ≡ true → FitsPartial g who x)
+    → (b ≡ false → FitsPartial g who y) → FitsPartial g who (if b then x else y)
+either g who b x y = cond_both b x y (FitsPartial g who)
+
+-- a number between 1 and a limit, less 1, is below the limit
+less-below : (n limit same : ℕ) → 1 ≤ n → n ≤ limit → limit ≡ same → n - 1 < same
+less-below n limit same some within is = omega arith
+
+-- what holds of a descriptor that the seat's heap has, and of none, holds of what a word names
+each-desc :
+    (g : Geometry) (who : ℕ) (s : SeatFields) (word : ℕ) (P : Option ℕ → Type 0) → IsSeatOf g who s → P None
+    → ((d : ℕ) → IsDescOf g who s d → P (Some d)) → P (desc_named s.geometry word)
+each-desc g who s word P seat none some =
+    let count = descriptor_count s.geometry in
+    cond_both (is_within 1 count word) (Some (word - 1)) None P
+    (λ e. let parts = and_parts (nat_le 1 word) (nat_le word count) e in
+    some (word - 1)
+    (record {
+      seat = seat;
+      desc = less-below word count (descriptor_count g) (leb-true 1 word parts.0) (leb-true word count parts.1) (ap descriptor_count seat.geometry);
+    }))
+    (λ e. none)
+
+-- what holds of an info that the heap has, and of none, holds of what a word says
+each-info :
+    (g : Geometry) (P : Option InfoFields → Type 0) (o : Option InfoFields) → P None
+    → ((i : InfoFields) → i.frame < g.frames → i.heap < g.heaps → P (Some i)) → P (info_within g o)
+each-info g P None none some = none
+each-info g P (Some i) none some =
+    cond_both (nat_lt i.frame g.frames && nat_lt i.heap g.heaps) (Some i) None P
+    (λ e. let parts = and_parts (nat_lt i.frame g.frames) (nat_lt i.heap g.heaps) e in
+    some i (ltb-true i.frame g.frames parts.0) (ltb-true i.heap g.heaps parts.1))
+    (λ e. none)
+
+-- what holds of an anchor of the class, and of none, holds of what a word says
+each-anchor :
+    (class word : ℕ) (P : Option AnchorFields → Type 0) → P None
+    → ((a : AnchorFields) → IsAnchorOf class a → P (Some a)) → P (anchor_in class word)
+each-anchor class word P none some =
+    let a = anchor_of word in
+    cond_both (nat_lt a.avail (block_count_of class)) (Some a) None P
+    (λ e. some a (record { fits = IsAnchor-anchor_of word; avail = ltb-true a.avail (block_count_of class) e }))
+    (λ e. none)
+
+-- where the word of a taken descriptor leads
+fits-taken_info :
+    (g : Geometry) (who : ℕ) (s : SeatFields) (d word : ℕ) → IsDescOf g who s d
+    → FitsPartial g who (after_taken_info s d (info_in s.geometry word))
+fits-taken_info g who s d word h =
+    each-info s.geometry (λ o. FitsPartial g who (after_taken_info s d o)) (info_of word) h
+    (λ i frame heap. record {
+      seat = h.seat;
+      desc = h.desc;
+      frame = omega (arith, frame, ap (λ x. x.frames) h.seat.geometry);
+    })
+
+-- where the word of a descriptor leads whose superblock became partial
+fits-owner :
+    (g : Geometry) (who : ℕ) (s : SeatFields) (d word : ℕ) → IsDescOf g who s d
+    → FitsPartial g who (after_owner s d (info_in s.geometry word))
+fits-owner g who s d word h =
+    each-info s.geometry (λ o. FitsPartial g who (after_owner s d o)) (info_of word) h
+    (λ i frame heap. record {
+      seat = h.seat;
+      desc = h.desc;
+      owner = omega (arith, heap, ap (λ x. x.heaps) h.seat.geometry);
+    })
+
+-- the point after a step fits
+pub settle-fits :
+    (g : Geometry) (who : ℕ) (p : PartialPoint) (x : Found) → IsChecked g → x.value < 2 ^ 64 → FitsPartial g who p
+    → FitsPartial g who (settle_partial_of p x)
+settle-fits g who (LoadSlot s) x checked word h =
+    either g who (x.value == 0) (SlotEmpty s) (after_kept s (desc_named s.geometry x.value))
+    (λ e. h)
+    (λ e. each-desc g who s x.value (λ o. FitsPartial g who (after_kept s o)) h h (λ d held. held))
+settle-fits g who (TakeSlot s d) x checked word h =
+    either g who x.won (LoadTakenInfo s d) (LoadSlot s) (λ e. h) (λ e. h.seat)
+settle-fits g who (LoadTakenInfo s d) x checked word h = fits-taken_info g who s d x.value h
+settle-fits g who (StoreOwner at) x checked word h = h
+settle-fits g who (LoadGrantAnchor at) x checked word h =
+    either g who (is_empty (anchor_of x.value).state) (TookEmpty at) (after_live at (anchor_in at.seat.class x.value))
+    (λ e. h)
+    (λ e. each-anchor at.seat.class x.value (λ o. FitsPartial g who (after_live at o)) h (λ a anchor. (h, anchor)))
+settle-fits g who (Grant at a) x checked word h =
+    either g who x.won (Granted at (grant_more a.count)) (LoadGrantAnchor at)
+    (λ e. (h.0, grant_more-within a.count))
+    (λ e. h.0)
+settle-fits g who (LoadOwner s d) x checked word h = fits-owner g who s d x.value h
+settle-fits g who (PutSlot s d heap) x checked word h =
+    either g who (x.value == 0) (SlotFilled s) (after_displaced s d heap (desc_named s.geometry x.value))
+    (λ e. h.seat)
+    (λ e. each-desc g who s x.value (λ o. FitsPartial g who (after_displaced s d heap o)) h.seat h (λ d held. held))
+settle-fits g who (LoadHeldSlot s d heap) x checked word h =
+    either g who (x.value == d + 1) (RemoveFromSlot s d heap) (NotInSlot s) (λ e. h) (λ e. h.seat)
+settle-fits g who (RemoveFromSlot s d heap) x checked word h =
+    either g who x.won (Removed s d) (NotInSlot s) (λ e. record { seat = h.seat; desc = h.desc }) (λ e. h.seat)
+settle-fits g who (LoadListedAnchor s d) x checked word h =
+    either g who (is_empty (anchor_of x.value).state) (ListedEmpty s d) (ListedPartial s d) (λ e. h) (λ e. h)
+settle-fits g who (SlotEmpty s) x checked word h = h
+settle-fits g who (Granted at more) x checked word h = h
+settle-fits g who (TookEmpty at) x checked word h = h
+settle-fits g who (SlotFilled s) x checked word h = h
+settle-fits g who (Displaced s d) x checked word h = h
+settle-fits g who (NotInSlot s) x checked word h = h
+settle-fits g who (Removed s d) x checked word h = h
+settle-fits g who (ListedEmpty s d) x checked word h = h
+settle-fits g who (ListedPartial s d) x checked word h = h

@@ -1,0 +1,42 @@
+//! What a caller grants itself of a partial superblock.
+
+ghost use Rattle.std.specs.Prelude.{◌≡◌, ◌≤◌};
+ghost use Rattle.word_plan.specs.declared.limits.TheConstants.{MOST_CREDITS};
+ghost use Rattle.partial_parts.specs.Grants.{grant_more, granted_state, granted, is_empty};
+
+use packed_words::anchor::{Anchor, State};
+use word_plan::limits::MOST_CREDITS;
+
+/// How many blocks a grant reserves beside the one that is popped, where so many are free.
+pub fn grant_more(count: u16) -> u8
+    ensures value { result ≡ grant_more count }
+    ensures within { result ≤ MOST_CREDITS }
+{
+    count.saturating_sub(1).min(MOST_CREDITS) as u8
+}
+
+/// The state after a grant that reserves so many more.
+fn granted_state(more: u8) -> State
+    ensures { result ≡ granted_state more }
+{
+    if more > 0 { State::Active } else { State::Full }
+}
+
+/// The anchor after a grant.
+pub fn granted(anchor: Anchor) -> Anchor
+    ensures { result ≡ granted anchor }
+{
+    let more = grant_more(anchor.count());
+    let count = anchor.count().saturating_sub(u16::from(more) + 1);
+    Anchor::new(anchor.avail(), count, granted_state(more), anchor.tag())
+}
+
+/// Whether all blocks of a superblock are free.
+pub fn is_empty(state: State) -> bool
+    ensures { result ≡ is_empty state }
+{
+    match state {
+        State::Empty => true,
+        State::Active | State::Full | State::Partial => false,
+    }
+}

@@ -1,0 +1,29 @@
+//! The words of partial superblocks, and the numbers that the steps write.
+
+ghost use Rattle.std.specs.Prelude.{◌≡◌, ◌+◌};
+ghost use Rattle.word_plan.specs.Sites.{slot_name};
+ghost use Rattle.partial_parts.specs.Points.{slot_of};
+
+use word_plan::name::WordName;
+use word_plan::seat::Seat;
+
+/// The slot of the caller's processor heap, for its class.
+pub fn slot_name(seat: Seat) -> WordName
+    ensures { result ≡ slot_name seat }
+{
+    WordName::Slot(seat.heap(), seat.class())
+}
+
+/// The slot of a processor heap, for the caller's class.
+pub fn slot_of(seat: Seat, heap: u8) -> WordName
+    ensures { result ≡ slot_of seat heap }
+{
+    WordName::Slot(heap, seat.class())
+}
+
+/// The word that names a descriptor by its index plus 1.
+pub fn name_of_desc(desc: u16) -> u64
+    ensures { result ≡ desc + 1 }
+{
+    u64::from(desc) + 1
+}

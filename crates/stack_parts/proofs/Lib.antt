@@ -1,0 +1,3 @@
+pub mod FitLemmas
+pub mod SeatLemmas
+pub mod StackLemmas

@@ -1,0 +1,4 @@
+pub mod Fits
+pub mod Piles
+pub mod Points
+pub mod Stacks

@@ -1,0 +1,20 @@
+-- A stack as a list.
+use Rattle.std.specs.Prelude.{ℕ, ◌≡◌, ◌+◌, ◌==◌, if◌then◌else◌, List, [], ◌∷◌}
+use Rattle.word_plan.specs.declared.name.WordName.{WordName}
+use Rattle.stack_parts.specs.declared.point.Pile.{Pile}
+use Rattle.stack_parts.specs.Piles.{next_name}
+
+-- how often an index is in the list
+abbrev pub occurs : ℕ → List ℕ → ℕ
+occurs i [] = 0
+occurs i (x ∷ xs) = (if x == i then 1 else 0) + occurs i xs
+
+-- the stack with this top and these next words is the list, from the top on: each names the index
+-- plus 1, and behind the last stands 0
+abbrev pub Stacked : (ℕ → ℕ) → ℕ → List ℕ → Type 0
+Stacked next top [] = top ≡ 0
+Stacked next top (x ∷ xs) = (top ≡ x + 1) × Stacked next (next x) xs
+
+-- the next word of an index of a stack, in these words
+abbrev pub next_in : (WordName → ℕ) → Pile → ℕ → ℕ
+next_in words p i = words (next_name p i)

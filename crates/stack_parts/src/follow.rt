@@ -1,0 +1,38 @@
+//! Where a found word leads.
+
+ghost use Rattle.std.specs.Prelude.{◌≡◌};
+ghost use Rattle.stack_parts.specs.Points.{after_top, after_below};
+
+use crate::point::{Pile, StackPoint};
+use crate::words::pile_limit;
+use packed_words::head::Head;
+use word_plan::seat::Seat;
+
+/// From a head, for a pop.
+pub fn after_top(seat: Seat, pile: Pile, head: Head) -> StackPoint
+    ensures { result ≡ after_top seat pile head }
+{
+    if head.top() == 0 {
+        StackPoint::FoundEmpty { seat, pile, head }
+    } else if u32::from(head.top()) <= pile_limit(seat, pile) {
+        StackPoint::LoadBelow { seat, pile, head }
+    } else {
+        StackPoint::LoadTop { seat, pile }
+    }
+}
+
+/// From the next word of the index on top.
+pub fn after_below(seat: Seat, pile: Pile, head: Head, word: u64) -> StackPoint
+    ensures { result ≡ after_below seat pile head word }
+{
+    if word <= u64::from(pile_limit(seat, pile)) {
+        StackPoint::PopTop {
+            seat,
+            pile,
+            head,
+            below: word as u16,
+        }
+    } else {
+        StackPoint::LoadBelow { seat, pile, head }
+    }
+}
