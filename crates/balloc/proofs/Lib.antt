@@ -1,11 +1,3 @@
 mod EdgeLemmas
-mod RegisterLemmas
-mod FillLemmas
-mod HoldLemmas
-mod LaneLemmas
-mod RunLemmas
-mod FitLemmas
-mod ReportLemmas
-mod LanesLemmas
 mod WordLemmas
-mod CountedLemmas
+mod ParserLemmas

@@ -1,7 +1,4 @@
-pub mod Lane
-pub mod Rows
-pub mod Fits
-pub mod Report
-pub mod Standing
+pub mod Command
+pub mod Input
+pub mod Answers
 pub mod Runs
-pub mod Counted

@@ -1,8 +1,8 @@
 //! Reading the whole input.
 
-ghost use Rattle.std.specs.Prelude.{◌≡◌, ◌≤◌, ◌<◌, IfOk, IfSome, IsErrOf, vec_len};
-ghost use Rattle.std.specs.Io.KnownBytes.{Consumes};
+ghost use Rattle.std.specs.Prelude.{IfOk, IsErrOf};
 ghost use Rattle.edge_io.specs.Faults.{FaultsRose};
+ghost use Rattle.balloc.specs.Input.{TakesAll, TakesMore, TakesSome};
 
 use edge_io::source::Source;
 use std::alloc::{AllocError, Global};
@@ -15,6 +15,8 @@ const BUFFER_BYTES: usize = 4096;
 pub enum ReadStop {
     /// The source failed.
     Fault,
+    /// More bytes were taken than may be.
+    TooMany,
     OutOfMemory,
 }
 
@@ -24,9 +26,10 @@ pub fn read_input<S: Source>(
     source: &mut S,
     most: usize,
 ) -> Result<Vec<u8>, ReadStop>
-    ensures taken { IfOk result (λ bytes. Consumes (S.left source.old) (S.left source.new) bytes.items) }
-    ensures whole { IfOk result (λ bytes. vec_len bytes ≤ most → IfSome (S.left source.old) (λ all. bytes.items ≡ all)) }
-    ensures fault { IsErrOf result ReadStop.Fault → FaultsRose (S.faults source.old) (S.faults source.new) }
+    ensures whole { IfOk result (λ bytes. TakesAll most (S.left source.old) (S.left source.new) bytes.items) }
+    ensures many { IsErrOf result ReadStop.TooMany → TakesMore most (S.left source.old) (S.left source.new) }
+    ensures fault { IsErrOf result ReadStop.Fault → FaultsRose (S.faults source.old) (S.faults source.new)
+        × TakesSome most (S.left source.old) (S.left source.new) }
 {
     let mut bytes = Vec::new(alloc);
     let mut buffer = [0; BUFFER_BYTES];
@@ -41,5 +44,5 @@ pub fn read_input<S: Source>(
             return Err(ReadStop::OutOfMemory);
         };
     }
-    Ok(bytes)
+    Err(ReadStop::TooMany)
 }

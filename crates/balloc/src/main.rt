@@ -10,16 +10,11 @@ use std::process::ExitCode;
 use std::rt::Env;
 use std::{env, io};
 
+mod answer;
 mod closing;
-mod counted;
+mod command;
 mod input;
-mod lane;
-mod laws;
-mod outcome;
 mod output;
-mod registers;
-mod replay;
-mod report;
 mod run;
 mod status;
 #[cfg(test)]

@@ -1,27 +1,27 @@
-//! The top call: from the words and the input to the report and the status.
+//! The top call: from the words and the input to the answer and the status.
 
-ghost use Rattle.std.specs.Prelude.{◌≡◌, ◌≢◌, ◌↔◌, ◌⊎◌, None, IfOk, IsErrOf, IsTrue, string_bytes, codes};
+ghost use Rattle.std.specs.Prelude.{◌≡◌, ◌≢◌, ◌⊎◌, None, map, string_bytes};
 ghost use Rattle.std.specs.Io.KnownBytes.{Keeps};
 ghost use Rattle.edge_io.specs.Faults.{FaultsRose};
-ghost use Rattle.trace_text.specs.declared.trace.Trace.{Trace};
-ghost use Rattle.trace_text.specs.FirstPath.{IsFirstPathText};
-ghost use Rattle.balloc.specs.Runs.{IsCommand, IsReport, IsStatus, TakesNoTrace, Reports, ReportsPart};
+ghost use Rattle.balloc.specs.Answers.{IsRefusal, IsReport};
+ghost use Rattle.balloc.specs.Command.{IsCommand};
+ghost use Rattle.balloc.specs.Input.{TakesMore, TakesSome};
+ghost use Rattle.balloc.specs.declared.status.TheConstants.{REPORTED, REFUSED};
+ghost use Rattle.balloc.specs.Runs.{IsAnswer, IsStatus, Writes, WritesPart};
 
+use crate::answer::{Answer, answer_to};
 use crate::closing::Closing;
+use crate::command::{Command, NoCommand, read_words};
 use crate::input::{ReadStop, read_input};
 use crate::output::write_text;
-use crate::replay::replay;
-use crate::report::report;
-use crate::status::{OUT_OF_MEMORY, READ_FAULT, REFUSED, REPORTED, USAGE, WRITE_FAULT};
+use crate::status::{OUT_OF_MEMORY, READ_FAULT, TOO_MANY, USAGE, WRITE_FAULT};
 use edge_io::gate::Gate;
 use edge_io::sink::Sink;
 use edge_io::source::Source;
 use std::alloc::Global;
 use std::sync::Wait;
 use std::thread::Threads;
-use trace_text::fault::TraceFault;
-use trace_text::limits::FIRST_PATH_MOST;
-use trace_text::reading::read_trace;
+use trace_text::limits::MAX_INPUT;
 
 /// How a run ended.
 #[derive(Drop)]
@@ -30,37 +30,6 @@ pub struct Ended {
     pub status: u8,
     /// The heap, where one was run to its end.
     pub closed: Option<Closing>,
-}
-
-/// A report, with the heap that it tells of.
-#[derive(Drop)]
-struct Report {
-    text: Vec<u8>,
-    closing: Closing,
-}
-
-/// Why there is no report.
-#[derive(Clone, Copy, Debug, PartialEq, Eq)]
-enum NoReport {
-    /// The input is no text of a trace.
-    NoTrace,
-    OutOfMemory,
-}
-
-/// Whether the words are those of the one command.
-fn is_command(words: &[String]) -> bool
-    ensures { IsTrue result ↔ IsCommand words.now }
-{
-    match words {
-        [word] => is_replay(word),
-        _ => false,
-    }
-}
-
-fn is_replay(word: &String) -> bool
-    ensures { IsTrue result ↔ (string_bytes word.now ≡ codes "replay") }
-{
-    word.as_str() == "replay"
 }
 
 /// An end before a heap was run.
@@ -73,32 +42,6 @@ fn ended_early(status: u8) -> Ended
     }
 }
 
-/// The report of a trace's text.
-fn report_of(alloc: Global, bytes: &[u8]) -> Result<Report, NoReport>
-    ensures ok { IfOk result (λ report. IsReport bytes.now (Some report.closing) report.text.items) }
-    ensures no_trace { IsErrOf result NoReport.NoTrace → (trace : Trace) → ¬ IsFirstPathText bytes.now trace }
-{
-    let trace = match read_trace(alloc, bytes) {
-        Ok(trace) => trace,
-        Err(TraceFault::NotYet) => return Err(NoReport::NoTrace),
-        Err(TraceFault::OutOfMemory) => return Err(NoReport::OutOfMemory),
-    };
-    let Ok(replayed) = replay(alloc, &trace) else {
-        return Err(NoReport::OutOfMemory);
-    };
-    let Ok(text) = report(
-        alloc,
-        &trace,
-        replayed.outcomes.as_slice(),
-        replayed.live_blocks,
-        replayed.live_words,
-    ) else {
-        return Err(NoReport::OutOfMemory);
-    };
-    let closing = Closing::Plain(replayed.pool);
-    Ok(Report { text, closing })
-}
-
 /// Runs the command that the words are, from the source to the sink.
 pub fn run<R: Threads + Wait + Sync, S: Source, K: Sink, G: Gate + Sync>(
     rt: &R,
@@ -109,44 +52,59 @@ pub fn run<R: Threads + Wait + Sync, S: Source, K: Sink, G: Gate + Sync>(
     gate: &G,
 ) -> Ended
     ensures known { IsStatus result.status }
-    ensures usage { (result.status ≡ USAGE) ↔ (¬ IsCommand words.now) }
-    ensures unread { result.status ≡ USAGE → Keeps (S.left source.old) (S.left source.new) }
+    ensures usage { result.status ≡ USAGE
+        → (¬ IsCommand (map string_bytes words.now)) × Keeps (S.left source.old) (S.left source.new) }
+    ensures unknown { (¬ IsCommand (map string_bytes words.now))
+        → (result.status ≡ USAGE) ⊎ (result.status ≡ OUT_OF_MEMORY) }
 
-    // At every status but these two nothing is written, and no heap is left.
-    ensures silent { result.status ≢ REPORTED → result.status ≢ WRITE_FAULT
+    // But for a report and a refusal, of which a part may be written, nothing is written and no heap is left.
+    ensures silent { result.status ≢ REPORTED → result.status ≢ REFUSED → result.status ≢ WRITE_FAULT
         → Keeps (K.holds sink.old) (K.holds sink.new) × (result.closed ≡ None) }
 
-    ensures read_fault { result.status ≡ READ_FAULT → FaultsRose (S.faults source.old) (S.faults source.new) }
-    ensures refused { result.status ≡ REFUSED → TakesNoTrace (S.left source.old) (S.left source.new) }
+    ensures read_fault { result.status ≡ READ_FAULT → FaultsRose (S.faults source.old) (S.faults source.new)
+        × TakesSome MAX_INPUT (S.left source.old) (S.left source.new) }
+    ensures too_many { result.status ≡ TOO_MANY → TakesMore MAX_INPUT (S.left source.old) (S.left source.new) }
+    ensures refused { result.status ≡ REFUSED
+        → Writes IsRefusal (S.left source.old) (S.left source.new) result.closed (K.holds sink.old) (K.holds sink.new) }
     ensures write_fault { result.status ≡ WRITE_FAULT → FaultsRose (K.faults sink.old) (K.faults sink.new)
-        × ReportsPart (S.left source.old) (S.left source.new) result.closed (K.holds sink.old) (K.holds sink.new) }
+        × (WritesPart IsReport (S.left source.old) (S.left source.new) result.closed (K.holds sink.old) (K.holds sink.new)
+        ⊎ WritesPart IsRefusal (S.left source.old) (S.left source.new) result.closed (K.holds sink.old) (K.holds sink.new)) }
 
     // The headline: the report is the defined text of the trace and the closed heap's history.
     ensures reported { result.status ≡ REPORTED
-        → Reports (S.left source.old) (S.left source.new) result.closed (K.holds sink.old) (K.holds sink.new) }
+        → Writes IsReport (S.left source.old) (S.left source.new) result.closed (K.holds sink.old) (K.holds sink.new) }
+
+    // Where the words are a command and no edge failed, the run gives its answer.
+    ensures complete { IsCommand (map string_bytes words.now)
+        → (¬ FaultsRose (S.faults source.old) (S.faults source.new)) → (¬ FaultsRose (K.faults sink.old) (K.faults sink.new))
+        → IsAnswer result.status }
 {
     let _ = rt;
     let _ = gate;
-    if !is_command(words) {
-        return ended_early(USAGE);
+    match read_words(alloc, words) {
+        Ok(Command::Replay) => {}
+        Err(NoCommand::Usage) => return ended_early(USAGE),
+        Err(NoCommand::OutOfMemory) => return ended_early(OUT_OF_MEMORY),
     }
-    let bytes = match read_input(alloc, source, FIRST_PATH_MOST) {
+    let bytes = match read_input(alloc, source, MAX_INPUT) {
         Ok(bytes) => bytes,
         Err(ReadStop::Fault) => return ended_early(READ_FAULT),
+        Err(ReadStop::TooMany) => return ended_early(TOO_MANY),
         Err(ReadStop::OutOfMemory) => return ended_early(OUT_OF_MEMORY),
     };
-    let report = match report_of(alloc, bytes.as_slice()) {
-        Ok(report) => report,
-        Err(NoReport::NoTrace) => return ended_early(REFUSED),
-        Err(NoReport::OutOfMemory) => return ended_early(OUT_OF_MEMORY),
+    let Ok(answer) = answer_to(alloc, bytes.as_slice()) else {
+        return ended_early(OUT_OF_MEMORY);
     };
-    let Report { text, closing } = report;
-    let status = match write_text(sink, text.as_slice()) {
-        Ok(()) => REPORTED,
-        Err(_) => WRITE_FAULT,
-    };
-    Ended {
+    let Answer {
         status,
-        closed: Some(closing),
+        text,
+        closed,
+    } = answer;
+    match write_text(sink, text.as_slice()) {
+        Ok(()) => Ended { status, closed },
+        Err(_) => Ended {
+            status: WRITE_FAULT,
+            closed,
+        },
     }
 }

@@ -6,7 +6,7 @@ pub const REPORTED: u8 = 0;
 /// The words are none of the program's commands.
 pub const USAGE: u8 = 2;
 
-/// The input is no text of a trace.
+/// The input is no text of a trace, and the line that says so was written.
 pub const REFUSED: u8 = 3;
 
 /// The source failed.
@@ -17,3 +17,6 @@ pub const WRITE_FAULT: u8 = 5;
 
 /// Memory was not found.
 pub const OUT_OF_MEMORY: u8 = 6;
+
+/// The input has more bytes than a trace may have.
+pub const TOO_MANY: u8 = 7;

@@ -1,6 +1,9 @@
-pub mod CutLemmas
-pub mod HeapLemmas
+pub mod FieldLemmas
+pub mod LawLemmas
 pub mod LineLemmas
+pub mod NamedLemmas
 pub mod NumberLemmas
-pub mod OpsLemmas
-pub mod TraceLemmas
+pub mod PrintedLemmas
+pub mod RoundLemmas
+pub mod StageLemmas
+pub mod TextLemmas

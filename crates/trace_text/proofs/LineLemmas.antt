@@ -1,158 +1,153 @@
--- What is read from a line is what the line spells.
-use Rattle.std.proofs.Common.{◌≡◌, ℕ, ◌-◌, ◌^◌, ◌<◌, cond, List, ◌∷◌, ◌++◌, Option, Some, None, refl, ap, subst, ◌∙◌, arith, inl, inr, lit<}
-use Rattle.std.specs.Prelude.{codes}
-use Rattle.std.specs.Fmt.{decimal}
-use Rattle.std.specs.List.{join_with_byte}
-use Rattle.std.specs.Str.{bytes_eq}
-use Rattle.std.proofs.lemmas.Bool.{cases_Bool}
-use Rattle.std.proofs.lemmas.Option.{none-some, same_Some}
-use Rattle.std.proofs.lemmas.Slice.Eq.{bytes_eq-Decides}
-use Rattle.heap_geometry.specs.declared.limits.TheConstants.{SMALL_MOST}
-use Rattle.trace_text.specs.declared.limits.TheConstants.{REGISTERS, SPACE, LINE_FEED}
-use Rattle.trace_text.specs.declared.trace.Op.{Op}
-use Rattle.trace_text.specs.declared.trace.Op.TheVariants.{Alloc, Free, Fill, Check, Put, Take}
-use Rattle.trace_text.specs.Text.{op_fields}
-use Rattle.trace_text.specs.FirstPath.{IsFirstPathOp}
-use Rattle.trace_text.specs.Reading.{◌>>=◌, cut_in, number_in, up_to_in, register_in, alloc_in, free_in, op_in}
-use Rattle.trace_text.proofs.CutLemmas.{Lacks, Lacks-append, decimal_lacks, cut_found, cut_again}
-use Rattle.trace_text.proofs.NumberLemmas.{number_found, number_again, up_to_found, up_to_again}
+-- The first line of a text, and the first field of a line.
+use Rattle.std.proofs.Common.{◌≡◌, ℕ, zero, suc, ◌+◌, add-zero, append-nil, ◌-◌, ◌<◌, Bool, true, false, not, eqb, ltb, List, [], ◌∷◌, ◌++◌, length, get_or, take, drop, Some, None, refl, sym, ap, ◌∙◌, arith, inl, inr}
+use Rattle.std.specs.List.{AllByRecursion, slice_split, position, position_or_len}
+use Rattle.std.proofs.lemmas.Bool.{cases_Bool, false≢true, ne_eqb, ltb-true, ltb-false}
+use Rattle.std.proofs.lemmas.List.{take-append-drop, take_all, length-drop, length-take, get_or-take, get_or-drop}
+use Rattle.std.proofs.lemmas.List.Elements.{All-from_get_or, recursion_from_All}
+use Rattle.std.proofs.lemmas.List.Splits.{slice_split_none, slice_split_first}
+use Rattle.std.proofs.lemmas.List.Sums.{fails_before_first, passes_at_first}
+use Rattle.std.proofs.lemmas.Option.{none-some}
+use Rattle.trace_text.specs.Lines.{without_return, lines_in, lines_of, is_blank, has_bytes, fields_of, BeginsField}
 
--- the value of a step that did not fail
-pub bind_some : {A B : Type 0} (o : Option A) (f : A → Option B) (y : B) → (o >>= f) ≡ Some y → (x : A) × (o ≡ Some x) × (f x ≡ Some y)
-bind_some (Some x) f y e = (x, refl, e)
-bind_some None f y e = absurd (none-some y e)
-
--- a register's field
-pub register_found : (field : List ℕ) (r : ℕ) → register_in field ≡ Some r → (r < 2 ^ 64) × (r < REGISTERS) × (field ≡ decimal r)
-unfolding register_in
-register_found field r e = let h = up_to_found (REGISTERS - 1) field r e in (h.0, omega (arith, h.1), h.2)
-
-pub register_again : (r : ℕ) → r < REGISTERS → register_in (decimal r) ≡ Some r
-unfolding register_in
-register_again r below = up_to_again (REGISTERS - 1) r (omega arith) (omega arith)
-
--- a line is the text of an operation of a first-path trace
-pub record SpellsOp (line : List ℕ) (op : Op) : Type 0 where
-  pub first_path : IsFirstPathOp op
-  pub spelled : line ≡ join_with_byte SPACE (op_fields op)
-
-SpellsOp-same : (line : List ℕ) (x y : Op) → SpellsOp line x → x ≡ y → SpellsOp line y
-SpellsOp-same line x y h e = subst (SpellsOp line) e h
-
--- the fields of an allocation
-abbrev alloc_fields : ℕ → ℕ → ℕ → List ℕ
-alloc_fields r need v = decimal r ++ SPACE ∷ (decimal need ++ SPACE ∷ decimal v)
-
-alloc_spelled :
-    (fields first others second third : List ℕ) (r need v : ℕ) → fields ≡ first ++ SPACE ∷ others
-    → others ≡ second ++ SPACE ∷ third → first ≡ decimal r → second ≡ decimal need → third ≡ decimal v
-    → codes "a" ++ SPACE ∷ fields ≡ codes "a" ++ SPACE ∷ alloc_fields r need v
-alloc_spelled fields first others second third r need v a b c d e = cc
-
-alloc_found :
-    (fields : List ℕ) (op : Op) → alloc_in fields ≡ Some op → SpellsOp (codes "a" ++ SPACE ∷ fields) op
-unfolding alloc_in op_fields
-alloc_found fields op e =
-    let a = bind_some (cut_in SPACE fields) (λ first. cut_in SPACE first.1 >>= λ second. register_in first.0 >>= λ r. up_to_in SMALL_MOST second.0 >>= λ need. number_in second.1 >>= λ v. Some (Alloc r need v)) op e in
-    let b = bind_some (cut_in SPACE a.0.1) (λ second. register_in a.0.0 >>= λ r. up_to_in SMALL_MOST second.0 >>= λ need. number_in second.1 >>= λ v. Some (Alloc r need v)) op a.2 in
-    let r = bind_some (register_in a.0.0) (λ r. up_to_in SMALL_MOST b.0.0 >>= λ need. number_in b.0.1 >>= λ v. Some (Alloc r need v)) op b.2 in
-    let need = bind_some (up_to_in SMALL_MOST b.0.0) (λ need. number_in b.0.1 >>= λ v. Some (Alloc r.0 need v)) op r.2 in
-    let v = bind_some (number_in b.0.1) (λ v. Some (Alloc r.0 need.0 v)) op need.2 in
-    let fr = register_found a.0.0 r.0 r.1 in
-    let fn = up_to_found SMALL_MOST b.0.0 need.0 need.1 in
-    let fv = number_found b.0.1 v.0 v.1 in
-    let c1 = cut_found SPACE fields a.0.0 a.0.1 a.1 in
-    let c2 = cut_found SPACE a.0.1 b.0.0 b.0.1 b.1 in
-    SpellsOp-same (codes "a" ++ SPACE ∷ fields) (Alloc r.0 need.0 v.0) op
-    (record {
-      first_path = (fr.1, fn.1, fv.0);
-      spelled = alloc_spelled fields a.0.0 a.0.1 b.0.0 b.0.1 r.0 need.0 v.0 c1 c2 fr.2 fn.2 fv.1;
-    })
-    (same_Some (Alloc r.0 need.0 v.0) op v.2)
-
-alloc_again : (r need v : ℕ) → IsFirstPathOp (Alloc r need v) → alloc_in (alloc_fields r need v) ≡ Some (Alloc r need v)
-unfolding alloc_in
-alloc_again r need v h =
-    rw (
-      cut_again SPACE (decimal r) (decimal need ++ SPACE ∷ decimal v) (decimal_lacks SPACE r (lit< tt) (omega (arith, h.0))),
-      cut_again SPACE (decimal need) (decimal v) (decimal_lacks SPACE need (lit< tt) (omega (arith, h.1))),
-      register_again r h.0,
-      up_to_again SMALL_MOST need (omega (arith, h.1)) h.1,
-      number_again v h.2,
-    ) refl
-
-free_found :
-    (fields : List ℕ) (op : Op) → free_in fields ≡ Some op → SpellsOp (codes "f" ++ SPACE ∷ fields) op
-unfolding free_in op_fields
-free_found fields op e =
-    let r = bind_some (register_in fields) (λ r. Some (Free r)) op e in
-    let fr = register_found fields r.0 r.1 in
-    SpellsOp-same (codes "f" ++ SPACE ∷ fields) (Free r.0) op
-    (record { first_path = fr.1; spelled = ap (λ (w : List ℕ). codes "f" ++ SPACE ∷ w) fr.2 })
-    (same_Some (Free r.0) op r.2)
-
-free_again : (r : ℕ) → r < REGISTERS → free_in (decimal r) ≡ Some (Free r)
-unfolding free_in
-free_again r below = rw (register_again r below) refl
-
--- the word of an operation chooses its fields' form
-chosen :
-    (word fields : List ℕ) (op : Op)
-    → cond (bytes_eq word (codes "a")) (alloc_in fields) (cond (bytes_eq word (codes "f")) (free_in fields) None) ≡ Some op
-    → SpellsOp (word ++ SPACE ∷ fields) op
-chosen word fields op e =
-    elim (cases_Bool (bytes_eq word (codes "a"))) [
-      | inl same ↦
-          let is : word ≡ codes "a" = (bytes_eq-Decides word (codes "a")).0 same in
-          rw is (alloc_found fields op (rw same at e))
-      | inr other ↦
-          let e' = rw other at e in
-          elim (cases_Bool (bytes_eq word (codes "f"))) [
-            | inl same ↦
-                let is : word ≡ codes "f" = (bytes_eq-Decides word (codes "f")).0 same in
-                rw is (free_found fields op (rw same at e'))
-            | inr other ↦ absurd (none-some op (rw other at e'))
-          ]
+-- the place that was found
+pub position_found : (p : ℕ → Bool) (bytes : List ℕ) (i : ℕ) → Some i ≡ position p bytes → (position_or_len p bytes ≡ i) × (i < length bytes)
+position_found p bytes i e =
+    elim (cases_Bool (ltb (position_or_len p bytes) (length bytes))) [
+      | inl within ↦
+          let found : Some i ≡ Some (position_or_len p bytes) = rw within at e in
+          let is : i ≡ position_or_len p bytes = cc in
+          (sym is, rw is (ltb-true _ _ within))
+      | inr past ↦ absurd (none-some i (sym (rw past at e)))
     ]
 
--- an operation that is read is spelled so
-pub op_found : (line : List ℕ) (op : Op) → op_in line ≡ Some op → SpellsOp line op
-unfolding op_in
-op_found line op e =
-    let a = bind_some (cut_in SPACE line) (λ cut. cond (bytes_eq cut.0 (codes "a")) (alloc_in cut.1) (cond (bytes_eq cut.0 (codes "f")) (free_in cut.1) None)) op e in
-    let c = cut_found SPACE line a.0.0 a.0.1 a.1 in
-    let h = chosen a.0.0 a.0.1 op a.2 in
-    record { first_path = h.first_path; spelled = c ∙ h.spelled }
+-- no byte passes
+pub position_lacks : (p : ℕ → Bool) (bytes : List ℕ) → None ≡ position p bytes → (k : ℕ) (d : ℕ) → k < length bytes → p (get_or bytes k d) ≡ false
+position_lacks p bytes e k d below =
+    elim (cases_Bool (ltb (position_or_len p bytes) (length bytes))) [
+      | inl within ↦
+          let found : None ≡ Some (position_or_len p bytes) = rw within at e in
+          absurd (none-some _ found)
+      | inr past ↦ fails_before_first p bytes k d (omega (arith, ltb-false _ _ past))
+    ]
 
--- an operation that is spelled is read
-pub op_again : (op : Op) → IsFirstPathOp op → op_in (join_with_byte SPACE (op_fields op)) ≡ Some op
-unfolding op_in op_fields
-op_again (Alloc r need v) h =
-    rw (cut_again SPACE (codes "a") (alloc_fields r need v) (λ is. absurd (omega arith), tt)) (alloc_again r need v h)
-op_again (Free r) h = rw (cut_again SPACE (codes "f") (decimal r) (λ is. absurd (omega arith), tt)) (free_again r h)
-op_again (Fill r v) h = absurd h
-op_again (Check r) h = absurd h
-op_again (Put r shelf) h = absurd h
-op_again (Take r shelf) h = absurd h
+-- the parts of a list are some
+parts_some : (p : ℕ → Bool) (bytes : List ℕ) → (part : List ℕ) × (parts : List (List ℕ)) × (slice_split p bytes ≡ part ∷ parts)
+parts_some p [] = ([], [], refl)
+parts_some p (b ∷ bytes) =
+    let rest = parts_some p bytes in
+    elim (cases_Bool (p b)) [
+      | inl passes ↦ ([], slice_split p bytes, rw passes refl)
+      | inr fails ↦ (b ∷ rest.0, rest.1, rw (fails, rest.2) refl)
+    ]
 
--- an operation's line has one line feed, its last byte
-pub op_lacks : (op : Op) → IsFirstPathOp op → Lacks LINE_FEED (join_with_byte SPACE (op_fields op))
-unfolding op_fields
-op_lacks (Alloc r need v) h = (
-  λ is. absurd (omega arith),
-  (
-    λ is. absurd (omega arith),
-    (Lacks-append LINE_FEED (decimal r) (SPACE ∷ (decimal need ++ SPACE ∷ decimal v))
-        (decimal_lacks LINE_FEED r (lit< tt) (omega (arith, h.0))) (
-          λ is. absurd (omega arith),
-          Lacks-append LINE_FEED (decimal need) (SPACE ∷ decimal v) (decimal_lacks LINE_FEED need (lit< tt) (omega (arith, h.1)))
-              (λ is. absurd (omega arith), decimal_lacks LINE_FEED v (lit< tt) h.2),
-        )),
-  ),
-)
-op_lacks (Free r) h =
-    (λ is. absurd (omega arith), (λ is. absurd (omega arith), decimal_lacks LINE_FEED r (lit< tt) (omega arith)))
-op_lacks (Fill r v) h = absurd h
-op_lacks (Check r) h = absurd h
-op_lacks (Put r shelf) h = absurd h
-op_lacks (Take r shelf) h = absurd h
+pub lines_in-cons : (part : List ℕ) (p : ℕ → Bool) (bytes : List ℕ) → lines_in (part ∷ slice_split p bytes) ≡ without_return part ∷ lines_in (slice_split p bytes)
+lines_in-cons part p bytes = let rest = parts_some p bytes in rw rest.2 refl
+
+-- a line up to a line feed
+pub line_before : (text : List ℕ) (end : ℕ) → Some end ≡ position (λ b. eqb b 10) text → lines_of text ≡ without_return (take end text) ∷ lines_of (drop (end + 1) text)
+unfolding lines_of
+line_before text end e =
+    let p : ℕ → Bool = λ b. eqb b 10 in
+    let found = position_found p text end e in
+    let split : slice_split p text ≡ take end text ∷ slice_split p (drop (end + 1) text) =
+    rw found.0 at (slice_split_first p text 0 (rw found.0 found.1)) in
+    rw split (lines_in-cons (take end text) p (drop (end + 1) text))
+
+lines_in-one : (text : List ℕ) → 0 < length text → lines_in (text ∷ []) ≡ without_return text ∷ []
+lines_in-one text some = let e : eqb (length text) 0 ≡ false = ne_eqb (length text) 0 (λ is. absurd (omega arith)) in rw e refl
+
+-- no line feed: one line, if there is a byte
+pub line_alone : (text : List ℕ) → None ≡ position (λ b. eqb b 10) text → 0 < length text → lines_of text ≡ without_return text ∷ []
+unfolding lines_of
+line_alone text e some =
+    let p : ℕ → Bool = λ b. eqb b 10 in
+    let split : slice_split p text ≡ text ∷ [] = slice_split_none p text (All-from_get_or (λ x. p x ≡ false) text 0 (λ i below. position_lacks p text e i 0 below)) in
+    rw split (lines_in-one text some)
+
+pub no_lines : lines_of [] ≡ []
+unfolding lines_of
+no_lines = refl
+
+-- the rest of a list, as a slice of it is seen
+pub rest_from : (i : ℕ) (bytes : List ℕ) → take (length bytes - i) (drop i bytes) ≡ drop i bytes
+rest_from i bytes = take_all (length bytes - i) (drop i bytes) (omega (arith, length-drop i bytes))
+
+-- blanks before a field are passed over
+pub fields_of-blanks : (front rest : List ℕ) → AllByRecursion (λ b. is_blank b ≡ true) front → fields_of (front ++ rest) ≡ fields_of rest
+unfolding fields_of
+fields_of-blanks [] rest h = refl
+fields_of-blanks (b ∷ front) rest h = rw h.0 (fields_of-blanks front rest h.1)
+
+pub fields_of-nil : fields_of [] ≡ []
+unfolding fields_of
+fields_of-nil = refl
+
+not_true : (b : Bool) → not b ≡ false → b ≡ true
+not_true true e = refl
+not_true false e = absurd (false≢true (sym e))
+
+not_false : (b : Bool) → not b ≡ true → b ≡ false
+not_false true e = absurd (false≢true e)
+not_false false e = refl
+
+first_of_rest : (line : List ℕ) (start : ℕ) → start < length line → is_blank (get_or line start 0) ≡ false → is_blank (get_or (drop start line) 0 0) ≡ false
+first_of_rest line start within first = rw (get_or-drop, add-zero) first
+
+-- bytes that are blank have no field
+pub only_blanks : (line : List ℕ) → None ≡ position (λ b. not (is_blank b)) line → fields_of line ≡ []
+only_blanks line e =
+    ap fields_of (sym (append-nil line))
+    ∙ fields_of-blanks line [] (recursion_from_All (λ b. is_blank b ≡ true) line
+    (All-from_get_or (λ b. is_blank b ≡ true) line 0 (λ i below. not_true (is_blank (get_or line i 0)) (position_lacks (λ b. not (is_blank b)) line e i 0 below))))
+    ∙ fields_of-nil
+
+-- the blanks before the first field are passed over
+pub field_begins :
+    (line : List ℕ) (start : ℕ) → Some start ≡ position (λ b. not (is_blank b)) line
+    → (fields_of line ≡ fields_of (drop start line)) × BeginsField (drop start line)
+field_begins line start e =
+    let p : ℕ → Bool = λ b. not (is_blank b) in
+    let found = position_found p line start e in
+    let blanks : (i : ℕ) → i < length (take start line) → is_blank (get_or (take start line) i 0) ≡ true =
+    λ i below. let low : i < start = omega (arith, length-take start line) in
+    rw (get_or-take start line i 0 low) (not_true (is_blank (get_or line i 0)) (fails_before_first p line i 0 (omega (arith, found.0))))
+    in
+    let passed = fields_of-blanks (take start line) (drop start line) (recursion_from_All (λ b. is_blank b ≡ true) (take start line) (All-from_get_or (λ b. is_blank b ≡ true) (take start line) 0 blanks)) in
+    let at : p (get_or line (position_or_len p line) 0) ≡ true = passes_at_first p line 0 (omega (arith, found.0, found.1)) in
+    let first : is_blank (get_or line start 0) ≡ false = not_false (is_blank (get_or line start 0)) (rw found.0 at at) in (
+      ap fields_of (sym (take-append-drop start line)) ∙ passed,
+      (omega (arith, length-drop start line, found.1), first_of_rest line start found.1 first),
+    )
+
+some_bytes : (bytes : List ℕ) → 0 < length bytes → has_bytes bytes ≡ true
+some_bytes [] some = absurd (omega (arith, some))
+some_bytes (b ∷ bytes) some = refl
+
+some_before : (bytes : List ℕ) (end : ℕ) → BeginsField bytes → end < length bytes → is_blank (get_or bytes end 0) ≡ true → has_bytes (take end bytes) ≡ true
+some_before bytes zero begins within at = absurd (false≢true (sym begins.1 ∙ at))
+some_before [] (suc end) begins within at = absurd (omega (arith, within))
+some_before (b ∷ bytes) (suc end) begins within at = refl
+
+-- a field up to a blank
+pub field_before : (bytes : List ℕ) (end : ℕ) → BeginsField bytes → Some end ≡ position is_blank bytes → fields_of bytes ≡ take end bytes ∷ fields_of (drop (end + 1) bytes)
+unfolding fields_of
+field_before bytes end begins e =
+    let found = position_found is_blank bytes end e in
+    let split : slice_split is_blank bytes ≡ take end bytes ∷ slice_split is_blank (drop (end + 1) bytes) =
+    rw found.0 at (slice_split_first is_blank bytes 0 (rw found.0 found.1)) in
+    let at : is_blank (get_or bytes end 0) ≡ true = rw found.0 at (passes_at_first is_blank bytes 0 (omega (arith, found.0, found.1))) in
+    let some : has_bytes (take end bytes) ≡ true = some_before bytes end begins found.1 at in
+    rw (split, some) refl
+
+-- the last field of a line
+pub field_alone : (bytes : List ℕ) → BeginsField bytes → None ≡ position is_blank bytes → fields_of bytes ≡ bytes ∷ []
+unfolding fields_of
+field_alone bytes begins e =
+    let split : slice_split is_blank bytes ≡ bytes ∷ [] = slice_split_none is_blank bytes (All-from_get_or (λ x. is_blank x ≡ false) bytes 0 (λ i below. position_lacks is_blank bytes e i 0 below)) in
+    let some : has_bytes bytes ≡ true = some_bytes bytes begins.0 in
+    rw (split, some) refl
+
+-- a text without a byte has no line
+pub no_byte : (text : List ℕ) → length text ≡ 0 → lines_of text ≡ []
+no_byte [] e = no_lines
+no_byte (b ∷ text) e = absurd (omega (arith, e))

@@ -1,5 +1,5 @@
 -- A number is read from a field exactly where the field is its decimal digits.
-use Rattle.std.proofs.Common.{Option, ◌∙◌, ◌≡◌, ℕ, ◌^◌, ◌<◌, ◌≤◌, true, false, cond, eqb, ltb, leb, List, [], ◌∷◌, length, get_or, Some, None, Result, Ok, Err, refl, sym, ap, arith, rules, inl, inr}
+use Rattle.std.proofs.Common.{Option, ◌∙◌, ◌≡◌, ℕ, ◌^◌, ◌<◌, true, false, eqb, ltb, List, [], ◌∷◌, length, get_or, Some, None, Result, Ok, Err, refl, sym, ap, arith, rules, inl, inr}
 use Rattle.std.specs.Char.{is_ascii_digit}
 use Rattle.std.specs.List.{list_all}
 use Rattle.std.specs.Fmt.{decimal}
@@ -7,12 +7,12 @@ use Rattle.std.specs.Prelude.{IfSome}
 use Rattle.std.specs.Result.{result_ok}
 use Rattle.std.specs.Str.{IsUtf8}
 use Rattle.std.specs.Str.Parse.{AllDigits, digits_value, ParsesUnsigned}
-use Rattle.std.proofs.lemmas.Bool.{cases_Bool, and_parts, eqb-true, eqb-false, eq-eqb, ne_eqb, lt-ltb, le-ltb, ltb-true, le-leb, leb-true, cases_lt, false≢true}
+use Rattle.std.proofs.lemmas.Bool.{cases_Bool, and_parts, eqb-true, eqb-false, eq-eqb, ne_eqb, lt-ltb, le-ltb, ltb-true, cases_lt, false≢true}
 use Rattle.std.proofs.lemmas.Fmt.{decimal-digits_value, digits_decimal, digits_value-decimal, decimal_nonempty, first_decimal, decimal_digit, IsAscii-from_digits}
-use Rattle.std.proofs.lemmas.Option.{cond_some, option_and_then_some}
+use Rattle.std.proofs.lemmas.Option.{cond_some}
 use Rattle.std.proofs.lemmas.Str.{IsUtf8-from_ascii}
 use Rattle.std.proofs.lemmas.Str.Parse.{IsNumeralModel, numerals_by_value, parse_digits}
-use Rattle.trace_text.specs.Reading.{is_numeral, number_in, up_to_in}
+use Rattle.trace_text.specs.Numbers.{is_numeral, number_in}
 
 own : IsNumeralModel (λ ds. list_all is_ascii_digit ds ≡ true) (digits_value 10)
 own = numerals_by_value _ (search rules)
@@ -120,19 +120,3 @@ IfSome-number_in (Some n) field e = (number_found field n (sym e)).1
 
 pub number_in-spelled : (field : List ℕ) (n : ℕ) → n < 2 ^ 64 → field ≡ decimal n → number_in field ≡ Some n
 number_in-spelled field n small e = ap number_in e ∙ number_again n small
-
--- the same, where a number has a largest value
-pub up_to_found : (most : ℕ) (field : List ℕ) (n : ℕ) → up_to_in most field ≡ Some n → (n < 2 ^ 64) × (n ≤ most) × (field ≡ decimal n)
-unfolding up_to_in
-up_to_found most field n e =
-    option_and_then_some (λ k. cond (leb k most) (Some k) None) (number_in field) n e
-    (λ k read kept.
-    let p = cond_some (leb k most) k n kept in
-    let f = number_found field k read in
-    let is : k ≡ n = p.1 in
-    let within : k ≤ most = leb-true k most p.0 in
-    rw (← is) (f.0, within, f.1))
-
-pub up_to_again : (most n : ℕ) → n < 2 ^ 64 → n ≤ most → up_to_in most (decimal n) ≡ Some n
-unfolding up_to_in
-up_to_again most n small within = rw (number_again n small, le-leb n most within) refl

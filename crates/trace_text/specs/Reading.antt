@@ -1,91 +1,56 @@
--- What the parts of a line are read as.
-use Rattle.std.specs.Prelude.{ℕ, ◌+◌, ◌-◌, ◌^◌, Bool, false, ◌&&◌, ◌==◌, nat_lt, nat_le, if◌then◌else◌, List, [], ◌∷◌, length, take, drop, position, codes, Option, Some, None, option_and_then}
-use Rattle.std.specs.Option.{option_map}
-use Rattle.std.specs.List.{list_all}
-use Rattle.std.specs.Char.{is_ascii_digit}
-use Rattle.std.specs.Str.{bytes_eq}
-use Rattle.std.specs.Str.Parse.{digits_value}
-use Rattle.heap_geometry.specs.declared.geometry.Geometry.{Geometry}
-use Rattle.heap_geometry.specs.declared.limits.TheConstants.{SMALL_MOST, MAX_TURNS}
-use Rattle.trace_text.specs.declared.limits.TheConstants.{REGISTERS, SPACE, LINE_FEED, ZERO}
-use Rattle.trace_text.specs.declared.trace.Op.{Op}
-use Rattle.trace_text.specs.declared.trace.Op.TheVariants.{Alloc, Free}
+-- What a text is read as.
+use Rattle.std.specs.Prelude.{◌≡◌, ℕ, ◌+◌, List, [], ◌∷◌, Result, Ok, Err}
+use Rattle.trace_text.specs.declared.fault.Cause.{Cause}
+use Rattle.trace_text.specs.declared.fault.Cause.TheVariants.{NoHeapLine, NoEnd}
+use Rattle.trace_text.specs.declared.fault.Stop.{Stop}
+use Rattle.trace_text.specs.declared.fault.Stop.TheVariants as stops
+use Rattle.trace_text.specs.declared.fault.TraceFault.{TraceFault}
+use Rattle.trace_text.specs.declared.fault.TraceFault.TheVariants.{OutOfMemory, Line}
+use Rattle.trace_text.specs.declared.stage.Stage.{Stage}
+use Rattle.trace_text.specs.declared.stage.Stage.TheVariants.{Before, Inside, Ended}
+use Rattle.trace_text.specs.declared.trace.Trace.{Trace}
+use Rattle.trace_text.specs.Causes.{code_of}
+use Rattle.trace_text.specs.Lines.{lines_of}
+use Rattle.trace_text.specs.Said.{after_line}
 
-infixl 10 ◌>>=◌
-abbrev pub ◌>>=◌ : {A B : Type 0} → Option A → (A → Option B) → Option B
-o >>= f = option_and_then f o
+-- a text is read as a trace, or refused at a line for a cause
+pub data Reading : Type 0 where
+  Read : (trace : Trace) → Reading
+  Refused : (line : ℕ) (cause : Cause) → Reading
 
--- the bytes before the first byte c, and those after it
-unfoldable pub cut_in : ℕ → List ℕ → Option (List ℕ × List ℕ)
-cut_in c bytes = option_map (λ i. (take i bytes, drop (i + 1) bytes)) (position (λ b. b == c) bytes)
+-- the end of the text, with the number of the line that would come next
+unfoldable pub at_end : ℕ → Stage → Reading
+at_end number Before = Refused number NoHeapLine
+at_end number (Inside trace) = Refused number NoEnd
+at_end number (Ended trace) = Read trace
 
--- `0`, or digits that don't begin with 0
-unfoldable pub is_numeral : List ℕ → Bool
-is_numeral [] = false
-is_numeral (d ∷ ds) = if d == ZERO then length ds == 0 else list_all is_ascii_digit (d ∷ ds)
+-- a line's cause, or what comes next
+abbrev pub continued : ℕ → Result Stage Cause → (Stage → Reading) → Reading
+continued number (Ok stage) next = next stage
+continued number (Err cause) next = Refused number cause
 
--- the number that a field is
-unfoldable pub number_in : List ℕ → Option ℕ
-number_in field =
-    if is_numeral field && nat_lt (digits_value 10 field) (2 ^ 64) then Some (digits_value 10 field) else None
+-- the lines from one on, of which the first has this number
+unfoldable pub reading_from : List (List ℕ) → ℕ → Stage → Reading
+reading_from [] number stage = at_end number stage
+reading_from (line ∷ lines) number stage =
+    continued number (after_line stage line) (λ next. reading_from lines (number + 1) next)
 
--- the same, where it is at most so large
-unfoldable pub up_to_in : ℕ → List ℕ → Option ℕ
-up_to_in most field = do
-  n ← number_in field
-  if nat_le n most then Some n else None
+-- what a text is read as
+unfoldable pub reading_of : List ℕ → Reading
+reading_of text = reading_from (lines_of text) 1 Before
 
--- the register that a field names
-unfoldable pub register_in : List ℕ → Option ℕ
-register_in field = up_to_in (REGISTERS - 1) field
+-- what a stop at a line is told as
+abbrev pub fault_of : ℕ → Stop → TraceFault
+fault_of number stops.OutOfMemory = OutOfMemory
+fault_of number (stops.Because cause) = Line number (code_of cause)
 
--- the allocation that the fields `R N V` are
-unfoldable pub alloc_in : List ℕ → Option Op
-alloc_in fields = do
-  first ← cut_in SPACE fields
-  second ← cut_in SPACE first.1
-  r ← register_in first.0
-  need ← up_to_in SMALL_MOST second.0
-  v ← number_in second.1
-  Some (Alloc r need v)
+-- a text is refused at this line, for the cause with this number
+abbrev pub IsRefused : ℕ → ℕ → Reading → Type 0
+IsRefused line code (Read trace) = ⊥
+IsRefused line code (Refused number cause) = (line ≡ number) × (code ≡ code_of cause)
 
--- the free that the field `R` is
-unfoldable pub free_in : List ℕ → Option Op
-free_in fields = do
-  r ← register_in fields
-  Some (Free r)
-
--- the operation that a line is, without its line feed
-unfoldable pub op_in : List ℕ → Option Op
-op_in line = do
-  cut ← cut_in SPACE line
-  if bytes_eq cut.0 (codes "a") then alloc_in cut.1 else (if bytes_eq cut.0 (codes "f") then free_in cut.1 else None)
-
--- a number of a heap line, which are of 32 bits
-unfoldable pub count_in : List ℕ → Option ℕ
-count_in field = up_to_in (2 ^ 32 - 1) field
-
--- the heap that a heap line names, for one caller and the largest turn limit
-unfoldable pub geometry_in : List ℕ → Option Geometry
-geometry_in line = do
-  cut ← cut_in SPACE line
-  first ← (if bytes_eq cut.0 (codes "heap") then cut_in SPACE cut.1 else None)
-  second ← cut_in SPACE first.1
-  frames ← count_in first.0
-  heaps ← count_in second.0
-  units ← count_in second.1
-  Some (record { frames = frames; heaps = heaps; units = units; callers = 1; turn_limit = MAX_TURNS })
-
--- the operation on the first line of a text, and what is left behind that line
-unfoldable pub first_op_in : List ℕ → Option (Op × List ℕ)
-first_op_in text = do
-  cut ← cut_in LINE_FEED text
-  op ← op_in cut.0
-  Some (op, cut.1)
-
--- the heap of the first line of a text, and what is left behind that line
-unfoldable pub first_heap_in : List ℕ → Option (Geometry × List ℕ)
-first_heap_in text = do
-  cut ← cut_in LINE_FEED text
-  heap ← geometry_in cut.0
-  Some (heap, cut.1)
+-- the reader answers what the text is read as, unless memory ran out
+abbrev pub Answers : Result Trace TraceFault → Reading → Type 0
+Answers (Ok trace) reading = reading ≡ Read trace
+Answers (Err OutOfMemory) reading = Unit {0}
+Answers (Err (Line number code)) reading = IsRefused number code reading

@@ -1,12 +1,16 @@
-//! Traces as text: what a trace is, the one canonical text of each, and the reader.
+//! Traces as text: what a trace is, the one canonical text of each, the reader and the printer.
 #![tactic(auto)]
 
 pub mod fault;
+mod fields;
 pub mod laws;
 pub mod limits;
 mod lines;
-mod parts;
+mod numbers;
+pub mod printing;
 pub mod reading;
+mod stage;
 #[cfg(test)]
 mod tests;
+pub mod text;
 pub mod trace;

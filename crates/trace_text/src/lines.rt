@@ -1,123 +1,105 @@
-//! What one line says.
+//! The lines of a text, and the fields of a line.
 
-ghost use Rattle.std.specs.Prelude.{◌≡◌, ◌<◌, ℕ, List, length, Some, IfSome, IsSomeAnd};
-ghost use Rattle.heap_geometry.specs.Geometry.{IsChecked};
-ghost use Rattle.heap_geometry.specs.declared.geometry.Geometry.{Geometry};
-ghost use Rattle.std.specs.Option.{option_map};
-ghost use Rattle.trace_text.specs.Reading.{register_in, alloc_in, free_in, op_in, first_op_in, count_in, geometry_in, first_heap_in};
+ghost use Rattle.std.specs.Prelude.{◌≡◌, ◌∷◌, ◌==◌, ◌<◌, [], not, length, position, IfSome, MatchOption};
+ghost use Rattle.std.specs.List.{list_all};
+ghost use Rattle.trace_text.specs.Lines.{without_return, lines_of, fields_of, is_blank, is_plain, is_comment, BeginsField};
 
-use crate::limits::{LINE_FEED, REGISTERS, SPACE};
-use crate::parts::{cut, number, number_up_to};
-use crate::trace::Op;
-use heap_geometry::geometry::Geometry;
-use heap_geometry::limits::{MAX_TURNS, SMALL_MOST};
+use crate::limits::{CARRIAGE_RETURN, COMMENT, LAST_PRINTABLE, LINE_FEED, SPACE, TAB};
 
-/// The register that a field names.
-#[tactic(auto, unfolding(crate::specs::Reading::register_in))]
-fn register(field: &[u8]) -> Option<u16>
-    ensures { result ≡ register_in field.now }
+/// A line less the one carriage return at its end, if it has one.
+fn without_return(line: &[u8]) -> &[u8]
+    ensures { result.now ≡ without_return line.now }
 {
-    Some(number_up_to(field, u64::from(REGISTERS) - 1)? as u16)
-}
-
-/// The allocation that the fields behind the word are.
-#[tactic(auto, unfolding(crate::specs::Reading::alloc_in))]
-fn alloc(fields: &[u8]) -> Option<Op>
-    ensures { result ≡ alloc_in fields.now }
-{
-    let (r, rest) = cut(fields, SPACE)?;
-    let (need, v) = cut(rest, SPACE)?;
-    let r = register(r)?;
-    let need = number_up_to(need, u64::from(SMALL_MOST))? as u32;
-    let v = number(v)?;
-    Some(Op::Alloc { r, need, v })
-}
-
-/// The free that the field behind the word is.
-#[tactic(auto, unfolding(crate::specs::Reading::free_in))]
-fn free(fields: &[u8]) -> Option<Op>
-    ensures { result ≡ free_in fields.now }
-{
-    let r = register(fields)?;
-    Some(Op::Free { r })
-}
-
-/// The operation that a line is, without its line feed.
-#[tactic(auto, unfolding(crate::specs::Reading::op_in))]
-pub(crate) fn op(line: &[u8]) -> Option<Op>
-    ensures { result ≡ op_in line.now }
-{
-    let (word, fields) = cut(line, SPACE)?;
-    if word == b"a".as_slice() {
-        alloc(fields)
-    } else if word == b"f".as_slice() {
-        free(fields)
-    } else {
-        None
+    match line.len() {
+        0 => line,
+        len if line[len - 1] == CARRIAGE_RETURN => &line[..len - 1],
+        _ => line,
     }
 }
 
-/// The operation on the first line of a text, and what is left behind that line.
-#[tactic(auto, unfolding(crate::specs::Reading::first_op_in))]
-pub(crate) fn first_op(text: &[u8]) -> Option<(Op, &[u8])>
-    ensures value { option_map (λ p. (p.0, p.1.now)) result ≡ first_op_in text.now }
+/// Where the first line feed stands.
+fn line_end(text: &[u8]) -> Option<usize>
+    ensures place { result ≡ position (λ b. b == LINE_FEED) text.now }
+    ensures within { IfSome result (λ end. end < length text.now) }
+{
+    text.iter().position(|b| *b == LINE_FEED)
+}
+
+/// The first line of a text, and what is left behind it.
+pub(crate) fn first_line(text: &[u8]) -> Option<(&[u8], &[u8])>
+    ensures lines { MatchOption result (lines_of text.now ≡ [])
+        (λ p. lines_of text.now ≡ p.0.now ∷ lines_of p.1.now) }
     ensures shorter { IfSome result (λ p. length p.1.now < length text.now) }
 {
-    let (line, rest) = cut(text, LINE_FEED)?;
-    Some((op(line)?, rest))
-}
-
-/// A number of a heap line.
-#[tactic(auto, unfolding(crate::specs::Reading::count_in))]
-fn count(field: &[u8]) -> Option<u32>
-    ensures { result ≡ count_in field.now }
-{
-    Some(number_up_to(field, u64::from(u32::MAX))? as u32)
-}
-
-/// The heap that a heap line names, for one caller, its ranges not tested.
-#[tactic(auto, unfolding(crate::specs::Reading::geometry_in))]
-fn geometry(line: &[u8]) -> Option<Geometry>
-    ensures { result ≡ geometry_in line.now }
-{
-    let (word, fields) = cut(line, SPACE)?;
-    if word != b"heap".as_slice() {
-        return None;
+    match line_end(text) {
+        Some(end) => Some((without_return(&text[..end]), &text[end + 1..])),
+        None if text.is_empty() => None,
+        None => Some((without_return(text), &[])),
     }
-    let (frames, rest) = cut(fields, SPACE)?;
-    let (heaps, units) = cut(rest, SPACE)?;
-    let frames = count(frames)?;
-    let heaps = count(heaps)?;
-    let units = count(units)?;
-    Some(Geometry {
-        frames,
-        heaps,
-        units,
-        callers: 1,
-        turn_limit: MAX_TURNS,
-    })
 }
 
-/// The heap of the first line of a text, and what is left behind that line.
-#[tactic(auto, unfolding(crate::specs::Reading::first_heap_in))]
-fn first_geometry(text: &[u8]) -> Option<(Geometry, &[u8])>
-    ensures { option_map (λ p. (p.0, p.1.now)) result ≡ first_heap_in text.now }
+/// Whether a byte parts fields.
+fn is_blank(b: u8) -> bool
+    ensures { result ≡ is_blank b }
 {
-    let (line, rest) = cut(text, LINE_FEED)?;
-    Some((geometry(line)?, rest))
+    b == SPACE || b == TAB
 }
 
-/// The same, where each number of the heap is in its range.
-pub(crate) fn first_heap(text: &[u8]) -> Option<(Geometry, &[u8])>
-    ensures found { IfSome result
-        (λ p. (first_heap_in text.now ≡ Some (p.0, p.1.now)) × IsChecked p.0) }
-    ensures only { (g : Geometry) (rest : List ℕ)
-        → first_heap_in text.now ≡ Some (g, rest) → IsChecked g
-        → IsSomeAnd result (λ p. (p.0 ≡ g) × (p.1.now ≡ rest)) }
+/// Whether each byte is one that a line may have.
+pub(crate) fn is_plain(line: &[u8]) -> bool
+    ensures { result ≡ list_all is_plain line.now }
 {
-    let (heap, rest) = first_geometry(text)?;
-    match heap.check() {
-        Ok(heap) => Some((heap, rest)),
-        Err(_) => None,
+    line.iter()
+        .all(|b| *b == TAB || (SPACE <= *b && *b <= LAST_PRINTABLE))
+}
+
+/// Whether a first field begins a comment.
+pub(crate) fn is_comment(field: &[u8]) -> bool
+    ensures { result ≡ is_comment field.now }
+{
+    match field {
+        [] => false,
+        [first, ..] => *first == COMMENT,
+    }
+}
+
+/// Where the first field begins.
+fn field_start(line: &[u8]) -> Option<usize>
+    ensures place { result ≡ position (λ b. not (is_blank b)) line.now }
+    ensures within { IfSome result (λ start. start < length line.now) }
+{
+    line.iter().position(|b| !is_blank(*b))
+}
+
+/// Where the field that the bytes begin with ends.
+fn field_end(bytes: &[u8]) -> Option<usize>
+    ensures place { result ≡ position is_blank bytes.now }
+    ensures within { IfSome result (λ end. end < length bytes.now) }
+{
+    bytes.iter().position(|b| is_blank(*b))
+}
+
+/// A line from its first field on.
+fn from_field(line: &[u8]) -> Option<&[u8]>
+    ensures { MatchOption result (fields_of line.now ≡ [])
+        (λ bytes. (fields_of line.now ≡ fields_of bytes.now) × BeginsField bytes.now) }
+{
+    match field_start(line) {
+        Some(start) => Some(&line[start..]),
+        None => None,
+    }
+}
+
+/// The first field of a line, and what is left behind it.
+pub(crate) fn first_field(line: &[u8]) -> Option<(&[u8], &[u8])>
+    ensures { MatchOption result (fields_of line.now ≡ [])
+        (λ p. fields_of line.now ≡ p.0.now ∷ fields_of p.1.now) }
+{
+    let Some(bytes) = from_field(line) else {
+        return None;
+    };
+    match field_end(bytes) {
+        Some(end) => Some((&bytes[..end], &bytes[end + 1..])),
+        None => Some((bytes, &[])),
     }
 }

@@ -1,8 +1,10 @@
 //! What a trace is: the heap that it runs on, and what each lane does there.
 
-ghost use Rattle.std.specs.Prelude.{◌≡◌, map};
+ghost use Rattle.std.specs.Prelude.{◌≡◌, ◌↔◌, ◌++◌, ◌∷◌, [], length, map, IsTrue, OnOk, OnErr};
+ghost use Rattle.trace_text.specs.Said.{last_with};
 
 use heap_geometry::geometry::Geometry;
+use std::alloc::{AllocError, Global};
 use std::marker::Model;
 
 /// A trace. Contracts see it as plain data: a lane is a list of operations.
@@ -51,6 +53,19 @@ pub struct Lanes {
     lanes: Vec<Vec<Op>>,
 }
 
+/// One operation more in the last of some lists.
+fn push_onto_last(lanes: &mut Vec<Vec<Op>>, op: Op) -> Result<(), AllocError>
+    ensures { OnOk result (map (λ ops. ops.items) lanes.new.items
+        ≡ last_with op (map (λ ops. ops.items) lanes.old.items)) }
+{
+    let Some(mut last) = lanes.pop() else {
+        return Ok(());
+    };
+    last.push(op)?;
+    lanes.push(last)?;
+    Ok(())
+}
+
 impl Model for Lanes {
     ghost use Rattle.std.specs.Prelude.{List, map};
     ghost use Rattle.trace_text.specs.declared.trace.Op.{Op};
@@ -73,6 +88,35 @@ impl Lanes {
         ensures { map (λ ops. ops.items) result.now ≡ self.now }
     {
         self.lanes.as_slice()
+    }
+
+    /// How many lanes there are.
+    pub fn len(&self) -> usize
+        ensures { result ≡ length self.now }
+    {
+        self.lanes.len()
+    }
+
+    /// Whether there is no lane.
+    pub fn is_empty(&self) -> bool
+        ensures { IsTrue result ↔ (self.now ≡ []) }
+    {
+        self.lanes.is_empty()
+    }
+
+    /// One lane more, with no operation yet. Where memory is not found, the lanes may be others.
+    pub fn push_lane(&mut self, alloc: Global) -> Result<(), AllocError>
+        ensures { OnOk result (self.new ≡ self.old ++ [] ∷ []) }
+    {
+        self.lanes.push(Vec::new(alloc))?;
+        Ok(())
+    }
+
+    /// One operation more in the last lane. Where memory is not found, the lanes may be others.
+    pub fn push_op(&mut self, op: Op) -> Result<(), AllocError>
+        ensures { OnOk result (self.new ≡ last_with op self.old) }
+    {
+        push_onto_last(&mut self.lanes, op)
     }
 
     /// The lanes, given back.
@@ -112,6 +156,22 @@ impl Orders {
         ensures { result.now ≡ self.now }
     {
         self.runs.as_slice()
+    }
+
+    /// Whether there is no order run.
+    pub fn is_empty(&self) -> bool
+        ensures { IsTrue result ↔ (self.now ≡ []) }
+    {
+        self.runs.is_empty()
+    }
+
+    /// One order run more. Where memory is not found, the runs are as before.
+    pub fn push(&mut self, run: OrderRun) -> Result<(), AllocError>
+        ensures ok { OnOk result (self.new ≡ self.old ++ run ∷ []) }
+        ensures err { OnErr result (self.new ≡ self.old) }
+    {
+        self.runs.push(run)?;
+        Ok(())
     }
 
     /// The order runs, given back.

@@ -1,35 +1,46 @@
-use Rattle.std.proofs.Common.{◌≡◌, arith}
-use Rattle.std.proofs.lemmas.Result.{err_from_is_err_and}
-use Rattle.trace_text.proofs.TraceLemmas.{memory_alone, first_heap_spelled, rest_spelled, text_found, trace_is, lanes_text}
+use Rattle.std.proofs.Common.{subst, refl, arith}
+use Rattle.trace_text.specs.Lines.{lines_of}
+use Rattle.trace_text.specs.Reading.{reading_of}
+use Rattle.trace_text.specs.Stages.{HasTrace}
+use Rattle.trace_text.proofs.StageLemmas.{goes_on, stopped, ended, read_at_end, no_heap_line, no_end}
+use Rattle.trace_text.proofs.NamedLemmas.{line_named}
 use Rattle.trace_text.proofs.reading.read_trace.Goals as goal
 
-pub returns-in_default-clause-only : goal.returns-in_default-clause-only
-returns-in_default-clause-only c =
-    λ t h. absurd (c.in_default.ensures.only t.heap (lanes_text t.lanes) (first_heap_spelled c.args.text.now t h) h.first_path.heap)
+pub loop-line-init : goal.loop-line-init
+unfolding reading_of
+loop-line-init c = record { reads = refl; named = tt; few = omega arith }
 
-pub returns-in_default-clause-not_yet : goal.returns-in_default-clause-not_yet
-returns-in_default-clause-not_yet c =
-    λ _ t h. c.in_default.ensures.only t.heap (lanes_text t.lanes) (first_heap_spelled c.args.text.now t h) h.first_path.heap
+pub returns-in-Err-clause-reads : goal.returns-in-Err-clause-reads
+returns-in-Err-clause-reads c =
+    rw c.fault_at.ensures
+    (stopped c.in-Err.stop c.in-Some.line.now (lines_of c.in-Some.after.now) (lines_of c.loop-line.rest.now) c.loop-line.number c.loop-line.stage (reading_of c.args.text.now)
+    c.in-Some.ensures.lines c.loop-line.invariant.reads c.in-Err.ensures)
 
-pub returns-in_err-lanes-clause-only : goal.returns-in_err-lanes-clause-only
-returns-in_err-lanes-clause-only c =
-    λ t h. let p = err_from_is_err_and c.from_residual.result c.from_residual.ensures.1 in
-    let rest = rest_spelled c.args.text.now t c.in-Some.heap c.in-Some.rest.now h c.in-Some.ensures.found.0 in
-    rw (p.1, p.2) (c.in_err-lanes.ensures.only t.lanes h.first_path.lanes rest.1)
+pub loop-line-preserved : goal.loop-line-preserved
+loop-line-preserved c = record {
+  reads =
+      goes_on c.in-Some.line.now (lines_of c.in-Some.after.now) (lines_of c.loop-line.rest.now) c.loop-line.number c.loop-line.stage c.in-Ok.next (reading_of c.args.text.now)
+      c.in-Some.ensures.lines c.loop-line.invariant.reads c.in-Ok.ensures;
+  named = line_named c.loop-line.stage c.in-Ok.next c.in-Some.line.now c.loop-line.invariant.named c.in-Ok.ensures;
+  few = omega (arith, c.in-Some.ensures.shorter);
+}
 
-pub returns-in_err-lanes-clause-not_yet : goal.returns-in_err-lanes-clause-not_yet
-returns-in_err-lanes-clause-not_yet c =
-    λ not_yet t h. memory_alone c.from_residual.result (λ u. u ≡ t) not_yet (returns-in_err-lanes-clause-only c t h)
+pub returns-in-Ended-clause-reads : goal.returns-in-Ended-clause-reads
+returns-in-Ended-clause-reads c =
+    read_at_end c.in-Ended.trace c.loop-line.number c.loop-line.stage (reading_of c.args.text.now) c.in-Ended.is
+    (ended (lines_of c.loop-line.rest.now) c.loop-line.number c.loop-line.stage (reading_of c.args.text.now) c.in_default.ensures.lines c.loop-line.invariant.reads)
 
-pub returns-clause-found : goal.returns-clause-found
-returns-clause-found c =
-    rw (c.new-2.ensures, c.new.ensures.items)
-    (text_found c.args.text.now c.in-Some.heap c.in-Some.rest.now c.in_ok-lanes.lanes (omega arith)
-    c.in-Some.ensures.found.0 c.in-Some.ensures.found.1 c.in_ok-lanes.ensures.found.0 c.in_ok-lanes.ensures.found.1)
+pub returns-in-Ended-clause-named : goal.returns-in-Ended-clause-named
+returns-in-Ended-clause-named c = subst HasTrace c.in-Ended.is c.loop-line.invariant.named
 
-pub returns-clause-only : goal.returns-clause-only
-returns-clause-only c =
-    λ t h. let rest = rest_spelled c.args.text.now t c.in-Some.heap c.in-Some.rest.now h c.in-Some.ensures.found.0 in
-    rw (c.new-2.ensures, c.new.ensures.items)
-    (trace_is c.args.text.now c.in-Some.heap c.in-Some.rest.now c.in_ok-lanes.lanes t c.in-Some.ensures.found.0 h
-    (c.in_ok-lanes.ensures.only t.lanes h.first_path.lanes rest.1))
+pub returns-in-Before-clause-reads : goal.returns-in-Before-clause-reads
+returns-in-Before-clause-reads c =
+    rw c.fault_at-in-Before.ensures
+    (no_heap_line c.loop-line.number c.loop-line.stage (reading_of c.args.text.now) c.in-Before.is
+    (ended (lines_of c.loop-line.rest.now) c.loop-line.number c.loop-line.stage (reading_of c.args.text.now) c.in_default.ensures.lines c.loop-line.invariant.reads))
+
+pub returns-clause-reads : goal.returns-clause-reads
+returns-clause-reads c =
+    rw c.fault_at-in-Inside.ensures
+    (no_end c.in-Inside.field-0 c.loop-line.number c.loop-line.stage (reading_of c.args.text.now) c.in-Inside.is
+    (ended (lines_of c.loop-line.rest.now) c.loop-line.number c.loop-line.stage (reading_of c.args.text.now) c.in_default.ensures.lines c.loop-line.invariant.reads))

@@ -1,5 +1,0 @@
-use Rattle.balloc.proofs.FitLemmas.{fits-later}
-use Rattle.balloc.proofs.laws.outcomes_fit_on.Goals as goal
-
-pub returns : goal.returns
-returns c = fits-later

@@ -1,7 +1,0 @@
-use Rattle.std.proofs.Common.{map, take}
-use Rattle.balloc.proofs.LanesLemmas.{RanSoFar}
-use Rattle.balloc.proofs.replay.replay.Given as goal
-
-abbrev pub invariant-loop-lane : goal.invariant-loop-lane
-invariant-loop-lane l =
-    RanSoFar l.trace.heap l.pool (map (λ lane. lane.items) (take l.lane l.lanes)) (map (λ lane. lane.items) l.outcomes.items)

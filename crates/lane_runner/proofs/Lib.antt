@@ -1,0 +1,14 @@
+mod TallyLemmas
+mod MeasureLemmas
+mod FillLemmas
+mod SumLemmas
+mod HoldLemmas
+mod LaneLemmas
+mod FollowLemmas
+mod CountingLemmas
+mod WalkLemmas
+mod LiveLemmas
+mod RunLemmas
+mod FitLemmas
+mod ReportLemmas
+mod LanesLemmas

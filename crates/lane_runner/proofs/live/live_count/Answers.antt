@@ -1,0 +1,10 @@
+use Rattle.lane_runner.proofs.LiveLemmas.{live-counted, held-lists}
+use Rattle.lane_runner.proofs.live.live_count.Goals as goal
+
+pub returns : goal.returns
+returns c =
+    λ history lost trace legal fit.
+    live-counted c.args.trace.now.heap history lost c.args.trace.now.lanes _ c.count_lanes-tally.result.given c.count_lanes-tally.result.freed
+    c.saturating_sub-blocks.result c.saturating_sub-words.result c.narrow.result c.narrow_words.result trace.heap trace.few_lanes
+    (held-lists c.args.outcomes.now) legal fit c.count_lanes-tally.ensures.given c.count_lanes-tally.ensures.freed c.saturating_sub-blocks.ensures
+    c.saturating_sub-words.ensures c.narrow.ensures c.narrow_words.ensures

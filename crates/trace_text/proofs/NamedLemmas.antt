@@ -1,0 +1,328 @@
+-- What is read so far is a trace that a text can name.
+use Rattle.std.proofs.Common.{◌≡◌, ℕ, suc, ◌+◌, ◌^◌, ◌<◌, ◌⊎◌, max, Bool, true, false, cond, ltb, leb, List, [], ◌∷◌, ◌++◌, length, Option, Some, None, is_some, unwrap_or, Result, Ok, Err, refl, sym, ap, ◌∙◌, subst, arith, inl, inr, length-append}
+use Rattle.std.specs.Prelude.{codes}
+use Rattle.std.specs.List.{All, list_all}
+use Rattle.std.specs.Str.{bytes_eq}
+use Rattle.std.proofs.lemmas.Bool.{and_parts, eqb-true, ltb-true, leb-true}
+use Rattle.std.proofs.lemmas.List.Elements.{All-nil, All-cons, All-push, All-head, All-tail}
+use Rattle.heap_geometry.specs.Geometry.{IsWithin}
+use Rattle.heap_geometry.specs.declared.limits.TheConstants.{MAX_FRAMES, MAX_HEAPS, MAX_UNITS, MAX_TURNS, LARGE_MOST}
+use Rattle.trace_text.specs.declared.limits.TheConstants.{MAX_LANES, ORDER_MOST}
+use Rattle.trace_text.specs.declared.fault.Cause.{Cause}
+use Rattle.trace_text.specs.declared.fault.Cause.TheVariants.{BadGeometry, OutOfRange, UnknownOp, NoHeapLine, NotAscii, TooManyLanes}
+use Rattle.trace_text.specs.declared.stage.Stage.{Stage}
+use Rattle.trace_text.specs.declared.stage.Stage.TheVariants.{Before, Inside, Ended}
+use Rattle.trace_text.specs.declared.trace.Op.{Op}
+use Rattle.trace_text.specs.declared.trace.Op.TheVariants.{Alloc, Free, Fill, Check, Put, Take}
+use Rattle.trace_text.specs.declared.trace.OrderRun.{OrderRun}
+use Rattle.trace_text.specs.declared.trace.Trace.{Trace}
+use Rattle.trace_text.specs.Causes.{◌>>=◌}
+use Rattle.trace_text.specs.Lines.{is_plain, is_comment, fields_of}
+use Rattle.trace_text.specs.Numbers.{number_in}
+use Rattle.trace_text.specs.Said.{numeral_in, ranged, up_to, register_of, shelf_of, none_in, one_in, two_in, three_in, heap_numbers_in, heap_in, alloc_in, free_in, fill_in, check_in, put_in, take_in, op_in, order_in, last_with, with_lane, with_op, with_order, is_unordered, after_lane, after_order, after_end, after_op, after_inner, after_first, after_word, after_fields, after_line}
+use Rattle.trace_text.specs.Stages.{HasTrace}
+use Rattle.trace_text.specs.Traces.{IsOp, IsOrder, IsTrace, callers_of}
+use Rattle.trace_text.proofs.NumberLemmas.{number_found}
+
+-- the value of a step that did not fail
+pub bind_ok : {A B : Type 0} (r : Result A Cause) (f : A → Result B Cause) (y : B) → (r >>= f) ≡ Ok y → (x : A) × (r ≡ Ok x) × (f x ≡ Ok y)
+bind_ok (Ok x) f y e = (x, refl, e)
+bind_ok (Err cause) f y e = absurd cc
+
+-- a test that did not fail
+pub kept : {A : Type 0} (b : Bool) (r : Result A Cause) (cause : Cause) (y : A) → cond b r (Err cause) ≡ Ok y → (b ≡ true) × (r ≡ Ok y)
+kept true r cause y e = (refl, e)
+kept false r cause y e = absurd cc
+
+abbrev done : {A : Type 0} → A → Result A Cause
+done x = Ok x
+
+ok_is : {A : Type 0} (x y : A) → done x ≡ done y → x ≡ y
+ok_is x y e = cc
+
+-- one of two ways
+pub either : {A : Type 0} (b : Bool) (x y z : A) (P : Type 0) → cond b x y ≡ z → (x ≡ z → P) → (y ≡ z → P) → P
+either true x y z P e f g = f e
+either false x y z P e f g = g e
+
+pub ranged_ok : (cause : Cause) (low high n m : ℕ) → ranged cause low high n ≡ Ok m → (n ≡ m) × IsWithin low high m
+unfolding ranged
+ranged_ok cause low high n m e =
+    let k = kept _ (Ok n) cause m e in
+    let both = and_parts (leb low n) (leb n high) k.0 in
+    let is : n ≡ m = ok_is n m k.1 in
+    (is, (rw (← is) (leb-true low n both.0), rw (← is) (leb-true n high both.1)))
+
+ok_or_some : (o : Option ℕ) (cause : Cause) (n : ℕ) → Rattle.std.specs.Option.ok_or o cause ≡ Ok n → o ≡ Some n
+ok_or_some (Some m) cause n e = cc
+ok_or_some None cause n e = absurd cc
+
+numeral_ok : (field : List ℕ) (n : ℕ) → numeral_in field ≡ Ok n → n < 2 ^ 64
+unfolding numeral_in
+numeral_ok field n e = (number_found field n (ok_or_some (number_in field) _ n e)).0
+
+two_ok : (fields : List (List ℕ)) (n : ℕ × ℕ) → two_in fields ≡ Ok n → n.1 < 2 ^ 64
+unfolding two_in
+two_ok [] n e = absurd cc
+two_ok (a ∷ []) n e = absurd cc
+two_ok (a ∷ b ∷ []) n e =
+    let x = bind_ok (numeral_in a) (λ a. numeral_in b >>= λ b. Ok (a, b)) n e in
+    let y = bind_ok (numeral_in b) (λ b. Ok (x.0, b)) n x.2 in
+    let is : (x.0, y.0) ≡ n = ok_is (x.0, y.0) n y.2 in
+    rw (← is) (numeral_ok b y.0 y.1)
+two_ok (a ∷ b ∷ c ∷ fields) n e = absurd cc
+
+three_ok : (fields : List (List ℕ)) (n : ℕ × ℕ × ℕ) → three_in fields ≡ Ok n → n.2 < 2 ^ 64
+unfolding three_in
+three_ok [] n e = absurd cc
+three_ok (a ∷ []) n e = absurd cc
+three_ok (a ∷ b ∷ []) n e = absurd cc
+three_ok (a ∷ b ∷ c ∷ []) n e =
+    let x = bind_ok (numeral_in a) (λ a. numeral_in b >>= λ b. numeral_in c >>= λ c. Ok (a, b, c)) n e in
+    let y = bind_ok (numeral_in b) (λ b. numeral_in c >>= λ c. Ok (x.0, b, c)) n x.2 in
+    let z = bind_ok (numeral_in c) (λ c. Ok (x.0, y.0, c)) n y.2 in
+    let is : (x.0, y.0, z.0) ≡ n = ok_is (x.0, y.0, z.0) n z.2 in
+    rw (← is) (numeral_ok c z.0 z.1)
+three_ok (a ∷ b ∷ c ∷ d ∷ fields) n e = absurd cc
+
+alloc_ok : (fields : List (List ℕ)) (op : Op) → alloc_in fields ≡ Ok op → IsOp op
+unfolding alloc_in
+alloc_ok fields op e =
+    let n = bind_ok (three_in fields) (λ n. register_of n.0 >>= λ r. up_to LARGE_MOST n.1 >>= λ need. Ok (Alloc r need n.2)) op e in
+    let r = bind_ok (register_of n.0.0) (λ r. up_to LARGE_MOST n.0.1 >>= λ need. Ok (Alloc r need n.0.2)) op n.2 in
+    let need = bind_ok (up_to LARGE_MOST n.0.1) (λ need. Ok (Alloc r.0 need n.0.2)) op r.2 in
+    let in_r = ranged_ok OutOfRange 0 1023 n.0.0 r.0 r.1 in
+    let in_need = ranged_ok OutOfRange 0 LARGE_MOST n.0.1 need.0 need.1 in
+    subst IsOp (ok_is (Alloc r.0 need.0 n.0.2) op need.2) (omega (arith, in_r.1), in_need.1.1, three_ok fields n.0 n.1)
+
+free_ok : (fields : List (List ℕ)) (op : Op) → free_in fields ≡ Ok op → IsOp op
+unfolding free_in
+free_ok fields op e =
+    let n = bind_ok (one_in fields) (λ n. register_of n >>= λ r. Ok (Free r)) op e in
+    let r = bind_ok (register_of n.0) (λ r. Ok (Free r)) op n.2 in
+    let in_r = ranged_ok OutOfRange 0 1023 n.0 r.0 r.1 in
+    let below : r.0 < 1024 = omega (arith, in_r.1) in
+    subst IsOp (ok_is (Free r.0) op r.2) below
+
+check_ok : (fields : List (List ℕ)) (op : Op) → check_in fields ≡ Ok op → IsOp op
+unfolding check_in
+check_ok fields op e =
+    let n = bind_ok (one_in fields) (λ n. register_of n >>= λ r. Ok (Check r)) op e in
+    let r = bind_ok (register_of n.0) (λ r. Ok (Check r)) op n.2 in
+    let in_r = ranged_ok OutOfRange 0 1023 n.0 r.0 r.1 in
+    let below : r.0 < 1024 = omega (arith, in_r.1) in
+    subst IsOp (ok_is (Check r.0) op r.2) below
+
+fill_ok : (fields : List (List ℕ)) (op : Op) → fill_in fields ≡ Ok op → IsOp op
+unfolding fill_in
+fill_ok fields op e =
+    let n = bind_ok (two_in fields) (λ n. register_of n.0 >>= λ r. Ok (Fill r n.1)) op e in
+    let r = bind_ok (register_of n.0.0) (λ r. Ok (Fill r n.0.1)) op n.2 in
+    let in_r = ranged_ok OutOfRange 0 1023 n.0.0 r.0 r.1 in
+    subst IsOp (ok_is (Fill r.0 n.0.1) op r.2) (omega (arith, in_r.1), two_ok fields n.0 n.1)
+
+put_ok : (fields : List (List ℕ)) (op : Op) → put_in fields ≡ Ok op → IsOp op
+unfolding put_in
+put_ok fields op e =
+    let n = bind_ok (two_in fields) (λ n. register_of n.0 >>= λ r. shelf_of n.1 >>= λ shelf. Ok (Put r shelf)) op e in
+    let r = bind_ok (register_of n.0.0) (λ r. shelf_of n.0.1 >>= λ shelf. Ok (Put r shelf)) op n.2 in
+    let shelf = bind_ok (shelf_of n.0.1) (λ shelf. Ok (Put r.0 shelf)) op r.2 in
+    let in_r = ranged_ok OutOfRange 0 1023 n.0.0 r.0 r.1 in
+    let in_shelf = ranged_ok OutOfRange 0 63 n.0.1 shelf.0 shelf.1 in
+    subst IsOp (ok_is (Put r.0 shelf.0) op shelf.2) (omega (arith, in_r.1), omega (arith, in_shelf.1))
+
+take_ok : (fields : List (List ℕ)) (op : Op) → take_in fields ≡ Ok op → IsOp op
+unfolding take_in
+take_ok fields op e =
+    let n = bind_ok (two_in fields) (λ n. register_of n.0 >>= λ r. shelf_of n.1 >>= λ shelf. Ok (Take r shelf)) op e in
+    let r = bind_ok (register_of n.0.0) (λ r. shelf_of n.0.1 >>= λ shelf. Ok (Take r shelf)) op n.2 in
+    let shelf = bind_ok (shelf_of n.0.1) (λ shelf. Ok (Take r.0 shelf)) op r.2 in
+    let in_r = ranged_ok OutOfRange 0 1023 n.0.0 r.0 r.1 in
+    let in_shelf = ranged_ok OutOfRange 0 63 n.0.1 shelf.0 shelf.1 in
+    subst IsOp (ok_is (Take r.0 shelf.0) op shelf.2) (omega (arith, in_r.1), omega (arith, in_shelf.1))
+
+pub op_ok : (word : List ℕ) (fields : List (List ℕ)) (op : Op) → op_in word fields ≡ Ok op → IsOp op
+unfolding op_in
+op_ok word fields op e =
+    either (bytes_eq word (codes "a")) _ _ _ (IsOp op) e (alloc_ok fields op)
+    (λ e. either (bytes_eq word (codes "f")) _ _ _ (IsOp op) e (free_ok fields op)
+    (λ e. either (bytes_eq word (codes "w")) _ _ _ (IsOp op) e (fill_ok fields op)
+    (λ e. either (bytes_eq word (codes "c")) _ _ _ (IsOp op) e (check_ok fields op)
+    (λ e. either (bytes_eq word (codes "p")) _ _ _ (IsOp op) e (put_ok fields op)
+    (λ e. either (bytes_eq word (codes "t")) _ _ _ (IsOp op) e (take_ok fields op) (λ e. absurd cc))))))
+
+pub order_ok : (lanes : List (List Op)) (fields : List (List ℕ)) (run : OrderRun) → order_in (length lanes) fields ≡ Ok run → IsOrder lanes run
+unfolding order_in
+order_ok lanes fields run e =
+    let n = bind_ok (two_in fields) (λ n. ranged OutOfRange 1 ORDER_MOST n.1 >>= λ steps. cond (ltb n.0 (length lanes)) (Ok (record { lane = n.0; steps = steps })) (Err OutOfRange)) run e in
+    let steps = bind_ok (ranged OutOfRange 1 ORDER_MOST n.0.1) (λ steps. cond (ltb n.0.0 (length lanes)) (Ok (record { lane = n.0.0; steps = steps })) (Err OutOfRange)) run n.2 in
+    let below = kept (ltb n.0.0 (length lanes)) (Ok (record { lane = n.0.0; steps = steps.0 })) OutOfRange run steps.2 in
+    let made : OrderRun = record { lane = n.0.0; steps = steps.0 } in
+    subst (IsOrder lanes) (ok_is made run below.1) (ltb-true _ _ below.0, (ranged_ok OutOfRange 1 ORDER_MOST n.0.1 steps.0 steps.1).1)
+
+-- ---- the trace after each line
+
+limit_named : (n : Option ℕ) (limit : ℕ) → unwrap_or n MAX_TURNS ≡ limit → (is_some n ≡ true) ⊎ (limit ≡ MAX_TURNS)
+limit_named (Some m) limit e = inl refl
+limit_named None limit e = inr (sym e)
+
+pub heap_ok : (fields : List (List ℕ)) (trace : Trace) → heap_in fields ≡ Ok trace → IsTrace trace
+unfolding heap_in
+heap_ok fields trace e =
+    let made : ℕ → ℕ → ℕ → ℕ → Bool → Trace = λ frames heaps units limit named. record {
+      heap = record { frames = frames; heaps = heaps; units = units; callers = callers_of []; turn_limit = limit };
+      named_limit = named;
+      lanes = [];
+      orders = [];
+    } in
+    let n = bind_ok (heap_numbers_in fields) (λ n. ranged BadGeometry 1 MAX_FRAMES n.0 >>= λ frames. ranged BadGeometry 1 MAX_HEAPS n.1 >>= λ heaps. ranged BadGeometry 0 MAX_UNITS n.2 >>= λ units. ranged BadGeometry 1 MAX_TURNS (unwrap_or n.3 MAX_TURNS) >>= λ limit. Ok (made frames heaps units limit (is_some n.3))) trace e in
+    let frames = bind_ok (ranged BadGeometry 1 MAX_FRAMES n.0.0) (λ frames. ranged BadGeometry 1 MAX_HEAPS n.0.1 >>= λ heaps. ranged BadGeometry 0 MAX_UNITS n.0.2 >>= λ units. ranged BadGeometry 1 MAX_TURNS (unwrap_or n.0.3 MAX_TURNS) >>= λ limit. Ok (made frames heaps units limit (is_some n.0.3))) trace n.2 in
+    let heaps = bind_ok (ranged BadGeometry 1 MAX_HEAPS n.0.1) (λ heaps. ranged BadGeometry 0 MAX_UNITS n.0.2 >>= λ units. ranged BadGeometry 1 MAX_TURNS (unwrap_or n.0.3 MAX_TURNS) >>= λ limit. Ok (made frames.0 heaps units limit (is_some n.0.3))) trace frames.2 in
+    let units = bind_ok (ranged BadGeometry 0 MAX_UNITS n.0.2) (λ units. ranged BadGeometry 1 MAX_TURNS (unwrap_or n.0.3 MAX_TURNS) >>= λ limit. Ok (made frames.0 heaps.0 units limit (is_some n.0.3))) trace heaps.2 in
+    let limit = bind_ok (ranged BadGeometry 1 MAX_TURNS (unwrap_or n.0.3 MAX_TURNS)) (λ limit. Ok (made frames.0 heaps.0 units.0 limit (is_some n.0.3))) trace units.2 in
+    let in_limit = ranged_ok BadGeometry 1 MAX_TURNS (unwrap_or n.0.3 MAX_TURNS) limit.0 limit.1 in
+    subst IsTrace (ok_is (made frames.0 heaps.0 units.0 limit.0 (is_some n.0.3)) trace limit.2) (record {
+      heap = record {
+        frames = (ranged_ok BadGeometry 1 MAX_FRAMES n.0.0 frames.0 frames.1).1;
+        heaps = (ranged_ok BadGeometry 1 MAX_HEAPS n.0.1 heaps.0 heaps.1).1;
+        units = (ranged_ok BadGeometry 0 MAX_UNITS n.0.2 units.0 units.1).1;
+        callers = (omega arith, omega arith);
+        turn_limit = in_limit.1;
+      };
+      callers = refl;
+      turn_limit = limit_named n.0.3 limit.0 in_limit.0;
+      few_lanes = omega arith;
+      ops = All-nil (All IsOp);
+      orders = All-nil (IsOrder []);
+    })
+
+length-last_with : (op : Op) (lanes : List (List Op)) → length (last_with op lanes) ≡ length lanes
+length-last_with op [] = refl
+length-last_with op (last ∷ []) = refl
+length-last_with op (lane ∷ next ∷ more) = ap (λ (n : ℕ). suc n) (length-last_with op (next ∷ more))
+
+All-last_with : (op : Op) (lanes : List (List Op)) → All (All IsOp) lanes → IsOp op → All (All IsOp) (last_with op lanes)
+All-last_with op [] h is = h
+All-last_with op (last ∷ []) h is =
+    All-cons (All IsOp) (last ++ op ∷ []) [] (All-push IsOp last op (All-head (All IsOp) last [] h) is) (All-nil (All IsOp))
+All-last_with op (lane ∷ next ∷ more) h is =
+    All-cons (All IsOp) lane (last_with op (next ∷ more)) (All-head (All IsOp) lane (next ∷ more) h)
+    (All-last_with op (next ∷ more) (All-tail (All IsOp) lane (next ∷ more) h) is)
+
+-- no order run is in any range
+no_orders : (lanes : List (List Op)) (orders : List OrderRun) → length orders ≡ 0 → All (IsOrder lanes) orders
+no_orders lanes [] none = All-nil (IsOrder lanes)
+no_orders lanes (run ∷ orders) none = absurd (omega (arith, none))
+
+-- order runs see of the lanes how many they are
+same_orders : (lanes more : List (List Op)) (orders : List OrderRun) → length more ≡ length lanes → All (IsOrder lanes) orders → All (IsOrder more) orders
+same_orders lanes more orders same h =
+    let P : ℕ → Type 0 = λ n. All (λ (run : OrderRun). (run.lane < n) × IsWithin 1 ORDER_MOST run.steps) orders in
+    subst P (sym same) h
+
+pub lane_more : (trace : Trace) → IsTrace trace → length trace.orders ≡ 0 → length trace.lanes < MAX_LANES → IsTrace (with_lane trace)
+lane_more trace is none few =
+    let count : length (trace.lanes ++ [] ∷ []) ≡ length trace.lanes + 1 = length-append trace.lanes ([] ∷ []) in
+    let callers : callers_of (trace.lanes ++ [] ∷ []) ≡ length trace.lanes + 1 = omega (arith, count) in
+    record {
+      heap = record {
+        frames = is.heap.frames;
+        heaps = is.heap.heaps;
+        units = is.heap.units;
+        callers = (omega (arith, callers), omega (arith, callers));
+        turn_limit = is.heap.turn_limit;
+      };
+      callers = refl;
+      turn_limit = is.turn_limit;
+      few_lanes = omega (arith, count);
+      ops = All-push (All IsOp) trace.lanes [] is.ops (All-nil IsOp);
+      orders = no_orders (trace.lanes ++ [] ∷ []) trace.orders none;
+    }
+
+pub op_more : (trace : Trace) (op : Op) → IsTrace trace → IsOp op → IsTrace (with_op trace op)
+op_more trace op is in_range =
+    let count = length-last_with op trace.lanes in
+    record {
+      heap = is.heap;
+      callers = is.callers ∙ ap (λ n. max 1 n) (sym count);
+      turn_limit = is.turn_limit;
+      few_lanes = omega (arith, count, is.few_lanes);
+      ops = All-last_with op trace.lanes is.ops in_range;
+      orders = same_orders trace.lanes (last_with op trace.lanes) trace.orders count is.orders;
+    }
+
+pub order_more : (trace : Trace) (run : OrderRun) → IsTrace trace → IsOrder trace.lanes run → IsTrace (with_order trace run)
+order_more trace run is in_range =
+    record {
+      heap = is.heap;
+      callers = is.callers;
+      turn_limit = is.turn_limit;
+      few_lanes = is.few_lanes;
+      ops = is.ops;
+      orders = All-push (IsOrder trace.lanes) trace.orders run is.orders in_range;
+    }
+
+-- ---- the stage after each line
+
+after_lane_named : (trace : Trace) (fields : List (List ℕ)) (next : Stage) → IsTrace trace → after_lane trace fields ≡ Ok next → HasTrace next
+unfolding after_lane
+after_lane_named trace fields next is e =
+    let unordered = kept (is_unordered trace) (none_in fields >>= λ _. cond (ltb (length trace.lanes) MAX_LANES) (Ok (Inside (with_lane trace))) (Err TooManyLanes)) UnknownOp next e in
+    let none = bind_ok (none_in fields) (λ _. cond (ltb (length trace.lanes) MAX_LANES) (Ok (Inside (with_lane trace))) (Err TooManyLanes)) next unordered.1 in
+    let few = kept (ltb (length trace.lanes) MAX_LANES) (Ok (Inside (with_lane trace))) TooManyLanes next none.2 in
+    subst HasTrace (ok_is (Inside (with_lane trace)) next few.1)
+    (lane_more trace is (eqb-true (length trace.orders) 0 unordered.0) (ltb-true (length trace.lanes) MAX_LANES few.0))
+
+after_order_named : (trace : Trace) (fields : List (List ℕ)) (next : Stage) → IsTrace trace → after_order trace fields ≡ Ok next → HasTrace next
+unfolding after_order
+after_order_named trace fields next is e =
+    let run = bind_ok (order_in (length trace.lanes) fields) (λ run. Ok (Inside (with_order trace run))) next e in
+    subst HasTrace (ok_is (Inside (with_order trace run.0)) next run.2) (order_more trace run.0 is (order_ok trace.lanes fields run.0 run.1))
+
+after_end_named : (trace : Trace) (fields : List (List ℕ)) (next : Stage) → IsTrace trace → after_end trace fields ≡ Ok next → HasTrace next
+unfolding after_end
+after_end_named trace fields next is e =
+    let none = bind_ok (none_in fields) (λ _. Ok (Ended trace)) next e in
+    subst HasTrace (ok_is (Ended trace) next none.2) is
+
+after_op_named : (trace : Trace) (word : List ℕ) (fields : List (List ℕ)) (next : Stage) → IsTrace trace → after_op trace word fields ≡ Ok next → HasTrace next
+unfolding after_op
+after_op_named trace word fields next is e =
+    let in_lane = kept _ (op_in word fields >>= λ op. Ok (Inside (with_op trace op))) UnknownOp next e in
+    let op = bind_ok (op_in word fields) (λ op. Ok (Inside (with_op trace op))) next in_lane.1 in
+    subst HasTrace (ok_is (Inside (with_op trace op.0)) next op.2) (op_more trace op.0 is (op_ok word fields op.0 op.1))
+
+after_inner_named : (trace : Trace) (word : List ℕ) (fields : List (List ℕ)) (next : Stage) → IsTrace trace → after_inner trace word fields ≡ Ok next → HasTrace next
+unfolding after_inner
+after_inner_named trace word fields next is e =
+    either (bytes_eq word (codes "lane")) _ _ _ (HasTrace next) e (after_lane_named trace fields next is)
+    (λ e. either (bytes_eq word (codes "order")) _ _ _ (HasTrace next) e (after_order_named trace fields next is)
+    (λ e. either (bytes_eq word (codes "end")) _ _ _ (HasTrace next) e (after_end_named trace fields next is)
+    (after_op_named trace word fields next is)))
+
+after_first_named : (word : List ℕ) (fields : List (List ℕ)) (next : Stage) → after_first word fields ≡ Ok next → HasTrace next
+unfolding after_first
+after_first_named word fields next e =
+    let heap = kept (bytes_eq word (codes "heap")) (heap_in fields >>= λ trace. Ok (Inside trace)) NoHeapLine next e in
+    let trace = bind_ok (heap_in fields) (λ trace. Ok (Inside trace)) next heap.1 in
+    subst HasTrace (ok_is (Inside trace.0) next trace.2) (heap_ok fields trace.0 trace.1)
+
+after_word_named : (stage next : Stage) (word : List ℕ) (fields : List (List ℕ)) → HasTrace stage → after_word stage word fields ≡ Ok next → HasTrace next
+unfolding after_word
+after_word_named Before next word fields is e = after_first_named word fields next e
+after_word_named (Inside trace) next word fields is e = after_inner_named trace word fields next is e
+after_word_named (Ended trace) next word fields is e = absurd cc
+
+after_fields_named : (stage next : Stage) (fields : List (List ℕ)) → HasTrace stage → after_fields stage fields ≡ Ok next → HasTrace next
+unfolding after_fields
+after_fields_named stage next [] is e = subst HasTrace (ok_is stage next e) is
+after_fields_named stage next (word ∷ fields) is e =
+    either (is_comment word) (done stage) (after_word stage word fields) _ (HasTrace next) e (λ e. subst HasTrace (ok_is stage next e) is)
+    (after_word_named stage next word fields is)
+
+-- a line that is not refused leaves such a trace
+pub line_named : (stage next : Stage) (line : List ℕ) → HasTrace stage → after_line stage line ≡ Ok next → HasTrace next
+unfolding after_line
+line_named stage next line is e =
+    let plain = kept (list_all is_plain line) (after_fields stage (fields_of line)) NotAscii next e in
+    after_fields_named stage next (fields_of line) is plain.1

@@ -1,0 +1,290 @@
+-- A printed trace is read again.
+use Rattle.std.proofs.Common.{◌≡◌, ℕ, ◌^◌, ◌<◌, ◌≤◌, ◌⊎◌, max, true, false, List, [], ◌∷◌, ◌++◌, length, Ok, refl, sym, ap, ◌∙◌, subst, append_assoc, append-nil, length-append, arith, inl, inr}
+use Rattle.std.specs.Prelude.{codes}
+use Rattle.std.specs.Fmt.{decimal}
+use Rattle.std.specs.List.{All, flat_map}
+use Rattle.std.proofs.lemmas.Bool.{cases_Bool, false≢true, lt-ltb, le-leb, eq-eqb}
+use Rattle.std.proofs.lemmas.List.Elements.{All-head, All-tail}
+use Rattle.heap_geometry.specs.declared.limits.TheConstants.{MAX_FRAMES, MAX_HEAPS, MAX_UNITS, MAX_TURNS, LARGE_MOST}
+use Rattle.trace_text.specs.declared.limits.TheConstants.{MAX_LANES, ORDER_MOST}
+use Rattle.trace_text.specs.declared.fault.Cause.{Cause}
+use Rattle.trace_text.specs.declared.fault.Cause.TheVariants.{BadGeometry, OutOfRange}
+use Rattle.trace_text.specs.declared.stage.Stage.{Stage}
+use Rattle.trace_text.specs.declared.stage.Stage.TheVariants.{Before, Inside, Ended}
+use Rattle.trace_text.specs.declared.trace.Op.{Op}
+use Rattle.trace_text.specs.declared.trace.Op.TheVariants.{Alloc, Free, Fill, Check, Put, Take}
+use Rattle.trace_text.specs.declared.trace.OrderRun.{OrderRun}
+use Rattle.trace_text.specs.declared.trace.Trace.{Trace}
+use Rattle.trace_text.specs.Lines.{lines_of}
+use Rattle.trace_text.specs.Reading.{Reading, Read, at_end, reading_from, reading_of}
+use Rattle.trace_text.specs.Said.{numeral_in, ranged, register_of, shelf_of, one_in, two_in, three_in, heap_numbers_in, heap_in, alloc_in, free_in, fill_in, check_in, put_in, take_in, op_in, order_in, last_with, with_lane, with_op, with_order, after_lane, after_order, after_end, after_op, after_inner, after_first, after_word, after_fields}
+use Rattle.trace_text.specs.Text.{line, limit_fields, heap_fields, op_fields, op_line, lane_line, lane_lines, order_line, end_line, canonical_of}
+use Rattle.trace_text.specs.Traces.{IsOp, IsOrder, IsTrace, callers_of}
+use Rattle.trace_text.proofs.LawLemmas.{read_is}
+use Rattle.trace_text.proofs.LineLemmas.{no_lines}
+use Rattle.trace_text.proofs.NumberLemmas.{number_again}
+use Rattle.trace_text.proofs.PrintedLemmas.{IsField, AreFields, ReadsTo, reads_line, IsField-decimal}
+use Rattle.trace_text.proofs.StageLemmas.{last_with-append}
+
+numeral_again : (n : ℕ) → n < 2 ^ 64 → numeral_in (decimal n) ≡ Ok n
+unfolding numeral_in
+numeral_again n small = rw (number_again n small) refl
+
+ranged_again : (cause : Cause) (low high n : ℕ) → low ≤ n → n ≤ high → ranged cause low high n ≡ Ok n
+unfolding ranged
+ranged_again cause low high n above below = rw (le-leb low n above, le-leb n high below) refl
+
+-- ---- each line's fields are fields
+
+are_one : (name : List ℕ) (a : ℕ) → IsField name → a < 2 ^ 64 → AreFields (name ∷ decimal a ∷ [])
+are_one name a h x = (h, (IsField-decimal a x, tt))
+
+are_two : (name : List ℕ) (a b : ℕ) → IsField name → a < 2 ^ 64 → b < 2 ^ 64 → AreFields (name ∷ decimal a ∷ decimal b ∷ [])
+are_two name a b h x y = (h, (IsField-decimal a x, (IsField-decimal b y, tt)))
+
+are_three : (name : List ℕ) (a b c : ℕ) → IsField name → a < 2 ^ 64 → b < 2 ^ 64 → c < 2 ^ 64 → AreFields (name ∷ decimal a ∷ decimal b ∷ decimal c ∷ [])
+are_three name a b c h x y z = (h, (IsField-decimal a x, (IsField-decimal b y, (IsField-decimal c z, tt))))
+
+op_are_fields : (op : Op) → IsOp op → AreFields (op_fields op)
+unfolding op_fields
+op_are_fields (Alloc r need v) h = are_three (codes "a") r need v (record { some = refl; graphic = refl }) (omega (arith, h.0)) (omega (arith, h.1)) h.2
+op_are_fields (Free r) h = are_one (codes "f") r (record { some = refl; graphic = refl }) (omega arith)
+op_are_fields (Fill r v) h = are_two (codes "w") r v (record { some = refl; graphic = refl }) (omega (arith, h.0)) h.1
+op_are_fields (Check r) h = are_one (codes "c") r (record { some = refl; graphic = refl }) (omega arith)
+op_are_fields (Put r shelf) h = are_two (codes "p") r shelf (record { some = refl; graphic = refl }) (omega (arith, h.0)) (omega (arith, h.1))
+op_are_fields (Take r shelf) h = are_two (codes "t") r shelf (record { some = refl; graphic = refl }) (omega (arith, h.0)) (omega (arith, h.1))
+
+op_some : (op : Op) → 0 < length (op_fields op)
+unfolding op_fields
+op_some (Alloc r need v) = omega arith
+op_some (Free r) = omega arith
+op_some (Fill r v) = omega arith
+op_some (Check r) = omega arith
+op_some (Put r shelf) = omega arith
+op_some (Take r shelf) = omega arith
+
+-- ---- what each printed line says
+
+register_again : (r : ℕ) → r < 1024 → register_of r ≡ Ok r
+register_again r below = ranged_again OutOfRange 0 1023 r (omega arith) (omega arith)
+
+shelf_again : (shelf : ℕ) → shelf < 64 → shelf_of shelf ≡ Ok shelf
+shelf_again shelf below = ranged_again OutOfRange 0 63 shelf (omega arith) (omega arith)
+
+one_again : (a : ℕ) → a < 2 ^ 64 → one_in (decimal a ∷ []) ≡ Ok a
+unfolding one_in
+one_again a small = numeral_again a small
+
+two_again : (a b : ℕ) → a < 2 ^ 64 → b < 2 ^ 64 → two_in (decimal a ∷ decimal b ∷ []) ≡ Ok (a, b)
+unfolding two_in
+two_again a b small low = rw (numeral_again a small, numeral_again b low) refl
+
+three_again : (a b c : ℕ) → a < 2 ^ 64 → b < 2 ^ 64 → c < 2 ^ 64 → three_in (decimal a ∷ decimal b ∷ decimal c ∷ []) ≡ Ok (a, b, c)
+unfolding three_in
+three_again a b c x y z = rw (numeral_again a x, numeral_again b y, numeral_again c z) refl
+
+-- a line in a lane
+op_after :
+    (trace : Trace) (op : Op) → IsOp op → 0 < length trace.lanes → length trace.orders ≡ 0
+    → after_fields (Inside trace) (op_fields op) ≡ Ok (Inside (with_op trace op))
+unfolding op_fields after_fields after_word after_inner after_op op_in alloc_in free_in fill_in check_in put_in take_in
+op_after trace (Alloc r need v) h some none =
+    rw (
+      lt-ltb 0 (length trace.lanes) some,
+      eq-eqb (length trace.orders) 0 none,
+      three_again r need v (omega (arith, h.0)) (omega (arith, h.1)) h.2,
+      register_again r h.0,
+      ranged_again OutOfRange 0 LARGE_MOST need (omega arith) h.1,
+    ) refl
+op_after trace (Free r) h some none =
+    rw (lt-ltb 0 (length trace.lanes) some, eq-eqb (length trace.orders) 0 none, one_again r (omega arith), register_again r h) refl
+op_after trace (Fill r v) h some none =
+    rw (lt-ltb 0 (length trace.lanes) some, eq-eqb (length trace.orders) 0 none, two_again r v (omega (arith, h.0)) h.1, register_again r h.0) refl
+op_after trace (Check r) h some none =
+    rw (lt-ltb 0 (length trace.lanes) some, eq-eqb (length trace.orders) 0 none, one_again r (omega arith), register_again r h) refl
+op_after trace (Put r shelf) h some none =
+    rw (
+      lt-ltb 0 (length trace.lanes) some,
+      eq-eqb (length trace.orders) 0 none,
+      two_again r shelf (omega (arith, h.0)) (omega (arith, h.1)),
+      register_again r h.0,
+      shelf_again shelf h.1,
+    ) refl
+op_after trace (Take r shelf) h some none =
+    rw (
+      lt-ltb 0 (length trace.lanes) some,
+      eq-eqb (length trace.orders) 0 none,
+      two_again r shelf (omega (arith, h.0)) (omega (arith, h.1)),
+      register_again r h.0,
+      shelf_again shelf h.1,
+    ) refl
+
+lane_after : (trace : Trace) → length trace.orders ≡ 0 → length trace.lanes < MAX_LANES → after_fields (Inside trace) (codes "lane" ∷ []) ≡ Ok (Inside (with_lane trace))
+unfolding after_fields after_word after_inner after_lane
+lane_after trace none few = rw (eq-eqb (length trace.orders) 0 none, lt-ltb (length trace.lanes) MAX_LANES few) refl
+
+order_after :
+    (trace : Trace) (run : OrderRun) → IsOrder trace.lanes run → length trace.lanes ≤ MAX_LANES
+    → after_fields (Inside trace) (codes "order" ∷ decimal run.lane ∷ decimal run.steps ∷ []) ≡ Ok (Inside (with_order trace run))
+unfolding after_fields after_word after_inner after_order order_in
+order_after trace run h few =
+    rw (
+      two_again run.lane run.steps (omega (arith, h.0)) (omega (arith, h.1)),
+      ranged_again OutOfRange 1 ORDER_MOST run.steps h.1.0 h.1.1,
+      lt-ltb run.lane (length trace.lanes) h.0,
+    ) refl
+
+end_after : (trace : Trace) → after_fields (Inside trace) (codes "end" ∷ []) ≡ Ok (Ended trace)
+unfolding after_fields after_word after_inner after_end
+end_after trace = refl
+
+-- ---- the trace so far
+
+-- a trace with these lanes and order runs so far
+abbrev so_far : Trace → List (List Op) → List OrderRun → Trace
+so_far t lanes orders = record t { heap = record t.heap { callers = callers_of lanes }; lanes = lanes; orders = orders }
+
+heap_after : (t : Trace) → IsTrace t → after_fields Before (heap_fields t) ≡ Ok (Inside (so_far t [] []))
+unfolding after_fields after_word after_first heap_in heap_numbers_in
+heap_after t is =
+    elim (cases_Bool t.named_limit) [
+      | inl named ↦
+          rw (
+            named,
+            numeral_again t.heap.frames (omega (arith, is.heap.frames)),
+            numeral_again t.heap.heaps (omega (arith, is.heap.heaps)),
+            numeral_again t.heap.units (omega (arith, is.heap.units)),
+            numeral_again t.heap.turn_limit (omega (arith, is.heap.turn_limit)),
+            ranged_again BadGeometry 1 MAX_FRAMES t.heap.frames is.heap.frames.0 is.heap.frames.1,
+            ranged_again BadGeometry 1 MAX_HEAPS t.heap.heaps is.heap.heaps.0 is.heap.heaps.1,
+            ranged_again BadGeometry 0 MAX_UNITS t.heap.units is.heap.units.0 is.heap.units.1,
+            ranged_again BadGeometry 1 MAX_TURNS t.heap.turn_limit is.heap.turn_limit.0 is.heap.turn_limit.1,
+          ) refl
+      | inr unnamed ↦
+          let limit : t.heap.turn_limit ≡ MAX_TURNS = unnamed_limit t is.turn_limit unnamed in
+          rw (
+            unnamed,
+            numeral_again t.heap.frames (omega (arith, is.heap.frames)),
+            numeral_again t.heap.heaps (omega (arith, is.heap.heaps)),
+            numeral_again t.heap.units (omega (arith, is.heap.units)),
+            ranged_again BadGeometry 1 MAX_FRAMES t.heap.frames is.heap.frames.0 is.heap.frames.1,
+            ranged_again BadGeometry 1 MAX_HEAPS t.heap.heaps is.heap.heaps.0 is.heap.heaps.1,
+            ranged_again BadGeometry 0 MAX_UNITS t.heap.units is.heap.units.0 is.heap.units.1,
+            ranged_again BadGeometry 1 MAX_TURNS MAX_TURNS (omega arith) (omega arith),
+            limit,
+          ) refl
+    ]
+  where
+    unnamed_limit : (t : Trace) → (t.named_limit ≡ true) ⊎ (t.heap.turn_limit ≡ MAX_TURNS) → t.named_limit ≡ false → t.heap.turn_limit ≡ MAX_TURNS
+    unnamed_limit t (inl named) unnamed = absurd (false≢true (sym unnamed ∙ named))
+    unnamed_limit t (inr limit) unnamed = limit
+
+heap_are_fields : (t : Trace) → IsTrace t → AreFields (heap_fields t)
+heap_are_fields t is =
+    let three : AreFields (limit_fields t) → AreFields (heap_fields t) = λ limit. (
+      record { some = refl; graphic = refl },
+      (
+        IsField-decimal t.heap.frames (omega (arith, is.heap.frames)),
+        (IsField-decimal t.heap.heaps (omega (arith, is.heap.heaps)), (IsField-decimal t.heap.units (omega (arith, is.heap.units)), limit)),
+      ),
+    ) in
+    elim (cases_Bool t.named_limit) [
+      | inl named ↦ three (rw named (IsField-decimal t.heap.turn_limit (omega (arith, is.heap.turn_limit)), tt))
+      | inr unnamed ↦ three (rw unnamed tt)
+    ]
+
+-- ---- the parts of a printed text, read from where they stand
+
+append_last : (lanes : List (List Op)) (last : List Op) (op : Op) → callers_of (lanes ++ last ∷ []) ≡ callers_of (lanes ++ (last ++ op ∷ []) ∷ [])
+append_last lanes last op = ap (λ n. max 1 n) (length-append lanes (last ∷ []) ∙ sym (length-append lanes ((last ++ op ∷ []) ∷ [])))
+
+-- one operation more in the last lane
+op_added : (t : Trace) (lanes : List (List Op)) (last : List Op) (op : Op) → with_op (so_far t (lanes ++ last ∷ []) []) op ≡ so_far t (lanes ++ (last ++ op ∷ []) ∷ []) []
+op_added t lanes last op =
+    ap (λ (n : ℕ). record t { heap = record t.heap { callers = n }; lanes = last_with op (lanes ++ last ∷ []); orders = [] }) (append_last lanes last op)
+    ∙ ap (λ (ls : List (List Op)). record t { heap = record t.heap { callers = callers_of (lanes ++ (last ++ op ∷ []) ∷ []) }; lanes = ls; orders = [] }) (last_with-append op lanes last)
+
+-- the operations of a lane, and what comes behind them
+ops_read :
+    (reading : Reading) (t : Trace) (lanes : List (List Op)) (ops last : List Op) (rest : List ℕ) → All IsOp ops
+    → ReadsTo reading (Inside (so_far t (lanes ++ (last ++ ops) ∷ []) [])) rest
+    → ReadsTo reading (Inside (so_far t (lanes ++ last ∷ []) [])) (flat_map op_line ops ++ rest)
+ops_read reading t lanes [] last rest h reads =
+    subst (λ (ops : List Op). ReadsTo reading (Inside (so_far t (lanes ++ ops ∷ []) [])) rest) (append-nil last) reads
+ops_read reading t lanes (op ∷ ops) last rest h reads =
+    let here = All-head IsOp op ops h in
+    let others = ops_read reading t lanes ops (last ++ op ∷ []) rest (All-tail IsOp op ops h)
+    (subst (λ (all : List Op). ReadsTo reading (Inside (so_far t (lanes ++ all ∷ []) [])) rest) (sym (append_assoc last (op ∷ []) ops)) reads) in
+    let said = op_after (so_far t (lanes ++ last ∷ []) []) op here (omega (arith, length-append lanes (last ∷ []))) refl in
+    let next = ap (λ (trace : Trace). Inside trace) (op_added t lanes last op) in
+    let one = reads_line reading (Inside (so_far t (lanes ++ last ∷ []) [])) (Inside (so_far t (lanes ++ (last ++ op ∷ []) ∷ []) [])) (op_fields op) (flat_map op_line ops ++ rest)
+    (op_are_fields op here) (op_some op) (said ∙ ap (λ (stage : Stage). Ok stage) next) others in
+    subst (λ (text : List ℕ). ReadsTo reading (Inside (so_far t (lanes ++ last ∷ []) [])) text) (sym (append_assoc (op_line op) (flat_map op_line ops) rest)) one
+
+-- the lanes, and what comes behind them
+lanes_read :
+    (reading : Reading) (t : Trace) (before lanes : List (List Op)) (rest : List ℕ) → All (All IsOp) lanes → length (before ++ lanes) ≤ MAX_LANES
+    → ReadsTo reading (Inside (so_far t (before ++ lanes) [])) rest
+    → ReadsTo reading (Inside (so_far t before [])) (flat_map lane_lines lanes ++ rest)
+lanes_read reading t before [] rest h few reads =
+    subst (λ (lanes : List (List Op)). ReadsTo reading (Inside (so_far t lanes [])) rest) (append-nil before) reads
+lanes_read reading t before (ops ∷ lanes) rest h few reads =
+    let count = length-append before (ops ∷ lanes) in
+    let same = append_assoc before (ops ∷ []) lanes in
+    let others = lanes_read reading t (before ++ ops ∷ []) lanes rest (All-tail (All IsOp) ops lanes h) (omega (arith, few, ap length same))
+    (subst (λ (all : List (List Op)). ReadsTo reading (Inside (so_far t all [])) rest) (sym same) reads) in
+    let here = ops_read reading t before ops [] (flat_map lane_lines lanes ++ rest) (All-head (All IsOp) ops lanes h) others in
+    let said = lane_after (so_far t before []) refl (omega (arith, few, count)) in
+    let one = reads_line reading (Inside (so_far t before [])) (Inside (so_far t (before ++ [] ∷ []) [])) (codes "lane" ∷ []) (flat_map op_line ops ++ (flat_map lane_lines lanes ++ rest))
+    (record { some = refl; graphic = refl }, tt) (omega arith) said here in
+    subst (λ (text : List ℕ). ReadsTo reading (Inside (so_far t before [])) text)
+    (sym (append_assoc lane_line (flat_map op_line ops) (flat_map lane_lines lanes ++ rest)) ∙ sym (append_assoc (lane_lines ops) (flat_map lane_lines lanes) rest)) one
+
+-- the order lines, and what comes behind them
+orders_read :
+    (reading : Reading) (t : Trace) (lanes : List (List Op)) (before orders : List OrderRun) (rest : List ℕ) → All (IsOrder lanes) orders → length lanes ≤ MAX_LANES
+    → ReadsTo reading (Inside (so_far t lanes (before ++ orders))) rest
+    → ReadsTo reading (Inside (so_far t lanes before)) (flat_map order_line orders ++ rest)
+orders_read reading t lanes before [] rest h few reads =
+    subst (λ (orders : List OrderRun). ReadsTo reading (Inside (so_far t lanes orders)) rest) (append-nil before) reads
+orders_read reading t lanes before (run ∷ orders) rest h few reads =
+    let here = All-head (IsOrder lanes) run orders h in
+    let others = orders_read reading t lanes (before ++ run ∷ []) orders rest (All-tail (IsOrder lanes) run orders h) few
+    (subst (λ (all : List OrderRun). ReadsTo reading (Inside (so_far t lanes all)) rest) (sym (append_assoc before (run ∷ []) orders)) reads) in
+    let said = order_after (so_far t lanes before) run here few in
+    let one = reads_line reading (Inside (so_far t lanes before)) (Inside (so_far t lanes (before ++ run ∷ []))) (codes "order" ∷ decimal run.lane ∷ decimal run.steps ∷ []) (flat_map order_line orders ++ rest)
+    (are_two (codes "order") run.lane run.steps (record { some = refl; graphic = refl }) (omega (arith, here.0)) (omega (arith, here.1))) (omega arith) said others in
+    subst (λ (text : List ℕ). ReadsTo reading (Inside (so_far t lanes before)) text) (sym (append_assoc (order_line run) (flat_map order_line orders) rest)) one
+
+nothing_left : (t : Trace) → ReadsTo (Read t) (Ended t) []
+unfolding reading_from at_end
+nothing_left t number = rw no_lines refl
+
+-- the last line
+end_read : (t : Trace) → ReadsTo (Read t) (Inside t) (end_line ++ [])
+end_read t =
+    reads_line (Read t) (Inside t) (Ended t) (codes "end" ∷ []) [] (record { some = refl; graphic = refl }, tt) (omega arith) (end_after t) (nothing_left t)
+
+-- all of the trace
+all_of : (t : Trace) → IsTrace t → so_far t t.lanes t.orders ≡ t
+all_of t is = ap (λ (n : ℕ). record t { heap = record t.heap { callers = n } }) (sym is.callers)
+
+pub printed_is_read : (t : Trace) → IsTrace t → reading_of (canonical_of t) ≡ Read t
+unfolding reading_of canonical_of
+printed_is_read t is =
+    let lanes = flat_map lane_lines t.lanes in
+    let orders = flat_map order_line t.orders in
+    let last = subst (λ (trace : Trace). ReadsTo (Read t) (Inside trace) (end_line ++ [])) (sym (all_of t is)) (end_read t) in
+    let by_orders = orders_read (Read t) t t.lanes [] t.orders (end_line ++ []) is.orders is.few_lanes last in
+    let by_lanes = lanes_read (Read t) t [] t.lanes (orders ++ (end_line ++ [])) is.ops is.few_lanes by_orders in
+    let whole = reads_line (Read t) Before (Inside (so_far t [] [])) (heap_fields t) (lanes ++ (orders ++ (end_line ++ []))) (heap_are_fields t is) (omega arith) (heap_after t is) by_lanes in
+    ap (λ (text : List ℕ). reading_from (lines_of text) 1 Before) (regrouped (line (heap_fields t)) lanes orders end_line) ∙ whole 1
+  where
+    regrouped : (a b c d : List ℕ) → ((a ++ b) ++ c) ++ d ≡ a ++ (b ++ (c ++ (d ++ [])))
+    regrouped a b c d = simp (append_assoc, append-nil)
+
+-- a text that was canonical is printed as it was
+pub canonical_is_printed : (text : List ℕ) (t u : Trace) → IsTrace t → text ≡ canonical_of t → reading_of text ≡ Read u → canonical_of u ≡ text
+canonical_is_printed text t u is e read =
+    let same : t ≡ u = read_is t u (sym (printed_is_read t is) ∙ sym (ap reading_of e) ∙ read) in
+    sym (ap canonical_of same) ∙ sym e

@@ -1,0 +1,62 @@
+-- A loop over the lines, one after the other.
+use Rattle.std.proofs.Common.{◌≡◌, ℕ, ◌+◌, List, [], ◌∷◌, ◌++◌, map, Ok, Err, refl, sym, ap, subst}
+use Rattle.std.proofs.lemmas.List.{map-append}
+use Rattle.trace_text.specs.declared.fault.Stop.{Stop}
+use Rattle.trace_text.specs.declared.fault.Stop.TheVariants as stops
+use Rattle.trace_text.specs.declared.fault.Cause.TheVariants.{NoHeapLine, NoEnd}
+use Rattle.trace_text.specs.declared.stage.Stage.{Stage}
+use Rattle.trace_text.specs.declared.stage.Stage.TheVariants.{Before, Inside, Ended}
+use Rattle.trace_text.specs.declared.trace.Trace.{Trace}
+use Rattle.trace_text.specs.declared.trace.Op.{Op}
+use Rattle.trace_text.specs.Causes.{Stops}
+use Rattle.trace_text.specs.Said.{after_line, last_with}
+use Rattle.trace_text.specs.Reading.{Reading, Read, Answers, at_end, fault_of, reading_from}
+
+-- the lines after one that was read
+pub goes_on :
+    (line : List ℕ) (after lines : List (List ℕ)) (number : ℕ) (stage next : Stage) (reading : Reading) → lines ≡ line ∷ after
+    → reading_from lines number stage ≡ reading → after_line stage line ≡ Ok next → reading_from after (number + 1) next ≡ reading
+unfolding reading_from
+goes_on line after lines number stage next reading is reads said = rw (is, said) at reads
+
+-- a line that is refused
+pub stopped :
+    (stop : Stop) (line : List ℕ) (after lines : List (List ℕ)) (number : ℕ) (stage : Stage) (reading : Reading) → lines ≡ line ∷ after
+    → reading_from lines number stage ≡ reading → Stops stop (after_line stage line) → Answers (Err (fault_of number stop)) reading
+unfolding reading_from
+stopped stops.OutOfMemory line after lines number stage reading is reads said = tt
+stopped (stops.Because cause) line after lines number stage reading is reads said =
+    subst (λ r. Answers (Err (fault_of number (stops.Because cause))) r) (rw (is, said) at reads) (refl, refl)
+
+-- the end of the text
+pub ended : (lines : List (List ℕ)) (number : ℕ) (stage : Stage) (reading : Reading) → lines ≡ [] → reading_from lines number stage ≡ reading → at_end number stage ≡ reading
+unfolding reading_from
+ended lines number stage reading is reads = rw is at reads
+
+-- the last of some lanes has one operation more
+pub last_with-append : (op : Op) (lanes : List (List Op)) (last : List Op) → last_with op (lanes ++ last ∷ []) ≡ lanes ++ (last ++ op ∷ []) ∷ []
+last_with-append op [] last = refl
+last_with-append op (lane ∷ []) last = refl
+last_with-append op (lane ∷ next ∷ more) last = ap (λ lanes. lane ∷ lanes) (last_with-append op (next ∷ more) last)
+
+-- the same of lanes that a view shows
+pub last_pushed :
+    {V : Type 0} (items : V → List Op) (op : Op) (old rest new : List V) (last pushed : V) → old ≡ rest ++ last ∷ []
+    → items pushed ≡ items last ++ op ∷ [] → new ≡ rest ++ pushed ∷ [] → map items new ≡ last_with op (map items old)
+last_pushed items op old rest new last pushed was more now =
+    rw (was, now, map-append, map-append, more) (sym (last_with-append op (map items rest) (items last)))
+
+-- the three ends of a text
+pub read_at_end : (trace : Trace) (number : ℕ) (stage : Stage) (reading : Reading) → stage ≡ Ended trace → at_end number stage ≡ reading → reading ≡ Read trace
+unfolding at_end
+read_at_end trace number stage reading is e = sym (rw is at e)
+
+pub no_heap_line : (number : ℕ) (stage : Stage) (reading : Reading) → stage ≡ Before → at_end number stage ≡ reading → Answers (Err (fault_of number (stops.Because NoHeapLine))) reading
+unfolding at_end
+no_heap_line number stage reading is e =
+    subst (λ r. Answers (Err (fault_of number (stops.Because NoHeapLine))) r) (rw is at e) (refl, refl)
+
+pub no_end : (trace : Trace) (number : ℕ) (stage : Stage) (reading : Reading) → stage ≡ Inside trace → at_end number stage ≡ reading → Answers (Err (fault_of number (stops.Because NoEnd))) reading
+unfolding at_end
+no_end trace number stage reading is e =
+    subst (λ r. Answers (Err (fault_of number (stops.Because NoEnd))) r) (rw is at e) (refl, refl)

@@ -1,0 +1,39 @@
+-- The causes for which a text is refused, and what a reader answers.
+use Rattle.std.specs.Prelude.{◌≡◌, ℕ, Result, Ok, Err}
+use Rattle.trace_text.specs.declared.fault.Cause.{Cause}
+use Rattle.trace_text.specs.declared.fault.Cause.TheVariants.{NotAscii, NoHeapLine, BadGeometry, UnknownOp, WrongFields, BadNumber, OutOfRange, TooManyLanes, NoEnd}
+use Rattle.trace_text.specs.declared.fault.Stop.{Stop}
+use Rattle.trace_text.specs.declared.fault.Stop.TheVariants as stops
+
+-- the number of a cause
+abbrev pub code_of : Cause → ℕ
+code_of NotAscii = 1
+code_of NoHeapLine = 2
+code_of BadGeometry = 3
+code_of UnknownOp = 4
+code_of WrongFields = 5
+code_of BadNumber = 6
+code_of OutOfRange = 7
+code_of TooManyLanes = 8
+code_of NoEnd = 9
+
+-- the first cause that comes ends the tests of a line
+infixl 10 ◌>>=◌
+abbrev pub ◌>>=◌ : {A B : Type 0} → Result A Cause → (A → Result B Cause) → Result B Cause
+(Ok x) >>= f = f x
+(Err cause) >>= f = Err cause
+
+-- a test of the grammar answers what the grammar says, seen by view
+abbrev pub Tells : {X Y : Type 0} → (X → Y) → Result X Cause → Result Y Cause → Type 0
+Tells view (Ok x) said = said ≡ Ok (view x)
+Tells view (Err cause) said = said ≡ Err cause
+
+-- an early end is the grammar's cause, unless memory ran out
+abbrev pub Stops : {Y : Type 0} → Stop → Result Y Cause → Type 0
+Stops stops.OutOfMemory said = Unit {0}
+Stops (stops.Because cause) said = said ≡ Err cause
+
+-- what a function returned is what the grammar says, unless memory ran out
+abbrev pub Gives : {X : Type 0} → Result X Stop → Result X Cause → Type 0
+Gives (Ok x) said = said ≡ Ok x
+Gives (Err stop) said = Stops stop said

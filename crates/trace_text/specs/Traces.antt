@@ -1,0 +1,36 @@
+-- The traces that texts name.
+use Rattle.std.specs.Prelude.{◌≡◌, ℕ, ◌<◌, ◌≤◌, ◌^◌, ◌⊎◌, List, length, max, true}
+use Rattle.std.specs.List.{All}
+use Rattle.heap_geometry.specs.Geometry.{IsChecked, IsWithin}
+use Rattle.heap_geometry.specs.declared.limits.TheConstants.{LARGE_MOST, MAX_TURNS, SHELVES}
+use Rattle.trace_text.specs.declared.limits.TheConstants.{REGISTERS, MAX_LANES, ORDER_MOST}
+use Rattle.trace_text.specs.declared.trace.Op.{Op}
+use Rattle.trace_text.specs.declared.trace.Op.TheVariants.{Alloc, Free, Fill, Check, Put, Take}
+use Rattle.trace_text.specs.declared.trace.OrderRun.{OrderRun}
+use Rattle.trace_text.specs.declared.trace.Trace.{Trace}
+
+-- the numbers of an operation are in their ranges
+abbrev pub IsOp : Op → Type 0
+IsOp (Alloc r need v) = (r < REGISTERS) × (need ≤ LARGE_MOST) × (v < 2 ^ 64)
+IsOp (Free r) = r < REGISTERS
+IsOp (Fill r v) = (r < REGISTERS) × (v < 2 ^ 64)
+IsOp (Check r) = r < REGISTERS
+IsOp (Put r shelf) = (r < REGISTERS) × (shelf < SHELVES)
+IsOp (Take r shelf) = (r < REGISTERS) × (shelf < SHELVES)
+
+-- an order run names one of the lanes, and some steps
+abbrev pub IsOrder : List (List Op) → OrderRun → Type 0
+IsOrder lanes run = (run.lane < length lanes) × IsWithin 1 ORDER_MOST run.steps
+
+-- each lane is a caller of the heap, and there is one caller where there is no lane
+abbrev pub callers_of : List (List Op) → ℕ
+callers_of lanes = max 1 (length lanes)
+
+-- a trace that a text can name
+pub record IsTrace (trace : Trace) : Type 0 where
+  pub heap : IsChecked trace.heap
+  pub callers : trace.heap.callers ≡ callers_of trace.lanes
+  pub turn_limit : (trace.named_limit ≡ true) ⊎ (trace.heap.turn_limit ≡ MAX_TURNS)
+  pub few_lanes : length trace.lanes ≤ MAX_LANES
+  pub ops : All (All IsOp) trace.lanes
+  pub orders : All (IsOrder trace.lanes) trace.orders

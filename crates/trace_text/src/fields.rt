@@ -1,0 +1,236 @@
+//! What the fields behind a word say.
+
+ghost use Rattle.std.specs.Prelude.{◌≡◌, ◌∷◌, ◌<◌, ◌≤◌, ◌^◌, IfOk, OnOk};
+ghost use Rattle.std.specs.Option.{option_copied};
+ghost use Rattle.trace_text.specs.declared.limits.TheConstants.{MAX_LANES};
+ghost use Rattle.trace_text.specs.Causes.{Tells};
+ghost use Rattle.trace_text.specs.Lines.{fields_of};
+ghost use Rattle.trace_text.specs.Said.{numeral_in, ranged, register_of, shelf_of, some_in, none_in, one_in, two_in, three_in, heap_fields_in, limit_in, heap_numbers_in, alloc_in, free_in, fill_in, check_in, put_in, take_in, op_in, order_in};
+
+use crate::fault::Cause;
+use crate::limits::{ORDER_MOST, REGISTERS};
+use crate::lines::first_field;
+use crate::numbers::number;
+use crate::trace::{Op, OrderRun};
+use heap_geometry::limits::{LARGE_MOST, SHELVES};
+
+/// A field as a number.
+#[tactic(auto, unfolding(crate::specs::Said::numeral_in))]
+fn numeral(field: &[u8]) -> Result<u64, Cause>
+    ensures { result ≡ numeral_in field.now }
+{
+    number(field).ok_or(Cause::BadNumber)
+}
+
+/// A number in its range, or this cause.
+#[tactic(auto, unfolding(crate::specs::Said::ranged))]
+pub(crate) fn ranged(cause: Cause, low: u64, high: u64, n: u64) -> Result<u64, Cause>
+    ensures value { result ≡ ranged cause low high n }
+    ensures within { IfOk result (λ m. m ≤ high) }
+{
+    if low <= n && n <= high {
+        Ok(n)
+    } else {
+        Err(cause)
+    }
+}
+
+/// The register of a number.
+fn register(n: u64) -> Result<u16, Cause>
+    ensures { result ≡ register_of n }
+{
+    Ok(ranged(Cause::OutOfRange, 0, u64::from(REGISTERS) - 1, n)? as u16)
+}
+
+/// The shelf of a number.
+fn shelf(n: u64) -> Result<u8, Cause>
+    ensures { result ≡ shelf_of n }
+{
+    Ok(ranged(Cause::OutOfRange, 0, u64::from(SHELVES) - 1, n)? as u8)
+}
+
+/// The first field, and what is left behind it.
+fn field(fields: &[u8]) -> Result<(&[u8], &[u8]), Cause>
+    ensures { Tells (λ p. p.0.now ∷ fields_of p.1.now) result (some_in (fields_of fields.now)) }
+{
+    first_field(fields).ok_or(Cause::WrongFields)
+}
+
+/// No field behind the word.
+pub(crate) fn none(fields: &[u8]) -> Result<(), Cause>
+    ensures { Tells (λ _. tt) result (none_in (fields_of fields.now)) }
+{
+    match first_field(fields) {
+        None => Ok(()),
+        Some(_) => Err(Cause::WrongFields),
+    }
+}
+
+/// The number that is the one field behind the word.
+#[tactic(auto, unfolding(crate::specs::Said::one_in))]
+fn one(fields: &[u8]) -> Result<u64, Cause>
+    ensures { result ≡ one_in (fields_of fields.now) }
+{
+    let (a, rest) = field(fields)?;
+    none(rest)?;
+    numeral(a)
+}
+
+/// The numbers that are the two fields behind the word.
+#[tactic(auto, unfolding(crate::specs::Said::two_in))]
+fn two(fields: &[u8]) -> Result<(u64, u64), Cause>
+    ensures { result ≡ two_in (fields_of fields.now) }
+{
+    let (a, rest) = field(fields)?;
+    let (b, rest) = field(rest)?;
+    none(rest)?;
+    Ok((numeral(a)?, numeral(b)?))
+}
+
+/// The numbers that are the three fields behind the word.
+#[tactic(auto, unfolding(crate::specs::Said::three_in))]
+fn three(fields: &[u8]) -> Result<(u64, u64, u64), Cause>
+    ensures { result ≡ three_in (fields_of fields.now) }
+{
+    let (a, rest) = field(fields)?;
+    let (b, rest) = field(rest)?;
+    let (c, rest) = field(rest)?;
+    none(rest)?;
+    let a = numeral(a)?;
+    let b = numeral(b)?;
+    let c = numeral(c)?;
+    Ok((a, b, c))
+}
+
+#[tactic(auto, unfolding(crate::specs::Said::alloc_in))]
+fn alloc(fields: &[u8]) -> Result<Op, Cause>
+    ensures { result ≡ alloc_in (fields_of fields.now) }
+{
+    let (r, need, v) = three(fields)?;
+    let r = register(r)?;
+    let need = ranged(Cause::OutOfRange, 0, u64::from(LARGE_MOST), need)? as u32;
+    Ok(Op::Alloc { r, need, v })
+}
+
+#[tactic(auto, unfolding(crate::specs::Said::free_in))]
+fn free(fields: &[u8]) -> Result<Op, Cause>
+    ensures { result ≡ free_in (fields_of fields.now) }
+{
+    let r = register(one(fields)?)?;
+    Ok(Op::Free { r })
+}
+
+#[tactic(auto, unfolding(crate::specs::Said::fill_in))]
+fn fill(fields: &[u8]) -> Result<Op, Cause>
+    ensures { result ≡ fill_in (fields_of fields.now) }
+{
+    let (r, v) = two(fields)?;
+    let r = register(r)?;
+    Ok(Op::Fill { r, v })
+}
+
+#[tactic(auto, unfolding(crate::specs::Said::check_in))]
+fn check(fields: &[u8]) -> Result<Op, Cause>
+    ensures { result ≡ check_in (fields_of fields.now) }
+{
+    let r = register(one(fields)?)?;
+    Ok(Op::Check { r })
+}
+
+#[tactic(auto, unfolding(crate::specs::Said::put_in))]
+fn put(fields: &[u8]) -> Result<Op, Cause>
+    ensures { result ≡ put_in (fields_of fields.now) }
+{
+    let (r, shelf_number) = two(fields)?;
+    let r = register(r)?;
+    let shelf = shelf(shelf_number)?;
+    Ok(Op::Put { r, shelf })
+}
+
+#[tactic(auto, unfolding(crate::specs::Said::take_in))]
+fn take(fields: &[u8]) -> Result<Op, Cause>
+    ensures { result ≡ take_in (fields_of fields.now) }
+{
+    let (r, shelf_number) = two(fields)?;
+    let r = register(r)?;
+    let shelf = shelf(shelf_number)?;
+    Ok(Op::Take { r, shelf })
+}
+
+/// The operation that a line in a lane says.
+#[tactic(auto, unfolding(crate::specs::Said::op_in))]
+pub(crate) fn op(word: &[u8], fields: &[u8]) -> Result<Op, Cause>
+    ensures { result ≡ op_in word.now (fields_of fields.now) }
+{
+    if word == b"a".as_slice() {
+        alloc(fields)
+    } else if word == b"f".as_slice() {
+        free(fields)
+    } else if word == b"w".as_slice() {
+        fill(fields)
+    } else if word == b"c".as_slice() {
+        check(fields)
+    } else if word == b"p".as_slice() {
+        put(fields)
+    } else if word == b"t".as_slice() {
+        take(fields)
+    } else {
+        Err(Cause::UnknownOp)
+    }
+}
+
+/// The order run that an order line says, where there are so many lanes.
+#[tactic(auto, unfolding(crate::specs::Said::order_in))]
+pub(crate) fn order(lanes: usize, fields: &[u8]) -> Result<OrderRun, Cause>
+    requires { lanes ≤ MAX_LANES }
+    ensures { result ≡ order_in lanes (fields_of fields.now) }
+{
+    let (lane, steps) = two(fields)?;
+    let steps = ranged(Cause::OutOfRange, 1, u64::from(ORDER_MOST), steps)? as u32;
+    if lane < lanes as u64 {
+        Ok(OrderRun {
+            lane: lane as u8,
+            steps,
+        })
+    } else {
+        Err(Cause::OutOfRange)
+    }
+}
+
+/// The three or four fields behind the word `heap`.
+fn heap_fields(fields: &[u8]) -> Result<(&[u8], &[u8], &[u8], Option<&[u8]>), Cause>
+    ensures { Tells (λ p. (p.0.now, p.1.now, p.2.now, option_copied p.3)) result
+        (heap_fields_in (fields_of fields.now)) }
+{
+    let (frames, rest) = field(fields)?;
+    let (heaps, rest) = field(rest)?;
+    let (units, rest) = field(rest)?;
+    let Some((limit, rest)) = first_field(rest) else {
+        return Ok((frames, heaps, units, None));
+    };
+    none(rest)?;
+    Ok((frames, heaps, units, Some(limit)))
+}
+
+/// The turn limit, where it is named.
+fn limit(field: Option<&[u8]>) -> Result<Option<u64>, Cause>
+    ensures { result ≡ limit_in (option_copied field.entry) }
+{
+    match field {
+        None => Ok(None),
+        Some(field) => Ok(Some(numeral(field)?)),
+    }
+}
+
+/// The numbers of a heap line.
+#[tactic(auto, unfolding(crate::specs::Said::heap_numbers_in))]
+pub(crate) fn heap_numbers(fields: &[u8]) -> Result<(u64, u64, u64, Option<u64>), Cause>
+    ensures { result ≡ heap_numbers_in (fields_of fields.now) }
+{
+    let (frames, heaps, units, limit_field) = heap_fields(fields)?;
+    let frames = numeral(frames)?;
+    let heaps = numeral(heaps)?;
+    let units = numeral(units)?;
+    let limit = limit(limit_field)?;
+    Ok((frames, heaps, units, limit))
+}

@@ -1,0 +1,160 @@
+//! Where the reader stands in a text, and what one line says there.
+
+ghost use Rattle.std.specs.Prelude.{◌≡◌};
+ghost use Rattle.trace_text.specs.Causes.{Gives};
+ghost use Rattle.trace_text.specs.Lines.{fields_of};
+ghost use Rattle.trace_text.specs.Said.{heap_in, after_lane, after_order, after_end, after_op, after_inner, after_first, after_word, after_line, after_fields};
+ghost use Rattle.trace_text.specs.Stages.{HasTrace};
+ghost use Rattle.trace_text.specs.Traces.{IsTrace};
+
+use crate::fault::{Cause, Stop};
+use crate::fields::{heap_numbers, none, op, order, ranged};
+use crate::limits::MAX_LANES;
+use crate::lines::{first_field, is_comment, is_plain};
+use crate::trace::{Lanes, Orders, Trace};
+use heap_geometry::geometry::Geometry;
+use heap_geometry::limits::{MAX_FRAMES, MAX_HEAPS, MAX_TURNS, MAX_UNITS};
+use std::alloc::Global;
+
+/// Where the reader stands: before the heap line, behind it with the trace so far, or behind `end`
+/// with the whole trace.
+#[derive(Debug, Drop)]
+pub(crate) enum Stage {
+    Before,
+    Inside(Trace),
+    Ended(Trace),
+}
+
+/// The trace that a heap line begins.
+#[tactic(auto, unfolding(crate::specs::Said::heap_in))]
+fn heap(alloc: Global, fields: &[u8]) -> Result<Trace, Cause>
+    ensures { result ≡ heap_in (fields_of fields.now) }
+{
+    let (frames, heaps, units, limit) = heap_numbers(fields)?;
+    let frames = ranged(Cause::BadGeometry, 1, u64::from(MAX_FRAMES), frames)? as u32;
+    let heaps = ranged(Cause::BadGeometry, 1, u64::from(MAX_HEAPS), heaps)? as u32;
+    let units = ranged(Cause::BadGeometry, 0, u64::from(MAX_UNITS), units)? as u32;
+    let turn_limit = ranged(Cause::BadGeometry, 1, MAX_TURNS, limit.unwrap_or(MAX_TURNS))?;
+    Ok(Trace {
+        heap: Geometry {
+            frames,
+            heaps,
+            units,
+            callers: 1,
+            turn_limit,
+        },
+        named_limit: limit.is_some(),
+        lanes: Lanes::new(Vec::new(alloc)),
+        orders: Orders::new(Vec::new(alloc)),
+    })
+}
+
+/// A line `lane`.
+#[tactic(auto, unfolding(crate::specs::Said::after_lane))]
+fn lane(alloc: Global, mut trace: Trace, fields: &[u8]) -> Result<Stage, Stop>
+    requires { IsTrace trace }
+    ensures { Gives result (after_lane trace (fields_of fields.now)) }
+{
+    if !trace.orders.is_empty() {
+        return Err(Stop::Because(Cause::UnknownOp));
+    }
+    none(fields)?;
+    if trace.lanes.len() >= MAX_LANES as usize {
+        return Err(Stop::Because(Cause::TooManyLanes));
+    }
+    trace.heap.callers = trace.lanes.len() as u32 + 1;
+    trace.lanes.push_lane(alloc)?;
+    Ok(Stage::Inside(trace))
+}
+
+/// An order line.
+#[tactic(auto, unfolding(crate::specs::Said::after_order))]
+fn order_run(mut trace: Trace, fields: &[u8]) -> Result<Stage, Stop>
+    requires { IsTrace trace }
+    ensures { Gives result (after_order trace (fields_of fields.now)) }
+{
+    let run = order(trace.lanes.len(), fields)?;
+    trace.orders.push(run)?;
+    Ok(Stage::Inside(trace))
+}
+
+/// The line `end`.
+#[tactic(auto, unfolding(crate::specs::Said::after_end))]
+fn end(trace: Trace, fields: &[u8]) -> Result<Stage, Cause>
+    ensures { result ≡ after_end trace (fields_of fields.now) }
+{
+    none(fields)?;
+    Ok(Stage::Ended(trace))
+}
+
+/// An operation of the last lane.
+#[tactic(auto, unfolding(crate::specs::Said::after_op))]
+fn operation(mut trace: Trace, word: &[u8], fields: &[u8]) -> Result<Stage, Stop>
+    ensures { Gives result (after_op trace word.now (fields_of fields.now)) }
+{
+    if trace.lanes.is_empty() || !trace.orders.is_empty() {
+        return Err(Stop::Because(Cause::UnknownOp));
+    }
+    let op = op(word, fields)?;
+    trace.lanes.push_op(op)?;
+    Ok(Stage::Inside(trace))
+}
+
+/// A line between the heap line and `end`.
+#[tactic(auto, unfolding(crate::specs::Said::after_inner))]
+fn inner(alloc: Global, trace: Trace, word: &[u8], fields: &[u8]) -> Result<Stage, Stop>
+    requires { IsTrace trace }
+    ensures { Gives result (after_inner trace word.now (fields_of fields.now)) }
+{
+    if word == b"lane".as_slice() {
+        lane(alloc, trace, fields)
+    } else if word == b"order".as_slice() {
+        order_run(trace, fields)
+    } else if word == b"end".as_slice() {
+        Ok(end(trace, fields)?)
+    } else {
+        operation(trace, word, fields)
+    }
+}
+
+/// The first line that is not passed over.
+#[tactic(auto, unfolding(crate::specs::Said::after_first))]
+fn first(alloc: Global, word: &[u8], fields: &[u8]) -> Result<Stage, Cause>
+    ensures { result ≡ after_first word.now (fields_of fields.now) }
+{
+    if word == b"heap".as_slice() {
+        Ok(Stage::Inside(heap(alloc, fields)?))
+    } else {
+        Err(Cause::NoHeapLine)
+    }
+}
+
+impl Stage {
+    /// Where the reader stands after a line with a word.
+    #[tactic(auto, unfolding(crate::specs::Said::after_word))]
+    fn after_word(self, alloc: Global, word: &[u8], fields: &[u8]) -> Result<Stage, Stop>
+        requires { HasTrace self }
+        ensures { Gives result (after_word self word.now (fields_of fields.now)) }
+    {
+        match self {
+            Stage::Before => Ok(first(alloc, word, fields)?),
+            Stage::Inside(trace) => inner(alloc, trace, word, fields),
+            Stage::Ended(_) => Err(Stop::Because(Cause::UnknownOp)),
+        }
+    }
+
+    /// Where the reader stands after a line.
+    #[tactic(auto, unfolding(crate::specs::Said::after_line, crate::specs::Said::after_fields))]
+    pub(crate) fn after_line(self, alloc: Global, line: &[u8]) -> Result<Stage, Stop>
+        requires { HasTrace self }
+        ensures { Gives result (after_line self line.now) }
+    {
+        if !is_plain(line) {
+            return Err(Stop::Because(Cause::NotAscii));
+        }
+        match first_field(line) {
+            Some((word, fields)) if !is_comment(word) => self.after_word(alloc, word, fields),
+            _ => Ok(self),
+        }
+    }
+}

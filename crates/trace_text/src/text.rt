@@ -1,0 +1,87 @@
+//! A text in the making: lines of fields, each field parted from the one before by a space.
+
+ghost use Rattle.std.specs.Prelude.{◌≡◌, ◌∷◌, ◌++◌, [], decimal, OnOk};
+ghost use Rattle.trace_text.specs.declared.limits.TheConstants.{SPACE, LINE_FEED};
+ghost use Rattle.trace_text.specs.Text.{line};
+
+use std::alloc::{AllocError, Global};
+use std::marker::Model;
+
+/// A text in the making, which contracts see as its bytes. A call that finds no memory may leave a
+/// part of its piece behind.
+#[derive(Drop)]
+pub struct Text {
+    written: String,
+}
+
+impl Model for Text {
+    ghost use Rattle.std.specs.Prelude.{ℕ, List, string_bytes};
+
+    ghost Value = { List ℕ };
+
+    ghost view = { λ a. string_bytes a.written };
+}
+
+impl Text {
+    /// No byte yet.
+    pub fn new(alloc: Global) -> Self
+        ensures { result ≡ [] }
+    {
+        Text {
+            written: String::new(alloc),
+        }
+    }
+
+    /// The first field of a line.
+    pub fn begin(&mut self, word: &str) -> Result<(), AllocError>
+        ensures { OnOk result (self.new ≡ self.old ++ word.now) }
+    {
+        self.written.push_str(word)
+    }
+
+    /// One more field of the line.
+    pub fn word(&mut self, word: &str) -> Result<(), AllocError>
+        ensures { OnOk result (self.new ≡ self.old ++ SPACE ∷ word.now) }
+    {
+        write!(self.written, " {word}")
+    }
+
+    /// One more field of the line.
+    pub fn number(&mut self, number: u64) -> Result<(), AllocError>
+        ensures { OnOk result (self.new ≡ self.old ++ SPACE ∷ decimal number) }
+    {
+        write!(self.written, " {number}")
+    }
+
+    /// The end of the line.
+    pub fn end_line(&mut self) -> Result<(), AllocError>
+        ensures { OnOk result (self.new ≡ self.old ++ LINE_FEED ∷ []) }
+    {
+        self.written.push_str("\n")
+    }
+
+    /// A line of one field, or of several that a space parts already.
+    pub fn line(&mut self, words: &str) -> Result<(), AllocError>
+        ensures { OnOk result (self.new ≡ self.old ++ line (words.now ∷ [])) }
+    {
+        self.begin(words)?;
+        self.end_line()
+    }
+
+    /// A line of a word and a number.
+    pub fn line_with(&mut self, word: &str, number: u64) -> Result<(), AllocError>
+        ensures { OnOk result (self.new ≡ self.old ++ line (word.now ∷ decimal number ∷ [])) }
+    {
+        self.begin(word)?;
+        self.number(number)?;
+        self.end_line()
+    }
+
+    /// The bytes of the text.
+    pub fn into_bytes(self) -> Vec<u8>
+        ensures { result.items ≡ self }
+    {
+        let Text { written } = self;
+        written.into_bytes()
+    }
+}
