@@ -1,90 +1,14 @@
 //! The text of a report.
 
 ghost use Rattle.std.specs.Prelude.{◌≡◌, ◌∷◌, ◌++◌, [], length, map, codes, decimal, IfOk, OnOk};
-ghost use Rattle.std.specs.List.{flat_map};
-ghost use Rattle.trace_text.specs.declared.limits.TheConstants.{SPACE, LINE_FEED};
-ghost use Rattle.trace_text.specs.Text.{limit_fields, heap_fields, line};
+ghost use Rattle.trace_text.specs.Text.{heap_fields, line};
 ghost use Rattle.lane_runner.specs.Report.{outcome_fields, lane_report, lanes_report, report_with};
 
 use crate::outcome::Outcome;
 use std::alloc::{AllocError, Global};
-use std::marker::Model;
+use trace_text::printing::write_heap;
+use trace_text::text::Text;
 use trace_text::trace::Trace;
-
-/// A text in the making. A call that finds no memory may leave a part of its piece behind.
-#[derive(Drop)]
-struct Text {
-    written: String,
-}
-
-impl Model for Text {
-    ghost use Rattle.std.specs.Prelude.{ℕ, List, string_bytes};
-
-    ghost Value = { List ℕ };
-
-    ghost view = { λ a. string_bytes a.written };
-}
-
-impl Text {
-    fn new(alloc: Global) -> Self
-        ensures { result ≡ [] }
-    {
-        Text {
-            written: String::new(alloc),
-        }
-    }
-
-    /// The first field of a line.
-    fn begin(&mut self, word: &str) -> Result<(), AllocError>
-        ensures { OnOk result (self.new ≡ self.old ++ word.now) }
-    {
-        self.written.push_str(word)
-    }
-
-    /// One more field of the line.
-    fn word(&mut self, word: &str) -> Result<(), AllocError>
-        ensures { OnOk result (self.new ≡ self.old ++ SPACE ∷ word.now) }
-    {
-        write!(self.written, " {word}")
-    }
-
-    /// One more field of the line.
-    fn number(&mut self, number: u64) -> Result<(), AllocError>
-        ensures { OnOk result (self.new ≡ self.old ++ SPACE ∷ decimal number) }
-    {
-        write!(self.written, " {number}")
-    }
-
-    fn end_line(&mut self) -> Result<(), AllocError>
-        ensures { OnOk result (self.new ≡ self.old ++ LINE_FEED ∷ []) }
-    {
-        self.written.push_str("\n")
-    }
-
-    /// A line of one field, or of several that a space parts already.
-    fn line(&mut self, words: &str) -> Result<(), AllocError>
-        ensures { OnOk result (self.new ≡ self.old ++ line (words.now ∷ [])) }
-    {
-        self.begin(words)?;
-        self.end_line()
-    }
-
-    /// A line of a word and a number.
-    fn line_with(&mut self, word: &str, number: u64) -> Result<(), AllocError>
-        ensures { OnOk result (self.new ≡ self.old ++ line (word.now ∷ decimal number ∷ [])) }
-    {
-        self.begin(word)?;
-        self.number(number)?;
-        self.end_line()
-    }
-
-    fn into_bytes(self) -> Vec<u8>
-        ensures { result.items ≡ self }
-    {
-        let Text { written } = self;
-        written.into_bytes()
-    }
-}
 
 /// How many lanes the trace has.
 fn lane_count(trace: &Trace) -> u64
@@ -93,26 +17,12 @@ fn lane_count(trace: &Trace) -> u64
     trace.lanes.as_slice().len() as u64
 }
 
-/// Writes the turn limit, where the trace names it.
-fn write_limit(text: &mut Text, trace: &Trace) -> Result<(), AllocError>
-    ensures { OnOk result (text.new ≡ text.old ++ flat_map (λ field. SPACE ∷ field) (limit_fields trace.now)) }
-{
-    if trace.named_limit {
-        text.number(trace.heap.turn_limit)?;
-    }
-    Ok(())
-}
-
 /// Writes the line of the heap and the number of lanes.
 fn write_header(text: &mut Text, trace: &Trace) -> Result<(), AllocError>
     ensures { OnOk result (text.new
         ≡ text.old ++ line (heap_fields trace.now ++ codes "lanes" ∷ decimal (length trace.now.lanes) ∷ [])) }
 {
-    text.begin("heap")?;
-    text.number(u64::from(trace.heap.frames))?;
-    text.number(u64::from(trace.heap.heaps))?;
-    text.number(u64::from(trace.heap.units))?;
-    write_limit(text, trace)?;
+    write_heap(text, trace)?;
     text.word("lanes")?;
     text.number(lane_count(trace))?;
     text.end_line()
