@@ -1,0 +1,10 @@
+pub mod AnswerLemmas
+pub mod BeginLemmas
+pub mod EnterLemmas
+pub mod ErrandLemmas
+pub mod EventLemmas
+pub mod NextLemmas
+pub mod OnwardLemmas
+pub mod PlanLemmas
+pub mod RetiredLemmas
+pub mod StepLemmas

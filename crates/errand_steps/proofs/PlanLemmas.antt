@@ -1,0 +1,26 @@
+-- The word that a caller's action is on exists in its heap.
+use Rattle.std.proofs.Common.{ℕ, ◌<◌}
+use Rattle.heap_geometry.specs.declared.geometry.Geometry.{Geometry}
+use Rattle.heap_geometry.specs.Geometry.{IsChecked}
+use Rattle.word_plan.specs.Actions.{name_of}
+use Rattle.word_plan.specs.Table.{Exists}
+use Rattle.superblock_parts.proofs.FitLemmas as block
+use Rattle.stack_parts.proofs.FitLemmas as stack
+use Rattle.hazard_parts.proofs.FitLemmas as desc
+use Rattle.partial_parts.proofs.FitLemmas as partial
+use Rattle.large_parts.proofs.FitLemmas as large
+use Rattle.errand_steps.specs.declared.point.Point.{Point}
+use Rattle.errand_steps.specs.declared.point.Point.TheVariants.{Idle, Block, Stack, Desc, Partial, Large}
+use Rattle.errand_steps.specs.Fits.{FitsPoint}
+use Rattle.errand_steps.specs.Points.{plan_point_of}
+
+pub plan-exists :
+    (g : Geometry) (who : ℕ) (p : Point) → IsChecked g → who < g.callers → FitsPoint g who p
+    → Exists g (name_of (plan_point_of p))
+unfolding plan_point_of
+plan-exists g who Idle checked has h = tt
+plan-exists g who (Block p o) checked has h = block.plan-exists g who p checked has h.point
+plan-exists g who (Stack p o) checked has h = stack.plan-exists g who p checked has h.point
+plan-exists g who (Desc p o) checked has h = desc.plan-exists g who p checked has h.point
+plan-exists g who (Partial p o) checked has h = partial.plan-exists g who p checked has h.point
+plan-exists g who (Large p o) checked has h = large.plan-exists g p checked h.point

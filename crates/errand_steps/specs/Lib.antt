@@ -1,0 +1,9 @@
+pub mod Begins
+pub mod Errands
+pub mod Events
+pub mod Fits
+pub mod Nexts
+pub mod Onwards
+pub mod Openings
+pub mod Points
+pub mod Steps

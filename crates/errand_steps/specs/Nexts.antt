@@ -1,0 +1,155 @@
+-- What follows each step. Where a part is left, what follows depends on the continuation.
+use Rattle.std.specs.Prelude.{ℕ, Bool, if◌then◌else◌}
+use Rattle.heap_geometry.specs.declared.need.Need.TheVariants as need
+use Rattle.heap_geometry.specs.Place.{block_place}
+use Rattle.packed_words.specs.Head.{HeadFields}
+use Rattle.word_plan.specs.declared.action.Found.{Found}
+use Rattle.word_plan.specs.Seats.{SeatFields, heap_of}
+use Rattle.superblock_parts.specs.declared.point.Share.TheVariants.{Grant}
+use Rattle.superblock_parts.specs.declared.point.BlockPoint.{BlockPoint}
+use Rattle.superblock_parts.specs.declared.point.BlockPoint.TheVariants as block
+use Rattle.superblock_parts.specs.Points.{settle_block_of}
+use Rattle.stack_parts.specs.declared.point.Pile.{Pile}
+use Rattle.stack_parts.specs.declared.point.Pile.TheVariants.{Frames, Partials}
+use Rattle.stack_parts.specs.declared.point.StackPoint.{StackPoint}
+use Rattle.stack_parts.specs.declared.point.StackPoint.TheVariants as stack
+use Rattle.stack_parts.specs.Points.{settle_stack_of}
+use Rattle.hazard_parts.specs.declared.point.DescPoint.{DescPoint}
+use Rattle.hazard_parts.specs.declared.point.DescPoint.TheVariants as desc
+use Rattle.hazard_parts.specs.Points.{settle_desc_of}
+use Rattle.partial_parts.specs.declared.point.PartialPoint.{PartialPoint}
+use Rattle.partial_parts.specs.declared.point.PartialPoint.TheVariants as partial
+use Rattle.partial_parts.specs.Points.{settle_partial_of}
+use Rattle.large_parts.specs.declared.point.LargePoint.{LargePoint}
+use Rattle.large_parts.specs.declared.point.LargePoint.TheVariants as large
+use Rattle.large_parts.specs.Points.{settle_large_of}
+use Rattle.errand_steps.specs.declared.onward.Onward.{Onward}
+use Rattle.errand_steps.specs.declared.onward.Onward.TheVariants as onward
+use Rattle.errand_steps.specs.declared.point.Point.{Point}
+use Rattle.errand_steps.specs.declared.point.Point.TheVariants.{Idle, Block, Stack, Desc, Partial, Large}
+use Rattle.errand_steps.specs.declared.reply.Reply.TheVariants as reply
+use Rattle.errand_steps.specs.declared.next.Next.{Next}
+use Rattle.errand_steps.specs.declared.next.Next.TheVariants.{At, End, Turn, Retire, Pick, Unlist}
+use Rattle.errand_steps.specs.Points.{asked}
+
+-- the end of a free: it clears the hazard word where it stored it
+abbrev pub finish : SeatFields → Bool → Next
+finish s guarded = if guarded then At (Desc (desc.ClearHazard s) onward.EndFree) else End reply.Freed
+
+-- what was to be put away stands in its slot or on its stack
+abbrev pub put_away : SeatFields → Onward → Next
+put_away s (onward.GiveBlock need at i) = At (Block (block.StorePrefix at i) (onward.Alloc need))
+put_away s (onward.Finish guarded) = finish s guarded
+put_away s (onward.Discard need d) = Retire s d (onward.Turn need)
+put_away s (onward.Remove d heap) = At (Partial (partial.LoadHeldSlot s d heap) onward.Free)
+put_away s (onward.Retire d) = Retire s d onward.EndFree
+put_away s (onward.PushFirst first) = At (Stack (stack.LoadTopToPush s Partials first) onward.EndFree)
+put_away s o = End reply.Freed
+
+-- a stack was found empty: an allocation confirms that by a step, a free is done with the list
+abbrev pub found_empty : SeatFields → Pile → HeadFields → Onward → Next
+found_empty s pile h onward.Clear = End reply.Freed
+found_empty s pile h (onward.ClearSecond first) = At (Stack (stack.LoadTopToPush s Partials first) onward.EndFree)
+found_empty s pile h o = At (Stack (stack.ConfirmEmpty s pile h) o)
+
+-- it is empty: where there is no partial superblock a new one is made, where there is no frame the allocation is refused
+abbrev pub confirmed_empty : SeatFields → Onward → Next
+confirmed_empty s (onward.TakeFrame need d) = Retire s d onward.Refuse
+confirmed_empty s o = At (Desc (desc.LoadDescHead s) o)
+
+-- an index was popped: the frame of a new superblock, a partial superblock that is taken, or one that may be empty
+abbrev pub popped : SeatFields → ℕ → Onward → Next
+popped s i (onward.TakeFrame need d) =
+    At (Block (block.LinkBlock (record { seat = s; desc = d; frame = i }) 0) (onward.Alloc need))
+popped s i (onward.Alloc need) = At (Partial (partial.LoadTakenInfo s i) (onward.Alloc need))
+popped s i o = At (Partial (partial.LoadListedAnchor s i) o)
+
+-- the hazard word of a free is 0: it looks through the list, retires what it removed, or ends
+abbrev pub cleared : SeatFields → Onward → Next
+cleared s onward.Clear = At (Stack (stack.LoadTop s Partials) onward.Clear)
+cleared s (onward.Retire d) = Retire s d onward.EndFree
+cleared s o = End reply.Freed
+
+-- a listed superblock is empty: it is retired, and the one before it goes back to the list
+abbrev pub listed_empty : SeatFields → ℕ → Onward → Next
+listed_empty s d (onward.ClearSecond first) = At (Stack (stack.LoadTopToPush s Partials first) (onward.Retire d))
+listed_empty s d o = Retire s d onward.EndFree
+
+-- it isn't: a second one is popped, and after that both go back
+abbrev pub listed_partial : SeatFields → ℕ → Onward → Next
+listed_partial s d (onward.ClearSecond first) = At (Stack (stack.LoadTopToPush s Partials d) (onward.PushFirst first))
+listed_partial s d o = At (Stack (stack.LoadTop s Partials) (onward.ClearSecond d))
+
+-- from a superblock
+abbrev pub enter_block : BlockPoint → Onward → Next
+enter_block (block.WantsPartial s) o = At (Partial (partial.LoadSlot s) o)
+enter_block (block.Returned at i) o =
+    At (Partial (partial.PutSlot at.seat at.desc (heap_of at.seat)) (onward.GiveBlock (asked o) at i))
+enter_block (block.Discarded at) o =
+    At (Stack (stack.LoadTopToPush at.seat Frames at.frame) (onward.Discard (asked o) at.desc))
+enter_block (block.Given at i) o =
+    End (reply.Given (block_place at.frame at.seat.class i) (need.Small at.seat.class))
+enter_block (block.BecameEmpty at heap) o =
+    At (Stack (stack.LoadTopToPush at.seat Frames at.frame) (onward.Remove at.desc heap))
+enter_block (block.BecamePartial at guarded) o = At (Partial (partial.LoadOwner at.seat at.desc) (onward.Finish guarded))
+enter_block (block.Pushed s guarded) o = finish s guarded
+enter_block p o = At (Block p o)
+
+-- from a stack
+abbrev pub enter_stack : StackPoint → Onward → Next
+enter_stack (stack.Popped s pile i) o = popped s i o
+enter_stack (stack.FoundEmpty s pile h) o = found_empty s pile h o
+enter_stack (stack.ConfirmedEmpty s pile) o = confirmed_empty s o
+enter_stack (stack.Pushed s pile) o = put_away s o
+enter_stack p o = At (Stack p o)
+
+-- from the descriptors or the hazard words
+abbrev pub enter_desc : DescPoint → Onward → Next
+enter_desc (desc.Got s d) o = At (Stack (stack.LoadTop s Frames) (onward.TakeFrame (asked o) d))
+enter_desc (desc.Cleared s) o = cleared s o
+enter_desc (desc.Scanned s held) o = Pick s held o
+enter_desc (desc.Pushed s d) o = Unlist s d o
+enter_desc p o = At (Desc p o)
+
+-- from a partial superblock
+abbrev pub enter_partial : PartialPoint → Onward → Next
+enter_partial (partial.SlotEmpty s) o = At (Stack (stack.LoadTop s Partials) o)
+enter_partial (partial.Granted at more) o = At (Block (block.LoadAnchor at (Grant more)) o)
+enter_partial (partial.TookEmpty at) o = Retire at.seat at.desc (onward.Look (asked o))
+enter_partial (partial.SlotFilled s) o = put_away s o
+enter_partial (partial.Displaced s d) o = At (Stack (stack.LoadTopToPush s Partials d) o)
+enter_partial (partial.NotInSlot s) o = At (Desc (desc.ClearHazard s) onward.Clear)
+enter_partial (partial.Removed s d) o = At (Desc (desc.ClearHazard s) (onward.Retire d))
+enter_partial (partial.ListedEmpty s d) o = listed_empty s d o
+enter_partial (partial.ListedPartial s d) o = listed_partial s d o
+enter_partial p o = At (Partial p o)
+
+-- from a large block, a usable word or a shelf
+abbrev pub enter_large : LargePoint → Onward → Next
+enter_large (large.GivenRun place run) o = End (reply.Given place (need.Large run.units))
+enter_large large.NoRun o = End reply.Refused
+enter_large large.FreedRun o = End reply.Freed
+enter_large large.Wrote o = End reply.Wrote
+enter_large (large.Word value) o = End (reply.Word value)
+enter_large large.PutDone o = End reply.Put
+enter_large (large.ShelfFull found) o = End (reply.Full found)
+enter_large (large.Got place need) o = End (reply.Got place need)
+enter_large large.NothingThere o = End reply.Empty
+enter_large (large.Missed expected found) o = End (reply.Missed expected found)
+enter_large p o = At (Large p o)
+
+-- what follows the step in which a point's action found something
+unfoldable pub next_of : Point → Found → Next
+next_of Idle x = At Idle
+next_of (Block p o) x = enter_block (settle_block_of p x) o
+next_of (Stack p o) x = enter_stack (settle_stack_of p x) o
+next_of (Desc p o) x = enter_desc (settle_desc_of p x) o
+next_of (Partial p o) x = enter_partial (settle_partial_of p x) o
+next_of (Large p o) x = enter_large (settle_large_of p x) o
+
+-- how a call goes on after a retirement
+abbrev pub resumed : SeatFields → Onward → Next
+resumed s (onward.Turn need) = Turn s need
+resumed s (onward.Look need) = At (Partial (partial.LoadSlot s) (onward.Alloc need))
+resumed s onward.Refuse = End reply.Refused
+resumed s o = End reply.Freed

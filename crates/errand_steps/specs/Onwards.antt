@@ -1,0 +1,208 @@
+-- Which continuations stand at which points.
+use Rattle.std.specs.Prelude.{ℕ, Bool, true, false, ◌≡◌, IsTrue}
+use Rattle.heap_geometry.specs.declared.need.Need.TheVariants as need
+use Rattle.heap_geometry.specs.Need.{need_of}
+use Rattle.superblock_parts.specs.declared.point.BlockPoint.{BlockPoint}
+use Rattle.superblock_parts.specs.declared.point.BlockPoint.TheVariants as block
+use Rattle.stack_parts.specs.declared.point.Pile.{Pile}
+use Rattle.stack_parts.specs.declared.point.Pile.TheVariants.{Frames, Partials}
+use Rattle.stack_parts.specs.declared.point.StackPoint.{StackPoint}
+use Rattle.stack_parts.specs.declared.point.StackPoint.TheVariants as stack
+use Rattle.hazard_parts.specs.declared.point.DescPoint.{DescPoint}
+use Rattle.hazard_parts.specs.declared.point.DescPoint.TheVariants as desc
+use Rattle.partial_parts.specs.declared.point.PartialPoint.{PartialPoint}
+use Rattle.partial_parts.specs.declared.point.PartialPoint.TheVariants as partial
+use Rattle.large_parts.specs.declared.point.LargePoint.{LargePoint}
+use Rattle.large_parts.specs.declared.point.LargePoint.TheVariants as large
+use Rattle.errand_steps.specs.declared.onward.Onward.{Onward}
+use Rattle.errand_steps.specs.declared.onward.Onward.TheVariants.{Alloc, TakeFrame, GiveBlock, Discard, Turn, Look, Refuse, Free, Remove, Clear, ClearSecond, Retire, PushFirst, Finish, EndFree, Nothing}
+
+-- the continuation is that of an allocation at work in a superblock; of a free there
+abbrev pub is_alloc : Onward → Bool
+is_alloc (Alloc words) = true
+is_alloc o = false
+
+abbrev pub is_free : Onward → Bool
+is_free Free = true
+is_free o = false
+
+-- those at a pop from a stack; an allocation and a clearing pop partial superblocks
+abbrev pub pops : Pile → Onward → Bool
+pops Frames (TakeFrame words d) = true
+pops Frames o = false
+pops Partials (Alloc words) = true
+pops Partials Clear = true
+pops Partials (ClearSecond first) = true
+pops Partials o = false
+
+-- those at the step that confirms that a stack is empty
+abbrev pub confirms : Pile → Onward → Bool
+confirms Frames (TakeFrame words d) = true
+confirms Frames o = false
+confirms Partials (Alloc words) = true
+confirms Partials o = false
+
+-- those at a push
+abbrev pub pushes : Pile → Onward → Bool
+pushes Frames (Discard words d) = true
+pushes Frames (Remove d heap) = true
+pushes Frames o = false
+pushes Partials (GiveBlock words at i) = true
+pushes Partials (Finish guarded) = true
+pushes Partials EndFree = true
+pushes Partials (Retire d) = true
+pushes Partials (PushFirst first) = true
+pushes Partials o = false
+
+-- those at the end of a free, which clears its hazard word
+abbrev pub clears : Onward → Bool
+clears Clear = true
+clears (Retire d) = true
+clears EndFree = true
+clears o = false
+
+-- those after a retirement
+abbrev pub resumes : Onward → Bool
+resumes (Turn words) = true
+resumes (Look words) = true
+resumes Refuse = true
+resumes EndFree = true
+resumes o = false
+
+-- those where a superblock is put into a slot, and where its owner is looked for
+abbrev pub fills : Onward → Bool
+fills (GiveBlock words at i) = true
+fills (Finish guarded) = true
+fills o = false
+
+abbrev pub is_finish : Onward → Bool
+is_finish (Finish guarded) = true
+is_finish o = false
+
+-- those of a clearing
+abbrev pub is_clearing : Onward → Bool
+is_clearing Clear = true
+is_clearing (ClearSecond first) = true
+is_clearing o = false
+
+-- the continuations that stand at a point of a superblock, or where it is left
+abbrev pub goes_block : BlockPoint → Onward → Bool
+goes_block (block.LoadPrefix s frame i) o = is_free o
+goes_block (block.LoadPushAnchor at i guarded) o = is_free o
+goes_block (block.StoreGuard at i a) o = is_free o
+goes_block (block.LoadOwner at i a) o = is_free o
+goes_block (block.StoreLink at i a guarded heap) o = is_free o
+goes_block (block.PushBlock at i a guarded heap) o = is_free o
+goes_block (block.BecameEmpty at heap) o = is_free o
+goes_block (block.BecamePartial at guarded) o = is_free o
+goes_block (block.Pushed s guarded) o = is_free o
+goes_block p o = is_alloc o
+
+-- at a stack
+abbrev pub goes_stack : StackPoint → Onward → Bool
+goes_stack (stack.LoadTop s pile) o = pops pile o
+goes_stack (stack.LoadBelow s pile h) o = pops pile o
+goes_stack (stack.PopTop s pile h below) o = pops pile o
+goes_stack (stack.ConfirmEmpty s pile h) o = confirms pile o
+goes_stack (stack.LoadTopToPush s pile i) o = pushes pile o
+goes_stack (stack.StoreBelow s pile i h) o = pushes pile o
+goes_stack (stack.PushTop s pile i h) o = pushes pile o
+goes_stack (stack.Popped s pile i) o = pops pile o
+goes_stack (stack.FoundEmpty s pile h) o = pops pile o
+goes_stack (stack.ConfirmedEmpty s pile) o = confirms pile o
+goes_stack (stack.Pushed s pile) o = pushes pile o
+
+-- at the descriptors or the hazard words
+abbrev pub goes_desc : DescPoint → Onward → Bool
+goes_desc (desc.ClearHazard s) o = clears o
+goes_desc (desc.Cleared s) o = clears o
+goes_desc (desc.ReadHazard s held at) o = resumes o
+goes_desc (desc.LoadHeadToPush s d) o = resumes o
+goes_desc (desc.StoreNextDesc s d top) o = resumes o
+goes_desc (desc.PushDesc s d top) o = resumes o
+goes_desc (desc.Scanned s held) o = resumes o
+goes_desc (desc.Pushed s d) o = resumes o
+goes_desc p o = is_alloc o
+
+-- at a partial superblock
+abbrev pub goes_partial : PartialPoint → Onward → Bool
+goes_partial (partial.LoadOwner s d) o = is_finish o
+goes_partial (partial.PutSlot s d heap) o = fills o
+goes_partial (partial.SlotFilled s) o = fills o
+goes_partial (partial.Displaced s d) o = fills o
+goes_partial (partial.LoadHeldSlot s d heap) o = is_free o
+goes_partial (partial.RemoveFromSlot s d heap) o = is_free o
+goes_partial (partial.NotInSlot s) o = is_free o
+goes_partial (partial.Removed s d) o = is_free o
+goes_partial (partial.LoadListedAnchor s d) o = is_clearing o
+goes_partial (partial.ListedEmpty s d) o = is_clearing o
+goes_partial (partial.ListedPartial s d) o = is_clearing o
+goes_partial p o = is_alloc o
+
+-- an allocation of a run goes on with its words, which as many units serve; every other call ends here
+abbrev pub IsRunFor : ℕ → Onward → Type 0
+IsRunFor units (Alloc words) = need_of words ≡ need.Large units
+IsRunFor units o = ⊥
+
+abbrev pub is_last : Onward → Bool
+is_last Nothing = true
+is_last o = false
+
+-- at a large block, a usable word or a shelf
+abbrev pub GoesLarge : LargePoint → Onward → Type 0
+GoesLarge (large.LoadUnits w) o = IsRunFor w.units o
+GoesLarge (large.TakeRun w bits) o = IsRunFor w.units o
+GoesLarge (large.StoreRunPrefix place run) o = IsRunFor run.units o
+GoesLarge (large.GivenRun place run) o = IsRunFor run.units o
+GoesLarge large.NoRun o = IsTrue (is_alloc o)
+GoesLarge p o = IsTrue (is_last o)
+
+-- the point is one at which its part has been left
+abbrev pub has_left_block : BlockPoint → Bool
+has_left_block (block.WantsPartial s) = true
+has_left_block (block.Returned at i) = true
+has_left_block (block.Discarded at) = true
+has_left_block (block.Given at i) = true
+has_left_block (block.BecameEmpty at heap) = true
+has_left_block (block.BecamePartial at guarded) = true
+has_left_block (block.Pushed s guarded) = true
+has_left_block p = false
+
+abbrev pub has_left_stack : StackPoint → Bool
+has_left_stack (stack.Popped s pile i) = true
+has_left_stack (stack.FoundEmpty s pile h) = true
+has_left_stack (stack.ConfirmedEmpty s pile) = true
+has_left_stack (stack.Pushed s pile) = true
+has_left_stack p = false
+
+abbrev pub has_left_desc : DescPoint → Bool
+has_left_desc (desc.Got s d) = true
+has_left_desc (desc.Cleared s) = true
+has_left_desc (desc.Scanned s held) = true
+has_left_desc (desc.Pushed s d) = true
+has_left_desc p = false
+
+abbrev pub has_left_partial : PartialPoint → Bool
+has_left_partial (partial.SlotEmpty s) = true
+has_left_partial (partial.Granted at more) = true
+has_left_partial (partial.TookEmpty at) = true
+has_left_partial (partial.SlotFilled s) = true
+has_left_partial (partial.Displaced s d) = true
+has_left_partial (partial.NotInSlot s) = true
+has_left_partial (partial.Removed s d) = true
+has_left_partial (partial.ListedEmpty s d) = true
+has_left_partial (partial.ListedPartial s d) = true
+has_left_partial p = false
+
+abbrev pub has_left_large : LargePoint → Bool
+has_left_large (large.GivenRun place run) = true
+has_left_large large.NoRun = true
+has_left_large large.FreedRun = true
+has_left_large large.Wrote = true
+has_left_large (large.Word value) = true
+has_left_large large.PutDone = true
+has_left_large (large.ShelfFull found) = true
+has_left_large (large.Got place block) = true
+has_left_large large.NothingThere = true
+has_left_large (large.Missed expected found) = true
+has_left_large p = false

@@ -1,0 +1,94 @@
+//! From a superblock.
+
+ghost use Rattle.std.specs.Prelude.{◌≡◌};
+ghost use Rattle.stack_parts.specs.declared.point.Pile.{Pile};
+ghost use Rattle.stack_parts.specs.declared.point.StackPoint.{StackPoint};
+ghost use Rattle.superblock_parts.specs.declared.point.BlockPoint.{BlockPoint};
+ghost use Rattle.errand_steps.specs.Nexts.{enter_block, finish};
+
+use crate::next::Next;
+use crate::onward::{Onward, asked};
+use crate::reply::Reply;
+use hazard_parts::point::DescPoint;
+use heap_geometry::need::Need;
+use partial_parts::point::PartialPoint;
+use stack_parts::point::{Pile, StackPoint};
+use superblock_parts::point::BlockPoint;
+use word_plan::seat::{Seat, Site};
+
+/// What follows where this point of a superblock is reached.
+pub fn enter_block(at: BlockPoint, onward: Onward) -> Next
+    ensures { result ≡ enter_block at onward }
+{
+    match at {
+        BlockPoint::WantsPartial { seat } => Next::partial(PartialPoint::LoadSlot { seat }, onward),
+        BlockPoint::Returned { site, index } => returned(site, index, onward),
+        BlockPoint::Discarded { site } => Next::stack(
+            push_frame(&site),
+            Onward::Discard {
+                need: asked(onward),
+                desc: site.desc,
+            },
+        ),
+        BlockPoint::Given { site, index } => Next::end(Reply::Given {
+            place: site.place(index),
+            need: Need::Small(site.seat.class()),
+        }),
+        BlockPoint::BecameEmpty { site, heap } => Next::stack(
+            push_frame(&site),
+            Onward::Remove {
+                desc: site.desc,
+                heap,
+            },
+        ),
+        BlockPoint::BecamePartial { site, guarded } => Next::partial(
+            PartialPoint::LoadOwner {
+                seat: site.seat,
+                desc: site.desc,
+            },
+            Onward::Finish { guarded },
+        ),
+        BlockPoint::Pushed { seat, guarded } => finish(seat, guarded),
+        _ => Next::block(at, onward),
+    }
+}
+
+/// The superblock whose reserved blocks were returned goes into the slot; then the block is handed out.
+fn returned(site: Site, index: u16, onward: Onward) -> Next
+    ensures { result ≡ enter_block (BlockPoint.Returned site index) onward }
+{
+    Next::partial(
+        PartialPoint::PutSlot {
+            seat: site.seat,
+            desc: site.desc,
+            heap: site.seat.heap(),
+        },
+        Onward::GiveBlock {
+            need: asked(onward),
+            site,
+            index,
+        },
+    )
+}
+
+/// Where the push of a superblock's frame begins.
+fn push_frame(site: &Site) -> StackPoint
+    ensures { result ≡ StackPoint.LoadTopToPush site.now.seat Pile.Frames site.now.frame }
+{
+    StackPoint::LoadTopToPush {
+        seat: site.seat,
+        pile: Pile::Frames,
+        index: site.frame,
+    }
+}
+
+/// The end of a free: it clears its hazard word where it stored it.
+pub fn finish(seat: Seat, guarded: bool) -> Next
+    ensures { result ≡ finish seat guarded }
+{
+    if guarded {
+        Next::desc(DescPoint::ClearHazard { seat }, Onward::EndFree)
+    } else {
+        Next::end(Reply::Freed)
+    }
+}

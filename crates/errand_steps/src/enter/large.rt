@@ -1,0 +1,32 @@
+//! From a large block, a usable word or a shelf.
+
+ghost use Rattle.std.specs.Prelude.{◌≡◌};
+ghost use Rattle.errand_steps.specs.Nexts.{enter_large};
+
+use crate::next::Next;
+use crate::onward::Onward;
+use crate::reply::Reply;
+use heap_geometry::need::Need;
+use large_parts::point::LargePoint;
+
+/// What follows where this point of a large block, a usable word or a shelf is reached.
+pub fn enter_large(at: LargePoint, onward: Onward) -> Next
+    ensures { result ≡ enter_large at onward }
+{
+    match at {
+        LargePoint::GivenRun { place, run } => Next::end(Reply::Given {
+            place,
+            need: Need::Large(run.units()),
+        }),
+        LargePoint::NoRun => Next::end(Reply::Refused),
+        LargePoint::FreedRun => Next::end(Reply::Freed),
+        LargePoint::Wrote => Next::end(Reply::Wrote),
+        LargePoint::Word { value } => Next::end(Reply::Word(value)),
+        LargePoint::PutDone => Next::end(Reply::Put),
+        LargePoint::ShelfFull { found } => Next::end(Reply::Full { found }),
+        LargePoint::Got { place, need } => Next::end(Reply::Got { place, need }),
+        LargePoint::NothingThere => Next::end(Reply::Empty),
+        LargePoint::Missed { expected, found } => Next::end(Reply::Missed { expected, found }),
+        _ => Next::large(at, onward),
+    }
+}

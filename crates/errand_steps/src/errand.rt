@@ -1,0 +1,313 @@
+//! A caller's errand: all that it keeps between two steps.
+
+ghost use Rattle.std.specs.Prelude.{ℕ, ◌≡◌, ◌<◌, ◌≤◌, Some};
+ghost use Rattle.heap_geometry.specs.Geometry.{IsChecked};
+ghost use Rattle.hazard_parts.specs.Retired.{first_unheld};
+ghost use Rattle.heap_geometry.specs.Need.{need_of};
+ghost use Rattle.pool_model.specs.Histories.{caller_of};
+ghost use Rattle.pool_model.specs.declared.event.Event.{Event};
+ghost use Rattle.pool_model.specs.declared.event.Event.TheVariants.{Alloc};
+ghost use Rattle.word_plan.specs.Actions.{name_of};
+ghost use Rattle.word_plan.specs.Table.{Exists};
+ghost use Rattle.errand_steps.specs.Begins.{IsBusy, IsHeapBlock};
+ghost use Rattle.errand_steps.specs.Errands.{IsErrand, open_errand, plan_of, course_of, settle_of, answer_of, after_list, after_turn, picked, turned, begins_turn, point_after, list_after, IsListable, is_full, is_spent, told, going_on};
+ghost use Rattle.errand_steps.specs.Events.{event_of};
+ghost use Rattle.errand_steps.specs.Points.{is_idle};
+
+use crate::count::{counts_cleared, counts_lost, counts_won, raised};
+use crate::enter::{next_of, plan_point, resumed};
+use crate::next::Next;
+use crate::onward::Onward;
+use crate::point::Point;
+use crate::reply::{Progress, Reply};
+use hazard_parts::limits::HELD_MOST;
+use hazard_parts::point::DescPoint;
+use hazard_parts::retired::Retired;
+use heap_geometry::geometry::Geometry;
+use pool_model::event::Event;
+use std::marker::Model;
+use superblock_parts::point::BlockPoint;
+use word_plan::action::{Action, Found};
+use word_plan::seat::Seat;
+
+/// One caller's state between two steps: where it stands, the descriptors that it retired, and its
+/// counts.
+#[derive(Drop)]
+pub struct Errand {
+    pub(crate) caller: u8,
+    pub(crate) geometry: Geometry,
+    pub(crate) point: Point,
+    retired: Retired,
+    pub(crate) turns: u64,
+    won: u64,
+    lost: u64,
+    cleared: u64,
+}
+
+impl Model for Errand {
+    ghost use Rattle.errand_steps.specs.Errands.{ErrandFields, IsErrand};
+
+    ghost Value = { ErrandFields };
+
+    ghost view = { λ e. record { caller = e.caller; geometry = e.geometry; point = e.point; retired = e.retired; turns = e.turns; won = e.won; lost = e.lost; cleared = e.cleared } };
+
+    ghost invariant = { λ e. IsErrand (record { caller = e.caller; geometry = e.geometry; point = e.point; retired = e.retired; turns = e.turns; won = e.won; lost = e.lost; cleared = e.cleared }) };
+}
+
+impl Errand {
+    /// The errand of a caller before its first call.
+    pub fn open(caller: u32, geometry: Geometry) -> Errand
+        requires checked { IsChecked geometry }
+        requires caller { caller < geometry.callers }
+        ensures { result ≡ open_errand caller geometry }
+    {
+        Errand {
+            caller: caller as u8,
+            geometry,
+            point: Point::Idle,
+            retired: Retired::new(),
+            turns: 0,
+            won: 0,
+            lost: 0,
+            cleared: 0,
+        }
+    }
+
+    /// The caller's number. Everything that the errand remembers exists in its heap.
+    pub fn caller(&self) -> u32
+        ensures rule { IsErrand self.now }
+        ensures value { result ≡ self.now.caller }
+        ensures within { result < self.now.geometry.callers }
+    {
+        u32::from(self.caller)
+    }
+
+    /// Whether the caller is in no call.
+    pub fn idle(&self) -> bool
+        ensures { result ≡ is_idle self.now.point }
+    {
+        matches!(self.point, Point::Idle)
+    }
+
+    /// How many turns the caller has begun, at most the turn limit.
+    pub fn turns(&self) -> u64
+        ensures value { result ≡ self.now.turns }
+        ensures within { result ≤ self.now.geometry.turn_limit }
+    {
+        self.turns
+    }
+
+    /// How many exchanges the caller has won, at most 2^64 - 1.
+    pub fn won(&self) -> u64
+        ensures { result ≡ self.now.won }
+    {
+        self.won
+    }
+
+    /// How many it has lost, at most 2^64 - 1.
+    pub fn lost(&self) -> u64
+        ensures { result ≡ self.now.lost }
+    {
+        self.lost
+    }
+
+    /// How many empty superblocks its allocations took for partial ones, at most 2^64 - 1.
+    pub fn cleared(&self) -> u64
+        ensures { result ≡ self.now.cleared }
+    {
+        self.cleared
+    }
+
+    /// Goes on to the errand that follows what its action found.
+    #[tactic(auto, using(crate::proofs::ErrandLemmas::listable), unfolding(crate::specs::Errands::settle_of, crate::specs::Errands::course_of))]
+    pub fn go_on(&mut self, found: Found)
+        requires { IsBusy self.old }
+        ensures { self.new ≡ settle_of self.old found }
+    {
+        let next = next_of(&self.point, found);
+        let listed = self.after_list(&next);
+        let begins = self.begins_turn(&listed);
+        let course = self.after_turn(listed);
+        self.won = raised(counts_won(plan_point(&self.point), found), self.won);
+        self.lost = raised(counts_lost(&self.point, found), self.lost);
+        self.cleared = raised(counts_cleared(&self.point, found), self.cleared);
+        self.turns = raised(begins, self.turns);
+        change_list(&mut self.retired, next);
+        self.point = point_after(course);
+    }
+
+    /// What follows a step: a point, or the end of the call.
+    #[tactic(auto, unfolding(crate::specs::Errands::course_of))]
+    fn course(&self, found: Found) -> Next
+        ensures { result ≡ course_of self.now found }
+    {
+        let next = next_of(&self.point, found);
+        self.after_turn(self.after_list(&next))
+    }
+
+    /// What follows, as far as it depends on the retired list too.
+    fn after_list(&self, next: &Next) -> Next
+        ensures { result ≡ after_list self.now next.now }
+    {
+        match *next {
+            Next::At { .. } | Next::End { .. } | Next::Turn { .. } => *next,
+            Next::Retire { seat, onward, .. } => {
+                if self.is_full() {
+                    Next::desc(
+                        DescPoint::ReadHazard {
+                            seat,
+                            held: [0; HELD_MOST],
+                            at: 0,
+                        },
+                        onward,
+                    )
+                } else {
+                    resumed(seat, onward)
+                }
+            }
+            Next::Pick { seat, held, onward } => self.picked(
+                seat,
+                onward,
+                self.retired.pick(&held),
+            ),
+            Next::Unlist { seat, onward, .. } => resumed(seat, onward),
+        }
+    }
+
+    /// Whether one more retired descriptor makes more than the heap has callers.
+    fn is_full(&self) -> bool
+        ensures { result ≡ is_full self.now }
+    {
+        self.geometry.callers <= self.retired.len()
+    }
+
+    /// The picked descriptor is pushed; where there is none the point stays.
+    fn picked(&self, seat: Seat, onward: Onward, desc: Option<u16>) -> Next
+        ensures { result ≡ picked self.now seat onward desc }
+    {
+        match desc {
+            Some(desc) => Next::desc(DescPoint::LoadHeadToPush { seat, desc }, onward),
+            None => Next::At { point: self.point },
+        }
+    }
+
+    /// What follows, as far as it depends on the turn limit too.
+    fn after_turn(&self, next: Next) -> Next
+        ensures { result ≡ after_turn self.now next }
+    {
+        match next {
+            Next::Turn { seat, need } => self.turned(seat, need),
+            _ => next,
+        }
+    }
+
+    /// A turn begins where the caller has one left; where it has none the call ends.
+    fn turned(&self, seat: Seat, need: u32) -> Next
+        ensures { result ≡ turned self.now seat need }
+    {
+        if self.is_spent() {
+            Next::end(Reply::Spent)
+        } else {
+            Next::block(BlockPoint::LoadActive { seat }, Onward::Alloc { need })
+        }
+    }
+
+    /// Whether the caller has no turn left.
+    pub(crate) fn is_spent(&self) -> bool
+        ensures { result ≡ is_spent self.now }
+    {
+        self.turns == self.geometry.turn_limit
+    }
+
+    /// Whether a turn begins.
+    fn begins_turn(&self, next: &Next) -> bool
+        ensures { result ≡ begins_turn self.now next.now }
+    {
+        match *next {
+            Next::Turn { .. } => !self.is_spent(),
+            _ => false,
+        }
+    }
+}
+
+/// The retired list after a step.
+fn change_list(retired: &mut Retired, next: Next)
+    requires { IsListable retired.old next }
+    ensures { retired.new ≡ list_after retired.old next }
+{
+    match next {
+        Next::Retire { desc, .. } => retired.add(desc),
+        Next::Unlist { desc, .. } => retired.remove(desc),
+        _ => {}
+    }
+}
+
+/// The point after a step: a caller whose call has ended is idle.
+fn point_after(next: Next) -> Point
+    ensures { result ≡ point_after next }
+{
+    match next {
+        Next::At { point } => point,
+        _ => Point::Idle,
+    }
+}
+
+/// The action of a caller's next step.
+pub fn plan(errand: &Errand) -> Action
+    requires { IsBusy errand.now }
+    ensures value { result ≡ plan_of errand.now }
+    ensures exists { Exists errand.now.geometry (name_of result) }
+{
+    plan_point(&errand.point)
+}
+
+/// The errand after the step in which its action found this.
+pub fn settle(errand: Errand, found: Found) -> Errand
+    requires { IsBusy errand }
+    ensures { result ≡ settle_of errand found }
+{
+    let mut errand = errand;
+    errand.go_on(found);
+    errand
+}
+
+/// What that step came to.
+#[tactic(auto, unfolding(crate::specs::Errands::answer_of))]
+pub fn answer(errand: &Errand, found: Found) -> Progress
+    requires { IsBusy errand.now }
+    ensures { result ≡ answer_of errand.now found }
+{
+    match errand.course(found) {
+        Next::End { reply } => Progress::Done(reply),
+        _ => going_on(
+            counts_lost(&errand.point, found),
+            counts_cleared(&errand.point, found),
+        ),
+    }
+}
+
+/// What a step that goes on answers.
+fn going_on(lost: bool, cleared: bool) -> Progress
+    ensures { result ≡ going_on lost cleared }
+{
+    if lost {
+        Progress::Lost
+    } else if cleared {
+        Progress::Cleared
+    } else {
+        Progress::More
+    }
+}
+
+/// The event that the step adds to the history; `None` exactly where it adds none. It is the
+/// caller's own, and a block that it gives is one of the heap's.
+#[tactic(auto, using(crate::proofs::EventLemmas::event_given, crate::proofs::EventLemmas::event_own))]
+pub fn event(errand: &Errand, found: Found) -> Option<Event>
+    requires { IsBusy errand.now }
+    ensures value { result ≡ event_of errand.now.caller errand.now.point found }
+    ensures own { (e : Event) → result ≡ Some e → caller_of e ≡ errand.now.caller }
+    ensures given { (who need place : ℕ) → result ≡ Some (Alloc who need place)
+        → IsHeapBlock errand.now.geometry place (need_of need) }
+{
+    crate::event::event_of(errand.caller(), &errand.point, found)
+}

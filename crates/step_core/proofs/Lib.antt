@@ -1,0 +1,6 @@
+pub mod BlockLemmas
+pub mod CoreLemmas
+pub mod StepLemmas
+pub mod FirstLemmas
+pub mod AdvanceLemmas
+pub mod ToldLemmas

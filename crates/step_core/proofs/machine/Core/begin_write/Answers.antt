@@ -1,0 +1,17 @@
+use Rattle.std.proofs.Common.{ap}
+use Rattle.errand_steps.specs.Begins.{write_begun}
+use Rattle.errand_steps.specs.Errands.{ErrandFields}
+use Rattle.step_core.proofs.CoreLemmas.{block-begun, core-begun}
+use Rattle.step_core.proofs.machine.Core.begin_write.Goals as goal
+
+pub begin_write-requires-clause-block : goal.begin_write-requires-clause-block
+begin_write-requires-clause-block c =
+    block-begun _ c.args.self.now c.args.seat c.args.place c.args.need c.index_mut.result.now c.self.invariant c.self.view_is
+    c.requires.seat c.index_mut.ensures.value c.requires.owned
+
+pub invariant_of-self : goal.invariant_of-self
+unfolding write_begun
+invariant_of-self c =
+    core-begun _ c.args.self.now c.args.seat c.index_mut.result.now c.begin_write.new.self c.self.invariant c.self.view_is c.requires.seat
+    c.index_mut.ensures.value (ap (λ (e : ErrandFields). e.caller) c.begin_write.ensures)
+    (ap (λ (e : ErrandFields). e.geometry) c.begin_write.ensures)

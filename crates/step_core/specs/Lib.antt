@@ -1,0 +1,5 @@
+pub mod Cores
+pub mod Firsts
+pub mod Openings
+pub mod Steps
+pub mod Told

@@ -1,0 +1,49 @@
+//! Laws of the machine: theorems about the definitions, on functions that do nothing; and a machine
+//! to begin with whose first superblock is in use.
+
+ghost use Rattle.std.specs.Prelude.{ℕ, List, ◌≡◌, ◌<◌, ◌+◌, ◌++◌, ◌↔◌, IfOk};
+ghost use Rattle.heap_geometry.specs.Geometry.{IsChecked};
+ghost use Rattle.heap_geometry.specs.declared.limits.TheConstants.{CLASSES};
+ghost use Rattle.word_plan.specs.Actions.{name_of};
+ghost use Rattle.word_plan.specs.Table.{Exists};
+ghost use Rattle.errand_steps.specs.Begins.{IsBusy};
+ghost use Rattle.errand_steps.specs.Errands.{plan_of};
+ghost use Rattle.step_core.specs.Cores.{CoreFields, IsCore, errand_at};
+ghost use Rattle.errand_steps.specs.Openings.{installed};
+ghost use Rattle.step_core.specs.Openings.{IsOpened};
+ghost use Rattle.errand_steps.specs.Steps.{State, Step, Run, IsSame};
+ghost use Rattle.step_core.specs.Steps.{state_of, stepped};
+
+use crate::machine::Core;
+use heap_geometry::geometry::Geometry;
+use std::alloc::{AllocError, Global};
+
+/// A machine that has made no step, where frame 0 holds a superblock of the class, of descriptor 0:
+/// it is the active one of heap 0, and all its blocks are free.
+pub fn open_installed(alloc: Global, geometry: Geometry, class: u8) -> Result<Core, AllocError>
+    requires checked { IsChecked geometry }
+    requires class { class < CLASSES }
+    ensures { IfOk result (IsOpened geometry (installed geometry class)) }
+{
+    Core::open_with(alloc, geometry, Some(class))
+}
+
+/// A step is determined by the state before it.
+pub fn steps_are_determined()
+    ensures { (s a b : State) (who : ℕ) → Step s who a → Step s who b → IsSame a b }
+{}
+
+/// What a step makes of the lists of the machine is a step of the state.
+pub fn lists_make_steps()
+    ensures { (c : CoreFields) (who : ℕ) → IsCore c → who < c.geometry.callers
+        → IsBusy (errand_at c.errands who)
+        → Exists c.geometry (name_of (plan_of (errand_at c.errands who)))
+        → Step (state_of c) who (state_of (stepped c who)) }
+{}
+
+/// A run of callers and then of others is two runs, one after the other.
+pub fn runs_follow_one_another()
+    ensures { (s t : State) (first rest : List ℕ) (n : ℕ)
+        → Run s (first ++ rest) n t
+        ↔ ((m : State) × (a : ℕ) × (b : ℕ) × Run s first a m × Run m rest b t × (n ≡ a + b)) }
+{}
