@@ -1,0 +1,68 @@
+-- Live blocks and free blocks are apart.
+use Rattle.std.proofs.Common.{ℕ, ◌≡◌, ◌≢◌, ◌<◌, Option, Some, None, refl, sym, ◌∙◌, ap, subst, arith}
+use Rattle.std.specs.Prelude.{IsTrue}
+use Rattle.heap_geometry.specs.declared.geometry.Geometry.{Geometry}
+use Rattle.heap_geometry.specs.declared.need.Need.{Need}
+use Rattle.heap_geometry.specs.declared.need.Need.TheVariants.{Small}
+use Rattle.heap_geometry.specs.Need.{block_count_of}
+use Rattle.heap_geometry.specs.Place.{IsApart, block_place, frame_of}
+use Rattle.heap_geometry.proofs.PlaceLemmas.{frame_of-block_place}
+use Rattle.word_plan.specs.Counts.{descriptor_count}
+use Rattle.superblock_parts.specs.Chains.{occurs}
+use Rattle.pool_model.specs.Pool.{Block, block_at, span_of, pool_of}
+use Rattle.pool_model.specs.WellFormed.{IsPlaceFor, IsWellFormed}
+use Rattle.pool_model.proofs.PoolLemmas.{place-found, every-found}
+use Rattle.pool_model.proofs.WellFormedLemmas.{sound-of, separate-found}
+use Rattle.errand_steps.specs.Steps.{State}
+use Rattle.sound_state.specs.Consequences.{IsTaken}
+use Rattle.sound_state.specs.Lists.{Lists}
+use Rattle.sound_state.specs.Sound.{IsSoundWith, IsSoundWithoutCounts}
+use Rattle.sound_state.specs.Superblocks.{IsChained, info_for, is_bound, is_there, live_at, superblock_of, free_chain}
+use Rattle.sound_state.specs.Ties.{IsLive, IsBlockOfDesc}
+
+pub live-apart : (g : Geometry) (s : State) → IsSoundWithoutCounts g s → (p q : ℕ) (a b : Block) → IsLive s p a → IsLive s q b → p ≢ q
+    → IsApart (span_of a) (span_of b)
+live-apart g s sound p q a b at_p at_q ne =
+    (separate-found g (pool_of s.history) (sound-of g s.history sound.legal) p q a b at_p at_q ne).apart
+
+-- no block is there
+there-none : (o : Option Block) → is_there o ≡ 0 → o ≡ None
+there-none None h = refl
+there-none (Some b) h = absurd (omega (arith, h))
+
+-- a free block of a superblock isn't live
+pub free-unlive : (g : Geometry) (s : State) → IsSoundWithoutCounts g s → (l : Lists) → IsSoundWith g s l
+    → (d i : ℕ) → d < descriptor_count g → IsTrue (is_bound g s l d)
+    → 0 < occurs i (free_chain (superblock_of g s d))
+    → block_at (block_place (info_for s d).frame (info_for s d).class i) (pool_of s.history) ≡ None
+free-unlive g s sound l is d i has bound free =
+    let chained : IsChained (superblock_of g s d) = is.chained.chained d has bound in
+    let once = chained.once i (chained.within i free) in
+    there-none (block_at (block_place (info_for s d).frame (info_for s d).class i) (pool_of s.history)) (omega arith)
+
+-- a live one isn't free
+live-taken-at : (g : Geometry) (s : State) (l : Lists) → IsSoundWith g s l → (place i d : ℕ) (b : Block) → IsLive s place b
+    → d < descriptor_count g → IsTrue (is_bound g s l d) → i < block_count_of (info_for s d).class
+    → place ≡ block_place (info_for s d).frame (info_for s d).class i → IsTaken g s l place
+live-taken-at g s l is place i d b live has bound within here =
+    let chained : IsChained (superblock_of g s d) = is.chained.chained d has bound in
+    let once = chained.once i within in
+    let there : live_at s (block_place (info_for s d).frame (info_for s d).class i) ≡ 1 =
+    ap (λ p. live_at s p) (sym here) ∙ ap is_there live in
+    record { desc = d; exists = has; bound = bound; index = i; in_frame = within; here = here; taken = omega arith }
+
+pub live-taken : (g : Geometry) (s : State) → IsSoundWithoutCounts g s → (l : Lists) → IsSoundWith g s l
+    → (place class : ℕ) (b : Block) → IsLive s place b → b.need ≡ Small class → IsTaken g s l place
+live-taken g s sound l is place class b live small =
+    let tied = is.tied.small place class b live small in
+    let d : ℕ = tied.0 in
+    let of : IsBlockOfDesc g s l place class d = tied.1 in
+    let formed : IsWellFormed g b = every-found (IsWellFormed g) place (pool_of s.history) b (sound-of g s.history sound.legal).each live in
+    let at : IsPlaceFor g (Small class) b.place = subst (λ (n : Need). IsPlaceFor g n b.place) small formed.place in
+    let same : b.place ≡ place = place-found place (pool_of s.history) b live in
+    let in_frame : frame_of place ≡ at.0 = ap frame_of (sym same ∙ at.4) ∙ frame_of-block_place at.0 class at.1 at.3 in
+    let frame_is : at.0 ≡ (info_for s d).frame = sym in_frame ∙ sym of.located.frame in
+    let here : place ≡ block_place (info_for s d).frame (info_for s d).class at.1 =
+    sym same ∙ at.4 ∙ ap (λ f. block_place f class at.1) frame_is ∙ ap (λ c. block_place (info_for s d).frame c at.1) (sym of.located.class) in
+    live-taken-at g s l is place at.1 d b live of.exists of.bound
+    (subst (λ c. at.1 < block_count_of c) (sym of.located.class) at.3) here

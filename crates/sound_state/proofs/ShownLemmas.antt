@@ -1,0 +1,374 @@
+-- Each step that is shown to keep the state sound does so.
+use Rattle.std.proofs.Common.{ℕ, Bool, true, false, ◌≡◌, ◌≢◌, ◌<◌, ◌-◌, refl, arith, ap, sym, inl, inr, ◌∙◌}
+use Rattle.std.specs.Prelude.{◌==◌, not, IsTrue}
+use Rattle.std.proofs.lemmas.Bool.{cases_eq, true≢false}
+use Rattle.heap_geometry.specs.declared.geometry.Geometry.{Geometry}
+use Rattle.packed_words.specs.Head.{head_of}
+use Rattle.word_plan.specs.Seats.{SeatFields}
+use Rattle.word_plan.specs.declared.seat.Site.{Site}
+use Rattle.word_plan.specs.declared.name.WordName.TheVariants as name
+use Rattle.superblock_parts.specs.declared.point.BlockPoint.{BlockPoint}
+use Rattle.superblock_parts.specs.declared.point.BlockPoint.TheVariants as block
+use Rattle.hazard_parts.specs.declared.point.DescPoint.{DescPoint}
+use Rattle.hazard_parts.specs.declared.point.DescPoint.TheVariants as desc
+use Rattle.partial_parts.specs.declared.point.PartialPoint.{PartialPoint}
+use Rattle.partial_parts.specs.declared.point.PartialPoint.TheVariants as partial
+use Rattle.partial_parts.specs.Grants.{is_empty}
+use Rattle.partial_parts.specs.Points.{slot_of}
+use Rattle.stack_parts.specs.declared.point.Pile.{Pile}
+use Rattle.stack_parts.specs.declared.point.StackPoint.{StackPoint}
+use Rattle.stack_parts.specs.declared.point.StackPoint.TheVariants as stack
+use Rattle.stack_parts.specs.Piles.{head_name}
+use Rattle.large_parts.specs.declared.point.LargePoint.{LargePoint}
+use Rattle.large_parts.specs.declared.point.LargePoint.TheVariants as large
+use Rattle.errand_steps.specs.declared.onward.Onward.{Onward}
+use Rattle.errand_steps.specs.declared.onward.Onward.TheVariants as onward
+use Rattle.errand_steps.specs.declared.point.Point.{Point}
+use Rattle.errand_steps.specs.declared.point.Point.TheVariants.{Idle, Block, Stack, Desc, Partial, Large}
+use Rattle.errand_steps.specs.Onwards.{is_alloc, is_free, is_finish, is_clearing, fills}
+use Rattle.errand_steps.specs.Points.{asked, plan_point_of}
+use Rattle.errand_steps.specs.Steps.{State, Step, found_at}
+use Rattle.sound_state.specs.Shown.{shown_block, shown_stack, shown_desc, shown_partial, shown_large, put_goes_on, listed_stays, is_shown}
+use Rattle.sound_state.specs.Sound.{IsSound}
+use Rattle.sound_state.specs.Superblocks.{anchor_for}
+use Rattle.sound_state.proofs.PointLemmas.{fits-at}
+use Rattle.sound_state.proofs.QuietBlocks.{load_active-sound}
+use Rattle.sound_state.proofs.QuietCredits.{take_credit-sound, install_credits-sound}
+use Rattle.sound_state.proofs.QuietDescs.{load_desc_head-sound, load_next_desc-sound, pop_desc_lost-sound, load_head_to_push-sound, push_desc_lost-sound, reload_desc_head_other-sound}
+use Rattle.sound_state.proofs.QuietExchanges.{pop_block-lost, return_credits-lost, push_block-lost}
+use Rattle.sound_state.proofs.QuietPops.{load_info-sound, load_anchor-sound, load_link-sound, load_return-sound}
+use Rattle.sound_state.proofs.QuietPushes.{load_owner-sound, load_prefix-sound, load_push_anchor-sound}
+use Rattle.sound_state.proofs.QuietPartials as partials
+use Rattle.sound_state.proofs.QuietEnds.{load_word-sound, put_block_lost-sound, take_block_lost-sound, confirm_nothing_lost-sound, clear_ends-sound}
+use Rattle.sound_state.proofs.QuietLarge.{load_units-sound, take_run_lost-sound, load_run_prefix-sound, load_shelf-sound}
+use Rattle.sound_state.proofs.QuietLemmas.{found_from}
+use Rattle.sound_state.proofs.QuietStacks.{load_top-sound, load_below-sound, pop_top_lost-sound, confirm_empty_lost-sound, load_top_to_push-sound, push_top_lost-sound}
+
+not_true : (b : Bool) → not b ≡ true → b ≡ false
+not_true b is = grind (arith, is)
+
+-- a lost exchange finds another word
+pub differs : (w e : ℕ) → not (w == e) ≡ true → w ≢ e
+differs w e lost = λ is. absurd (grind (arith, lost, is))
+
+-- an empty head: a clearing that has popped nothing ends
+empty-sound :
+    (g : Geometry) (s : State) (who : ℕ) (s' : State) (seat : SeatFields) (pile : Pile) (o : Onward) → IsSound g s → who < g.callers
+    → (s.errand who).point ≡ Stack (stack.LoadTop seat pile) o → (head_of (s.word (head_name seat pile))).top ≡ 0 → Step s who s'
+    → IsSound g s'
+empty-sound g s who s' seat pile onward.Clear sound has at empty step = clear_ends-sound g s who s' seat pile sound has at empty step
+empty-sound g s who s' seat pile (onward.Alloc need) sound has at empty step =
+    load_top-sound g s who s' seat pile (onward.Alloc need) sound has at (λ is. absurd (cc)) step
+empty-sound g s who s' seat pile (onward.TakeFrame need d) sound has at empty step =
+    load_top-sound g s who s' seat pile (onward.TakeFrame need d) sound has at (λ is. absurd (cc)) step
+empty-sound g s who s' seat pile (onward.GiveBlock need site i) sound has at empty step =
+    load_top-sound g s who s' seat pile (onward.GiveBlock need site i) sound has at (λ is. absurd (cc)) step
+empty-sound g s who s' seat pile (onward.Discard need d) sound has at empty step =
+    load_top-sound g s who s' seat pile (onward.Discard need d) sound has at (λ is. absurd (cc)) step
+empty-sound g s who s' seat pile (onward.Turn need) sound has at empty step =
+    load_top-sound g s who s' seat pile (onward.Turn need) sound has at (λ is. absurd (cc)) step
+empty-sound g s who s' seat pile (onward.Look need) sound has at empty step =
+    load_top-sound g s who s' seat pile (onward.Look need) sound has at (λ is. absurd (cc)) step
+empty-sound g s who s' seat pile onward.Refuse sound has at empty step =
+    load_top-sound g s who s' seat pile onward.Refuse sound has at (λ is. absurd (cc)) step
+empty-sound g s who s' seat pile onward.Free sound has at empty step =
+    load_top-sound g s who s' seat pile onward.Free sound has at (λ is. absurd (cc)) step
+empty-sound g s who s' seat pile (onward.Remove d heap) sound has at empty step =
+    load_top-sound g s who s' seat pile (onward.Remove d heap) sound has at (λ is. absurd (cc)) step
+empty-sound g s who s' seat pile (onward.ClearSecond first) sound has at empty step =
+    load_top-sound g s who s' seat pile (onward.ClearSecond first) sound has at (λ is. absurd (cc)) step
+empty-sound g s who s' seat pile (onward.Retire d) sound has at empty step =
+    load_top-sound g s who s' seat pile (onward.Retire d) sound has at (λ is. absurd (cc)) step
+empty-sound g s who s' seat pile (onward.PushFirst first) sound has at empty step =
+    load_top-sound g s who s' seat pile (onward.PushFirst first) sound has at (λ is. absurd (cc)) step
+empty-sound g s who s' seat pile (onward.Finish guarded) sound has at empty step =
+    load_top-sound g s who s' seat pile (onward.Finish guarded) sound has at (λ is. absurd (cc)) step
+empty-sound g s who s' seat pile onward.EndFree sound has at empty step =
+    load_top-sound g s who s' seat pile onward.EndFree sound has at (λ is. absurd (cc)) step
+empty-sound g s who s' seat pile onward.Nothing sound has at empty step =
+    load_top-sound g s who s' seat pile onward.Nothing sound has at (λ is. absurd (cc)) step
+
+-- the load of a head, which may end a clearing
+top-sound :
+    (g : Geometry) (s : State) (who : ℕ) (s' : State) (seat : SeatFields) (pile : Pile) (o : Onward) → IsSound g s → who < g.callers
+    → (s.errand who).point ≡ Stack (stack.LoadTop seat pile) o → Step s who s' → IsSound g s'
+top-sound g s who s' seat pile o sound has at step =
+    elim (cases_eq (head_of (s.word (head_name seat pile))).top 0) [
+      | inl empty ↦ empty-sound g s who s' seat pile o sound has at empty step
+      | inr some ↦ load_top-sound g s who s' seat pile o sound has at (λ clear. some) step
+    ]
+
+shown-stack :
+    (g : Geometry) (s : State) (who : ℕ) (s' : State) (p : StackPoint) (o : Onward) → IsSound g s → who < g.callers
+    → (s.errand who).point ≡ Stack p o → IsTrue (shown_stack p (found_from s (Stack p o))) → Step s who s' → IsSound g s'
+unfolding plan_point_of
+shown-stack g s who s' (stack.LoadTop seat pile) o sound has at shown step = top-sound g s who s' seat pile o sound has at step
+shown-stack g s who s' (stack.LoadBelow seat pile h) o sound has at shown step = load_below-sound g s who s' seat pile h o sound has at step
+shown-stack g s who s' (stack.PopTop seat pile h below) o sound has at shown step =
+    pop_top_lost-sound g s who s' seat pile h below o sound has at (differs _ _ shown) step
+shown-stack g s who s' (stack.ConfirmEmpty seat pile h) o sound has at shown step =
+    confirm_empty_lost-sound g s who s' seat pile h o sound has at (differs _ _ shown) step
+shown-stack g s who s' (stack.LoadTopToPush seat pile i) o sound has at shown step =
+    load_top_to_push-sound g s who s' seat pile i o sound has at step
+shown-stack g s who s' (stack.StoreBelow seat pile i h) o sound has at shown step = absurd (true≢false (sym shown))
+shown-stack g s who s' (stack.PushTop seat pile i h) o sound has at shown step =
+    push_top_lost-sound g s who s' seat pile i h o sound has at (differs _ _ shown) step
+shown-stack g s who s' (stack.Popped seat pile i) o sound has at shown step = absurd (true≢false (sym shown))
+shown-stack g s who s' (stack.FoundEmpty seat pile h) o sound has at shown step = absurd (true≢false (sym shown))
+shown-stack g s who s' (stack.ConfirmedEmpty seat pile) o sound has at shown step = absurd (true≢false (sym shown))
+shown-stack g s who s' (stack.Pushed seat pile) o sound has at shown step = absurd (true≢false (sym shown))
+
+shown-large :
+    (g : Geometry) (s : State) (who : ℕ) (s' : State) (p : LargePoint) (o : Onward) → IsSound g s → who < g.callers
+    → (s.errand who).point ≡ Large p o → IsTrue (shown_large p (found_from s (Large p o))) → Step s who s' → IsSound g s'
+unfolding plan_point_of
+shown-large g s who s' (large.LoadUnits w) o sound has at shown step = load_units-sound g s who s' w o sound has at step
+shown-large g s who s' (large.TakeRun w bits) o sound has at shown step =
+    take_run_lost-sound g s who s' w bits o sound has at (differs _ _ shown) step
+shown-large g s who s' (large.StoreRunPrefix place run) o sound has at shown step = absurd (true≢false (sym shown))
+shown-large g s who s' (large.LoadRunPrefix place run) o sound has at shown step = load_run_prefix-sound g s who s' place run o sound has at step
+shown-large g s who s' (large.FreeRun place run) o sound has at shown step = absurd (true≢false (sym shown))
+shown-large g s who s' (large.StoreWord place i value) o sound has at shown step = absurd (true≢false (sym shown))
+shown-large g s who s' (large.LoadWord place i) o sound has at shown step = load_word-sound g s who s' place i o sound has at step
+shown-large g s who s' (large.PutBlock k place need) o sound has at shown step =
+    put_block_lost-sound g s who s' k place need o sound has at (differs _ _ shown) step
+shown-large g s who s' (large.LoadShelf k) o sound has at shown step = load_shelf-sound g s who s' k o sound has at step
+shown-large g s who s' (large.TakeBlock k place need) o sound has at shown step =
+    take_block_lost-sound g s who s' k place need o sound has at (differs _ _ shown) step
+shown-large g s who s' (large.ConfirmNothing k) o sound has at shown step =
+    confirm_nothing_lost-sound g s who s' k o sound has at (differs _ _ shown) step
+shown-large g s who s' (large.GivenRun place run) o sound has at shown step = absurd (true≢false (sym shown))
+shown-large g s who s' large.NoRun o sound has at shown step = absurd (true≢false (sym shown))
+shown-large g s who s' large.FreedRun o sound has at shown step = absurd (true≢false (sym shown))
+shown-large g s who s' large.Wrote o sound has at shown step = absurd (true≢false (sym shown))
+shown-large g s who s' (large.Word value) o sound has at shown step = absurd (true≢false (sym shown))
+shown-large g s who s' large.PutDone o sound has at shown step = absurd (true≢false (sym shown))
+shown-large g s who s' (large.ShelfFull found) o sound has at shown step = absurd (true≢false (sym shown))
+shown-large g s who s' (large.Got place need) o sound has at shown step = absurd (true≢false (sym shown))
+shown-large g s who s' large.NothingThere o sound has at shown step = absurd (true≢false (sym shown))
+shown-large g s who s' (large.Missed expected found) o sound has at shown step = absurd (true≢false (sym shown))
+
+-- the continuation of an allocation at work, of a free, of the end of a free
+the-alloc : (o : Onward) → IsTrue (is_alloc o) → o ≡ onward.Alloc (asked o)
+the-alloc o is = grind (arith, is)
+
+the-free : (o : Onward) → IsTrue (is_free o) → o ≡ onward.Free
+the-free o is = grind (arith, is)
+
+shown-block :
+    (g : Geometry) (s : State) (who : ℕ) (s' : State) (p : BlockPoint) (o : Onward) → IsSound g s → who < g.callers
+    → (s.errand who).point ≡ Block p o → IsTrue (shown_block p (found_from s (Block p o))) → Step s who s' → IsSound g s'
+unfolding plan_point_of
+shown-block g s who s' (block.LoadActive seat) o sound has at shown step =
+    let is : o ≡ onward.Alloc (asked o) = the-alloc o (fits-at g s sound.parts.0 who _ sound.parts.1 has at).goes in
+    load_active-sound g s who s' seat (asked o) sound has (at ∙ ap (Block (block.LoadActive seat)) is) step
+shown-block g s who s' (block.TakeCredit seat d credits) o sound has at shown step =
+    take_credit-sound g s who s' seat d credits o sound has at step
+shown-block g s who s' (block.LoadInfo seat d share) o sound has at shown step = load_info-sound g s who s' seat d share o sound has at step
+shown-block g s who s' (block.LoadAnchor site share) o sound has at shown step = load_anchor-sound g s who s' site share o sound has at step
+shown-block g s who s' (block.LoadLink site share a) o sound has at shown step = load_link-sound g s who s' site share a o sound has at step
+shown-block g s who s' (block.PopBlock site share a prefix) o sound has at shown step =
+    pop_block-lost g s who s' site share a prefix o sound has at (differs _ _ shown) step
+shown-block g s who s' (block.StorePrefix site i) o sound has at shown step = absurd (true≢false (sym shown))
+shown-block g s who s' (block.InstallCredits site i more) o sound has at shown step =
+    install_credits-sound g s who s' site i more o sound has at step
+shown-block g s who s' (block.InstallSuperblock site) o sound has at shown step = absurd (true≢false (sym shown))
+shown-block g s who s' (block.LoadReturn site i more) o sound has at shown step = load_return-sound g s who s' site i more o sound has at step
+shown-block g s who s' (block.ReturnCredits site i more a) o sound has at shown step =
+    return_credits-lost g s who s' site i more a o sound has at (differs _ _ shown) step
+shown-block g s who s' (block.LoadPrefix seat frame i) o sound has at shown step = load_prefix-sound g s who s' seat frame i o sound has at step
+shown-block g s who s' (block.LoadPushAnchor site i guarded) o sound has at shown step =
+    load_push_anchor-sound g s who s' site i guarded o sound has at step
+shown-block g s who s' (block.StoreGuard site i a) o sound has at shown step = absurd (true≢false (sym shown))
+shown-block g s who s' (block.LoadOwner site i a) o sound has at shown step = load_owner-sound g s who s' site i a o sound has at step
+shown-block g s who s' (block.StoreLink site i a guarded heap) o sound has at shown step = absurd (true≢false (sym shown))
+shown-block g s who s' (block.PushBlock site i a guarded heap) o sound has at shown step =
+    push_block-lost g s who s' site i a guarded heap o sound has at (differs _ _ shown) step
+shown-block g s who s' (block.LinkBlock site i) o sound has at shown step = absurd (true≢false (sym shown))
+shown-block g s who s' (block.StoreInfo site) o sound has at shown step = absurd (true≢false (sym shown))
+shown-block g s who s' (block.StoreAnchor site) o sound has at shown step = absurd (true≢false (sym shown))
+shown-block g s who s' (block.WantsPartial seat) o sound has at shown step = absurd (true≢false (sym shown))
+shown-block g s who s' (block.Returned site i) o sound has at shown step = absurd (true≢false (sym shown))
+shown-block g s who s' (block.Discarded site) o sound has at shown step = absurd (true≢false (sym shown))
+shown-block g s who s' (block.Given site i) o sound has at shown step = absurd (true≢false (sym shown))
+shown-block g s who s' (block.BecameEmpty site heap) o sound has at shown step = absurd (true≢false (sym shown))
+shown-block g s who s' (block.BecamePartial site guarded) o sound has at shown step = absurd (true≢false (sym shown))
+shown-block g s who s' (block.Pushed seat guarded) o sound has at shown step = absurd (true≢false (sym shown))
+
+shown-desc :
+    (g : Geometry) (s : State) (who : ℕ) (s' : State) (p : DescPoint) (o : Onward) → IsSound g s → who < g.callers
+    → (s.errand who).point ≡ Desc p o → IsTrue (shown_desc p (found_from s (Desc p o))) → Step s who s' → IsSound g s'
+unfolding plan_point_of
+shown-desc g s who s' (desc.LoadDescHead seat) o sound has at shown step = load_desc_head-sound g s who s' seat o sound has at step
+shown-desc g s who s' (desc.StoreHazard seat d) o sound has at shown step = absurd (true≢false (sym shown))
+shown-desc g s who s' (desc.ReloadDescHead seat d) o sound has at shown step =
+    reload_desc_head_other-sound g s who s' seat d o sound has at (differs _ _ shown) step
+shown-desc g s who s' (desc.LoadNextDesc seat d) o sound has at shown step = load_next_desc-sound g s who s' seat d o sound has at step
+shown-desc g s who s' (desc.PopDesc seat d next) o sound has at shown step =
+    pop_desc_lost-sound g s who s' seat d next o sound has at (differs _ _ shown) step
+shown-desc g s who s' (desc.ClearAfterPop seat d) o sound has at shown step = absurd (true≢false (sym shown))
+shown-desc g s who s' (desc.ClearHazard seat) o sound has at shown step = absurd (true≢false (sym shown))
+shown-desc g s who s' (desc.ReadHazard seat held i) o sound has at shown step = absurd (true≢false (sym shown))
+shown-desc g s who s' (desc.LoadHeadToPush seat d) o sound has at shown step = load_head_to_push-sound g s who s' seat d o sound has at step
+shown-desc g s who s' (desc.StoreNextDesc seat d top) o sound has at shown step = absurd (true≢false (sym shown))
+shown-desc g s who s' (desc.PushDesc seat d top) o sound has at shown step =
+    push_desc_lost-sound g s who s' seat d top o sound has at (differs _ _ shown) step
+shown-desc g s who s' (desc.Got seat d) o sound has at shown step = absurd (true≢false (sym shown))
+shown-desc g s who s' (desc.Cleared seat) o sound has at shown step = absurd (true≢false (sym shown))
+shown-desc g s who s' (desc.Scanned seat held) o sound has at shown step = absurd (true≢false (sym shown))
+shown-desc g s who s' (desc.Pushed seat d) o sound has at shown step = absurd (true≢false (sym shown))
+
+-- a superblock is put into a slot for a block that is given, or to finish a free
+fills-cases :
+    (P : Onward → Type 0) → ((need : ℕ) (site : Site) (i : ℕ) → P (onward.GiveBlock need site i)) → ((guarded : Bool) → P (onward.Finish guarded))
+    → (o : Onward) → IsTrue (fills o) → P o
+fills-cases P gives finishes (onward.Alloc need) is = absurd (true≢false (sym is))
+fills-cases P gives finishes (onward.TakeFrame need d) is = absurd (true≢false (sym is))
+fills-cases P gives finishes (onward.GiveBlock need site i) is = gives need site i
+fills-cases P gives finishes (onward.Discard need d) is = absurd (true≢false (sym is))
+fills-cases P gives finishes (onward.Turn need) is = absurd (true≢false (sym is))
+fills-cases P gives finishes (onward.Look need) is = absurd (true≢false (sym is))
+fills-cases P gives finishes onward.Refuse is = absurd (true≢false (sym is))
+fills-cases P gives finishes onward.Free is = absurd (true≢false (sym is))
+fills-cases P gives finishes (onward.Remove d heap) is = absurd (true≢false (sym is))
+fills-cases P gives finishes onward.Clear is = absurd (true≢false (sym is))
+fills-cases P gives finishes (onward.ClearSecond first) is = absurd (true≢false (sym is))
+fills-cases P gives finishes (onward.Retire d) is = absurd (true≢false (sym is))
+fills-cases P gives finishes (onward.PushFirst first) is = absurd (true≢false (sym is))
+fills-cases P gives finishes (onward.Finish guarded) is = finishes guarded
+fills-cases P gives finishes onward.EndFree is = absurd (true≢false (sym is))
+fills-cases P gives finishes onward.Nothing is = absurd (true≢false (sym is))
+
+-- a clearing has popped none yet, or one
+clearing-cases :
+    (P : Onward → Type 0) → P onward.Clear → ((first : ℕ) → P (onward.ClearSecond first)) → (o : Onward) → IsTrue (is_clearing o) → P o
+clearing-cases P none one (onward.Alloc need) is = absurd (true≢false (sym is))
+clearing-cases P none one (onward.TakeFrame need d) is = absurd (true≢false (sym is))
+clearing-cases P none one (onward.GiveBlock need site i) is = absurd (true≢false (sym is))
+clearing-cases P none one (onward.Discard need d) is = absurd (true≢false (sym is))
+clearing-cases P none one (onward.Turn need) is = absurd (true≢false (sym is))
+clearing-cases P none one (onward.Look need) is = absurd (true≢false (sym is))
+clearing-cases P none one onward.Refuse is = absurd (true≢false (sym is))
+clearing-cases P none one onward.Free is = absurd (true≢false (sym is))
+clearing-cases P none one (onward.Remove d heap) is = absurd (true≢false (sym is))
+clearing-cases P none one onward.Clear is = none
+clearing-cases P none one (onward.ClearSecond first) is = one first
+clearing-cases P none one (onward.Retire d) is = absurd (true≢false (sym is))
+clearing-cases P none one (onward.PushFirst first) is = absurd (true≢false (sym is))
+clearing-cases P none one (onward.Finish guarded) is = absurd (true≢false (sym is))
+clearing-cases P none one onward.EndFree is = absurd (true≢false (sym is))
+clearing-cases P none one onward.Nothing is = absurd (true≢false (sym is))
+
+-- a free finishes
+finish-cases :
+    (P : Onward → Type 0) → ((guarded : Bool) → P (onward.Finish guarded)) → (o : Onward) → IsTrue (is_finish o) → P o
+finish-cases P finishes (onward.Alloc need) is = absurd (true≢false (sym is))
+finish-cases P finishes (onward.TakeFrame need d) is = absurd (true≢false (sym is))
+finish-cases P finishes (onward.GiveBlock need site i) is = absurd (true≢false (sym is))
+finish-cases P finishes (onward.Discard need d) is = absurd (true≢false (sym is))
+finish-cases P finishes (onward.Turn need) is = absurd (true≢false (sym is))
+finish-cases P finishes (onward.Look need) is = absurd (true≢false (sym is))
+finish-cases P finishes onward.Refuse is = absurd (true≢false (sym is))
+finish-cases P finishes onward.Free is = absurd (true≢false (sym is))
+finish-cases P finishes (onward.Remove d heap) is = absurd (true≢false (sym is))
+finish-cases P finishes onward.Clear is = absurd (true≢false (sym is))
+finish-cases P finishes (onward.ClearSecond first) is = absurd (true≢false (sym is))
+finish-cases P finishes (onward.Retire d) is = absurd (true≢false (sym is))
+finish-cases P finishes (onward.PushFirst first) is = absurd (true≢false (sym is))
+finish-cases P finishes (onward.Finish guarded) is = finishes guarded
+finish-cases P finishes onward.EndFree is = absurd (true≢false (sym is))
+finish-cases P finishes onward.Nothing is = absurd (true≢false (sym is))
+
+-- a superblock is put into a slot to finish a free
+put_finishes-sound :
+    (g : Geometry) (s : State) (who : ℕ) (s' : State) (seat : SeatFields) (d heap : ℕ) (guarded : Bool) → IsSound g s → who < g.callers
+    → (s.errand who).point ≡ Partial (partial.PutSlot seat d heap) (onward.Finish guarded)
+    → IsTrue (put_goes_on (onward.Finish guarded) (s.word (slot_of seat heap))) → Step s who s' → IsSound g s'
+put_finishes-sound g s who s' seat d heap true sound has at shown step = partials.put_slot_clears-sound g s who s' seat d heap sound has at step
+put_finishes-sound g s who s' seat d heap false sound has at shown step =
+    let held : s.word (slot_of seat heap) ≢ 0 = differs _ _ shown in
+    partials.put_slot_displaced-sound g s who s' seat d heap (s.word (slot_of seat heap) - 1) (onward.Finish false) sound has at
+    (omega (arith, held)) step
+
+put-sound :
+    (g : Geometry) (s : State) (who : ℕ) (s' : State) (seat : SeatFields) (d heap : ℕ) (o : Onward) → IsSound g s → who < g.callers
+    → (s.errand who).point ≡ Partial (partial.PutSlot seat d heap) o → IsTrue (put_goes_on o (s.word (slot_of seat heap))) → Step s who s'
+    → IsSound g s'
+put-sound g s who s' seat d heap o sound has at shown step =
+    fills-cases
+    (λ o. (s.errand who).point ≡ Partial (partial.PutSlot seat d heap) o → IsTrue (put_goes_on o (s.word (slot_of seat heap))) → IsSound g s')
+    (λ need site i at shown. partials.put_slot_gives-sound g s who s' seat d heap need site i sound has at step)
+    (λ guarded at shown. put_finishes-sound g s who s' seat d heap guarded sound has at shown step) o
+    (fits-at g s sound.parts.0 who _ sound.parts.1 has at).goes at shown
+
+-- the look at a superblock that was popped from the list
+listed-sound :
+    (g : Geometry) (s : State) (who : ℕ) (s' : State) (seat : SeatFields) (d : ℕ) (o : Onward) → IsSound g s → who < g.callers
+    → (s.errand who).point ≡ Partial (partial.LoadListedAnchor seat d) o → IsTrue (listed_stays o (s.word (name.Anchor d))) → Step s who s'
+    → IsSound g s'
+listed-sound g s who s' seat d o sound has at shown step =
+    clearing-cases
+    (λ o. (s.errand who).point ≡ Partial (partial.LoadListedAnchor seat d) o → IsTrue (listed_stays o (s.word (name.Anchor d))) → IsSound g s')
+    (λ at shown. partials.load_first_listed-sound g s who s' seat d sound has at (not_true (is_empty (anchor_for s d).state) shown) step)
+    (λ first at shown. partials.load_second-sound g s who s' seat d first sound has at step) o
+    (fits-at g s sound.parts.0 who _ sound.parts.1 has at).goes at shown
+
+shown-partial :
+    (g : Geometry) (s : State) (who : ℕ) (s' : State) (p : PartialPoint) (o : Onward) → IsSound g s → who < g.callers
+    → (s.errand who).point ≡ Partial p o → IsTrue (shown_partial p o (found_from s (Partial p o))) → Step s who s' → IsSound g s'
+unfolding plan_point_of
+shown-partial g s who s' (partial.LoadSlot seat) o sound has at shown step =
+    let is : o ≡ onward.Alloc (asked o) = the-alloc o (fits-at g s sound.parts.0 who _ sound.parts.1 has at).goes in
+    partials.load_slot-sound g s who s' seat (asked o) sound has (at ∙ ap (Partial (partial.LoadSlot seat)) is) step
+shown-partial g s who s' (partial.TakeSlot seat d) o sound has at shown step =
+    let is : o ≡ onward.Alloc (asked o) = the-alloc o (fits-at g s sound.parts.0 who _ sound.parts.1 has at).goes in
+    partials.take_slot-sound g s who s' seat d (asked o) sound has (at ∙ ap (Partial (partial.TakeSlot seat d)) is) step
+shown-partial g s who s' (partial.LoadTakenInfo seat d) o sound has at shown step =
+    let is : o ≡ onward.Alloc (asked o) = the-alloc o (fits-at g s sound.parts.0 who _ sound.parts.1 has at).goes in
+    partials.load_taken_info-sound g s who s' seat d (asked o) sound has (at ∙ ap (Partial (partial.LoadTakenInfo seat d)) is) step
+shown-partial g s who s' (partial.StoreOwner site) o sound has at shown step = absurd (true≢false (sym shown))
+shown-partial g s who s' (partial.LoadGrantAnchor site) o sound has at shown step =
+    let is : o ≡ onward.Alloc (asked o) = the-alloc o (fits-at g s sound.parts.0 who _ sound.parts.1 has at).goes in
+    partials.load_grant_anchor-sound g s who s' site (asked o) sound has (at ∙ ap (Partial (partial.LoadGrantAnchor site)) is)
+    (not_true (is_empty (anchor_for s site.desc).state) shown) step
+shown-partial g s who s' (partial.Grant site a) o sound has at shown step =
+    let is : o ≡ onward.Alloc (asked o) = the-alloc o (fits-at g s sound.parts.0 who _ sound.parts.1 has at).goes in
+    partials.grant_lost-sound g s who s' site a (asked o) sound has (at ∙ ap (Partial (partial.Grant site a)) is) (differs _ _ shown) step
+shown-partial g s who s' (partial.LoadOwner seat d) o sound has at shown step =
+    finish-cases (λ o. (s.errand who).point ≡ Partial (partial.LoadOwner seat d) o → IsSound g s')
+    (λ guarded at. partials.load_owner-sound g s who s' seat d guarded sound has at step) o
+    (fits-at g s sound.parts.0 who _ sound.parts.1 has at).goes at
+shown-partial g s who s' (partial.PutSlot seat d heap) o sound has at shown step = put-sound g s who s' seat d heap o sound has at shown step
+shown-partial g s who s' (partial.LoadHeldSlot seat d heap) o sound has at shown step =
+    let is : o ≡ onward.Free = the-free o (fits-at g s sound.parts.0 who _ sound.parts.1 has at).goes in
+    partials.load_held_slot-sound g s who s' seat d heap sound has (at ∙ ap (Partial (partial.LoadHeldSlot seat d heap)) is) step
+shown-partial g s who s' (partial.RemoveFromSlot seat d heap) o sound has at shown step =
+    let is : o ≡ onward.Free = the-free o (fits-at g s sound.parts.0 who _ sound.parts.1 has at).goes in
+    partials.remove_from_slot-sound g s who s' seat d heap sound has (at ∙ ap (Partial (partial.RemoveFromSlot seat d heap)) is) step
+shown-partial g s who s' (partial.LoadListedAnchor seat d) o sound has at shown step = listed-sound g s who s' seat d o sound has at shown step
+shown-partial g s who s' (partial.SlotEmpty seat) o sound has at shown step = absurd (true≢false (sym shown))
+shown-partial g s who s' (partial.Granted site more) o sound has at shown step = absurd (true≢false (sym shown))
+shown-partial g s who s' (partial.TookEmpty site) o sound has at shown step = absurd (true≢false (sym shown))
+shown-partial g s who s' (partial.SlotFilled seat) o sound has at shown step = absurd (true≢false (sym shown))
+shown-partial g s who s' (partial.Displaced seat d) o sound has at shown step = absurd (true≢false (sym shown))
+shown-partial g s who s' (partial.NotInSlot seat) o sound has at shown step = absurd (true≢false (sym shown))
+shown-partial g s who s' (partial.Removed seat d) o sound has at shown step = absurd (true≢false (sym shown))
+shown-partial g s who s' (partial.ListedEmpty seat d) o sound has at shown step = absurd (true≢false (sym shown))
+shown-partial g s who s' (partial.ListedPartial seat d) o sound has at shown step = absurd (true≢false (sym shown))
+
+-- a step that is shown keeps the state sound
+shown-at :
+    (g : Geometry) (s : State) (who : ℕ) (s' : State) (p : Point) → IsSound g s → who < g.callers → (s.errand who).point ≡ p
+    → IsTrue (is_shown p (found_from s p)) → Step s who s' → IsSound g s'
+unfolding is_shown
+shown-at g s who s' Idle sound has at shown step = absurd (true≢false (sym shown))
+shown-at g s who s' (Block p o) sound has at shown step = shown-block g s who s' p o sound has at shown step
+shown-at g s who s' (Stack p o) sound has at shown step = shown-stack g s who s' p o sound has at shown step
+shown-at g s who s' (Desc p o) sound has at shown step = shown-desc g s who s' p o sound has at shown step
+shown-at g s who s' (Partial p o) sound has at shown step = shown-partial g s who s' p o sound has at shown step
+shown-at g s who s' (Large p o) sound has at shown step = shown-large g s who s' p o sound has at shown step
+
+pub shown-sound :
+    (g : Geometry) (s : State) (who : ℕ) (s' : State) → IsSound g s → who < g.callers
+    → IsTrue (is_shown (s.errand who).point (found_at s who)) → Step s who s' → IsSound g s'
+shown-sound g s who s' sound has shown step = shown-at g s who s' (s.errand who).point sound has refl shown step

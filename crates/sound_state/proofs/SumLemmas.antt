@@ -1,0 +1,166 @@
+-- Sums over the numbers below a bound, over the words and over the callers.
+use Rattle.std.proofs.Common.{ℕ, zero, suc, ◌≡◌, ◌≢◌, ◌<◌, ◌≤◌, ◌+◌, ◌*◌, List, [], ◌∷◌, length, refl, arith, inl, inr, subst, ap, sym, ◌∙◌}
+use Rattle.std.specs.Prelude.{◌==◌, if◌then◌else◌}
+use Rattle.std.proofs.lemmas.Bool.{cases_eq, cond-true, cond-false, eq-eqb, ne_eqb}
+use Rattle.heap_geometry.specs.declared.geometry.Geometry.{Geometry}
+use Rattle.word_plan.specs.declared.name.WordName.{WordName}
+use Rattle.word_plan.specs.Counts.{word_count}
+use Rattle.word_plan.specs.Table.{Exists, word_index, word_name}
+use Rattle.word_plan.specs.Words.{Writes}
+use Rattle.word_plan.proofs.TableLemmas.{word_index-within, word_name-word_index, word_index-word_name}
+use Rattle.superblock_parts.specs.Chains.{occurs}
+use Rattle.errand_steps.specs.Errands.{ErrandFields}
+use Rattle.errand_steps.specs.Steps.{Moves}
+use Rattle.sound_state.specs.Sums.{sum_below, words_sum, callers_sum}
+
+-- equal terms, equal sums
+pub sum-same : (n : ℕ) (f f' : ℕ → ℕ) → ((j : ℕ) → j < n → f' j ≡ f j) → sum_below n f' ≡ sum_below n f
+sum-same zero f f' h = refl
+sum-same (suc n) f f' h = omega (arith, sum-same n f f' (λ j lt. h j (omega arith)), h n (omega arith))
+
+-- terms that are 0
+pub sum-none : (n : ℕ) (f : ℕ → ℕ) → ((j : ℕ) → j < n → f j ≡ 0) → sum_below n f ≡ 0
+sum-none zero f h = refl
+sum-none (suc n) f h = omega (arith, sum-none n f (λ j lt. h j (omega arith)), h n (omega arith))
+
+-- one term changes
+pub sum-change :
+    (n : ℕ) (f f' : ℕ → ℕ) (i : ℕ) → i < n → ((j : ℕ) → j < n → j ≢ i → f' j ≡ f j)
+    → sum_below n f' + f i ≡ sum_below n f + f' i
+sum-change zero f f' i lt h = omega arith
+sum-change (suc n) f f' i lt h =
+    elim (cases_eq n i) [
+      | inl e ↦
+          let same : sum_below n f' ≡ sum_below n f = sum-same n f f' (λ j jn. h j (omega arith) (omega arith)) in
+          let P : ℕ → Type 0 = λ m. sum_below n f' + f' n + f m ≡ sum_below n f + f n + f' m in
+          subst P e (omega arith)
+      | inr ne ↦
+          let at_n : f' n ≡ f n = h n (omega arith) ne in
+          let rest : sum_below n f' + f i ≡ sum_below n f + f' i = sum-change n f f' i (omega arith) (λ j jn ji. h j (omega arith) ji) in
+          omega arith
+    ]
+
+-- all terms but one are 0
+pub sum-one : (n : ℕ) (f : ℕ → ℕ) (i : ℕ) → i < n → ((j : ℕ) → j < n → j ≢ i → f j ≡ 0) → sum_below n f ≡ f i
+sum-one n f i lt h =
+    let none : sum_below n (λ j. 0) ≡ 0 = sum-none n (λ j. 0) (λ j jn. refl) in
+    omega (arith, none, sum-change n f (λ j. 0) i lt (λ j jn ne. sym (h j jn ne)))
+
+-- a term is no more than the sum
+pub term-sum : (n : ℕ) (f : ℕ → ℕ) (i : ℕ) → i < n → f i ≤ sum_below n f
+term-sum zero f i lt = omega arith
+term-sum (suc n) f i lt =
+    elim (cases_eq n i) [
+      | inl e ↦ let P : ℕ → Type 0 = λ m. f m ≤ sum_below n f + f n in subst P e (omega arith)
+      | inr ne ↦ omega (arith, term-sum n f i (omega arith))
+    ]
+
+-- no term is more than another, so no sum is
+pub sum-least : (n : ℕ) (f f' : ℕ → ℕ) → ((j : ℕ) → j < n → f j ≤ f' j) → sum_below n f ≤ sum_below n f'
+sum-least zero f f' h = omega arith
+sum-least (suc n) f f' h = omega (arith, sum-least n f f' (λ j lt. h j (omega arith)), h n (omega arith))
+
+-- the sum of sums of terms
+pub sum-plus : (n : ℕ) (f f' : ℕ → ℕ) → sum_below n (λ j. f j + f' j) ≡ sum_below n f + sum_below n f'
+sum-plus zero f f' = refl
+sum-plus (suc n) f f' = omega (arith, sum-plus n f f')
+
+-- as many ones
+pub sum-ones : (n : ℕ) → sum_below n (λ j. 1) ≡ n
+sum-ones zero = refl
+sum-ones (suc n) = omega (arith, sum-ones n)
+
+-- terms that are no more than a number
+pub sum-most : (n : ℕ) (f : ℕ → ℕ) (k : ℕ) → ((j : ℕ) → j < n → f j ≤ k) → sum_below n f ≤ n * k
+sum-most zero f k h = omega arith
+sum-most (suc n) f k h = omega (arith, sum-most n f k (λ j lt. h j (omega arith)), h n (omega arith))
+
+-- sums of sums, in the other order
+pub sum-swap :
+    (n m : ℕ) (f : ℕ → ℕ → ℕ) → sum_below n (λ i. sum_below m (f i)) ≡ sum_below m (λ j. sum_below n (λ i. f i j))
+sum-swap zero m f = sym (sum-none m (λ j. 0) (λ j lt. refl))
+sum-swap (suc n) m f = omega (arith, sum-swap n m f, sum-plus m (λ j. sum_below n (λ i. f i j)) (f n))
+
+-- a number is one of those below a bound once, or never
+one-never : (n x : ℕ) → n ≤ x → sum_below n (λ i. if x == i then 1 else 0) ≡ 0
+one-never n x h =
+    sum-none n (λ i. if x == i then 1 else 0) (λ i lt. cond-false {A = ℕ} (x == i) 1 0 (ne_eqb x i (λ e. let no : ⊥ = omega (arith, e) in no)))
+
+pub sum-once : (n x : ℕ) → sum_below n (λ i. if x == i then 1 else 0) ≤ 1
+sum-once zero x = omega arith
+sum-once (suc n) x =
+    elim (cases_eq x n) [
+      | inl e ↦ omega (arith, one-never n x (omega (arith, e)), cond-true {A = ℕ} (x == n) 1 0 (eq-eqb x n e))
+      | inr ne ↦ omega (arith, sum-once n x, cond-false {A = ℕ} (x == n) 1 0 (ne_eqb x n ne))
+    ]
+
+-- all that occurs in a list is no more than the list has
+pub sum-occurs : (n : ℕ) (xs : List ℕ) → sum_below n (λ i. occurs i xs) ≤ length xs
+sum-occurs n [] = omega (arith, sum-none n (λ i. 0) (λ i lt. refl))
+sum-occurs n (x ∷ xs) =
+    omega (arith, sum-plus n (λ i. if x == i then 1 else 0) (λ i. occurs i xs), sum-once n x, sum-occurs n xs)
+
+-- a write changes the words' sum by what the word weighs
+pub words-written :
+    (g : Geometry) (weight : WordName → ℕ → ℕ) (words : WordName → ℕ) (name : WordName) (new : ℕ) (words' : WordName → ℕ)
+    → Exists g name → Writes words name new words'
+    → words_sum g weight words' + weight name (words name) ≡ words_sum g weight words + weight name new
+unfolding words_sum
+words-written g weight words name new words' exists w =
+    let at : word_name g (word_index g name) ≡ name = word_name-word_index g name exists in
+    let changed =
+    sum-change (word_count g) (λ k. weight (word_name g k) (words (word_name g k)))
+    (λ k. weight (word_name g k) (words' (word_name g k))) (word_index g name) (word_index-within g name exists)
+    (λ k lt ne.
+    ap (weight (word_name g k))
+    (w.elsewhere (word_name g k) (λ q. ne (sym (word_index-word_name g k lt) ∙ ap (word_index g) q)))) in
+    let P : WordName → Type 0 =
+    λ m. words_sum g weight words' + weight m (words m) ≡ words_sum g weight words + weight m (words' m) in
+    let f : words_sum g weight words' + weight name (words name) ≡ words_sum g weight words + weight name (words' name) =
+    subst P at changed in
+    omega (arith, f, ap (weight name) w.here)
+
+-- words that are all the same weigh the same
+pub words-same :
+    (g : Geometry) (weight : WordName → ℕ → ℕ) (words words' : WordName → ℕ)
+    → ((name : WordName) → words' name ≡ words name) → words_sum g weight words' ≡ words_sum g weight words
+unfolding words_sum
+words-same g weight words words' h =
+    sum-same (word_count g) (λ k. weight (word_name g k) (words (word_name g k)))
+    (λ k. weight (word_name g k) (words' (word_name g k))) (λ k lt. ap (weight (word_name g k)) (h (word_name g k)))
+
+-- words that weigh nothing
+pub words-none :
+    (g : Geometry) (weight : WordName → ℕ → ℕ) (words : WordName → ℕ)
+    → ((name : WordName) → weight name (words name) ≡ 0) → words_sum g weight words ≡ 0
+unfolding words_sum
+words-none g weight words h =
+    sum-none (word_count g) (λ k. weight (word_name g k) (words (word_name g k))) (λ k lt. h (word_name g k))
+
+-- words of which one alone weighs something
+pub words-one :
+    (g : Geometry) (weight : WordName → ℕ → ℕ) (words : WordName → ℕ) (name : WordName) → Exists g name
+    → ((other : WordName) → other ≢ name → weight other (words other) ≡ 0) → words_sum g weight words ≡ weight name (words name)
+unfolding words_sum
+words-one g weight words name exists h =
+    let at : word_name g (word_index g name) ≡ name = word_name-word_index g name exists in
+    sum-one (word_count g) (λ k. weight (word_name g k) (words (word_name g k))) (word_index g name) (word_index-within g name exists)
+    (λ k lt ne. h (word_name g k) (λ q. ne (sym (word_index-word_name g k lt) ∙ ap (word_index g) q)))
+    ∙ ap (λ m. weight m (words m)) at
+
+-- an errand that goes on changes the callers' sum by what it weighs
+pub callers-moved :
+    (g : Geometry) (weight : ErrandFields → ℕ) (errands : ℕ → ErrandFields) (who : ℕ) (e : ErrandFields) (errands' : ℕ → ErrandFields)
+    → who < g.callers → Moves errands who e errands'
+    → callers_sum g weight errands' + weight (errands who) ≡ callers_sum g weight errands + weight e
+unfolding callers_sum
+callers-moved g weight errands who e errands' has m =
+    let changed = sum-change g.callers (λ i. weight (errands i)) (λ i. weight (errands' i)) who has (λ i lt ne. ap weight (m.elsewhere i ne)) in
+    omega (arith, changed, ap weight m.here)
+
+-- callers that weigh nothing
+pub callers-none :
+    (g : Geometry) (weight : ErrandFields → ℕ) (errands : ℕ → ErrandFields)
+    → ((who : ℕ) → who < g.callers → weight (errands who) ≡ 0) → callers_sum g weight errands ≡ 0
+unfolding callers_sum
+callers-none g weight errands h = sum-none g.callers (λ who. weight (errands who)) h

@@ -1,0 +1,5 @@
+use Rattle.sound_state.proofs.StockLemmas.{waiting-has, looking-has}
+use Rattle.sound_state.proofs.laws.consequences.a_descriptor_is_always_available.Goals as goal
+
+pub returns : goal.returns
+returns c = record { waiting = waiting-has; looking = looking-has }

@@ -1,0 +1,5 @@
+use Rattle.sound_state.proofs.TagLemmas.{anchor-tags-below, frame-tag-below, list-tags-below}
+use Rattle.sound_state.proofs.laws.consequences.tags_stay_below.Goals as goal
+
+pub returns : goal.returns
+returns c = record { anchors = anchor-tags-below; frames = frame-tag-below; lists = list-tags-below }

@@ -1,0 +1,5 @@
+use Rattle.sound_state.proofs.InstalledLemmas.{installed-sound}
+use Rattle.sound_state.proofs.laws.installed_is_sound.Goals as goal
+
+pub returns : goal.returns
+returns c = installed-sound

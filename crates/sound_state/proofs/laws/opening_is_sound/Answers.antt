@@ -1,0 +1,5 @@
+use Rattle.sound_state.proofs.OpeningLemmas.{opening-sound}
+use Rattle.sound_state.proofs.laws.opening_is_sound.Goals as goal
+
+pub returns : goal.returns
+returns c = opening-sound

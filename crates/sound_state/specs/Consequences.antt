@@ -1,0 +1,20 @@
+-- What a sound state gives, in records that the laws name.
+use Rattle.std.specs.Prelude.{ℕ, ◌≡◌, ◌<◌, IsTrue}
+use Rattle.heap_geometry.specs.declared.geometry.Geometry.{Geometry}
+use Rattle.heap_geometry.specs.Need.{block_count_of}
+use Rattle.heap_geometry.specs.Place.{block_place}
+use Rattle.word_plan.specs.Counts.{descriptor_count}
+use Rattle.superblock_parts.specs.Chains.{occurs}
+use Rattle.errand_steps.specs.Steps.{State}
+use Rattle.sound_state.specs.Lists.{Lists}
+use Rattle.sound_state.specs.Superblocks.{info_for, is_bound, superblock_of, free_chain}
+
+-- the place is that of a block of a superblock, and the block is none of the superblock's free ones
+pub record IsTaken (g : Geometry) (s : State) (l : Lists) (place : ℕ) : Type 0 where
+  pub desc : ℕ
+  pub exists : desc < descriptor_count g
+  pub bound : IsTrue (is_bound g s l desc)
+  pub index : ℕ
+  pub in_frame : index < block_count_of (info_for s desc).class
+  pub here : place ≡ block_place (info_for s desc).frame (info_for s desc).class index
+  pub taken : occurs index (free_chain (superblock_of g s desc)) ≡ 0

@@ -1,0 +1,64 @@
+-- Hazard words, and the descriptors that they keep from being reused.
+use Rattle.std.specs.Prelude.{ℕ, ◌≡◌, ◌<◌, ◌≤◌, ◌+◌, Some, List, [], Contains, slice_index, length}
+use Rattle.heap_geometry.specs.declared.geometry.Geometry.{Geometry}
+use Rattle.word_plan.specs.declared.name.WordName.TheVariants as name
+use Rattle.hazard_parts.specs.declared.point.DescPoint.{DescPoint}
+use Rattle.hazard_parts.specs.declared.point.DescPoint.TheVariants as desc
+use Rattle.errand_steps.specs.declared.point.Point.{Point}
+use Rattle.errand_steps.specs.declared.point.Point.TheVariants as point
+use Rattle.errand_steps.specs.Fits.{spare_of, pushed_by}
+use Rattle.errand_steps.specs.Steps.{State}
+use Rattle.sound_state.specs.Holdings.{Hazard, clear, left, named, guarded, owned, holds_of}
+
+-- the hazard word is as the caller's point asks
+abbrev pub IsHazard : Hazard → ℕ → Type 0
+IsHazard clear word = word ≡ 0
+IsHazard left word = Unit {0}
+IsHazard (named d) word = word ≡ d + 1
+IsHazard (guarded d) word = word ≡ d + 1
+IsHazard owned word = Unit {0}
+
+-- whatever the hazard word names isn't reused: it was confirmed, or stored while its caller owned a block there
+abbrev pub IsGuard : Hazard → Type 0
+IsGuard clear = ⊥
+IsGuard left = ⊥
+IsGuard (named d) = ⊥
+IsGuard (guarded d) = Unit {0}
+IsGuard owned = Unit {0}
+
+-- the caller guards the descriptor
+pub record Guards (s : State) (who d : ℕ) : Type 0 where
+  pub word : s.word (name.Hazard who) ≡ d + 1
+  pub guard : IsGuard (holds_of (s.errand who).point).hazard
+
+-- how many hazard words a caller's scan has passed, and what they said
+abbrev pub passed_by_desc : DescPoint → ℕ
+passed_by_desc (desc.ReadHazard s held at) = at
+passed_by_desc p = 0
+
+abbrev pub passed_by : Point → ℕ
+passed_by (point.Desc p o) = passed_by_desc p
+passed_by p = 0
+
+abbrev pub held_by_desc : DescPoint → List ℕ
+held_by_desc (desc.ReadHazard s held at) = held
+held_by_desc p = []
+
+abbrev pub held_by : Point → List ℕ
+held_by (point.Desc p o) = held_by_desc p
+held_by p = []
+
+-- the hazard words are as the points ask; nobody guards what is pushed; who guards one that a scan retires was seen where the scan has passed, and the words that it has not read are noted as 0; during a scan and the push after it the list is full
+pub record IsGuarded (g : Geometry) (s : State) : Type 0 where
+  pub words : (who : ℕ) → who < g.callers → IsHazard (holds_of (s.errand who).point).hazard (s.word (name.Hazard who))
+  pub pushed :
+      (who other d : ℕ) → who < g.callers → other < g.callers → Guards s who d
+      → pushed_by (s.errand other).point ≡ Some d → ⊥
+  pub passed :
+      (who other d : ℕ) → who < g.callers → other < g.callers → Guards s who d → Contains (s.errand other).retired d
+      → who < passed_by (s.errand other).point → slice_index (held_by (s.errand other).point) who ≡ d + 1
+  pub unread :
+      (who i : ℕ) → who < g.callers → passed_by (s.errand who).point ≤ i → i < length (held_by (s.errand who).point)
+      → slice_index (held_by (s.errand who).point) i ≡ 0
+  pub full :
+      (who : ℕ) → who < g.callers → spare_of (s.errand who).point ≡ 1 → length (s.errand who).retired ≡ g.callers + 1

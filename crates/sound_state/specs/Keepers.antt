@@ -1,0 +1,88 @@
+-- Each descriptor stands in one place.
+use Rattle.std.specs.Prelude.{ℕ, ◌≡◌, ◌<◌, ◌≤◌, ◌+◌, ◌==◌, ◌⊎◌, if◌then◌else◌, Option, Some, None, All, IsSome}
+use Rattle.heap_geometry.specs.declared.geometry.Geometry.{Geometry}
+use Rattle.heap_geometry.specs.declared.limits.TheConstants.{CLASSES}
+use Rattle.packed_words.specs.declared.active.ActiveWord.{ActiveWord}
+use Rattle.packed_words.specs.declared.active.ActiveWord.TheVariants.{Null, Held}
+use Rattle.packed_words.specs.declared.anchor.State.{State as Phase}
+use Rattle.packed_words.specs.declared.anchor.State.TheVariants as phase
+use Rattle.packed_words.specs.Active.{active_of}
+use Rattle.word_plan.specs.declared.name.WordName.{WordName}
+use Rattle.word_plan.specs.declared.name.WordName.TheVariants as name
+use Rattle.word_plan.specs.Counts.{descriptor_count}
+use Rattle.superblock_parts.specs.Chains.{occurs}
+use Rattle.errand_steps.specs.Errands.{ErrandFields}
+use Rattle.errand_steps.specs.Steps.{State}
+use Rattle.sound_state.specs.Holdings.{Status, reserving, waiting, partly_used, on_its_way, holds_of}
+use Rattle.sound_state.specs.Lists.{Lists}
+use Rattle.sound_state.specs.Sums.{sum_below, words_sum, callers_sum}
+use Rattle.sound_state.specs.Superblocks.{anchor_for, info_for, errand_keeps}
+
+-- 1 where an active word or a slot holds d
+abbrev pub active_keeps : ℕ → Option ActiveWord → ℕ
+active_keeps d None = 0
+active_keeps d (Some Null) = 0
+active_keeps d (Some (Held e credits)) = if e == d then 1 else 0
+
+abbrev pub word_keeps : ℕ → WordName → ℕ → ℕ
+word_keeps d (name.Active heap class) word = active_keeps d (active_of word)
+word_keeps d (name.Slot heap class) word = if word == d + 1 then 1 else 0
+word_keeps d other word = 0
+
+-- 1 where a superblock is FULL, which stands nowhere else
+abbrev pub full_keeps : Phase → ℕ
+full_keeps phase.Full = 1
+full_keeps other = 0
+
+-- how often a caller has d: retired, or kept in one of the four states
+abbrev pub errand_has : ℕ → ErrandFields → ℕ
+errand_has d e =
+    occurs d e.retired + errand_keeps reserving d e + errand_keeps waiting d e + errand_keeps partly_used d e
+    + errand_keeps on_its_way d e
+
+-- in how many places d stands
+abbrev pub places_of : Geometry → State → Lists → ℕ → ℕ
+places_of g s l d =
+    words_sum g (word_keeps d) s.word + sum_below CLASSES (λ class. occurs d (l.partials class)) + occurs d l.available
+    + callers_sum g (errand_has d) s.errand + full_keeps (anchor_for s d).state
+
+-- a superblock of the class that is partly used, or EMPTY
+pub record IsPartlyUsed (s : State) (d c : ℕ) : Type 0 where
+  pub class : (info_for s d).class ≡ c
+  pub state : ((anchor_for s d).state ≡ phase.Partial × 1 ≤ (anchor_for s d).count) ⊎ ((anchor_for s d).state ≡ phase.Empty)
+
+-- an active superblock of the class
+pub record IsActive (s : State) (d c : ℕ) : Type 0 where
+  pub class : (info_for s d).class ≡ c
+  pub state : (anchor_for s d).state ≡ phase.Active
+
+-- a descriptor without a superblock says ACTIVE or EMPTY
+abbrev pub IsWithout : State → ℕ → Type 0
+IsWithout s d = ((anchor_for s d).state ≡ phase.Active) ⊎ ((anchor_for s d).state ≡ phase.Empty)
+
+-- what a caller keeps is in the state in which it keeps it
+abbrev pub IsKeptAs : State → Status → ℕ → ℕ → Type 0
+IsKeptAs s reserving d class = IsActive s d class
+IsKeptAs s waiting d class = IsActive s d class
+IsKeptAs s partly_used d class = IsPartlyUsed s d class
+IsKeptAs s on_its_way d class = IsWithout s d
+
+-- each descriptor stands in one place, and is in the state that belongs there
+pub record IsKept (g : Geometry) (s : State) (l : Lists) : Type 0 where
+  pub once : (d : ℕ) → d < descriptor_count g → places_of g s l d ≡ 1
+  pub active_words :
+      (heap class : ℕ) → heap < g.heaps → class < CLASSES → IsSome (active_of (s.word (name.Active heap class)))
+  pub slot_words :
+      (heap class : ℕ) → heap < g.heaps → class < CLASSES → s.word (name.Slot heap class) ≤ descriptor_count g
+  pub active :
+      (heap class d credits : ℕ) → heap < g.heaps → class < CLASSES
+      → active_of (s.word (name.Active heap class)) ≡ Some (Held d credits) → (d < descriptor_count g) × IsActive s d class
+  pub slot :
+      (heap class d : ℕ) → heap < g.heaps → class < CLASSES → s.word (name.Slot heap class) ≡ d + 1
+      → (d < descriptor_count g) × IsPartlyUsed s d class
+  pub full : (d : ℕ) → d < descriptor_count g → (anchor_for s d).state ≡ phase.Full → (anchor_for s d).count ≡ 0
+  pub listed : (class : ℕ) → class < CLASSES → All (λ d. IsPartlyUsed s d class) (l.partials class)
+  pub available : All (IsWithout s) l.available
+  pub retired : (who : ℕ) → who < g.callers → All (IsWithout s) (s.errand who).retired
+  pub errand :
+      (who : ℕ) → who < g.callers → All (λ k. IsKeptAs s k.status k.desc k.class) (holds_of (s.errand who).point).kept

@@ -1,0 +1,14 @@
+pub mod Consequences
+pub mod Frames
+pub mod Guards
+pub mod Holdings
+pub mod Keepers
+pub mod Lists
+pub mod Recalls
+pub mod Shown
+pub mod Sound
+pub mod Stock
+pub mod Sums
+pub mod Superblocks
+pub mod Ties
+pub mod Turns

@@ -1,0 +1,211 @@
+-- What a caller remembers, and what that still says of the words.
+use Rattle.std.specs.Prelude.{ℕ, ◌≡◌, ◌<◌, ◌≤◌, ◌-◌, IsTrue, IsFalse, List, [], ◌∷◌, Some, All}
+use Rattle.heap_geometry.specs.declared.geometry.Geometry.{Geometry}
+use Rattle.heap_geometry.specs.declared.need.Need.{Need}
+use Rattle.heap_geometry.specs.Need.{block_count_of, usable_words}
+use Rattle.packed_words.specs.declared.anchor.State.TheVariants as phase
+use Rattle.packed_words.specs.Anchor.{AnchorFields, anchor_word}
+use Rattle.packed_words.specs.Head.{HeadFields, head_of}
+use Rattle.packed_words.specs.Info.{info_word}
+use Rattle.packed_words.specs.Prefix.{link_of}
+use Rattle.word_plan.specs.declared.name.WordName.{WordName}
+use Rattle.word_plan.specs.declared.name.WordName.TheVariants as name
+use Rattle.word_plan.specs.declared.seat.Site.{Site}
+use Rattle.word_plan.specs.Seats.{SeatFields}
+use Rattle.word_plan.specs.Sites.{info_at}
+use Rattle.superblock_parts.specs.Anchors.{new_anchor, new_link}
+use Rattle.superblock_parts.specs.Chains.{occurs, prefix_name}
+use Rattle.superblock_parts.specs.declared.point.BlockPoint.{BlockPoint}
+use Rattle.superblock_parts.specs.declared.point.BlockPoint.TheVariants as block
+use Rattle.stack_parts.specs.declared.point.Pile.{Pile}
+use Rattle.stack_parts.specs.declared.point.Pile.TheVariants.{Frames, Partials}
+use Rattle.stack_parts.specs.declared.point.StackPoint.{StackPoint}
+use Rattle.stack_parts.specs.declared.point.StackPoint.TheVariants as stack
+use Rattle.stack_parts.specs.Piles.{head_name, next_name, pile_limit}
+use Rattle.hazard_parts.specs.declared.point.DescPoint.{DescPoint}
+use Rattle.hazard_parts.specs.declared.point.DescPoint.TheVariants as desc
+use Rattle.partial_parts.specs.declared.point.PartialPoint.{PartialPoint}
+use Rattle.partial_parts.specs.declared.point.PartialPoint.TheVariants as partial
+use Rattle.partial_parts.specs.Grants.{is_empty}
+use Rattle.large_parts.specs.declared.point.LargePoint.{LargePoint}
+use Rattle.large_parts.specs.declared.point.LargePoint.TheVariants as large
+use Rattle.pool_model.specs.declared.event.Event.TheVariants.{Looked}
+use Rattle.pool_model.specs.declared.owner.Owner.TheVariants.{Caller}
+use Rattle.pool_model.specs.Histories.{own, EndsWith}
+use Rattle.pool_model.specs.Pool.{Block, block_at, pool_of}
+use Rattle.errand_steps.specs.declared.onward.Onward.{Onward}
+use Rattle.errand_steps.specs.declared.onward.Onward.TheVariants as onward
+use Rattle.errand_steps.specs.declared.point.Point.{Point}
+use Rattle.errand_steps.specs.declared.point.Point.TheVariants as point
+use Rattle.errand_steps.specs.Steps.{State}
+use Rattle.sound_state.specs.Lists.{Lists}
+use Rattle.sound_state.specs.Superblocks.{Superblock, superblock_of, free_chain, info_for, anchor_for, is_bound, errand_keeps}
+use Rattle.sound_state.specs.Holdings.{on_its_way}
+use Rattle.sound_state.specs.Sums.{callers_sum}
+
+-- a thing that a caller remembers
+pub data Recall : Type 0 where
+  bound_for : (d class : ℕ) → Recall
+  located : (d frame class : ℕ) → Recall
+  bound_at : (d frame class : ℕ) → Recall
+  pops : (d : ℕ) → (a : AnchorFields) → Recall
+  links : (d : ℕ) → (a : AnchorFields) → (prefix : ℕ) → Recall
+  tops : (s : SeatFields) → (pile : Pile) → (h : HeadFields) → Recall
+  nexts : (s : SeatFields) → (pile : Pile) → (h : HeadFields) → (below : ℕ) → Recall
+  tops_exist : (s : SeatFields) → (pile : Pile) → (h : HeadFields) → Recall
+  says : (word_name : WordName) → (word : ℕ) → Recall
+  made : (frame class blocks : ℕ) → Recall
+  in_use : (a : AnchorFields) → Recall
+  emptied : (d : ℕ) → Recall
+  noted : (d next : ℕ) → Recall
+  owns : (place i : ℕ) → Recall
+  owns_all : (place : ℕ) → (need : Need) → Recall
+  looked : (class : ℕ) → Recall
+
+-- the superblock at hand has this descriptor, fills this frame and is of this class
+abbrev pub bound_here : Site → List Recall
+bound_here at = bound_at at.desc at.frame at.seat.class ∷ []
+
+-- in a superblock
+abbrev pub block_recalls : BlockPoint → List Recall
+block_recalls (block.LoadInfo s d share) = bound_for d s.class ∷ []
+block_recalls (block.LoadAnchor at share) = bound_here at
+block_recalls (block.LoadLink at share a) = pops at.desc a ∷ bound_here at
+block_recalls (block.PopBlock at share a prefix) = links at.desc a prefix ∷ pops at.desc a ∷ bound_here at
+block_recalls (block.StorePrefix at i) = bound_here at
+block_recalls (block.InstallCredits at i more) = bound_here at
+block_recalls (block.InstallSuperblock at) = says (name.Anchor at.desc) (anchor_word (new_anchor at.seat.class)) ∷ bound_here at
+block_recalls (block.LoadReturn at i more) = bound_here at
+block_recalls (block.ReturnCredits at i more a) = bound_here at
+block_recalls (block.LoadPushAnchor at i stored) = bound_here at
+block_recalls (block.StoreGuard at i a) = bound_here at
+block_recalls (block.LoadOwner at i a) = bound_here at
+block_recalls (block.StoreLink at i a stored heap) = bound_here at
+block_recalls (block.PushBlock at i a stored heap) = says (prefix_name at.frame at.seat.class i) a.avail ∷ bound_here at
+block_recalls (block.LinkBlock at i) = made at.frame at.seat.class i ∷ []
+block_recalls (block.StoreInfo at) = made at.frame at.seat.class (block_count_of at.seat.class) ∷ []
+block_recalls (block.StoreAnchor at) =
+    says (name.Info at.desc) (info_word (info_at at)) ∷ made at.frame at.seat.class (block_count_of at.seat.class) ∷ []
+block_recalls p = []
+
+-- what waits behind a part
+abbrev pub onward_recalls : SeatFields → Onward → List Recall
+onward_recalls s (onward.TakeFrame words d) = looked s.class ∷ []
+onward_recalls s (onward.GiveBlock words at i) = bound_here at
+onward_recalls s (onward.Remove d heap) = emptied d ∷ []
+onward_recalls s (onward.Retire d) = emptied d ∷ []
+onward_recalls s o = []
+
+-- at a stack
+abbrev pub stack_recalls : StackPoint → Onward → List Recall
+stack_recalls (stack.LoadTop s pile) o = onward_recalls s o
+stack_recalls (stack.LoadBelow s pile h) o = tops s pile h ∷ onward_recalls s o
+stack_recalls (stack.PopTop s pile h below) o = nexts s pile h below ∷ tops s pile h ∷ onward_recalls s o
+stack_recalls (stack.ConfirmEmpty s pile h) o = onward_recalls s o
+stack_recalls (stack.LoadTopToPush s pile i) o = onward_recalls s o
+stack_recalls (stack.StoreBelow s pile i h) o = tops_exist s pile h ∷ onward_recalls s o
+stack_recalls (stack.PushTop s pile i h) o = says (next_name pile i) h.top ∷ tops_exist s pile h ∷ onward_recalls s o
+stack_recalls p o = []
+
+-- at the descriptors or the hazard words
+abbrev pub desc_recalls : DescPoint → Onward → List Recall
+desc_recalls (desc.LoadDescHead s) o = looked s.class ∷ []
+desc_recalls (desc.StoreHazard s d) o = looked s.class ∷ []
+desc_recalls (desc.ReloadDescHead s d) o = looked s.class ∷ []
+desc_recalls (desc.LoadNextDesc s d) o = looked s.class ∷ []
+desc_recalls (desc.PopDesc s d next) o = noted d next ∷ looked s.class ∷ []
+desc_recalls (desc.ClearAfterPop s d) o = looked s.class ∷ []
+desc_recalls (desc.ClearHazard s) o = onward_recalls s o
+desc_recalls (desc.PushDesc s d top) o = says (name.Next d) top ∷ []
+desc_recalls p o = []
+
+-- at a partial superblock
+abbrev pub partial_recalls : PartialPoint → Onward → List Recall
+partial_recalls (partial.StoreOwner at) o = located at.desc at.frame at.seat.class ∷ []
+partial_recalls (partial.LoadGrantAnchor at) o = located at.desc at.frame at.seat.class ∷ []
+partial_recalls (partial.Grant at a) o = in_use a ∷ located at.desc at.frame at.seat.class ∷ []
+partial_recalls (partial.PutSlot s d heap) o = onward_recalls s o
+partial_recalls (partial.LoadHeldSlot s d heap) o = emptied d ∷ []
+partial_recalls (partial.RemoveFromSlot s d heap) o = emptied d ∷ []
+partial_recalls p o = []
+
+-- at a usable word or a shelf
+abbrev pub large_recalls : LargePoint → List Recall
+large_recalls (large.StoreWord place i value) = owns place i ∷ []
+large_recalls (large.LoadWord place i) = owns place i ∷ []
+large_recalls (large.PutBlock shelf place need) = owns_all place need ∷ []
+large_recalls p = []
+
+-- what a caller remembers at its point
+unfoldable pub recalls_of : Point → List Recall
+recalls_of point.Idle = []
+recalls_of (point.Block p o) = block_recalls p
+recalls_of (point.Stack p o) = stack_recalls p o
+recalls_of (point.Desc p o) = desc_recalls p o
+recalls_of (point.Partial p o) = partial_recalls p o
+recalls_of (point.Large p o) = large_recalls p
+
+-- the descriptor's word names this frame and this class
+pub record IsLocated (s : State) (d f c : ℕ) : Type 0 where
+  pub frame : (info_for s d).frame ≡ f
+  pub class : (info_for s d).class ≡ c
+
+-- an anchor that was read for a pop: the tag has not fallen since, and while it is the same, the block is still in the chain
+pub record IsPopped (b : Superblock) (a : AnchorFields) : Type 0 where
+  pub tag : a.tag ≤ b.anchor.tag
+  pub first : a.tag ≡ b.anchor.tag → 0 < occurs a.avail (free_chain b)
+
+-- the stack of a pile, as a list
+abbrev pub list_of : Lists → SeatFields → Pile → List ℕ
+list_of l s Frames = l.frames
+list_of l s Partials = l.partials s.class
+
+-- a head that was read for a pop: the tag has not fallen since, and while it is the same, the index on top is still in the stack
+pub record IsTopStill (s : State) (l : Lists) (seat : SeatFields) (p : Pile) (h : HeadFields) : Type 0 where
+  pub tag : h.tag ≤ (head_of (s.word (head_name seat p))).tag
+  pub top : h.tag ≡ (head_of (s.word (head_name seat p))).tag → 0 < occurs (h.top - 1) (list_of l seat p)
+
+-- the links of the first blocks of a superblock in the making are stored
+abbrev pub AreMade : State → ℕ → ℕ → ℕ → Type 0
+AreMade s frame class blocks = (i : ℕ) → i < blocks → s.word (prefix_name frame class i) ≡ new_link class i
+
+-- a superblock that is EMPTY, and whose descriptor isn't available nor on its way; another caller may have retired it
+pub record IsEmptied (g : Geometry) (s : State) (l : Lists) (d : ℕ) : Type 0 where
+  pub state : (anchor_for s d).state ≡ phase.Empty
+  pub unavailable : occurs d l.available ≡ 0
+  pub standing : callers_sum g (errand_keeps on_its_way d) s.errand ≡ 0
+
+-- the caller owns the live block at the place
+pub record IsOwned (s : State) (who p : ℕ) (n : Need) : Type 0 where
+  pub block : (b : Block) × (block_at p (pool_of s.history) ≡ Some b) × (b.owner ≡ Caller who) × (b.need ≡ n)
+
+-- the word is none of a processor heap's: no active word and no slot
+abbrev pub IsPlain : WordName → Type 0
+IsPlain (name.Active heap class) = ⊥
+IsPlain (name.Slot heap class) = ⊥
+IsPlain n = Unit {0}
+
+-- what a caller remembers is so
+abbrev pub IsSo : Geometry → State → Lists → ℕ → Recall → Type 0
+IsSo g s l who (bound_for d class) = IsTrue (is_bound g s l d) × ((info_for s d).class ≡ class)
+IsSo g s l who (located d frame class) = IsLocated s d frame class
+IsSo g s l who (bound_at d frame class) = IsTrue (is_bound g s l d) × IsLocated s d frame class
+IsSo g s l who (pops d a) = IsPopped (superblock_of g s d) a
+IsSo g s l who (links d a prefix) =
+    a.tag ≡ (anchor_for s d).tag → (superblock_of g s d).next a.avail ≡ link_of prefix
+IsSo g s l who (tops seat pile h) = IsTopStill s l seat pile h
+IsSo g s l who (nexts seat pile h below) =
+    h.tag ≡ (head_of (s.word (head_name seat pile))).tag → s.word (next_name pile (h.top - 1)) ≡ below
+IsSo g s l who (tops_exist seat pile h) = h.top ≤ pile_limit g pile
+IsSo g s l who (says word_name word) = IsPlain word_name × (s.word word_name ≡ word)
+IsSo g s l who (made frame class blocks) = AreMade s frame class blocks
+IsSo g s l who (in_use a) = IsFalse (is_empty a.state)
+IsSo g s l who (emptied d) = IsEmptied g s l d
+IsSo g s l who (noted d next) = 0 < occurs d l.available → s.word (name.Next d) ≡ next
+IsSo g s l who (owns place i) = (n : Need) × IsOwned s who place n × (i < usable_words n)
+IsSo g s l who (owns_all place need) = IsOwned s who place need
+IsSo g s l who (looked class) = EndsWith (own who s.history) (Looked who class)
+
+-- everything that a caller remembers is so
+pub record IsRemembered (g : Geometry) (s : State) (l : Lists) : Type 0 where
+  pub so : (who : ℕ) → who < g.callers → All (IsSo g s l who) (recalls_of (s.errand who).point)

@@ -1,0 +1,60 @@
+//! What a sound state gives, whatever led to it.
+
+ghost use Rattle.std.specs.Prelude.{ℕ, ◌≡◌, ◌≢◌, ◌<◌, ◌+◌, ◌^◌, None, IsTrue};
+ghost use Rattle.heap_geometry.specs.declared.geometry.Geometry.{Geometry};
+ghost use Rattle.heap_geometry.specs.declared.limits.TheConstants.{CLASSES};
+ghost use Rattle.heap_geometry.specs.declared.need.Need.TheVariants.{Small};
+ghost use Rattle.heap_geometry.specs.Place.{IsApart, block_place};
+ghost use Rattle.packed_words.specs.declared.widths.TheConstants.{TAG_BITS, HEAD_TAG_BITS};
+ghost use Rattle.packed_words.specs.Head.{head_of};
+ghost use Rattle.word_plan.specs.declared.name.WordName.TheVariants as name;
+ghost use Rattle.word_plan.specs.Counts.{descriptor_count};
+ghost use Rattle.word_plan.specs.Seats.{SeatFields};
+ghost use Rattle.superblock_parts.specs.Chains.{occurs};
+ghost use Rattle.pool_model.specs.Pool.{Block, block_at, span_of, pool_of};
+ghost use Rattle.hazard_parts.specs.declared.point.DescPoint.TheVariants.{LoadDescHead};
+ghost use Rattle.errand_steps.specs.declared.onward.Onward.{Onward};
+ghost use Rattle.errand_steps.specs.declared.point.Point.TheVariants as point;
+ghost use Rattle.errand_steps.specs.Steps.{State};
+ghost use Rattle.sound_state.specs.Consequences.{IsTaken};
+ghost use Rattle.sound_state.specs.Lists.{Lists};
+ghost use Rattle.sound_state.specs.Sound.{IsSoundWith, IsSoundWithoutCounts};
+ghost use Rattle.sound_state.specs.Stock.{waits_in};
+ghost use Rattle.sound_state.specs.Superblocks.{anchor_for, info_for, is_bound, superblock_of, free_chain};
+ghost use Rattle.sound_state.specs.Ties.{IsLive};
+
+/// Every tag has room for one more pop: the sum is not cut.
+pub fn tags_stay_below()
+    ensures anchors { (g : Geometry) (s : State) → IsSoundWithoutCounts g s
+        → (d : ℕ) → d < descriptor_count g → (anchor_for s d).tag + 1 < 2 ^ TAG_BITS }
+    ensures frames { (g : Geometry) (s : State) → IsSoundWithoutCounts g s
+        → (head_of (s.word name.FrameHead)).tag + 1 < 2 ^ HEAD_TAG_BITS }
+    ensures lists { (g : Geometry) (s : State) → IsSoundWithoutCounts g s
+        → (class : ℕ) → class < CLASSES
+        → (head_of (s.word (name.ListHead class))).tag + 1 < 2 ^ HEAD_TAG_BITS }
+{}
+
+/// Two live blocks have no word in common. A live small block is a block of a superblock and none of
+/// its free ones, and a free block isn't live.
+pub fn live_blocks_never_overlap()
+    ensures apart { (g : Geometry) (s : State) → IsSoundWithoutCounts g s → (p q : ℕ) (a b : Block)
+        → IsLive s p a → IsLive s q b → p ≢ q → IsApart (span_of a) (span_of b) }
+    ensures taken { (g : Geometry) (s : State) → IsSoundWithoutCounts g s → (l : Lists) → IsSoundWith g s l
+        → (place class : ℕ) (b : Block) → IsLive s place b → b.need ≡ Small class → IsTaken g s l place }
+    ensures free { (g : Geometry) (s : State) → IsSoundWithoutCounts g s → (l : Lists) → IsSoundWith g s l
+        → (d i : ℕ) → d < descriptor_count g → IsTrue (is_bound g s l d)
+        → 0 < occurs i (free_chain (superblock_of g s d))
+        → block_at (block_place (info_for s d).frame (info_for s d).class i) (pool_of s.history) ≡ None }
+{}
+
+/// While a caller looks for a descriptor, one is available: the word that it loads names one of the
+/// heap's.
+pub fn a_descriptor_is_always_available()
+    ensures waiting { (g : Geometry) (s : State) → IsSoundWithoutCounts g s → (who class : ℕ)
+        → who < g.callers → class < CLASSES → waits_in class (s.errand who).point ≡ 1
+        → (d : ℕ) × (d < descriptor_count g) × (s.word name.DescHead ≡ d + 1) }
+    ensures looking { (g : Geometry) (s : State) → IsSoundWithoutCounts g s
+        → (who : ℕ) (seat : SeatFields) (o : Onward) → who < g.callers
+        → (s.errand who).point ≡ point.Desc (LoadDescHead seat) o
+        → (d : ℕ) × (d < descriptor_count g) × (s.word name.DescHead ≡ d + 1) }
+{}
