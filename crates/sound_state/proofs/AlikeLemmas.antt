@@ -1,5 +1,5 @@
--- A step that changes no superblock, no list and no event: a caller goes on, and at most active words and slots change.
-use Rattle.std.proofs.Common.{ℕ, Some, ◌≡◌, ◌<◌, ◌≤◌, ◌+◌, ◌^◌, ◌-◌, ◌*◌, length, refl, arith, ap, sym, subst, inl, inr, ◌∙◌}
+-- A step that changes no superblock, no list and no event: a caller goes on, at most active words and slots change, and at most an EMPTY superblock's descriptor is retired.
+use Rattle.std.proofs.Common.{ℕ, Some, ◌≡◌, ◌≢◌, ◌<◌, ◌≤◌, ◌+◌, ◌^◌, ◌-◌, ◌*◌, List, length, refl, arith, ap, sym, subst, inl, inr, ◌∙◌}
 use Rattle.std.proofs.Math.Path.{fun_ext}
 use Rattle.std.specs.Prelude.{◌⊎◌, slice_index, All, Any, Contains, IsTrue, IsSome, count_by}
 use Rattle.std.specs.Int.{bit_at}
@@ -29,6 +29,7 @@ use Rattle.word_plan.specs.Seats.{SeatFields}
 use Rattle.pool_model.specs.declared.event.Event.TheVariants.{Looked}
 use Rattle.pool_model.specs.Histories.{own, EndsWith}
 use Rattle.pool_model.specs.Pool.{Block, block_at, pool_of}
+use Rattle.errand_steps.specs.declared.point.Point.{Point}
 use Rattle.errand_steps.specs.Errands.{ErrandFields}
 use Rattle.errand_steps.specs.Fits.{spare_of, pushed_by}
 use Rattle.errand_steps.specs.Steps.{State, Moves}
@@ -41,7 +42,7 @@ use Rattle.sound_state.specs.Recalls.{Recall, IsPopped, IsPlain, IsLocated, IsTo
 use Rattle.sound_state.specs.Sound.{IsSoundWith, IsOwnErrand}
 use Rattle.sound_state.specs.Stock.{stock_of}
 use Rattle.sound_state.specs.Sums.{sum_below, callers_sum}
-use Rattle.sound_state.specs.Superblocks.{Superblock, AreChained, IsChained, info_or_zero, live_at, is_there, anchor_for, info_for, superblock_of, reserved_of, waiting_of, away_of, is_bound, errand_keeps}
+use Rattle.sound_state.specs.Superblocks.{Superblock, AreChained, IsChained, info_or_zero, live_at, is_there, anchor_for, info_for, superblock_of, reserved_of, waiting_of, is_bound, errand_keeps}
 use Rattle.sound_state.specs.Ties.{IsTied, IsLive, IsExcepted}
 use Rattle.sound_state.specs.Turns.{IsTurned, gives_small, refuses_small, turn_open, turn_unframed, turn_unlisted, turn_unanswered, errand_discards, errand_pops, turns_of, cleared_of, emptied_out, is_small_alloc, is_small_free}
 use Rattle.sound_state.proofs.SumLemmas.{callers-moved, sum-same}
@@ -53,19 +54,16 @@ pub record Alike (g : Geometry) (s : State) (l : Lists) (s' : State) : Type 0 wh
   pub reserved : (d : ℕ) → reserved_of g s' d ≡ reserved_of g s d
   pub waits : (d : ℕ) → waiting_of g s' d ≡ waiting_of g s d
   pub ways : (d : ℕ) → callers_sum g (errand_keeps on_its_way d) s'.errand ≡ callers_sum g (errand_keeps on_its_way d) s.errand
-  pub away : (d : ℕ) → away_of g s' l d ≡ away_of g s l d
+  pub bound : (d : ℕ) → is_bound g s' l d ≡ is_bound g s l d
   pub places : (d : ℕ) → places_of g s' l d ≡ places_of g s l d
   pub frames : (f : ℕ) → callers_sum g (errand_frames f) s'.errand ≡ callers_sum g (errand_frames f) s.errand
-  pub stock : (class : ℕ) → stock_of g s' l class ≡ stock_of g s l class
+  pub stock : (class : ℕ) → stock_of g s' l class ≤ stock_of g s l class
 
 anchor-alike : (g : Geometry) (s : State) (l : Lists) (s' : State) → Alike g s l s' → (d : ℕ) → anchor_for s' d ≡ anchor_for s d
 anchor-alike g s l s' h d = ap anchor_of (h.word (name.Anchor d) tt)
 
 info-alike : (g : Geometry) (s : State) (l : Lists) (s' : State) → Alike g s l s' → (d : ℕ) → info_for s' d ≡ info_for s d
 info-alike g s l s' h d = ap (λ w. info_or_zero (info_of w)) (h.word (name.Info d) tt)
-
-bound-alike : (g : Geometry) (s : State) (l : Lists) (s' : State) → Alike g s l s' → (d : ℕ) → is_bound g s' l d ≡ is_bound g s l d
-bound-alike g s l s' h d = rw (h.away d, anchor-alike g s l s' h d) refl
 
 live-alike : (g : Geometry) (s : State) (l : Lists) (s' : State) → Alike g s l s' → (place : ℕ) → live_at s' place ≡ live_at s place
 live-alike g s l s' h place = ap (λ e. is_there (block_at place (pool_of e))) h.history
@@ -86,7 +84,7 @@ superblock-alike g s l s' h d =
     same-superblock _ _ _ _ _ _ _ _ _ _ _ _ (anchor-alike g s l s' h d) (h.reserved d) (h.waits d) next live (ap (λ x. block_count_of x.class) i)
 
 fills-alike : (g : Geometry) (s : State) (l : Lists) (s' : State) → Alike g s l s' → (f d : ℕ) → fills g s' l f d ≡ fills g s l f d
-fills-alike g s l s' h f d = rw (bound-alike g s l s' h d, h.waits d, info-alike g s l s' h d) refl
+fills-alike g s l s' h f d = rw (h.bound d, h.waits d, info-alike g s l s' h d) refl
 
 -- what is said of a descriptor's word or anchor stays so
 partly-alike : (g : Geometry) (s : State) (l : Lists) (s' : State) → Alike g s l s' → (d c : ℕ) → IsPartlyUsed s d c → IsPartlyUsed s' d c
@@ -154,10 +152,10 @@ top-alike g s l s' h seat p head k =
 so-alike :
     (g : Geometry) (s : State) (l : Lists) (s' : State) → Alike g s l s' → (i : ℕ) (r : Recall) → IsSo g s l i r → IsSo g s' l i r
 so-alike g s l s' h i (bound_for d c) so =
-    (subst IsTrue (sym (bound-alike g s l s' h d)) so.0, ap (λ x. x.class) (info-alike g s l s' h d) ∙ so.1)
+    (subst IsTrue (sym (h.bound d)) so.0, ap (λ x. x.class) (info-alike g s l s' h d) ∙ so.1)
 so-alike g s l s' h i (located d f c) so = located-alike g s l s' h d f c so
 so-alike g s l s' h i (bound_at d f c) so =
-    (subst IsTrue (sym (bound-alike g s l s' h d)) so.0, located-alike g s l s' h d f c so.1)
+    (subst IsTrue (sym (h.bound d)) so.0, located-alike g s l s' h d f c so.1)
 so-alike g s l s' h i (pops d a) so = subst (λ b. IsPopped b a) (sym (superblock-alike g s l s' h d)) so
 so-alike g s l s' h i (links d a prefix) so =
     let b = superblock-alike g s l s' h d in
@@ -202,11 +200,6 @@ pub record MayGoOn (g : Geometry) (s : State) (l : Lists) (who : ℕ) (a b : Err
   pub kept : All (λ k. IsKeptAs s k.status k.desc k.class) (holds_of b.point).kept
   pub retired : All (IsWithout s) b.retired
   pub so : All (IsSo g s l who) (recalls_of b.point)
-  pub hazard : IsHazard (holds_of b.point).hazard (s.word (name.Hazard who))
-  pub guard : (d : ℕ) → s.word (name.Hazard who) ≡ d + 1 → IsGuard (holds_of b.point).hazard → IsGuard (holds_of a.point).hazard
-  pub pushed : (d : ℕ) → pushed_by b.point ≡ Some d → pushed_by a.point ≡ Some d
-  pub passed : passed_by b.point ≡ 0
-  pub unread : length (held_by b.point) ≡ 0
   pub full : spare_of b.point ≡ 1 → length b.retired ≡ g.callers + 1
   pub hands : All (λ x. IsOwned s who x.place x.need) (holds_of b.point).hands
   pub frees : All (λ x. IsOwned s who x.place x.need) (holds_of b.point).frees
@@ -216,8 +209,28 @@ pub record MayGoOn (g : Geometry) (s : State) (l : Lists) (who : ℕ) (a b : Err
       b.turns + errand_discards b
       ≤ count_by (gives_small who) s.history + count_by (refuses_small who) s.history + b.lost + turn_unanswered b
   pub frame_turns : turn_unframed b + a.turns ≤ turn_unframed a + b.turns
-  pub cleared : b.cleared ≡ a.cleared
-  pub list_turns : errand_pops b + turn_unlisted b + a.turns ≤ errand_pops a + turn_unlisted a + b.turns
+  pub list_turns :
+      errand_pops b + turn_unlisted b + a.turns + a.cleared ≤ errand_pops a + turn_unlisted a + b.turns + b.cleared
+
+-- the descriptor is free to be guarded anew: it is retired nowhere, and nobody pushes it
+pub record IsUnretired (g : Geometry) (s : State) (d : ℕ) : Type 0 where
+  pub pushed : (other : ℕ) → other < g.callers → pushed_by (s.errand other).point ≡ Some d → ⊥
+  pub listed : (other : ℕ) → other < g.callers → Contains (s.errand other).retired d → ⊥
+
+-- a caller may begin to guard the descriptor at a point at which it neither pushes it nor scans
+pub record GuardsAnew (g : Geometry) (s : State) (q : Point) (d : ℕ) : Type 0 where
+  pub unretired : IsUnretired g s d
+  pub pushed : pushed_by q ≡ Some d → ⊥
+  pub passed : passed_by q ≡ 0
+
+-- with this hazard word and this retired list a caller may stand at the point, by the hazard words that were there
+pub record MayGuard (g : Geometry) (s : State) (who : ℕ) (q : Point) (retired : List ℕ) (word : ℕ) : Type 0 where
+  pub hazard : IsHazard (holds_of q).hazard word
+  pub guard : (d : ℕ) → word ≡ d + 1 → IsGuard (holds_of q).hazard → Guards s who d ⊎ GuardsAnew g s q d
+  pub pushed : (i d : ℕ) → i < g.callers → Guards s i d → pushed_by q ≡ Some d → ⊥
+  pub passed :
+      (i d : ℕ) → i < g.callers → Guards s i d → Contains retired d → i < passed_by q → slice_index (held_by q) i ≡ d + 1
+  pub unread : (i : ℕ) → passed_by q ≤ i → i < length (held_by q) → slice_index (held_by q) i ≡ 0
 
 -- what the active words and the slots hold is in its state
 pub record ActivesKept (g : Geometry) (s : State) (words : WordName → ℕ) : Type 0 where
@@ -237,8 +250,13 @@ pub record GoesOn (g : Geometry) (s : State) (l : Lists) (who : ℕ) (e : Errand
   pub moves : Moves s.errand who e s'.errand
   pub alike : Alike g s l s'
   pub may : MayGoOn g s l who (s.errand who) e
+  pub others : (i : ℕ) → i ≢ who → s'.word (name.Hazard i) ≡ s.word (name.Hazard i)
+  pub guards : MayGuard g s who e.point e.retired (s'.word (name.Hazard who))
   pub actives : ActivesKept g s s'.word
   pub words : (n : WordName) → s'.word n < 2 ^ 64
+  pub emptied :
+      sum_below (descriptor_count g) (emptied_out g s' l) + e.cleared
+      ≤ sum_below (descriptor_count g) (emptied_out g s l) + (s.errand who).cleared
 
 listed-alike : (g : Geometry) (s : State) (l : Lists) (s' : State) → Alike g s l s' → IsListed g s.word l → IsListed g s'.word l
 listed-alike g s l s' h listed =
@@ -283,7 +301,7 @@ chained-alike : (g : Geometry) (s : State) (l : Lists) (s' : State) → Alike g 
 chained-alike g s l s' h chained = record {
   infos = λ d has. subst (λ w. IsSome (info_in g w)) (sym (h.word (name.Info d) tt)) (chained.infos d has);
   chained = λ d has bound.
-      subst IsChained (sym (superblock-alike g s l s' h d)) (chained.chained d has (subst IsTrue (bound-alike g s l s' h d) bound));
+      subst IsChained (sym (superblock-alike g s l s' h d)) (chained.chained d has (subst IsTrue (h.bound d) bound));
 }
 
 framed-alike : (g : Geometry) (s : State) (l : Lists) (s' : State) → Alike g s l s' → IsFramed g s l → IsFramed g s' l
@@ -303,40 +321,60 @@ remembered-alike g s l who e s' go remembered = record {
       (λ k d lt. so-alike g s l s' go.alike who _ (go.may.so k d lt)) (λ i has k d lt. so-alike g s l s' go.alike i _ (remembered.so i has k d lt));
 }
 
+-- whoever guards a descriptor afterwards did before; or it is the caller that went on, and it guards it anew
 guards-alike :
-    (g : Geometry) (s : State) (l : Lists) (who : ℕ) (e : ErrandFields) (s' : State) → GoesOn g s l who e s' → (i d : ℕ) → i < g.callers
-    → Guards s' i d → Guards s i d
-guards-alike g s l who e s' go i d has guards =
-    record {
-      word = sym (go.alike.word (name.Hazard i) tt) ∙ guards.word;
-      guard =
-          each-caller g
-          (λ i e. s.word (name.Hazard i) ≡ d + 1 → IsGuard (holds_of e.point).hazard → IsGuard (holds_of (s.errand i).point).hazard) s.errand who e
-          s'.errand go.moves (go.may.guard d) (λ i has word no_change. no_change) i has (sym (go.alike.word (name.Hazard i) tt) ∙ guards.word)
-          guards.guard;
-    }
+    (g : Geometry) (s : State) (l : Lists) (who : ℕ) (e : ErrandFields) (s' : State) → GoesOn g s l who e s' → (i d : ℕ)
+    → Guards s' i d → Guards s i d ⊎ ((i ≡ who) × GuardsAnew g s e.point d)
+guards-alike g s l who e s' go i d guards =
+    elim (cases_eq i who) [
+      | inl same ↦
+          let here : Guards s' who d = subst (λ j. Guards s' j d) same guards in
+          elim (go.guards.guard d here.word (subst (λ f. IsGuard (holds_of f.point).hazard) go.moves.here here.guard)) [
+            | inl old ↦ inl (subst (λ j. Guards s j d) (sym same) old)
+            | inr anew ↦ inr (same, anew)
+          ]
+      | inr differ ↦
+          inl (record {
+            word = sym (go.others i differ) ∙ guards.word;
+            guard = subst (λ f. IsGuard (holds_of f.point).hazard) (go.moves.elsewhere i differ) guards.guard;
+          })
+    ]
 
 guarded-alike :
     (g : Geometry) (s : State) (l : Lists) (who : ℕ) (e : ErrandFields) (s' : State) → GoesOn g s l who e s' → IsGuarded g s → IsGuarded g s'
 guarded-alike g s l who e s' go guarded = record {
   words = λ i has.
-      subst (λ w. IsHazard (holds_of (s'.errand i).point).hazard w) (sym (go.alike.word (name.Hazard i) tt))
-      (each-caller g (λ i e. IsHazard (holds_of e.point).hazard (s.word (name.Hazard i))) s.errand who e s'.errand go.moves go.may.hazard
-      guarded.words i has);
-  pushed = λ i other d has has_other guards is.
-      guarded.pushed i other d has has_other (guards-alike g s l who e s' go i d has guards)
-      (each-caller g (λ j e. (d : ℕ) → pushed_by e.point ≡ Some d → pushed_by (s.errand j).point ≡ Some d) s.errand who e s'.errand go.moves
-      go.may.pushed (λ j has d is. is) other has_other d is);
-  passed = λ i other d has has_other guards listed below.
-      each-caller g
-      (λ j e. Contains e.retired d → i < passed_by e.point → slice_index (held_by e.point) i ≡ d + 1) s.errand who e s'.errand go.moves
-      (λ listed below. let bad : ⊥ = omega (arith, below, go.may.passed) in absurd bad)
-      (λ j has_j listed below. guarded.passed i j d has has_j (guards-alike g s l who e s' go i d has guards) listed below)
-      other has_other listed below;
+      elim (cases_eq i who) [
+        | inl same ↦
+            let here : IsHazard (holds_of (s'.errand who).point).hazard (s'.word (name.Hazard who)) =
+            subst (λ f. IsHazard (holds_of f.point).hazard (s'.word (name.Hazard who))) (sym go.moves.here) go.guards.hazard in
+            subst (λ j. IsHazard (holds_of (s'.errand j).point).hazard (s'.word (name.Hazard j))) (sym same) here
+        | inr differ ↦
+            subst (λ w. IsHazard (holds_of (s'.errand i).point).hazard w) (sym (go.others i differ))
+            (subst (λ f. IsHazard (holds_of f.point).hazard (s.word (name.Hazard i))) (sym (go.moves.elsewhere i differ)) (guarded.words i has))
+      ];
+  pushed = λ i other d has has_other guards.
+      elim (guards-alike g s l who e s' go i d guards) [
+        | inl old ↦
+            each-caller g (λ j f. pushed_by f.point ≡ Some d → ⊥) s.errand who e s'.errand go.moves (go.guards.pushed i d has old)
+            (λ j has_j. guarded.pushed i j d has has_j old) other has_other
+        | inr anew ↦
+            each-caller g (λ j f. pushed_by f.point ≡ Some d → ⊥) s.errand who e s'.errand go.moves anew.1.pushed anew.1.unretired.pushed other
+            has_other
+      ];
+  passed = λ i other d has has_other guards.
+      elim (guards-alike g s l who e s' go i d guards) [
+        | inl old ↦
+            each-caller g (λ j f. Contains f.retired d → i < passed_by f.point → slice_index (held_by f.point) i ≡ d + 1) s.errand who e s'.errand
+            go.moves (go.guards.passed i d has old) (λ j has_j. guarded.passed i j d has has_j old) other has_other
+        | inr anew ↦
+            each-caller g (λ j f. Contains f.retired d → i < passed_by f.point → slice_index (held_by f.point) i ≡ d + 1) s.errand who e s'.errand
+            go.moves (λ listed below. let bad : ⊥ = omega (arith, below, anew.1.passed) in absurd bad)
+            (λ j has_j listed below. absurd (anew.1.unretired.listed j has_j listed)) other has_other
+      ];
   unread = λ i k has passed below.
       each-caller g (λ j e. passed_by e.point ≤ k → k < length (held_by e.point) → slice_index (held_by e.point) k ≡ 0) s.errand who e s'.errand go.moves
-      (λ passed below. let bad : ⊥ = omega (arith, below, go.may.unread) in absurd bad)
-      (λ j has_j passed below. guarded.unread j k has_j passed below) i has passed below;
+      (go.guards.unread k) (λ j has_j passed below. guarded.unread j k has_j passed below) i has passed below;
   full =
       each-caller g (λ i e. spare_of e.point ≡ 1 → length e.retired ≡ g.callers + 1) s.errand who e s'.errand go.moves go.may.full guarded.full;
 }
@@ -346,8 +384,6 @@ turned-alike :
 turned-alike g s l who e s' go turned =
     let h = go.alike in
     let moved = λ (weight : ErrandFields → ℕ). callers-moved g weight s.errand who e s'.errand go.caller go.moves in
-    let emptied_same : sum_below (descriptor_count g) (emptied_out g s' l) ≡ sum_below (descriptor_count g) (emptied_out g s l) =
-    sum-same (descriptor_count g) (emptied_out g s l) (emptied_out g s' l) (λ d lt. rw (h.away d, anchor-alike g s l s' h d) refl) in
     let heads = λ (class : ℕ). ap (λ w. (head_of w).tag) (h.word (name.ListHead class) tt) in
     let frees : count_by (is_small_free g) s'.history ≡ count_by (is_small_free g) s.history = ap (count_by (is_small_free g)) h.history in
     let allocs : count_by is_small_alloc s'.history ≡ count_by is_small_alloc s.history = ap (count_by is_small_alloc) h.history in
@@ -367,9 +403,9 @@ turned-alike g s l who e s' go turned =
       anchor_tags = λ d has. omega (arith, turned.anchor_tags d has, ap (λ a. a.tag) (anchor-alike g s l s' h d), allocs);
       frame_tag =
           omega (arith, turned.frame_tag, ap (λ w. (head_of w).tag) (h.word name.FrameHead tt), moved turn_unframed, moved turns_of, go.may.frame_turns);
-      emptied = omega (arith, turned.emptied, emptied_same, moved cleared_of, go.may.cleared, frees);
+      emptied = omega (arith, turned.emptied, go.emptied, moved cleared_of, frees);
       list_tags = λ class has.
-          omega (arith, turned.list_tags class has, heads class, moved errand_pops, moved turn_unlisted, moved turns_of, moved cleared_of, go.may.cleared, go.may.list_turns, frees);
+          omega (arith, turned.list_tags class has, heads class, moved errand_pops, moved turn_unlisted, moved turns_of, moved cleared_of, go.may.list_turns, frees);
     }
 
 excepted-alike :
@@ -403,7 +439,7 @@ tied-alike g s l who e s' go tied =
             old.0,
             record {
               exists = old.1.exists;
-              bound = subst IsTrue (sym (bound-alike g s l s' h old.0)) old.1.bound;
+              bound = subst IsTrue (sym (h.bound old.0)) old.1.bound;
               located = located-alike g s l s' h old.0 (frame_of place) class old.1.located;
             },
             tie-alike g s l who e s' go place (2 * old.0) old.2,

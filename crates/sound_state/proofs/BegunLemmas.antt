@@ -1,5 +1,5 @@
 -- A call that begins keeps the state sound.
-use Rattle.std.proofs.Common.{ℕ, false, None, ◌≡◌, ◌<◌, ◌≤◌, ◌+◌, List, [], refl, arith, ap, sym, subst, inl, inr, ◌∙◌}
+use Rattle.std.proofs.Common.{ℕ, false, None, ◌≡◌, ◌<◌, ◌≤◌, ◌+◌, List, [], refl, arith, sym, subst, inl, inr, ◌∙◌}
 use Rattle.std.proofs.Math.Path.{fun_ext}
 use Rattle.std.specs.Prelude.{◌⊎◌, ◌&&◌, not, All, Any, IsTrue, length, count_by}
 use Rattle.std.proofs.lemmas.Bool.{cases_eq, cases_Bool, cond-true, cond-false}
@@ -34,9 +34,9 @@ use Rattle.sound_state.specs.Sound.{IsSoundWith, IsOwnErrand, IsSound, with_erra
 use Rattle.sound_state.specs.Stock.{waits_in}
 use Rattle.sound_state.specs.Turns.{gives_small, refuses_small, turn_open, turn_unanswered, errand_discards, one_if, in_turn, has_frame, has_partial, has_refused, is_discarding_at, pops_left}
 use Rattle.sound_state.proofs.BegunErrands.{idle-is, alloc-errand, free-errand, write-errand, read-errand, put-errand, take-errand}
-use Rattle.sound_state.proofs.AlikeLemmas.{MayGoOn, sound-alike}
+use Rattle.sound_state.proofs.AlikeLemmas.{MayGoOn, MayGuard, sound-alike}
 use Rattle.sound_state.proofs.QuietLemmas.{actives-stay}
-use Rattle.sound_state.proofs.WeighLemmas.{WeighAlike, weigh-alike}
+use Rattle.sound_state.proofs.WeighLemmas.{WeighAlike, alike-most, weigh-alike, weigh-emptied}
 
 -- a caller that holds nothing but a block that it frees
 abbrev pub freeing : List Freed → Holding
@@ -109,13 +109,6 @@ begun-may g s l who a p t turns blocks sound has at idle b rule takes =
       retired = subst (λ e. All (IsWithout s) e.retired) at (sound.kept.retired who has);
       kept = subst (λ h. All (λ k. IsKeptAs s k.status k.desc k.class) h.kept) (sym b.holds) (All-nil (λ k. IsKeptAs s k.status k.desc k.class));
       so = b.so;
-      hazard =
-          subst (λ h. IsHazard h.hazard (s.word (name.Hazard who))) (sym b.holds)
-          (subst (λ e. IsHazard (holds_of e).hazard (s.word (name.Hazard who))) (ap (λ e. e.point) at ∙ was) (sound.guarded.words who has));
-      guard = λ d word guard. absurd (subst (λ h. IsGuard h.hazard) b.holds guard);
-      pushed = λ d is. absurd (none-some d (sym b.pushed ∙ is));
-      passed = b.passed;
-      unread = b.unread;
       full = λ is. let bad : ⊥ = omega (arith, is, b.spare) in absurd bad;
       hands = subst (λ h. All (λ x. IsOwned s who x.place x.need) h.hands) (sym b.holds) (All-nil (λ x. IsOwned s who x.place x.need));
       frees = subst (λ h. All (λ x. IsOwned s who x.place x.need) h.frees) (sym b.holds) b.frees;
@@ -129,8 +122,24 @@ begun-may g s l who a p t turns blocks sound has at idle b rule takes =
           (sound.turned.own_lost who has) in
           omega (arith, lost, takes.turns, takes.discards, takes.unanswered, idle_takes.unanswered);
       frame_turns = omega (arith, takes.turns, takes.unframed);
-      cleared = refl;
       list_turns = omega (arith, takes.turns, takes.unlisted, b.pops);
+    }
+
+-- it guards nothing, nor does it push or scan
+begun-guards :
+    (g : Geometry) (s : State) (l : Lists) (who : ℕ) (p : Point) (retired : List ℕ) (blocks : List Freed) → IsSoundWith g s l
+    → who < g.callers → IsIdle (s.errand who) → Begins g s l who p blocks → MayGuard g s who p retired (s.word (name.Hazard who))
+unfolding holds_of
+begun-guards g s l who p retired blocks sound has idle b =
+    let was = idle-is (s.errand who).point idle in
+    record {
+      hazard =
+          subst (λ h. IsHazard h.hazard (s.word (name.Hazard who))) (sym b.holds)
+          (subst (λ e. IsHazard (holds_of e).hazard (s.word (name.Hazard who))) was (sound.guarded.words who has));
+      guard = λ d word guard. absurd (subst (λ h. IsGuard h.hazard) b.holds guard);
+      pushed = λ i d has_i guards is. absurd (none-some d (sym b.pushed ∙ is));
+      passed = λ i d has_i guards listed below. let bad : ⊥ = omega (arith, below, b.passed) in absurd bad;
+      unread = λ i passed below. let bad : ⊥ = omega (arith, below, b.unread) in absurd bad;
     }
 
 -- a caller that begins a call keeps the state sound
@@ -157,10 +166,21 @@ begun-sound g s who p t turns blocks errands' sound has idle begins rule takes m
               alike =
                   weigh-alike g s l who name.FrameHead word e (with_errands s errands') tt has
                   (record { here = refl; elsewhere = λ other differ. refl }) moves refl
-                  (begun-weighs g s l who (s.errand who) p turns blocks idle (begins l) name.FrameHead word);
+                  (alike-most name.FrameHead word word (s.errand who) e
+                  (begun-weighs g s l who (s.errand who) p turns blocks idle (begins l) name.FrameHead word));
               may = begun-may g s l who (s.errand who) p t turns blocks old has refl idle (begins l) rule takes;
+              others = λ i differ. refl;
+              guards = begun-guards g s l who p (s.errand who).retired blocks old has idle (begins l);
               actives = actives-stay g s l s.word old.kept (λ n. refl);
               words = old.words;
+              emptied =
+                  omega (
+                    arith,
+                    weigh-emptied g s l who name.FrameHead word e (with_errands s errands') has
+                        (record { here = refl; elsewhere = λ other differ. refl }) moves
+                        (alike-most name.FrameHead word word (s.errand who) e
+                        (begun-weighs g s l who (s.errand who) p turns blocks idle (begins l) name.FrameHead word)),
+                  );
             })
             old,
       );

@@ -27,7 +27,6 @@ use Rattle.errand_steps.specs.Steps.{State, Step, found_at}
 use Rattle.sound_state.specs.Holdings.{holds_of, waiting, on_its_way, reserving, partly_used}
 use Rattle.sound_state.specs.Keepers.{IsKept, IsActive, word_keeps, errand_has}
 use Rattle.sound_state.specs.Lists.{Lists}
-use Rattle.sound_state.specs.Recalls.{IsPlain}
 use Rattle.sound_state.specs.Sound.{IsSound, IsSoundWith}
 use Rattle.sound_state.specs.Stock.{waits_in, word_stock, stock_among}
 use Rattle.sound_state.specs.Sums.{sum_below, words_sum, callers_sum}
@@ -36,7 +35,7 @@ use Rattle.sound_state.proofs.AlikeLemmas.{ActivesKept}
 use Rattle.sound_state.proofs.QuietLemmas.{found_from}
 use Rattle.sound_state.proofs.StepLemmas.{PointGoes, at_point, step-sound}
 use Rattle.sound_state.proofs.SumLemmas.{term-sum, sum-least}
-use Rattle.sound_state.proofs.WeighLemmas.{WeighAlike}
+use Rattle.sound_state.proofs.WeighLemmas.{IsStill, WeighAlike}
 
 -- a word is no more than all words weigh together
 pub word-sum :
@@ -106,7 +105,7 @@ actives-written g s l heap class new words' kept w some held = record {
 
 -- a word and a point weigh together what they weighed
 pub record WeighsOver (n : WordName) (before after : ℕ) (p q : Point) : Type 0 where
-  pub still : IsPlain n → after ≡ before
+  pub still : IsStill n → after ≡ before
   pub reserves :
       (d : ℕ) → word_reserves d n after + reserved_among d (holds_of q).credits ≡ word_reserves d n before + reserved_among d (holds_of p).credits
   pub waits : (d : ℕ) → kept_among waiting d (holds_of q).kept ≡ kept_among waiting d (holds_of p).kept

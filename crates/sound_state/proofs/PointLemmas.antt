@@ -13,29 +13,34 @@ use Rattle.word_plan.specs.Table.{Exists}
 use Rattle.word_plan.specs.Words.{Writes}
 use Rattle.word_plan.proofs.NameLemmas.{cases_name}
 use Rattle.superblock_parts.specs.Chains.{occurs}
-use Rattle.errand_steps.specs.declared.next.Next.TheVariants.{At}
+use Rattle.errand_steps.specs.declared.onward.Onward.{Onward}
+use Rattle.errand_steps.specs.declared.onward.Onward.TheVariants as onward
+use Rattle.errand_steps.specs.declared.next.Next.TheVariants.{At, End}
 use Rattle.errand_steps.specs.declared.point.Point.{Point}
+use Rattle.errand_steps.specs.declared.point.Point.TheVariants.{Idle}
+use Rattle.errand_steps.specs.declared.reply.Reply.{Reply}
 use Rattle.errand_steps.specs.Errands.{ErrandFields, counts_cleared}
 use Rattle.errand_steps.specs.Events.{event_of}
 use Rattle.errand_steps.specs.Fits.{FitsPoint, spare_of, pushed_by}
 use Rattle.errand_steps.specs.Nexts.{next_of}
-use Rattle.errand_steps.specs.Points.{plan_point_of}
+use Rattle.errand_steps.specs.Onwards.{is_alloc, is_free}
+use Rattle.errand_steps.specs.Points.{asked, plan_point_of}
 use Rattle.errand_steps.specs.Steps.{State, Step, found_at}
 use Rattle.errand_steps.proofs.PlanLemmas.{plan-exists}
 use Rattle.sound_state.specs.Guards.{IsHazard, IsGuard, passed_by, held_by}
 use Rattle.sound_state.specs.Holdings.{Kept, holds_of, on_its_way, waiting, reserving, partly_used}
 use Rattle.sound_state.specs.Keepers.{IsKeptAs, IsPartlyUsed, errand_has, word_keeps}
 use Rattle.sound_state.specs.Lists.{Lists}
-use Rattle.sound_state.specs.Recalls.{IsSo, IsOwned, IsPlain, recalls_of}
+use Rattle.sound_state.specs.Recalls.{IsSo, IsOwned, recalls_of}
 use Rattle.sound_state.specs.Sound.{IsSound, IsSoundWith}
 use Rattle.sound_state.specs.Stock.{waits_in, word_stock, stock_among}
 use Rattle.sound_state.specs.Sums.{sum_below, callers_sum}
 use Rattle.sound_state.specs.Superblocks.{errand_keeps, word_reserves, reserved_among, kept_among}
 use Rattle.sound_state.proofs.AlikeLemmas.{ActivesKept}
 use Rattle.sound_state.proofs.QuietLemmas.{found_from, actives-stay, words-stay}
-use Rattle.sound_state.proofs.StepLemmas.{PointGoes, TurnGoes, at_point, step-sound}
+use Rattle.sound_state.proofs.StepLemmas.{PointGoes, TurnGoes, at_point, settle-end, step-after, step-sound}
 use Rattle.sound_state.proofs.SumLemmas.{sum-plus, sum-least, term-sum}
-use Rattle.sound_state.proofs.WeighLemmas.{WeighAlike}
+use Rattle.sound_state.proofs.WeighLemmas.{IsStill, WeighAlike}
 
 -- what a sound state says of a caller at this point
 pub fits-at :
@@ -71,6 +76,13 @@ pub frees-at :
     (g : Geometry) (s : State) (l : Lists) (who : ℕ) (p : Point) → IsSoundWith g s l → who < g.callers → (s.errand who).point ≡ p
     → All (λ x. IsOwned s who x.place x.need) (holds_of p).frees
 frees-at g s l who p old has at = subst (λ q. All (λ x. IsOwned s who x.place x.need) (holds_of q).frees) at (old.tied.frees who has)
+
+-- the continuation of an allocation at work, and of a free
+pub the-alloc : (o : Onward) → IsTrue (is_alloc o) → o ≡ onward.Alloc (asked o)
+the-alloc o is = grind (arith, is)
+
+pub the-free : (o : Onward) → IsTrue (is_free o) → o ≡ onward.Free
+the-free o is = grind (arith, is)
 
 -- all but the first
 pub All-rest : {X : Type 0} (P : X → Type 0) (x : X) (xs : List X) → All P (x ∷ xs) → All P xs
@@ -123,7 +135,7 @@ kept_places d ks = kept_among reserving d ks + kept_among waiting d ks + kept_am
 
 -- the word after the step and the second point weigh what the word before it and the first point did
 pub record WeighFrom (n : WordName) (before after : ℕ) (p q : Point) : Type 0 where
-  pub still : IsPlain n → after ≡ before
+  pub still : IsStill n → after ≡ before
   pub reserves :
       (d : ℕ) → word_reserves d n after + reserved_among d (holds_of q).credits
       ≡ word_reserves d n before + reserved_among d (holds_of p).credits
@@ -197,6 +209,40 @@ step-from g s who s' p q sound has at h step =
       below = m.below;
     })
     (λ l old. let m : StepsFrom g s l who (s.errand who).point q = moved l old in m.actives s'.word step.word) step
+
+-- a step from the first point that ends the call, and what the active words and the slots hold after it
+pub record EndsFrom (g : Geometry) (s : State) (l : Lists) (who : ℕ) (p : Point) (r : Reply) : Type 0 where
+  pub next : next_of p (found_from s p) ≡ End r
+  pub event : event_of who p (found_from s p) ≡ None
+  pub cleared : counts_cleared p (found_from s p) ≡ false
+  pub goes : PointGoes g s l who p Idle
+  pub weigh :
+      WeighFrom (name_of (plan_point_of p)) (s.word (name_of (plan_point_of p)))
+      (after_action (plan_point_of p) (s.word (name_of (plan_point_of p)))) p Idle
+  pub below : after_action (plan_point_of p) (s.word (name_of (plan_point_of p))) < 2 ^ 64
+  pub actives :
+      (words' : WordName → ℕ)
+      → Writes s.word (name_of (plan_point_of p)) (after_action (plan_point_of p) (s.word (name_of (plan_point_of p)))) words'
+      → ActivesKept g s words'
+
+-- it keeps the state sound
+pub end-from :
+    (g : Geometry) (s : State) (who : ℕ) (s' : State) (p : Point) (r : Reply) → IsSound g s → who < g.callers → (s.errand who).point ≡ p
+    → ((l : Lists) → IsSoundWith g s l → EndsFrom g s l who p r) → Step s who s' → IsSound g s'
+end-from g s who s' p r sound has at h step =
+    let moved = λ (l : Lists) (old : IsSoundWith g s l). subst (λ z. EndsFrom g s l who z r) (sym at) (h l old) in
+    step-after g s who s' Idle sound has
+    (λ l old.
+    let m : EndsFrom g s l who (s.errand who).point r = moved l old in
+    record {
+      after = settle-end (s.errand who) (found_at s who) r m.next;
+      event = m.event;
+      cleared = m.cleared;
+      goes = m.goes;
+      weigh = from-weighs _ _ _ (s.errand who) (found_at s who) Idle m.weigh;
+      below = m.below;
+    })
+    (λ l old. let m : EndsFrom g s l who (s.errand who).point r = moved l old in m.actives s'.word step.word) step
 
 -- where the word stays, the active words and the slots do
 pub stays-actives :

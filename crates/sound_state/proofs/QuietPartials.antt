@@ -35,7 +35,8 @@ use Rattle.errand_steps.specs.declared.next.Next.{Next}
 use Rattle.errand_steps.specs.declared.next.Next.TheVariants.{At}
 use Rattle.errand_steps.specs.Errands.{ErrandFields, point_after}
 use Rattle.errand_steps.specs.declared.point.Point.{Point}
-use Rattle.errand_steps.specs.declared.point.Point.TheVariants.{Partial, Stack, Desc, Block}
+use Rattle.errand_steps.specs.declared.point.Point.TheVariants.{Idle, Partial, Stack, Desc, Block}
+use Rattle.errand_steps.specs.declared.reply.Reply.TheVariants.{Freed}
 use Rattle.errand_steps.specs.Events.{event_of}
 use Rattle.errand_steps.specs.Nexts.{next_of, enter_partial}
 use Rattle.errand_steps.specs.Points.{plan_point_of}
@@ -48,7 +49,7 @@ use Rattle.sound_state.specs.Recalls.{recalls_of, IsSo, IsOwned, IsEmptied, IsLo
 use Rattle.sound_state.specs.Sound.{IsSound, IsSoundWith}
 use Rattle.sound_state.specs.Superblocks.{errand_keeps, kept_among, anchor_for, info_for, info_or_zero}
 use Rattle.sound_state.proofs.AlikeLemmas.{ActivesKept}
-use Rattle.sound_state.proofs.PointLemmas.{HoldsAlike, alike-goes, WeighFrom, fits-at, kept-at, so-at, weigh-stays, step-from, slot-written, slot-emptied, keeps-too, keeps-none, stays-actives, exists-at, keeps-alone, All-rest}
+use Rattle.sound_state.proofs.PointLemmas.{HoldsAlike, alike-goes, WeighFrom, fits-at, kept-at, so-at, weigh-stays, step-from, slot-written, slot-emptied, keeps-too, keeps-none, stays-actives, exists-at, end-from, keeps-alone, All-rest}
 use Rattle.sound_state.proofs.QuietLemmas.{HoldsSame, quiet-at}
 use Rattle.sound_state.proofs.StepLemmas.{PointGoes, TurnGoes, HoldsException}
 
@@ -553,6 +554,37 @@ put_slot_filled_clears-sound g s who s' seat d heap sound has at bare step =
       weigh = rw bare (filled-clears-weighs seat d heap);
       below = put-below g s l who seat d heap (Finish true) sound.checked old has at;
       actives = λ words' w. put-actives g s l who seat d heap (Finish true) words' old has at w;
+    })
+    step
+
+-- and the free ends there, where it stored no hazard word
+filled-ends-weighs :
+    (seat : SeatFields) (d heap : ℕ) → WeighFrom (slot_of seat heap) 0 (d + 1) (Partial (partial.PutSlot seat d heap) (Finish false)) Idle
+unfolding holds_of
+filled-ends-weighs seat d heap = grind (arith)
+
+filled-ends-alike : (seat : SeatFields) (d heap : ℕ) → HoldsAlike (Partial (partial.PutSlot seat d heap) (Finish false)) Idle
+unfolding holds_of
+filled-ends-alike seat d heap = grind (arith)
+
+pub put_slot_filled_ends-sound :
+    (g : Geometry) (s : State) (who : ℕ) (s' : State) (seat : SeatFields) (d heap : ℕ) → IsSound g s → who < g.callers
+    → (s.errand who).point ≡ Partial (partial.PutSlot seat d heap) (Finish false) → s.word (slot_of seat heap) ≡ 0 → Step s who s'
+    → IsSound g s'
+unfolding plan_point_of next_of event_of holds_of recalls_of
+put_slot_filled_ends-sound g s who s' seat d heap sound has at bare step =
+    let p = Partial (partial.PutSlot seat d heap) (Finish false) in
+    end-from g s who s' p Freed sound has at
+    (λ l old. record {
+      next = rw bare refl;
+      event = refl;
+      cleared = refl;
+      goes =
+          alike-goes g s l who p _ old has at (filled-ends-alike seat d heap)
+          (keeps-none s) (All-nil (IsSo g s l who));
+      weigh = rw bare (filled-ends-weighs seat d heap);
+      below = put-below g s l who seat d heap (Finish false) sound.checked old has at;
+      actives = λ words' w. put-actives g s l who seat d heap (Finish false) words' old has at w;
     })
     step
 

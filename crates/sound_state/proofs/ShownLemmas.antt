@@ -1,12 +1,11 @@
 -- Each step that is shown to keep the state sound does so.
 use Rattle.std.proofs.Common.{ℕ, Bool, true, false, ◌≡◌, ◌≢◌, ◌<◌, ◌-◌, refl, arith, ap, sym, inl, inr, ◌∙◌}
 use Rattle.std.specs.Prelude.{◌==◌, not, IsTrue}
-use Rattle.std.proofs.lemmas.Bool.{cases_eq, true≢false}
+use Rattle.std.proofs.lemmas.Bool.{cases_eq, cases_Bool, true≢false}
 use Rattle.heap_geometry.specs.declared.geometry.Geometry.{Geometry}
 use Rattle.packed_words.specs.Head.{head_of}
 use Rattle.word_plan.specs.Seats.{SeatFields}
 use Rattle.word_plan.specs.declared.seat.Site.{Site}
-use Rattle.word_plan.specs.declared.name.WordName.TheVariants as name
 use Rattle.superblock_parts.specs.declared.point.BlockPoint.{BlockPoint}
 use Rattle.superblock_parts.specs.declared.point.BlockPoint.TheVariants as block
 use Rattle.hazard_parts.specs.declared.point.DescPoint.{DescPoint}
@@ -25,27 +24,28 @@ use Rattle.errand_steps.specs.declared.onward.Onward.{Onward}
 use Rattle.errand_steps.specs.declared.onward.Onward.TheVariants as onward
 use Rattle.errand_steps.specs.declared.point.Point.{Point}
 use Rattle.errand_steps.specs.declared.point.Point.TheVariants.{Idle, Block, Stack, Desc, Partial, Large}
-use Rattle.errand_steps.specs.Onwards.{is_alloc, is_free, is_finish, is_clearing, fills}
+use Rattle.errand_steps.specs.Onwards.{is_finish, is_clearing, clears, fills}
 use Rattle.errand_steps.specs.Points.{asked, plan_point_of}
 use Rattle.errand_steps.specs.Steps.{State, Step, found_at}
-use Rattle.sound_state.specs.Shown.{shown_block, shown_stack, shown_desc, shown_partial, shown_large, put_goes_on, listed_stays, is_shown}
+use Rattle.sound_state.specs.Shown.{shown_block, shown_stack, shown_desc, shown_partial, shown_large, is_shown}
 use Rattle.sound_state.specs.Sound.{IsSound}
 use Rattle.sound_state.specs.Superblocks.{anchor_for}
-use Rattle.sound_state.proofs.PointLemmas.{fits-at}
+use Rattle.sound_state.proofs.HazardSteps.{store_hazard-sound, reload_desc_head-sound, clear_after_pop-sound, clear_hazard_looks-sound, clear_hazard_ends-sound, store_guard-sound, read_hazard-sound}
+use Rattle.sound_state.proofs.PointLemmas.{fits-at, the-alloc, the-free}
+use Rattle.sound_state.proofs.PopSteps.{pop_block-sound}
 use Rattle.sound_state.proofs.QuietBlocks.{load_active-sound}
 use Rattle.sound_state.proofs.QuietCredits.{take_credit-sound, install_credits-sound}
-use Rattle.sound_state.proofs.QuietDescs.{load_desc_head-sound, load_next_desc-sound, pop_desc_lost-sound, load_head_to_push-sound, push_desc_lost-sound, reload_desc_head_other-sound}
-use Rattle.sound_state.proofs.QuietExchanges.{pop_block-lost, return_credits-lost, push_block-lost}
+use Rattle.sound_state.proofs.QuietDescs.{load_desc_head-sound, load_next_desc-sound, pop_desc_lost-sound, load_head_to_push-sound, push_desc_lost-sound}
+use Rattle.sound_state.proofs.QuietExchanges.{return_credits-lost, push_block-lost}
 use Rattle.sound_state.proofs.QuietPops.{load_info-sound, load_anchor-sound, load_link-sound, load_return-sound}
 use Rattle.sound_state.proofs.QuietPushes.{load_owner-sound, load_prefix-sound, load_push_anchor-sound}
 use Rattle.sound_state.proofs.QuietPartials as partials
+use Rattle.sound_state.proofs.RetirePartials as retired
 use Rattle.sound_state.proofs.QuietEnds.{load_word-sound, put_block_lost-sound, take_block_lost-sound, confirm_nothing_lost-sound, clear_ends-sound}
 use Rattle.sound_state.proofs.QuietLarge.{load_units-sound, take_run_lost-sound, load_run_prefix-sound, load_shelf-sound}
 use Rattle.sound_state.proofs.QuietLemmas.{found_from}
+use Rattle.sound_state.proofs.QuietLinks.{store_below-sound, store_next_desc-sound}
 use Rattle.sound_state.proofs.QuietStacks.{load_top-sound, load_below-sound, pop_top_lost-sound, confirm_empty_lost-sound, load_top_to_push-sound, push_top_lost-sound}
-
-not_true : (b : Bool) → not b ≡ true → b ≡ false
-not_true b is = grind (arith, is)
 
 -- a lost exchange finds another word
 pub differs : (w e : ℕ) → not (w == e) ≡ true → w ≢ e
@@ -110,7 +110,7 @@ shown-stack g s who s' (stack.ConfirmEmpty seat pile h) o sound has at shown ste
     confirm_empty_lost-sound g s who s' seat pile h o sound has at (differs _ _ shown) step
 shown-stack g s who s' (stack.LoadTopToPush seat pile i) o sound has at shown step =
     load_top_to_push-sound g s who s' seat pile i o sound has at step
-shown-stack g s who s' (stack.StoreBelow seat pile i h) o sound has at shown step = absurd (true≢false (sym shown))
+shown-stack g s who s' (stack.StoreBelow seat pile i h) o sound has at shown step = store_below-sound g s who s' seat pile i h o sound has at step
 shown-stack g s who s' (stack.PushTop seat pile i h) o sound has at shown step =
     push_top_lost-sound g s who s' seat pile i h o sound has at (differs _ _ shown) step
 shown-stack g s who s' (stack.Popped seat pile i) o sound has at shown step = absurd (true≢false (sym shown))
@@ -148,13 +148,6 @@ shown-large g s who s' (large.Got place need) o sound has at shown step = absurd
 shown-large g s who s' large.NothingThere o sound has at shown step = absurd (true≢false (sym shown))
 shown-large g s who s' (large.Missed expected found) o sound has at shown step = absurd (true≢false (sym shown))
 
--- the continuation of an allocation at work, of a free, of the end of a free
-the-alloc : (o : Onward) → IsTrue (is_alloc o) → o ≡ onward.Alloc (asked o)
-the-alloc o is = grind (arith, is)
-
-the-free : (o : Onward) → IsTrue (is_free o) → o ≡ onward.Free
-the-free o is = grind (arith, is)
-
 shown-block :
     (g : Geometry) (s : State) (who : ℕ) (s' : State) (p : BlockPoint) (o : Onward) → IsSound g s → who < g.callers
     → (s.errand who).point ≡ Block p o → IsTrue (shown_block p (found_from s (Block p o))) → Step s who s' → IsSound g s'
@@ -168,7 +161,7 @@ shown-block g s who s' (block.LoadInfo seat d share) o sound has at shown step =
 shown-block g s who s' (block.LoadAnchor site share) o sound has at shown step = load_anchor-sound g s who s' site share o sound has at step
 shown-block g s who s' (block.LoadLink site share a) o sound has at shown step = load_link-sound g s who s' site share a o sound has at step
 shown-block g s who s' (block.PopBlock site share a prefix) o sound has at shown step =
-    pop_block-lost g s who s' site share a prefix o sound has at (differs _ _ shown) step
+    pop_block-sound g s who s' site share a prefix o sound has at step
 shown-block g s who s' (block.StorePrefix site i) o sound has at shown step = absurd (true≢false (sym shown))
 shown-block g s who s' (block.InstallCredits site i more) o sound has at shown step =
     install_credits-sound g s who s' site i more o sound has at step
@@ -179,7 +172,7 @@ shown-block g s who s' (block.ReturnCredits site i more a) o sound has at shown 
 shown-block g s who s' (block.LoadPrefix seat frame i) o sound has at shown step = load_prefix-sound g s who s' seat frame i o sound has at step
 shown-block g s who s' (block.LoadPushAnchor site i guarded) o sound has at shown step =
     load_push_anchor-sound g s who s' site i guarded o sound has at step
-shown-block g s who s' (block.StoreGuard site i a) o sound has at shown step = absurd (true≢false (sym shown))
+shown-block g s who s' (block.StoreGuard site i a) o sound has at shown step = store_guard-sound g s who s' site i a o sound has at step
 shown-block g s who s' (block.LoadOwner site i a) o sound has at shown step = load_owner-sound g s who s' site i a o sound has at step
 shown-block g s who s' (block.StoreLink site i a guarded heap) o sound has at shown step = absurd (true≢false (sym shown))
 shown-block g s who s' (block.PushBlock site i a guarded heap) o sound has at shown step =
@@ -195,22 +188,46 @@ shown-block g s who s' (block.BecameEmpty site heap) o sound has at shown step =
 shown-block g s who s' (block.BecamePartial site guarded) o sound has at shown step = absurd (true≢false (sym shown))
 shown-block g s who s' (block.Pushed seat guarded) o sound has at shown step = absurd (true≢false (sym shown))
 
+-- a free clears its hazard word to look through the list, to retire what it removed, or to end
+clears-cases :
+    (P : Onward → Type 0) → P onward.Clear → P onward.EndFree → ((d : ℕ) → P (onward.Retire d)) → (o : Onward) → IsTrue (clears o) → P o
+clears-cases P looks ends retires onward.Clear is = looks
+clears-cases P looks ends retires onward.EndFree is = ends
+clears-cases P looks ends retires (onward.Retire d) is = retires d
+clears-cases P looks ends retires (onward.Alloc need) is = absurd (true≢false (sym is))
+clears-cases P looks ends retires (onward.TakeFrame need d) is = absurd (true≢false (sym is))
+clears-cases P looks ends retires (onward.GiveBlock need site i) is = absurd (true≢false (sym is))
+clears-cases P looks ends retires (onward.Discard need d) is = absurd (true≢false (sym is))
+clears-cases P looks ends retires (onward.Turn need) is = absurd (true≢false (sym is))
+clears-cases P looks ends retires (onward.Look need) is = absurd (true≢false (sym is))
+clears-cases P looks ends retires onward.Refuse is = absurd (true≢false (sym is))
+clears-cases P looks ends retires onward.Free is = absurd (true≢false (sym is))
+clears-cases P looks ends retires (onward.Remove d heap) is = absurd (true≢false (sym is))
+clears-cases P looks ends retires (onward.ClearSecond first) is = absurd (true≢false (sym is))
+clears-cases P looks ends retires (onward.PushFirst first) is = absurd (true≢false (sym is))
+clears-cases P looks ends retires (onward.Finish guarded) is = absurd (true≢false (sym is))
+clears-cases P looks ends retires onward.Nothing is = absurd (true≢false (sym is))
+
 shown-desc :
     (g : Geometry) (s : State) (who : ℕ) (s' : State) (p : DescPoint) (o : Onward) → IsSound g s → who < g.callers
-    → (s.errand who).point ≡ Desc p o → IsTrue (shown_desc p (found_from s (Desc p o))) → Step s who s' → IsSound g s'
+    → (s.errand who).point ≡ Desc p o → IsTrue (shown_desc p o (found_from s (Desc p o))) → Step s who s' → IsSound g s'
 unfolding plan_point_of
 shown-desc g s who s' (desc.LoadDescHead seat) o sound has at shown step = load_desc_head-sound g s who s' seat o sound has at step
-shown-desc g s who s' (desc.StoreHazard seat d) o sound has at shown step = absurd (true≢false (sym shown))
+shown-desc g s who s' (desc.StoreHazard seat d) o sound has at shown step = store_hazard-sound g s who s' seat d o sound has at step
 shown-desc g s who s' (desc.ReloadDescHead seat d) o sound has at shown step =
-    reload_desc_head_other-sound g s who s' seat d o sound has at (differs _ _ shown) step
+    reload_desc_head-sound g s who s' seat d o sound has at step
 shown-desc g s who s' (desc.LoadNextDesc seat d) o sound has at shown step = load_next_desc-sound g s who s' seat d o sound has at step
 shown-desc g s who s' (desc.PopDesc seat d next) o sound has at shown step =
     pop_desc_lost-sound g s who s' seat d next o sound has at (differs _ _ shown) step
-shown-desc g s who s' (desc.ClearAfterPop seat d) o sound has at shown step = absurd (true≢false (sym shown))
-shown-desc g s who s' (desc.ClearHazard seat) o sound has at shown step = absurd (true≢false (sym shown))
-shown-desc g s who s' (desc.ReadHazard seat held i) o sound has at shown step = absurd (true≢false (sym shown))
+shown-desc g s who s' (desc.ClearAfterPop seat d) o sound has at shown step = clear_after_pop-sound g s who s' seat d o sound has at step
+shown-desc g s who s' (desc.ClearHazard seat) o sound has at shown step =
+    clears-cases (λ o. (s.errand who).point ≡ Desc (desc.ClearHazard seat) o → IsSound g s')
+    (λ at. clear_hazard_looks-sound g s who s' seat sound has at step) (λ at. clear_hazard_ends-sound g s who s' seat sound has at step)
+    (λ d at. retired.clear_hazard_retires-sound g s who s' seat d sound has at step) o
+    (fits-at g s sound.parts.0 who _ sound.parts.1 has at).goes at
+shown-desc g s who s' (desc.ReadHazard seat held i) o sound has at shown step = read_hazard-sound g s who s' seat held i o sound has at step
 shown-desc g s who s' (desc.LoadHeadToPush seat d) o sound has at shown step = load_head_to_push-sound g s who s' seat d o sound has at step
-shown-desc g s who s' (desc.StoreNextDesc seat d top) o sound has at shown step = absurd (true≢false (sym shown))
+shown-desc g s who s' (desc.StoreNextDesc seat d top) o sound has at shown step = store_next_desc-sound g s who s' seat d top o sound has at step
 shown-desc g s who s' (desc.PushDesc seat d top) o sound has at shown step =
     push_desc_lost-sound g s who s' seat d top o sound has at (differs _ _ shown) step
 shown-desc g s who s' (desc.Got seat d) o sound has at shown step = absurd (true≢false (sym shown))
@@ -282,36 +299,54 @@ finish-cases P finishes onward.Nothing is = absurd (true≢false (sym is))
 -- a superblock is put into a slot to finish a free
 put_finishes-sound :
     (g : Geometry) (s : State) (who : ℕ) (s' : State) (seat : SeatFields) (d heap : ℕ) (guarded : Bool) → IsSound g s → who < g.callers
-    → (s.errand who).point ≡ Partial (partial.PutSlot seat d heap) (onward.Finish guarded)
-    → IsTrue (put_goes_on (onward.Finish guarded) (s.word (slot_of seat heap))) → Step s who s' → IsSound g s'
-put_finishes-sound g s who s' seat d heap true sound has at shown step = partials.put_slot_clears-sound g s who s' seat d heap sound has at step
-put_finishes-sound g s who s' seat d heap false sound has at shown step =
-    let held : s.word (slot_of seat heap) ≢ 0 = differs _ _ shown in
-    partials.put_slot_displaced-sound g s who s' seat d heap (s.word (slot_of seat heap) - 1) (onward.Finish false) sound has at
-    (omega (arith, held)) step
+    → (s.errand who).point ≡ Partial (partial.PutSlot seat d heap) (onward.Finish guarded) → Step s who s' → IsSound g s'
+put_finishes-sound g s who s' seat d heap true sound has at step = partials.put_slot_clears-sound g s who s' seat d heap sound has at step
+put_finishes-sound g s who s' seat d heap false sound has at step =
+    elim (cases_eq (s.word (slot_of seat heap)) 0) [
+      | inl bare ↦ partials.put_slot_filled_ends-sound g s who s' seat d heap sound has at bare step
+      | inr held ↦
+          partials.put_slot_displaced-sound g s who s' seat d heap (s.word (slot_of seat heap) - 1) (onward.Finish false) sound has at
+          (omega (arith, held)) step
+    ]
 
 put-sound :
     (g : Geometry) (s : State) (who : ℕ) (s' : State) (seat : SeatFields) (d heap : ℕ) (o : Onward) → IsSound g s → who < g.callers
-    → (s.errand who).point ≡ Partial (partial.PutSlot seat d heap) o → IsTrue (put_goes_on o (s.word (slot_of seat heap))) → Step s who s'
-    → IsSound g s'
-put-sound g s who s' seat d heap o sound has at shown step =
-    fills-cases
-    (λ o. (s.errand who).point ≡ Partial (partial.PutSlot seat d heap) o → IsTrue (put_goes_on o (s.word (slot_of seat heap))) → IsSound g s')
-    (λ need site i at shown. partials.put_slot_gives-sound g s who s' seat d heap need site i sound has at step)
-    (λ guarded at shown. put_finishes-sound g s who s' seat d heap guarded sound has at shown step) o
-    (fits-at g s sound.parts.0 who _ sound.parts.1 has at).goes at shown
+    → (s.errand who).point ≡ Partial (partial.PutSlot seat d heap) o → Step s who s' → IsSound g s'
+put-sound g s who s' seat d heap o sound has at step =
+    fills-cases (λ o. (s.errand who).point ≡ Partial (partial.PutSlot seat d heap) o → IsSound g s')
+    (λ need site i at. partials.put_slot_gives-sound g s who s' seat d heap need site i sound has at step)
+    (λ guarded at. put_finishes-sound g s who s' seat d heap guarded sound has at step) o
+    (fits-at g s sound.parts.0 who _ sound.parts.1 has at).goes at
 
--- the look at a superblock that was popped from the list
+-- the look at a superblock that was taken
+taken-sound :
+    (g : Geometry) (s : State) (who : ℕ) (s' : State) (site : Site) (need : ℕ) → IsSound g s → who < g.callers
+    → (s.errand who).point ≡ Partial (partial.LoadGrantAnchor site) (onward.Alloc need) → Step s who s' → IsSound g s'
+taken-sound g s who s' site need sound has at step =
+    elim (cases_Bool (is_empty (anchor_for s site.desc).state)) [
+      | inl empty ↦ retired.load_grant_anchor_empty-sound g s who s' site need sound has at empty step
+      | inr used ↦ partials.load_grant_anchor-sound g s who s' site need sound has at used step
+    ]
+
+-- at the first one that was popped from the list
+first-sound :
+    (g : Geometry) (s : State) (who : ℕ) (s' : State) (seat : SeatFields) (d : ℕ) → IsSound g s → who < g.callers
+    → (s.errand who).point ≡ Partial (partial.LoadListedAnchor seat d) onward.Clear → Step s who s' → IsSound g s'
+first-sound g s who s' seat d sound has at step =
+    elim (cases_Bool (is_empty (anchor_for s d).state)) [
+      | inl empty ↦ retired.load_first_listed_empty-sound g s who s' seat d sound has at empty step
+      | inr used ↦ partials.load_first_listed-sound g s who s' seat d sound has at used step
+    ]
+
+-- and at any
 listed-sound :
     (g : Geometry) (s : State) (who : ℕ) (s' : State) (seat : SeatFields) (d : ℕ) (o : Onward) → IsSound g s → who < g.callers
-    → (s.errand who).point ≡ Partial (partial.LoadListedAnchor seat d) o → IsTrue (listed_stays o (s.word (name.Anchor d))) → Step s who s'
-    → IsSound g s'
-listed-sound g s who s' seat d o sound has at shown step =
-    clearing-cases
-    (λ o. (s.errand who).point ≡ Partial (partial.LoadListedAnchor seat d) o → IsTrue (listed_stays o (s.word (name.Anchor d))) → IsSound g s')
-    (λ at shown. partials.load_first_listed-sound g s who s' seat d sound has at (not_true (is_empty (anchor_for s d).state) shown) step)
-    (λ first at shown. partials.load_second-sound g s who s' seat d first sound has at step) o
-    (fits-at g s sound.parts.0 who _ sound.parts.1 has at).goes at shown
+    → (s.errand who).point ≡ Partial (partial.LoadListedAnchor seat d) o → Step s who s' → IsSound g s'
+listed-sound g s who s' seat d o sound has at step =
+    clearing-cases (λ o. (s.errand who).point ≡ Partial (partial.LoadListedAnchor seat d) o → IsSound g s')
+    (λ at. first-sound g s who s' seat d sound has at step)
+    (λ first at. partials.load_second-sound g s who s' seat d first sound has at step) o
+    (fits-at g s sound.parts.0 who _ sound.parts.1 has at).goes at
 
 shown-partial :
     (g : Geometry) (s : State) (who : ℕ) (s' : State) (p : PartialPoint) (o : Onward) → IsSound g s → who < g.callers
@@ -329,8 +364,7 @@ shown-partial g s who s' (partial.LoadTakenInfo seat d) o sound has at shown ste
 shown-partial g s who s' (partial.StoreOwner site) o sound has at shown step = absurd (true≢false (sym shown))
 shown-partial g s who s' (partial.LoadGrantAnchor site) o sound has at shown step =
     let is : o ≡ onward.Alloc (asked o) = the-alloc o (fits-at g s sound.parts.0 who _ sound.parts.1 has at).goes in
-    partials.load_grant_anchor-sound g s who s' site (asked o) sound has (at ∙ ap (Partial (partial.LoadGrantAnchor site)) is)
-    (not_true (is_empty (anchor_for s site.desc).state) shown) step
+    taken-sound g s who s' site (asked o) sound has (at ∙ ap (Partial (partial.LoadGrantAnchor site)) is) step
 shown-partial g s who s' (partial.Grant site a) o sound has at shown step =
     let is : o ≡ onward.Alloc (asked o) = the-alloc o (fits-at g s sound.parts.0 who _ sound.parts.1 has at).goes in
     partials.grant_lost-sound g s who s' site a (asked o) sound has (at ∙ ap (Partial (partial.Grant site a)) is) (differs _ _ shown) step
@@ -338,14 +372,14 @@ shown-partial g s who s' (partial.LoadOwner seat d) o sound has at shown step =
     finish-cases (λ o. (s.errand who).point ≡ Partial (partial.LoadOwner seat d) o → IsSound g s')
     (λ guarded at. partials.load_owner-sound g s who s' seat d guarded sound has at step) o
     (fits-at g s sound.parts.0 who _ sound.parts.1 has at).goes at
-shown-partial g s who s' (partial.PutSlot seat d heap) o sound has at shown step = put-sound g s who s' seat d heap o sound has at shown step
+shown-partial g s who s' (partial.PutSlot seat d heap) o sound has at shown step = put-sound g s who s' seat d heap o sound has at step
 shown-partial g s who s' (partial.LoadHeldSlot seat d heap) o sound has at shown step =
     let is : o ≡ onward.Free = the-free o (fits-at g s sound.parts.0 who _ sound.parts.1 has at).goes in
     partials.load_held_slot-sound g s who s' seat d heap sound has (at ∙ ap (Partial (partial.LoadHeldSlot seat d heap)) is) step
 shown-partial g s who s' (partial.RemoveFromSlot seat d heap) o sound has at shown step =
     let is : o ≡ onward.Free = the-free o (fits-at g s sound.parts.0 who _ sound.parts.1 has at).goes in
     partials.remove_from_slot-sound g s who s' seat d heap sound has (at ∙ ap (Partial (partial.RemoveFromSlot seat d heap)) is) step
-shown-partial g s who s' (partial.LoadListedAnchor seat d) o sound has at shown step = listed-sound g s who s' seat d o sound has at shown step
+shown-partial g s who s' (partial.LoadListedAnchor seat d) o sound has at shown step = listed-sound g s who s' seat d o sound has at step
 shown-partial g s who s' (partial.SlotEmpty seat) o sound has at shown step = absurd (true≢false (sym shown))
 shown-partial g s who s' (partial.Granted site more) o sound has at shown step = absurd (true≢false (sym shown))
 shown-partial g s who s' (partial.TookEmpty site) o sound has at shown step = absurd (true≢false (sym shown))

@@ -1,5 +1,5 @@
 -- A step that leads from one point to another, and changes nothing that is shown, keeps the state sound.
-use Rattle.std.proofs.Common.{ℕ, Bool, false, None, ◌≡◌, ◌<◌, ◌≤◌, ◌+◌, ◌^◌, length, refl, arith, ap, sym, subst, inl, inr, ◌∙◌}
+use Rattle.std.proofs.Common.{ℕ, Bool, false, None, ◌≡◌, ◌≢◌, ◌<◌, ◌≤◌, ◌+◌, ◌^◌, List, length, refl, arith, ap, sym, subst, inl, inr, ◌∙◌}
 use Rattle.std.specs.Prelude.{◌⊎◌, ◌&&◌, not, All, Any, IsTrue}
 use Rattle.heap_geometry.specs.declared.geometry.Geometry.{Geometry}
 use Rattle.word_plan.specs.declared.action.Found.{Found}
@@ -20,15 +20,15 @@ use Rattle.errand_steps.specs.Nexts.{next_of}
 use Rattle.errand_steps.specs.Steps.{State, Step, Moves, action_at, name_at, word_at, found_at, event_at, with_event}
 use Rattle.errand_steps.proofs.ErrandLemmas.{settle_errand}
 use Rattle.errand_steps.proofs.PlanLemmas.{plan-exists}
-use Rattle.sound_state.specs.Guards.{IsGuard, IsHazard, passed_by, held_by}
+use Rattle.sound_state.specs.Guards.{IsGuarded, IsGuard, IsHazard, passed_by, held_by}
 use Rattle.sound_state.specs.Holdings.{Holding, holds_of}
 use Rattle.sound_state.specs.Keepers.{IsKeptAs}
 use Rattle.sound_state.specs.Lists.{Lists}
 use Rattle.sound_state.specs.Recalls.{IsSo, IsOwned, recalls_of}
 use Rattle.sound_state.specs.Sound.{IsSound, IsSoundWith}
 use Rattle.sound_state.specs.Turns.{one_if, in_turn, has_frame, has_partial, has_refused, is_discarding_at, pops_left}
-use Rattle.sound_state.proofs.AlikeLemmas.{MayGoOn, ActivesKept, sound-alike}
-use Rattle.sound_state.proofs.WeighLemmas.{WeighAlike, weigh-alike}
+use Rattle.sound_state.proofs.AlikeLemmas.{MayGoOn, MayGuard, ActivesKept, sound-alike}
+use Rattle.sound_state.proofs.WeighLemmas.{WeighAlike, WeighMost, alike-most, hazards-stay, weigh-alike, weigh-emptied}
 
 -- the block at the place is excepted by what is held
 abbrev pub HoldsException : Holding → ℕ → Type 0
@@ -58,6 +58,39 @@ pub record PointGoes (g : Geometry) (s : State) (l : Lists) (who : ℕ) (p q : P
   pub excepts : (place : ℕ) → HoldsException (holds_of p) place → HoldsException (holds_of q) place
   pub turn : TurnGoes p q
 
+-- the same, but for the hazard words
+pub record PointStands (g : Geometry) (s : State) (l : Lists) (who : ℕ) (p q : Point) : Type 0 where
+  pub kept : All (λ k. IsKeptAs s k.status k.desc k.class) (holds_of q).kept
+  pub so : All (IsSo g s l who) (recalls_of q)
+  pub spare : spare_of q ≡ spare_of p
+  pub hands : All (λ x. IsOwned s who x.place x.need) (holds_of q).hands
+  pub frees : All (λ x. IsOwned s who x.place x.need) (holds_of q).frees
+  pub excepts : (place : ℕ) → HoldsException (holds_of p) place → HoldsException (holds_of q) place
+  pub turn : TurnGoes p q
+
+pub goes-stands : (g : Geometry) (s : State) (l : Lists) (who : ℕ) (p q : Point) → PointGoes g s l who p q → PointStands g s l who p q
+goes-stands g s l who p q h = record {
+  kept = h.kept;
+  so = h.so;
+  spare = h.spare;
+  hands = h.hands;
+  frees = h.frees;
+  excepts = h.excepts;
+  turn = h.turn;
+}
+
+-- who goes on with the same hazard word, and scans nothing, may guard what it guarded
+pub goes-guards :
+    (g : Geometry) (s : State) (l : Lists) (who : ℕ) (q : Point) (retired : List ℕ) (word : ℕ) → IsGuarded g s → who < g.callers
+    → word ≡ s.word (name.Hazard who) → PointGoes g s l who (s.errand who).point q → MayGuard g s who q retired word
+goes-guards g s l who q retired word guarded has same h = record {
+  hazard = subst (IsHazard (holds_of q).hazard) (sym same) h.hazard;
+  guard = λ d is guard. inl (record { word = sym same ∙ is; guard = h.guard d (sym same ∙ is) guard });
+  pushed = λ i d has_i guards is. guarded.pushed i who d has_i has guards (sym h.pushed ∙ is);
+  passed = λ i d has_i guards listed below. let bad : ⊥ = omega (arith, below, h.passed) in absurd bad;
+  unread = λ i passed below. let bad : ⊥ = omega (arith, below, h.unread) in absurd bad;
+}
+
 -- a count never falls
 raised-least : (b : Bool) (n : ℕ) → n < 2 ^ 64 → n ≤ raised b n
 raised-least b n most = grind (arith)
@@ -86,16 +119,17 @@ unfolding settle_of course_of
 settle-end e x r is = rw is refl
 
 -- so the caller may go on
-may-after :
+pub may-after :
     (g : Geometry) (s : State) (l : Lists) (who : ℕ) (x : Found) (q : Point) → IsSoundWith g s l → who < g.callers → x.value < 2 ^ 64
     → settle_of (s.errand who) x ≡ at_point (s.errand who) x q → counts_cleared (s.errand who).point x ≡ false
-    → PointGoes g s l who (s.errand who).point q
+    → PointStands g s l who (s.errand who).point q
     → MayGoOn g s l who (s.errand who) (at_point (s.errand who) x q)
 may-after g s l who x q sound has word after still goes =
     let e = s.errand who in
     let old = sound.errands who has in
     let turned = sound.turned.own_turns who has in
     let more : e.lost ≤ raised (counts_lost e.point x) e.lost = raised-least (counts_lost e.point x) e.lost old.lost in
+    let same : raised (counts_cleared e.point x) e.cleared ≡ e.cleared = ap (λ b. raised b e.cleared) still in
     record {
       rule = record {
         caller = old.caller;
@@ -106,11 +140,6 @@ may-after g s l who x q sound has word after still goes =
       kept = goes.kept;
       retired = sound.kept.retired who has;
       so = goes.so;
-      hazard = goes.hazard;
-      guard = goes.guard;
-      pushed = λ d at. sym goes.pushed ∙ at;
-      passed = goes.passed;
-      unread = goes.unread;
       full = λ spare. sound.guarded.full who has (sym goes.spare ∙ spare);
       hands = goes.hands;
       frees = goes.frees;
@@ -118,8 +147,7 @@ may-after g s l who x q sound has word after still goes =
       own_turns = omega (arith, turned, goes.turn.under_way);
       own_lost = omega (arith, sound.turned.own_lost who has, goes.turn.discards, goes.turn.unanswered, more);
       frame_turns = omega (arith, goes.turn.unframed);
-      cleared = ap (λ b. raised b e.cleared) still;
-      list_turns = omega (arith, goes.turn.pops);
+      list_turns = omega (arith, goes.turn.pops, same);
     }
 
 -- a step after which the caller stands at another point, whose word and errand weigh together what they did
@@ -149,7 +177,7 @@ abbrev pub ActivesAfter : Geometry → State → ℕ → State → Type 0
 ActivesAfter g s who s' = ActivesKept g s s'.word
 
 -- each word is a word after a write of one
-words-below :
+pub words-below :
     (words : WordName → ℕ) (n : WordName) (new : ℕ) (words' : WordName → ℕ) → Writes words n new words'
     → ((m : WordName) → words m < 2 ^ 64) → new < 2 ^ 64 → (m : WordName) → words' m < 2 ^ 64
 words-below words n new words' w old below m =
@@ -158,15 +186,32 @@ words-below words n new words' w old below m =
       | inr differ ↦ subst (λ v. v < 2 ^ 64) (sym (w.elsewhere m differ)) (old m)
     ]
 
+-- a step after which the caller stands at another point; its hazard word may change
+pub record StepsMost (g : Geometry) (s : State) (l : Lists) (who : ℕ) (q : Point) : Type 0 where
+  pub after : settle_of (s.errand who) (found_at s who) ≡ at_point (s.errand who) (found_at s who) q
+  pub event : event_at s who ≡ None
+  pub cleared : counts_cleared (s.errand who).point (found_at s who) ≡ false
+  pub stands : PointStands g s l who (s.errand who).point q
+  pub weigh :
+      WeighMost (name_at s who) (word_at s who) (after_action (action_at s who) (word_at s who)) (s.errand who)
+      (at_point (s.errand who) (found_at s who) q)
+  pub below : after_action (action_at s who) (word_at s who) < 2 ^ 64
+
+-- the hazard words after it: those of the others stay, and with its own the caller may stand at the point
+pub record HazardsAfter (g : Geometry) (s : State) (who : ℕ) (q : Point) (words' : WordName → ℕ) : Type 0 where
+  pub others : (i : ℕ) → i ≢ who → words' (name.Hazard i) ≡ s.word (name.Hazard i)
+  pub guards : MayGuard g s who q (s.errand who).retired (words' (name.Hazard who))
+
 -- the step keeps the state sound
-pub step-after :
+pub step-most :
     (g : Geometry) (s : State) (who : ℕ) (s' : State) (q : Point) → IsSound g s → who < g.callers
-    → ((l : Lists) → IsSoundWith g s l → StepsAfter g s l who q) → ((l : Lists) → IsSoundWith g s l → ActivesAfter g s who s')
-    → Step s who s' → IsSound g s'
-step-after g s who s' q sound has steps actives step =
+    → ((l : Lists) → IsSoundWith g s l → StepsMost g s l who q) → ((l : Lists) → IsSoundWith g s l → ActivesAfter g s who s')
+    → ((l : Lists) → IsSoundWith g s l → HazardsAfter g s who q s'.word) → Step s who s' → IsSound g s'
+step-most g s who s' q sound has steps actives hazards step =
     let l = sound.parts.0 in
     let old = sound.parts.1 in
     let to = steps l old in
+    let words = hazards l old in
     let e = at_point (s.errand who) (found_at s who) q in
     let own = old.errands who has in
     let exists : Exists g (name_at s who) =
@@ -185,13 +230,44 @@ step-after g s who s' q sound has steps actives step =
               caller = has;
               moves = moves;
               alike = weigh-alike g s l who (name_at s who) _ e s' exists has step.word moves past to.weigh;
-              may = may-after g s l who (found_at s who) q old has (old.words (name_at s who)) to.after to.cleared to.goes;
+              may = may-after g s l who (found_at s who) q old has (old.words (name_at s who)) to.after to.cleared to.stands;
+              others = words.others;
+              guards = words.guards;
               actives = actives l old;
               words = words-below s.word (name_at s who) _ s'.word step.word old.words to.below;
+              emptied =
+                  let same : raised (counts_cleared (s.errand who).point (found_at s who)) (s.errand who).cleared ≡ (s.errand who).cleared =
+                  ap (λ b. raised b (s.errand who).cleared) to.cleared in
+                  omega (arith, weigh-emptied g s l who (name_at s who) _ e s' has step.word moves to.weigh, same);
             })
             old,
       );
     }
+
+-- so does one that writes no hazard word
+pub step-after :
+    (g : Geometry) (s : State) (who : ℕ) (s' : State) (q : Point) → IsSound g s → who < g.callers
+    → ((l : Lists) → IsSoundWith g s l → StepsAfter g s l who q) → ((l : Lists) → IsSoundWith g s l → ActivesAfter g s who s')
+    → Step s who s' → IsSound g s'
+step-after g s who s' q sound has steps actives step =
+    step-most g s who s' q sound has
+    (λ l old. let to = steps l old in record {
+      after = to.after;
+      event = to.event;
+      cleared = to.cleared;
+      stands = goes-stands g s l who (s.errand who).point q to.goes;
+      weigh = alike-most (name_at s who) _ _ (s.errand who) (at_point (s.errand who) (found_at s who) q) to.weigh;
+      below = to.below;
+    })
+    actives
+    (λ l old.
+    let to = steps l old in
+    let stay = hazards-stay s.word (name_at s who) _ s'.word step.word to.weigh.still in
+    record {
+      others = λ i differ. stay i;
+      guards = goes-guards g s l who q (s.errand who).retired (s'.word (name.Hazard who)) old.guarded has (stay who) to.goes;
+    })
+    step
 
 -- so does one that leads to a point
 pub step-sound :

@@ -29,7 +29,7 @@ use Rattle.sound_state.specs.Lists.{Lists}
 use Rattle.sound_state.specs.Sound.{IsSoundWith, IsSoundWithoutCounts}
 use Rattle.sound_state.specs.Sums.{sum_below, callers_sum}
 use Rattle.sound_state.specs.Superblocks.{anchor_for}
-use Rattle.sound_state.specs.Turns.{gives_small, is_small_alloc, is_small_free, turns_of}
+use Rattle.sound_state.specs.Turns.{gives_small, is_small_alloc, is_small_free, turns_of, cleared_of}
 use Rattle.sound_state.proofs.SumLemmas.{sum-same, sum-plus, sum-most, sum-least, term-sum}
 
 -- each small allocation is one of its caller's
@@ -201,3 +201,12 @@ list-tags-below g s sound class has =
     let l : Lists = sound.parts.0 in
     let is : IsSoundWith g s l = sound.parts.1 in
     omega (arith, is.turned.list_tags class has, is.turned.emptied, small-freed g s.history sound.legal, given-most g s l sound.legal is, turns-most g s l sound.checked is)
+
+-- a caller's cleared count is far from its end
+pub cleared-below : (g : Geometry) (s : State) → IsSoundWithoutCounts g s → (who : ℕ) → who < g.callers → (s.errand who).cleared + 1 < 2 ^ 64
+unfolding callers_sum
+cleared-below g s sound who has =
+    let l : Lists = sound.parts.0 in
+    let is : IsSoundWith g s l = sound.parts.1 in
+    let own : (s.errand who).cleared ≤ sum_below g.callers (λ i. cleared_of (s.errand i)) = term-sum g.callers (λ i. cleared_of (s.errand i)) who has in
+    omega (arith, own, is.turned.emptied, small-freed g s.history sound.legal, given-most g s l sound.legal is, turns-most g s l sound.checked is)

@@ -179,10 +179,11 @@ pub record IsEmptied (g : Geometry) (s : State) (l : Lists) (d : ℕ) : Type 0 w
 pub record IsOwned (s : State) (who p : ℕ) (n : Need) : Type 0 where
   pub block : (b : Block) × (block_at p (pool_of s.history) ≡ Some b) × (b.owner ≡ Caller who) × (b.need ≡ n)
 
--- the word is none of a processor heap's: no active word and no slot
+-- the word is none of a processor heap's and no hazard word
 abbrev pub IsPlain : WordName → Type 0
 IsPlain (name.Active heap class) = ⊥
 IsPlain (name.Slot heap class) = ⊥
+IsPlain (name.Hazard caller) = ⊥
 IsPlain n = Unit {0}
 
 -- what a caller remembers is so

@@ -1,0 +1,84 @@
+-- A won pop: what it changes, and that everything else stays.
+use Rattle.std.proofs.Common.{ℕ, Bool, true, false, None, ◌≡◌, ◌≢◌, ◌<◌, ◌+◌, ◌-◌, ◌^◌, [], ◌∷◌, ◌++◌, length}
+use Rattle.std.specs.Prelude.{IsTrue, if◌then◌else◌, nat_lt}
+use Rattle.heap_geometry.specs.declared.geometry.Geometry.{Geometry}
+use Rattle.heap_geometry.specs.declared.need.Need.TheVariants as need
+use Rattle.heap_geometry.specs.Need.{need_of}
+use Rattle.heap_geometry.specs.Place.{block_place}
+use Rattle.packed_words.specs.Anchor.{AnchorFields}
+use Rattle.word_plan.specs.declared.name.WordName.{WordName}
+use Rattle.word_plan.specs.declared.name.WordName.TheVariants as name
+use Rattle.word_plan.specs.declared.seat.Site.{Site}
+use Rattle.word_plan.specs.Sites.{IsSiteOf, IsAnchorOf}
+use Rattle.superblock_parts.specs.Anchors.{taken_off, popped_state, more_of}
+use Rattle.superblock_parts.specs.declared.point.Share.{Share}
+use Rattle.pool_model.specs.declared.event.Event.TheVariants.{Alloc}
+use Rattle.errand_steps.specs.Errands.{ErrandFields}
+use Rattle.errand_steps.specs.Fits.{spare_of, pushed_by}
+use Rattle.errand_steps.specs.declared.point.Point.{Point}
+use Rattle.errand_steps.specs.Steps.{State, Moves}
+use Rattle.sound_state.specs.Guards.{passed_by, held_by}
+use Rattle.sound_state.specs.Holdings.{Holding, nothing, before_pop, after_pop, block_handed, holds_of}
+use Rattle.sound_state.specs.Lists.{Lists}
+use Rattle.sound_state.specs.Recalls.{IsLocated, bound_here, recalls_of}
+use Rattle.sound_state.specs.Sound.{IsOwnErrand}
+use Rattle.sound_state.specs.Stock.{waits_in}
+use Rattle.sound_state.specs.Superblocks.{anchor_for, is_bound, superblock_of}
+use Rattle.sound_state.specs.Turns.{in_turn, has_frame, has_refused, is_discarding_at, pops_left}
+
+-- what a caller holds after a pop, with so many blocks reserved beside the one that it popped
+abbrev pub popped_holds : Site → ℕ → ℕ → Holding
+popped_holds at i more = if nat_lt 0 more then after_pop at i more else record nothing { hands = block_handed at i }
+
+-- the anchor after the pop of a block with this link
+abbrev pub popped_anchor : Share → AnchorFields → ℕ → AnchorFields
+popped_anchor share a link = record {
+  avail = link;
+  count = a.count - taken_off share a;
+  state = popped_state share a;
+  tag = a.tag + 1;
+}
+
+-- where the block lies
+abbrev pub popped_place : Site → AnchorFields → ℕ
+popped_place at a = block_place at.frame at.seat.class a.avail
+
+-- a point of a superblock that pushes, scans and waits for nothing, in a turn that has given no block yet, or has
+pub record StandsIn (giving : Bool) (p : Point) : Type 0 where
+  pub turn : in_turn p ≡ giving
+  pub frame : has_frame p ≡ false
+  pub refused : has_refused p ≡ false
+  pub discarding : is_discarding_at p ≡ false
+  pub pops : pops_left p ≡ 0
+  pub waits : (class : ℕ) → waits_in class p ≡ 0
+  pub pushed : pushed_by p ≡ None
+  pub passed : passed_by p ≡ 0
+  pub unread : length (held_by p) ≡ 0
+  pub spare : spare_of p ≡ 0
+
+-- a caller pops the first available block of a superblock, and all else stays
+pub record Pops (g : Geometry) (s : State) (l : Lists) (who : ℕ) (at : Site) (share : Share) (a : AnchorFields) (link words : ℕ)
+    (e : ErrandFields) (s' : State) : Type 0 where
+  pub caller : who < g.callers
+  pub moves : Moves s.errand who e s'.errand
+  pub site : IsSiteOf g who at
+  pub fits : IsAnchorOf at.seat.class a
+  pub small : need_of words ≡ need.Small at.seat.class
+  pub bound : IsTrue (is_bound g s l at.desc)
+  pub located : IsLocated s at.desc at.frame at.seat.class
+  pub before : anchor_for s at.desc ≡ a
+  pub after : anchor_for s' at.desc ≡ popped_anchor share a link
+  pub next : (superblock_of g s at.desc).next a.avail ≡ link
+  pub elsewhere : (n : WordName) → n ≢ name.Anchor at.desc → s'.word n ≡ s.word n
+  pub below : (n : WordName) → s'.word n < 2 ^ 64
+  pub history : s'.history ≡ s.history ++ Alloc who words (popped_place at a) ∷ []
+  pub rule : IsOwnErrand g who e
+  pub retired : e.retired ≡ (s.errand who).retired
+  pub turns : e.turns ≡ (s.errand who).turns
+  pub lost : e.lost ≡ (s.errand who).lost
+  pub cleared : e.cleared ≡ (s.errand who).cleared
+  pub holds_before : holds_of (s.errand who).point ≡ before_pop at.desc at.seat.class share
+  pub holds_after : holds_of e.point ≡ popped_holds at a.avail (more_of share a)
+  pub recalls_after : recalls_of e.point ≡ bound_here at
+  pub stands_before : StandsIn true (s.errand who).point
+  pub stands_after : StandsIn false e.point
