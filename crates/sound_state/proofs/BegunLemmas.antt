@@ -14,7 +14,6 @@ use Rattle.heap_geometry.specs.Place.{block_place, frame_of, index_of}
 use Rattle.heap_geometry.proofs.PlaceLemmas.{block_place-split}
 use Rattle.pool_model.specs.Pool.{pool_of}
 use Rattle.pool_model.specs.WellFormed.{IsWellFormed}
-use Rattle.pool_model.proofs.HistoryLemmas.{legal-weaker}
 use Rattle.pool_model.proofs.PoolLemmas.{every-each, place-found}
 use Rattle.pool_model.proofs.WellFormedLemmas.{sound-of}
 use Rattle.word_plan.specs.declared.name.WordName.{WordName}
@@ -30,7 +29,7 @@ use Rattle.sound_state.specs.Holdings.{Holding, Freed, nothing, holds_of}
 use Rattle.sound_state.specs.Keepers.{IsKeptAs, IsWithout}
 use Rattle.sound_state.specs.Lists.{Lists}
 use Rattle.sound_state.specs.Recalls.{IsSo, IsOwned, recalls_of}
-use Rattle.sound_state.specs.Sound.{IsSoundWith, IsOwnErrand, IsSound, with_errands}
+use Rattle.sound_state.specs.Sound.{IsSoundWith, IsOwnErrand, IsSoundWithoutCounts, with_errands}
 use Rattle.sound_state.specs.Stock.{waits_in}
 use Rattle.sound_state.specs.Turns.{gives_small, refuses_small, turn_open, turn_unanswered, errand_discards, one_if, in_turn, has_frame, has_partial, has_refused, is_discarding_at, pops_left}
 use Rattle.sound_state.proofs.BegunErrands.{idle-is, alloc-errand, free-errand, write-errand, read-errand, put-errand, take-errand}
@@ -145,10 +144,10 @@ begun-guards g s l who p retired blocks sound has idle b =
 -- a caller that begins a call keeps the state sound
 begun-sound :
     (g : Geometry) (s : State) (who : ℕ) (p : Point) (t turns : ℕ) (blocks : List Freed) (errands' : ℕ → ErrandFields)
-    → IsSound g s → who < g.callers → IsIdle (s.errand who)
+    → IsSoundWithoutCounts g s → who < g.callers → IsIdle (s.errand who)
     → ((l : Lists) → Begins g s l who p blocks) → IsErrand (record (s.errand who) { point = p; turns = turns })
     → Takes p t (s.errand who).turns turns → Moves s.errand who (record (s.errand who) { point = p; turns = turns }) errands'
-    → IsSound g (with_errands s errands')
+    → IsSoundWithoutCounts g (with_errands s errands')
 begun-sound g s who p t turns blocks errands' sound has idle begins rule takes moves =
     let l = sound.parts.0 in
     let old = sound.parts.1 in
@@ -188,20 +187,20 @@ begun-sound g s who p t turns blocks errands' sound has idle begins rule takes m
 
 -- an errand that stays as it is keeps the state sound
 stays-sound :
-    (g : Geometry) (s : State) (who : ℕ) (errands' : ℕ → ErrandFields) → IsSound g s → Moves s.errand who (s.errand who) errands'
-    → IsSound g (with_errands s errands')
+    (g : Geometry) (s : State) (who : ℕ) (errands' : ℕ → ErrandFields) → IsSoundWithoutCounts g s → Moves s.errand who (s.errand who) errands'
+    → IsSoundWithoutCounts g (with_errands s errands')
 stays-sound g s who errands' sound moves =
     let same : errands' ≡ s.errand =
     fun_ext (λ i. elim (cases_eq i who) [
       | inl is ↦ subst (λ j. errands' j ≡ s.errand j) (sym is) moves.here
       | inr differ ↦ moves.elsewhere i differ
     ]) in
-    subst (λ e. IsSound g (with_errands s e)) (sym same) sound
+    subst (λ e. IsSoundWithoutCounts g (with_errands s e)) (sym same) sound
 
 alloc-from :
-    (g : Geometry) (s : State) (who words : ℕ) (n : Need) (errands' : ℕ → ErrandFields) → need_of words ≡ n → IsSound g s
+    (g : Geometry) (s : State) (who words : ℕ) (n : Need) (errands' : ℕ → ErrandFields) → need_of words ≡ n → IsSoundWithoutCounts g s
     → who < g.callers → IsIdle (s.errand who) → IsErrand (begins_alloc (s.errand who) words n)
-    → Moves s.errand who (begins_alloc (s.errand who) words n) errands' → IsSound g (with_errands s errands')
+    → Moves s.errand who (begins_alloc (s.errand who) words n) errands' → IsSoundWithoutCounts g (with_errands s errands')
 unfolding holds_of recalls_of
 alloc-from g s who words (Small class) errands' is sound has idle rule moves =
     let e = s.errand who in
@@ -253,8 +252,8 @@ alloc-from g s who words TooLarge errands' is sound has idle rule moves = stays-
 
 -- an allocation that begins
 pub alloc-sound :
-    (g : Geometry) (s : State) (who words : ℕ) (errands' : ℕ → ErrandFields) → IsSound g s → who < g.callers → IsIdle (s.errand who)
-    → Moves s.errand who (alloc_begun (s.errand who) words) errands' → IsSound g (with_errands s errands')
+    (g : Geometry) (s : State) (who words : ℕ) (errands' : ℕ → ErrandFields) → IsSoundWithoutCounts g s → who < g.callers → IsIdle (s.errand who)
+    → Moves s.errand who (alloc_begun (s.errand who) words) errands' → IsSoundWithoutCounts g (with_errands s errands')
 unfolding alloc_begun
 alloc-sound g s who words errands' sound has idle moves =
     alloc-from g s who words (need_of words) errands' refl sound has idle
@@ -262,20 +261,20 @@ alloc-sound g s who words errands' sound has idle moves =
 
 -- an owned block is one of the heap's
 owned-block :
-    (g : Geometry) (s : State) (who place : ℕ) (n : Need) → IsSound g s → IsOwned s who place n → IsHeapBlock g place n
+    (g : Geometry) (s : State) (who place : ℕ) (n : Need) → IsSoundWithoutCounts g s → IsOwned s who place n → IsHeapBlock g place n
 owned-block g s who place n sound owned =
     let b = owned.block.0 in
     let live = owned.block.1 in
     let formed =
-    every-each (IsWellFormed g) (pool_of s.history) (sound-of g s.history (legal-weaker g s.history sound.legal)).each place b live in
+    every-each (IsWellFormed g) (pool_of s.history) (sound-of g s.history sound.legal).each place b live in
     let at : b.place ≡ place = place-found place (pool_of s.history) b live in
     subst (λ m. IsHeapBlock g place m) owned.block.3 (subst (λ p. IsHeapBlock g p b.need) at (formed.need, formed.place))
 
 -- a call that begins at a point without a turn
 no-turn-sound :
-    (g : Geometry) (s : State) (who : ℕ) (p : Point) (blocks : List Freed) (errands' : ℕ → ErrandFields) → IsSound g s
+    (g : Geometry) (s : State) (who : ℕ) (p : Point) (blocks : List Freed) (errands' : ℕ → ErrandFields) → IsSoundWithoutCounts g s
     → who < g.callers → IsIdle (s.errand who) → ((l : Lists) → Begins g s l who p blocks) → IsErrand (record (s.errand who) { point = p })
-    → in_turn p ≡ false → Moves s.errand who (record (s.errand who) { point = p }) errands' → IsSound g (with_errands s errands')
+    → in_turn p ≡ false → Moves s.errand who (record (s.errand who) { point = p }) errands' → IsSoundWithoutCounts g (with_errands s errands')
 no-turn-sound g s who p blocks errands' sound has idle begins rule no_turn moves =
     begun-sound g s who p 0 (s.errand who).turns blocks errands' sound has idle begins rule
     (record {
@@ -290,9 +289,9 @@ no-turn-sound g s who p blocks errands' sound has idle begins rule no_turn moves
 
 -- a free
 pub free-sound :
-    (g : Geometry) (s : State) (who place : ℕ) (n : Need) (errands' : ℕ → ErrandFields) → IsSound g s → who < g.callers
+    (g : Geometry) (s : State) (who place : ℕ) (n : Need) (errands' : ℕ → ErrandFields) → IsSoundWithoutCounts g s → who < g.callers
     → IsIdle (s.errand who) → IsOwned s who place n → Moves s.errand who (free_begun (s.errand who) place n) errands'
-    → IsSound g (with_errands s errands')
+    → IsSoundWithoutCounts g (with_errands s errands')
 unfolding free_begun holds_of recalls_of
 free-sound g s who place (Small class) errands' sound has idle owned moves =
     let block = owned-block g s who place (Small class) sound owned in
@@ -337,9 +336,9 @@ free-sound g s who place TooLarge errands' sound has idle owned moves = absurd (
 
 -- a write, a read, a put and a take
 pub write-sound :
-    (g : Geometry) (s : State) (who place : ℕ) (n : Need) (i v : ℕ) (errands' : ℕ → ErrandFields) → IsSound g s → who < g.callers
+    (g : Geometry) (s : State) (who place : ℕ) (n : Need) (i v : ℕ) (errands' : ℕ → ErrandFields) → IsSoundWithoutCounts g s → who < g.callers
     → IsIdle (s.errand who) → IsOwned s who place n → i < usable_words n
-    → Moves s.errand who (write_begun (s.errand who) place i v) errands' → IsSound g (with_errands s errands')
+    → Moves s.errand who (write_begun (s.errand who) place i v) errands' → IsSoundWithoutCounts g (with_errands s errands')
 unfolding write_begun holds_of recalls_of
 write-sound g s who place n i v errands' sound has idle owned below moves =
     let block = owned-block g s who place n sound owned in
@@ -359,9 +358,9 @@ write-sound g s who place n i v errands' sound has idle owned below moves =
     (write-errand (s.errand who) place n i v (subst (λ h. IsHeapBlock h place n) (sym own.geometry) block) below own.rule idle) refl moves
 
 pub read-sound :
-    (g : Geometry) (s : State) (who place : ℕ) (n : Need) (i : ℕ) (errands' : ℕ → ErrandFields) → IsSound g s → who < g.callers
+    (g : Geometry) (s : State) (who place : ℕ) (n : Need) (i : ℕ) (errands' : ℕ → ErrandFields) → IsSoundWithoutCounts g s → who < g.callers
     → IsIdle (s.errand who) → IsOwned s who place n → i < usable_words n
-    → Moves s.errand who (read_begun (s.errand who) place i) errands' → IsSound g (with_errands s errands')
+    → Moves s.errand who (read_begun (s.errand who) place i) errands' → IsSoundWithoutCounts g (with_errands s errands')
 unfolding read_begun holds_of recalls_of
 read-sound g s who place n i errands' sound has idle owned below moves =
     let block = owned-block g s who place n sound owned in
@@ -381,9 +380,9 @@ read-sound g s who place n i errands' sound has idle owned below moves =
     (read-errand (s.errand who) place n i (subst (λ h. IsHeapBlock h place n) (sym own.geometry) block) below own.rule idle) refl moves
 
 pub put-sound :
-    (g : Geometry) (s : State) (who place : ℕ) (n : Need) (k : ℕ) (errands' : ℕ → ErrandFields) → IsSound g s → who < g.callers
+    (g : Geometry) (s : State) (who place : ℕ) (n : Need) (k : ℕ) (errands' : ℕ → ErrandFields) → IsSoundWithoutCounts g s → who < g.callers
     → IsIdle (s.errand who) → IsOwned s who place n → k < SHELVES
-    → Moves s.errand who (put_begun (s.errand who) place n k) errands' → IsSound g (with_errands s errands')
+    → Moves s.errand who (put_begun (s.errand who) place n k) errands' → IsSoundWithoutCounts g (with_errands s errands')
 unfolding put_begun holds_of recalls_of
 put-sound g s who place n k errands' sound has idle owned shelf moves =
     let block = owned-block g s who place n sound owned in
@@ -403,8 +402,8 @@ put-sound g s who place n k errands' sound has idle owned shelf moves =
     (put-errand (s.errand who) place n k (subst (λ h. IsHeapBlock h place n) (sym own.geometry) block) shelf own.rule idle) refl moves
 
 pub take-sound :
-    (g : Geometry) (s : State) (who k : ℕ) (errands' : ℕ → ErrandFields) → IsSound g s → who < g.callers → IsIdle (s.errand who)
-    → k < SHELVES → Moves s.errand who (take_begun (s.errand who) k) errands' → IsSound g (with_errands s errands')
+    (g : Geometry) (s : State) (who k : ℕ) (errands' : ℕ → ErrandFields) → IsSoundWithoutCounts g s → who < g.callers → IsIdle (s.errand who)
+    → k < SHELVES → Moves s.errand who (take_begun (s.errand who) k) errands' → IsSoundWithoutCounts g (with_errands s errands')
 unfolding take_begun holds_of recalls_of
 take-sound g s who k errands' sound has idle shelf moves =
     let own = sound.parts.1.errands who has in

@@ -27,7 +27,7 @@ use Rattle.errand_steps.specs.Steps.{State, Step, found_at}
 use Rattle.sound_state.specs.Holdings.{holds_of, waiting, on_its_way, reserving, partly_used}
 use Rattle.sound_state.specs.Keepers.{IsKept, IsActive, word_keeps, errand_has}
 use Rattle.sound_state.specs.Lists.{Lists}
-use Rattle.sound_state.specs.Sound.{IsSound, IsSoundWith}
+use Rattle.sound_state.specs.Sound.{IsSoundWithoutCounts, IsSoundWith}
 use Rattle.sound_state.specs.Stock.{waits_in, word_stock, stock_among}
 use Rattle.sound_state.specs.Sums.{sum_below, words_sum, callers_sum}
 use Rattle.sound_state.specs.Superblocks.{is_bound, away_of, errand_away, word_reserves, reserved_among, kept_among}
@@ -150,8 +150,8 @@ pub record WinsTo (g : Geometry) (s : State) (who : ℕ) (p q : Point) (n : Word
   pub actives : (l : Lists) → IsSoundWith g s l → (words' : WordName → ℕ) → Writes s.word n new words' → ActivesKept g s words'
 
 won-sound :
-    (g : Geometry) (s : State) (who : ℕ) (s' : State) (q : Point) (n : WordName) (expected new : ℕ) → IsSound g s → who < g.callers
-    → WinsTo g s who (s.errand who).point q n expected new → s.word n ≡ expected → Step s who s' → IsSound g s'
+    (g : Geometry) (s : State) (who : ℕ) (s' : State) (q : Point) (n : WordName) (expected new : ℕ) → IsSoundWithoutCounts g s → who < g.callers
+    → WinsTo g s who (s.errand who).point q n expected new → s.word n ≡ expected → Step s who s' → IsSoundWithoutCounts g s'
 won-sound g s who s' q n expected new sound has h is step =
     let p = (s.errand who).point in
     let e = s.errand who in
@@ -177,7 +177,7 @@ won-sound g s who s' q n expected new sound has h is step =
     (λ l old. h.actives l old s'.word (subst (λ v. Writes s.word n v s'.word) after writes)) step
 
 pub won-at :
-    (g : Geometry) (s : State) (who : ℕ) (s' : State) (p q : Point) (n : WordName) (expected new : ℕ) → IsSound g s → who < g.callers
-    → (s.errand who).point ≡ p → WinsTo g s who p q n expected new → s.word n ≡ expected → Step s who s' → IsSound g s'
+    (g : Geometry) (s : State) (who : ℕ) (s' : State) (p q : Point) (n : WordName) (expected new : ℕ) → IsSoundWithoutCounts g s → who < g.callers
+    → (s.errand who).point ≡ p → WinsTo g s who p q n expected new → s.word n ≡ expected → Step s who s' → IsSoundWithoutCounts g s'
 won-at g s who s' p q n expected new sound has at h is step =
     won-sound g s who s' q n expected new sound has (subst (λ r. WinsTo g s who r q n expected new) (sym at) h) is step

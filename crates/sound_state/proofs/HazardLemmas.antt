@@ -33,7 +33,7 @@ use Rattle.sound_state.specs.Holdings.{holds_of, waiting, on_its_way}
 use Rattle.sound_state.specs.Keepers.{IsKeptAs, word_keeps, errand_has}
 use Rattle.sound_state.specs.Lists.{Lists}
 use Rattle.sound_state.specs.Recalls.{IsPlain, IsSo, IsOwned, recalls_of}
-use Rattle.sound_state.specs.Sound.{IsSound, IsSoundWith}
+use Rattle.sound_state.specs.Sound.{IsSoundWithoutCounts, IsSoundWith}
 use Rattle.sound_state.specs.Stock.{waits_in, word_stock, stock_among}
 use Rattle.sound_state.specs.Sums.{callers_sum}
 use Rattle.sound_state.specs.Superblocks.{word_reserves, reserved_among, kept_among, errand_away}
@@ -138,10 +138,10 @@ picks-at s who p seat held o r at next pick =
 
 -- a step that reads a word
 pub read-hazard :
-    (g : Geometry) (s : State) (who : ℕ) (s' : State) (p q : Point) → IsSound g s → who < g.callers → (s.errand who).point ≡ p
+    (g : Geometry) (s : State) (who : ℕ) (s' : State) (p q : Point) → IsSoundWithoutCounts g s → who < g.callers → (s.errand who).point ≡ p
     → settle_of (s.errand who) (found_at s who) ≡ at_point (s.errand who) (found_at s who) q
     → after_action (plan_point_of p) (s.word (name_of (plan_point_of p))) ≡ s.word (name_of (plan_point_of p))
-    → ((l : Lists) → IsSoundWith g s l → GoesHazard g s l who p q (s.word (name.Hazard who))) → Step s who s' → IsSound g s'
+    → ((l : Lists) → IsSoundWith g s l → GoesHazard g s l who p q (s.word (name.Hazard who))) → Step s who s' → IsSoundWithoutCounts g s'
 read-hazard g s who s' p q sound has at after word goes step =
     let n = name_of (plan_point_of (s.errand who).point) in
     let same : after_action (plan_point_of (s.errand who).point) (s.word n) ≡ s.word n =
@@ -201,10 +201,10 @@ hazard-weighs n i before after e x q is h =
 
 -- a step that stores its caller's hazard word
 pub store-hazard :
-    (g : Geometry) (s : State) (who : ℕ) (s' : State) (p q : Point) (new : ℕ) → IsSound g s → who < g.callers → (s.errand who).point ≡ p
+    (g : Geometry) (s : State) (who : ℕ) (s' : State) (p q : Point) (new : ℕ) → IsSoundWithoutCounts g s → who < g.callers → (s.errand who).point ≡ p
     → settle_of (s.errand who) (found_at s who) ≡ at_point (s.errand who) (found_at s who) q
     → name_of (plan_point_of p) ≡ name.Hazard who → after_action (plan_point_of p) (s.word (name_of (plan_point_of p))) ≡ new
-    → new < 2 ^ 64 → ((l : Lists) → IsSoundWith g s l → GoesHazard g s l who p q new) → Step s who s' → IsSound g s'
+    → new < 2 ^ 64 → ((l : Lists) → IsSoundWith g s l → GoesHazard g s l who p q new) → Step s who s' → IsSoundWithoutCounts g s'
 store-hazard g s who s' p q new sound has at after is stores below goes step =
     let n = name_of (plan_point_of (s.errand who).point) in
     let v = after_action (plan_point_of (s.errand who).point) (s.word n) in

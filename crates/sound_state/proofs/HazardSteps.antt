@@ -34,7 +34,7 @@ use Rattle.sound_state.specs.Holdings.{holds_of}
 use Rattle.sound_state.specs.Guards.{Guards, passed_by, held_by}
 use Rattle.sound_state.specs.Lists.{Lists}
 use Rattle.sound_state.specs.Recalls.{IsSo, recalls_of, bound_at}
-use Rattle.sound_state.specs.Sound.{IsSound, IsSoundWith}
+use Rattle.sound_state.specs.Sound.{IsSoundWithoutCounts, IsSoundWith}
 use Rattle.sound_state.specs.Sums.{callers_sum}
 use Rattle.sound_state.specs.Superblocks.{is_bound, away_of, errand_away}
 use Rattle.sound_state.proofs.AlikeLemmas.{GuardsAnew}
@@ -48,8 +48,8 @@ unfolding holds_of
 store-holds seat d o = grind (arith)
 
 pub store_hazard-sound :
-    (g : Geometry) (s : State) (who : ℕ) (s' : State) (seat : SeatFields) (d : ℕ) (o : Onward) → IsSound g s → who < g.callers
-    → (s.errand who).point ≡ Desc (desc.StoreHazard seat d) o → Step s who s' → IsSound g s'
+    (g : Geometry) (s : State) (who : ℕ) (s' : State) (seat : SeatFields) (d : ℕ) (o : Onward) → IsSoundWithoutCounts g s → who < g.callers
+    → (s.errand who).point ≡ Desc (desc.StoreHazard seat d) o → Step s who s' → IsSoundWithoutCounts g s'
 unfolding plan_point_of next_of event_of holds_of recalls_of
 store_hazard-sound g s who s' seat d o sound has at step =
     let p = Desc (desc.StoreHazard seat d) o in
@@ -78,8 +78,8 @@ top-occurs next d (x ∷ xs) stack =
     omega (arith, cond-true {A = ℕ} (x == d) 1 0 (eq-eqb x d here))
 
 pub reload_desc_head_same-sound :
-    (g : Geometry) (s : State) (who : ℕ) (s' : State) (seat : SeatFields) (d : ℕ) (o : Onward) → IsSound g s → who < g.callers
-    → (s.errand who).point ≡ Desc (desc.ReloadDescHead seat d) o → s.word name.DescHead ≡ d + 1 → Step s who s' → IsSound g s'
+    (g : Geometry) (s : State) (who : ℕ) (s' : State) (seat : SeatFields) (d : ℕ) (o : Onward) → IsSoundWithoutCounts g s → who < g.callers
+    → (s.errand who).point ≡ Desc (desc.ReloadDescHead seat d) o → s.word name.DescHead ≡ d + 1 → Step s who s' → IsSoundWithoutCounts g s'
 unfolding plan_point_of next_of event_of holds_of recalls_of
 reload_desc_head_same-sound g s who s' seat d o sound has at same step =
     let yes_same = eq-eqb (s.word name.DescHead) (d + 1) same in
@@ -106,8 +106,8 @@ reload_desc_head_same-sound g s who s' seat d o sound has at same step =
 
 -- the load of the head again
 pub reload_desc_head-sound :
-    (g : Geometry) (s : State) (who : ℕ) (s' : State) (seat : SeatFields) (d : ℕ) (o : Onward) → IsSound g s → who < g.callers
-    → (s.errand who).point ≡ Desc (desc.ReloadDescHead seat d) o → Step s who s' → IsSound g s'
+    (g : Geometry) (s : State) (who : ℕ) (s' : State) (seat : SeatFields) (d : ℕ) (o : Onward) → IsSoundWithoutCounts g s → who < g.callers
+    → (s.errand who).point ≡ Desc (desc.ReloadDescHead seat d) o → Step s who s' → IsSoundWithoutCounts g s'
 reload_desc_head-sound g s who s' seat d o sound has at step =
     elim (cases_eq (s.word name.DescHead) (d + 1)) [
       | inl same ↦ reload_desc_head_same-sound g s who s' seat d o sound has at same step
@@ -122,8 +122,8 @@ unfolding holds_of
 popped-holds seat d words = grind (arith)
 
 pub clear_after_pop-sound :
-    (g : Geometry) (s : State) (who : ℕ) (s' : State) (seat : SeatFields) (d : ℕ) (o : Onward) → IsSound g s → who < g.callers
-    → (s.errand who).point ≡ Desc (desc.ClearAfterPop seat d) o → Step s who s' → IsSound g s'
+    (g : Geometry) (s : State) (who : ℕ) (s' : State) (seat : SeatFields) (d : ℕ) (o : Onward) → IsSoundWithoutCounts g s → who < g.callers
+    → (s.errand who).point ≡ Desc (desc.ClearAfterPop seat d) o → Step s who s' → IsSoundWithoutCounts g s'
 unfolding plan_point_of next_of event_of holds_of recalls_of
 clear_after_pop-sound g s who s' seat d (onward.Alloc words) sound has at step =
     let p = Desc (desc.ClearAfterPop seat d) (onward.Alloc words) in
@@ -148,8 +148,8 @@ unfolding holds_of
 clear-holds seat = grind (arith)
 
 pub clear_hazard_looks-sound :
-    (g : Geometry) (s : State) (who : ℕ) (s' : State) (seat : SeatFields) → IsSound g s → who < g.callers
-    → (s.errand who).point ≡ Desc (desc.ClearHazard seat) onward.Clear → Step s who s' → IsSound g s'
+    (g : Geometry) (s : State) (who : ℕ) (s' : State) (seat : SeatFields) → IsSoundWithoutCounts g s → who < g.callers
+    → (s.errand who).point ≡ Desc (desc.ClearHazard seat) onward.Clear → Step s who s' → IsSoundWithoutCounts g s'
 unfolding plan_point_of next_of event_of holds_of recalls_of
 clear_hazard_looks-sound g s who s' seat sound has at step =
     let p = Desc (desc.ClearHazard seat) onward.Clear in
@@ -171,8 +171,8 @@ unfolding holds_of
 end-holds seat = grind (arith)
 
 pub clear_hazard_ends-sound :
-    (g : Geometry) (s : State) (who : ℕ) (s' : State) (seat : SeatFields) → IsSound g s → who < g.callers
-    → (s.errand who).point ≡ Desc (desc.ClearHazard seat) onward.EndFree → Step s who s' → IsSound g s'
+    (g : Geometry) (s : State) (who : ℕ) (s' : State) (seat : SeatFields) → IsSoundWithoutCounts g s → who < g.callers
+    → (s.errand who).point ≡ Desc (desc.ClearHazard seat) onward.EndFree → Step s who s' → IsSoundWithoutCounts g s'
 unfolding plan_point_of next_of event_of holds_of recalls_of
 clear_hazard_ends-sound g s who s' seat sound has at step =
     let p = Desc (desc.ClearHazard seat) onward.EndFree in
@@ -197,8 +197,8 @@ bound-near : (g : Geometry) (s : State) (l : Lists) (d : ℕ) → IsTrue (is_bou
 bound-near g s l d bound = grind (arith, bound)
 
 pub store_guard-sound :
-    (g : Geometry) (s : State) (who : ℕ) (s' : State) (site : Site) (i : ℕ) (a : AnchorFields) (o : Onward) → IsSound g s → who < g.callers
-    → (s.errand who).point ≡ Block (block.StoreGuard site i a) o → Step s who s' → IsSound g s'
+    (g : Geometry) (s : State) (who : ℕ) (s' : State) (site : Site) (i : ℕ) (a : AnchorFields) (o : Onward) → IsSoundWithoutCounts g s → who < g.callers
+    → (s.errand who).point ≡ Block (block.StoreGuard site i a) o → Step s who s' → IsSoundWithoutCounts g s'
 unfolding plan_point_of next_of event_of holds_of recalls_of
 store_guard-sound g s who s' site i a o sound has at step =
     let d = site.desc in
@@ -284,8 +284,8 @@ noted-unread g s l who seat held i o old has at k from below =
 
 -- and goes on to the next one
 pub read_hazard_next-sound :
-    (g : Geometry) (s : State) (who : ℕ) (s' : State) (seat : SeatFields) (held : List ℕ) (i : ℕ) (o : Onward) → IsSound g s
-    → who < g.callers → (s.errand who).point ≡ Desc (desc.ReadHazard seat held i) o → i + 1 < g.callers → Step s who s' → IsSound g s'
+    (g : Geometry) (s : State) (who : ℕ) (s' : State) (seat : SeatFields) (held : List ℕ) (i : ℕ) (o : Onward) → IsSoundWithoutCounts g s
+    → who < g.callers → (s.errand who).point ≡ Desc (desc.ReadHazard seat held i) o → i + 1 < g.callers → Step s who s' → IsSoundWithoutCounts g s'
 unfolding plan_point_of next_of event_of holds_of recalls_of
 read_hazard_next-sound g s who s' seat held i o sound has at more step =
     let word = s.word (name.Hazard i) in
@@ -313,9 +313,9 @@ read_hazard_next-sound g s who s' seat held i o sound has at more step =
 
 -- it has passed all of them: nobody guards what it picks
 read-picks :
-    (g : Geometry) (s : State) (who : ℕ) (s' : State) (seat : SeatFields) (held : List ℕ) (i : ℕ) (o : Onward) (r : Option ℕ) → IsSound g s
+    (g : Geometry) (s : State) (who : ℕ) (s' : State) (seat : SeatFields) (held : List ℕ) (i : ℕ) (o : Onward) (r : Option ℕ) → IsSoundWithoutCounts g s
     → who < g.callers → (s.errand who).point ≡ Desc (desc.ReadHazard seat held i) o → g.callers ≤ i + 1
-    → first_unheld (slice_set held i (s.word (name.Hazard i))) (s.errand who).retired ≡ r → Step s who s' → IsSound g s'
+    → first_unheld (slice_set held i (s.word (name.Hazard i))) (s.errand who).retired ≡ r → Step s who s' → IsSoundWithoutCounts g s'
 unfolding plan_point_of next_of event_of holds_of recalls_of
 read-picks g s who s' seat held i o None sound has at last pick step =
     let p = Desc (desc.ReadHazard seat held i) o in
@@ -372,8 +372,8 @@ read-picks g s who s' seat held i o (Some d) sound has at last pick step =
 
 -- the read of a hazard word
 pub read_hazard-sound :
-    (g : Geometry) (s : State) (who : ℕ) (s' : State) (seat : SeatFields) (held : List ℕ) (i : ℕ) (o : Onward) → IsSound g s
-    → who < g.callers → (s.errand who).point ≡ Desc (desc.ReadHazard seat held i) o → Step s who s' → IsSound g s'
+    (g : Geometry) (s : State) (who : ℕ) (s' : State) (seat : SeatFields) (held : List ℕ) (i : ℕ) (o : Onward) → IsSoundWithoutCounts g s
+    → who < g.callers → (s.errand who).point ≡ Desc (desc.ReadHazard seat held i) o → Step s who s' → IsSoundWithoutCounts g s'
 read_hazard-sound g s who s' seat held i o sound has at step =
     elim (cases_Bool (nat_lt (i + 1) g.callers)) [
       | inl more ↦ read_hazard_next-sound g s who s' seat held i o sound has at (ltb-true (i + 1) g.callers more) step

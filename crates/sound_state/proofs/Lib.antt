@@ -1,8 +1,10 @@
 pub mod AlikeLemmas
 pub mod BegunErrands
 pub mod BegunLemmas
+pub mod CountedLemmas
 pub mod CreditLemmas
 pub mod FirstLemmas
+pub mod FrameLemmas
 pub mod HazardLemmas
 pub mod HazardSteps
 pub mod HolderLemmas

@@ -32,7 +32,7 @@ use Rattle.sound_state.specs.Holdings.{Kept, holds_of, on_its_way, waiting, rese
 use Rattle.sound_state.specs.Keepers.{IsKeptAs, IsPartlyUsed, errand_has, word_keeps}
 use Rattle.sound_state.specs.Lists.{Lists}
 use Rattle.sound_state.specs.Recalls.{IsSo, IsOwned, recalls_of}
-use Rattle.sound_state.specs.Sound.{IsSound, IsSoundWith}
+use Rattle.sound_state.specs.Sound.{IsSoundWithoutCounts, IsSoundWith}
 use Rattle.sound_state.specs.Stock.{waits_in, word_stock, stock_among}
 use Rattle.sound_state.specs.Sums.{sum_below, callers_sum}
 use Rattle.sound_state.specs.Superblocks.{errand_keeps, word_reserves, reserved_among, kept_among}
@@ -90,7 +90,7 @@ All-rest P x xs h = λ k d within. h (suc k) d (omega arith)
 
 -- the word of the point is one of the heap's
 pub exists-at :
-    (g : Geometry) (s : State) (who : ℕ) (p : Point) → IsSound g s → who < g.callers → (s.errand who).point ≡ p
+    (g : Geometry) (s : State) (who : ℕ) (p : Point) → IsSoundWithoutCounts g s → who < g.callers → (s.errand who).point ≡ p
     → Exists g (name_of (plan_point_of p))
 exists-at g s who p sound has at = plan-exists g who p sound.checked has (fits-at g s sound.parts.0 who p sound.parts.1 has at)
 
@@ -193,8 +193,8 @@ pub record StepsFrom (g : Geometry) (s : State) (l : Lists) (who : ℕ) (p q : P
 
 -- it keeps the state sound
 pub step-from :
-    (g : Geometry) (s : State) (who : ℕ) (s' : State) (p q : Point) → IsSound g s → who < g.callers → (s.errand who).point ≡ p
-    → ((l : Lists) → IsSoundWith g s l → StepsFrom g s l who p q) → Step s who s' → IsSound g s'
+    (g : Geometry) (s : State) (who : ℕ) (s' : State) (p q : Point) → IsSoundWithoutCounts g s → who < g.callers → (s.errand who).point ≡ p
+    → ((l : Lists) → IsSoundWith g s l → StepsFrom g s l who p q) → Step s who s' → IsSoundWithoutCounts g s'
 step-from g s who s' p q sound has at h step =
     let moved = λ (l : Lists) (old : IsSoundWith g s l). subst (λ r. StepsFrom g s l who r q) (sym at) (h l old) in
     step-sound g s who s' q sound has
@@ -227,8 +227,8 @@ pub record EndsFrom (g : Geometry) (s : State) (l : Lists) (who : ℕ) (p : Poin
 
 -- it keeps the state sound
 pub end-from :
-    (g : Geometry) (s : State) (who : ℕ) (s' : State) (p : Point) (r : Reply) → IsSound g s → who < g.callers → (s.errand who).point ≡ p
-    → ((l : Lists) → IsSoundWith g s l → EndsFrom g s l who p r) → Step s who s' → IsSound g s'
+    (g : Geometry) (s : State) (who : ℕ) (s' : State) (p : Point) (r : Reply) → IsSoundWithoutCounts g s → who < g.callers → (s.errand who).point ≡ p
+    → ((l : Lists) → IsSoundWith g s l → EndsFrom g s l who p r) → Step s who s' → IsSoundWithoutCounts g s'
 end-from g s who s' p r sound has at h step =
     let moved = λ (l : Lists) (old : IsSoundWith g s l). subst (λ z. EndsFrom g s l who z r) (sym at) (h l old) in
     step-after g s who s' Idle sound has

@@ -1,250 +1,35 @@
 -- A won pop: the frames stay where they are, and the superblocks keep their blocks in order.
-use Rattle.std.proofs.Common.{ℕ, zero, suc, Option, Some, None, ◌≡◌, ◌≢◌, ◌<◌, ◌≤◌, ◌+◌, ◌-◌, List, [], ◌∷◌, refl, arith, ap, sym, subst, inl, inr, ◌∙◌}
+use Rattle.std.proofs.Common.{ℕ, ◌≡◌, ◌≢◌, ◌<◌, ◌≤◌, ◌+◌, ◌-◌, List, ◌∷◌, refl, arith, ap, sym, subst, inl, inr, ◌∙◌}
 use Rattle.std.proofs.Math.Path.{fun_ext}
-use Rattle.std.specs.Prelude.{◌==◌, ◌&&◌, if◌then◌else◌, All, IsTrue, IsSome}
-use Rattle.std.proofs.lemmas.Bool.{cases_eq, cond-true, cond-false, and_from, eq-eqb, ne_eqb}
-use Rattle.std.proofs.lemmas.List.Elements.{All-head, All-tail}
-use Rattle.std.proofs.lemmas.Option.{none-some}
+use Rattle.std.specs.Prelude.{◌==◌, if◌then◌else◌, IsTrue, IsSome}
+use Rattle.std.proofs.lemmas.Bool.{cases_eq, cond-false, ne_eqb}
 use Rattle.heap_geometry.specs.declared.geometry.Geometry.{Geometry}
 use Rattle.heap_geometry.specs.Need.{block_count_of}
 use Rattle.heap_geometry.specs.Place.{block_place, frame_of, index_of}
 use Rattle.heap_geometry.proofs.PlaceLemmas.{frame_of-block_place, index_of-block_place}
-use Rattle.packed_words.specs.Anchor.{AnchorFields, anchor_word}
+use Rattle.packed_words.specs.Anchor.{AnchorFields}
 use Rattle.packed_words.specs.Prefix.{link_of}
 use Rattle.word_plan.specs.Counts.{descriptor_count}
 use Rattle.word_plan.specs.Seats.{info_in}
 use Rattle.word_plan.specs.declared.name.WordName.TheVariants as name
 use Rattle.word_plan.specs.declared.seat.Site.{Site}
-use Rattle.superblock_parts.specs.Anchors.{taken_off, more_of, new_anchor}
+use Rattle.superblock_parts.specs.Anchors.{taken_off, more_of}
 use Rattle.superblock_parts.specs.Chains.{occurs, chain_of, prefix_name, link_in}
-use Rattle.superblock_parts.specs.declared.point.BlockPoint.{BlockPoint}
-use Rattle.superblock_parts.specs.declared.point.BlockPoint.TheVariants as block
 use Rattle.superblock_parts.specs.declared.point.Share.{Share}
 use Rattle.superblock_parts.specs.declared.point.Share.TheVariants.{Credit, LastCredit, Grant}
 use Rattle.superblock_parts.proofs.ChainLemmas.{chain_of-first, occurs-here, occurs-more}
-use Rattle.hazard_parts.specs.declared.point.DescPoint.{DescPoint}
-use Rattle.partial_parts.specs.declared.point.PartialPoint.{PartialPoint}
-use Rattle.stack_parts.specs.declared.point.StackPoint.{StackPoint}
-use Rattle.large_parts.specs.declared.point.LargePoint.{LargePoint}
-use Rattle.errand_steps.specs.declared.onward.Onward.{Onward}
-use Rattle.errand_steps.specs.declared.point.Point.{Point}
-use Rattle.errand_steps.specs.declared.point.Point.TheVariants as point
 use Rattle.errand_steps.specs.Errands.{ErrandFields}
 use Rattle.errand_steps.specs.Steps.{State}
 use Rattle.sound_state.specs.Frames.{IsFramed, errand_frames, fills}
-use Rattle.sound_state.specs.Holdings.{waiting, before_pop, holds_of, block_holds, stack_holds, desc_holds, partial_holds, large_holds}
+use Rattle.sound_state.specs.Holdings.{before_pop}
 use Rattle.sound_state.specs.Lists.{Lists}
-use Rattle.sound_state.specs.Recalls.{IsSo, IsLocated, recalls_of, block_recalls, bound_at, bound_here, says}
-use Rattle.sound_state.specs.Sound.{IsSound, IsSoundWith}
-use Rattle.sound_state.specs.Sums.{sum_below, callers_sum}
-use Rattle.sound_state.specs.Superblocks.{Superblock, AreChained, IsChained, superblock_of, anchor_for, reserved_of, held_back, free_chain, live_at, is_there, kept_among, errand_keeps, waiting_of, is_bound, info_for}
-use Rattle.sound_state.proofs.SumLemmas.{term-sum, sum-same, callers-moved}
+use Rattle.sound_state.specs.Sound.{IsSoundWithoutCounts, IsSoundWith}
+use Rattle.sound_state.specs.Sums.{sum_below}
+use Rattle.sound_state.specs.Superblocks.{Superblock, AreChained, IsChained, superblock_of, anchor_for, reserved_of, held_back, free_chain, live_at, is_there, is_bound, info_for}
+use Rattle.sound_state.proofs.FrameLemmas.{bound-apart}
+use Rattle.sound_state.proofs.SumLemmas.{sum-same, callers-moved}
 use Rattle.sound_state.proofs.PopEffects.{Pops, popped_holds, popped_place}
 use Rattle.sound_state.proofs.PopFacts.{popped-info, popped-anchor, popped-waits, popped-bound, popped-reserved, popped-credits, popped-first, popped-here, popped-there}
-
--- a sum that isn't 0 has a term that isn't
-pub sum-some : (n : ℕ) (f : ℕ → ℕ) → sum_below n f ≢ 0 → (j : ℕ) × (j < n) × (1 ≤ f j)
-sum-some zero f h = absurd (h refl)
-sum-some (suc n) f h =
-    elim (cases_eq (f n) 0) [
-      | inl none ↦
-          let (j, lt, has) = sum-some n f (λ e. h (omega (arith, e, none))) in (j, omega (arith, lt), has)
-      | inr some ↦ (n, omega arith, omega (arith, some))
-    ]
-
--- two terms are no more than the sum
-pub two-terms : (n : ℕ) (f : ℕ → ℕ) (i j : ℕ) → i < n → j < n → i ≢ j → f i + f j ≤ sum_below n f
-two-terms zero f i j lt_i lt_j differ = absurd (omega (arith, lt_i))
-two-terms (suc n) f i j lt_i lt_j differ =
-    elim (cases_eq n i) [
-      | inl e ↦
-          let rest : f j ≤ sum_below n f = term-sum n f j (omega (arith, e, lt_j, differ)) in
-          let P : ℕ → Type 0 = λ m. f m + f j ≤ sum_below n f + f n in subst P e (omega (arith, rest))
-      | inr ne ↦
-          elim (cases_eq n j) [
-            | inl e ↦
-                let rest : f i ≤ sum_below n f = term-sum n f i (omega (arith, ne, lt_i)) in
-                let P : ℕ → Type 0 = λ m. f i + f m ≤ sum_below n f + f n in subst P e (omega (arith, rest))
-            | inr nf ↦ omega (arith, two-terms n f i j (omega (arith, ne, lt_i)) (omega (arith, nf, lt_j)) differ)
-          ]
-    ]
-
--- the superblock that a caller is about to install
-abbrev installing_block : BlockPoint → Option Site
-installing_block (block.InstallSuperblock at) = Some at
-installing_block p = None
-
-abbrev installing : Point → Option Site
-installing (point.Block p o) = installing_block p
-installing p = None
-
--- 1 where it is that of d, or fills the frame
-abbrev is_desc : ℕ → Option Site → ℕ
-is_desc d None = 0
-is_desc d (Some at) = if at.desc == d then 1 else 0
-
-abbrev is_frame : ℕ → Option Site → ℕ
-is_frame f None = 0
-is_frame f (Some at) = if at.frame == f then 1 else 0
-
--- only that superblock waits
-waits-block : (d : ℕ) (p : BlockPoint) → kept_among waiting d (block_holds p).kept ≡ is_desc d (installing_block p)
-waits-block d p = grind (arith)
-
-waits-stack : (d : ℕ) (p : StackPoint) (o : Onward) → kept_among waiting d (stack_holds p o).kept ≡ 0
-waits-stack d p o = grind (arith)
-
-waits-desc : (d : ℕ) (p : DescPoint) (o : Onward) → kept_among waiting d (desc_holds p o).kept ≡ 0
-waits-desc d p o = grind (arith)
-
-waits-partial : (d : ℕ) (p : PartialPoint) (o : Onward) → kept_among waiting d (partial_holds p o).kept ≡ 0
-waits-partial d p o = grind (arith)
-
-waits-large : (d : ℕ) (p : LargePoint) → kept_among waiting d (large_holds p).kept ≡ 0
-waits-large d p = grind (arith)
-
-waits-is : (d : ℕ) (p : Point) → kept_among waiting d (holds_of p).kept ≡ is_desc d (installing p)
-unfolding holds_of
-waits-is d point.Idle = refl
-waits-is d (point.Block p o) = waits-block d p
-waits-is d (point.Stack p o) = waits-stack d p o
-waits-is d (point.Desc p o) = waits-desc d p o
-waits-is d (point.Partial p o) = waits-partial d p o
-waits-is d (point.Large p o) = waits-large d p
-
--- its frame is in the caller's hand
-frames-block : (f : ℕ) (p : BlockPoint) → is_frame f (installing_block p) ≤ occurs f (block_holds p).frames
-frames-block f p = grind (arith)
-
-frames-held : (f : ℕ) (p : Point) → is_frame f (installing p) ≤ occurs f (holds_of p).frames
-unfolding holds_of
-frames-held f point.Idle = omega arith
-frames-held f (point.Block p o) = frames-block f p
-frames-held f (point.Stack p o) = omega arith
-frames-held f (point.Desc p o) = omega arith
-frames-held f (point.Partial p o) = omega arith
-frames-held f (point.Large p o) = omega arith
-
--- the caller remembers where it lies
-recalls-block :
-    (p : BlockPoint) (at : Site) → installing_block p ≡ Some at
-    → block_recalls p ≡ says (name.Anchor at.desc) (anchor_word (new_anchor at.seat.class)) ∷ bound_here at
-recalls-block p at is = grind (arith, is)
-
--- so a superblock that waits has its frame in a caller's hand
-site-is : (d : ℕ) (o : Option Site) → 1 ≤ is_desc d o → (at : Site) × (o ≡ Some at) × (at.desc ≡ d)
-site-is d None has = absurd (omega (arith, has))
-site-is d (Some at) has =
-    elim (cases_eq at.desc d) [
-      | inl same ↦ (at, refl, same)
-      | inr differ ↦
-          let none : is_desc d (Some at) ≡ 0 = cond-false {A = ℕ} (at.desc == d) 1 0 (ne_eqb at.desc d differ) in
-          absurd (omega (arith, has, none))
-    ]
-
-located-block :
-    (g : Geometry) (s : State) (l : Lists) (who : ℕ) (p : BlockPoint) (at : Site) → All (IsSo g s l who) (block_recalls p)
-    → installing_block p ≡ Some at → IsLocated s at.desc at.frame at.seat.class
-located-block g s l who p at so is =
-    let both = subst (All (IsSo g s l who)) (recalls-block p at is) so in
-    (All-head (IsSo g s l who) (bound_at at.desc at.frame at.seat.class) []
-    (All-tail (IsSo g s l who) (says (name.Anchor at.desc) (anchor_word (new_anchor at.seat.class))) (bound_here at) both)).1
-
-located-site :
-    (g : Geometry) (s : State) (l : Lists) (who : ℕ) (p : Point) (at : Site) → All (IsSo g s l who) (recalls_of p)
-    → installing p ≡ Some at → IsLocated s at.desc at.frame at.seat.class
-unfolding recalls_of
-located-site g s l who point.Idle at so is = absurd (none-some at is)
-located-site g s l who (point.Block p o) at so is = located-block g s l who p at so is
-located-site g s l who (point.Stack p o) at so is = absurd (none-some at is)
-located-site g s l who (point.Desc p o) at so is = absurd (none-some at is)
-located-site g s l who (point.Partial p o) at so is = absurd (none-some at is)
-located-site g s l who (point.Large p o) at so is = absurd (none-some at is)
-
-waiting-framed :
-    (g : Geometry) (s : State) (l : Lists) (who d f : ℕ) → IsSoundWith g s l → who < g.callers → 1 ≤ errand_keeps waiting d (s.errand who)
-    → (info_for s d).frame ≡ f → 1 ≤ errand_frames f (s.errand who)
-waiting-framed g s l who d f old has waits lies =
-    let p = (s.errand who).point in
-    let (at, is, same) = site-is d (installing p) (omega (arith, waits, waits-is d p)) in
-    let there : at.frame ≡ f =
-    sym (located-site g s l who p at (old.remembered.so who has) is).frame ∙ ap (λ k. (info_for s k).frame) same ∙ lies in
-    let one : is_frame f (installing p) ≡ 1 = ap (is_frame f) is ∙ cond-true {A = ℕ} (at.frame == f) 1 0 (eq-eqb at.frame f there) in
-    omega (arith, one, frames-held f p)
-
--- a caller has one such superblock at most
-one-desc : (d e : ℕ) (o : Option Site) → d ≢ e → 1 ≤ is_desc d o → is_desc e o ≡ 0
-one-desc d e o differ has = grind (arith, differ, has)
-
--- a superblock that doesn't wait fills its frame
-bound-fills :
-    (g : Geometry) (s : State) (l : Lists) (d f : ℕ) → IsTrue (is_bound g s l d) → waiting_of g s d ≡ 0 → (info_for s d).frame ≡ f
-    → fills g s l f d ≡ 1
-bound-fills g s l d f bound none lies =
-    cond-true {A = ℕ} (is_bound g s l d && (waiting_of g s d == 0) && ((info_for s d).frame == f)) 1 0
-    (and_from (is_bound g s l d && (waiting_of g s d == 0)) ((info_for s d).frame == f)
-    (and_from (is_bound g s l d) (waiting_of g s d == 0) bound (eq-eqb (waiting_of g s d) 0 none)) (eq-eqb (info_for s d).frame f lies))
-
--- a caller that is about to install the superblock of d
-abbrev Installs : Geometry → State → ℕ → Type 0
-Installs g s d = (who : ℕ) × (who < g.callers) × (1 ≤ errand_keeps waiting d (s.errand who))
-
-some-installs : (g : Geometry) (s : State) (d : ℕ) → waiting_of g s d ≢ 0 → Installs g s d
-unfolding callers_sum
-some-installs g s d some = sum-some g.callers (λ who. errand_keeps waiting d (s.errand who)) some
-
-installs-framed :
-    (g : Geometry) (s : State) (l : Lists) (d f : ℕ) → IsSoundWith g s l → Installs g s d → (info_for s d).frame ≡ f
-    → 1 ≤ callers_sum g (errand_frames f) s.errand
-unfolding callers_sum
-installs-framed g s l d f old (who, has, waits) lies =
-    omega (arith, term-sum g.callers (λ i. errand_frames f (s.errand i)) who has, waiting-framed g s l who d f old has waits lies)
-
-both-install :
-    (g : Geometry) (s : State) (l : Lists) (d e f : ℕ) → IsSoundWith g s l → d ≢ e → Installs g s d → Installs g s e
-    → (info_for s d).frame ≡ f → (info_for s e).frame ≡ f → 2 ≤ callers_sum g (errand_frames f) s.errand
-unfolding callers_sum
-both-install g s l d e f old differ (i, has_i, waits_i) (j, has_j, waits_j) lies_d lies_e =
-    let apart : i ≢ j = λ same.
-    let moved : 1 ≤ errand_keeps waiting d (s.errand j) = subst (λ k. 1 ≤ errand_keeps waiting d (s.errand k)) same waits_i in
-    let first : 1 ≤ is_desc d (installing (s.errand j).point) = omega (arith, moved, waits-is d (s.errand j).point) in
-    let bad : ⊥ = omega (arith, waits_j, waits-is e (s.errand j).point, one-desc d e (installing (s.errand j).point) differ first) in bad in
-    omega (
-      arith,
-      two-terms g.callers (λ k. errand_frames f (s.errand k)) i j has_i has_j apart,
-      waiting-framed g s l i d f old has_i waits_i lies_d,
-      waiting-framed g s l j e f old has_j waits_j lies_e,
-    )
-
--- two superblocks lie in two frames
-pub bound-apart :
-    (g : Geometry) (s : State) (l : Lists) (d e f : ℕ) → IsSoundWith g s l → d < descriptor_count g → e < descriptor_count g
-    → f < g.frames → IsTrue (is_bound g s l d) → IsTrue (is_bound g s l e) → (info_for s d).frame ≡ f → (info_for s e).frame ≡ f → d ≢ e → ⊥
-bound-apart g s l d e f old has_d has_e has_f bound_d bound_e lies_d lies_e differ =
-    let once = old.framed.once f has_f in
-    elim (cases_eq (waiting_of g s d) 0) [
-      | inl none_d ↦
-          let first = bound-fills g s l d f bound_d none_d lies_d in
-          elim (cases_eq (waiting_of g s e) 0) [
-            | inl none_e ↦
-                let second = bound-fills g s l e f bound_e none_e lies_e in
-                let both = two-terms (descriptor_count g) (fills g s l f) d e has_d has_e differ in
-                omega (arith, once, first, second, both)
-            | inr some_e ↦
-                let held = installs-framed g s l e f old (some-installs g s e some_e) lies_e in
-                omega (arith, once, first, term-sum (descriptor_count g) (fills g s l f) d has_d, held)
-          ]
-      | inr some_d ↦
-          elim (cases_eq (waiting_of g s e) 0) [
-            | inl none_e ↦
-                let second = bound-fills g s l e f bound_e none_e lies_e in
-                let held = installs-framed g s l d f old (some-installs g s d some_d) lies_d in
-                omega (arith, once, second, term-sum (descriptor_count g) (fills g s l f) e has_e, held)
-            | inr some_e ↦
-                let both = both-install g s l d e f old differ (some-installs g s d some_d) (some-installs g s e some_e) lies_d lies_e in
-                omega (arith, once, both)
-          ]
-    ]
 
 -- who pops has no frame in its hand, before and after
 had-frames : (f d class : ℕ) (share : Share) → occurs f (before_pop d class share).frames ≡ 0
@@ -472,7 +257,7 @@ here-chained g s l who at share a link words e s' h old =
 -- all superblocks keep their blocks in order
 pub popped-chained :
     (g : Geometry) (s : State) (l : Lists) (who : ℕ) (at : Site) (share : Share) (a : AnchorFields) (link words : ℕ) (e : ErrandFields)
-    (s' : State) → Pops g s l who at share a link words e s' → IsSound g s → IsSoundWith g s l → AreChained g s' l
+    (s' : State) → Pops g s l who at share a link words e s' → IsSoundWithoutCounts g s → IsSoundWith g s l → AreChained g s' l
 popped-chained g s l who at share a link words e s' h sound old = record {
   infos = λ d has. subst (λ w. IsSome (info_in g w)) (sym (h.elsewhere (name.Info d) (λ same. cc))) (old.chained.infos d has);
   chained = λ d has bound.

@@ -21,13 +21,13 @@ use Rattle.superblock_parts.specs.declared.point.Share.TheVariants.{Credit, Last
 use Rattle.superblock_parts.proofs.ChainLemmas.{chain_of-first, occurs-here}
 use Rattle.pool_model.specs.declared.event.Event.TheVariants.{Alloc}
 use Rattle.pool_model.specs.Pool.{block_at, fresh_block, pool_of}
-use Rattle.pool_model.proofs.HistoryLemmas.{pool_of-push, legal-weaker}
+use Rattle.pool_model.proofs.HistoryLemmas.{pool_of-push}
 use Rattle.pool_model.proofs.PoolLemmas.{block_at-here, block_at-past}
 use Rattle.errand_steps.specs.Errands.{ErrandFields}
 use Rattle.errand_steps.specs.Steps.{State}
 use Rattle.sound_state.specs.Holdings.{waiting, on_its_way, before_pop}
 use Rattle.sound_state.specs.Lists.{Lists}
-use Rattle.sound_state.specs.Sound.{IsSound, IsSoundWith, IsSoundWithoutCounts}
+use Rattle.sound_state.specs.Sound.{IsSoundWithoutCounts, IsSoundWith}
 use Rattle.sound_state.specs.Sums.{words_sum, callers_sum}
 use Rattle.sound_state.specs.Superblocks.{anchor_for, info_for, info_or_zero, superblock_of, free_chain, is_bound, away_of, waiting_of, reserved_of, word_reserves, errand_reserves, reserved_among, errand_keeps, errand_away, kept_among}
 use Rattle.sound_state.proofs.OverlapLemmas.{free-unlive}
@@ -42,7 +42,7 @@ popped-info g s l who at share a link words e s' h d =
     ap (λ w. info_or_zero (info_of w)) (h.elsewhere (name.Info d) (λ same. cc))
 
 -- the number of an anchor's name
-abbrev anchor_number : WordName → ℕ
+abbrev pub anchor_number : WordName → ℕ
 anchor_number (name.Anchor d) = d
 anchor_number n = 0
 
@@ -164,7 +164,7 @@ takes-off class at i Credit a = grind (arith)
 takes-off class at i LastCredit a = grind (arith)
 takes-off class at i (Grant more) a = grind (arith)
 
-pays-one : (x class : ℕ) (share : Share) → 1 ≤ reserved_among x (before_pop x class share).credits
+pub pays-one : (x class : ℕ) (share : Share) → 1 ≤ reserved_among x (before_pop x class share).credits
 pays-one x class Credit = grind (arith)
 pays-one x class LastCredit = grind (arith)
 pays-one x class (Grant more) = grind (arith)
@@ -197,10 +197,6 @@ popped-first g s l who at share a link words e s' h =
     let mine : errand_reserves at.desc (s.errand who) ≤ callers_sum g (errand_reserves at.desc) s.errand = term-sum g.callers (λ i. errand_reserves at.desc (s.errand i)) who h.caller in
     omega (arith, old, mine, pays-one at.desc at.seat.class share)
 
--- a sound state is sound without its counts
-pub without-counts : (g : Geometry) (s : State) → IsSound g s → IsSoundWithoutCounts g s
-without-counts g s sound = record { checked = sound.checked; legal = legal-weaker g s.history sound.legal; parts = sound.parts }
-
 -- the first index of a chain is on it
 first-occurs : (next : ℕ → ℕ) (k i : ℕ) → 0 < k → 0 < occurs i (chain_of next k i)
 first-occurs next k i some =
@@ -209,13 +205,13 @@ first-occurs next k i some =
 -- the popped block is free before, and live after; all other places are as they were
 pub popped-none :
     (g : Geometry) (s : State) (l : Lists) (who : ℕ) (at : Site) (share : Share) (a : AnchorFields) (link words : ℕ) (e : ErrandFields)
-    (s' : State) → Pops g s l who at share a link words e s' → IsSound g s → IsSoundWith g s l
+    (s' : State) → Pops g s l who at share a link words e s' → IsSoundWithoutCounts g s → IsSoundWith g s l
     → block_at (popped_place at a) (pool_of s.history) ≡ None
 popped-none g s l who at share a link words e s' h sound is =
     let free : 0 < occurs (anchor_for s at.desc).avail (free_chain (superblock_of g s at.desc)) =
     first-occurs (superblock_of g s at.desc).next ((anchor_for s at.desc).count + reserved_of g s at.desc) (anchor_for s at.desc).avail
     (omega (arith, popped-first g s l who at share a link words e s' h)) in
-    let none = free-unlive g s (without-counts g s sound) l is at.desc (anchor_for s at.desc).avail h.site.desc h.bound free in
+    let none = free-unlive g s sound l is at.desc (anchor_for s at.desc).avail h.site.desc h.bound free in
     subst (λ i. block_at (block_place at.frame at.seat.class i) (pool_of s.history) ≡ None) (ap (λ x. x.avail) h.before)
     (subst (λ c. block_at (block_place at.frame c (anchor_for s at.desc).avail) (pool_of s.history) ≡ None) h.located.class
     (subst (λ f. block_at (block_place f (info_for s at.desc).class (anchor_for s at.desc).avail) (pool_of s.history) ≡ None) h.located.frame none))

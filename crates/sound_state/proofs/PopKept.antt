@@ -31,7 +31,7 @@ use Rattle.sound_state.proofs.CreditLemmas.{word-sum}
 use Rattle.sound_state.proofs.PointLemmas.{kept_places}
 use Rattle.sound_state.proofs.PopEffects.{Pops, popped_holds}
 use Rattle.sound_state.proofs.PopFacts.{popped-info, popped-anchor, popped-words}
-use Rattle.sound_state.proofs.SumLemmas.{callers-moved, sum-change, term-sum}
+use Rattle.sound_state.proofs.SumLemmas.{callers-moved, sum-change, term-sum, two-terms}
 
 -- who takes the last credit, or is granted more than one block, keeps the descriptor
 abbrev IsReserving : Share → Type 0
@@ -152,17 +152,6 @@ record StandsAlone (g : Geometry) (s : State) (l : Lists) (who : ℕ) (s' : Stat
   retired : occurs d (s.errand who).retired ≡ 0
   others : (i : ℕ) → i < g.callers → i ≢ who → errand_has d (s.errand i) ≡ 0
 
--- two terms are no more than the sum
-two-terms : (n : ℕ) (f : ℕ → ℕ) (i j : ℕ) → i < n → j < n → j ≢ i → f i + f j ≤ sum_below n f
-two-terms n f i j has_i has_j ne =
-    let f' : ℕ → ℕ = λ k. if k == i then 0 else f k in
-    let changed : sum_below n f' + f i ≡ sum_below n f + f' i =
-    sum-change n f f' i has_i (λ k lt other. cond-false {A = ℕ} (k == i) 0 (f k) (ne_eqb k i other)) in
-    let at_i : f' i ≡ 0 = cond-true {A = ℕ} (i == i) 0 (f i) (eq-eqb i i refl) in
-    let at_j : f' j ≡ f j = cond-false {A = ℕ} (j == i) 0 (f j) (ne_eqb j i ne) in
-    let least : f' j ≤ sum_below n f' = term-sum n f' j has_j in
-    omega (arith, changed, at_i, at_j, least)
-
 filled-alone :
     (g : Geometry) (s : State) (l : Lists) (who : ℕ) (at : Site) (share : Share) (a : AnchorFields) (link words : ℕ) (e : ErrandFields)
     (s' : State) → Pops g s l who at share a link words e s' → IsKept g s l → IsFilled share a → StandsAlone g s l who s' at.desc
@@ -181,7 +170,7 @@ filled-alone g s l who at share a link words e s' h kept filled =
       available = omega (arith, once, own, one, mine);
       retired = omega (arith, once, own, one, mine);
       others = λ i has other.
-          omega (arith, once, own, one, two-terms g.callers (λ i. errand_has at.desc (s.errand i)) who i h.caller has other);
+          omega (arith, once, own, one, two-terms g.callers (λ i. errand_has at.desc (s.errand i)) i who has h.caller other);
     }
 
 popped-cases :

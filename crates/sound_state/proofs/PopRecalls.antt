@@ -3,7 +3,7 @@ use Rattle.std.proofs.Common.{ℕ, true, zero, suc, ◌≡◌, ◌≢◌, ◌<�
 use Rattle.std.proofs.Math.Path.{fun_ext}
 use Rattle.std.specs.List.{All, AllByRecursion}
 use Rattle.std.specs.Prelude.{◌==◌, if◌then◌else◌, IsTrue}
-use Rattle.std.proofs.lemmas.Bool.{cases_eq, cond-true, cond-false, eq-eqb, ne_eqb}
+use Rattle.std.proofs.lemmas.Bool.{cases_eq, cond-true, eq-eqb, ne_eqb}
 use Rattle.std.proofs.lemmas.List.Elements.{All-nil, All-cons, All-head, All-from_recursion, recursion_from_All}
 use Rattle.std.proofs.lemmas.Option.{none-some}
 use Rattle.heap_geometry.specs.declared.geometry.Geometry.{Geometry}
@@ -16,7 +16,6 @@ use Rattle.packed_words.specs.Head.{HeadFields, head_of}
 use Rattle.packed_words.specs.Prefix.{link_of}
 use Rattle.packed_words.proofs.AnchorLemmas.{anchor_of-anchor_word}
 use Rattle.partial_parts.specs.Grants.{is_empty}
-use Rattle.word_plan.specs.declared.name.WordName.{WordName}
 use Rattle.word_plan.specs.declared.name.WordName.TheVariants as name
 use Rattle.word_plan.specs.declared.seat.Site.{Site}
 use Rattle.word_plan.specs.Counts.{descriptor_count}
@@ -27,7 +26,6 @@ use Rattle.superblock_parts.specs.Chains.{occurs, link_in, prefix_name}
 use Rattle.superblock_parts.specs.declared.point.BlockPoint.{BlockPoint}
 use Rattle.superblock_parts.specs.declared.point.BlockPoint.TheVariants as block
 use Rattle.superblock_parts.specs.declared.point.Share.{Share}
-use Rattle.superblock_parts.specs.declared.point.Share.TheVariants.{Credit, LastCredit, Grant}
 use Rattle.superblock_parts.proofs.ChainLemmas.{chain_of-length, occurs-more}
 use Rattle.stack_parts.specs.declared.point.Pile.{Pile}
 use Rattle.stack_parts.specs.declared.point.Pile.TheVariants.{Frames, Partials}
@@ -51,28 +49,18 @@ use Rattle.errand_steps.specs.declared.point.Point.{Point}
 use Rattle.errand_steps.specs.declared.point.Point.TheVariants as point
 use Rattle.errand_steps.specs.Errands.{ErrandFields}
 use Rattle.errand_steps.specs.Steps.{State}
-use Rattle.sound_state.specs.Holdings.{waiting, before_pop, holds_of}
+use Rattle.sound_state.specs.Holdings.{waiting, holds_of}
 use Rattle.sound_state.specs.Keepers.{IsActive, IsKeptAs}
 use Rattle.sound_state.specs.Lists.{Lists}
 use Rattle.sound_state.specs.Recalls.{Recall, IsPopped, IsLocated, IsTopStill, IsRemembered, IsSo, IsOwned, bound_here, block_recalls, onward_recalls, stack_recalls, desc_recalls, partial_recalls, large_recalls, recalls_of, bound_for, located, bound_at, pops, links, tops, nexts, tops_exist, says, made, in_use, emptied, noted, owns, owns_all, looked}
-use Rattle.sound_state.specs.Sound.{IsSound, IsSoundWith}
+use Rattle.sound_state.specs.Sound.{IsSoundWithoutCounts, IsSoundWith}
 use Rattle.sound_state.specs.Sums.{sum_below, callers_sum}
 use Rattle.sound_state.specs.Superblocks.{IsChained, anchor_for, info_for, superblock_of, free_chain, held_back, reserved_of, reserved_among, errand_reserves, waiting_of, is_bound, errand_keeps}
 use Rattle.sound_state.proofs.PointLemmas.{kept-at, so-at}
 use Rattle.sound_state.proofs.PopEffects.{Pops, popped_place}
-use Rattle.sound_state.proofs.PopFacts.{popped-info, popped-anchor, popped-empty, popped-bound, popped-ways, popped-reserved, popped-none, popped-there}
+use Rattle.sound_state.proofs.PopFacts.{popped-info, popped-anchor, popped-empty, popped-bound, popped-ways, popped-reserved, popped-none, popped-there, anchor_number, pays-one}
 use Rattle.sound_state.proofs.PopTurns.{each-other}
-use Rattle.sound_state.proofs.SumLemmas.{sum-plus, sum-change, term-sum}
-
--- two terms are no more than the sum
-pub two-terms : (n : ℕ) (f : ℕ → ℕ) (i j : ℕ) → i < n → j < n → i ≢ j → f i + f j ≤ sum_below n f
-two-terms n f i j has_i has_j ne =
-    let rest : ℕ → ℕ = λ k. if k == i then 0 else f k in
-    let changed : sum_below n rest + f i ≡ sum_below n f + rest i =
-    sum-change n f rest i has_i (λ k lt differ. cond-false {A = ℕ} (k == i) 0 (f k) (ne_eqb k i differ)) in
-    let at_i : rest i ≡ 0 = cond-true {A = ℕ} (i == i) 0 (f i) (eq-eqb i i refl) in
-    let at_j : rest j ≡ f j = cond-false {A = ℕ} (j == i) 0 (f j) (ne_eqb j i (λ same. ne (sym same))) in
-    omega (arith, changed, at_i, at_j, term-sum n rest j has_j)
+use Rattle.sound_state.proofs.SumLemmas.{sum-plus, term-sum, two-terms}
 
 -- a list of numbers below a bound is no longer than these occur in it
 pub occurs-all : (n : ℕ) (xs : List ℕ) → ((i : ℕ) → 0 < occurs i xs → i < n) → length xs ≤ sum_below n (λ i. occurs i xs)
@@ -116,12 +104,6 @@ new_anchor-fits class = record {
   count = omega (arith, block_count_of-most class);
   tag = omega arith;
 }
-
--- who is about to pop has a block reserved
-pays-one : (x class : ℕ) (share : Share) → 1 ≤ reserved_among x (before_pop x class share).credits
-pays-one x class Credit = grind (arith)
-pays-one x class LastCredit = grind (arith)
-pays-one x class (Grant more) = grind (arith)
 
 -- a caller that waits to install a superblock has reserved its first blocks, and holds block 0 back
 install-reserves : (site : Site) (o : Onward) → reserved_among site.desc (holds_of (point.Block (block.InstallSuperblock site) o)).credits ≡ new_credits site.seat.class + 1
@@ -170,11 +152,6 @@ abbrev pub IsLeft : State → ℕ → Recall → Type 0
 IsLeft s d (links e a prefix) = a.tag ≤ (anchor_for s e).tag
 IsLeft s d (says n w) = n ≢ name.Anchor d
 IsLeft s d r = Unit {0}
-
--- the number of an anchor's name
-abbrev anchor_number : WordName → ℕ
-anchor_number (name.Anchor d) = d
-anchor_number n = 0
 
 -- all but a new superblock that waits to be installed: in a superblock
 left-block :
@@ -419,7 +396,7 @@ popped-top g s l who at share a link words e s' h seat p head k =
 -- who owned a block owns it still: the popped place was not live
 pub popped-owned :
     (g : Geometry) (s : State) (l : Lists) (who : ℕ) (at : Site) (share : Share) (a : AnchorFields) (link words : ℕ) (e : ErrandFields)
-    (s' : State) → Pops g s l who at share a link words e s' → IsSound g s → IsSoundWith g s l → (i place : ℕ) (n : Need)
+    (s' : State) → Pops g s l who at share a link words e s' → IsSoundWithoutCounts g s → IsSoundWith g s l → (i place : ℕ) (n : Need)
     → IsOwned s i place n → IsOwned s' i place n
 popped-owned g s l who at share a link words e s' h sound old i place n k =
     let apart : place ≢ popped_place at a =
@@ -455,7 +432,7 @@ own-other i who words place past ne =
 -- what another caller remembers stays so
 pub popped-so :
     (g : Geometry) (s : State) (l : Lists) (who : ℕ) (at : Site) (share : Share) (a : AnchorFields) (link words : ℕ) (e : ErrandFields)
-    (s' : State) → Pops g s l who at share a link words e s' → IsSound g s → IsSoundWith g s l → (i : ℕ) → i ≢ who → (r : Recall)
+    (s' : State) → Pops g s l who at share a link words e s' → IsSoundWithoutCounts g s → IsSoundWith g s l → (i : ℕ) → i ≢ who → (r : Recall)
     → IsLeft s at.desc r → IsSo g s l i r → IsSo g s' l i r
 popped-so g s l who at share a link words e s' h sound old i ne (bound_for d c) left so = (
   subst IsTrue (sym (popped-bound g s l who at share a link words e s' h d)) so.0,
@@ -500,7 +477,7 @@ popped-so g s l who at share a link words e s' h sound old i ne (looked c) left 
 
 pub popped-remembered :
     (g : Geometry) (s : State) (l : Lists) (who : ℕ) (at : Site) (share : Share) (a : AnchorFields) (link words : ℕ) (e : ErrandFields)
-    (s' : State) → Pops g s l who at share a link words e s' → IsSound g s → IsSoundWith g s l → IsRemembered g s' l
+    (s' : State) → Pops g s l who at share a link words e s' → IsSoundWithoutCounts g s → IsSoundWith g s l → IsRemembered g s' l
 popped-remembered g s l who at share a link words e s' h sound old =
     let mine : All (IsSo g s' l who) (bound_here at) =
     All-cons (IsSo g s' l who) (bound_at at.desc at.frame at.seat.class) [] (

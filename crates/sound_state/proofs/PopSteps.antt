@@ -38,13 +38,12 @@ use Rattle.sound_state.specs.Holdings as hold
 use Rattle.sound_state.specs.Holdings.{Holding, nothing, holds_of, before_pop, block_handed}
 use Rattle.sound_state.specs.Lists.{Lists}
 use Rattle.sound_state.specs.Recalls.{IsSo, bound_here, bound_at, pops, links, recalls_of}
-use Rattle.sound_state.specs.Sound.{IsSound, IsSoundWith, IsOwnErrand}
+use Rattle.sound_state.specs.Sound.{IsSoundWithoutCounts, IsSoundWith, IsOwnErrand}
 use Rattle.sound_state.specs.Superblocks.{anchor_for}
 use Rattle.sound_state.proofs.PointLemmas.{fits-at, so-at, the-alloc}
 use Rattle.sound_state.proofs.PopEffects.{Pops, StandsIn, popped_anchor}
 use Rattle.sound_state.proofs.AlikeLemmas.{each-caller}
 use Rattle.sound_state.proofs.PopChains.{popped-chained, popped-framed}
-use Rattle.sound_state.proofs.PopFacts.{without-counts}
 use Rattle.sound_state.proofs.PopKept.{popped-kept, popped-stocked}
 use Rattle.sound_state.proofs.PopRecalls.{popped-remembered}
 use Rattle.sound_state.proofs.PopTies.{popped-legal, popped-tied}
@@ -109,7 +108,7 @@ found_won word = record { value = word; won = true }
 -- what the step of a won pop changes
 pub pop-pops :
     (g : Geometry) (s : State) (l : Lists) (who : ℕ) (s' : State) (at : Site) (share : Share) (a : AnchorFields) (prefix : ℕ) (o : Onward)
-    → IsSound g s → IsSoundWith g s l → who < g.callers → (s.errand who).point ≡ Block (block.PopBlock at share a prefix) o
+    → IsSoundWithoutCounts g s → IsSoundWith g s l → who < g.callers → (s.errand who).point ≡ Block (block.PopBlock at share a prefix) o
     → s.word (name.Anchor at.desc) ≡ anchor_word a → Step s who s'
     → Pops g s l who at share a (link_of prefix) (asked o)
     (at_point (s.errand who) (found_won (anchor_word a)) (Block (points.after_pop at a.avail (more_of share a)) o)) s'
@@ -124,7 +123,7 @@ pop-pops g s l who s' at share a prefix o sound is has here word step =
     let so_bound = All-head (IsSo g s l who) (bound_at at.desc at.frame at.seat.class) [] (All-tail (IsSo g s l who) (pops at.desc a) (bound_here at) so_rest) in
     let before : anchor_for s at.desc ≡ a = ap anchor_of word ∙ anchor_of-anchor_word a fit.point.anchor.fits in
     let room : a.tag + 1 < 2 ^ TAG_BITS =
-    subst (λ x. x.tag + 1 < 2 ^ TAG_BITS) before (anchor-tags-below g s (without-counts g s sound) at.desc fit.point.site.desc) in
+    subst (λ x. x.tag + 1 < 2 ^ TAG_BITS) before (anchor-tags-below g s sound at.desc fit.point.site.desc) in
     let uncut : popped share a (link_of prefix) ≡ popped_anchor share a (link_of prefix) = popped-uncut share a (link_of prefix) room in
     let fits_new : IsAnchor (popped_anchor share a (link_of prefix)) = popped-fits share a prefix fit.point.anchor.fits room in
     let is_won : (s.word (name.Anchor at.desc) == anchor_word a) ≡ true = eq-eqb (s.word (name.Anchor at.desc)) (anchor_word a) word in
@@ -171,9 +170,9 @@ pop-pops g s l who s' at share a prefix o sound is has here word step =
 
 -- the state after a won pop is sound
 pub pop_block-won :
-    (g : Geometry) (s : State) (who : ℕ) (s' : State) (at : Site) (share : Share) (a : AnchorFields) (prefix : ℕ) (o : Onward) → IsSound g s
+    (g : Geometry) (s : State) (who : ℕ) (s' : State) (at : Site) (share : Share) (a : AnchorFields) (prefix : ℕ) (o : Onward) → IsSoundWithoutCounts g s
     → who < g.callers → (s.errand who).point ≡ Block (block.PopBlock at share a prefix) o → s.word (name.Anchor at.desc) ≡ anchor_word a
-    → Step s who s' → IsSound g s'
+    → Step s who s' → IsSoundWithoutCounts g s'
 pop_block-won g s who s' at share a prefix o sound has here word step =
     let l = sound.parts.0 in
     let is = sound.parts.1 in
@@ -202,8 +201,8 @@ pop_block-won g s who s' at share a prefix o sound has here word step =
 
 -- so it is after a pop, won or lost
 pub pop_block-sound :
-    (g : Geometry) (s : State) (who : ℕ) (s' : State) (at : Site) (share : Share) (a : AnchorFields) (prefix : ℕ) (o : Onward) → IsSound g s
-    → who < g.callers → (s.errand who).point ≡ Block (block.PopBlock at share a prefix) o → Step s who s' → IsSound g s'
+    (g : Geometry) (s : State) (who : ℕ) (s' : State) (at : Site) (share : Share) (a : AnchorFields) (prefix : ℕ) (o : Onward) → IsSoundWithoutCounts g s
+    → who < g.callers → (s.errand who).point ≡ Block (block.PopBlock at share a prefix) o → Step s who s' → IsSoundWithoutCounts g s'
 pop_block-sound g s who s' at share a prefix o sound has here step =
     elim (cases_eq (s.word (name.Anchor at.desc)) (anchor_word a)) [
       | inl is ↦ pop_block-won g s who s' at share a prefix o sound has here is step

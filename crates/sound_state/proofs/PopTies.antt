@@ -1,213 +1,47 @@
 -- After a won pop the words still show the pool of the events, and the events are legal.
-use Rattle.std.proofs.Common.{ℕ, zero, suc, Bool, Option, Some, None, ◌≡◌, ◌≢◌, ◌<◌, ◌≤◌, ◌+◌, ◌*◌, ◌^◌, [], ◌∷◌, refl, arith, ap, sym, subst, inl, inr, ◌∙◌}
-use Rattle.std.specs.Prelude.{◌⊎◌, ◌==◌, ◌&&◌, if◌then◌else◌, nat_lt, All, Any, IsTrue, replicate, slice_index_or}
+use Rattle.std.proofs.Common.{ℕ, zero, suc, Option, Some, None, ◌≡◌, ◌≢◌, ◌<◌, ◌≤◌, ◌+◌, ◌*◌, ◌^◌, [], refl, arith, ap, sym, subst, inl, inr, ◌∙◌}
+use Rattle.std.specs.Prelude.{◌⊎◌, nat_lt, All, Any, IsTrue, replicate, slice_index_or}
 use Rattle.std.specs.Int.{bit_at}
-use Rattle.std.proofs.lemmas.Bool.{cases_eq, cases_lt, cases_Bool}
-use Rattle.std.proofs.lemmas.List.Elements.{All-nil, All-cons, All-head}
+use Rattle.std.proofs.lemmas.Bool.{cases_eq, cases_Bool}
+use Rattle.std.proofs.lemmas.List.Elements.{All-nil, All-cons}
 use Rattle.heap_geometry.specs.declared.geometry.Geometry.{Geometry}
 use Rattle.heap_geometry.specs.declared.need.Need.{Need}
 use Rattle.heap_geometry.specs.declared.need.Need.TheVariants.{Small, Large, TooLarge}
 use Rattle.heap_geometry.specs.Need.{need_of, usable_words}
 use Rattle.heap_geometry.specs.Place.{frame_of, unit_place}
 use Rattle.heap_geometry.proofs.PlaceLemmas.{frame_of-block_place}
-use Rattle.packed_words.specs.Anchor.{AnchorFields, anchor_word}
+use Rattle.packed_words.specs.Anchor.{AnchorFields}
 use Rattle.word_plan.specs.declared.name.WordName.TheVariants as name
 use Rattle.word_plan.specs.declared.seat.Site.{Site}
-use Rattle.word_plan.specs.Counts.{descriptor_count}
-use Rattle.superblock_parts.specs.Chains.{occurs}
-use Rattle.superblock_parts.specs.declared.point.BlockPoint.{BlockPoint}
-use Rattle.superblock_parts.specs.declared.point.BlockPoint.TheVariants as block
 use Rattle.superblock_parts.specs.declared.point.Share.{Share}
 use Rattle.superblock_parts.specs.declared.point.Share.TheVariants.{Credit, LastCredit, Grant}
-use Rattle.superblock_parts.specs.Anchors.{new_anchor, more_of}
-use Rattle.stack_parts.specs.declared.point.StackPoint.{StackPoint}
-use Rattle.hazard_parts.specs.declared.point.DescPoint.{DescPoint}
-use Rattle.partial_parts.specs.declared.point.PartialPoint.{PartialPoint}
-use Rattle.large_parts.specs.declared.point.LargePoint.{LargePoint}
+use Rattle.superblock_parts.specs.Anchors.{more_of}
 use Rattle.pool_model.specs.declared.event.Event.TheVariants.{Alloc}
 use Rattle.pool_model.specs.declared.owner.Owner.TheVariants.{Caller, Shelf}
-use Rattle.pool_model.specs.Legal.{IsLegal, IsFree, HoldsOnly}
+use Rattle.pool_model.specs.Legal.{IsLegalEventWithoutCounts, IsLegalWithoutCounts, IsFree, HoldsOnly}
 use Rattle.pool_model.specs.Pool.{Block, block_at, fresh_block, pool_of}
 use Rattle.pool_model.specs.WellFormed.{IsPlaceFor, IsWellFormed}
 use Rattle.pool_model.proofs.FreeLemmas.{clear-block}
-use Rattle.pool_model.proofs.HistoryLemmas.{legal-push, legal-weaker}
+use Rattle.pool_model.proofs.HistoryLemmas.{EachAfter-push}
 use Rattle.pool_model.proofs.PoolLemmas.{place-found, every-found}
 use Rattle.pool_model.proofs.WellFormedLemmas.{sound-of, large-frame}
-use Rattle.errand_steps.specs.declared.onward.Onward.{Onward}
-use Rattle.errand_steps.specs.declared.point.Point.{Point}
-use Rattle.errand_steps.specs.declared.point.Point.TheVariants as point
 use Rattle.errand_steps.specs.Errands.{ErrandFields}
 use Rattle.errand_steps.specs.Steps.{State}
-use Rattle.sound_state.specs.Frames.{errand_frames, fills}
-use Rattle.sound_state.specs.Holdings.{Handed, Freed, Holding, waiting, before_pop, block_handed, holds_of, block_holds, stack_holds, desc_holds, partial_holds, large_holds}
+use Rattle.sound_state.specs.Holdings.{Handed, Freed, Holding, before_pop, block_handed, holds_of}
 use Rattle.sound_state.specs.Lists.{Lists}
-use Rattle.sound_state.specs.Recalls.{IsLocated, IsOwned, IsSo, recalls_of, bound_here, bound_at, says}
-use Rattle.sound_state.specs.Sound.{IsSound, IsSoundWith}
-use Rattle.sound_state.specs.Sums.{sum_below, callers_sum}
-use Rattle.sound_state.specs.Superblocks.{kept_among, errand_keeps, info_for, is_bound, waiting_of}
+use Rattle.sound_state.specs.Recalls.{IsLocated, IsOwned}
+use Rattle.sound_state.specs.Sound.{IsSoundWithoutCounts, IsSoundWith}
+use Rattle.sound_state.specs.Superblocks.{info_for}
 use Rattle.sound_state.specs.Ties.{IsTied, IsLive, IsBlockOfDesc, IsExcepted}
 use Rattle.sound_state.proofs.AlikeLemmas.{Excepts, each-caller}
-use Rattle.sound_state.proofs.PointLemmas.{All-rest, so-at}
+use Rattle.sound_state.proofs.FrameLemmas.{bound-apart}
 use Rattle.sound_state.proofs.PopEffects.{Pops, popped_holds, popped_place}
 use Rattle.sound_state.proofs.PopFacts.{popped-info, popped-bound, popped-none, popped-here, popped-there}
-use Rattle.sound_state.proofs.SumLemmas.{term-sum}
-
--- two terms are no more than the sum
-two-terms : (n : ℕ) (f : ℕ → ℕ) (i j : ℕ) → i < n → j < n → i ≢ j → f i + f j ≤ sum_below n f
-two-terms zero f i j has_i has_j ne = omega arith
-two-terms (suc n) f i j has_i has_j ne =
-    elim (cases_eq n i) [
-      | inl e ↦
-          let P : ℕ → Type 0 = λ m. f m + f j ≤ sum_below n f + f n in
-          subst P e (omega (arith, term-sum n f j (omega arith)))
-      | inr not_i ↦
-          elim (cases_eq n j) [
-            | inl e ↦
-                let P : ℕ → Type 0 = λ m. f i + f m ≤ sum_below n f + f n in
-                subst P e (omega (arith, term-sum n f i (omega arith)))
-            | inr not_j ↦ omega (arith, two-terms n f i j (omega arith) (omega arith) ne)
-          ]
-    ]
-
--- a sum that isn't 0 has a term that isn't
-some-term : (n : ℕ) (f : ℕ → ℕ) → 0 < sum_below n f → (i : ℕ) × (i < n) × (0 < f i)
-some-term zero f some = absurd (omega (arith, some))
-some-term (suc n) f some =
-    elim (cases_lt 0 (f n)) [
-      | inl here ↦ (n, omega arith, here)
-      | inr none ↦ let rest = some-term n f (omega arith) in (rest.0, omega (arith, rest.1), rest.2)
-    ]
-
--- at this point a caller installs the new superblock of d
-abbrev Installs : ℕ → BlockPoint → Type 0
-Installs d (block.InstallSuperblock at) = at.desc ≡ d
-Installs d p = ⊥
-
--- who keeps a new superblock that waits stands there
-installs : (d : ℕ) (p : BlockPoint) → 0 < kept_among waiting d (block_holds p).kept → Installs d p
-installs d p some = grind (arith, some)
-
-installing : (d : ℕ) (p : BlockPoint) → Installs d p → (at : Site) × (p ≡ block.InstallSuperblock at) × (at.desc ≡ d)
-installing d (block.InstallSuperblock at) h = (at, refl, h)
-installing d p h = absurd h
-
--- nothing waits so elsewhere
-stack-waits : (d : ℕ) (p : StackPoint) (o : Onward) → kept_among waiting d (stack_holds p o).kept ≡ 0
-stack-waits d p o = grind (arith)
-
-desc-waits : (d : ℕ) (p : DescPoint) (o : Onward) → kept_among waiting d (desc_holds p o).kept ≡ 0
-desc-waits d p o = grind (arith)
-
-partial-waits : (d : ℕ) (p : PartialPoint) (o : Onward) → kept_among waiting d (partial_holds p o).kept ≡ 0
-partial-waits d p o = grind (arith)
-
-large-waits : (d : ℕ) (p : LargePoint) → kept_among waiting d (large_holds p).kept ≡ 0
-large-waits d p = grind (arith)
-
--- among all points
-waits-at :
-    (d : ℕ) (p : Point) → 0 < kept_among waiting d (holds_of p).kept
-    → (at : Site) × (o : Onward) × (p ≡ point.Block (block.InstallSuperblock at) o) × (at.desc ≡ d)
-unfolding holds_of
-waits-at d point.Idle some = absurd (omega (arith, some))
-waits-at d (point.Block p o) some =
-    let i = installing d p (installs d p some) in (i.0, o, ap (λ q. point.Block q o) i.1, i.2)
-waits-at d (point.Stack p o) some = absurd (omega (arith, some, stack-waits d p o))
-waits-at d (point.Desc p o) some = absurd (omega (arith, some, desc-waits d p o))
-waits-at d (point.Partial p o) some = absurd (omega (arith, some, partial-waits d p o))
-waits-at d (point.Large p o) some = absurd (omega (arith, some, large-waits d p))
-
--- a caller has at most one that waits
-abbrev installed_desc : Point → ℕ
-installed_desc (point.Block (block.InstallSuperblock at) o) = at.desc
-installed_desc p = 0
-
-waits-one :
-    (d k : ℕ) (p : Point) → 0 < kept_among waiting d (holds_of p).kept → 0 < kept_among waiting k (holds_of p).kept → d ≡ k
-waits-one d k p of_d of_k =
-    let one = waits-at d p of_d in
-    let two = waits-at k p of_k in
-    sym one.3 ∙ ap installed_desc (sym one.2 ∙ two.2) ∙ two.3
-
--- and has its frame in its hand
-in-hand : (f x : ℕ) → f ≡ x → 0 < occurs f (x ∷ [])
-in-hand f x same = grind (arith, same)
-
-waits-frame :
-    (g : Geometry) (s : State) (l : Lists) (i d : ℕ) → IsSoundWith g s l → i < g.callers → 0 < errand_keeps waiting d (s.errand i)
-    → 0 < errand_frames (info_for s d).frame (s.errand i)
-unfolding holds_of recalls_of
-waits-frame g s l i d is has some =
-    let w = waits-at d (s.errand i).point some in
-    let so : All (IsSo g s l i) (recalls_of (point.Block (block.InstallSuperblock w.0) w.1)) =
-    so-at g s l i (point.Block (block.InstallSuperblock w.0) w.1) is has w.2 in
-    let here : IsSo g s l i (bound_at w.0.desc w.0.frame w.0.seat.class) =
-    All-head (IsSo g s l i) (bound_at w.0.desc w.0.frame w.0.seat.class) []
-    (All-rest (IsSo g s l i) (says (name.Anchor w.0.desc) (anchor_word (new_anchor w.0.seat.class))) (bound_here w.0) so) in
-    let frame : (info_for s d).frame ≡ w.0.frame = subst (λ k. (info_for s k).frame ≡ w.0.frame) w.3 here.1.frame in
-    subst (λ q. 0 < occurs (info_for s d).frame (holds_of q).frames) (sym w.2) (in-hand (info_for s d).frame w.0.frame frame)
-
--- a bound superblock that doesn't wait fills its frame
-fills-one :
-    (b : Bool) (w x f : ℕ) → IsTrue b → w ≡ 0 → x ≡ f → ◌≡◌ {A = ℕ} (if b && (w == 0) && (x == f) then 1 else 0) 1
-fills-one b w x f bound none same = grind (arith, bound, none, same)
-
--- the frame of a bound superblock is in the hand of the caller with which it waits, or filled
-held-or-filled :
-    (g : Geometry) (s : State) (l : Lists) (f d : ℕ) → IsSoundWith g s l → IsTrue (is_bound g s l d) → (info_for s d).frame ≡ f
-    → ((i : ℕ) × (i < g.callers) × (0 < errand_keeps waiting d (s.errand i)) × (0 < errand_frames f (s.errand i)))
-    ⊎ (fills g s l f d ≡ 1)
-unfolding callers_sum
-held-or-filled g s l f d is bound at =
-    elim (cases_lt 0 (waiting_of g s d)) [
-      | inl some ↦
-          let w = some-term g.callers (λ i. errand_keeps waiting d (s.errand i)) some in
-          inl (w.0, w.1, w.2, subst (λ x. 0 < errand_frames x (s.errand w.0)) at (waits-frame g s l w.0 d is w.1 w.2))
-      | inr none ↦ inr (fills-one (is_bound g s l d) (waiting_of g s d) (info_for s d).frame f bound (omega (arith, none)) at)
-    ]
-
--- no two bound superblocks lie in one frame
-pub one-in-frame :
-    (g : Geometry) (s : State) (l : Lists) (f d k : ℕ) → IsSoundWith g s l → f < g.frames → d < descriptor_count g
-    → k < descriptor_count g → IsTrue (is_bound g s l d) → IsTrue (is_bound g s l k) → (info_for s d).frame ≡ f
-    → (info_for s k).frame ≡ f → d ≡ k
-unfolding callers_sum
-one-in-frame g s l f d k is has has_d has_k bound_d bound_k at_d at_k =
-    let once = is.framed.once f has in
-    let hands = λ (i : ℕ). errand_frames f (s.errand i) in
-    elim (cases_eq d k) [
-      | inl same ↦ same
-      | inr ne ↦
-          elim (held-or-filled g s l f d is bound_d at_d) [
-            | inl one ↦
-                elim (held-or-filled g s l f k is bound_k at_k) [
-                  | inl two ↦
-                      elim (cases_eq one.0 two.0) [
-                        | inl same ↦
-                            waits-one d k (s.errand one.0).point one.2
-                            (subst (λ i. 0 < errand_keeps waiting k (s.errand i)) (sym same) two.2)
-                        | inr apart ↦
-                            absurd (omega (arith, once, one.3, two.3, two-terms g.callers hands one.0 two.0 one.1 two.1 apart))
-                      ]
-                  | inr two ↦
-                      absurd
-                      (omega (arith, once, one.3, two, term-sum g.callers hands one.0 one.1, term-sum (descriptor_count g) (fills g s l f) k has_k))
-                ]
-            | inr one ↦
-                elim (held-or-filled g s l f k is bound_k at_k) [
-                  | inl two ↦
-                      absurd
-                      (omega (arith, once, two.3, one, term-sum g.callers hands two.0 two.1, term-sum (descriptor_count g) (fills g s l f) d has_d))
-                  | inr two ↦
-                      absurd (omega (arith, once, one, two, two-terms (descriptor_count g) (fills g s l f) d k has_d has_k ne))
-                ]
-          ]
-    ]
 
 -- a live block of the popped block's frame is of its class
 class-there :
     (g : Geometry) (s : State) (l : Lists) (who : ℕ) (at : Site) (share : Share) (a : AnchorFields) (link words : ℕ) (e : ErrandFields)
-    (s' : State) → Pops g s l who at share a link words e s' → IsSound g s → IsSoundWith g s l
+    (s' : State) → Pops g s l who at share a link words e s' → IsSoundWithoutCounts g s → IsSoundWith g s l
     → (place : ℕ) (b : Block) (n : Need) → IsLive s place b → b.need ≡ n → IsPlaceFor g n b.place → frame_of b.place ≡ at.frame
     → b.need ≡ Small at.seat.class
 class-there g s l who at share a link words e s' h sound is place b (Small class) live of placed here =
@@ -217,7 +51,11 @@ class-there g s l who at share a link words e s' h sound is place b (Small class
     let same : b.place ≡ place = place-found place (pool_of s.history) b live in
     let frame : (info_for s d).frame ≡ at.frame = its.located.frame ∙ ap frame_of (sym same) ∙ here in
     let one : d ≡ at.desc =
-    one-in-frame g s l at.frame d at.desc is h.site.frame its.exists h.site.desc its.bound h.bound frame h.located.frame in
+    elim (cases_eq d at.desc) [
+      | inl itself ↦ itself
+      | inr differ ↦
+          absurd (bound-apart g s l d at.desc at.frame is its.exists h.site.desc h.site.frame its.bound h.bound frame h.located.frame differ)
+    ] in
     let classes : class ≡ at.seat.class = sym its.located.class ∙ ap (λ k. (info_for s k).class) one ∙ h.located.class in
     of ∙ ap Small classes
 class-there g s l who at share a link words e s' h sound is place b (Large units) live of placed here =
@@ -229,9 +67,9 @@ class-there g s l who at share a link words e s' h sound is place b TooLarge liv
 -- the popped block is free before, so its event is legal
 pub popped-legal :
     (g : Geometry) (s : State) (l : Lists) (who : ℕ) (at : Site) (share : Share) (a : AnchorFields) (link words : ℕ) (e : ErrandFields)
-    (s' : State) → Pops g s l who at share a link words e s' → IsSound g s → IsSoundWith g s l → IsLegal g s'.history
+    (s' : State) → Pops g s l who at share a link words e s' → IsSoundWithoutCounts g s → IsSoundWith g s l → IsLegalWithoutCounts g s'.history
 popped-legal g s l who at share a link words e s' h sound is =
-    let pool = sound-of g s.history (legal-weaker g s.history sound.legal) in
+    let pool = sound-of g s.history sound.legal in
     let only : HoldsOnly (pool_of s.history) at.frame at.seat.class =
     λ place b found here.
     let formed : IsWellFormed g b = every-found (IsWellFormed g) place (pool_of s.history) b pool.each found in
@@ -245,9 +83,9 @@ popped-legal g s l who at share a link words e s' h sound is =
       same_class = only;
       clear = clear-block g (pool_of s.history) pool at.frame at.seat.class a.avail h.site.frame h.fits.avail only (popped-none g s l who at share a link words e s' h sound is);
     } in
-    subst (IsLegal g) (sym h.history)
-    (legal-push g s.history (Alloc who words (popped_place at a)) sound.legal
-    ((h.caller, subst (λ n. IsFree g (pool_of s.history) n (popped_place at a)) (sym h.small) free), tt))
+    subst (IsLegalWithoutCounts g) (sym h.history)
+    (EachAfter-push (IsLegalEventWithoutCounts g) s.history (Alloc who words (popped_place at a)) sound.legal
+    (h.caller, subst (λ n. IsFree g (pool_of s.history) n (popped_place at a)) (sym h.small) free))
 
 -- who pops hands out and frees nothing before, and hands out the popped block after
 hands-before : (d class : ℕ) (share : Share) → (before_pop d class share).hands ≡ []
@@ -279,14 +117,14 @@ none-written (suc n) (suc i) = none-written n i
 -- a block that was live is elsewhere and still is; one that is live elsewhere was
 was-elsewhere :
     (g : Geometry) (s : State) (l : Lists) (who : ℕ) (at : Site) (share : Share) (a : AnchorFields) (link words : ℕ) (e : ErrandFields)
-    (s' : State) → Pops g s l who at share a link words e s' → IsSound g s → IsSoundWith g s l
+    (s' : State) → Pops g s l who at share a link words e s' → IsSoundWithoutCounts g s → IsSoundWith g s l
     → (place : ℕ) (b : Block) → IsLive s place b → place ≢ popped_place at a
 was-elsewhere g s l who at share a link words e s' h sound is place b live same =
     let bad : None ≡ Some b = sym (popped-none g s l who at share a link words e s' h sound is) ∙ ap (λ q. block_at q (pool_of s.history)) (sym same) ∙ live in cc
 
 still-live :
     (g : Geometry) (s : State) (l : Lists) (who : ℕ) (at : Site) (share : Share) (a : AnchorFields) (link words : ℕ) (e : ErrandFields)
-    (s' : State) → Pops g s l who at share a link words e s' → IsSound g s → IsSoundWith g s l
+    (s' : State) → Pops g s l who at share a link words e s' → IsSoundWithoutCounts g s → IsSoundWith g s l
     → (place : ℕ) (b : Block) → IsLive s place b → IsLive s' place b
 still-live g s l who at share a link words e s' h sound is place b live =
     popped-there g s l who at share a link words e s' h place (was-elsewhere g s l who at share a link words e s' h sound is place b live) ∙ live
@@ -313,7 +151,7 @@ fresh-small g s l who at share a link words e s' h place b same live = ap (λ (x
 -- who owned a block owns it
 still-owned :
     (g : Geometry) (s : State) (l : Lists) (who : ℕ) (at : Site) (share : Share) (a : AnchorFields) (link words : ℕ) (e : ErrandFields)
-    (s' : State) → Pops g s l who at share a link words e s' → IsSound g s → IsSoundWith g s l
+    (s' : State) → Pops g s l who at share a link words e s' → IsSoundWithoutCounts g s → IsSoundWith g s l
     → (i place : ℕ) (n : Need) → IsOwned s i place n → IsOwned s' i place n
 still-owned g s l who at share a link words e s' h sound is i place n k = record {
   block = (k.block.0, still-live g s l who at share a link words e s' h sound is place k.block.0 k.block.1, k.block.2, k.block.3);
@@ -379,7 +217,7 @@ located-stays g s l who at share a link words e s' h d f c k = record {
 -- each small block is of a superblock, and its prefix word says so
 small-tied :
     (g : Geometry) (s : State) (l : Lists) (who : ℕ) (at : Site) (share : Share) (a : AnchorFields) (link words : ℕ) (e : ErrandFields)
-    (s' : State) → Pops g s l who at share a link words e s' → IsSound g s → IsSoundWith g s l
+    (s' : State) → Pops g s l who at share a link words e s' → IsSoundWithoutCounts g s → IsSoundWith g s l
     → (place class : ℕ) (b : Block) → IsLive s' place b → b.need ≡ Small class
     → (d : ℕ) × IsBlockOfDesc g s' l place class d × (IsExcepted g s' place ⊎ (s'.word (name.Arena place) ≡ 2 * d))
 small-tied g s l who at share a link words e s' h sound is place class b live of =
@@ -434,7 +272,7 @@ written-elsewhere g s l who at share a link words e s' h place i v b live of sam
 -- the words still show the pool
 pub popped-tied :
     (g : Geometry) (s : State) (l : Lists) (who : ℕ) (at : Site) (share : Share) (a : AnchorFields) (link words : ℕ) (e : ErrandFields)
-    (s' : State) → Pops g s l who at share a link words e s' → IsSound g s → IsSoundWith g s l → IsTied g s' l
+    (s' : State) → Pops g s l who at share a link words e s' → IsSoundWithoutCounts g s → IsSoundWith g s l → IsTied g s' l
 popped-tied g s l who at share a link words e s' h sound is =
     let tied = is.tied in
     let units : s'.word name.Units ≡ s.word name.Units = h.elsewhere name.Units (λ same. cc) in

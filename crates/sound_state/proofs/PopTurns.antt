@@ -27,7 +27,7 @@ use Rattle.errand_steps.specs.Steps.{State, Moves}
 use Rattle.sound_state.specs.Guards.{IsGuarded, Guards, IsGuard, IsHazard, passed_by, held_by}
 use Rattle.sound_state.specs.Holdings.{clear, before_pop, holds_of}
 use Rattle.sound_state.specs.Lists.{Lists, IsListed}
-use Rattle.sound_state.specs.Sound.{IsSound, IsSoundWith}
+use Rattle.sound_state.specs.Sound.{IsSoundWithoutCounts, IsSoundWith}
 use Rattle.sound_state.specs.Sums.{sum_below}
 use Rattle.sound_state.specs.Superblocks.{anchor_for}
 use Rattle.sound_state.specs.Turns.{IsTurned, gives_small, refuses_small, turn_open, turn_unframed, turn_unlisted, turn_unanswered, errand_discards, errand_pops, turns_of, cleared_of, emptied_out, is_small_alloc, is_small_free, in_turn, has_partial}
@@ -198,7 +198,7 @@ popped-tags g s l who at share a link words e s' h given given' one d most =
 
 pub popped-turned :
     (g : Geometry) (s : State) (l : Lists) (who : ℕ) (at : Site) (share : Share) (a : AnchorFields) (link words : ℕ) (e : ErrandFields)
-    (s' : State) → Pops g s l who at share a link words e s' → IsSound g s → IsSoundWith g s l → IsTurned g s' l
+    (s' : State) → Pops g s l who at share a link words e s' → IsSoundWithoutCounts g s → IsSoundWith g s l → IsTurned g s' l
 popped-turned g s l who at share a link words e s' h sound old =
     let turned = old.turned in
     let event : Event = Alloc who words (popped_place at a) in

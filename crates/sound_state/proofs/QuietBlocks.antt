@@ -22,7 +22,7 @@ use Rattle.errand_steps.specs.Points.{plan_point_of}
 use Rattle.errand_steps.specs.Steps.{State, Step}
 use Rattle.sound_state.specs.Holdings.{holds_of}
 use Rattle.sound_state.specs.Recalls.{recalls_of, IsSo}
-use Rattle.sound_state.specs.Sound.{IsSound}
+use Rattle.sound_state.specs.Sound.{IsSoundWithoutCounts}
 use Rattle.sound_state.proofs.QuietLemmas.{HoldsSame, quiet-at}
 
 -- a step that leads to a point at which nothing more is remembered
@@ -42,8 +42,8 @@ active-leads s need (Some (Held d credits)) = grind (arith)
 
 -- the load of the active word
 pub load_active-sound :
-    (g : Geometry) (s : State) (who : ℕ) (s' : State) (seat : SeatFields) (need : ℕ) → IsSound g s → who < g.callers
-    → (s.errand who).point ≡ Block (block.LoadActive seat) (Alloc need) → Step s who s' → IsSound g s'
+    (g : Geometry) (s : State) (who : ℕ) (s' : State) (seat : SeatFields) (need : ℕ) → IsSoundWithoutCounts g s → who < g.callers
+    → (s.errand who).point ≡ Block (block.LoadActive seat) (Alloc need) → Step s who s' → IsSoundWithoutCounts g s'
 unfolding plan_point_of next_of event_of
 load_active-sound g s who s' seat need sound has at step =
     let leads = active-leads seat need (active_of (s.word (active_name seat))) in

@@ -34,9 +34,10 @@ use Rattle.sound_state.specs.Holdings.{Kept, holds_of, reserving}
 use Rattle.sound_state.specs.Keepers.{IsKeptAs, IsActive, word_keeps}
 use Rattle.sound_state.specs.Lists.{Lists}
 use Rattle.sound_state.specs.Recalls.{IsSo, IsOwned, recalls_of, bound_for}
-use Rattle.sound_state.specs.Sound.{IsSound, IsSoundWith}
+use Rattle.sound_state.specs.Sound.{IsSoundWithoutCounts, IsSoundWith}
 use Rattle.sound_state.specs.Superblocks.{is_bound}
-use Rattle.sound_state.proofs.QuietExchanges.{recalled, fits, take_credit-lost, install_credits-lost}
+use Rattle.sound_state.proofs.PointLemmas.{so-at, fits-at}
+use Rattle.sound_state.proofs.QuietExchanges.{take_credit-lost, install_credits-lost}
 use Rattle.sound_state.proofs.CreditLemmas.{actives-written, active-bound, word-keeps-away, won-at}
 
 -- the numbers of an active word fit, and it says them
@@ -81,7 +82,7 @@ credit-held :
     → s.word (active_name seat) ≡ active_word (Held d credits)
     → Exists g (active_name seat) × IsActiveWord (Held d credits) × (d < descriptor_count g) × IsActive s d seat.class × IsTrue (is_bound g s l d)
 credit-held g s l who seat d credits o checked old has at is =
-    let fit = (fits g s l who (Block (block.TakeCredit seat d credits) o) old has at).point in
+    let fit = (fits-at g s l who (Block (block.TakeCredit seat d credits) o) old has at).point in
     let exists : Exists g (active_name seat) = seat-active g who seat checked fit.0.seat in
     let word : IsActiveWord (Held d credits) = held-fits g d credits checked fit.0.desc fit.1 in
     let says : active_of (s.word (active_name seat)) ≡ Some (Held d credits) = ap active_of is ∙ held-said d credits word in
@@ -96,9 +97,9 @@ credit-held g s l who seat d credits o checked old has at is =
 
 -- the last credit is taken: the word becomes null, and the caller keeps the descriptor
 take_credit-last :
-    (g : Geometry) (s : State) (who : ℕ) (s' : State) (seat : SeatFields) (d : ℕ) (o : Onward) → IsSound g s → who < g.callers
+    (g : Geometry) (s : State) (who : ℕ) (s' : State) (seat : SeatFields) (d : ℕ) (o : Onward) → IsSoundWithoutCounts g s → who < g.callers
     → (s.errand who).point ≡ Block (block.TakeCredit seat d 0) o → s.word (active_name seat) ≡ active_word (Held d 0) → Step s who s'
-    → IsSound g s'
+    → IsSoundWithoutCounts g s'
 unfolding plan_point_of next_of event_of holds_of recalls_of
 take_credit-last g s who s' seat d o sound has at is step =
     let p : Point = Block (block.TakeCredit seat d 0) o in
@@ -148,9 +149,9 @@ take_credit-last g s who s' seat d o sound has at is step =
 
 -- a credit is taken that is not the last one
 take_credit-more :
-    (g : Geometry) (s : State) (who : ℕ) (s' : State) (seat : SeatFields) (d credits : ℕ) (o : Onward) → IsSound g s → who < g.callers
+    (g : Geometry) (s : State) (who : ℕ) (s' : State) (seat : SeatFields) (d credits : ℕ) (o : Onward) → IsSoundWithoutCounts g s → who < g.callers
     → (s.errand who).point ≡ Block (block.TakeCredit seat d credits) o → s.word (active_name seat) ≡ active_word (Held d credits)
-    → credits ≢ 0 → Step s who s' → IsSound g s'
+    → credits ≢ 0 → Step s who s' → IsSoundWithoutCounts g s'
 unfolding plan_point_of next_of event_of holds_of recalls_of
 take_credit-more g s who s' seat d credits o sound has at is some_left step =
     let left : ℕ = credits - 1 in
@@ -207,15 +208,15 @@ take_credit-more g s who s' seat d credits o sound has at is some_left step =
 
 -- a credit is taken
 pub take_credit-won :
-    (g : Geometry) (s : State) (who : ℕ) (s' : State) (seat : SeatFields) (d credits : ℕ) (o : Onward) → IsSound g s → who < g.callers
+    (g : Geometry) (s : State) (who : ℕ) (s' : State) (seat : SeatFields) (d credits : ℕ) (o : Onward) → IsSoundWithoutCounts g s → who < g.callers
     → (s.errand who).point ≡ Block (block.TakeCredit seat d credits) o → s.word (active_name seat) ≡ active_word (Held d credits)
-    → Step s who s' → IsSound g s'
+    → Step s who s' → IsSoundWithoutCounts g s'
 take_credit-won g s who s' seat d zero o sound has at is step = take_credit-last g s who s' seat d o sound has at is step
 take_credit-won g s who s' seat d (suc left) o sound has at is step = take_credit-more g s who s' seat d (suc left) o sound has at is (omega arith) step
 
 pub take_credit-sound :
-    (g : Geometry) (s : State) (who : ℕ) (s' : State) (seat : SeatFields) (d credits : ℕ) (o : Onward) → IsSound g s → who < g.callers
-    → (s.errand who).point ≡ Block (block.TakeCredit seat d credits) o → Step s who s' → IsSound g s'
+    (g : Geometry) (s : State) (who : ℕ) (s' : State) (seat : SeatFields) (d credits : ℕ) (o : Onward) → IsSoundWithoutCounts g s → who < g.callers
+    → (s.errand who).point ≡ Block (block.TakeCredit seat d credits) o → Step s who s' → IsSoundWithoutCounts g s'
 take_credit-sound g s who s' seat d credits o sound has at step =
     elim (cases_eq (s.word (active_name seat)) (active_word (Held d credits))) [
       | inl is ↦ take_credit-won g s who s' seat d credits o sound has at is step
@@ -224,14 +225,14 @@ take_credit-sound g s who s' seat d credits o sound has at step =
 
 -- reserved blocks are offered: they and the descriptor go into the word
 pub install_credits-won :
-    (g : Geometry) (s : State) (who : ℕ) (s' : State) (site : Site) (i more : ℕ) (o : Onward) → IsSound g s → who < g.callers
+    (g : Geometry) (s : State) (who : ℕ) (s' : State) (site : Site) (i more : ℕ) (o : Onward) → IsSoundWithoutCounts g s → who < g.callers
     → (s.errand who).point ≡ Block (block.InstallCredits site i more) o → s.word (active_name site.seat) ≡ active_word Null → Step s who s'
-    → IsSound g s'
+    → IsSoundWithoutCounts g s'
 unfolding plan_point_of next_of event_of holds_of recalls_of
 install_credits-won g s who s' site i more o sound has at is step =
     let p : Point = Block (block.InstallCredits site i more) o in
     let d : ℕ = site.desc in
-    let fit = (fits g s sound.parts.0 who p sound.parts.1 has at).point in
+    let fit = (fits-at g s sound.parts.0 who p sound.parts.1 has at).point in
     let word : IsActiveWord (Held d (more - 1)) = held-fits g d (more - 1) sound.checked fit.0.site.desc (omega (arith, fit.1.0, fit.1.1)) in
     let some_more : more ≡ more - 1 + 1 = omega (arith, fit.1.0) in
     let null = null-said in
@@ -255,7 +256,7 @@ install_credits-won g s who s' site i more o sound has at is step =
       };
       goes = λ l old. record {
         kept = All-nil _;
-        so = recalled g s l who p old has at;
+        so = so-at g s l who p old has at;
         hazard = subst (λ r. IsHazard (holds_of r).hazard (s.word (name.Hazard who))) at (old.guarded.words who has);
         guard = λ d word guard. guard;
         pushed = refl;
@@ -279,8 +280,8 @@ install_credits-won g s who s' site i more o sound has at is step =
     is step
 
 pub install_credits-sound :
-    (g : Geometry) (s : State) (who : ℕ) (s' : State) (site : Site) (i more : ℕ) (o : Onward) → IsSound g s → who < g.callers
-    → (s.errand who).point ≡ Block (block.InstallCredits site i more) o → Step s who s' → IsSound g s'
+    (g : Geometry) (s : State) (who : ℕ) (s' : State) (site : Site) (i more : ℕ) (o : Onward) → IsSoundWithoutCounts g s → who < g.callers
+    → (s.errand who).point ≡ Block (block.InstallCredits site i more) o → Step s who s' → IsSoundWithoutCounts g s'
 install_credits-sound g s who s' site i more o sound has at step =
     elim (cases_eq (s.word (active_name site.seat)) (active_word Null)) [
       | inl is ↦ install_credits-won g s who s' site i more o sound has at is step

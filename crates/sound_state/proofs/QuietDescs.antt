@@ -22,7 +22,7 @@ use Rattle.errand_steps.specs.Steps.{State, Step}
 use Rattle.sound_state.specs.Holdings.{holds_of}
 use Rattle.sound_state.specs.Lists.{Lists}
 use Rattle.sound_state.specs.Recalls.{recalls_of, IsSo, IsOwned, looked, noted}
-use Rattle.sound_state.specs.Sound.{IsSound}
+use Rattle.sound_state.specs.Sound.{IsSoundWithoutCounts}
 use Rattle.sound_state.proofs.PointLemmas.{WeighFrom, keeps-none, so-at, weigh-stays, step-from, stays-actives}
 use Rattle.sound_state.proofs.QuietLemmas.{HoldsSame, quiet-at}
 use Rattle.sound_state.proofs.StepLemmas.{TurnGoes}
@@ -47,8 +47,8 @@ head-recalls s o (Some d) = refl
 
 -- the load of the head, for a pop
 pub load_desc_head-sound :
-    (g : Geometry) (s : State) (who : ℕ) (s' : State) (seat : SeatFields) (o : Onward) → IsSound g s → who < g.callers
-    → (s.errand who).point ≡ Desc (desc.LoadDescHead seat) o → Step s who s' → IsSound g s'
+    (g : Geometry) (s : State) (who : ℕ) (s' : State) (seat : SeatFields) (o : Onward) → IsSoundWithoutCounts g s → who < g.callers
+    → (s.errand who).point ≡ Desc (desc.LoadDescHead seat) o → Step s who s' → IsSoundWithoutCounts g s'
 unfolding plan_point_of next_of event_of recalls_of
 load_desc_head-sound g s who s' seat o sound has at step =
     let d = desc_named seat.geometry (s.word name.DescHead) in
@@ -86,8 +86,8 @@ next-so g s l who seat d o (Some next) is so =
 
 -- the load of that name
 pub load_next_desc-sound :
-    (g : Geometry) (s : State) (who : ℕ) (s' : State) (seat : SeatFields) (d : ℕ) (o : Onward) → IsSound g s → who < g.callers
-    → (s.errand who).point ≡ Desc (desc.LoadNextDesc seat d) o → Step s who s' → IsSound g s'
+    (g : Geometry) (s : State) (who : ℕ) (s' : State) (seat : SeatFields) (d : ℕ) (o : Onward) → IsSoundWithoutCounts g s → who < g.callers
+    → (s.errand who).point ≡ Desc (desc.LoadNextDesc seat d) o → Step s who s' → IsSoundWithoutCounts g s'
 unfolding plan_point_of next_of event_of recalls_of
 load_next_desc-sound g s who s' seat d o sound has at step =
     let next = link_in seat.geometry (s.word (name.Next d)) in
@@ -108,8 +108,8 @@ pop-turns : (seat : SeatFields) (d next : ℕ) (o : Onward) → TurnGoes (Desc (
 pop-turns seat d next o = grind (arith)
 
 pub pop_desc_lost-sound :
-    (g : Geometry) (s : State) (who : ℕ) (s' : State) (seat : SeatFields) (d next : ℕ) (o : Onward) → IsSound g s → who < g.callers
-    → (s.errand who).point ≡ Desc (desc.PopDesc seat d next) o → s.word name.DescHead ≢ d + 1 → Step s who s' → IsSound g s'
+    (g : Geometry) (s : State) (who : ℕ) (s' : State) (seat : SeatFields) (d next : ℕ) (o : Onward) → IsSoundWithoutCounts g s → who < g.callers
+    → (s.errand who).point ≡ Desc (desc.PopDesc seat d next) o → s.word name.DescHead ≢ d + 1 → Step s who s' → IsSoundWithoutCounts g s'
 unfolding plan_point_of next_of event_of holds_of recalls_of
 pop_desc_lost-sound g s who s' seat d next o sound has at lost step =
     let no = ne_eqb (s.word name.DescHead) (d + 1) lost in
@@ -161,8 +161,8 @@ top-recalls s d o (Some top) = refl
 
 -- the load of the head, for a push
 pub load_head_to_push-sound :
-    (g : Geometry) (s : State) (who : ℕ) (s' : State) (seat : SeatFields) (d : ℕ) (o : Onward) → IsSound g s → who < g.callers
-    → (s.errand who).point ≡ Desc (desc.LoadHeadToPush seat d) o → Step s who s' → IsSound g s'
+    (g : Geometry) (s : State) (who : ℕ) (s' : State) (seat : SeatFields) (d : ℕ) (o : Onward) → IsSoundWithoutCounts g s → who < g.callers
+    → (s.errand who).point ≡ Desc (desc.LoadHeadToPush seat d) o → Step s who s' → IsSoundWithoutCounts g s'
 unfolding plan_point_of next_of event_of
 load_head_to_push-sound g s who s' seat d o sound has at step =
     let top = link_in seat.geometry (s.word name.DescHead) in
@@ -180,8 +180,8 @@ load_head_to_push-sound g s who s' seat d o sound has at step =
 
 -- the head isn't what it was
 pub push_desc_lost-sound :
-    (g : Geometry) (s : State) (who : ℕ) (s' : State) (seat : SeatFields) (d top : ℕ) (o : Onward) → IsSound g s → who < g.callers
-    → (s.errand who).point ≡ Desc (desc.PushDesc seat d top) o → s.word name.DescHead ≢ top → Step s who s' → IsSound g s'
+    (g : Geometry) (s : State) (who : ℕ) (s' : State) (seat : SeatFields) (d top : ℕ) (o : Onward) → IsSoundWithoutCounts g s → who < g.callers
+    → (s.errand who).point ≡ Desc (desc.PushDesc seat d top) o → s.word name.DescHead ≢ top → Step s who s' → IsSoundWithoutCounts g s'
 unfolding plan_point_of next_of event_of holds_of recalls_of
 push_desc_lost-sound g s who s' seat d top o sound has at lost step =
     let no = ne_eqb (s.word name.DescHead) top lost in
@@ -201,8 +201,8 @@ reload-turns : (seat : SeatFields) (d : ℕ) (o : Onward) → TurnGoes (Desc (de
 reload-turns seat d o = grind (arith)
 
 pub reload_desc_head_other-sound :
-    (g : Geometry) (s : State) (who : ℕ) (s' : State) (seat : SeatFields) (d : ℕ) (o : Onward) → IsSound g s → who < g.callers
-    → (s.errand who).point ≡ Desc (desc.ReloadDescHead seat d) o → s.word name.DescHead ≢ d + 1 → Step s who s' → IsSound g s'
+    (g : Geometry) (s : State) (who : ℕ) (s' : State) (seat : SeatFields) (d : ℕ) (o : Onward) → IsSoundWithoutCounts g s → who < g.callers
+    → (s.errand who).point ≡ Desc (desc.ReloadDescHead seat d) o → s.word name.DescHead ≢ d + 1 → Step s who s' → IsSoundWithoutCounts g s'
 unfolding plan_point_of next_of event_of holds_of recalls_of
 reload_desc_head_other-sound g s who s' seat d o sound has at other step =
     let no = ne_eqb (s.word name.DescHead) (d + 1) other in

@@ -23,7 +23,7 @@ use Rattle.errand_steps.specs.Nexts.{next_of, enter_stack}
 use Rattle.errand_steps.specs.Points.{plan_point_of}
 use Rattle.errand_steps.specs.Steps.{State, Step}
 use Rattle.sound_state.specs.Holdings.{holds_of}
-use Rattle.sound_state.specs.Sound.{IsSound}
+use Rattle.sound_state.specs.Sound.{IsSoundWithoutCounts}
 use Rattle.sound_state.proofs.QuietLemmas.{HoldsSame, quiet-end}
 
 -- at the read of a usable word, and at a shelf, a caller holds nothing
@@ -45,8 +45,8 @@ none-holds k o = grind (arith)
 
 -- a read
 pub load_word-sound :
-    (g : Geometry) (s : State) (who : ℕ) (s' : State) (place i : ℕ) (o : Onward) → IsSound g s → who < g.callers
-    → (s.errand who).point ≡ Large (large.LoadWord place i) o → Step s who s' → IsSound g s'
+    (g : Geometry) (s : State) (who : ℕ) (s' : State) (place i : ℕ) (o : Onward) → IsSoundWithoutCounts g s → who < g.callers
+    → (s.errand who).point ≡ Large (large.LoadWord place i) o → Step s who s' → IsSoundWithoutCounts g s'
 unfolding plan_point_of next_of event_of
 load_word-sound g s who s' place i o sound has at step =
     quiet-end g s who s' (Large (large.LoadWord place i) o) _ sound has at
@@ -54,8 +54,8 @@ load_word-sound g s who s' place i o sound has at step =
 
 -- a put that finds a block
 pub put_block_lost-sound :
-    (g : Geometry) (s : State) (who : ℕ) (s' : State) (k place : ℕ) (n : Need) (o : Onward) → IsSound g s → who < g.callers
-    → (s.errand who).point ≡ Large (large.PutBlock k place n) o → s.word (name.Shelf k) ≢ shelf_word Nothing → Step s who s' → IsSound g s'
+    (g : Geometry) (s : State) (who : ℕ) (s' : State) (k place : ℕ) (n : Need) (o : Onward) → IsSoundWithoutCounts g s → who < g.callers
+    → (s.errand who).point ≡ Large (large.PutBlock k place n) o → s.word (name.Shelf k) ≢ shelf_word Nothing → Step s who s' → IsSoundWithoutCounts g s'
 unfolding plan_point_of next_of event_of
 put_block_lost-sound g s who s' k place n o sound has at lost step =
     let differs = ne_eqb (s.word (name.Shelf k)) (shelf_word Nothing) lost in
@@ -64,9 +64,9 @@ put_block_lost-sound g s who s' k place n o sound has at lost step =
 
 -- a take whose block is gone
 pub take_block_lost-sound :
-    (g : Geometry) (s : State) (who : ℕ) (s' : State) (k place : ℕ) (n : Need) (o : Onward) → IsSound g s → who < g.callers
+    (g : Geometry) (s : State) (who : ℕ) (s' : State) (k place : ℕ) (n : Need) (o : Onward) → IsSoundWithoutCounts g s → who < g.callers
     → (s.errand who).point ≡ Large (large.TakeBlock k place n) o → s.word (name.Shelf k) ≢ shelf_word (Block place n) → Step s who s'
-    → IsSound g s'
+    → IsSoundWithoutCounts g s'
 unfolding plan_point_of next_of event_of
 take_block_lost-sound g s who s' k place n o sound has at lost step =
     let differs = ne_eqb (s.word (name.Shelf k)) (shelf_word (Block place n)) lost in
@@ -75,8 +75,8 @@ take_block_lost-sound g s who s' k place n o sound has at lost step =
 
 -- a take that found nothing, where a block lies now
 pub confirm_nothing_lost-sound :
-    (g : Geometry) (s : State) (who : ℕ) (s' : State) (k : ℕ) (o : Onward) → IsSound g s → who < g.callers
-    → (s.errand who).point ≡ Large (large.ConfirmNothing k) o → s.word (name.Shelf k) ≢ shelf_word Nothing → Step s who s' → IsSound g s'
+    (g : Geometry) (s : State) (who : ℕ) (s' : State) (k : ℕ) (o : Onward) → IsSoundWithoutCounts g s → who < g.callers
+    → (s.errand who).point ≡ Large (large.ConfirmNothing k) o → s.word (name.Shelf k) ≢ shelf_word Nothing → Step s who s' → IsSoundWithoutCounts g s'
 unfolding plan_point_of next_of event_of
 confirm_nothing_lost-sound g s who s' k o sound has at lost step =
     let differs = ne_eqb (s.word (name.Shelf k)) (shelf_word Nothing) lost in
@@ -93,9 +93,9 @@ clear-ends :
 clear-ends seat pile h empty = rw empty refl
 
 pub clear_ends-sound :
-    (g : Geometry) (s : State) (who : ℕ) (s' : State) (seat : SeatFields) (pile : Pile) → IsSound g s → who < g.callers
+    (g : Geometry) (s : State) (who : ℕ) (s' : State) (seat : SeatFields) (pile : Pile) → IsSoundWithoutCounts g s → who < g.callers
     → (s.errand who).point ≡ Stack (stack.LoadTop seat pile) onward.Clear → (head_of (s.word (head_name seat pile))).top ≡ 0 → Step s who s'
-    → IsSound g s'
+    → IsSoundWithoutCounts g s'
 unfolding plan_point_of next_of event_of
 clear_ends-sound g s who s' seat pile sound has at empty step =
     quiet-end g s who s' (Stack (stack.LoadTop seat pile) onward.Clear) reply.Freed sound has at

@@ -1,5 +1,5 @@
 -- Exchanges that are lost: the word stays, and the caller reads again.
-use Rattle.std.proofs.Common.{ℕ, Bool, false, ◌≡◌, ◌≢◌, ◌<◌, ◌∷◌, refl, arith, ap, subst, ◌∙◌, ne_eqb}
+use Rattle.std.proofs.Common.{ℕ, Bool, false, ◌≡◌, ◌≢◌, ◌<◌, ◌∷◌, refl, arith, ap, ◌∙◌, ne_eqb}
 use Rattle.std.specs.Prelude.{◌==◌, All}
 use Rattle.std.proofs.lemmas.Bool.{cond-false}
 use Rattle.std.proofs.lemmas.List.Elements.{All-nil, All-tail}
@@ -24,31 +24,15 @@ use Rattle.errand_steps.specs.declared.point.Point.{Point}
 use Rattle.errand_steps.specs.declared.point.Point.TheVariants.{Block}
 use Rattle.errand_steps.specs.Errands.{counts_cleared}
 use Rattle.errand_steps.specs.Events.{event_of}
-use Rattle.errand_steps.specs.Fits.{FitsPoint}
 use Rattle.errand_steps.specs.Nexts.{next_of}
 use Rattle.errand_steps.specs.Points.{plan_point_of}
 use Rattle.errand_steps.specs.Steps.{State, Step}
 use Rattle.sound_state.specs.Holdings.{holds_of}
 use Rattle.sound_state.specs.Lists.{Lists}
 use Rattle.sound_state.specs.Recalls.{IsSo, recalls_of, bound_here, pops, links, says}
-use Rattle.sound_state.specs.Sound.{IsSound, IsSoundWith}
+use Rattle.sound_state.specs.Sound.{IsSoundWithoutCounts, IsSoundWith}
+use Rattle.sound_state.proofs.PointLemmas.{so-at}
 use Rattle.sound_state.proofs.QuietLemmas.{HoldsSame, found_from, quiet-at}
-
--- what a caller at a point remembers is so
-pub recalled :
-    (g : Geometry) (s : State) (l : Lists) (who : ℕ) (p : Point) → IsSoundWith g s l → who < g.callers → (s.errand who).point ≡ p
-    → All (IsSo g s l who) (recalls_of p)
-recalled g s l who p old has at = subst (λ q. All (IsSo g s l who) (recalls_of q)) at (old.remembered.so who has)
-
--- what it remembers exists
-pub fits :
-    (g : Geometry) (s : State) (l : Lists) (who : ℕ) (p : Point) → IsSoundWith g s l → who < g.callers → (s.errand who).point ≡ p
-    → FitsPoint g who p
-fits g s l who p old has at =
-    let own = old.errands who has in
-    subst (FitsPoint g who) at
-    (subst (λ c. FitsPoint g c (s.errand who).point) own.caller
-    (subst (λ h. FitsPoint h (s.errand who).caller (s.errand who).point) own.geometry own.rule.point))
 
 -- what an exchange finds that is lost
 abbrev pub lost_with : ℕ → Found
@@ -63,8 +47,8 @@ pub record LosesTo (g : Geometry) (s : State) (who : ℕ) (p q : Point) (n : Wor
   pub so : (l : Lists) → IsSoundWith g s l → All (IsSo g s l who) (recalls_of q)
 
 pub lost-at :
-    (g : Geometry) (s : State) (who : ℕ) (s' : State) (p q : Point) (n : WordName) (expected new : ℕ) → IsSound g s → who < g.callers
-    → (s.errand who).point ≡ p → LosesTo g s who p q n expected new → s.word n ≢ expected → Step s who s' → IsSound g s'
+    (g : Geometry) (s : State) (who : ℕ) (s' : State) (p q : Point) (n : WordName) (expected new : ℕ) → IsSoundWithoutCounts g s → who < g.callers
+    → (s.errand who).point ≡ p → LosesTo g s who p q n expected new → s.word n ≢ expected → Step s who s' → IsSoundWithoutCounts g s'
 unfolding event_of
 lost-at g s who s' p q n expected new sound has at h other step =
     let lost : (s.word n == expected) ≡ false = ne_eqb (s.word n) expected other in
@@ -83,9 +67,9 @@ lost-at g s who s' p q n expected new sound has at h other step =
 
 -- a credit is not taken
 pub take_credit-lost :
-    (g : Geometry) (s : State) (who : ℕ) (s' : State) (seat : SeatFields) (d credits : ℕ) (o : Onward) → IsSound g s → who < g.callers
+    (g : Geometry) (s : State) (who : ℕ) (s' : State) (seat : SeatFields) (d credits : ℕ) (o : Onward) → IsSoundWithoutCounts g s → who < g.callers
     → (s.errand who).point ≡ Block (block.TakeCredit seat d credits) o → s.word (active_name seat) ≢ active_word (Held d credits)
-    → Step s who s' → IsSound g s'
+    → Step s who s' → IsSoundWithoutCounts g s'
 unfolding plan_point_of next_of holds_of recalls_of
 take_credit-lost g s who s' seat d credits o sound has at other step =
     lost-at g s who s' (Block (block.TakeCredit seat d credits) o) (Block (block.LoadActive seat) o) (active_name seat) _ _ sound has at
@@ -101,8 +85,8 @@ take_credit-lost g s who s' seat d credits o sound has at other step =
 -- a block is not popped
 pub pop_block-lost :
     (g : Geometry) (s : State) (who : ℕ) (s' : State) (site : Site) (share : Share) (a : AnchorFields) (prefix : ℕ) (o : Onward)
-    → IsSound g s → who < g.callers → (s.errand who).point ≡ Block (block.PopBlock site share a prefix) o
-    → s.word (name.Anchor site.desc) ≢ anchor_word a → Step s who s' → IsSound g s'
+    → IsSoundWithoutCounts g s → who < g.callers → (s.errand who).point ≡ Block (block.PopBlock site share a prefix) o
+    → s.word (name.Anchor site.desc) ≢ anchor_word a → Step s who s' → IsSoundWithoutCounts g s'
 unfolding plan_point_of next_of holds_of recalls_of
 pop_block-lost g s who s' site share a prefix o sound has at other step =
     lost-at g s who s' (Block (block.PopBlock site share a prefix) o) (Block (block.LoadAnchor site share) o) (name.Anchor site.desc) _ _ sound
@@ -115,15 +99,15 @@ pop_block-lost g s who s' site share a prefix o sound has at other step =
       so = λ l old.
           All-tail (IsSo g s l who) (pops site.desc a) (bound_here site)
           (All-tail (IsSo g s l who) (links site.desc a prefix) (pops site.desc a ∷ bound_here site)
-          (recalled g s l who (Block (block.PopBlock site share a prefix) o) old has at));
+          (so-at g s l who (Block (block.PopBlock site share a prefix) o) old has at));
     })
     other step
 
 -- reserved blocks are not offered
 pub install_credits-lost :
-    (g : Geometry) (s : State) (who : ℕ) (s' : State) (site : Site) (i more : ℕ) (o : Onward) → IsSound g s → who < g.callers
+    (g : Geometry) (s : State) (who : ℕ) (s' : State) (site : Site) (i more : ℕ) (o : Onward) → IsSoundWithoutCounts g s → who < g.callers
     → (s.errand who).point ≡ Block (block.InstallCredits site i more) o → s.word (active_name site.seat) ≢ active_word Null → Step s who s'
-    → IsSound g s'
+    → IsSoundWithoutCounts g s'
 unfolding plan_point_of next_of holds_of recalls_of
 install_credits-lost g s who s' site i more o sound has at other step =
     lost-at g s who s' (Block (block.InstallCredits site i more) o) (Block (block.LoadReturn site i more) o) (active_name site.seat) _ _ sound has
@@ -133,15 +117,15 @@ install_credits-lost g s who s' site i more o sound has at other step =
       next = refl;
       cleared = refl;
       holds = grind (arith);
-      so = λ l old. recalled g s l who (Block (block.InstallCredits site i more) o) old has at;
+      so = λ l old. so-at g s l who (Block (block.InstallCredits site i more) o) old has at;
     })
     other step
 
 -- reserved blocks are not given back
 pub return_credits-lost :
-    (g : Geometry) (s : State) (who : ℕ) (s' : State) (site : Site) (i more : ℕ) (a : AnchorFields) (o : Onward) → IsSound g s
+    (g : Geometry) (s : State) (who : ℕ) (s' : State) (site : Site) (i more : ℕ) (a : AnchorFields) (o : Onward) → IsSoundWithoutCounts g s
     → who < g.callers → (s.errand who).point ≡ Block (block.ReturnCredits site i more a) o
-    → s.word (name.Anchor site.desc) ≢ anchor_word a → Step s who s' → IsSound g s'
+    → s.word (name.Anchor site.desc) ≢ anchor_word a → Step s who s' → IsSoundWithoutCounts g s'
 unfolding plan_point_of next_of holds_of recalls_of
 return_credits-lost g s who s' site i more a o sound has at other step =
     lost-at g s who s' (Block (block.ReturnCredits site i more a) o) (Block (block.LoadReturn site i more) o) (name.Anchor site.desc) _ _ sound
@@ -151,15 +135,15 @@ return_credits-lost g s who s' site i more a o sound has at other step =
       next = refl;
       cleared = refl;
       holds = grind (arith);
-      so = λ l old. recalled g s l who (Block (block.ReturnCredits site i more a) o) old has at;
+      so = λ l old. so-at g s l who (Block (block.ReturnCredits site i more a) o) old has at;
     })
     other step
 
 -- a block is not pushed
 pub push_block-lost :
     (g : Geometry) (s : State) (who : ℕ) (s' : State) (site : Site) (i : ℕ) (a : AnchorFields) (stored : Bool) (heap : ℕ) (o : Onward)
-    → IsSound g s → who < g.callers → (s.errand who).point ≡ Block (block.PushBlock site i a stored heap) o
-    → s.word (name.Anchor site.desc) ≢ anchor_word a → Step s who s' → IsSound g s'
+    → IsSoundWithoutCounts g s → who < g.callers → (s.errand who).point ≡ Block (block.PushBlock site i a stored heap) o
+    → s.word (name.Anchor site.desc) ≢ anchor_word a → Step s who s' → IsSoundWithoutCounts g s'
 unfolding plan_point_of next_of holds_of recalls_of
 push_block-lost g s who s' site i a stored heap o sound has at other step =
     lost-at g s who s' (Block (block.PushBlock site i a stored heap) o) (Block (block.LoadPushAnchor site i stored) o) (name.Anchor site.desc) _ _
@@ -171,6 +155,6 @@ push_block-lost g s who s' site i a stored heap o sound has at other step =
       holds = grind (arith);
       so = λ l old.
           All-tail (IsSo g s l who) (says (prefix_name site.frame site.seat.class i) a.avail) (bound_here site)
-          (recalled g s l who (Block (block.PushBlock site i a stored heap) o) old has at);
+          (so-at g s l who (Block (block.PushBlock site i a stored heap) o) old has at);
     })
     other step

@@ -26,7 +26,7 @@ use Rattle.errand_steps.specs.Points.{plan_point_of}
 use Rattle.errand_steps.specs.Steps.{State, Step}
 use Rattle.sound_state.specs.Holdings.{holds_of}
 use Rattle.sound_state.specs.Recalls.{IsSo, recalls_of}
-use Rattle.sound_state.specs.Sound.{IsSound}
+use Rattle.sound_state.specs.Sound.{IsSoundWithoutCounts}
 use Rattle.sound_state.proofs.QuietLemmas.{HoldsSame, quiet-at}
 
 -- a step that leads to a point at which nothing is remembered
@@ -41,8 +41,8 @@ unfolding holds_of recalls_of
 units-lead w bits o = grind (arith)
 
 pub load_units-sound :
-    (g : Geometry) (s : State) (who : ℕ) (s' : State) (w : WantFields) (o : Onward) → IsSound g s → who < g.callers
-    → (s.errand who).point ≡ Large (large.LoadUnits w) o → Step s who s' → IsSound g s'
+    (g : Geometry) (s : State) (who : ℕ) (s' : State) (w : WantFields) (o : Onward) → IsSoundWithoutCounts g s → who < g.callers
+    → (s.errand who).point ≡ Large (large.LoadUnits w) o → Step s who s' → IsSoundWithoutCounts g s'
 unfolding plan_point_of next_of event_of
 load_units-sound g s who s' w o sound has at step =
     let leads = units-lead w (s.word name.Units) o in
@@ -64,8 +64,8 @@ unfolding holds_of recalls_of
 lost-leads w bits o = grind (arith)
 
 pub take_run_lost-sound :
-    (g : Geometry) (s : State) (who : ℕ) (s' : State) (w : WantFields) (bits : ℕ) (o : Onward) → IsSound g s → who < g.callers
-    → (s.errand who).point ≡ Large (large.TakeRun w bits) o → s.word name.Units ≢ bits → Step s who s' → IsSound g s'
+    (g : Geometry) (s : State) (who : ℕ) (s' : State) (w : WantFields) (bits : ℕ) (o : Onward) → IsSoundWithoutCounts g s → who < g.callers
+    → (s.errand who).point ≡ Large (large.TakeRun w bits) o → s.word name.Units ≢ bits → Step s who s' → IsSoundWithoutCounts g s'
 unfolding plan_point_of next_of event_of
 take_run_lost-sound g s who s' w bits o sound has at lost step =
     let leads = lost-leads w bits o in
@@ -91,8 +91,8 @@ prefix-leads place run o (Some (prefix.Small d)) = grind (arith)
 prefix-leads place run o (Some (prefix.Large units)) = grind (arith)
 
 pub load_run_prefix-sound :
-    (g : Geometry) (s : State) (who : ℕ) (s' : State) (place : ℕ) (run : RunFields) (o : Onward) → IsSound g s → who < g.callers
-    → (s.errand who).point ≡ Large (large.LoadRunPrefix place run) o → Step s who s' → IsSound g s'
+    (g : Geometry) (s : State) (who : ℕ) (s' : State) (place : ℕ) (run : RunFields) (o : Onward) → IsSoundWithoutCounts g s → who < g.callers
+    → (s.errand who).point ≡ Large (large.LoadRunPrefix place run) o → Step s who s' → IsSoundWithoutCounts g s'
 unfolding plan_point_of next_of event_of
 load_run_prefix-sound g s who s' place run o sound has at step =
     let leads = prefix-leads place run o (prefix_of (s.word (name.Arena place))) in
@@ -117,8 +117,8 @@ shelf-leads k o (Some shelf.Nothing) = grind (arith)
 shelf-leads k o (Some (shelf.Block place need)) = grind (arith)
 
 pub load_shelf-sound :
-    (g : Geometry) (s : State) (who : ℕ) (s' : State) (k : ℕ) (o : Onward) → IsSound g s → who < g.callers
-    → (s.errand who).point ≡ Large (large.LoadShelf k) o → Step s who s' → IsSound g s'
+    (g : Geometry) (s : State) (who : ℕ) (s' : State) (k : ℕ) (o : Onward) → IsSoundWithoutCounts g s → who < g.callers
+    → (s.errand who).point ≡ Large (large.LoadShelf k) o → Step s who s' → IsSoundWithoutCounts g s'
 unfolding plan_point_of next_of event_of
 load_shelf-sound g s who s' k o sound has at step =
     let leads = shelf-leads k o (shelf_of (s.word (name.Shelf k))) in

@@ -26,7 +26,7 @@ use Rattle.sound_state.specs.Holdings.{holds_of, on_its_way, waiting, reserving,
 use Rattle.sound_state.specs.Keepers.{IsKept, IsKeptAs, word_keeps}
 use Rattle.sound_state.specs.Lists.{Lists}
 use Rattle.sound_state.specs.Recalls.{IsSo, IsOwned, recalls_of}
-use Rattle.sound_state.specs.Sound.{IsSound, IsSoundWith}
+use Rattle.sound_state.specs.Sound.{IsSoundWithoutCounts, IsSoundWith}
 use Rattle.sound_state.specs.Stock.{waits_in}
 use Rattle.sound_state.specs.Superblocks.{word_reserves, reserved_among, kept_among}
 use Rattle.superblock_parts.specs.Chains.{occurs}
@@ -116,8 +116,8 @@ pub record IsQuiet (g : Geometry) (s : State) (who : ℕ) (q : Point) : Type 0 w
 
 -- it keeps the state sound
 pub quiet-sound :
-    (g : Geometry) (s : State) (who : ℕ) (s' : State) (q : Point) → IsSound g s → who < g.callers → IsQuiet g s who q → Step s who s'
-    → IsSound g s'
+    (g : Geometry) (s : State) (who : ℕ) (s' : State) (q : Point) → IsSoundWithoutCounts g s → who < g.callers → IsQuiet g s who q → Step s who s'
+    → IsSoundWithoutCounts g s'
 quiet-sound g s who s' q sound has h step =
     step-sound g s who s' q sound has
     (λ l old. record {
@@ -147,8 +147,8 @@ pub record IsQuietAt (g : Geometry) (s : State) (who : ℕ) (p q : Point) : Type
 
 -- keeps the state sound
 pub quiet-at :
-    (g : Geometry) (s : State) (who : ℕ) (s' : State) (p q : Point) → IsSound g s → who < g.callers → (s.errand who).point ≡ p
-    → IsQuietAt g s who p q → Step s who s' → IsSound g s'
+    (g : Geometry) (s : State) (who : ℕ) (s' : State) (p q : Point) → IsSoundWithoutCounts g s → who < g.callers → (s.errand who).point ≡ p
+    → IsQuietAt g s who p q → Step s who s' → IsSoundWithoutCounts g s'
 quiet-at g s who s' p q sound has at h step =
     let quiet : IsQuietAt g s who (s.errand who).point q = subst (λ r. IsQuietAt g s who r q) (sym at) h in
     quiet-sound g s who s' q sound has
@@ -164,8 +164,8 @@ pub record IsQuietEnd (g : Geometry) (s : State) (who : ℕ) (p : Point) (r : Re
 
 -- keeps the state sound
 pub quiet-end :
-    (g : Geometry) (s : State) (who : ℕ) (s' : State) (p : Point) (r : Reply) → IsSound g s → who < g.callers → (s.errand who).point ≡ p
-    → IsQuietEnd g s who p r → Step s who s' → IsSound g s'
+    (g : Geometry) (s : State) (who : ℕ) (s' : State) (p : Point) (r : Reply) → IsSoundWithoutCounts g s → who < g.callers → (s.errand who).point ≡ p
+    → IsQuietEnd g s who p r → Step s who s' → IsSoundWithoutCounts g s'
 unfolding recalls_of
 quiet-end g s who s' p r sound has at h step =
     let quiet : IsQuietEnd g s who (s.errand who).point r = subst (λ q. IsQuietEnd g s who q r) (sym at) h in

@@ -1,7 +1,7 @@
 -- Steps that store what is to lie below an index that is about to be pushed.
-use Rattle.std.proofs.Common.{ℕ, zero, suc, false, None, ◌≡◌, ◌≢◌, ◌<◌, ◌≤◌, ◌+◌, ◌^◌, ◌-◌, List, [], ◌∷◌, refl, arith, ap, sym, subst, inl, inr, ◌∙◌}
-use Rattle.std.specs.Prelude.{◌==◌, if◌then◌else◌, All, IfSome, Contains}
-use Rattle.std.proofs.lemmas.Bool.{cases_eq, cond-true, cond-false, eq-eqb, ne_eqb}
+use Rattle.std.proofs.Common.{ℕ, zero, suc, false, None, ◌≡◌, ◌≢◌, ◌<◌, ◌≤◌, ◌^◌, ◌-◌, List, [], ◌∷◌, refl, arith, ap, sym, subst, inl, inr, ◌∙◌}
+use Rattle.std.specs.Prelude.{◌==◌, All, IfSome, Contains}
+use Rattle.std.proofs.lemmas.Bool.{cases_eq, cond-true, eq-eqb}
 use Rattle.std.proofs.lemmas.List.Elements.{All-nil, All-cons}
 use Rattle.heap_geometry.specs.declared.geometry.Geometry.{Geometry}
 use Rattle.heap_geometry.specs.declared.limits.TheConstants.{CLASSES}
@@ -14,7 +14,7 @@ use Rattle.word_plan.specs.Words.{Writes}
 use Rattle.word_plan.specs.Seats.{SeatFields}
 use Rattle.word_plan.proofs.NameLemmas.{cases_name}
 use Rattle.word_plan.proofs.CountLemmas.{descriptor_count_within}
-use Rattle.pool_model.specs.Legal.{IsLegal}
+use Rattle.pool_model.specs.Legal.{IsLegalWithoutCounts}
 use Rattle.superblock_parts.specs.declared.point.BlockPoint.{BlockPoint}
 use Rattle.superblock_parts.specs.Chains.{occurs}
 use Rattle.stack_parts.specs.declared.point.Pile.{Pile}
@@ -42,15 +42,15 @@ use Rattle.sound_state.specs.Holdings.{partly_used, holds_of}
 use Rattle.sound_state.specs.Keepers.{errand_has}
 use Rattle.sound_state.specs.Lists.{Lists}
 use Rattle.sound_state.specs.Recalls.{Recall, IsPlain, IsSo, IsTopStill, recalls_of, onward_recalls, stack_recalls, desc_recalls, block_recalls, partial_recalls, large_recalls, list_of, tops, tops_exist, says}
-use Rattle.sound_state.specs.Sound.{IsSound, IsSoundWith}
-use Rattle.sound_state.specs.Sums.{sum_below, callers_sum}
+use Rattle.sound_state.specs.Sound.{IsSoundWithoutCounts, IsSoundWith}
+use Rattle.sound_state.specs.Sums.{callers_sum}
 use Rattle.sound_state.specs.Superblocks.{kept_among}
 use Rattle.sound_state.proofs.AlikeLemmas.{sound-alike}
 use Rattle.sound_state.proofs.LinkLemmas.{with_links, relinked, IsStill, LinksKept, sound-relinked}
 use Rattle.sound_state.proofs.PointLemmas.{exists-at, fits-at, so-at}
 use Rattle.sound_state.proofs.QuietLemmas.{HoldsSame, same-weighs, same-goes, found_from, actives-stay}
 use Rattle.sound_state.proofs.StepLemmas.{at_point, settle-at, goes-stands, goes-guards, may-after, words-below}
-use Rattle.sound_state.proofs.SumLemmas.{sum-change, term-sum}
+use Rattle.sound_state.proofs.SumLemmas.{term-sum, two-terms}
 use Rattle.sound_state.proofs.WeighLemmas.{WeighAlike, WeighMost, alike-most, weigh-alike, weigh-emptied}
 
 -- a link word
@@ -100,8 +100,8 @@ pub record IsLinking (g : Geometry) (s : State) (who : ℕ) (p q : Point) (s' : 
 
 -- keeps the state sound
 pub link-sound :
-    (g : Geometry) (s : State) (who : ℕ) (s' : State) (p q : Point) → IsSound g s → who < g.callers → (s.errand who).point ≡ p
-    → IsLinking g s who p q s' → Step s who s' → IsSound g s'
+    (g : Geometry) (s : State) (who : ℕ) (s' : State) (p q : Point) → IsSoundWithoutCounts g s → who < g.callers → (s.errand who).point ≡ p
+    → IsLinking g s who p q s' → Step s who s' → IsSoundWithoutCounts g s'
 link-sound g s who s' p q sound has at given step =
     let h : IsLinking g s who (s.errand who).point q s' = subst (λ r. IsLinking g s who r q s') (sym at) given in
     let l = sound.parts.0 in
@@ -122,7 +122,7 @@ link-sound g s who s' p q sound has at given step =
     (subst (λ w. WeighAlike n (between.word n) w (s.errand who) e) (sym (same n)) (same-weighs n (between.word n) (s.errand who) x q h.holds)) in
     record {
       checked = sound.checked;
-      legal = subst (IsLegal g) (sym past) sound.legal;
+      legal = subst (IsLegalWithoutCounts g) (sym past) sound.legal;
       parts = (
         l,
         sound-alike g between l who e s'
@@ -148,16 +148,6 @@ link-sound g s who s' p q sound has at given step =
             linked,
       );
     }
-
--- two terms are no more than the sum
-two-terms : (n : ℕ) (f : ℕ → ℕ) (i j : ℕ) → i < n → j < n → i ≢ j → f i + f j ≤ sum_below n f
-two-terms n f i j has_i has_j differ =
-    let rest : ℕ → ℕ = λ k. if k == j then 0 else f k in
-    let changed : sum_below n rest + f j ≡ sum_below n f + rest j =
-    sum-change n f rest j has_j (λ k lt other. cond-false {A = ℕ} (k == j) 0 (f k) (ne_eqb k j other)) in
-    let here : rest j ≡ 0 = cond-true {A = ℕ} (j == j) 0 (f j) (eq-eqb j j refl) in
-    let mine : rest i ≡ f i = cond-false {A = ℕ} (i == j) 0 (f i) (ne_eqb i j differ) in
-    omega (arith, changed, here, mine, term-sum n rest i has_i)
 
 -- what one caller has, of which all have one, no other has
 others-none :
@@ -450,8 +440,8 @@ pushes-desc g s l who seat d top o old has at =
 
 -- what is to lie below a descriptor that becomes available
 pub store_next_desc-sound :
-    (g : Geometry) (s : State) (who : ℕ) (s' : State) (seat : SeatFields) (d top : ℕ) (o : Onward) → IsSound g s → who < g.callers
-    → (s.errand who).point ≡ Desc (desc.StoreNextDesc seat d top) o → Step s who s' → IsSound g s'
+    (g : Geometry) (s : State) (who : ℕ) (s' : State) (seat : SeatFields) (d top : ℕ) (o : Onward) → IsSoundWithoutCounts g s → who < g.callers
+    → (s.errand who).point ≡ Desc (desc.StoreNextDesc seat d top) o → Step s who s' → IsSoundWithoutCounts g s'
 unfolding plan_point_of next_of event_of holds_of recalls_of
 store_next_desc-sound g s who s' seat d top o sound has at step =
     let p = Desc (desc.StoreNextDesc seat d top) o in
@@ -515,8 +505,8 @@ next-range g Partials i w most = most
 
 -- what is to lie below a frame or a partial superblock that is pushed
 pub store_below-sound :
-    (g : Geometry) (s : State) (who : ℕ) (s' : State) (seat : SeatFields) (pile : Pile) (i : ℕ) (h : HeadFields) (o : Onward) → IsSound g s
-    → who < g.callers → (s.errand who).point ≡ Stack (stack.StoreBelow seat pile i h) o → Step s who s' → IsSound g s'
+    (g : Geometry) (s : State) (who : ℕ) (s' : State) (seat : SeatFields) (pile : Pile) (i : ℕ) (h : HeadFields) (o : Onward) → IsSoundWithoutCounts g s
+    → who < g.callers → (s.errand who).point ≡ Stack (stack.StoreBelow seat pile i h) o → Step s who s' → IsSoundWithoutCounts g s'
 unfolding plan_point_of next_of event_of holds_of recalls_of
 store_below-sound g s who s' seat pile i h o sound has at step =
     let p = Stack (stack.StoreBelow seat pile i h) o in

@@ -46,7 +46,7 @@ use Rattle.sound_state.specs.Holdings.{Kept, holds_of, onward_holds, partly_used
 use Rattle.sound_state.specs.Keepers.{IsKeptAs, IsPartlyUsed}
 use Rattle.sound_state.specs.Lists.{Lists}
 use Rattle.sound_state.specs.Recalls.{recalls_of, IsSo, IsOwned, IsEmptied, IsLocated, located, in_use, emptied}
-use Rattle.sound_state.specs.Sound.{IsSound, IsSoundWith}
+use Rattle.sound_state.specs.Sound.{IsSoundWithoutCounts, IsSoundWith}
 use Rattle.sound_state.specs.Superblocks.{errand_keeps, kept_among, anchor_for, info_for, info_or_zero}
 use Rattle.sound_state.proofs.AlikeLemmas.{ActivesKept}
 use Rattle.sound_state.proofs.PointLemmas.{HoldsAlike, alike-goes, WeighFrom, fits-at, kept-at, so-at, weigh-stays, step-from, slot-written, slot-emptied, keeps-too, keeps-none, stays-actives, exists-at, end-from, keeps-alone, All-rest}
@@ -82,8 +82,8 @@ slot-leads s need word =
 
 -- the load of the slot
 pub load_slot-sound :
-    (g : Geometry) (s : State) (who : ℕ) (s' : State) (seat : SeatFields) (need : ℕ) → IsSound g s → who < g.callers
-    → (s.errand who).point ≡ Partial (partial.LoadSlot seat) (Alloc need) → Step s who s' → IsSound g s'
+    (g : Geometry) (s : State) (who : ℕ) (s' : State) (seat : SeatFields) (need : ℕ) → IsSoundWithoutCounts g s → who < g.callers
+    → (s.errand who).point ≡ Partial (partial.LoadSlot seat) (Alloc need) → Step s who s' → IsSoundWithoutCounts g s'
 unfolding plan_point_of next_of event_of
 load_slot-sound g s who s' seat need sound has at step =
     let leads = slot-leads seat need (s.word (slot_name seat)) in
@@ -100,8 +100,8 @@ load_slot-sound g s who s' seat need sound has at step =
 
 -- the slot isn't what it was
 pub take_slot_lost-sound :
-    (g : Geometry) (s : State) (who : ℕ) (s' : State) (seat : SeatFields) (d need : ℕ) → IsSound g s → who < g.callers
-    → (s.errand who).point ≡ Partial (partial.TakeSlot seat d) (Alloc need) → s.word (slot_name seat) ≢ d + 1 → Step s who s' → IsSound g s'
+    (g : Geometry) (s : State) (who : ℕ) (s' : State) (seat : SeatFields) (d need : ℕ) → IsSoundWithoutCounts g s → who < g.callers
+    → (s.errand who).point ≡ Partial (partial.TakeSlot seat d) (Alloc need) → s.word (slot_name seat) ≢ d + 1 → Step s who s' → IsSoundWithoutCounts g s'
 unfolding plan_point_of next_of event_of holds_of recalls_of
 take_slot_lost-sound g s who s' seat d need sound has at lost step =
     let no = ne_eqb (s.word (slot_name seat)) (d + 1) lost in
@@ -147,8 +147,8 @@ taken_info-so g s l who seat d need (Some info) is class =
 
 -- the load of its word
 pub load_taken_info-sound :
-    (g : Geometry) (s : State) (who : ℕ) (s' : State) (seat : SeatFields) (d need : ℕ) → IsSound g s → who < g.callers
-    → (s.errand who).point ≡ Partial (partial.LoadTakenInfo seat d) (Alloc need) → Step s who s' → IsSound g s'
+    (g : Geometry) (s : State) (who : ℕ) (s' : State) (seat : SeatFields) (d need : ℕ) → IsSoundWithoutCounts g s → who < g.callers
+    → (s.errand who).point ≡ Partial (partial.LoadTakenInfo seat d) (Alloc need) → Step s who s' → IsSoundWithoutCounts g s'
 unfolding plan_point_of next_of event_of holds_of
 load_taken_info-sound g s who s' seat d need sound has at step =
     let leads = taken_info-leads seat d need (info_in seat.geometry (s.word (name.Info d))) in
@@ -190,9 +190,9 @@ live-so g s l who at need (Some a) is used here =
 
 -- the load of the anchor, where it isn't EMPTY
 pub load_grant_anchor-sound :
-    (g : Geometry) (s : State) (who : ℕ) (s' : State) (site : Site) (need : ℕ) → IsSound g s → who < g.callers
+    (g : Geometry) (s : State) (who : ℕ) (s' : State) (site : Site) (need : ℕ) → IsSoundWithoutCounts g s → who < g.callers
     → (s.errand who).point ≡ Partial (partial.LoadGrantAnchor site) (Alloc need) → is_empty (anchor_for s site.desc).state ≡ false
-    → Step s who s' → IsSound g s'
+    → Step s who s' → IsSoundWithoutCounts g s'
 unfolding plan_point_of next_of event_of recalls_of
 load_grant_anchor-sound g s who s' site need sound has at used step =
     let p = Partial (partial.LoadGrantAnchor site) (Alloc need) in
@@ -210,9 +210,9 @@ load_grant_anchor-sound g s who s' site need sound has at used step =
 
 -- its anchor isn't what it was
 pub grant_lost-sound :
-    (g : Geometry) (s : State) (who : ℕ) (s' : State) (site : Site) (a : AnchorFields) (need : ℕ) → IsSound g s → who < g.callers
+    (g : Geometry) (s : State) (who : ℕ) (s' : State) (site : Site) (a : AnchorFields) (need : ℕ) → IsSoundWithoutCounts g s → who < g.callers
     → (s.errand who).point ≡ Partial (partial.Grant site a) (Alloc need) → s.word (name.Anchor site.desc) ≢ anchor_word a → Step s who s'
-    → IsSound g s'
+    → IsSoundWithoutCounts g s'
 unfolding plan_point_of next_of event_of holds_of recalls_of
 grant_lost-sound g s who s' site a need sound has at lost step =
     let no = ne_eqb (s.word (name.Anchor site.desc)) (anchor_word a) lost in
@@ -247,8 +247,8 @@ owner-recalls s d stored (Some info) = refl
 
 -- the load of its word
 pub load_owner-sound :
-    (g : Geometry) (s : State) (who : ℕ) (s' : State) (seat : SeatFields) (d : ℕ) (stored : Bool) → IsSound g s → who < g.callers
-    → (s.errand who).point ≡ Partial (partial.LoadOwner seat d) (Finish stored) → Step s who s' → IsSound g s'
+    (g : Geometry) (s : State) (who : ℕ) (s' : State) (seat : SeatFields) (d : ℕ) (stored : Bool) → IsSoundWithoutCounts g s → who < g.callers
+    → (s.errand who).point ≡ Partial (partial.LoadOwner seat d) (Finish stored) → Step s who s' → IsSoundWithoutCounts g s'
 unfolding plan_point_of next_of event_of
 load_owner-sound g s who s' seat d stored sound has at step =
     let i = info_in seat.geometry (s.word (name.Info d)) in
@@ -266,9 +266,9 @@ load_owner-sound g s who s' seat d stored sound has at step =
 
 -- the superblock that became EMPTY stands in the slot
 pub load_held_slot_there-sound :
-    (g : Geometry) (s : State) (who : ℕ) (s' : State) (seat : SeatFields) (d heap : ℕ) → IsSound g s → who < g.callers
+    (g : Geometry) (s : State) (who : ℕ) (s' : State) (seat : SeatFields) (d heap : ℕ) → IsSoundWithoutCounts g s → who < g.callers
     → (s.errand who).point ≡ Partial (partial.LoadHeldSlot seat d heap) Free → s.word (slot_of seat heap) ≡ d + 1 → Step s who s'
-    → IsSound g s'
+    → IsSoundWithoutCounts g s'
 unfolding plan_point_of next_of event_of holds_of recalls_of
 load_held_slot_there-sound g s who s' seat d heap sound has at there step =
     let yes = eq-eqb (s.word (slot_of seat heap)) (d + 1) there in
@@ -286,9 +286,9 @@ load_held_slot_there-sound g s who s' seat d heap sound has at there step =
 
 -- the first superblock from the list isn't EMPTY
 pub load_first_listed-sound :
-    (g : Geometry) (s : State) (who : ℕ) (s' : State) (seat : SeatFields) (d : ℕ) → IsSound g s → who < g.callers
+    (g : Geometry) (s : State) (who : ℕ) (s' : State) (seat : SeatFields) (d : ℕ) → IsSoundWithoutCounts g s → who < g.callers
     → (s.errand who).point ≡ Partial (partial.LoadListedAnchor seat d) Clear → is_empty (anchor_for s d).state ≡ false → Step s who s'
-    → IsSound g s'
+    → IsSoundWithoutCounts g s'
 unfolding plan_point_of next_of event_of holds_of recalls_of
 load_first_listed-sound g s who s' seat d sound has at used step =
     quiet-at g s who s' (Partial (partial.LoadListedAnchor seat d) Clear) (Stack (stack.LoadTop seat Partials) (ClearSecond d)) sound has at
@@ -304,9 +304,9 @@ load_first_listed-sound g s who s' seat d sound has at used step =
 
 -- nor is the second one
 pub load_second_listed-sound :
-    (g : Geometry) (s : State) (who : ℕ) (s' : State) (seat : SeatFields) (d first : ℕ) → IsSound g s → who < g.callers
+    (g : Geometry) (s : State) (who : ℕ) (s' : State) (seat : SeatFields) (d first : ℕ) → IsSoundWithoutCounts g s → who < g.callers
     → (s.errand who).point ≡ Partial (partial.LoadListedAnchor seat d) (ClearSecond first) → is_empty (anchor_for s d).state ≡ false
-    → Step s who s' → IsSound g s'
+    → Step s who s' → IsSoundWithoutCounts g s'
 unfolding plan_point_of next_of event_of holds_of recalls_of
 load_second_listed-sound g s who s' seat d first sound has at used step =
     quiet-at g s who s' (Partial (partial.LoadListedAnchor seat d) (ClearSecond first))
@@ -335,8 +335,8 @@ unfolding holds_of
 take-alike seat d need = grind (arith)
 
 pub take_slot_won-sound :
-    (g : Geometry) (s : State) (who : ℕ) (s' : State) (seat : SeatFields) (d need : ℕ) → IsSound g s → who < g.callers
-    → (s.errand who).point ≡ Partial (partial.TakeSlot seat d) (Alloc need) → s.word (slot_name seat) ≡ d + 1 → Step s who s' → IsSound g s'
+    (g : Geometry) (s : State) (who : ℕ) (s' : State) (seat : SeatFields) (d need : ℕ) → IsSoundWithoutCounts g s → who < g.callers
+    → (s.errand who).point ≡ Partial (partial.TakeSlot seat d) (Alloc need) → s.word (slot_name seat) ≡ d + 1 → Step s who s' → IsSoundWithoutCounts g s'
 unfolding plan_point_of next_of event_of holds_of recalls_of
 take_slot_won-sound g s who s' seat d need sound has at there step =
     let yes = eq-eqb (s.word (slot_name seat)) (d + 1) there in
@@ -389,9 +389,9 @@ remove-turns : (seat : SeatFields) (d heap : ℕ) → TurnGoes (Partial (partial
 remove-turns seat d heap = grind (arith)
 
 pub load_held_slot_elsewhere-sound :
-    (g : Geometry) (s : State) (who : ℕ) (s' : State) (seat : SeatFields) (d heap : ℕ) → IsSound g s → who < g.callers
+    (g : Geometry) (s : State) (who : ℕ) (s' : State) (seat : SeatFields) (d heap : ℕ) → IsSoundWithoutCounts g s → who < g.callers
     → (s.errand who).point ≡ Partial (partial.LoadHeldSlot seat d heap) Free → s.word (slot_of seat heap) ≢ d + 1 → Step s who s'
-    → IsSound g s'
+    → IsSoundWithoutCounts g s'
 unfolding plan_point_of next_of event_of holds_of
 load_held_slot_elsewhere-sound g s who s' seat d heap sound has at other step =
     let no = ne_eqb (s.word (slot_of seat heap)) (d + 1) other in
@@ -410,9 +410,9 @@ load_held_slot_elsewhere-sound g s who s' seat d heap sound has at other step =
     step
 
 pub remove_from_slot_lost-sound :
-    (g : Geometry) (s : State) (who : ℕ) (s' : State) (seat : SeatFields) (d heap : ℕ) → IsSound g s → who < g.callers
+    (g : Geometry) (s : State) (who : ℕ) (s' : State) (seat : SeatFields) (d heap : ℕ) → IsSoundWithoutCounts g s → who < g.callers
     → (s.errand who).point ≡ Partial (partial.RemoveFromSlot seat d heap) Free → s.word (slot_of seat heap) ≢ d + 1 → Step s who s'
-    → IsSound g s'
+    → IsSoundWithoutCounts g s'
 unfolding plan_point_of next_of event_of holds_of
 remove_from_slot_lost-sound g s who s' seat d heap sound has at lost step =
     let no = ne_eqb (s.word (slot_of seat heap)) (d + 1) lost in
@@ -445,9 +445,9 @@ unfolding holds_of
 removed-alike seat d heap = grind (arith)
 
 pub remove_from_slot_won-sound :
-    (g : Geometry) (s : State) (who : ℕ) (s' : State) (seat : SeatFields) (d heap : ℕ) → IsSound g s → who < g.callers
+    (g : Geometry) (s : State) (who : ℕ) (s' : State) (seat : SeatFields) (d heap : ℕ) → IsSoundWithoutCounts g s → who < g.callers
     → (s.errand who).point ≡ Partial (partial.RemoveFromSlot seat d heap) Free → s.word (slot_of seat heap) ≡ d + 1 → Step s who s'
-    → IsSound g s'
+    → IsSoundWithoutCounts g s'
 unfolding plan_point_of next_of event_of holds_of recalls_of
 remove_from_slot_won-sound g s who s' seat d heap sound has at there step =
     let yes = eq-eqb (s.word (slot_of seat heap)) (d + 1) there in
@@ -504,9 +504,9 @@ unfolding holds_of
 filled-gives-alike seat d heap need site i = grind (arith)
 
 pub put_slot_filled_gives-sound :
-    (g : Geometry) (s : State) (who : ℕ) (s' : State) (seat : SeatFields) (d heap need : ℕ) (site : Site) (i : ℕ) → IsSound g s → who < g.callers
+    (g : Geometry) (s : State) (who : ℕ) (s' : State) (seat : SeatFields) (d heap need : ℕ) (site : Site) (i : ℕ) → IsSoundWithoutCounts g s → who < g.callers
     → (s.errand who).point ≡ Partial (partial.PutSlot seat d heap) (GiveBlock need site i) → s.word (slot_of seat heap) ≡ 0 → Step s who s'
-    → IsSound g s'
+    → IsSoundWithoutCounts g s'
 unfolding plan_point_of next_of event_of holds_of recalls_of
 put_slot_filled_gives-sound g s who s' seat d heap need site i sound has at bare step =
     let p = Partial (partial.PutSlot seat d heap) (GiveBlock need site i) in
@@ -537,9 +537,9 @@ unfolding holds_of
 filled-clears-alike seat d heap = grind (arith)
 
 pub put_slot_filled_clears-sound :
-    (g : Geometry) (s : State) (who : ℕ) (s' : State) (seat : SeatFields) (d heap : ℕ) → IsSound g s → who < g.callers
+    (g : Geometry) (s : State) (who : ℕ) (s' : State) (seat : SeatFields) (d heap : ℕ) → IsSoundWithoutCounts g s → who < g.callers
     → (s.errand who).point ≡ Partial (partial.PutSlot seat d heap) (Finish true) → s.word (slot_of seat heap) ≡ 0 → Step s who s'
-    → IsSound g s'
+    → IsSoundWithoutCounts g s'
 unfolding plan_point_of next_of event_of holds_of recalls_of
 put_slot_filled_clears-sound g s who s' seat d heap sound has at bare step =
     let p = Partial (partial.PutSlot seat d heap) (Finish true) in
@@ -568,9 +568,9 @@ unfolding holds_of
 filled-ends-alike seat d heap = grind (arith)
 
 pub put_slot_filled_ends-sound :
-    (g : Geometry) (s : State) (who : ℕ) (s' : State) (seat : SeatFields) (d heap : ℕ) → IsSound g s → who < g.callers
+    (g : Geometry) (s : State) (who : ℕ) (s' : State) (seat : SeatFields) (d heap : ℕ) → IsSoundWithoutCounts g s → who < g.callers
     → (s.errand who).point ≡ Partial (partial.PutSlot seat d heap) (Finish false) → s.word (slot_of seat heap) ≡ 0 → Step s who s'
-    → IsSound g s'
+    → IsSoundWithoutCounts g s'
 unfolding plan_point_of next_of event_of holds_of recalls_of
 put_slot_filled_ends-sound g s who s' seat d heap sound has at bare step =
     let p = Partial (partial.PutSlot seat d heap) (Finish false) in
@@ -607,9 +607,9 @@ displaced-next :
 displaced-next g seat d heap other same within = grind (arith, nat_tests)
 
 pub put_slot_displaced-sound :
-    (g : Geometry) (s : State) (who : ℕ) (s' : State) (seat : SeatFields) (d heap other : ℕ) (o : Onward) → IsSound g s → who < g.callers
+    (g : Geometry) (s : State) (who : ℕ) (s' : State) (seat : SeatFields) (d heap other : ℕ) (o : Onward) → IsSoundWithoutCounts g s → who < g.callers
     → (s.errand who).point ≡ Partial (partial.PutSlot seat d heap) o → s.word (slot_of seat heap) ≡ other + 1 → Step s who s'
-    → IsSound g s'
+    → IsSoundWithoutCounts g s'
 unfolding plan_point_of next_of event_of holds_of recalls_of
 put_slot_displaced-sound g s who s' seat d heap other o sound has at there step =
     let p = Partial (partial.PutSlot seat d heap) o in
@@ -672,9 +672,9 @@ keeps-listed e seat d first at =
     (rw (eq-eqb d d refl) (omega arith))
 
 pub load_second_listed_empty-sound :
-    (g : Geometry) (s : State) (who : ℕ) (s' : State) (seat : SeatFields) (d first : ℕ) → IsSound g s → who < g.callers
+    (g : Geometry) (s : State) (who : ℕ) (s' : State) (seat : SeatFields) (d first : ℕ) → IsSoundWithoutCounts g s → who < g.callers
     → (s.errand who).point ≡ Partial (partial.LoadListedAnchor seat d) (ClearSecond first) → is_empty (anchor_for s d).state ≡ true
-    → Step s who s' → IsSound g s'
+    → Step s who s' → IsSoundWithoutCounts g s'
 unfolding plan_point_of next_of event_of holds_of recalls_of
 load_second_listed_empty-sound g s who s' seat d first sound has at bare step =
     let p = Partial (partial.LoadListedAnchor seat d) (ClearSecond first) in
@@ -703,8 +703,8 @@ load_second_listed_empty-sound g s who s' seat d first sound has at bare step =
 
 -- the same steps, whatever the word was
 pub take_slot-sound :
-    (g : Geometry) (s : State) (who : ℕ) (s' : State) (seat : SeatFields) (d need : ℕ) → IsSound g s → who < g.callers
-    → (s.errand who).point ≡ Partial (partial.TakeSlot seat d) (Alloc need) → Step s who s' → IsSound g s'
+    (g : Geometry) (s : State) (who : ℕ) (s' : State) (seat : SeatFields) (d need : ℕ) → IsSoundWithoutCounts g s → who < g.callers
+    → (s.errand who).point ≡ Partial (partial.TakeSlot seat d) (Alloc need) → Step s who s' → IsSoundWithoutCounts g s'
 take_slot-sound g s who s' seat d need sound has at step =
     elim (cases_eq (s.word (slot_name seat)) (d + 1)) [
       | inl there ↦ take_slot_won-sound g s who s' seat d need sound has at there step
@@ -712,8 +712,8 @@ take_slot-sound g s who s' seat d need sound has at step =
     ]
 
 pub put_slot_gives-sound :
-    (g : Geometry) (s : State) (who : ℕ) (s' : State) (seat : SeatFields) (d heap need : ℕ) (site : Site) (i : ℕ) → IsSound g s → who < g.callers
-    → (s.errand who).point ≡ Partial (partial.PutSlot seat d heap) (GiveBlock need site i) → Step s who s' → IsSound g s'
+    (g : Geometry) (s : State) (who : ℕ) (s' : State) (seat : SeatFields) (d heap need : ℕ) (site : Site) (i : ℕ) → IsSoundWithoutCounts g s → who < g.callers
+    → (s.errand who).point ≡ Partial (partial.PutSlot seat d heap) (GiveBlock need site i) → Step s who s' → IsSoundWithoutCounts g s'
 put_slot_gives-sound g s who s' seat d heap need site i sound has at step =
     elim (cases_eq (s.word (slot_of seat heap)) 0) [
       | inl bare ↦ put_slot_filled_gives-sound g s who s' seat d heap need site i sound has at bare step
@@ -723,8 +723,8 @@ put_slot_gives-sound g s who s' seat d heap need site i sound has at step =
     ]
 
 pub put_slot_clears-sound :
-    (g : Geometry) (s : State) (who : ℕ) (s' : State) (seat : SeatFields) (d heap : ℕ) → IsSound g s → who < g.callers
-    → (s.errand who).point ≡ Partial (partial.PutSlot seat d heap) (Finish true) → Step s who s' → IsSound g s'
+    (g : Geometry) (s : State) (who : ℕ) (s' : State) (seat : SeatFields) (d heap : ℕ) → IsSoundWithoutCounts g s → who < g.callers
+    → (s.errand who).point ≡ Partial (partial.PutSlot seat d heap) (Finish true) → Step s who s' → IsSoundWithoutCounts g s'
 put_slot_clears-sound g s who s' seat d heap sound has at step =
     elim (cases_eq (s.word (slot_of seat heap)) 0) [
       | inl bare ↦ put_slot_filled_clears-sound g s who s' seat d heap sound has at bare step
@@ -733,8 +733,8 @@ put_slot_clears-sound g s who s' seat d heap sound has at step =
     ]
 
 pub load_held_slot-sound :
-    (g : Geometry) (s : State) (who : ℕ) (s' : State) (seat : SeatFields) (d heap : ℕ) → IsSound g s → who < g.callers
-    → (s.errand who).point ≡ Partial (partial.LoadHeldSlot seat d heap) Free → Step s who s' → IsSound g s'
+    (g : Geometry) (s : State) (who : ℕ) (s' : State) (seat : SeatFields) (d heap : ℕ) → IsSoundWithoutCounts g s → who < g.callers
+    → (s.errand who).point ≡ Partial (partial.LoadHeldSlot seat d heap) Free → Step s who s' → IsSoundWithoutCounts g s'
 load_held_slot-sound g s who s' seat d heap sound has at step =
     elim (cases_eq (s.word (slot_of seat heap)) (d + 1)) [
       | inl there ↦ load_held_slot_there-sound g s who s' seat d heap sound has at there step
@@ -742,8 +742,8 @@ load_held_slot-sound g s who s' seat d heap sound has at step =
     ]
 
 pub remove_from_slot-sound :
-    (g : Geometry) (s : State) (who : ℕ) (s' : State) (seat : SeatFields) (d heap : ℕ) → IsSound g s → who < g.callers
-    → (s.errand who).point ≡ Partial (partial.RemoveFromSlot seat d heap) Free → Step s who s' → IsSound g s'
+    (g : Geometry) (s : State) (who : ℕ) (s' : State) (seat : SeatFields) (d heap : ℕ) → IsSoundWithoutCounts g s → who < g.callers
+    → (s.errand who).point ≡ Partial (partial.RemoveFromSlot seat d heap) Free → Step s who s' → IsSoundWithoutCounts g s'
 remove_from_slot-sound g s who s' seat d heap sound has at step =
     elim (cases_eq (s.word (slot_of seat heap)) (d + 1)) [
       | inl there ↦ remove_from_slot_won-sound g s who s' seat d heap sound has at there step
@@ -751,8 +751,8 @@ remove_from_slot-sound g s who s' seat d heap sound has at step =
     ]
 
 pub load_second-sound :
-    (g : Geometry) (s : State) (who : ℕ) (s' : State) (seat : SeatFields) (d first : ℕ) → IsSound g s → who < g.callers
-    → (s.errand who).point ≡ Partial (partial.LoadListedAnchor seat d) (ClearSecond first) → Step s who s' → IsSound g s'
+    (g : Geometry) (s : State) (who : ℕ) (s' : State) (seat : SeatFields) (d first : ℕ) → IsSoundWithoutCounts g s → who < g.callers
+    → (s.errand who).point ≡ Partial (partial.LoadListedAnchor seat d) (ClearSecond first) → Step s who s' → IsSoundWithoutCounts g s'
 load_second-sound g s who s' seat d first sound has at step =
     elim (cases_Bool (is_empty (anchor_for s d).state)) [
       | inl bare ↦ load_second_listed_empty-sound g s who s' seat d first sound has at bare step

@@ -21,10 +21,10 @@ use Rattle.errand_steps.specs.Points.{plan_point_of}
 use Rattle.errand_steps.specs.Steps.{State, Step}
 use Rattle.sound_state.specs.Holdings.{holds_of, before_pop}
 use Rattle.sound_state.specs.Recalls.{IsSo, IsLocated, IsPopped, recalls_of, bound_for, bound_at, bound_here, pops, links}
-use Rattle.sound_state.specs.Sound.{IsSound}
+use Rattle.sound_state.specs.Sound.{IsSoundWithoutCounts}
 use Rattle.sound_state.specs.Sums.{callers_sum}
 use Rattle.sound_state.specs.Superblocks.{info_for, info_or_zero, anchor_for, superblock_of, free_chain, reserved_of, reserved_among, errand_reserves}
-use Rattle.sound_state.proofs.QuietExchanges.{recalled}
+use Rattle.sound_state.proofs.PointLemmas.{so-at}
 use Rattle.sound_state.proofs.QuietLemmas.{quiet-at}
 use Rattle.sound_state.proofs.SumLemmas.{term-sum}
 
@@ -36,8 +36,8 @@ info-said g (Some i) info is = grind (arith, is)
 -- the load of a descriptor's word, by what it says
 info-leads :
     (g : Geometry) (s : State) (who : ℕ) (s' : State) (seat : SeatFields) (d : ℕ) (share : Share) (o : Onward) (said : Option InfoFields)
-    → IsSound g s → who < g.callers → (s.errand who).point ≡ Block (block.LoadInfo seat d share) o
-    → info_in seat.geometry (s.word (name.Info d)) ≡ said → Step s who s' → IsSound g s'
+    → IsSoundWithoutCounts g s → who < g.callers → (s.errand who).point ≡ Block (block.LoadInfo seat d share) o
+    → info_in seat.geometry (s.word (name.Info d)) ≡ said → Step s who s' → IsSoundWithoutCounts g s'
 unfolding plan_point_of next_of event_of holds_of recalls_of
 info-leads g s who s' seat d share o None sound has at is step =
     quiet-at g s who s' (Block (block.LoadInfo seat d share) o) (Block (block.LoadInfo seat d share) o) sound has at
@@ -47,7 +47,7 @@ info-leads g s who s' seat d share o None sound has at is step =
       cleared = refl;
       word = refl;
       holds = grind (arith);
-      so = λ l old. recalled g s l who (Block (block.LoadInfo seat d share) o) old has at;
+      so = λ l old. so-at g s l who (Block (block.LoadInfo seat d share) o) old has at;
     })
     step
 info-leads g s who s' seat d share o (Some info) sound has at is step =
@@ -61,15 +61,15 @@ info-leads g s who s' seat d share o (Some info) sound has at is step =
       word = refl;
       holds = grind (arith);
       so = λ l old.
-          let bound = All-head (IsSo g s l who) (bound_for d seat.class) [] (recalled g s l who (Block (block.LoadInfo seat d share) o) old has at) in
+          let bound = All-head (IsSo g s l who) (bound_for d seat.class) [] (so-at g s l who (Block (block.LoadInfo seat d share) o) old has at) in
           All-cons (IsSo g s l who) (bound_at d info.frame seat.class) []
           (bound.0, record { frame = ap (λ (x : InfoFields). x.frame) says; class = bound.1 }) (All-nil (IsSo g s l who));
     })
     step
 
 pub load_info-sound :
-    (g : Geometry) (s : State) (who : ℕ) (s' : State) (seat : SeatFields) (d : ℕ) (share : Share) (o : Onward) → IsSound g s
-    → who < g.callers → (s.errand who).point ≡ Block (block.LoadInfo seat d share) o → Step s who s' → IsSound g s'
+    (g : Geometry) (s : State) (who : ℕ) (s' : State) (seat : SeatFields) (d : ℕ) (share : Share) (o : Onward) → IsSoundWithoutCounts g s
+    → who < g.callers → (s.errand who).point ≡ Block (block.LoadInfo seat d share) o → Step s who s' → IsSoundWithoutCounts g s'
 load_info-sound g s who s' seat d share o sound has at step =
     info-leads g s who s' seat d share o (info_in seat.geometry (s.word (name.Info d))) sound has at refl step
 
@@ -103,9 +103,9 @@ anchor-said class word a is = grind (arith, is)
 
 -- the load of an anchor for a pop, by what it says
 anchor-leads :
-    (g : Geometry) (s : State) (who : ℕ) (s' : State) (site : Site) (share : Share) (o : Onward) (said : Option AnchorFields) → IsSound g s
+    (g : Geometry) (s : State) (who : ℕ) (s' : State) (site : Site) (share : Share) (o : Onward) (said : Option AnchorFields) → IsSoundWithoutCounts g s
     → who < g.callers → (s.errand who).point ≡ Block (block.LoadAnchor site share) o
-    → anchor_in site.seat.class (s.word (name.Anchor site.desc)) ≡ said → Step s who s' → IsSound g s'
+    → anchor_in site.seat.class (s.word (name.Anchor site.desc)) ≡ said → Step s who s' → IsSoundWithoutCounts g s'
 unfolding plan_point_of next_of event_of holds_of recalls_of
 anchor-leads g s who s' site share o None sound has at is step =
     quiet-at g s who s' (Block (block.LoadAnchor site share) o) (Block (block.LoadAnchor site share) o) sound has at
@@ -115,7 +115,7 @@ anchor-leads g s who s' site share o None sound has at is step =
       cleared = refl;
       word = refl;
       holds = grind (arith);
-      so = λ l old. recalled g s l who (Block (block.LoadAnchor site share) o) old has at;
+      so = λ l old. so-at g s l who (Block (block.LoadAnchor site share) o) old has at;
     })
     step
 anchor-leads g s who s' site share o (Some a) sound has at is step =
@@ -132,20 +132,20 @@ anchor-leads g s who s' site share o (Some a) sound has at is step =
           caller-reserves g s who site.desc (Block (block.LoadAnchor site share) o) has at (before-reserves site.desc site.seat.class share) in
           All-cons (IsSo g s l who) (pops site.desc a) (bound_here site)
           (subst (IsPopped (superblock_of g s site.desc)) (sym says) (record { tag = omega arith; first = λ same. chain-first g s site.desc some }))
-          (recalled g s l who (Block (block.LoadAnchor site share) o) old has at);
+          (so-at g s l who (Block (block.LoadAnchor site share) o) old has at);
     })
     step
 
 pub load_anchor-sound :
-    (g : Geometry) (s : State) (who : ℕ) (s' : State) (site : Site) (share : Share) (o : Onward) → IsSound g s → who < g.callers
-    → (s.errand who).point ≡ Block (block.LoadAnchor site share) o → Step s who s' → IsSound g s'
+    (g : Geometry) (s : State) (who : ℕ) (s' : State) (site : Site) (share : Share) (o : Onward) → IsSoundWithoutCounts g s → who < g.callers
+    → (s.errand who).point ≡ Block (block.LoadAnchor site share) o → Step s who s' → IsSoundWithoutCounts g s'
 load_anchor-sound g s who s' site share o sound has at step =
     anchor-leads g s who s' site share o (anchor_in site.seat.class (s.word (name.Anchor site.desc))) sound has at refl step
 
 -- the load of a link
 pub load_link-sound :
-    (g : Geometry) (s : State) (who : ℕ) (s' : State) (site : Site) (share : Share) (a : AnchorFields) (o : Onward) → IsSound g s
-    → who < g.callers → (s.errand who).point ≡ Block (block.LoadLink site share a) o → Step s who s' → IsSound g s'
+    (g : Geometry) (s : State) (who : ℕ) (s' : State) (site : Site) (share : Share) (a : AnchorFields) (o : Onward) → IsSoundWithoutCounts g s
+    → who < g.callers → (s.errand who).point ≡ Block (block.LoadLink site share a) o → Step s who s' → IsSoundWithoutCounts g s'
 unfolding plan_point_of next_of event_of holds_of recalls_of
 load_link-sound g s who s' site share a o sound has at step =
     let prefix : ℕ = s.word (prefix_name site.frame site.seat.class a.avail) in
@@ -157,7 +157,7 @@ load_link-sound g s who s' site share a o sound has at step =
       word = refl;
       holds = grind (arith);
       so = λ l old.
-          let all = recalled g s l who (Block (block.LoadLink site share a) o) old has at in
+          let all = so-at g s l who (Block (block.LoadLink site share a) o) old has at in
           let located : IsLocated s site.desc site.frame site.seat.class =
           (All-head (IsSo g s l who) (bound_at site.desc site.frame site.seat.class) [] (All-tail (IsSo g s l who) (pops site.desc a) (bound_here site) all)).1 in
           All-cons (IsSo g s l who) (links site.desc a prefix) (pops site.desc a ∷ bound_here site)
@@ -167,9 +167,9 @@ load_link-sound g s who s' site share a o sound has at step =
 
 -- the load of an anchor for a return, by what it says
 return_anchor-leads :
-    (g : Geometry) (s : State) (who : ℕ) (s' : State) (site : Site) (i more : ℕ) (o : Onward) (said : Option AnchorFields) → IsSound g s
+    (g : Geometry) (s : State) (who : ℕ) (s' : State) (site : Site) (i more : ℕ) (o : Onward) (said : Option AnchorFields) → IsSoundWithoutCounts g s
     → who < g.callers → (s.errand who).point ≡ Block (block.LoadReturn site i more) o
-    → anchor_in site.seat.class (s.word (name.Anchor site.desc)) ≡ said → Step s who s' → IsSound g s'
+    → anchor_in site.seat.class (s.word (name.Anchor site.desc)) ≡ said → Step s who s' → IsSoundWithoutCounts g s'
 unfolding plan_point_of next_of event_of holds_of recalls_of
 return_anchor-leads g s who s' site i more o None sound has at is step =
     quiet-at g s who s' (Block (block.LoadReturn site i more) o) (Block (block.LoadReturn site i more) o) sound has at
@@ -179,7 +179,7 @@ return_anchor-leads g s who s' site i more o None sound has at is step =
       cleared = refl;
       word = refl;
       holds = grind (arith);
-      so = λ l old. recalled g s l who (Block (block.LoadReturn site i more) o) old has at;
+      so = λ l old. so-at g s l who (Block (block.LoadReturn site i more) o) old has at;
     })
     step
 return_anchor-leads g s who s' site i more o (Some a) sound has at is step =
@@ -190,12 +190,12 @@ return_anchor-leads g s who s' site i more o (Some a) sound has at is step =
       cleared = refl;
       word = refl;
       holds = grind (arith);
-      so = λ l old. recalled g s l who (Block (block.LoadReturn site i more) o) old has at;
+      so = λ l old. so-at g s l who (Block (block.LoadReturn site i more) o) old has at;
     })
     step
 
 pub load_return-sound :
-    (g : Geometry) (s : State) (who : ℕ) (s' : State) (site : Site) (i more : ℕ) (o : Onward) → IsSound g s → who < g.callers
-    → (s.errand who).point ≡ Block (block.LoadReturn site i more) o → Step s who s' → IsSound g s'
+    (g : Geometry) (s : State) (who : ℕ) (s' : State) (site : Site) (i more : ℕ) (o : Onward) → IsSoundWithoutCounts g s → who < g.callers
+    → (s.errand who).point ≡ Block (block.LoadReturn site i more) o → Step s who s' → IsSoundWithoutCounts g s'
 load_return-sound g s who s' site i more o sound has at step =
     return_anchor-leads g s who s' site i more o (anchor_in site.seat.class (s.word (name.Anchor site.desc))) sound has at refl step

@@ -40,20 +40,20 @@ use Rattle.sound_state.specs.Guards.{IsHazard, IsGuard}
 use Rattle.sound_state.specs.Holdings.{if_stored, Handed, Freed, Holding, holds_of, waiting, on_its_way}
 use Rattle.sound_state.specs.Lists.{Lists}
 use Rattle.sound_state.specs.Recalls.{IsSo, IsLocated, IsOwned, recalls_of, bound_at}
-use Rattle.sound_state.specs.Sound.{IsSound, IsSoundWith}
+use Rattle.sound_state.specs.Sound.{IsSoundWithoutCounts, IsSoundWith}
 use Rattle.sound_state.specs.Stock.{waits_in}
 use Rattle.sound_state.specs.Superblocks.{is_bound, kept_among}
 use Rattle.sound_state.specs.Ties.{IsExcepted, IsBlockOfDesc}
 use Rattle.superblock_parts.specs.Chains.{occurs}
-use Rattle.sound_state.proofs.QuietExchanges.{recalled, fits}
+use Rattle.sound_state.proofs.PointLemmas.{so-at, fits-at}
 use Rattle.sound_state.proofs.QuietLemmas.{actives-stay, words-stay, found_from, quiet-at}
 use Rattle.sound_state.proofs.StepLemmas.{PointGoes, HoldsException, step-sound}
 
 -- the load of the owner, by what the descriptor's word says
 owner-leads :
     (g : Geometry) (s : State) (who : ℕ) (s' : State) (site : Site) (i : ℕ) (a : AnchorFields) (o : Onward) (said : Option InfoFields)
-    → IsSound g s → who < g.callers → (s.errand who).point ≡ Block (block.LoadOwner site i a) o
-    → info_in site.seat.geometry (s.word (name.Info site.desc)) ≡ said → Step s who s' → IsSound g s'
+    → IsSoundWithoutCounts g s → who < g.callers → (s.errand who).point ≡ Block (block.LoadOwner site i a) o
+    → info_in site.seat.geometry (s.word (name.Info site.desc)) ≡ said → Step s who s' → IsSoundWithoutCounts g s'
 unfolding plan_point_of next_of event_of holds_of recalls_of
 owner-leads g s who s' site i a o None sound has at is step =
     quiet-at g s who s' (Block (block.LoadOwner site i a) o) (Block (block.LoadOwner site i a) o) sound has at
@@ -63,7 +63,7 @@ owner-leads g s who s' site i a o None sound has at is step =
       cleared = refl;
       word = refl;
       holds = grind (arith);
-      so = λ l old. recalled g s l who (Block (block.LoadOwner site i a) o) old has at;
+      so = λ l old. so-at g s l who (Block (block.LoadOwner site i a) o) old has at;
     })
     step
 owner-leads g s who s' site i a o (Some info) sound has at is step =
@@ -74,13 +74,13 @@ owner-leads g s who s' site i a o (Some info) sound has at is step =
       cleared = refl;
       word = refl;
       holds = grind (arith);
-      so = λ l old. recalled g s l who (Block (block.LoadOwner site i a) o) old has at;
+      so = λ l old. so-at g s l who (Block (block.LoadOwner site i a) o) old has at;
     })
     step
 
 pub load_owner-sound :
-    (g : Geometry) (s : State) (who : ℕ) (s' : State) (site : Site) (i : ℕ) (a : AnchorFields) (o : Onward) → IsSound g s
-    → who < g.callers → (s.errand who).point ≡ Block (block.LoadOwner site i a) o → Step s who s' → IsSound g s'
+    (g : Geometry) (s : State) (who : ℕ) (s' : State) (site : Site) (i : ℕ) (a : AnchorFields) (o : Onward) → IsSoundWithoutCounts g s
+    → who < g.callers → (s.errand who).point ≡ Block (block.LoadOwner site i a) o → Step s who s' → IsSoundWithoutCounts g s'
 load_owner-sound g s who s' site i a o sound has at step =
     owner-leads g s who s' site i a o (info_in site.seat.geometry (s.word (name.Info site.desc))) sound has at refl step
 
@@ -101,8 +101,8 @@ pub record IsSteadyAt (g : Geometry) (s : State) (who : ℕ) (p q : Point) : Typ
   pub goes : (l : Lists) → IsSoundWith g s l → PointGoes g s l who p q
 
 steady-sound :
-    (g : Geometry) (s : State) (who : ℕ) (s' : State) (q : Point) → IsSound g s → who < g.callers
-    → IsSteadyAt g s who (s.errand who).point q → Step s who s' → IsSound g s'
+    (g : Geometry) (s : State) (who : ℕ) (s' : State) (q : Point) → IsSoundWithoutCounts g s → who < g.callers
+    → IsSteadyAt g s who (s.errand who).point q → Step s who s' → IsSoundWithoutCounts g s'
 steady-sound g s who s' q sound has h step =
     let n = name_of (plan_point_of (s.errand who).point) in
     let w = h.weighs in
@@ -127,8 +127,8 @@ steady-sound g s who s' q sound has h step =
     (λ l old. actives-stay g s l s'.word old.kept (words-stay s.word n _ s'.word step.word h.word)) step
 
 pub steady-at :
-    (g : Geometry) (s : State) (who : ℕ) (s' : State) (p q : Point) → IsSound g s → who < g.callers → (s.errand who).point ≡ p
-    → IsSteadyAt g s who p q → Step s who s' → IsSound g s'
+    (g : Geometry) (s : State) (who : ℕ) (s' : State) (p q : Point) → IsSoundWithoutCounts g s → who < g.callers → (s.errand who).point ≡ p
+    → IsSteadyAt g s who p q → Step s who s' → IsSoundWithoutCounts g s'
 steady-at g s who s' p q sound has at h step = steady-sound g s who s' q sound has (subst (λ r. IsSteadyAt g s who r q) (sym at) h) step
 
 -- what some element of a list of one has
@@ -209,7 +209,7 @@ prefix-names :
 unfolding holds_of
 prefix-names g s l who seat frame i o d old has at is =
     let place : ℕ = block_place frame seat.class i in
-    let fit = (fits g s l who (Block (block.LoadPrefix seat frame i) o) old has at).point in
+    let fit = (fits-at g s l who (Block (block.LoadPrefix seat frame i) o) old has at).point in
     let owned : IsOwned s who place (need.Small seat.class) = begins-owned g s l who seat frame i o old has at in
     let tie = old.tied.small place seat.class owned.block.0 owned.block.1 owned.block.3 in
     let of : IsBlockOfDesc g s l place seat.class tie.0 = tie.1 in
@@ -227,10 +227,10 @@ prefix-names g s l who seat frame i o d old has at is =
 
 -- the load of a prefix word, by what it says; a word that is not expected
 prefix-stays :
-    (g : Geometry) (s : State) (who : ℕ) (s' : State) (seat : SeatFields) (frame i : ℕ) (o : Onward) → IsSound g s → who < g.callers
+    (g : Geometry) (s : State) (who : ℕ) (s' : State) (seat : SeatFields) (frame i : ℕ) (o : Onward) → IsSoundWithoutCounts g s → who < g.callers
     → (s.errand who).point ≡ Block (block.LoadPrefix seat frame i) o
     → after_prefix seat frame i (prefix_of (s.word (name.Arena (block_place frame seat.class i)))) ≡ block.LoadPrefix seat frame i → Step s who s'
-    → IsSound g s'
+    → IsSoundWithoutCounts g s'
 unfolding plan_point_of next_of event_of holds_of recalls_of
 prefix-stays g s who s' seat frame i o sound has at is step =
     quiet-at g s who s' (Block (block.LoadPrefix seat frame i) o) (Block (block.LoadPrefix seat frame i) o) sound has at
@@ -246,10 +246,10 @@ prefix-stays g s who s' seat frame i o sound has at is step =
 
 -- a small prefix of one of the heap's descriptors
 prefix-leads :
-    (g : Geometry) (s : State) (who : ℕ) (s' : State) (seat : SeatFields) (frame i : ℕ) (o : Onward) (d : ℕ) → IsSound g s → who < g.callers
+    (g : Geometry) (s : State) (who : ℕ) (s' : State) (seat : SeatFields) (frame i : ℕ) (o : Onward) (d : ℕ) → IsSoundWithoutCounts g s → who < g.callers
     → (s.errand who).point ≡ Block (block.LoadPrefix seat frame i) o
     → prefix_of (s.word (name.Arena (block_place frame seat.class i))) ≡ Some (Small d) → nat_lt d (descriptor_count seat.geometry) ≡ true
-    → Step s who s' → IsSound g s'
+    → Step s who s' → IsSoundWithoutCounts g s'
 unfolding plan_point_of next_of event_of holds_of recalls_of
 prefix-leads g s who s' seat frame i o d sound has at is exists step =
     let q : Point = Block (block.LoadPushAnchor (record { seat = seat; desc = d; frame = frame }) i false) o in
@@ -281,9 +281,9 @@ prefix-leads g s who s' seat frame i o d sound has at is exists step =
     step
 
 prefix-said :
-    (g : Geometry) (s : State) (who : ℕ) (s' : State) (seat : SeatFields) (frame i : ℕ) (o : Onward) (said : Option Prefix) → IsSound g s
+    (g : Geometry) (s : State) (who : ℕ) (s' : State) (seat : SeatFields) (frame i : ℕ) (o : Onward) (said : Option Prefix) → IsSoundWithoutCounts g s
     → who < g.callers → (s.errand who).point ≡ Block (block.LoadPrefix seat frame i) o
-    → prefix_of (s.word (name.Arena (block_place frame seat.class i))) ≡ said → Step s who s' → IsSound g s'
+    → prefix_of (s.word (name.Arena (block_place frame seat.class i))) ≡ said → Step s who s' → IsSoundWithoutCounts g s'
 prefix-said g s who s' seat frame i o None sound has at is step =
     prefix-stays g s who s' seat frame i o sound has at (ap (after_prefix seat frame i) is) step
 prefix-said g s who s' seat frame i o (Some (Large units)) sound has at is step =
@@ -298,16 +298,16 @@ prefix-said g s who s' seat frame i o (Some (Small d)) sound has at is step =
     ]
 
 pub load_prefix-sound :
-    (g : Geometry) (s : State) (who : ℕ) (s' : State) (seat : SeatFields) (frame i : ℕ) (o : Onward) → IsSound g s → who < g.callers
-    → (s.errand who).point ≡ Block (block.LoadPrefix seat frame i) o → Step s who s' → IsSound g s'
+    (g : Geometry) (s : State) (who : ℕ) (s' : State) (seat : SeatFields) (frame i : ℕ) (o : Onward) → IsSoundWithoutCounts g s → who < g.callers
+    → (s.errand who).point ≡ Block (block.LoadPrefix seat frame i) o → Step s who s' → IsSoundWithoutCounts g s'
 load_prefix-sound g s who s' seat frame i o sound has at step =
     prefix-said g s who s' seat frame i o (prefix_of (s.word (name.Arena (block_place frame seat.class i)))) sound has at refl step
 
 -- the load of an anchor for a push that leaves a free block behind, or isn't expected
 push_anchor-quiet :
-    (g : Geometry) (s : State) (who : ℕ) (s' : State) (site : Site) (i : ℕ) (stored : Bool) (o : Onward) (a : AnchorFields) → IsSound g s
+    (g : Geometry) (s : State) (who : ℕ) (s' : State) (site : Site) (i : ℕ) (stored : Bool) (o : Onward) (a : AnchorFields) → IsSoundWithoutCounts g s
     → who < g.callers → (s.errand who).point ≡ Block (block.LoadPushAnchor site i stored) o
-    → anchor_in site.seat.class (s.word (name.Anchor site.desc)) ≡ Some a → is_last site.seat.class a ≡ false → Step s who s' → IsSound g s'
+    → anchor_in site.seat.class (s.word (name.Anchor site.desc)) ≡ Some a → is_last site.seat.class a ≡ false → Step s who s' → IsSoundWithoutCounts g s'
 unfolding plan_point_of next_of event_of holds_of recalls_of
 push_anchor-quiet g s who s' site i stored o a sound has at is more step =
     quiet-at g s who s' (Block (block.LoadPushAnchor site i stored) o) (Block (block.StoreLink site i a stored 0) o) sound has at
@@ -317,7 +317,7 @@ push_anchor-quiet g s who s' site i stored o a sound has at is more step =
       cleared = refl;
       word = refl;
       holds = grind (arith);
-      so = λ l old. recalled g s l who (Block (block.LoadPushAnchor site i stored) o) old has at;
+      so = λ l old. so-at g s l who (Block (block.LoadPushAnchor site i stored) o) old has at;
     })
     step
 
@@ -328,9 +328,9 @@ stored-guards false e d word hazard names = omega (arith, hazard, names)
 
 -- for a push that makes the superblock empty
 push_anchor-last :
-    (g : Geometry) (s : State) (who : ℕ) (s' : State) (site : Site) (i : ℕ) (stored : Bool) (o : Onward) (a : AnchorFields) → IsSound g s
+    (g : Geometry) (s : State) (who : ℕ) (s' : State) (site : Site) (i : ℕ) (stored : Bool) (o : Onward) (a : AnchorFields) → IsSoundWithoutCounts g s
     → who < g.callers → (s.errand who).point ≡ Block (block.LoadPushAnchor site i stored) o
-    → anchor_in site.seat.class (s.word (name.Anchor site.desc)) ≡ Some a → is_last site.seat.class a ≡ true → Step s who s' → IsSound g s'
+    → anchor_in site.seat.class (s.word (name.Anchor site.desc)) ≡ Some a → is_last site.seat.class a ≡ true → Step s who s' → IsSoundWithoutCounts g s'
 unfolding plan_point_of next_of event_of holds_of recalls_of
 push_anchor-last g s who s' site i stored o a sound has at is last step =
     let p : Point = Block (block.LoadPushAnchor site i stored) o in
@@ -343,7 +343,7 @@ push_anchor-last g s who s' site i stored o a sound has at is last step =
       weighs = grind (arith);
       goes = λ l old. record {
         kept = All-nil _;
-        so = recalled g s l who p old has at;
+        so = so-at g s l who p old has at;
         hazard = tt;
         guard = λ d word guard. stored-guards stored site.desc d (s.word (name.Hazard who)) (subst (λ r. IsHazard (holds_of r).hazard (s.word (name.Hazard who))) at (old.guarded.words who has)) word;
         pushed = refl;
@@ -359,9 +359,9 @@ push_anchor-last g s who s' site i stored o a sound has at is last step =
     step
 
 push_anchor-said :
-    (g : Geometry) (s : State) (who : ℕ) (s' : State) (site : Site) (i : ℕ) (stored : Bool) (o : Onward) (said : Option AnchorFields) → IsSound g s
+    (g : Geometry) (s : State) (who : ℕ) (s' : State) (site : Site) (i : ℕ) (stored : Bool) (o : Onward) (said : Option AnchorFields) → IsSoundWithoutCounts g s
     → who < g.callers → (s.errand who).point ≡ Block (block.LoadPushAnchor site i stored) o
-    → anchor_in site.seat.class (s.word (name.Anchor site.desc)) ≡ said → Step s who s' → IsSound g s'
+    → anchor_in site.seat.class (s.word (name.Anchor site.desc)) ≡ said → Step s who s' → IsSoundWithoutCounts g s'
 unfolding plan_point_of next_of event_of holds_of recalls_of
 push_anchor-said g s who s' site i stored o None sound has at is step =
     quiet-at g s who s' (Block (block.LoadPushAnchor site i stored) o) (Block (block.LoadPushAnchor site i stored) o) sound has at
@@ -371,7 +371,7 @@ push_anchor-said g s who s' site i stored o None sound has at is step =
       cleared = refl;
       word = refl;
       holds = grind (arith);
-      so = λ l old. recalled g s l who (Block (block.LoadPushAnchor site i stored) o) old has at;
+      so = λ l old. so-at g s l who (Block (block.LoadPushAnchor site i stored) o) old has at;
     })
     step
 push_anchor-said g s who s' site i stored o (Some a) sound has at is step =
@@ -382,7 +382,7 @@ push_anchor-said g s who s' site i stored o (Some a) sound has at is step =
 
 -- the load of an anchor for a push
 pub load_push_anchor-sound :
-    (g : Geometry) (s : State) (who : ℕ) (s' : State) (site : Site) (i : ℕ) (stored : Bool) (o : Onward) → IsSound g s → who < g.callers
-    → (s.errand who).point ≡ Block (block.LoadPushAnchor site i stored) o → Step s who s' → IsSound g s'
+    (g : Geometry) (s : State) (who : ℕ) (s' : State) (site : Site) (i : ℕ) (stored : Bool) (o : Onward) → IsSoundWithoutCounts g s → who < g.callers
+    → (s.errand who).point ≡ Block (block.LoadPushAnchor site i stored) o → Step s who s' → IsSoundWithoutCounts g s'
 load_push_anchor-sound g s who s' site i stored o sound has at step =
     push_anchor-said g s who s' site i stored o (anchor_in site.seat.class (s.word (name.Anchor site.desc))) sound has at refl step

@@ -30,7 +30,7 @@ use Rattle.errand_steps.specs.Steps.{State, Step}
 use Rattle.sound_state.specs.Holdings.{holds_of}
 use Rattle.sound_state.specs.Lists.{Lists, IsListed}
 use Rattle.sound_state.specs.Recalls.{IsSo, list_of, onward_recalls, recalls_of, tops, nexts, tops_exist, says}
-use Rattle.sound_state.specs.Sound.{IsSound, IsSoundWith}
+use Rattle.sound_state.specs.Sound.{IsSoundWithoutCounts, IsSoundWith}
 use Rattle.sound_state.proofs.QuietLemmas.{HoldsSame, quiet-at}
 
 -- what a caller remembers at its point is so
@@ -93,8 +93,8 @@ record LeadsQuietly (g : Geometry) (s : State) (who : ℕ) (p : Point) (n : Next
 
 -- a head that is read for a push: its top exists
 pub load_top_to_push-sound :
-    (g : Geometry) (s : State) (who : ℕ) (s' : State) (seat : SeatFields) (pile : Pile) (i : ℕ) (o : Onward) → IsSound g s
-    → who < g.callers → (s.errand who).point ≡ Stack (stack.LoadTopToPush seat pile i) o → Step s who s' → IsSound g s'
+    (g : Geometry) (s : State) (who : ℕ) (s' : State) (seat : SeatFields) (pile : Pile) (i : ℕ) (o : Onward) → IsSoundWithoutCounts g s
+    → who < g.callers → (s.errand who).point ≡ Stack (stack.LoadTopToPush seat pile i) o → Step s who s' → IsSoundWithoutCounts g s'
 unfolding plan_point_of next_of event_of holds_of recalls_of
 load_top_to_push-sound g s who s' seat pile i o sound has at step =
     let p = stack.LoadTopToPush seat pile i in
@@ -137,8 +137,8 @@ below-leads g s who seat pile h o has at =
     (λ beyond. record { next = refl; holds = pops-same p p o refl; so = λ l old. so-at g s l who (Stack p o) old has at })
 
 pub load_below-sound :
-    (g : Geometry) (s : State) (who : ℕ) (s' : State) (seat : SeatFields) (pile : Pile) (h : HeadFields) (o : Onward) → IsSound g s
-    → who < g.callers → (s.errand who).point ≡ Stack (stack.LoadBelow seat pile h) o → Step s who s' → IsSound g s'
+    (g : Geometry) (s : State) (who : ℕ) (s' : State) (seat : SeatFields) (pile : Pile) (h : HeadFields) (o : Onward) → IsSoundWithoutCounts g s
+    → who < g.callers → (s.errand who).point ≡ Stack (stack.LoadBelow seat pile h) o → Step s who s' → IsSoundWithoutCounts g s'
 unfolding plan_point_of next_of event_of
 load_below-sound g s who s' seat pile h o sound has at step =
     let leads = below-leads g s who seat pile h o has at in
@@ -148,8 +148,8 @@ load_below-sound g s who s' seat pile h o sound has at step =
 -- a pop that is lost begins again
 pub pop_top_lost-sound :
     (g : Geometry) (s : State) (who : ℕ) (s' : State) (seat : SeatFields) (pile : Pile) (h : HeadFields) (below : ℕ) (o : Onward)
-    → IsSound g s → who < g.callers → (s.errand who).point ≡ Stack (stack.PopTop seat pile h below) o
-    → s.word (head_name seat pile) ≢ head_word h → Step s who s' → IsSound g s'
+    → IsSoundWithoutCounts g s → who < g.callers → (s.errand who).point ≡ Stack (stack.PopTop seat pile h below) o
+    → s.word (head_name seat pile) ≢ head_word h → Step s who s' → IsSoundWithoutCounts g s'
 unfolding plan_point_of next_of event_of holds_of recalls_of
 pop_top_lost-sound g s who s' seat pile h below o sound has at lost step =
     let p = stack.PopTop seat pile h below in
@@ -171,9 +171,9 @@ pop_top_lost-sound g s who s' seat pile h below o sound has at lost step =
 
 -- so does the look whether the stack is still empty
 pub confirm_empty_lost-sound :
-    (g : Geometry) (s : State) (who : ℕ) (s' : State) (seat : SeatFields) (pile : Pile) (h : HeadFields) (o : Onward) → IsSound g s
+    (g : Geometry) (s : State) (who : ℕ) (s' : State) (seat : SeatFields) (pile : Pile) (h : HeadFields) (o : Onward) → IsSoundWithoutCounts g s
     → who < g.callers → (s.errand who).point ≡ Stack (stack.ConfirmEmpty seat pile h) o
-    → s.word (head_name seat pile) ≢ head_word h → Step s who s' → IsSound g s'
+    → s.word (head_name seat pile) ≢ head_word h → Step s who s' → IsSoundWithoutCounts g s'
 unfolding plan_point_of next_of event_of holds_of recalls_of
 confirm_empty_lost-sound g s who s' seat pile h o sound has at lost step =
     let p = stack.ConfirmEmpty seat pile h in
@@ -193,8 +193,8 @@ confirm_empty_lost-sound g s who s' seat pile h o sound has at lost step =
 -- and a push that is lost
 pub push_top_lost-sound :
     (g : Geometry) (s : State) (who : ℕ) (s' : State) (seat : SeatFields) (pile : Pile) (i : ℕ) (h : HeadFields) (o : Onward)
-    → IsSound g s → who < g.callers → (s.errand who).point ≡ Stack (stack.PushTop seat pile i h) o
-    → s.word (head_name seat pile) ≢ head_word h → Step s who s' → IsSound g s'
+    → IsSoundWithoutCounts g s → who < g.callers → (s.errand who).point ≡ Stack (stack.PushTop seat pile i h) o
+    → s.word (head_name seat pile) ≢ head_word h → Step s who s' → IsSoundWithoutCounts g s'
 unfolding plan_point_of next_of event_of holds_of recalls_of
 push_top_lost-sound g s who s' seat pile i h o sound has at lost step =
     let p = stack.PushTop seat pile i h in
@@ -265,9 +265,9 @@ top-leads g s who seat pile o has at goes =
     (λ beyond. record { next = refl; holds = pops-same p p o refl; so = λ l old. so-at g s l who (Stack p o) old has at }))
 
 pub load_top-sound :
-    (g : Geometry) (s : State) (who : ℕ) (s' : State) (seat : SeatFields) (pile : Pile) (o : Onward) → IsSound g s
+    (g : Geometry) (s : State) (who : ℕ) (s' : State) (seat : SeatFields) (pile : Pile) (o : Onward) → IsSoundWithoutCounts g s
     → who < g.callers → (s.errand who).point ≡ Stack (stack.LoadTop seat pile) o
-    → (o ≡ Clear → (head_of (s.word (head_name seat pile))).top ≢ 0) → Step s who s' → IsSound g s'
+    → (o ≡ Clear → (head_of (s.word (head_name seat pile))).top ≢ 0) → Step s who s' → IsSoundWithoutCounts g s'
 unfolding plan_point_of next_of event_of
 load_top-sound g s who s' seat pile o sound has at goes step =
     let leads = top-leads g s who seat pile o has at goes in

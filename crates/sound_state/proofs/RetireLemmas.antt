@@ -18,8 +18,7 @@ use Rattle.word_plan.specs.Seats.{SeatFields}
 use Rattle.word_plan.specs.Table.{Exists}
 use Rattle.word_plan.specs.Words.{Writes}
 use Rattle.word_plan.proofs.NameLemmas.{cases_name}
-use Rattle.pool_model.specs.Legal.{IsLegal}
-use Rattle.pool_model.proofs.HistoryLemmas.{legal-weaker}
+use Rattle.pool_model.specs.Legal.{IsLegalWithoutCounts}
 use Rattle.hazard_parts.specs.declared.point.DescPoint.TheVariants as desc
 use Rattle.errand_steps.specs.declared.next.Next.TheVariants.{At, End, Retire}
 use Rattle.errand_steps.specs.declared.onward.Onward.{Onward}
@@ -39,7 +38,7 @@ use Rattle.sound_state.specs.Holdings.{Hazard, clear, nothing, keep, holds_of, w
 use Rattle.sound_state.specs.Keepers.{errand_has, word_keeps, IsWithout, IsKeptAs}
 use Rattle.sound_state.specs.Lists.{Lists}
 use Rattle.sound_state.specs.Recalls.{IsSo, IsOwned, IsPlain, recalls_of}
-use Rattle.sound_state.specs.Sound.{IsSound, IsSoundWith}
+use Rattle.sound_state.specs.Sound.{IsSoundWithoutCounts, IsSoundWith}
 use Rattle.sound_state.specs.Stock.{waits_in, word_stock}
 use Rattle.sound_state.specs.Sums.{sum_below, callers_sum}
 use Rattle.sound_state.specs.Superblocks.{anchor_for, errand_keeps, errand_away, away_of, is_bound, kept_among, word_reserves}
@@ -254,7 +253,7 @@ full-length e d full room =
 
 -- so the caller may go on
 retired-may :
-    (g : Geometry) (s : State) (l : Lists) (who d class : ℕ) (h : Hazard) (q : Point) → IsSound g s → IsSoundWith g s l → who < g.callers
+    (g : Geometry) (s : State) (l : Lists) (who d class : ℕ) (h : Hazard) (q : Point) → IsSoundWithoutCounts g s → IsSoundWith g s l → who < g.callers
     → RetiresTo g s who d class h q → MayGoOn g s l who (s.errand who) (retired_at (s.errand who) (found_at s who) d q)
 retired-may g s l who d class h q sound old has to =
     let e = s.errand who in
@@ -263,7 +262,7 @@ retired-may g s l who d class h q sound old has to =
     let own = old.errands who has in
     let lost = raised-within (counts_lost e.point x) e.lost own.lost in
     let cleared = raised-by (counts_cleared e.point x) e.cleared
-    (cleared-below g s (record { checked = sound.checked; legal = legal-weaker g s.history sound.legal; parts = (l, old) }) who has) in
+    (cleared-below g s (record { checked = sound.checked; legal = sound.legal; parts = (l, old) }) who has) in
     let keeps : holds_of q ≡ nothing = lets.after in
     record {
       rule = record {
@@ -302,10 +301,10 @@ retired-guards g s who d class h q x retired word lets bare = record {
 
 -- the step keeps the state sound
 retire-sound :
-    (g : Geometry) (s : State) (who : ℕ) (s' : State) (d class : ℕ) (h : Hazard) (q : Point) → IsSound g s → who < g.callers
+    (g : Geometry) (s : State) (who : ℕ) (s' : State) (d class : ℕ) (h : Hazard) (q : Point) → IsSoundWithoutCounts g s → who < g.callers
     → RetiresTo g s who d class h q
     → ((l : Lists) → IsSoundWith g s l → WordsLeft g s who (retired_at (s.errand who) (found_at s who) d q) s'.word) → Step s who s'
-    → IsSound g s'
+    → IsSoundWithoutCounts g s'
 retire-sound g s who s' d class h q sound has to left step =
     let l = sound.parts.0 in
     let old = sound.parts.1 in
@@ -325,7 +324,7 @@ retire-sound g s who s' d class h q sound has to left step =
     let near = keeps-near g s l who d old has to.exists keeps in
     record {
       checked = sound.checked;
-      legal = subst (IsLegal g) (sym past) sound.legal;
+      legal = subst (IsLegalWithoutCounts g) (sym past) sound.legal;
       parts = (
         l,
         sound-alike g s l who e s'
@@ -343,7 +342,7 @@ retire-sound g s who s' d class h q sound has to left step =
               emptied =
                   let one = away-emptied g s l who d e s' has moves away anchors to.empty to.exists near in
                   let cleared = raised-by (counts_cleared (s.errand who).point (found_at s who)) (s.errand who).cleared
-                  (cleared-below g s (record { checked = sound.checked; legal = legal-weaker g s.history sound.legal; parts = (l, old) }) who has) in
+                  (cleared-below g s (record { checked = sound.checked; legal = sound.legal; parts = (l, old) }) who has) in
                   let most : one_if (counts_cleared (s.errand who).point (found_at s who)) ≤ 1 =
                   one-most (counts_cleared (s.errand who).point (found_at s who)) in
                   omega (arith, one, cleared, most);
@@ -354,8 +353,8 @@ retire-sound g s who s' d class h q sound has to left step =
 
 -- so it does where its word stays, and the caller's hazard word was 0
 retire-reads :
-    (g : Geometry) (s : State) (who : ℕ) (s' : State) (d class : ℕ) (q : Point) → IsSound g s → who < g.callers
-    → RetiresTo g s who d class clear q → after_action (action_at s who) (word_at s who) ≡ word_at s who → Step s who s' → IsSound g s'
+    (g : Geometry) (s : State) (who : ℕ) (s' : State) (d class : ℕ) (q : Point) → IsSoundWithoutCounts g s → who < g.callers
+    → RetiresTo g s who d class clear q → after_action (action_at s who) (word_at s who) ≡ word_at s who → Step s who s' → IsSoundWithoutCounts g s'
 retire-reads g s who s' d class q sound has to same step =
     let n = name_at s who in
     let words = words-stay s.word n _ s'.word step.word same in
@@ -382,9 +381,9 @@ hazard-close n i before after d class h x q e is lets =
     subst (λ m. WeighClose m before after e (retired_at e x d q)) (sym is) here
 
 retire-clears :
-    (g : Geometry) (s : State) (who : ℕ) (s' : State) (d class : ℕ) (h : Hazard) (q : Point) → IsSound g s → who < g.callers
+    (g : Geometry) (s : State) (who : ℕ) (s' : State) (d class : ℕ) (h : Hazard) (q : Point) → IsSoundWithoutCounts g s → who < g.callers
     → RetiresTo g s who d class h q → name_at s who ≡ name.Hazard who → after_action (action_at s who) (word_at s who) ≡ 0
-    → Step s who s' → IsSound g s'
+    → Step s who s' → IsSoundWithoutCounts g s'
 retire-clears g s who s' d class h q sound has to named bare step =
     let n = name_at s who in
     let v = after_action (action_at s who) (word_at s who) in
@@ -458,27 +457,27 @@ retires-to g s who seat d h o q P r leads =
 
 -- where the word of the point stays, it keeps the state sound
 pub retire-at :
-    (g : Geometry) (s : State) (who : ℕ) (s' : State) (p : Point) (seat : SeatFields) (d : ℕ) (o : Onward) (q : Point) → IsSound g s
+    (g : Geometry) (s : State) (who : ℕ) (s' : State) (p : Point) (seat : SeatFields) (d : ℕ) (o : Onward) (q : Point) → IsSoundWithoutCounts g s
     → who < g.callers → (s.errand who).point ≡ p → Retires g s who p seat d clear o q
-    → after_action (plan_point_of p) (s.word (name_of (plan_point_of p))) ≡ s.word (name_of (plan_point_of p)) → Step s who s' → IsSound g s'
+    → after_action (plan_point_of p) (s.word (name_of (plan_point_of p))) ≡ s.word (name_of (plan_point_of p)) → Step s who s' → IsSoundWithoutCounts g s'
 retire-at g s who s' p seat d o q sound has at h same step =
     let r : Retires g s who (s.errand who).point seat d clear o q = subst (λ z. Retires g s who z seat d clear o q) (sym at) h in
     let stays : after_action (action_at s who) (word_at s who) ≡ word_at s who =
     subst (λ z. after_action (plan_point_of z) (s.word (name_of (plan_point_of z))) ≡ s.word (name_of (plan_point_of z))) (sym at) same in
-    retires-to g s who seat d clear o q (IsSound g s') r (λ z to. retire-reads g s who s' d seat.class z sound has to stays step)
+    retires-to g s who seat d clear o q (IsSoundWithoutCounts g s') r (λ z to. retire-reads g s who s' d seat.class z sound has to stays step)
 
 -- so it does where it clears the caller's hazard word
 pub retire-clearing :
     (g : Geometry) (s : State) (who : ℕ) (s' : State) (p : Point) (seat : SeatFields) (d : ℕ) (h : Hazard) (o : Onward) (q : Point)
-    → IsSound g s → who < g.callers → (s.errand who).point ≡ p → Retires g s who p seat d h o q
+    → IsSoundWithoutCounts g s → who < g.callers → (s.errand who).point ≡ p → Retires g s who p seat d h o q
     → name_of (plan_point_of p) ≡ name.Hazard who → after_action (plan_point_of p) (s.word (name_of (plan_point_of p))) ≡ 0
-    → Step s who s' → IsSound g s'
+    → Step s who s' → IsSoundWithoutCounts g s'
 retire-clearing g s who s' p seat d h o q sound has at k named bare step =
     let r : Retires g s who (s.errand who).point seat d h o q = subst (λ z. Retires g s who z seat d h o q) (sym at) k in
     let own : name_at s who ≡ name.Hazard who = subst (λ z. name_of (plan_point_of z) ≡ name.Hazard who) (sym at) named in
     let clears : after_action (action_at s who) (word_at s who) ≡ 0 =
     subst (λ z. after_action (plan_point_of z) (s.word (name_of (plan_point_of z))) ≡ 0) (sym at) bare in
-    retires-to g s who seat d h o q (IsSound g s') r (λ z to. retire-clears g s who s' d seat.class h z sound has to own clears step)
+    retires-to g s who seat d h o q (IsSoundWithoutCounts g s') r (λ z to. retire-clears g s who s' d seat.class h z sound has to own clears step)
 
 -- no hazard word is noted yet
 pub no_words-zero : (i : ℕ) → i < length no_words → slice_index no_words i ≡ 0

@@ -24,7 +24,7 @@ use Rattle.errand_steps.specs.Steps.{State, Step}
 use Rattle.sound_state.specs.Holdings.{clear, guarded, holds_of}
 use Rattle.sound_state.specs.Lists.{Lists}
 use Rattle.sound_state.specs.Recalls.{IsEmptied, emptied, recalls_of}
-use Rattle.sound_state.specs.Sound.{IsSound, IsSoundWith}
+use Rattle.sound_state.specs.Sound.{IsSoundWithoutCounts, IsSoundWith}
 use Rattle.sound_state.specs.Superblocks.{anchor_for}
 use Rattle.sound_state.proofs.PointLemmas.{fits-at, so-at}
 use Rattle.sound_state.proofs.RetireLemmas.{Lets, TurnRetires, retire-at, retire-clearing, no_words-zero}
@@ -81,9 +81,9 @@ took-scans site need x empty = record {
 
 -- the load of the anchor of a taken superblock, where it is EMPTY
 pub load_grant_anchor_empty-sound :
-    (g : Geometry) (s : State) (who : ℕ) (s' : State) (site : Site) (need : ℕ) → IsSound g s → who < g.callers
+    (g : Geometry) (s : State) (who : ℕ) (s' : State) (site : Site) (need : ℕ) → IsSoundWithoutCounts g s → who < g.callers
     → (s.errand who).point ≡ Partial (partial.LoadGrantAnchor site) (Alloc need) → is_empty (anchor_for s site.desc).state ≡ true
-    → Step s who s' → IsSound g s'
+    → Step s who s' → IsSoundWithoutCounts g s'
 unfolding plan_point_of next_of event_of
 load_grant_anchor_empty-sound g s who s' site need sound has at empty step =
     let p = Partial (partial.LoadGrantAnchor site) (Alloc need) in
@@ -144,9 +144,9 @@ listed-scans seat d x = record {
 
 -- the load of the anchor of the first superblock from the list, where it is EMPTY
 pub load_first_listed_empty-sound :
-    (g : Geometry) (s : State) (who : ℕ) (s' : State) (seat : SeatFields) (d : ℕ) → IsSound g s → who < g.callers
+    (g : Geometry) (s : State) (who : ℕ) (s' : State) (seat : SeatFields) (d : ℕ) → IsSoundWithoutCounts g s → who < g.callers
     → (s.errand who).point ≡ Partial (partial.LoadListedAnchor seat d) Clear → is_empty (anchor_for s d).state ≡ true → Step s who s'
-    → IsSound g s'
+    → IsSoundWithoutCounts g s'
 unfolding plan_point_of next_of event_of
 load_first_listed_empty-sound g s who s' seat d sound has at empty step =
     let p = Partial (partial.LoadListedAnchor seat d) Clear in
@@ -215,8 +215,8 @@ removed-empty g s l who seat d old has at =
 
 -- the store of 0 to the hazard word
 pub clear_hazard_retires-sound :
-    (g : Geometry) (s : State) (who : ℕ) (s' : State) (seat : SeatFields) (d : ℕ) → IsSound g s → who < g.callers
-    → (s.errand who).point ≡ Desc (desc.ClearHazard seat) (Retire d) → Step s who s' → IsSound g s'
+    (g : Geometry) (s : State) (who : ℕ) (s' : State) (seat : SeatFields) (d : ℕ) → IsSoundWithoutCounts g s → who < g.callers
+    → (s.errand who).point ≡ Desc (desc.ClearHazard seat) (Retire d) → Step s who s' → IsSoundWithoutCounts g s'
 unfolding plan_point_of next_of event_of
 clear_hazard_retires-sound g s who s' seat d sound has at step =
     let p = Desc (desc.ClearHazard seat) (Retire d) in

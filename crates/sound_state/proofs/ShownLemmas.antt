@@ -28,7 +28,7 @@ use Rattle.errand_steps.specs.Onwards.{is_finish, is_clearing, clears, fills}
 use Rattle.errand_steps.specs.Points.{asked, plan_point_of}
 use Rattle.errand_steps.specs.Steps.{State, Step, found_at}
 use Rattle.sound_state.specs.Shown.{shown_block, shown_stack, shown_desc, shown_partial, shown_large, is_shown}
-use Rattle.sound_state.specs.Sound.{IsSound}
+use Rattle.sound_state.specs.Sound.{IsSoundWithoutCounts}
 use Rattle.sound_state.specs.Superblocks.{anchor_for}
 use Rattle.sound_state.proofs.HazardSteps.{store_hazard-sound, reload_desc_head-sound, clear_after_pop-sound, clear_hazard_looks-sound, clear_hazard_ends-sound, store_guard-sound, read_hazard-sound}
 use Rattle.sound_state.proofs.PointLemmas.{fits-at, the-alloc, the-free}
@@ -53,9 +53,9 @@ differs w e lost = λ is. absurd (grind (arith, lost, is))
 
 -- an empty head: a clearing that has popped nothing ends
 empty-sound :
-    (g : Geometry) (s : State) (who : ℕ) (s' : State) (seat : SeatFields) (pile : Pile) (o : Onward) → IsSound g s → who < g.callers
+    (g : Geometry) (s : State) (who : ℕ) (s' : State) (seat : SeatFields) (pile : Pile) (o : Onward) → IsSoundWithoutCounts g s → who < g.callers
     → (s.errand who).point ≡ Stack (stack.LoadTop seat pile) o → (head_of (s.word (head_name seat pile))).top ≡ 0 → Step s who s'
-    → IsSound g s'
+    → IsSoundWithoutCounts g s'
 empty-sound g s who s' seat pile onward.Clear sound has at empty step = clear_ends-sound g s who s' seat pile sound has at empty step
 empty-sound g s who s' seat pile (onward.Alloc need) sound has at empty step =
     load_top-sound g s who s' seat pile (onward.Alloc need) sound has at (λ is. absurd (cc)) step
@@ -90,8 +90,8 @@ empty-sound g s who s' seat pile onward.Nothing sound has at empty step =
 
 -- the load of a head, which may end a clearing
 top-sound :
-    (g : Geometry) (s : State) (who : ℕ) (s' : State) (seat : SeatFields) (pile : Pile) (o : Onward) → IsSound g s → who < g.callers
-    → (s.errand who).point ≡ Stack (stack.LoadTop seat pile) o → Step s who s' → IsSound g s'
+    (g : Geometry) (s : State) (who : ℕ) (s' : State) (seat : SeatFields) (pile : Pile) (o : Onward) → IsSoundWithoutCounts g s → who < g.callers
+    → (s.errand who).point ≡ Stack (stack.LoadTop seat pile) o → Step s who s' → IsSoundWithoutCounts g s'
 top-sound g s who s' seat pile o sound has at step =
     elim (cases_eq (head_of (s.word (head_name seat pile))).top 0) [
       | inl empty ↦ empty-sound g s who s' seat pile o sound has at empty step
@@ -99,8 +99,8 @@ top-sound g s who s' seat pile o sound has at step =
     ]
 
 shown-stack :
-    (g : Geometry) (s : State) (who : ℕ) (s' : State) (p : StackPoint) (o : Onward) → IsSound g s → who < g.callers
-    → (s.errand who).point ≡ Stack p o → IsTrue (shown_stack p (found_from s (Stack p o))) → Step s who s' → IsSound g s'
+    (g : Geometry) (s : State) (who : ℕ) (s' : State) (p : StackPoint) (o : Onward) → IsSoundWithoutCounts g s → who < g.callers
+    → (s.errand who).point ≡ Stack p o → IsTrue (shown_stack p (found_from s (Stack p o))) → Step s who s' → IsSoundWithoutCounts g s'
 unfolding plan_point_of
 shown-stack g s who s' (stack.LoadTop seat pile) o sound has at shown step = top-sound g s who s' seat pile o sound has at step
 shown-stack g s who s' (stack.LoadBelow seat pile h) o sound has at shown step = load_below-sound g s who s' seat pile h o sound has at step
@@ -119,8 +119,8 @@ shown-stack g s who s' (stack.ConfirmedEmpty seat pile) o sound has at shown ste
 shown-stack g s who s' (stack.Pushed seat pile) o sound has at shown step = absurd (true≢false (sym shown))
 
 shown-large :
-    (g : Geometry) (s : State) (who : ℕ) (s' : State) (p : LargePoint) (o : Onward) → IsSound g s → who < g.callers
-    → (s.errand who).point ≡ Large p o → IsTrue (shown_large p (found_from s (Large p o))) → Step s who s' → IsSound g s'
+    (g : Geometry) (s : State) (who : ℕ) (s' : State) (p : LargePoint) (o : Onward) → IsSoundWithoutCounts g s → who < g.callers
+    → (s.errand who).point ≡ Large p o → IsTrue (shown_large p (found_from s (Large p o))) → Step s who s' → IsSoundWithoutCounts g s'
 unfolding plan_point_of
 shown-large g s who s' (large.LoadUnits w) o sound has at shown step = load_units-sound g s who s' w o sound has at step
 shown-large g s who s' (large.TakeRun w bits) o sound has at shown step =
@@ -149,8 +149,8 @@ shown-large g s who s' large.NothingThere o sound has at shown step = absurd (tr
 shown-large g s who s' (large.Missed expected found) o sound has at shown step = absurd (true≢false (sym shown))
 
 shown-block :
-    (g : Geometry) (s : State) (who : ℕ) (s' : State) (p : BlockPoint) (o : Onward) → IsSound g s → who < g.callers
-    → (s.errand who).point ≡ Block p o → IsTrue (shown_block p (found_from s (Block p o))) → Step s who s' → IsSound g s'
+    (g : Geometry) (s : State) (who : ℕ) (s' : State) (p : BlockPoint) (o : Onward) → IsSoundWithoutCounts g s → who < g.callers
+    → (s.errand who).point ≡ Block p o → IsTrue (shown_block p (found_from s (Block p o))) → Step s who s' → IsSoundWithoutCounts g s'
 unfolding plan_point_of
 shown-block g s who s' (block.LoadActive seat) o sound has at shown step =
     let is : o ≡ onward.Alloc (asked o) = the-alloc o (fits-at g s sound.parts.0 who _ sound.parts.1 has at).goes in
@@ -209,8 +209,8 @@ clears-cases P looks ends retires (onward.Finish guarded) is = absurd (true≢fa
 clears-cases P looks ends retires onward.Nothing is = absurd (true≢false (sym is))
 
 shown-desc :
-    (g : Geometry) (s : State) (who : ℕ) (s' : State) (p : DescPoint) (o : Onward) → IsSound g s → who < g.callers
-    → (s.errand who).point ≡ Desc p o → IsTrue (shown_desc p o (found_from s (Desc p o))) → Step s who s' → IsSound g s'
+    (g : Geometry) (s : State) (who : ℕ) (s' : State) (p : DescPoint) (o : Onward) → IsSoundWithoutCounts g s → who < g.callers
+    → (s.errand who).point ≡ Desc p o → IsTrue (shown_desc p o (found_from s (Desc p o))) → Step s who s' → IsSoundWithoutCounts g s'
 unfolding plan_point_of
 shown-desc g s who s' (desc.LoadDescHead seat) o sound has at shown step = load_desc_head-sound g s who s' seat o sound has at step
 shown-desc g s who s' (desc.StoreHazard seat d) o sound has at shown step = store_hazard-sound g s who s' seat d o sound has at step
@@ -221,7 +221,7 @@ shown-desc g s who s' (desc.PopDesc seat d next) o sound has at shown step =
     pop_desc_lost-sound g s who s' seat d next o sound has at (differs _ _ shown) step
 shown-desc g s who s' (desc.ClearAfterPop seat d) o sound has at shown step = clear_after_pop-sound g s who s' seat d o sound has at step
 shown-desc g s who s' (desc.ClearHazard seat) o sound has at shown step =
-    clears-cases (λ o. (s.errand who).point ≡ Desc (desc.ClearHazard seat) o → IsSound g s')
+    clears-cases (λ o. (s.errand who).point ≡ Desc (desc.ClearHazard seat) o → IsSoundWithoutCounts g s')
     (λ at. clear_hazard_looks-sound g s who s' seat sound has at step) (λ at. clear_hazard_ends-sound g s who s' seat sound has at step)
     (λ d at. retired.clear_hazard_retires-sound g s who s' seat d sound has at step) o
     (fits-at g s sound.parts.0 who _ sound.parts.1 has at).goes at
@@ -298,8 +298,8 @@ finish-cases P finishes onward.Nothing is = absurd (true≢false (sym is))
 
 -- a superblock is put into a slot to finish a free
 put_finishes-sound :
-    (g : Geometry) (s : State) (who : ℕ) (s' : State) (seat : SeatFields) (d heap : ℕ) (guarded : Bool) → IsSound g s → who < g.callers
-    → (s.errand who).point ≡ Partial (partial.PutSlot seat d heap) (onward.Finish guarded) → Step s who s' → IsSound g s'
+    (g : Geometry) (s : State) (who : ℕ) (s' : State) (seat : SeatFields) (d heap : ℕ) (guarded : Bool) → IsSoundWithoutCounts g s → who < g.callers
+    → (s.errand who).point ≡ Partial (partial.PutSlot seat d heap) (onward.Finish guarded) → Step s who s' → IsSoundWithoutCounts g s'
 put_finishes-sound g s who s' seat d heap true sound has at step = partials.put_slot_clears-sound g s who s' seat d heap sound has at step
 put_finishes-sound g s who s' seat d heap false sound has at step =
     elim (cases_eq (s.word (slot_of seat heap)) 0) [
@@ -310,18 +310,18 @@ put_finishes-sound g s who s' seat d heap false sound has at step =
     ]
 
 put-sound :
-    (g : Geometry) (s : State) (who : ℕ) (s' : State) (seat : SeatFields) (d heap : ℕ) (o : Onward) → IsSound g s → who < g.callers
-    → (s.errand who).point ≡ Partial (partial.PutSlot seat d heap) o → Step s who s' → IsSound g s'
+    (g : Geometry) (s : State) (who : ℕ) (s' : State) (seat : SeatFields) (d heap : ℕ) (o : Onward) → IsSoundWithoutCounts g s → who < g.callers
+    → (s.errand who).point ≡ Partial (partial.PutSlot seat d heap) o → Step s who s' → IsSoundWithoutCounts g s'
 put-sound g s who s' seat d heap o sound has at step =
-    fills-cases (λ o. (s.errand who).point ≡ Partial (partial.PutSlot seat d heap) o → IsSound g s')
+    fills-cases (λ o. (s.errand who).point ≡ Partial (partial.PutSlot seat d heap) o → IsSoundWithoutCounts g s')
     (λ need site i at. partials.put_slot_gives-sound g s who s' seat d heap need site i sound has at step)
     (λ guarded at. put_finishes-sound g s who s' seat d heap guarded sound has at step) o
     (fits-at g s sound.parts.0 who _ sound.parts.1 has at).goes at
 
 -- the look at a superblock that was taken
 taken-sound :
-    (g : Geometry) (s : State) (who : ℕ) (s' : State) (site : Site) (need : ℕ) → IsSound g s → who < g.callers
-    → (s.errand who).point ≡ Partial (partial.LoadGrantAnchor site) (onward.Alloc need) → Step s who s' → IsSound g s'
+    (g : Geometry) (s : State) (who : ℕ) (s' : State) (site : Site) (need : ℕ) → IsSoundWithoutCounts g s → who < g.callers
+    → (s.errand who).point ≡ Partial (partial.LoadGrantAnchor site) (onward.Alloc need) → Step s who s' → IsSoundWithoutCounts g s'
 taken-sound g s who s' site need sound has at step =
     elim (cases_Bool (is_empty (anchor_for s site.desc).state)) [
       | inl empty ↦ retired.load_grant_anchor_empty-sound g s who s' site need sound has at empty step
@@ -330,8 +330,8 @@ taken-sound g s who s' site need sound has at step =
 
 -- at the first one that was popped from the list
 first-sound :
-    (g : Geometry) (s : State) (who : ℕ) (s' : State) (seat : SeatFields) (d : ℕ) → IsSound g s → who < g.callers
-    → (s.errand who).point ≡ Partial (partial.LoadListedAnchor seat d) onward.Clear → Step s who s' → IsSound g s'
+    (g : Geometry) (s : State) (who : ℕ) (s' : State) (seat : SeatFields) (d : ℕ) → IsSoundWithoutCounts g s → who < g.callers
+    → (s.errand who).point ≡ Partial (partial.LoadListedAnchor seat d) onward.Clear → Step s who s' → IsSoundWithoutCounts g s'
 first-sound g s who s' seat d sound has at step =
     elim (cases_Bool (is_empty (anchor_for s d).state)) [
       | inl empty ↦ retired.load_first_listed_empty-sound g s who s' seat d sound has at empty step
@@ -340,17 +340,17 @@ first-sound g s who s' seat d sound has at step =
 
 -- and at any
 listed-sound :
-    (g : Geometry) (s : State) (who : ℕ) (s' : State) (seat : SeatFields) (d : ℕ) (o : Onward) → IsSound g s → who < g.callers
-    → (s.errand who).point ≡ Partial (partial.LoadListedAnchor seat d) o → Step s who s' → IsSound g s'
+    (g : Geometry) (s : State) (who : ℕ) (s' : State) (seat : SeatFields) (d : ℕ) (o : Onward) → IsSoundWithoutCounts g s → who < g.callers
+    → (s.errand who).point ≡ Partial (partial.LoadListedAnchor seat d) o → Step s who s' → IsSoundWithoutCounts g s'
 listed-sound g s who s' seat d o sound has at step =
-    clearing-cases (λ o. (s.errand who).point ≡ Partial (partial.LoadListedAnchor seat d) o → IsSound g s')
+    clearing-cases (λ o. (s.errand who).point ≡ Partial (partial.LoadListedAnchor seat d) o → IsSoundWithoutCounts g s')
     (λ at. first-sound g s who s' seat d sound has at step)
     (λ first at. partials.load_second-sound g s who s' seat d first sound has at step) o
     (fits-at g s sound.parts.0 who _ sound.parts.1 has at).goes at
 
 shown-partial :
-    (g : Geometry) (s : State) (who : ℕ) (s' : State) (p : PartialPoint) (o : Onward) → IsSound g s → who < g.callers
-    → (s.errand who).point ≡ Partial p o → IsTrue (shown_partial p o (found_from s (Partial p o))) → Step s who s' → IsSound g s'
+    (g : Geometry) (s : State) (who : ℕ) (s' : State) (p : PartialPoint) (o : Onward) → IsSoundWithoutCounts g s → who < g.callers
+    → (s.errand who).point ≡ Partial p o → IsTrue (shown_partial p o (found_from s (Partial p o))) → Step s who s' → IsSoundWithoutCounts g s'
 unfolding plan_point_of
 shown-partial g s who s' (partial.LoadSlot seat) o sound has at shown step =
     let is : o ≡ onward.Alloc (asked o) = the-alloc o (fits-at g s sound.parts.0 who _ sound.parts.1 has at).goes in
@@ -369,7 +369,7 @@ shown-partial g s who s' (partial.Grant site a) o sound has at shown step =
     let is : o ≡ onward.Alloc (asked o) = the-alloc o (fits-at g s sound.parts.0 who _ sound.parts.1 has at).goes in
     partials.grant_lost-sound g s who s' site a (asked o) sound has (at ∙ ap (Partial (partial.Grant site a)) is) (differs _ _ shown) step
 shown-partial g s who s' (partial.LoadOwner seat d) o sound has at shown step =
-    finish-cases (λ o. (s.errand who).point ≡ Partial (partial.LoadOwner seat d) o → IsSound g s')
+    finish-cases (λ o. (s.errand who).point ≡ Partial (partial.LoadOwner seat d) o → IsSoundWithoutCounts g s')
     (λ guarded at. partials.load_owner-sound g s who s' seat d guarded sound has at step) o
     (fits-at g s sound.parts.0 who _ sound.parts.1 has at).goes at
 shown-partial g s who s' (partial.PutSlot seat d heap) o sound has at shown step = put-sound g s who s' seat d heap o sound has at step
@@ -392,8 +392,8 @@ shown-partial g s who s' (partial.ListedPartial seat d) o sound has at shown ste
 
 -- a step that is shown keeps the state sound
 shown-at :
-    (g : Geometry) (s : State) (who : ℕ) (s' : State) (p : Point) → IsSound g s → who < g.callers → (s.errand who).point ≡ p
-    → IsTrue (is_shown p (found_from s p)) → Step s who s' → IsSound g s'
+    (g : Geometry) (s : State) (who : ℕ) (s' : State) (p : Point) → IsSoundWithoutCounts g s → who < g.callers → (s.errand who).point ≡ p
+    → IsTrue (is_shown p (found_from s p)) → Step s who s' → IsSoundWithoutCounts g s'
 unfolding is_shown
 shown-at g s who s' Idle sound has at shown step = absurd (true≢false (sym shown))
 shown-at g s who s' (Block p o) sound has at shown step = shown-block g s who s' p o sound has at shown step
@@ -403,6 +403,6 @@ shown-at g s who s' (Partial p o) sound has at shown step = shown-partial g s wh
 shown-at g s who s' (Large p o) sound has at shown step = shown-large g s who s' p o sound has at shown step
 
 pub shown-sound :
-    (g : Geometry) (s : State) (who : ℕ) (s' : State) → IsSound g s → who < g.callers
-    → IsTrue (is_shown (s.errand who).point (found_at s who)) → Step s who s' → IsSound g s'
+    (g : Geometry) (s : State) (who : ℕ) (s' : State) → IsSoundWithoutCounts g s → who < g.callers
+    → IsTrue (is_shown (s.errand who).point (found_at s who)) → Step s who s' → IsSoundWithoutCounts g s'
 shown-sound g s who s' sound has shown step = shown-at g s who s' (s.errand who).point sound has refl shown step

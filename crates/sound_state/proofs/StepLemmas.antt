@@ -9,7 +9,7 @@ use Rattle.word_plan.specs.Actions.{after_action}
 use Rattle.word_plan.specs.Table.{Exists}
 use Rattle.word_plan.specs.Words.{Writes}
 use Rattle.word_plan.proofs.NameLemmas.{cases_name}
-use Rattle.pool_model.specs.Legal.{IsLegal}
+use Rattle.pool_model.specs.Legal.{IsLegalWithoutCounts}
 use Rattle.errand_steps.specs.declared.next.Next.TheVariants.{At, End}
 use Rattle.errand_steps.specs.declared.point.Point.{Point}
 use Rattle.errand_steps.specs.declared.point.Point.TheVariants.{Idle}
@@ -25,7 +25,7 @@ use Rattle.sound_state.specs.Holdings.{Holding, holds_of}
 use Rattle.sound_state.specs.Keepers.{IsKeptAs}
 use Rattle.sound_state.specs.Lists.{Lists}
 use Rattle.sound_state.specs.Recalls.{IsSo, IsOwned, recalls_of}
-use Rattle.sound_state.specs.Sound.{IsSound, IsSoundWith}
+use Rattle.sound_state.specs.Sound.{IsSoundWithoutCounts, IsSoundWith}
 use Rattle.sound_state.specs.Turns.{one_if, in_turn, has_frame, has_partial, has_refused, is_discarding_at, pops_left}
 use Rattle.sound_state.proofs.AlikeLemmas.{MayGoOn, MayGuard, ActivesKept, sound-alike}
 use Rattle.sound_state.proofs.WeighLemmas.{WeighAlike, WeighMost, alike-most, hazards-stay, weigh-alike, weigh-emptied}
@@ -204,9 +204,9 @@ pub record HazardsAfter (g : Geometry) (s : State) (who : ℕ) (q : Point) (word
 
 -- the step keeps the state sound
 pub step-most :
-    (g : Geometry) (s : State) (who : ℕ) (s' : State) (q : Point) → IsSound g s → who < g.callers
+    (g : Geometry) (s : State) (who : ℕ) (s' : State) (q : Point) → IsSoundWithoutCounts g s → who < g.callers
     → ((l : Lists) → IsSoundWith g s l → StepsMost g s l who q) → ((l : Lists) → IsSoundWith g s l → ActivesAfter g s who s')
-    → ((l : Lists) → IsSoundWith g s l → HazardsAfter g s who q s'.word) → Step s who s' → IsSound g s'
+    → ((l : Lists) → IsSoundWith g s l → HazardsAfter g s who q s'.word) → Step s who s' → IsSoundWithoutCounts g s'
 step-most g s who s' q sound has steps actives hazards step =
     let l = sound.parts.0 in
     let old = sound.parts.1 in
@@ -222,7 +222,7 @@ step-most g s who s' q sound has steps actives hazards step =
     let past : s'.history ≡ s.history = step.history ∙ ap (with_event s.history) to.event in
     record {
       checked = sound.checked;
-      legal = subst (IsLegal g) (sym past) sound.legal;
+      legal = subst (IsLegalWithoutCounts g) (sym past) sound.legal;
       parts = (
         l,
         sound-alike g s l who e s'
@@ -246,9 +246,9 @@ step-most g s who s' q sound has steps actives hazards step =
 
 -- so does one that writes no hazard word
 pub step-after :
-    (g : Geometry) (s : State) (who : ℕ) (s' : State) (q : Point) → IsSound g s → who < g.callers
+    (g : Geometry) (s : State) (who : ℕ) (s' : State) (q : Point) → IsSoundWithoutCounts g s → who < g.callers
     → ((l : Lists) → IsSoundWith g s l → StepsAfter g s l who q) → ((l : Lists) → IsSoundWith g s l → ActivesAfter g s who s')
-    → Step s who s' → IsSound g s'
+    → Step s who s' → IsSoundWithoutCounts g s'
 step-after g s who s' q sound has steps actives step =
     step-most g s who s' q sound has
     (λ l old. let to = steps l old in record {
@@ -271,9 +271,9 @@ step-after g s who s' q sound has steps actives step =
 
 -- so does one that leads to a point
 pub step-sound :
-    (g : Geometry) (s : State) (who : ℕ) (s' : State) (q : Point) → IsSound g s → who < g.callers
+    (g : Geometry) (s : State) (who : ℕ) (s' : State) (q : Point) → IsSoundWithoutCounts g s → who < g.callers
     → ((l : Lists) → IsSoundWith g s l → StepsTo g s l who q) → ((l : Lists) → IsSoundWith g s l → ActivesAfter g s who s')
-    → Step s who s' → IsSound g s'
+    → Step s who s' → IsSoundWithoutCounts g s'
 step-sound g s who s' q sound has steps actives step =
     step-after g s who s' q sound has
     (λ l old. let to = steps l old in record {

@@ -55,6 +55,25 @@ term-sum (suc n) f i lt =
       | inr ne ↦ omega (arith, term-sum n f i (omega arith))
     ]
 
+-- two terms are no more than the sum
+pub two-terms : (n : ℕ) (f : ℕ → ℕ) (i j : ℕ) → i < n → j < n → i ≢ j → f i + f j ≤ sum_below n f
+two-terms n f i j has_i has_j differ =
+    let rest : ℕ → ℕ = λ k. if k == i then 0 else f k in
+    let changed : sum_below n rest + f i ≡ sum_below n f + rest i =
+    sum-change n f rest i has_i (λ k lt other. cond-false {A = ℕ} (k == i) 0 (f k) (ne_eqb k i other)) in
+    let at_i : rest i ≡ 0 = cond-true {A = ℕ} (i == i) 0 (f i) (eq-eqb i i refl) in
+    let at_j : rest j ≡ f j = cond-false {A = ℕ} (j == i) 0 (f j) (ne_eqb j i (λ same. differ (sym same))) in
+    omega (arith, changed, at_i, at_j, term-sum n rest j has_j)
+
+-- a sum that isn't 0 has a term that isn't
+pub some-term : (n : ℕ) (f : ℕ → ℕ) → 0 < sum_below n f → (i : ℕ) × (i < n) × (0 < f i)
+some-term zero f some = absurd (omega (arith, some))
+some-term (suc n) f some =
+    elim (cases_eq (f n) 0) [
+      | inl none ↦ let rest = some-term n f (omega (arith, some, none)) in (rest.0, omega (arith, rest.1), rest.2)
+      | inr here ↦ (n, omega arith, omega (arith, here))
+    ]
+
 -- no term is more than another, so no sum is
 pub sum-least : (n : ℕ) (f f' : ℕ → ℕ) → ((j : ℕ) → j < n → f j ≤ f' j) → sum_below n f ≤ sum_below n f'
 sum-least zero f f' h = omega arith

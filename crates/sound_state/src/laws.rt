@@ -6,13 +6,14 @@ ghost use Rattle.heap_geometry.specs.declared.limits.TheConstants.{CLASSES, SHEL
 ghost use Rattle.heap_geometry.specs.declared.need.Need.{Need};
 ghost use Rattle.heap_geometry.specs.Geometry.{IsChecked};
 ghost use Rattle.heap_geometry.specs.Need.{usable_words};
+ghost use Rattle.pool_model.specs.Legal.{IsLegal};
 ghost use Rattle.errand_steps.specs.Begins.{IsIdle, alloc_begun, free_begun, write_begun, read_begun, put_begun, take_begun};
 ghost use Rattle.errand_steps.specs.Errands.{ErrandFields};
 ghost use Rattle.errand_steps.specs.Openings.{opening, installed, IsOpening};
 ghost use Rattle.errand_steps.specs.Steps.{State, Moves, Step, found_at};
 ghost use Rattle.sound_state.specs.Recalls.{IsOwned};
 ghost use Rattle.sound_state.specs.Shown.{is_shown};
-ghost use Rattle.sound_state.specs.Sound.{IsSound, with_errands};
+ghost use Rattle.sound_state.specs.Sound.{IsSound, IsSoundWithoutCounts, with_errands};
 
 pub mod consequences;
 
@@ -29,30 +30,41 @@ pub fn installed_is_sound()
         → IsOpening g (installed g class) s → IsSound g s }
 {}
 
+/// The counts are a matter of the history alone: a state is sound where it is sound without them and
+/// its history is legal.
+pub fn counts_are_of_the_history()
+    ensures dropped { (g : Geometry) (s : State) → IsSound g s → IsSoundWithoutCounts g s }
+    ensures added { (g : Geometry) (s : State) → IsSoundWithoutCounts g s → IsLegal g s.history → IsSound g s }
+{}
+
 /// A call that begins under its condition keeps the state sound.
 pub fn begun_calls_keep_sound()
     ensures alloc { (g : Geometry) (s : State) (who words : ℕ) (errands : ℕ → ErrandFields)
-        → IsSound g s → who < g.callers → IsIdle (s.errand who)
-        → Moves s.errand who (alloc_begun (s.errand who) words) errands → IsSound g (with_errands s errands) }
+        → IsSoundWithoutCounts g s → who < g.callers → IsIdle (s.errand who)
+        → Moves s.errand who (alloc_begun (s.errand who) words) errands → IsSoundWithoutCounts g (with_errands s errands) }
     ensures free { (g : Geometry) (s : State) (who place : ℕ) (n : Need) (errands : ℕ → ErrandFields)
-        → IsSound g s → who < g.callers → IsIdle (s.errand who) → IsOwned s who place n
-        → Moves s.errand who (free_begun (s.errand who) place n) errands → IsSound g (with_errands s errands) }
+        → IsSoundWithoutCounts g s → who < g.callers → IsIdle (s.errand who) → IsOwned s who place n
+        → Moves s.errand who (free_begun (s.errand who) place n) errands → IsSoundWithoutCounts g (with_errands s errands) }
     ensures write { (g : Geometry) (s : State) (who place : ℕ) (n : Need) (i v : ℕ) (errands : ℕ → ErrandFields)
-        → IsSound g s → who < g.callers → IsIdle (s.errand who) → IsOwned s who place n → i < usable_words n
-        → Moves s.errand who (write_begun (s.errand who) place i v) errands → IsSound g (with_errands s errands) }
+        → IsSoundWithoutCounts g s → who < g.callers → IsIdle (s.errand who) → IsOwned s who place n → i < usable_words n
+        → Moves s.errand who (write_begun (s.errand who) place i v) errands → IsSoundWithoutCounts g (with_errands s errands) }
     ensures read { (g : Geometry) (s : State) (who place : ℕ) (n : Need) (i : ℕ) (errands : ℕ → ErrandFields)
-        → IsSound g s → who < g.callers → IsIdle (s.errand who) → IsOwned s who place n → i < usable_words n
-        → Moves s.errand who (read_begun (s.errand who) place i) errands → IsSound g (with_errands s errands) }
+        → IsSoundWithoutCounts g s → who < g.callers → IsIdle (s.errand who) → IsOwned s who place n → i < usable_words n
+        → Moves s.errand who (read_begun (s.errand who) place i) errands → IsSoundWithoutCounts g (with_errands s errands) }
     ensures put { (g : Geometry) (s : State) (who place : ℕ) (n : Need) (shelf : ℕ) (errands : ℕ → ErrandFields)
-        → IsSound g s → who < g.callers → IsIdle (s.errand who) → IsOwned s who place n → shelf < SHELVES
-        → Moves s.errand who (put_begun (s.errand who) place n shelf) errands → IsSound g (with_errands s errands) }
+        → IsSoundWithoutCounts g s → who < g.callers → IsIdle (s.errand who) → IsOwned s who place n → shelf < SHELVES
+        → Moves s.errand who (put_begun (s.errand who) place n shelf) errands → IsSoundWithoutCounts g (with_errands s errands) }
     ensures take { (g : Geometry) (s : State) (who shelf : ℕ) (errands : ℕ → ErrandFields)
-        → IsSound g s → who < g.callers → IsIdle (s.errand who) → shelf < SHELVES
-        → Moves s.errand who (take_begun (s.errand who) shelf) errands → IsSound g (with_errands s errands) }
+        → IsSoundWithoutCounts g s → who < g.callers → IsIdle (s.errand who) → shelf < SHELVES
+        → Moves s.errand who (take_begun (s.errand who) shelf) errands → IsSoundWithoutCounts g (with_errands s errands) }
 {}
 
-/// A step that is named as shown keeps the state sound.
+/// A step that is named as shown keeps the state sound, with the counts and without.
 pub fn shown_steps_keep_sound()
-    ensures { (g : Geometry) (s : State) (who : ℕ) (after : State) → IsSound g s → who < g.callers
+    ensures without_counts { (g : Geometry) (s : State) (who : ℕ) (after : State)
+        → IsSoundWithoutCounts g s → who < g.callers
+        → IsTrue (is_shown (s.errand who).point (found_at s who)) → Step s who after
+        → IsSoundWithoutCounts g after }
+    ensures with_counts { (g : Geometry) (s : State) (who : ℕ) (after : State) → IsSound g s → who < g.callers
         → IsTrue (is_shown (s.errand who).point (found_at s who)) → Step s who after → IsSound g after }
 {}
