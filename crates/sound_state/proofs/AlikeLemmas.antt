@@ -68,7 +68,7 @@ info-alike g s l s' h d = ap (λ w. info_or_zero (info_of w)) (h.word (name.Info
 live-alike : (g : Geometry) (s : State) (l : Lists) (s' : State) → Alike g s l s' → (place : ℕ) → live_at s' place ≡ live_at s place
 live-alike g s l s' h place = ap (λ e. is_there (block_at place (pool_of e))) h.history
 
-same-superblock :
+pub same-superblock :
     (a a' : AnchorFields) (r r' w w' : ℕ) (n n' v v' : ℕ → ℕ) (z z' : ℕ) → a' ≡ a → r' ≡ r → w' ≡ w → n' ≡ n → v' ≡ v → z' ≡ z
     → ◌≡◌ {A = Superblock} (record { anchor = a'; reserved = r'; waiting = w'; next = n'; live = v'; size = z' })
     (record { anchor = a; reserved = r; waiting = w; next = n; live = v; size = z })

@@ -138,7 +138,7 @@ one-desc : (d e : ℕ) (o : Option Site) → d ≢ e → 1 ≤ is_desc d o → i
 one-desc d e o differ has = grind (arith, differ, has)
 
 -- a superblock that doesn't wait fills its frame
-bound-fills :
+pub bound-fills :
     (g : Geometry) (s : State) (l : Lists) (d f : ℕ) → IsTrue (is_bound g s l d) → waiting_of g s d ≡ 0 → (info_for s d).frame ≡ f
     → fills g s l f d ≡ 1
 bound-fills g s l d f bound none lies =
@@ -205,4 +205,15 @@ bound-apart g s l d e f old has_d has_e has_f bound_d bound_e lies_d lies_e diff
                 let both = both-install g s l d e f old differ (some-installs g s d some_d) (some-installs g s e some_e) lies_d lies_e in
                 omega (arith, once, both)
           ]
+    ]
+
+-- so bound ones in one frame are one
+pub one-in-frame :
+    (g : Geometry) (s : State) (l : Lists) (f d k : ℕ) → IsSoundWith g s l → f < g.frames → d < descriptor_count g
+    → k < descriptor_count g → IsTrue (is_bound g s l d) → IsTrue (is_bound g s l k) → (info_for s d).frame ≡ f
+    → (info_for s k).frame ≡ f → d ≡ k
+one-in-frame g s l f d k is has has_d has_k bound_d bound_k at_d at_k =
+    elim (cases_eq d k) [
+      | inl same ↦ same
+      | inr differ ↦ absurd (bound-apart g s l d k f is has_d has_k has bound_d bound_k at_d at_k differ)
     ]

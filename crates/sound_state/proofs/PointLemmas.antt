@@ -162,7 +162,7 @@ weigh-stays n w p q credits kept frames waits = record {
   stock = λ class. rw (kept, waits class) refl;
 }
 
-from-weighs :
+pub from-weighs :
     (n : WordName) (before after : ℕ) (e : ErrandFields) (x : Found) (q : Point) → WeighFrom n before after e.point q
     → WeighAlike n before after e (at_point e x q)
 from-weighs n before after e x q h = record {

@@ -53,7 +53,7 @@ popped-anchor g s l who at share a link words e s' h d ne =
     ap anchor_of (h.elsewhere (name.Anchor d) (λ same. ne (ap anchor_number same)))
 
 -- a bound superblock isn't EMPTY, and a pop doesn't make it so
-bound-stands : (b : Bool) (c : Bool) → IsTrue (b && not c) → c ≡ false
+pub bound-stands : (b : Bool) (c : Bool) → IsTrue (b && not c) → c ≡ false
 bound-stands b c is = grind (arith, is)
 
 stands-popped : (share : Share) (a : AnchorFields) → is_empty a.state ≡ false → is_empty (popped_state share a) ≡ false

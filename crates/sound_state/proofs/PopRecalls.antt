@@ -287,7 +287,7 @@ left-large s d (large.Got place need) = tt
 left-large s d large.NothingThere = tt
 left-large s d (large.Missed expected found) = tt
 
-left-point :
+pub left-point :
     (g : Geometry) (s : State) (l : Lists) (i d : ℕ) (p : Point)
     → ((site : Site) (o : Onward) → p ≡ point.Block (block.InstallSuperblock site) o → site.desc ≢ d)
     → AllByRecursion (IsSo g s l i) (recalls_of p) → AllByRecursion (IsLeft s d) (recalls_of p)
@@ -424,7 +424,7 @@ append-nil : (xs : List Event) → xs ++ [] ≡ xs
 append-nil [] = refl
 append-nil (x ∷ xs) = ap (λ (ys : List Event). x ∷ ys) (append-nil xs)
 
-own-other : (i who words place : ℕ) (past : List Event) → i ≢ who → own i (past ++ Alloc who words place ∷ []) ≡ own i past
+pub own-other : (i who words place : ℕ) (past : List Event) → i ≢ who → own i (past ++ Alloc who words place ∷ []) ≡ own i past
 own-other i who words place past ne =
     let none : own i (Alloc who words place ∷ []) ≡ [] = rw (ne_eqb who i (λ same. ne (sym same))) refl in
     own-append i past (Alloc who words place ∷ []) ∙ ap (λ (ys : List Event). own i past ++ ys) none ∙ append-nil (own i past)

@@ -96,7 +96,7 @@ popped-fits share a prefix fits room = record {
   tag = room;
 }
 
-small-asked :
+pub small-asked :
     (g : Geometry) (who : ℕ) (at : Site) (o : Onward) → o ≡ onward.Alloc (asked o) → FitsOnward g who at.seat o
     → need_of (asked o) ≡ need.Small at.seat.class
 small-asked g who at o alloc fit = subst (FitsOnward g who at.seat) alloc fit

@@ -34,7 +34,7 @@ use Rattle.sound_state.specs.Sound.{IsSoundWithoutCounts, IsSoundWith}
 use Rattle.sound_state.specs.Superblocks.{info_for}
 use Rattle.sound_state.specs.Ties.{IsTied, IsLive, IsBlockOfDesc, IsExcepted}
 use Rattle.sound_state.proofs.AlikeLemmas.{Excepts, each-caller}
-use Rattle.sound_state.proofs.FrameLemmas.{bound-apart}
+use Rattle.sound_state.proofs.FrameLemmas.{one-in-frame}
 use Rattle.sound_state.proofs.PopEffects.{Pops, popped_holds, popped_place}
 use Rattle.sound_state.proofs.PopFacts.{popped-info, popped-bound, popped-none, popped-here, popped-there}
 
@@ -51,11 +51,7 @@ class-there g s l who at share a link words e s' h sound is place b (Small class
     let same : b.place ≡ place = place-found place (pool_of s.history) b live in
     let frame : (info_for s d).frame ≡ at.frame = its.located.frame ∙ ap frame_of (sym same) ∙ here in
     let one : d ≡ at.desc =
-    elim (cases_eq d at.desc) [
-      | inl itself ↦ itself
-      | inr differ ↦
-          absurd (bound-apart g s l d at.desc at.frame is its.exists h.site.desc h.site.frame its.bound h.bound frame h.located.frame differ)
-    ] in
+    one-in-frame g s l at.frame d at.desc is h.site.frame its.exists h.site.desc its.bound h.bound frame h.located.frame in
     let classes : class ≡ at.seat.class = sym its.located.class ∙ ap (λ k. (info_for s k).class) one ∙ h.located.class in
     of ∙ ap Small classes
 class-there g s l who at share a link words e s' h sound is place b (Large units) live of placed here =

@@ -127,7 +127,7 @@ popped-guarded g s l who at share a link words e s' h old =
     }
 
 -- what a small block serves is small
-small-served : (words class : ℕ) → need_of words ≡ Small class → nat_le words SMALL_MOST ≡ true
+pub small-served : (words class : ℕ) → need_of words ≡ Small class → nat_le words SMALL_MOST ≡ true
 unfolding need_of
 small-served words class is =
     elim (cases_lt SMALL_MOST words) [
@@ -140,13 +140,13 @@ small-served words class is =
     ]
 
 -- one small block is given to who, and none to another; none is refused or freed
-gives-one : (who words place : ℕ) → nat_le words SMALL_MOST ≡ true → cond {A = ℕ} (gives_small who (Alloc who words place)) 1 0 ≡ 1
+pub gives-one : (who words place : ℕ) → nat_le words SMALL_MOST ≡ true → cond {A = ℕ} (gives_small who (Alloc who words place)) 1 0 ≡ 1
 gives-one who words place small = rw (eq-eqb who who refl, small) refl
 
-gives-none : (who i words place : ℕ) → i ≢ who → cond {A = ℕ} (gives_small i (Alloc who words place)) 1 0 ≡ 0
+pub gives-none : (who i words place : ℕ) → i ≢ who → cond {A = ℕ} (gives_small i (Alloc who words place)) 1 0 ≡ 0
 gives-none who i words place ne = rw (ne_eqb who i (λ same. ne (sym same))) refl
 
-alloc-one : (who words place : ℕ) → nat_le words SMALL_MOST ≡ true → cond {A = ℕ} (is_small_alloc (Alloc who words place)) 1 0 ≡ 1
+pub alloc-one : (who words place : ℕ) → nat_le words SMALL_MOST ≡ true → cond {A = ℕ} (is_small_alloc (Alloc who words place)) 1 0 ≡ 1
 alloc-one who words place small = rw small refl
 
 -- what a turn weighs that has given no block, and one that has

@@ -41,7 +41,7 @@ use Rattle.sound_state.proofs.QuietExchanges.{take_credit-lost, install_credits-
 use Rattle.sound_state.proofs.CreditLemmas.{actives-written, active-bound, word-keeps-away, won-at}
 
 -- the numbers of an active word fit, and it says them
-held-fits : (g : Geometry) (d credits : ℕ) → IsChecked g → d < descriptor_count g → credits < 2 ^ CREDIT_BITS → IsActiveWord (Held d credits)
+pub held-fits : (g : Geometry) (d credits : ℕ) → IsChecked g → d < descriptor_count g → credits < 2 ^ CREDIT_BITS → IsActiveWord (Held d credits)
 held-fits g d credits checked has few = (omega (arith, has, descriptor_count_within g checked), few)
 
 null-said : active_of (active_word Null) ≡ Some Null
@@ -69,7 +69,7 @@ held-desc : (d credits e others : ℕ) → Some (Held d credits) ≡ Some (Held 
 held-desc d credits e others same = ap desc_said same
 
 -- a seat's active word is one of the heap's
-seat-active : (g : Geometry) (who : ℕ) (seat : SeatFields) → IsChecked g → IsSeatOf g who seat → Exists g (active_name seat)
+pub seat-active : (g : Geometry) (who : ℕ) (seat : SeatFields) → IsChecked g → IsSeatOf g who seat → Exists g (active_name seat)
 seat-active g who seat checked of =
     let heaps : seat.geometry.heaps ≡ g.heaps = ap (λ (h : Geometry). h.heaps) of.geometry in
     let within : heap_of seat < seat.geometry.heaps = heap_of-within seat (omega (arith, heaps, checked.heaps.0)) in

@@ -150,7 +150,7 @@ link-sound g s who s' p q sound has at given step =
     }
 
 -- what one caller has, of which all have one, no other has
-others-none :
+pub others-none :
     (g : Geometry) (weight : ErrandFields → ℕ) (errands : ℕ → ErrandFields) (who i : ℕ) → who < g.callers → i < g.callers → i ≢ who
     → 1 ≤ weight (errands who) → callers_sum g weight errands ≤ 1 → weight (errands i) ≡ 0
 unfolding callers_sum
@@ -420,7 +420,7 @@ links-kept g s l who n new words' old alone silent link range below w =
     }
 
 -- the step's write, at a point that is known
-written-at :
+pub written-at :
     (s : State) (who : ℕ) (s' : State) (p : Point) → (s.errand who).point ≡ p → Step s who s'
     → Writes s.word (name_of (plan_point_of p)) (after_action (plan_point_of p) (s.word (name_of (plan_point_of p)))) s'.word
 written-at s who s' p at step =

@@ -148,7 +148,7 @@ abbrev owner_there : Option Live → ℕ
 owner_there None = 0
 owner_there (Some b) = owner_number b.owner
 
-owner-is : (s : State) (i place : ℕ) (n : Need) → IsOwned s i place n → owner_there (block_at place (pool_of s.history)) ≡ i
+pub owner-is : (s : State) (i place : ℕ) (n : Need) → IsOwned s i place n → owner_there (block_at place (pool_of s.history)) ≡ i
 owner-is s i place n owned = ap owner_there owned.block.1 ∙ ap owner_number owned.block.2
 
 -- who excepts a block owns it

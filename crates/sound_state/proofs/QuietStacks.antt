@@ -60,13 +60,13 @@ top-exists next top limit [] stack exist = omega (arith, stack)
 top-exists next top limit (x ∷ xs) stack exist = omega (arith, stack.0, All-head (λ i. i < limit) x xs exist)
 
 -- the stack of a pile is the list of the sound state
-pile-stacked :
+pub pile-stacked :
     (g : Geometry) (s : State) (l : Lists) (seat : SeatFields) (pile : Pile) → IsListed g s.word l → seat.class < CLASSES
     → Stacked (next_in s.word pile) (head_of (s.word (head_name seat pile))).top (list_of l seat pile)
 pile-stacked g s l seat Frames listed has = listed.frames
 pile-stacked g s l seat Partials listed has = listed.partials seat.class has
 
-pile-exists :
+pub pile-exists :
     (g : Geometry) (s : State) (l : Lists) (seat : SeatFields) (pile : Pile) → IsListed g s.word l → seat.class < CLASSES
     → All (λ i. i < pile_limit g pile) (list_of l seat pile)
 pile-exists g s l seat Frames listed has = listed.frames_exist

@@ -30,13 +30,18 @@ use Rattle.errand_steps.specs.Steps.{State, Step, found_at}
 use Rattle.sound_state.specs.Shown.{shown_block, shown_stack, shown_desc, shown_partial, shown_large, is_shown}
 use Rattle.sound_state.specs.Sound.{IsSoundWithoutCounts}
 use Rattle.sound_state.specs.Superblocks.{anchor_for}
+use Rattle.sound_state.proofs.DescPushes.{push_desc-sound}
+use Rattle.sound_state.proofs.DescSteps.{pop_desc-sound}
+use Rattle.sound_state.proofs.DiscardSteps.{install_superblock-sound}
+use Rattle.sound_state.proofs.PushSound.{push_block-sound}
 use Rattle.sound_state.proofs.HazardSteps.{store_hazard-sound, reload_desc_head-sound, clear_after_pop-sound, clear_hazard_looks-sound, clear_hazard_ends-sound, store_guard-sound, read_hazard-sound}
 use Rattle.sound_state.proofs.PointLemmas.{fits-at, the-alloc, the-free}
 use Rattle.sound_state.proofs.PopSteps.{pop_block-sound}
+use Rattle.sound_state.proofs.ShiftSteps.{return_credits-sound, grant-sound}
+use Rattle.sound_state.proofs.StackSteps.{pop_top-sound}
 use Rattle.sound_state.proofs.QuietBlocks.{load_active-sound}
 use Rattle.sound_state.proofs.QuietCredits.{take_credit-sound, install_credits-sound}
-use Rattle.sound_state.proofs.QuietDescs.{load_desc_head-sound, load_next_desc-sound, pop_desc_lost-sound, load_head_to_push-sound, push_desc_lost-sound}
-use Rattle.sound_state.proofs.QuietExchanges.{return_credits-lost, push_block-lost}
+use Rattle.sound_state.proofs.QuietDescs.{load_desc_head-sound, load_next_desc-sound, load_head_to_push-sound}
 use Rattle.sound_state.proofs.QuietPops.{load_info-sound, load_anchor-sound, load_link-sound, load_return-sound}
 use Rattle.sound_state.proofs.QuietPushes.{load_owner-sound, load_prefix-sound, load_push_anchor-sound}
 use Rattle.sound_state.proofs.QuietPartials as partials
@@ -45,7 +50,7 @@ use Rattle.sound_state.proofs.QuietEnds.{load_word-sound, put_block_lost-sound, 
 use Rattle.sound_state.proofs.QuietLarge.{load_units-sound, take_run_lost-sound, load_run_prefix-sound, load_shelf-sound}
 use Rattle.sound_state.proofs.QuietLemmas.{found_from}
 use Rattle.sound_state.proofs.QuietLinks.{store_below-sound, store_next_desc-sound}
-use Rattle.sound_state.proofs.QuietStacks.{load_top-sound, load_below-sound, pop_top_lost-sound, confirm_empty_lost-sound, load_top_to_push-sound, push_top_lost-sound}
+use Rattle.sound_state.proofs.QuietStacks.{load_top-sound, load_below-sound, confirm_empty_lost-sound, load_top_to_push-sound, push_top_lost-sound}
 
 -- a lost exchange finds another word
 pub differs : (w e : ℕ) → not (w == e) ≡ true → w ≢ e
@@ -105,7 +110,7 @@ unfolding plan_point_of
 shown-stack g s who s' (stack.LoadTop seat pile) o sound has at shown step = top-sound g s who s' seat pile o sound has at step
 shown-stack g s who s' (stack.LoadBelow seat pile h) o sound has at shown step = load_below-sound g s who s' seat pile h o sound has at step
 shown-stack g s who s' (stack.PopTop seat pile h below) o sound has at shown step =
-    pop_top_lost-sound g s who s' seat pile h below o sound has at (differs _ _ shown) step
+    pop_top-sound g s who s' seat pile h below o sound has at step
 shown-stack g s who s' (stack.ConfirmEmpty seat pile h) o sound has at shown step =
     confirm_empty_lost-sound g s who s' seat pile h o sound has at (differs _ _ shown) step
 shown-stack g s who s' (stack.LoadTopToPush seat pile i) o sound has at shown step =
@@ -165,10 +170,11 @@ shown-block g s who s' (block.PopBlock site share a prefix) o sound has at shown
 shown-block g s who s' (block.StorePrefix site i) o sound has at shown step = absurd (true≢false (sym shown))
 shown-block g s who s' (block.InstallCredits site i more) o sound has at shown step =
     install_credits-sound g s who s' site i more o sound has at step
-shown-block g s who s' (block.InstallSuperblock site) o sound has at shown step = absurd (true≢false (sym shown))
+shown-block g s who s' (block.InstallSuperblock site) o sound has at shown step =
+    install_superblock-sound g s who s' site o sound has at step
 shown-block g s who s' (block.LoadReturn site i more) o sound has at shown step = load_return-sound g s who s' site i more o sound has at step
 shown-block g s who s' (block.ReturnCredits site i more a) o sound has at shown step =
-    return_credits-lost g s who s' site i more a o sound has at (differs _ _ shown) step
+    return_credits-sound g s who s' site i more a o sound has at step
 shown-block g s who s' (block.LoadPrefix seat frame i) o sound has at shown step = load_prefix-sound g s who s' seat frame i o sound has at step
 shown-block g s who s' (block.LoadPushAnchor site i guarded) o sound has at shown step =
     load_push_anchor-sound g s who s' site i guarded o sound has at step
@@ -176,7 +182,7 @@ shown-block g s who s' (block.StoreGuard site i a) o sound has at shown step = s
 shown-block g s who s' (block.LoadOwner site i a) o sound has at shown step = load_owner-sound g s who s' site i a o sound has at step
 shown-block g s who s' (block.StoreLink site i a guarded heap) o sound has at shown step = absurd (true≢false (sym shown))
 shown-block g s who s' (block.PushBlock site i a guarded heap) o sound has at shown step =
-    push_block-lost g s who s' site i a guarded heap o sound has at (differs _ _ shown) step
+    push_block-sound g s who s' site i a guarded heap o sound has at step
 shown-block g s who s' (block.LinkBlock site i) o sound has at shown step = absurd (true≢false (sym shown))
 shown-block g s who s' (block.StoreInfo site) o sound has at shown step = absurd (true≢false (sym shown))
 shown-block g s who s' (block.StoreAnchor site) o sound has at shown step = absurd (true≢false (sym shown))
@@ -218,7 +224,7 @@ shown-desc g s who s' (desc.ReloadDescHead seat d) o sound has at shown step =
     reload_desc_head-sound g s who s' seat d o sound has at step
 shown-desc g s who s' (desc.LoadNextDesc seat d) o sound has at shown step = load_next_desc-sound g s who s' seat d o sound has at step
 shown-desc g s who s' (desc.PopDesc seat d next) o sound has at shown step =
-    pop_desc_lost-sound g s who s' seat d next o sound has at (differs _ _ shown) step
+    pop_desc-sound g s who s' seat d next o sound has at step
 shown-desc g s who s' (desc.ClearAfterPop seat d) o sound has at shown step = clear_after_pop-sound g s who s' seat d o sound has at step
 shown-desc g s who s' (desc.ClearHazard seat) o sound has at shown step =
     clears-cases (λ o. (s.errand who).point ≡ Desc (desc.ClearHazard seat) o → IsSoundWithoutCounts g s')
@@ -229,7 +235,7 @@ shown-desc g s who s' (desc.ReadHazard seat held i) o sound has at shown step = 
 shown-desc g s who s' (desc.LoadHeadToPush seat d) o sound has at shown step = load_head_to_push-sound g s who s' seat d o sound has at step
 shown-desc g s who s' (desc.StoreNextDesc seat d top) o sound has at shown step = store_next_desc-sound g s who s' seat d top o sound has at step
 shown-desc g s who s' (desc.PushDesc seat d top) o sound has at shown step =
-    push_desc_lost-sound g s who s' seat d top o sound has at (differs _ _ shown) step
+    push_desc-sound g s who s' seat d top o sound has at step
 shown-desc g s who s' (desc.Got seat d) o sound has at shown step = absurd (true≢false (sym shown))
 shown-desc g s who s' (desc.Cleared seat) o sound has at shown step = absurd (true≢false (sym shown))
 shown-desc g s who s' (desc.Scanned seat held) o sound has at shown step = absurd (true≢false (sym shown))
@@ -367,7 +373,7 @@ shown-partial g s who s' (partial.LoadGrantAnchor site) o sound has at shown ste
     taken-sound g s who s' site (asked o) sound has (at ∙ ap (Partial (partial.LoadGrantAnchor site)) is) step
 shown-partial g s who s' (partial.Grant site a) o sound has at shown step =
     let is : o ≡ onward.Alloc (asked o) = the-alloc o (fits-at g s sound.parts.0 who _ sound.parts.1 has at).goes in
-    partials.grant_lost-sound g s who s' site a (asked o) sound has (at ∙ ap (Partial (partial.Grant site a)) is) (differs _ _ shown) step
+    grant-sound g s who s' site a (asked o) sound has (at ∙ ap (Partial (partial.Grant site a)) is) step
 shown-partial g s who s' (partial.LoadOwner seat d) o sound has at shown step =
     finish-cases (λ o. (s.errand who).point ≡ Partial (partial.LoadOwner seat d) o → IsSoundWithoutCounts g s')
     (λ guarded at. partials.load_owner-sound g s who s' seat d guarded sound has at step) o

@@ -92,10 +92,10 @@ goes-guards g s l who q retired word guarded has same h = record {
 }
 
 -- a count never falls
-raised-least : (b : Bool) (n : ℕ) → n < 2 ^ 64 → n ≤ raised b n
+pub raised-least : (b : Bool) (n : ℕ) → n < 2 ^ 64 → n ≤ raised b n
 raised-least b n most = grind (arith)
 
-raised-below : (b : Bool) (n : ℕ) → n < 2 ^ 64 → raised b n < 2 ^ 64
+pub raised-below : (b : Bool) (n : ℕ) → n < 2 ^ 64 → raised b n < 2 ^ 64
 raised-below b n most = grind (arith)
 
 -- the errand at the second point
