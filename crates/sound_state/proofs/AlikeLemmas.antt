@@ -7,6 +7,7 @@ use Rattle.std.proofs.lemmas.Bool.{cases_eq}
 use Rattle.heap_geometry.specs.declared.geometry.Geometry.{Geometry}
 use Rattle.heap_geometry.specs.declared.limits.TheConstants.{CLASSES}
 use Rattle.heap_geometry.specs.declared.need.Need.{Need}
+use Rattle.heap_geometry.specs.declared.need.Need.TheVariants as need
 use Rattle.heap_geometry.specs.Need.{block_count_of}
 use Rattle.heap_geometry.specs.Place.{block_place, frame_of, unit_place}
 use Rattle.packed_words.specs.Anchor.{AnchorFields, anchor_of}
@@ -40,10 +41,10 @@ use Rattle.sound_state.specs.Keepers.{IsKept, IsPartlyUsed, IsActive, IsWithout,
 use Rattle.sound_state.specs.Lists.{Lists, IsListed}
 use Rattle.sound_state.specs.Recalls.{Recall, IsPopped, IsPlain, IsLocated, IsTopStill, IsRemembered, IsSo, IsOwned, recalls_of, bound_for, located, bound_at, pops, links, tops, nexts, tops_exist, says, made, in_use, emptied, noted, owns, owns_all, looked}
 use Rattle.sound_state.specs.Sound.{IsSoundWith, IsOwnErrand}
-use Rattle.sound_state.specs.Stock.{stock_of}
+use Rattle.sound_state.specs.Stock.{IsStocked}
 use Rattle.sound_state.specs.Sums.{sum_below, callers_sum}
 use Rattle.sound_state.specs.Superblocks.{Superblock, AreChained, IsChained, info_or_zero, live_at, is_there, anchor_for, info_for, superblock_of, reserved_of, waiting_of, is_bound, errand_keeps}
-use Rattle.sound_state.specs.Ties.{IsTied, IsLive, IsExcepted}
+use Rattle.sound_state.specs.Ties.{IsTied, IsLive, IsExcepted, IsBlockOfDesc}
 use Rattle.sound_state.specs.Turns.{IsTurned, gives_small, refuses_small, turn_open, turn_unframed, turn_unlisted, turn_unanswered, errand_discards, errand_pops, turns_of, cleared_of, emptied_out, is_small_alloc, is_small_free}
 use Rattle.sound_state.proofs.SumLemmas.{callers-moved, sum-same}
 
@@ -53,11 +54,11 @@ pub record Alike (g : Geometry) (s : State) (l : Lists) (s' : State) : Type 0 wh
   pub history : s'.history ≡ s.history
   pub reserved : (d : ℕ) → reserved_of g s' d ≡ reserved_of g s d
   pub waits : (d : ℕ) → waiting_of g s' d ≡ waiting_of g s d
-  pub ways : (d : ℕ) → callers_sum g (errand_keeps on_its_way d) s'.errand ≡ callers_sum g (errand_keeps on_its_way d) s.errand
+  pub ways : (d : ℕ) → callers_sum g (errand_keeps on_its_way d) s'.errand ≤ callers_sum g (errand_keeps on_its_way d) s.errand
   pub bound : (d : ℕ) → is_bound g s' l d ≡ is_bound g s l d
   pub places : (d : ℕ) → places_of g s' l d ≡ places_of g s l d
   pub frames : (f : ℕ) → callers_sum g (errand_frames f) s'.errand ≡ callers_sum g (errand_frames f) s.errand
-  pub stock : (class : ℕ) → stock_of g s' l class ≤ stock_of g s l class
+  pub stock : IsStocked g s l → IsStocked g s' l
 
 anchor-alike : (g : Geometry) (s : State) (l : Lists) (s' : State) → Alike g s l s' → (d : ℕ) → anchor_for s' d ≡ anchor_for s d
 anchor-alike g s l s' h d = ap anchor_of (h.word (name.Anchor d) tt)
@@ -170,7 +171,7 @@ so-alike g s l s' h i (in_use a) so = so
 so-alike g s l s' h i (emptied d) so = record {
   state = ap (λ a. a.state) (anchor-alike g s l s' h d) ∙ so.state;
   unavailable = so.unavailable;
-  standing = h.ways d ∙ so.standing;
+  standing = omega (arith, h.ways d, so.standing);
 }
 so-alike g s l s' h i (noted d next) so = λ on. h.word (name.Next d) tt ∙ so on
 so-alike g s l s' h i (owns place k) so = (so.0, owned-alike g s l s' h i place so.0 so.1, so.2)
@@ -194,6 +195,13 @@ Excepts e place =
     Any (λ b. b.place ≡ place) (holds_of e.point).hands
     ⊎ Any (λ b. (b.place ≡ place) × IsTrue b.overwritten) (holds_of e.point).frees
 
+-- the prefix word at the place says what it does where nobody excepts the block
+pub record IsSaidAt (g : Geometry) (s : State) (l : Lists) (place : ℕ) : Type 0 where
+  pub small :
+      (class d : ℕ) (b : Block) → IsLive s place b → b.need ≡ need.Small class → IsBlockOfDesc g s l place class d
+      → s.word (name.Arena place) ≡ 2 * d
+  pub large : (units : ℕ) (b : Block) → IsLive s place b → b.need ≡ need.Large units → s.word (name.Arena place) ≡ 2 * units + 1
+
 -- a caller may go on from one errand to another in a state
 pub record MayGoOn (g : Geometry) (s : State) (l : Lists) (who : ℕ) (a b : ErrandFields) : Type 0 where
   pub rule : IsOwnErrand g who b
@@ -203,7 +211,7 @@ pub record MayGoOn (g : Geometry) (s : State) (l : Lists) (who : ℕ) (a b : Err
   pub full : spare_of b.point ≡ 1 → length b.retired ≡ g.callers + 1
   pub hands : All (λ x. IsOwned s who x.place x.need) (holds_of b.point).hands
   pub frees : All (λ x. IsOwned s who x.place x.need) (holds_of b.point).frees
-  pub excepts : (place : ℕ) → Excepts a place → Excepts b place
+  pub excepts : (place : ℕ) → Excepts a place → Excepts b place ⊎ IsSaidAt g s l place
   pub own_turns : count_by (gives_small who) s.history + turn_open b ≤ b.turns
   pub own_lost :
       b.turns + errand_discards b
@@ -312,13 +320,25 @@ framed-alike g s l s' h framed = record {
       omega (arith, filled, h.frames f, framed.once f has);
 }
 
+-- what all callers but one remember is so
+abbrev pub OthersRemember : Geometry → State → Lists → ℕ → Type 0
+OthersRemember g s l who = (i : ℕ) → i < g.callers → i ≢ who → All (IsSo g s l i) (recalls_of (s.errand i).point)
+
 remembered-alike :
-    (g : Geometry) (s : State) (l : Lists) (who : ℕ) (e : ErrandFields) (s' : State) → GoesOn g s l who e s' → IsRemembered g s l
+    (g : Geometry) (s : State) (l : Lists) (who : ℕ) (e : ErrandFields) (s' : State) → GoesOn g s l who e s' → OthersRemember g s l who
     → IsRemembered g s' l
 remembered-alike g s l who e s' go remembered = record {
-  so =
-      each-caller g (λ i e. All (IsSo g s' l i) (recalls_of e.point)) s.errand who e s'.errand go.moves
-      (λ k d lt. so-alike g s l s' go.alike who _ (go.may.so k d lt)) (λ i has k d lt. so-alike g s l s' go.alike i _ (remembered.so i has k d lt));
+  so = λ i has.
+      elim (cases_eq i who) [
+        | inl same ↦
+            let here : All (IsSo g s' l who) (recalls_of (s'.errand who).point) =
+            subst (λ f. All (IsSo g s' l who) (recalls_of f.point)) (sym go.moves.here)
+            (λ k d lt. so-alike g s l s' go.alike who _ (go.may.so k d lt)) in
+            subst (λ j. All (IsSo g s' l j) (recalls_of (s'.errand j).point)) (sym same) here
+        | inr differ ↦
+            subst (λ f. All (IsSo g s' l i) (recalls_of f.point)) (sym (go.moves.elsewhere i differ))
+            (λ k d lt. so-alike g s l s' go.alike i _ (remembered i has differ k d lt))
+      ];
 }
 
 -- whoever guards a descriptor afterwards did before; or it is the caller that went on, and it guards it anew
@@ -410,23 +430,25 @@ turned-alike g s l who e s' go turned =
 
 excepted-alike :
     (g : Geometry) (s : State) (l : Lists) (who : ℕ) (e : ErrandFields) (s' : State) → GoesOn g s l who e s' → (place : ℕ)
-    → IsExcepted g s place → IsExcepted g s' place
+    → IsExcepted g s place → IsExcepted g s' place ⊎ IsSaidAt g s l place
 excepted-alike g s l who e s' go place x =
     let i = x.who.0 in
-    record {
-      who = (
-        i,
-        x.who.1,
-        each-caller g (λ j e. Excepts (s.errand j) place → Excepts e place) s.errand who e s'.errand go.moves (go.may.excepts place) (λ j has same. same) i
-            x.who.1 x.who.2,
-      );
-    }
+    elim (each-caller g (λ j e. Excepts (s.errand j) place → Excepts e place ⊎ IsSaidAt g s l place) s.errand who e s'.errand go.moves
+    (go.may.excepts place) (λ j has same. inl same) i x.who.1 x.who.2) [
+      | inl still ↦ inl (record { who = (i, x.who.1, still) })
+      | inr said ↦ inr said
+    ]
 
 tie-alike :
     (g : Geometry) (s : State) (l : Lists) (who : ℕ) (e : ErrandFields) (s' : State) → GoesOn g s l who e s' → (place w : ℕ)
-    → IsExcepted g s place ⊎ (s.word (name.Arena place) ≡ w) → IsExcepted g s' place ⊎ (s'.word (name.Arena place) ≡ w)
-tie-alike g s l who e s' go place w (inl x) = inl (excepted-alike g s l who e s' go place x)
-tie-alike g s l who e s' go place w (inr is) = inr (go.alike.word (name.Arena place) tt ∙ is)
+    → (IsSaidAt g s l place → s.word (name.Arena place) ≡ w) → IsExcepted g s place ⊎ (s.word (name.Arena place) ≡ w)
+    → IsExcepted g s' place ⊎ (s'.word (name.Arena place) ≡ w)
+tie-alike g s l who e s' go place w says_it (inl x) =
+    elim (excepted-alike g s l who e s' go place x) [
+      | inl still ↦ inl still
+      | inr said ↦ inr (go.alike.word (name.Arena place) tt ∙ says_it said)
+    ]
+tie-alike g s l who e s' go place w says_it (inr is) = inr (go.alike.word (name.Arena place) tt ∙ is)
 
 tied-alike :
     (g : Geometry) (s : State) (l : Lists) (who : ℕ) (e : ErrandFields) (s' : State) → GoesOn g s l who e s' → IsTied g s l → IsTied g s' l
@@ -442,9 +464,11 @@ tied-alike g s l who e s' go tied =
               bound = subst IsTrue (sym (h.bound old.0)) old.1.bound;
               located = located-alike g s l s' h old.0 (frame_of place) class old.1.located;
             },
-            tie-alike g s l who e s' go place (2 * old.0) old.2,
+            tie-alike g s l who e s' go place (2 * old.0) (λ said. said.small class old.0 b (was place b live) is old.1) old.2,
           );
-      large = λ place units b live is. tie-alike g s l who e s' go place (2 * units + 1) (tied.large place units b (was place b live) is);
+      large = λ place units b live is.
+          tie-alike g s l who e s' go place (2 * units + 1) (λ said. said.large units b (was place b live) is)
+          (tied.large place units b (was place b live) is);
       units = λ unit has.
           let old = tied.units unit has in (
             λ bit. let c = old.0 (ap (λ w. bit_at w unit) (sym (h.word name.Units tt)) ∙ bit) in
@@ -464,11 +488,25 @@ tied-alike g s l who e s' go tied =
           (λ k d lt. owned-alike g s l s' h who _ _ (go.may.frees k d lt)) (λ i has k d lt. owned-alike g s l s' h i _ _ (tied.frees i has k d lt));
     }
 
--- a caller that goes on so keeps the state sound
-pub sound-alike :
-    (g : Geometry) (s : State) (l : Lists) (who : ℕ) (e : ErrandFields) (s' : State) → GoesOn g s l who e s' → IsSoundWith g s l
+-- the state is sound, but for what one caller remembers
+pub record IsSoundBut (g : Geometry) (s : State) (l : Lists) (who : ℕ) : Type 0 where
+  pub words : (n : WordName) → s.word n < 2 ^ 64
+  pub errands : (i : ℕ) → i < g.callers → IsOwnErrand g i (s.errand i)
+  pub listed : IsListed g s.word l
+  pub kept : IsKept g s l
+  pub chained : AreChained g s l
+  pub framed : IsFramed g s l
+  pub remembered : OthersRemember g s l who
+  pub guarded : IsGuarded g s
+  pub stocked : IsStocked g s l
+  pub turned : IsTurned g s l
+  pub tied : IsTied g s l
+
+-- a caller that goes on so makes such a state sound
+pub sound-but :
+    (g : Geometry) (s : State) (l : Lists) (who : ℕ) (e : ErrandFields) (s' : State) → GoesOn g s l who e s' → IsSoundBut g s l who
     → IsSoundWith g s' l
-sound-alike g s l who e s' go sound = record {
+sound-but g s l who e s' go sound = record {
   words = go.words;
   errands = each-caller g (IsOwnErrand g) s.errand who e s'.errand go.moves go.may.rule sound.errands;
   listed = listed-alike g s l s' go.alike sound.listed;
@@ -477,7 +515,27 @@ sound-alike g s l who e s' go sound = record {
   framed = framed-alike g s l s' go.alike sound.framed;
   remembered = remembered-alike g s l who e s' go sound.remembered;
   guarded = guarded-alike g s l who e s' go sound.guarded;
-  stocked = record { most = λ class has. omega (arith, sound.stocked.most class has, go.alike.stock class) };
+  stocked = go.alike.stock sound.stocked;
   turned = turned-alike g s l who e s' go sound.turned;
   tied = tied-alike g s l who e s' go sound.tied;
 }
+
+-- and keeps a sound one sound
+pub sound-alike :
+    (g : Geometry) (s : State) (l : Lists) (who : ℕ) (e : ErrandFields) (s' : State) → GoesOn g s l who e s' → IsSoundWith g s l
+    → IsSoundWith g s' l
+sound-alike g s l who e s' go sound =
+    sound-but g s l who e s' go
+    (record {
+      words = sound.words;
+      errands = sound.errands;
+      listed = sound.listed;
+      kept = sound.kept;
+      chained = sound.chained;
+      framed = sound.framed;
+      remembered = λ i has differ. sound.remembered.so i has;
+      guarded = sound.guarded;
+      stocked = sound.stocked;
+      turned = sound.turned;
+      tied = sound.tied;
+    })

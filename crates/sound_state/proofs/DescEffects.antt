@@ -71,6 +71,7 @@ pub record Restocks (g : Geometry) (s : State) (l : Lists) (who : ℕ) (e : Erra
   pub below : (n : WordName) → s'.word n < 2 ^ 64
   pub history : s'.history ≡ s.history
   pub cleared : e.cleared ≡ (s.errand who).cleared
+  pub excepts : (place : ℕ) → Excepts (s.errand who) place → Excepts e place
   pub stack : Stacked (next_in s.word Partials) (s'.word name.DescHead) ys
   pub exist : All (λ d. d < descriptor_count g) ys
   pub without : All (IsWithout s) ys
@@ -396,7 +397,7 @@ excepted-restocked g s l who e s' ys go place x =
       who = (
         i,
         x.who.1,
-        each-caller g (λ j e. Excepts (s.errand j) place → Excepts e place) s.errand who e s'.errand go.moves (go.may.excepts place) (λ j has same. same) i
+        each-caller g (λ j e. Excepts (s.errand j) place → Excepts e place) s.errand who e s'.errand go.moves (go.excepts place) (λ j has same. same) i
             x.who.1 x.who.2,
       );
     }

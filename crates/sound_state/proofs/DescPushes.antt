@@ -275,7 +275,7 @@ push_desc_won-sound g s who s' seat d top o sound has at won step =
     let restocks =
     restocks-by g s l who e s' (d ∷ l.available) (d + 1) old has (exists-at g s who p sound has at) writes
     (subst (λ f. Moves s.errand who f s'.errand) after step.errand) past (name-below g d sound.checked exists)
-    (ap (λ b. raised b (s.errand who).cleared) cleared) may guards stack
+    (ap (λ b. raised b (s.errand who).cleared) cleared) (λ place x. absurd (push-excepts seat d top o (s.errand who) at place x)) may guards stack
     (All-cons (λ k. k < descriptor_count g) d l.available exists old.listed.available_exist)
     (All-cons (IsWithout s) d l.available (All-at (IsWithout s) d (s.errand who).retired (old.kept.retired who has) listed) old.kept.available)
     (push-weighs l seat d top o (s.errand who) x at listed bare) (recalls-pushed g s l who d old has exists listed pushes)

@@ -134,7 +134,7 @@ pop_desc_won-sound g s who s' seat d next o sound has at won step =
     let restocks =
     restocks-by g s l who e s' ys next old has (exists-at g s who p sound has at) writes (subst (λ f. Moves s.errand who f s'.errand) after step.errand) past
     (subst (λ w. w < 2 ^ 64) link (old.words (name.Next d))) (ap (λ b. raised b (s.errand who).cleared) cleared)
-    (may-after g s l who (found_at s who) q old has (old.words (name_at s who)) after cleared stands)
+    stands.excepts (may-after g s l who (found_at s who) q old has (old.words (name_at s who)) after cleared stands)
     guards (subst (λ top. Stacked (next_in s.word Partials) top ys) link first.2) (All-tail (λ k. k < descriptor_count g) d ys exist)
     (All-tail (IsWithout s) d ys without) (pop-weighs l seat d next o ys (s.errand who) (found_at s who) at is) (recalls-popped g s l d ys old is)
     (All-cons (IsOfListed l ys) (looked seat.class) [] tt (All-nil (IsOfListed l ys))) in

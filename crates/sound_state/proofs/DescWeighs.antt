@@ -24,7 +24,7 @@ use Rattle.sound_state.specs.Sound.{IsSoundWith}
 use Rattle.sound_state.specs.Stock.{word_stock, errand_stock, full_stock}
 use Rattle.sound_state.specs.Sums.{sum_below}
 use Rattle.sound_state.specs.Superblocks.{info_or_zero, word_reserves, errand_reserves, errand_keeps, errand_away}
-use Rattle.sound_state.proofs.AlikeLemmas.{MayGoOn, MayGuard}
+use Rattle.sound_state.proofs.AlikeLemmas.{MayGoOn, MayGuard, Excepts}
 use Rattle.sound_state.proofs.DescEffects.{IsNoDescHead, IsOfListed, Restocks}
 use Rattle.sound_state.proofs.StepLemmas.{words-below}
 use Rattle.sound_state.proofs.SumLemmas.{words-written, callers-moved, sum-same}
@@ -53,12 +53,13 @@ others-stay words new words' w n apart =
 pub restocks-by :
     (g : Geometry) (s : State) (l : Lists) (who : ℕ) (e : ErrandFields) (s' : State) (ys : List ℕ) (new : ℕ) → IsSoundWith g s l
     → who < g.callers → Exists g name.DescHead → Writes s.word name.DescHead new s'.word → Moves s.errand who e s'.errand
-    → s'.history ≡ s.history → new < 2 ^ 64 → e.cleared ≡ (s.errand who).cleared → MayGoOn g s l who (s.errand who) e
+    → s'.history ≡ s.history → new < 2 ^ 64 → e.cleared ≡ (s.errand who).cleared
+    → ((place : ℕ) → Excepts (s.errand who) place → Excepts e place) → MayGoOn g s l who (s.errand who) e
     → MayGuard g s who e.point e.retired (s.word (name.Hazard who)) → Stacked (next_in s.word Partials) new ys
     → All (λ d. d < descriptor_count g) ys → All (IsWithout s) ys → ListWeighs l ys (s.errand who) e
     → ((i : ℕ) → i < g.callers → All (IsOfListed l ys) (recalls_of (s.errand i).point)) → All (IsOfListed l ys) (recalls_of e.point)
     → Restocks g s l who e s' ys
-restocks-by g s l who e s' ys new old has exists w m past small still may guards stack exist without weigh recalls here =
+restocks-by g s l who e s' ys new old has exists w m past small still excepts may guards stack exist without weigh recalls here =
     let stay = others-stay s.word new s'.word w in
     let words = λ (weight : WordName → ℕ → ℕ). words-written g weight s.word name.DescHead new s'.word exists w in
     let callers = λ (weight : ErrandFields → ℕ). callers-moved g weight s.errand who e s'.errand has m in
@@ -72,6 +73,7 @@ restocks-by g s l who e s' ys new old has exists w m past small still may guards
       below = words-below s.word name.DescHead new s'.word w old.words small;
       history = past;
       cleared = still;
+      excepts = excepts;
       stack = subst (λ top. Stacked (next_in s.word Partials) top ys) (sym w.here) stack;
       exist = exist;
       without = without;

@@ -1,6 +1,6 @@
 -- No two superblocks lie in one frame, whether they wait to be installed or not.
 use Rattle.std.proofs.Common.{ℕ, Option, Some, None, ◌≡◌, ◌≢◌, ◌<◌, ◌≤◌, [], ◌∷◌, refl, arith, ap, sym, subst, inl, inr, ◌∙◌}
-use Rattle.std.specs.Prelude.{◌==◌, ◌&&◌, if◌then◌else◌, All, IsTrue}
+use Rattle.std.specs.Prelude.{◌==◌, ◌&&◌, if◌then◌else◌, All, IsTrue, ◌⊎◌}
 use Rattle.std.proofs.lemmas.Bool.{cases_eq, cond-true, cond-false, and_from, eq-eqb, ne_eqb}
 use Rattle.std.proofs.lemmas.List.Elements.{All-head, All-tail}
 use Rattle.std.proofs.lemmas.Option.{none-some}
@@ -216,4 +216,35 @@ one-in-frame g s l f d k is has has_d has_k bound_d bound_k at_d at_k =
     elim (cases_eq d k) [
       | inl same ↦ same
       | inr differ ↦ absurd (bound-apart g s l d k f is has_d has_k has bound_d bound_k at_d at_k differ)
+    ]
+
+-- the frame of a bound superblock is in the hand of the caller with which it waits, or filled
+pub held-or-filled :
+    (g : Geometry) (s : State) (l : Lists) (f d : ℕ) → IsSoundWith g s l → IsTrue (is_bound g s l d) → (info_for s d).frame ≡ f
+    → ((i : ℕ) × (i < g.callers) × (0 < errand_keeps waiting d (s.errand i)) × (0 < errand_frames f (s.errand i)))
+    ⊎ (fills g s l f d ≡ 1)
+held-or-filled g s l f d is bound at =
+    elim (cases_eq (waiting_of g s d) 0) [
+      | inl none ↦ inr (bound-fills g s l d f bound none at)
+      | inr some ↦
+          let (i, has, waits) = some-installs g s d some in inl (i, has, waits, waiting-framed g s l i d f is has waits at)
+    ]
+
+-- a caller in whose hand the frame of a bound superblock is waits with that superblock
+pub in-hand-waits :
+    (g : Geometry) (s : State) (l : Lists) (f d i : ℕ) → IsSoundWith g s l → f < g.frames → d < descriptor_count g → IsTrue (is_bound g s l d)
+    → (info_for s d).frame ≡ f → i < g.callers → 0 < errand_frames f (s.errand i) → 0 < errand_keeps waiting d (s.errand i)
+unfolding callers_sum
+in-hand-waits g s l f d i is has has_d bound at has_i hand =
+    let once = is.framed.once f has in
+    let hands = λ (j : ℕ). errand_frames f (s.errand j) in
+    elim (held-or-filled g s l f d is bound at) [
+      | inl one ↦
+          elim (cases_eq one.0 i) [
+            | inl same ↦ subst (λ j. 0 < errand_keeps waiting d (s.errand j)) same one.2
+            | inr ne ↦ absurd (omega (arith, once, one.3, hand, two-terms g.callers hands one.0 i one.1 has_i ne))
+          ]
+      | inr filled ↦
+          absurd
+          (omega (arith, once, filled, hand, term-sum g.callers hands i has_i, term-sum (descriptor_count g) (fills g s l f) d has_d))
     ]

@@ -52,7 +52,7 @@ use Rattle.sound_state.proofs.TagLemmas.{cleared-below}
 use Rattle.sound_state.proofs.WeighLemmas.{WeighClose, weigh-close}
 
 -- one more entry of a list
-occurs-push : (k d : ℕ) (xs : List ℕ) → occurs k (xs ++ d ∷ []) ≡ occurs k xs + (if d == k then 1 else 0)
+pub occurs-push : (k d : ℕ) (xs : List ℕ) → occurs k (xs ++ d ∷ []) ≡ occurs k xs + (if d == k then 1 else 0)
 occurs-push k d [] = omega arith
 occurs-push k d (x ∷ xs) = omega (arith, occurs-push k d xs)
 
@@ -131,7 +131,7 @@ retired_at e x d q =
     }
 
 -- where the list is full then, a scan begins
-settle-full :
+pub settle-full :
     (e : ErrandFields) (x : Found) (s : SeatFields) (d : ℕ) (o : Onward) → next_of e.point x ≡ Retire s d o → is_full e ≡ true
     → settle_of e x ≡ retired_at e x d (Desc (desc.ReadHazard s no_words 0) o)
 unfolding settle_of course_of
@@ -144,7 +144,7 @@ settle-at :
 unfolding settle_of course_of
 settle-at e x s d o q is few to = rw (is, few, to) refl
 
-settle-end :
+pub settle-end :
     (e : ErrandFields) (x : Found) (s : SeatFields) (d : ℕ) (o : Onward) → next_of e.point x ≡ Retire s d o → is_full e ≡ false
     → (r : Reply) → resumed s o ≡ End r → settle_of e x ≡ retired_at e x d Idle
 unfolding settle_of course_of
@@ -231,10 +231,10 @@ record WordsLeft (g : Geometry) (s : State) (who : ℕ) (e : ErrandFields) (word
 raised-by : (b : Bool) (n : ℕ) → n + 1 < 2 ^ 64 → raised b n ≡ n + one_if b
 raised-by b n most = grind (arith)
 
-raised-within : (b : Bool) (n : ℕ) → n < 2 ^ 64 → (n ≤ raised b n) × (raised b n < 2 ^ 64)
+pub raised-within : (b : Bool) (n : ℕ) → n < 2 ^ 64 → (n ≤ raised b n) × (raised b n < 2 ^ 64)
 raised-within b n most = grind (arith)
 
-one-most : (b : Bool) → one_if b ≤ 1
+pub one-most : (b : Bool) → one_if b ≤ 1
 one-most b = grind (arith)
 
 -- who keeps a descriptor, and nothing else, excepts no block
@@ -243,11 +243,11 @@ keeps-excepts :
 keeps-excepts d class h place (inl x) = omega (arith, x.2)
 keeps-excepts d class h place (inr x) = omega (arith, x.2)
 
-none-some : (d : ℕ) → ◌≡◌ {A = Option ℕ} None (Some d) → ⊥
+pub none-some : (d : ℕ) → ◌≡◌ {A = Option ℕ} None (Some d) → ⊥
 none-some d e = cc
 
 -- the list has one more entry than the heap has callers
-full-length : (e : ErrandFields) (d : ℕ) → is_full e ≡ true → length e.retired ≤ e.geometry.callers → length (e.retired ++ d ∷ []) ≡ e.geometry.callers + 1
+pub full-length : (e : ErrandFields) (d : ℕ) → is_full e ≡ true → length e.retired ≤ e.geometry.callers → length (e.retired ++ d ∷ []) ≡ e.geometry.callers + 1
 full-length e d full room =
     omega (arith, leb-true e.geometry.callers (length e.retired) full, room, length-append e.retired (d ∷ []))
 

@@ -19,26 +19,31 @@ use Rattle.stack_parts.specs.declared.point.StackPoint.{StackPoint}
 use Rattle.stack_parts.specs.declared.point.StackPoint.TheVariants as stack
 use Rattle.stack_parts.specs.Piles.{head_name}
 use Rattle.large_parts.specs.declared.point.LargePoint.{LargePoint}
-use Rattle.large_parts.specs.declared.point.LargePoint.TheVariants as large
 use Rattle.errand_steps.specs.declared.onward.Onward.{Onward}
 use Rattle.errand_steps.specs.declared.onward.Onward.TheVariants as onward
 use Rattle.errand_steps.specs.declared.point.Point.{Point}
 use Rattle.errand_steps.specs.declared.point.Point.TheVariants.{Idle, Block, Stack, Desc, Partial, Large}
 use Rattle.errand_steps.specs.Onwards.{is_finish, is_clearing, clears, fills}
 use Rattle.errand_steps.specs.Points.{asked, plan_point_of}
-use Rattle.errand_steps.specs.Steps.{State, Step, found_at}
-use Rattle.sound_state.specs.Shown.{shown_block, shown_stack, shown_desc, shown_partial, shown_large, is_shown}
+use Rattle.errand_steps.specs.Points.{is_idle}
+use Rattle.errand_steps.specs.Steps.{State, Step}
+use Rattle.sound_state.specs.Shown.{is_shown, is_shown_block, is_shown_large}
 use Rattle.sound_state.specs.Sound.{IsSoundWithoutCounts}
 use Rattle.sound_state.specs.Superblocks.{anchor_for}
 use Rattle.sound_state.proofs.DescPushes.{push_desc-sound}
 use Rattle.sound_state.proofs.DescSteps.{pop_desc-sound}
 use Rattle.sound_state.proofs.DiscardSteps.{install_superblock-sound}
 use Rattle.sound_state.proofs.PushSound.{push_block-sound}
+use Rattle.sound_state.proofs.InfoSteps.{store_owner-sound, store_info-sound}
+use Rattle.sound_state.proofs.PrefixSteps.{store_prefix-sound, store_link-sound, link_block-sound}
 use Rattle.sound_state.proofs.HazardSteps.{store_hazard-sound, reload_desc_head-sound, clear_after_pop-sound, clear_hazard_looks-sound, clear_hazard_ends-sound, store_guard-sound, read_hazard-sound}
 use Rattle.sound_state.proofs.PointLemmas.{fits-at, the-alloc, the-free}
 use Rattle.sound_state.proofs.PopSteps.{pop_block-sound}
 use Rattle.sound_state.proofs.ShiftSteps.{return_credits-sound, grant-sound}
 use Rattle.sound_state.proofs.StackSteps.{pop_top-sound}
+use Rattle.sound_state.proofs.StackRetires.{push_top-sound}
+use Rattle.sound_state.proofs.ConfirmSteps.{confirm_empty-sound}
+use Rattle.sound_state.proofs.TouchShown.{WritesWord, large-sound}
 use Rattle.sound_state.proofs.QuietBlocks.{load_active-sound}
 use Rattle.sound_state.proofs.QuietCredits.{take_credit-sound, install_credits-sound}
 use Rattle.sound_state.proofs.QuietDescs.{load_desc_head-sound, load_next_desc-sound, load_head_to_push-sound}
@@ -46,11 +51,9 @@ use Rattle.sound_state.proofs.QuietPops.{load_info-sound, load_anchor-sound, loa
 use Rattle.sound_state.proofs.QuietPushes.{load_owner-sound, load_prefix-sound, load_push_anchor-sound}
 use Rattle.sound_state.proofs.QuietPartials as partials
 use Rattle.sound_state.proofs.RetirePartials as retired
-use Rattle.sound_state.proofs.QuietEnds.{load_word-sound, put_block_lost-sound, take_block_lost-sound, confirm_nothing_lost-sound, clear_ends-sound}
-use Rattle.sound_state.proofs.QuietLarge.{load_units-sound, take_run_lost-sound, load_run_prefix-sound, load_shelf-sound}
-use Rattle.sound_state.proofs.QuietLemmas.{found_from}
+use Rattle.sound_state.proofs.QuietEnds.{clear_ends-sound}
 use Rattle.sound_state.proofs.QuietLinks.{store_below-sound, store_next_desc-sound}
-use Rattle.sound_state.proofs.QuietStacks.{load_top-sound, load_below-sound, confirm_empty_lost-sound, load_top_to_push-sound, push_top_lost-sound}
+use Rattle.sound_state.proofs.QuietStacks.{load_top-sound, load_below-sound, load_top_to_push-sound}
 
 -- a lost exchange finds another word
 pub differs : (w e : ℕ) → not (w == e) ≡ true → w ≢ e
@@ -105,57 +108,31 @@ top-sound g s who s' seat pile o sound has at step =
 
 shown-stack :
     (g : Geometry) (s : State) (who : ℕ) (s' : State) (p : StackPoint) (o : Onward) → IsSoundWithoutCounts g s → who < g.callers
-    → (s.errand who).point ≡ Stack p o → IsTrue (shown_stack p (found_from s (Stack p o))) → Step s who s' → IsSoundWithoutCounts g s'
+    → (s.errand who).point ≡ Stack p o → Step s who s' → IsSoundWithoutCounts g s'
 unfolding plan_point_of
-shown-stack g s who s' (stack.LoadTop seat pile) o sound has at shown step = top-sound g s who s' seat pile o sound has at step
-shown-stack g s who s' (stack.LoadBelow seat pile h) o sound has at shown step = load_below-sound g s who s' seat pile h o sound has at step
-shown-stack g s who s' (stack.PopTop seat pile h below) o sound has at shown step =
+shown-stack g s who s' (stack.LoadTop seat pile) o sound has at step = top-sound g s who s' seat pile o sound has at step
+shown-stack g s who s' (stack.LoadBelow seat pile h) o sound has at step = load_below-sound g s who s' seat pile h o sound has at step
+shown-stack g s who s' (stack.PopTop seat pile h below) o sound has at step =
     pop_top-sound g s who s' seat pile h below o sound has at step
-shown-stack g s who s' (stack.ConfirmEmpty seat pile h) o sound has at shown step =
-    confirm_empty_lost-sound g s who s' seat pile h o sound has at (differs _ _ shown) step
-shown-stack g s who s' (stack.LoadTopToPush seat pile i) o sound has at shown step =
+shown-stack g s who s' (stack.ConfirmEmpty seat pile h) o sound has at step =
+    confirm_empty-sound g s who s' seat pile h o sound has at step
+shown-stack g s who s' (stack.LoadTopToPush seat pile i) o sound has at step =
     load_top_to_push-sound g s who s' seat pile i o sound has at step
-shown-stack g s who s' (stack.StoreBelow seat pile i h) o sound has at shown step = store_below-sound g s who s' seat pile i h o sound has at step
-shown-stack g s who s' (stack.PushTop seat pile i h) o sound has at shown step =
-    push_top_lost-sound g s who s' seat pile i h o sound has at (differs _ _ shown) step
-shown-stack g s who s' (stack.Popped seat pile i) o sound has at shown step = absurd (true≢false (sym shown))
-shown-stack g s who s' (stack.FoundEmpty seat pile h) o sound has at shown step = absurd (true≢false (sym shown))
-shown-stack g s who s' (stack.ConfirmedEmpty seat pile) o sound has at shown step = absurd (true≢false (sym shown))
-shown-stack g s who s' (stack.Pushed seat pile) o sound has at shown step = absurd (true≢false (sym shown))
-
-shown-large :
-    (g : Geometry) (s : State) (who : ℕ) (s' : State) (p : LargePoint) (o : Onward) → IsSoundWithoutCounts g s → who < g.callers
-    → (s.errand who).point ≡ Large p o → IsTrue (shown_large p (found_from s (Large p o))) → Step s who s' → IsSoundWithoutCounts g s'
-unfolding plan_point_of
-shown-large g s who s' (large.LoadUnits w) o sound has at shown step = load_units-sound g s who s' w o sound has at step
-shown-large g s who s' (large.TakeRun w bits) o sound has at shown step =
-    take_run_lost-sound g s who s' w bits o sound has at (differs _ _ shown) step
-shown-large g s who s' (large.StoreRunPrefix place run) o sound has at shown step = absurd (true≢false (sym shown))
-shown-large g s who s' (large.LoadRunPrefix place run) o sound has at shown step = load_run_prefix-sound g s who s' place run o sound has at step
-shown-large g s who s' (large.FreeRun place run) o sound has at shown step = absurd (true≢false (sym shown))
-shown-large g s who s' (large.StoreWord place i value) o sound has at shown step = absurd (true≢false (sym shown))
-shown-large g s who s' (large.LoadWord place i) o sound has at shown step = load_word-sound g s who s' place i o sound has at step
-shown-large g s who s' (large.PutBlock k place need) o sound has at shown step =
-    put_block_lost-sound g s who s' k place need o sound has at (differs _ _ shown) step
-shown-large g s who s' (large.LoadShelf k) o sound has at shown step = load_shelf-sound g s who s' k o sound has at step
-shown-large g s who s' (large.TakeBlock k place need) o sound has at shown step =
-    take_block_lost-sound g s who s' k place need o sound has at (differs _ _ shown) step
-shown-large g s who s' (large.ConfirmNothing k) o sound has at shown step =
-    confirm_nothing_lost-sound g s who s' k o sound has at (differs _ _ shown) step
-shown-large g s who s' (large.GivenRun place run) o sound has at shown step = absurd (true≢false (sym shown))
-shown-large g s who s' large.NoRun o sound has at shown step = absurd (true≢false (sym shown))
-shown-large g s who s' large.FreedRun o sound has at shown step = absurd (true≢false (sym shown))
-shown-large g s who s' large.Wrote o sound has at shown step = absurd (true≢false (sym shown))
-shown-large g s who s' (large.Word value) o sound has at shown step = absurd (true≢false (sym shown))
-shown-large g s who s' large.PutDone o sound has at shown step = absurd (true≢false (sym shown))
-shown-large g s who s' (large.ShelfFull found) o sound has at shown step = absurd (true≢false (sym shown))
-shown-large g s who s' (large.Got place need) o sound has at shown step = absurd (true≢false (sym shown))
-shown-large g s who s' large.NothingThere o sound has at shown step = absurd (true≢false (sym shown))
-shown-large g s who s' (large.Missed expected found) o sound has at shown step = absurd (true≢false (sym shown))
+shown-stack g s who s' (stack.StoreBelow seat pile i h) o sound has at step = store_below-sound g s who s' seat pile i h o sound has at step
+shown-stack g s who s' (stack.PushTop seat pile i h) o sound has at step =
+    push_top-sound g s who s' seat pile i h o sound has at step
+shown-stack g s who s' (stack.Popped seat pile i) o sound has at step =
+    absurd (true≢false (fits-at g s sound.parts.0 who _ sound.parts.1 has at).inside)
+shown-stack g s who s' (stack.FoundEmpty seat pile h) o sound has at step =
+    absurd (true≢false (fits-at g s sound.parts.0 who _ sound.parts.1 has at).inside)
+shown-stack g s who s' (stack.ConfirmedEmpty seat pile) o sound has at step =
+    absurd (true≢false (fits-at g s sound.parts.0 who _ sound.parts.1 has at).inside)
+shown-stack g s who s' (stack.Pushed seat pile) o sound has at step =
+    absurd (true≢false (fits-at g s sound.parts.0 who _ sound.parts.1 has at).inside)
 
 shown-block :
     (g : Geometry) (s : State) (who : ℕ) (s' : State) (p : BlockPoint) (o : Onward) → IsSoundWithoutCounts g s → who < g.callers
-    → (s.errand who).point ≡ Block p o → IsTrue (shown_block p (found_from s (Block p o))) → Step s who s' → IsSoundWithoutCounts g s'
+    → (s.errand who).point ≡ Block p o → IsTrue (is_shown_block p) → Step s who s' → IsSoundWithoutCounts g s'
 unfolding plan_point_of
 shown-block g s who s' (block.LoadActive seat) o sound has at shown step =
     let is : o ≡ onward.Alloc (asked o) = the-alloc o (fits-at g s sound.parts.0 who _ sound.parts.1 has at).goes in
@@ -167,7 +144,7 @@ shown-block g s who s' (block.LoadAnchor site share) o sound has at shown step =
 shown-block g s who s' (block.LoadLink site share a) o sound has at shown step = load_link-sound g s who s' site share a o sound has at step
 shown-block g s who s' (block.PopBlock site share a prefix) o sound has at shown step =
     pop_block-sound g s who s' site share a prefix o sound has at step
-shown-block g s who s' (block.StorePrefix site i) o sound has at shown step = absurd (true≢false (sym shown))
+shown-block g s who s' (block.StorePrefix site i) o sound has at shown step = store_prefix-sound g s who s' site i o sound has at step
 shown-block g s who s' (block.InstallCredits site i more) o sound has at shown step =
     install_credits-sound g s who s' site i more o sound has at step
 shown-block g s who s' (block.InstallSuperblock site) o sound has at shown step =
@@ -180,19 +157,27 @@ shown-block g s who s' (block.LoadPushAnchor site i guarded) o sound has at show
     load_push_anchor-sound g s who s' site i guarded o sound has at step
 shown-block g s who s' (block.StoreGuard site i a) o sound has at shown step = store_guard-sound g s who s' site i a o sound has at step
 shown-block g s who s' (block.LoadOwner site i a) o sound has at shown step = load_owner-sound g s who s' site i a o sound has at step
-shown-block g s who s' (block.StoreLink site i a guarded heap) o sound has at shown step = absurd (true≢false (sym shown))
+shown-block g s who s' (block.StoreLink site i a guarded heap) o sound has at shown step =
+    store_link-sound g s who s' site i a guarded heap o sound has at step
 shown-block g s who s' (block.PushBlock site i a guarded heap) o sound has at shown step =
     push_block-sound g s who s' site i a guarded heap o sound has at step
-shown-block g s who s' (block.LinkBlock site i) o sound has at shown step = absurd (true≢false (sym shown))
-shown-block g s who s' (block.StoreInfo site) o sound has at shown step = absurd (true≢false (sym shown))
+shown-block g s who s' (block.LinkBlock site i) o sound has at shown step = link_block-sound g s who s' site i o sound has at step
+shown-block g s who s' (block.StoreInfo site) o sound has at shown step = store_info-sound g s who s' site o sound has at step
 shown-block g s who s' (block.StoreAnchor site) o sound has at shown step = absurd (true≢false (sym shown))
-shown-block g s who s' (block.WantsPartial seat) o sound has at shown step = absurd (true≢false (sym shown))
-shown-block g s who s' (block.Returned site i) o sound has at shown step = absurd (true≢false (sym shown))
-shown-block g s who s' (block.Discarded site) o sound has at shown step = absurd (true≢false (sym shown))
-shown-block g s who s' (block.Given site i) o sound has at shown step = absurd (true≢false (sym shown))
-shown-block g s who s' (block.BecameEmpty site heap) o sound has at shown step = absurd (true≢false (sym shown))
-shown-block g s who s' (block.BecamePartial site guarded) o sound has at shown step = absurd (true≢false (sym shown))
-shown-block g s who s' (block.Pushed seat guarded) o sound has at shown step = absurd (true≢false (sym shown))
+shown-block g s who s' (block.WantsPartial seat) o sound has at shown step =
+    absurd (true≢false (fits-at g s sound.parts.0 who _ sound.parts.1 has at).inside)
+shown-block g s who s' (block.Returned site i) o sound has at shown step =
+    absurd (true≢false (fits-at g s sound.parts.0 who _ sound.parts.1 has at).inside)
+shown-block g s who s' (block.Discarded site) o sound has at shown step =
+    absurd (true≢false (fits-at g s sound.parts.0 who _ sound.parts.1 has at).inside)
+shown-block g s who s' (block.Given site i) o sound has at shown step =
+    absurd (true≢false (fits-at g s sound.parts.0 who _ sound.parts.1 has at).inside)
+shown-block g s who s' (block.BecameEmpty site heap) o sound has at shown step =
+    absurd (true≢false (fits-at g s sound.parts.0 who _ sound.parts.1 has at).inside)
+shown-block g s who s' (block.BecamePartial site guarded) o sound has at shown step =
+    absurd (true≢false (fits-at g s sound.parts.0 who _ sound.parts.1 has at).inside)
+shown-block g s who s' (block.Pushed seat guarded) o sound has at shown step =
+    absurd (true≢false (fits-at g s sound.parts.0 who _ sound.parts.1 has at).inside)
 
 -- a free clears its hazard word to look through the list, to retire what it removed, or to end
 clears-cases :
@@ -216,30 +201,34 @@ clears-cases P looks ends retires onward.Nothing is = absurd (true≢false (sym 
 
 shown-desc :
     (g : Geometry) (s : State) (who : ℕ) (s' : State) (p : DescPoint) (o : Onward) → IsSoundWithoutCounts g s → who < g.callers
-    → (s.errand who).point ≡ Desc p o → IsTrue (shown_desc p o (found_from s (Desc p o))) → Step s who s' → IsSoundWithoutCounts g s'
+    → (s.errand who).point ≡ Desc p o → Step s who s' → IsSoundWithoutCounts g s'
 unfolding plan_point_of
-shown-desc g s who s' (desc.LoadDescHead seat) o sound has at shown step = load_desc_head-sound g s who s' seat o sound has at step
-shown-desc g s who s' (desc.StoreHazard seat d) o sound has at shown step = store_hazard-sound g s who s' seat d o sound has at step
-shown-desc g s who s' (desc.ReloadDescHead seat d) o sound has at shown step =
+shown-desc g s who s' (desc.LoadDescHead seat) o sound has at step = load_desc_head-sound g s who s' seat o sound has at step
+shown-desc g s who s' (desc.StoreHazard seat d) o sound has at step = store_hazard-sound g s who s' seat d o sound has at step
+shown-desc g s who s' (desc.ReloadDescHead seat d) o sound has at step =
     reload_desc_head-sound g s who s' seat d o sound has at step
-shown-desc g s who s' (desc.LoadNextDesc seat d) o sound has at shown step = load_next_desc-sound g s who s' seat d o sound has at step
-shown-desc g s who s' (desc.PopDesc seat d next) o sound has at shown step =
+shown-desc g s who s' (desc.LoadNextDesc seat d) o sound has at step = load_next_desc-sound g s who s' seat d o sound has at step
+shown-desc g s who s' (desc.PopDesc seat d next) o sound has at step =
     pop_desc-sound g s who s' seat d next o sound has at step
-shown-desc g s who s' (desc.ClearAfterPop seat d) o sound has at shown step = clear_after_pop-sound g s who s' seat d o sound has at step
-shown-desc g s who s' (desc.ClearHazard seat) o sound has at shown step =
+shown-desc g s who s' (desc.ClearAfterPop seat d) o sound has at step = clear_after_pop-sound g s who s' seat d o sound has at step
+shown-desc g s who s' (desc.ClearHazard seat) o sound has at step =
     clears-cases (λ o. (s.errand who).point ≡ Desc (desc.ClearHazard seat) o → IsSoundWithoutCounts g s')
     (λ at. clear_hazard_looks-sound g s who s' seat sound has at step) (λ at. clear_hazard_ends-sound g s who s' seat sound has at step)
     (λ d at. retired.clear_hazard_retires-sound g s who s' seat d sound has at step) o
     (fits-at g s sound.parts.0 who _ sound.parts.1 has at).goes at
-shown-desc g s who s' (desc.ReadHazard seat held i) o sound has at shown step = read_hazard-sound g s who s' seat held i o sound has at step
-shown-desc g s who s' (desc.LoadHeadToPush seat d) o sound has at shown step = load_head_to_push-sound g s who s' seat d o sound has at step
-shown-desc g s who s' (desc.StoreNextDesc seat d top) o sound has at shown step = store_next_desc-sound g s who s' seat d top o sound has at step
-shown-desc g s who s' (desc.PushDesc seat d top) o sound has at shown step =
+shown-desc g s who s' (desc.ReadHazard seat held i) o sound has at step = read_hazard-sound g s who s' seat held i o sound has at step
+shown-desc g s who s' (desc.LoadHeadToPush seat d) o sound has at step = load_head_to_push-sound g s who s' seat d o sound has at step
+shown-desc g s who s' (desc.StoreNextDesc seat d top) o sound has at step = store_next_desc-sound g s who s' seat d top o sound has at step
+shown-desc g s who s' (desc.PushDesc seat d top) o sound has at step =
     push_desc-sound g s who s' seat d top o sound has at step
-shown-desc g s who s' (desc.Got seat d) o sound has at shown step = absurd (true≢false (sym shown))
-shown-desc g s who s' (desc.Cleared seat) o sound has at shown step = absurd (true≢false (sym shown))
-shown-desc g s who s' (desc.Scanned seat held) o sound has at shown step = absurd (true≢false (sym shown))
-shown-desc g s who s' (desc.Pushed seat d) o sound has at shown step = absurd (true≢false (sym shown))
+shown-desc g s who s' (desc.Got seat d) o sound has at step =
+    absurd (true≢false (fits-at g s sound.parts.0 who _ sound.parts.1 has at).inside)
+shown-desc g s who s' (desc.Cleared seat) o sound has at step =
+    absurd (true≢false (fits-at g s sound.parts.0 who _ sound.parts.1 has at).inside)
+shown-desc g s who s' (desc.Scanned seat held) o sound has at step =
+    absurd (true≢false (fits-at g s sound.parts.0 who _ sound.parts.1 has at).inside)
+shown-desc g s who s' (desc.Pushed seat d) o sound has at step =
+    absurd (true≢false (fits-at g s sound.parts.0 who _ sound.parts.1 has at).inside)
 
 -- a superblock is put into a slot for a block that is given, or to finish a free
 fills-cases :
@@ -356,59 +345,72 @@ listed-sound g s who s' seat d o sound has at step =
 
 shown-partial :
     (g : Geometry) (s : State) (who : ℕ) (s' : State) (p : PartialPoint) (o : Onward) → IsSoundWithoutCounts g s → who < g.callers
-    → (s.errand who).point ≡ Partial p o → IsTrue (shown_partial p o (found_from s (Partial p o))) → Step s who s' → IsSoundWithoutCounts g s'
+    → (s.errand who).point ≡ Partial p o → Step s who s' → IsSoundWithoutCounts g s'
 unfolding plan_point_of
-shown-partial g s who s' (partial.LoadSlot seat) o sound has at shown step =
+shown-partial g s who s' (partial.LoadSlot seat) o sound has at step =
     let is : o ≡ onward.Alloc (asked o) = the-alloc o (fits-at g s sound.parts.0 who _ sound.parts.1 has at).goes in
     partials.load_slot-sound g s who s' seat (asked o) sound has (at ∙ ap (Partial (partial.LoadSlot seat)) is) step
-shown-partial g s who s' (partial.TakeSlot seat d) o sound has at shown step =
+shown-partial g s who s' (partial.TakeSlot seat d) o sound has at step =
     let is : o ≡ onward.Alloc (asked o) = the-alloc o (fits-at g s sound.parts.0 who _ sound.parts.1 has at).goes in
     partials.take_slot-sound g s who s' seat d (asked o) sound has (at ∙ ap (Partial (partial.TakeSlot seat d)) is) step
-shown-partial g s who s' (partial.LoadTakenInfo seat d) o sound has at shown step =
+shown-partial g s who s' (partial.LoadTakenInfo seat d) o sound has at step =
     let is : o ≡ onward.Alloc (asked o) = the-alloc o (fits-at g s sound.parts.0 who _ sound.parts.1 has at).goes in
     partials.load_taken_info-sound g s who s' seat d (asked o) sound has (at ∙ ap (Partial (partial.LoadTakenInfo seat d)) is) step
-shown-partial g s who s' (partial.StoreOwner site) o sound has at shown step = absurd (true≢false (sym shown))
-shown-partial g s who s' (partial.LoadGrantAnchor site) o sound has at shown step =
+shown-partial g s who s' (partial.StoreOwner site) o sound has at step = store_owner-sound g s who s' site o sound has at step
+shown-partial g s who s' (partial.LoadGrantAnchor site) o sound has at step =
     let is : o ≡ onward.Alloc (asked o) = the-alloc o (fits-at g s sound.parts.0 who _ sound.parts.1 has at).goes in
     taken-sound g s who s' site (asked o) sound has (at ∙ ap (Partial (partial.LoadGrantAnchor site)) is) step
-shown-partial g s who s' (partial.Grant site a) o sound has at shown step =
+shown-partial g s who s' (partial.Grant site a) o sound has at step =
     let is : o ≡ onward.Alloc (asked o) = the-alloc o (fits-at g s sound.parts.0 who _ sound.parts.1 has at).goes in
     grant-sound g s who s' site a (asked o) sound has (at ∙ ap (Partial (partial.Grant site a)) is) step
-shown-partial g s who s' (partial.LoadOwner seat d) o sound has at shown step =
+shown-partial g s who s' (partial.LoadOwner seat d) o sound has at step =
     finish-cases (λ o. (s.errand who).point ≡ Partial (partial.LoadOwner seat d) o → IsSoundWithoutCounts g s')
     (λ guarded at. partials.load_owner-sound g s who s' seat d guarded sound has at step) o
     (fits-at g s sound.parts.0 who _ sound.parts.1 has at).goes at
-shown-partial g s who s' (partial.PutSlot seat d heap) o sound has at shown step = put-sound g s who s' seat d heap o sound has at step
-shown-partial g s who s' (partial.LoadHeldSlot seat d heap) o sound has at shown step =
+shown-partial g s who s' (partial.PutSlot seat d heap) o sound has at step = put-sound g s who s' seat d heap o sound has at step
+shown-partial g s who s' (partial.LoadHeldSlot seat d heap) o sound has at step =
     let is : o ≡ onward.Free = the-free o (fits-at g s sound.parts.0 who _ sound.parts.1 has at).goes in
     partials.load_held_slot-sound g s who s' seat d heap sound has (at ∙ ap (Partial (partial.LoadHeldSlot seat d heap)) is) step
-shown-partial g s who s' (partial.RemoveFromSlot seat d heap) o sound has at shown step =
+shown-partial g s who s' (partial.RemoveFromSlot seat d heap) o sound has at step =
     let is : o ≡ onward.Free = the-free o (fits-at g s sound.parts.0 who _ sound.parts.1 has at).goes in
     partials.remove_from_slot-sound g s who s' seat d heap sound has (at ∙ ap (Partial (partial.RemoveFromSlot seat d heap)) is) step
-shown-partial g s who s' (partial.LoadListedAnchor seat d) o sound has at shown step = listed-sound g s who s' seat d o sound has at step
-shown-partial g s who s' (partial.SlotEmpty seat) o sound has at shown step = absurd (true≢false (sym shown))
-shown-partial g s who s' (partial.Granted site more) o sound has at shown step = absurd (true≢false (sym shown))
-shown-partial g s who s' (partial.TookEmpty site) o sound has at shown step = absurd (true≢false (sym shown))
-shown-partial g s who s' (partial.SlotFilled seat) o sound has at shown step = absurd (true≢false (sym shown))
-shown-partial g s who s' (partial.Displaced seat d) o sound has at shown step = absurd (true≢false (sym shown))
-shown-partial g s who s' (partial.NotInSlot seat) o sound has at shown step = absurd (true≢false (sym shown))
-shown-partial g s who s' (partial.Removed seat d) o sound has at shown step = absurd (true≢false (sym shown))
-shown-partial g s who s' (partial.ListedEmpty seat d) o sound has at shown step = absurd (true≢false (sym shown))
-shown-partial g s who s' (partial.ListedPartial seat d) o sound has at shown step = absurd (true≢false (sym shown))
+shown-partial g s who s' (partial.LoadListedAnchor seat d) o sound has at step = listed-sound g s who s' seat d o sound has at step
+shown-partial g s who s' (partial.SlotEmpty seat) o sound has at step =
+    absurd (true≢false (fits-at g s sound.parts.0 who _ sound.parts.1 has at).inside)
+shown-partial g s who s' (partial.Granted site more) o sound has at step =
+    absurd (true≢false (fits-at g s sound.parts.0 who _ sound.parts.1 has at).inside)
+shown-partial g s who s' (partial.TookEmpty site) o sound has at step =
+    absurd (true≢false (fits-at g s sound.parts.0 who _ sound.parts.1 has at).inside)
+shown-partial g s who s' (partial.SlotFilled seat) o sound has at step =
+    absurd (true≢false (fits-at g s sound.parts.0 who _ sound.parts.1 has at).inside)
+shown-partial g s who s' (partial.Displaced seat d) o sound has at step =
+    absurd (true≢false (fits-at g s sound.parts.0 who _ sound.parts.1 has at).inside)
+shown-partial g s who s' (partial.NotInSlot seat) o sound has at step =
+    absurd (true≢false (fits-at g s sound.parts.0 who _ sound.parts.1 has at).inside)
+shown-partial g s who s' (partial.Removed seat d) o sound has at step =
+    absurd (true≢false (fits-at g s sound.parts.0 who _ sound.parts.1 has at).inside)
+shown-partial g s who s' (partial.ListedEmpty seat d) o sound has at step =
+    absurd (true≢false (fits-at g s sound.parts.0 who _ sound.parts.1 has at).inside)
+shown-partial g s who s' (partial.ListedPartial seat d) o sound has at step =
+    absurd (true≢false (fits-at g s sound.parts.0 who _ sound.parts.1 has at).inside)
 
--- a step that is shown keeps the state sound
+-- what is written is a number of 64 bits
+writes-word : (p : LargePoint) → IsTrue (is_shown_large p) → WritesWord p
+writes-word p shown = grind (arith, shown)
+
+-- a step from a point that is shown keeps the state sound
 shown-at :
     (g : Geometry) (s : State) (who : ℕ) (s' : State) (p : Point) → IsSoundWithoutCounts g s → who < g.callers → (s.errand who).point ≡ p
-    → IsTrue (is_shown p (found_from s p)) → Step s who s' → IsSoundWithoutCounts g s'
+    → IsTrue (is_shown p) → Step s who s' → IsSoundWithoutCounts g s'
 unfolding is_shown
-shown-at g s who s' Idle sound has at shown step = absurd (true≢false (sym shown))
+shown-at g s who s' Idle sound has at shown step = absurd (true≢false (sym (ap is_idle at) ∙ step.busy))
 shown-at g s who s' (Block p o) sound has at shown step = shown-block g s who s' p o sound has at shown step
-shown-at g s who s' (Stack p o) sound has at shown step = shown-stack g s who s' p o sound has at shown step
-shown-at g s who s' (Desc p o) sound has at shown step = shown-desc g s who s' p o sound has at shown step
-shown-at g s who s' (Partial p o) sound has at shown step = shown-partial g s who s' p o sound has at shown step
-shown-at g s who s' (Large p o) sound has at shown step = shown-large g s who s' p o sound has at shown step
+shown-at g s who s' (Stack p o) sound has at shown step = shown-stack g s who s' p o sound has at step
+shown-at g s who s' (Desc p o) sound has at shown step = shown-desc g s who s' p o sound has at step
+shown-at g s who s' (Partial p o) sound has at shown step = shown-partial g s who s' p o sound has at step
+shown-at g s who s' (Large p o) sound has at shown step = large-sound g s who s' p o sound has at (writes-word p shown) step
 
 pub shown-sound :
     (g : Geometry) (s : State) (who : ℕ) (s' : State) → IsSoundWithoutCounts g s → who < g.callers
-    → IsTrue (is_shown (s.errand who).point (found_at s who)) → Step s who s' → IsSoundWithoutCounts g s'
+    → IsTrue (is_shown (s.errand who).point) → Step s who s' → IsSoundWithoutCounts g s'
 shown-sound g s who s' sound has shown step = shown-at g s who s' (s.errand who).point sound has refl shown step

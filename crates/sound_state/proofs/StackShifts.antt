@@ -132,7 +132,7 @@ balance-back l l' h h' b = record {
 }
 
 -- one more partly used superblock that is kept
-kept-more :
+pub kept-more :
     (d x class : ℕ) (ks : List Kept)
     → kept_places d (record { desc = x; class = class; status = partly_used } ∷ ks) ≡ (if x == d then 1 else 0) + kept_places d ks
 kept-more d x class ks = grind (arith)
@@ -487,7 +487,7 @@ may-stand g s l who a b m goes cleared = record {
   full = m.full;
   hands = m.hands;
   frees = m.frees;
-  excepts = m.excepts;
+  excepts = goes.excepts;
   own_turns = m.own_turns;
   own_lost = m.own_lost;
   cleared = cleared;

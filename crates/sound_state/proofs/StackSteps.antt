@@ -52,19 +52,19 @@ use Rattle.sound_state.proofs.StepLemmas.{TurnGoes}
 use Rattle.sound_state.proofs.TagLemmas.{frame-tag-below, list-tags-below}
 
 -- the tag of a stack's head has room
-tag-room :
+pub tag-room :
     (g : Geometry) (s : State) (seat : SeatFields) (pile : Pile) → IsSoundWithoutCounts g s → seat.class < CLASSES
     → (head_of (s.word (head_name seat pile))).tag + 1 < 2 ^ HEAD_TAG_BITS
 tag-room g s seat Frames sound has = frame-tag-below g s sound
 tag-room g s seat Partials sound has = list-tags-below g s sound seat.class has
 
 -- an index and the number above it fit a top
-limit-room : (g : Geometry) (pile : Pile) → IsChecked g → pile_limit g pile < 2 ^ TOP_BITS
+pub limit-room : (g : Geometry) (pile : Pile) → IsChecked g → pile_limit g pile < 2 ^ TOP_BITS
 limit-room g Frames checked = omega (arith, checked.frames.1)
 limit-room g Partials checked = omega (arith, descriptor_count_within g checked)
 
 -- the words with another head make the lists with another one
-listed-with :
+pub listed-with :
     (g : Geometry) (s : State) (l : Lists) (seat : SeatFields) (pile : Pile) (new : HeadFields) (xs : List ℕ) (words' : WordName → ℕ)
     → IsListed g s.word l → IsHead new → Writes s.word (head_name seat pile) (head_word new) words'
     → Stacked (next_in s.word pile) new.top xs → All (λ i. i < pile_limit g pile) xs → IsListed g words' (with_list l seat pile xs)
@@ -120,7 +120,7 @@ listed-with g s l seat Partials new xs words' listed fits w stacked exist =
     }
 
 -- the superblocks of all lists are partly used, where those of the new one are
-partly-with :
+pub partly-with :
     (s : State) (l : Lists) (seat : SeatFields) (pile : Pile) (xs : List ℕ)
     → ((class : ℕ) → class < CLASSES → All (λ d. IsPartlyUsed s d class) (l.partials class))
     → (pile ≡ Partials → All (λ d. IsPartlyUsed s d seat.class) xs) → (class : ℕ) → class < CLASSES
@@ -150,14 +150,14 @@ top-of next top (x ∷ xs) stacked some =
     record { rest = xs; whole = ap (λ y. y ∷ xs) here; stacked = subst (λ y. Stacked next (next y) xs) here stacked.1 }
 
 -- the partial superblocks of a list are partly used
-list-partly :
+pub list-partly :
     (g : Geometry) (s : State) (l : Lists) (seat : SeatFields) (pile : Pile) → IsSoundWith g s l → seat.class < CLASSES → pile ≡ Partials
     → All (λ d. IsPartlyUsed s d seat.class) (list_of l seat pile)
 list-partly g s l seat Frames old has is = absurd (cc)
 list-partly g s l seat Partials old has is = old.kept.listed seat.class has
 
 -- so what is kept with one more of them in hand is in its state, and what is kept without it
-abbrev AreKept : State → List Kept → Type 0
+abbrev pub AreKept : State → List Kept → Type 0
 AreKept s ks = All (λ k. IsKeptAs s k.status k.desc k.class) ks
 
 keeps-more :
@@ -168,14 +168,14 @@ keeps-more s seat Partials x a b more is kept =
     subst (AreKept s) (sym more.0)
     (All-cons (λ k. IsKeptAs s k.status k.desc k.class) (record { desc = x; class = seat.class; status = partly_used }) a.kept (is refl) kept)
 
-keeps-less :
+pub keeps-less :
     (s : State) (seat : SeatFields) (pile : Pile) (x : ℕ) (a b : Holding) → HoldsMore seat pile x a b → AreKept s b.kept → AreKept s a.kept
 keeps-less s seat Frames x a b more kept = subst (AreKept s) more.0 kept
 keeps-less s seat Partials x a b more kept =
     All-tail (λ k. IsKeptAs s k.status k.desc k.class) (record { desc = x; class = seat.class; status = partly_used }) a.kept
     (subst (AreKept s) more.0 kept)
 
-in-hand :
+pub in-hand :
     (s : State) (seat : SeatFields) (pile : Pile) (x : ℕ) (a b : Holding) → HoldsMore seat pile x a b → AreKept s b.kept → pile ≡ Partials
     → IsPartlyUsed s x seat.class
 in-hand s seat Frames x a b more kept is = absurd (cc)
@@ -669,15 +669,15 @@ push-leads seat Frames i h (onward.ClearSecond first) is goes = absurd (cc)
 push-leads seat Frames i h onward.Nothing is goes = absurd (cc)
 
 -- what holds is true
-holds-true : (b : Bool) → IsTrue b → b ≡ true
+pub holds-true : (b : Bool) → IsTrue b → b ≡ true
 holds-true b is = grind (arith, is)
 
 -- a won push onto a stack, after which nothing is retired
-pub push_top_won-sound :
+pub push_going_on-sound :
     (g : Geometry) (s : State) (who : ℕ) (s' : State) (seat : SeatFields) (pile : Pile) (i : ℕ) (h : HeadFields) (o : Onward)
     → IsSoundWithoutCounts g s → who < g.callers → (s.errand who).point ≡ Stack (stack.PushTop seat pile i h) o → keeps_list o ≡ true
     → s.word (head_name seat pile) ≡ head_word h → Step s who s' → IsSoundWithoutCounts g s'
-push_top_won-sound g s who s' seat pile i h o sound has at goes word step =
+push_going_on-sound g s who s' seat pile i h o sound has at goes word step =
     let fit = fits-at g s sound.parts.0 who (Stack (stack.PushTop seat pile i h) o) sound.parts.1 has at in
     let leads = push-leads seat pile i h o (holds-true (pushes pile o) fit.goes) goes in
     push-leads-sound g s who s' seat pile i h o leads.0 leads.1 sound has at word step

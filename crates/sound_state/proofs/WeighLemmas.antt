@@ -122,11 +122,14 @@ weigh-close g s l who n new e s' exists has w m past bound weigh =
       places = λ d.
           omega (arith, words (word_keeps d), callers (errand_has d), weigh.places d, ap (λ a. full_keeps a.state) (anchor d));
       frames = λ f. omega (arith, callers (errand_frames f), weigh.frames f);
-      stock = λ class.
-          let full : sum_below (descriptor_count g) (full_stock s' class) ≡ sum_below (descriptor_count g) (full_stock s class) =
-          sum-same (descriptor_count g) (full_stock s class) (full_stock s' class)
-          (λ d lt. rw (anchor d, ap (λ x. info_or_zero (info_of x)) (plain (name.Info d) tt)) refl) in
-          omega (arith, words (word_stock class), callers (errand_stock class), weigh.stock class, full);
+      stock = λ stocked.
+          record {
+            most = λ class has.
+                let full : sum_below (descriptor_count g) (full_stock s' class) ≡ sum_below (descriptor_count g) (full_stock s class) =
+                sum-same (descriptor_count g) (full_stock s class) (full_stock s' class)
+                (λ d lt. rw (anchor d, ap (λ x. info_or_zero (info_of x)) (plain (name.Info d) tt)) refl) in
+                omega (arith, words (word_stock class), callers (errand_stock class), weigh.stock class, full, stocked.most class has);
+          };
     }
 
 pub weigh-alike :

@@ -10,9 +10,9 @@ ghost use Rattle.pool_model.specs.Legal.{IsLegal};
 ghost use Rattle.errand_steps.specs.Begins.{IsIdle, alloc_begun, free_begun, write_begun, read_begun, put_begun, take_begun};
 ghost use Rattle.errand_steps.specs.Errands.{ErrandFields};
 ghost use Rattle.errand_steps.specs.Openings.{opening, installed, IsOpening};
-ghost use Rattle.errand_steps.specs.Steps.{State, Moves, Step, found_at};
+ghost use Rattle.errand_steps.specs.Steps.{State, Moves, Step, found_at, event_at};
 ghost use Rattle.sound_state.specs.Recalls.{IsOwned};
-ghost use Rattle.sound_state.specs.Shown.{is_shown};
+ghost use Rattle.sound_state.specs.Shown.{is_shown, is_uncounted};
 ghost use Rattle.sound_state.specs.Sound.{IsSound, IsSoundWithoutCounts, with_errands};
 
 pub mod consequences;
@@ -59,12 +59,14 @@ pub fn begun_calls_keep_sound()
         → Moves s.errand who (take_begun (s.errand who) shelf) errands → IsSoundWithoutCounts g (with_errands s errands) }
 {}
 
-/// A step that is named as shown keeps the state sound, with the counts and without.
+/// A step from a point that is named as shown keeps the state sound without counts; and with them
+/// too, unless it tells a look or a refusal.
 pub fn shown_steps_keep_sound()
     ensures without_counts { (g : Geometry) (s : State) (who : ℕ) (after : State)
         → IsSoundWithoutCounts g s → who < g.callers
-        → IsTrue (is_shown (s.errand who).point (found_at s who)) → Step s who after
+        → IsTrue (is_shown (s.errand who).point) → Step s who after
         → IsSoundWithoutCounts g after }
     ensures with_counts { (g : Geometry) (s : State) (who : ℕ) (after : State) → IsSound g s → who < g.callers
-        → IsTrue (is_shown (s.errand who).point (found_at s who)) → Step s who after → IsSound g after }
+        → IsTrue (is_shown (s.errand who).point) → IsTrue (is_uncounted (event_at s who))
+        → Step s who after → IsSound g after }
 {}
