@@ -1,5 +1,5 @@
 -- Everything that a point remembers exists in its heap.
-use Rattle.std.specs.Prelude.{ℕ, ◌≡◌, ◌<◌, ◌≤◌, ◌+◌}
+use Rattle.std.specs.Prelude.{ℕ, ◌≡◌, ◌<◌, ◌≤◌, ◌+◌, ◌^◌}
 use Rattle.heap_geometry.specs.declared.geometry.Geometry.{Geometry}
 use Rattle.heap_geometry.specs.declared.limits.TheConstants.{MAX_UNITS, SHELVES}
 use Rattle.heap_geometry.specs.declared.need.Need.{Need}
@@ -39,7 +39,7 @@ FitsLarge g (TakeRun w bits) = IsWantOf g w
 FitsLarge g (StoreRunPrefix place r) = IsRunAt g place r
 FitsLarge g (LoadRunPrefix place r) = IsRunAt g place r
 FitsLarge g (FreeRun place r) = IsRunAt g place r
-FitsLarge g (StoreWord place i value) = IsPayloadOf g place i
+FitsLarge g (StoreWord place i value) = IsPayloadOf g place i × (value < 2 ^ 64)
 FitsLarge g (LoadWord place i) = IsPayloadOf g place i
 FitsLarge g (PutBlock shelf place need) = IsShelved shelf place need
 FitsLarge g (LoadShelf shelf) = shelf < SHELVES

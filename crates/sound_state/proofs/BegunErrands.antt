@@ -1,5 +1,5 @@
 -- An errand that begins a call keeps its rule.
-use Rattle.std.proofs.Common.{ℕ, true, ◌≡◌, ◌<◌, ◌≤◌, ◌+◌, ◌-◌, ◌/◌, refl, arith, ap, sym, subst, ◌∙◌}
+use Rattle.std.proofs.Common.{ℕ, true, ◌≡◌, ◌<◌, ◌≤◌, ◌+◌, ◌-◌, ◌/◌, refl, arith, ap, sym, subst, ◌∙◌, ◌^◌}
 use Rattle.std.specs.Prelude.{IfSome, Contains, None}
 use Rattle.std.proofs.lemmas.Bool.{cond_both}
 use Rattle.heap_geometry.specs.declared.geometry.Geometry.{Geometry}
@@ -101,11 +101,11 @@ payload-within g place (Large units) i (needs, (unit, within, is)) below = omega
 payload-within g place TooLarge i (needs, nowhere) below = absurd nowhere
 
 pub write-errand :
-    (e : ErrandFields) (place : ℕ) (n : Need) (i v : ℕ) → IsHeapBlock e.geometry place n → i < usable_words n → IsErrand e → IsIdle e
-    → IsErrand (write_begun e place i v)
+    (e : ErrandFields) (place : ℕ) (n : Need) (i v : ℕ) → IsHeapBlock e.geometry place n → i < usable_words n → v < 2 ^ 64 → IsErrand e
+    → IsIdle e → IsErrand (write_begun e place i v)
 unfolding write_begun
-write-errand e place n i v block below h idle =
-    with-point e _ _ h idle (record { point = payload-within e.geometry place n i block below; goes = refl; inside = refl }) refl refl h.turns
+write-errand e place n i v block below word h idle =
+    with-point e _ _ h idle (record { point = (payload-within e.geometry place n i block below, word); goes = refl; inside = refl }) refl refl h.turns
 
 pub read-errand :
     (e : ErrandFields) (place : ℕ) (n : Need) (i : ℕ) → IsHeapBlock e.geometry place n → i < usable_words n → IsErrand e → IsIdle e

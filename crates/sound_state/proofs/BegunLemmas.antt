@@ -1,5 +1,5 @@
 -- A call that begins keeps the state sound.
-use Rattle.std.proofs.Common.{ℕ, false, None, ◌≡◌, ◌<◌, ◌≤◌, ◌+◌, List, [], refl, arith, sym, subst, inl, inr, ◌∙◌}
+use Rattle.std.proofs.Common.{ℕ, false, None, ◌≡◌, ◌<◌, ◌≤◌, ◌+◌, List, [], refl, arith, sym, subst, inl, inr, ◌∙◌, ◌^◌}
 use Rattle.std.proofs.Math.Path.{fun_ext}
 use Rattle.std.specs.Prelude.{◌⊎◌, ◌&&◌, not, All, Any, IsTrue, length, count_by}
 use Rattle.std.proofs.lemmas.Bool.{cases_eq, cases_Bool, cond-true, cond-false}
@@ -337,10 +337,10 @@ free-sound g s who place TooLarge errands' sound has idle owned moves = absurd (
 -- a write, a read, a put and a take
 pub write-sound :
     (g : Geometry) (s : State) (who place : ℕ) (n : Need) (i v : ℕ) (errands' : ℕ → ErrandFields) → IsSoundWithoutCounts g s → who < g.callers
-    → IsIdle (s.errand who) → IsOwned s who place n → i < usable_words n
+    → IsIdle (s.errand who) → IsOwned s who place n → i < usable_words n → v < 2 ^ 64
     → Moves s.errand who (write_begun (s.errand who) place i v) errands' → IsSoundWithoutCounts g (with_errands s errands')
 unfolding write_begun holds_of recalls_of
-write-sound g s who place n i v errands' sound has idle owned below moves =
+write-sound g s who place n i v errands' sound has idle owned below word moves =
     let block = owned-block g s who place n sound owned in
     let own = sound.parts.1.errands who has in
     no-turn-sound g s who _ [] errands' sound has idle
@@ -355,7 +355,7 @@ write-sound g s who place n i v errands' sound has idle owned below moves =
       spare = refl;
       pops = refl;
     })
-    (write-errand (s.errand who) place n i v (subst (λ h. IsHeapBlock h place n) (sym own.geometry) block) below own.rule idle) refl moves
+    (write-errand (s.errand who) place n i v (subst (λ h. IsHeapBlock h place n) (sym own.geometry) block) below word own.rule idle) refl moves
 
 pub read-sound :
     (g : Geometry) (s : State) (who place : ℕ) (n : Need) (i : ℕ) (errands' : ℕ → ErrandFields) → IsSoundWithoutCounts g s → who < g.callers

@@ -8,9 +8,9 @@ use Rattle.pool_model.specs.Legal.{IsLegal, IsLegalEvent, IsLegalEventWithoutCou
 use Rattle.pool_model.specs.Pool.{Pool, pool_of}
 use Rattle.pool_model.proofs.HistoryLemmas.{EachAfter-last, EachAfter-push, legal-weaker}
 use Rattle.errand_steps.specs.Steps.{State, Step, event_at, with_event}
-use Rattle.sound_state.specs.Shown.{is_shown, is_uncounted}
+use Rattle.sound_state.specs.Uncounted.{is_uncounted}
 use Rattle.sound_state.specs.Sound.{IsSound, IsSoundWithoutCounts}
-use Rattle.sound_state.proofs.ShownLemmas.{shown-sound}
+use Rattle.sound_state.proofs.EveryStep.{steps-sound}
 
 -- a sound state is one that is sound without counts, and whose history is legal
 pub without-counts : (g : Geometry) (s : State) → IsSound g s → IsSoundWithoutCounts g s
@@ -39,12 +39,12 @@ legal-with g history (Some event) plain legal weaker =
     EachAfter-push (IsLegalEvent g) history event legal
     (EachAfter-last (IsLegalEventWithoutCounts g) history event weaker, plain-counted g (pool_of history) event plain)
 
--- a shown step keeps the counts too, where its event has none
-pub shown-counted :
+-- a step keeps the counts too, where its event has none
+pub steps-counted :
     (g : Geometry) (s : State) (who : ℕ) (s' : State) → IsSound g s → who < g.callers
-    → IsTrue (is_shown (s.errand who).point) → IsTrue (is_uncounted (event_at s who)) → Step s who s' → IsSound g s'
-shown-counted g s who s' sound has shown uncounted step =
-    let after : IsSoundWithoutCounts g s' = shown-sound g s who s' (without-counts g s sound) has shown step in
+    → IsTrue (is_uncounted (event_at s who)) → Step s who s' → IsSound g s'
+steps-counted g s who s' sound has uncounted step =
+    let after : IsSoundWithoutCounts g s' = steps-sound g s who s' (without-counts g s sound) has step in
     with-counts g s' after
     (subst (IsLegal g) (sym step.history)
     (legal-with g s.history (event_at s who) uncounted sound.legal (subst (IsLegalWithoutCounts g) step.history after.legal)))

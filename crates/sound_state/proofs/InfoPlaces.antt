@@ -223,7 +223,7 @@ still-kept s a d (k ∷ ks) other r w p = (
 )
 
 -- what holds of each number that occurs holds of all
-all-occurring : (P : ℕ → Type 0) (xs : List ℕ) → ((d : ℕ) → 0 < occurs d xs → P d) → AllByRecursion P xs
+pub all-occurring : (P : ℕ → Type 0) (xs : List ℕ) → ((d : ℕ) → 0 < occurs d xs → P d) → AllByRecursion P xs
 all-occurring P [] each = tt
 all-occurring P (x ∷ xs) each = (
   each x (omega (arith, occurs-here x xs)),
@@ -275,7 +275,7 @@ infos-kept g s l d new words' old below some w here read =
     }
 
 -- a word of the heap weighs no more than all do
-word-term :
+pub word-term :
     (g : Geometry) (weight : WordName → ℕ → ℕ) (words : WordName → ℕ) (n : WordName) → Exists g n
     → weight n (words n) ≤ words_sum g weight words
 unfolding words_sum
@@ -325,7 +325,7 @@ way-unplaced g s l who d old has exists mine =
       full = omega (arith, once, some, has_it);
     }
 
-holds-it : (d e credits : ℕ) → e ≡ d → 1 ≤ active_keeps d (Some (Held e credits))
+pub holds-it : (d e credits : ℕ) → e ≡ d → 1 ≤ active_keeps d (Some (Held e credits))
 holds-it d e credits is = omega (arith, cond-true {A = ℕ} (e == d) 1 0 (eq-eqb e d is))
 
 -- a store of what such a descriptor says

@@ -109,7 +109,7 @@ note-sound g s who s' d new p q sound has at given w step =
     }
 
 -- what a descriptor says of a superblock at hand is within the limits of the heap
-site-info : (g : Geometry) (who : ℕ) (at : Site) → IsChecked g → IsSiteOf g who at → IsInfo (info_at at)
+pub site-info : (g : Geometry) (who : ℕ) (at : Site) → IsChecked g → IsSiteOf g who at → IsInfo (info_at at)
 site-info g who at checked site =
     let heaps : 0 < at.seat.geometry.heaps = subst (λ h. 0 < h.heaps) (sym site.seat.geometry) (omega (arith, checked.heaps.0)) in
     let heap : heap_of at.seat < g.heaps = subst (λ h. heap_of at.seat < h.heaps) site.seat.geometry (heap_of-within at.seat heaps) in

@@ -1,4 +1,10 @@
 pub mod AlikeLemmas
+pub mod AnchorFacts
+pub mod AnchorFields
+pub mod AnchorKept
+pub mod AnchorRecalls
+pub mod AnchorRests
+pub mod AnchorSteps
 pub mod BegunErrands
 pub mod BegunLemmas
 pub mod ConfirmLemmas
@@ -16,6 +22,7 @@ pub mod DiscardKeeps
 pub mod DiscardRecalls
 pub mod DiscardSteps
 pub mod DiscardTies
+pub mod EveryStep
 pub mod FirstLemmas
 pub mod FrameLemmas
 pub mod HazardLemmas
@@ -36,6 +43,7 @@ pub mod InstalledLemmas
 pub mod LinkLemmas
 pub mod LookLemmas
 pub mod LoosePlaces
+pub mod NewSuperblocks
 pub mod OpeningLemmas
 pub mod OpeningLists
 pub mod OverlapLemmas
@@ -73,13 +81,13 @@ pub mod QuietPushes
 pub mod QuietStacks
 pub mod RetireLemmas
 pub mod RetirePartials
+pub mod RunLemmas
 pub mod ShiftEffects
 pub mod ShiftFacts
 pub mod ShiftKept
 pub mod ShiftRecalls
 pub mod ShiftSteps
 pub mod ShiftTurns
-pub mod ShownLemmas
 pub mod StackEffects
 pub mod StackFacts
 pub mod StackRetires

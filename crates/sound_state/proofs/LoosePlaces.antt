@@ -321,7 +321,7 @@ small-unmade g s l who f place class b old has in_heap mine live of at =
     making-unbound g s l who f tied.0 old has in_heap tied.1.exists mine tied.1.bound (tied.1.located.frame ∙ at)
 
 -- no block is live in a frame that is in the making
-live-unmade :
+pub live-unmade :
     (g : Geometry) (s : State) (l : Lists) (who f place : ℕ) (b : Block) (n : Need) → IsSoundWithoutCounts g s → IsSoundWith g s l
     → who < g.callers → f < g.frames → IsMaking s who f → IsLive s place b → b.need ≡ n → frame_of place ≢ f
 live-unmade g s l who f place b (Small class) sound old has in_heap mine live of =

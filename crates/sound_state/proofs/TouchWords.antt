@@ -229,12 +229,12 @@ write-tied g s l who place i value s' e h sound old w bare_before bare_after b o
           ∙ old.tied.contents p j v x was said
     ])
 
--- a store of a usable word keeps the state sound, where its value is one of a word; that it is isn't said by the point's own rule
-pub store_word-sound_below :
+-- a store of a usable word keeps the state sound
+pub store_word-sound :
     (g : Geometry) (s : State) (who : ℕ) (s' : State) (place i value : ℕ) (o : Onward) → IsSoundWithoutCounts g s → who < g.callers
-    → (s.errand who).point ≡ Large (large.StoreWord place i value) o → value < 2 ^ 64 → Step s who s' → IsSoundWithoutCounts g s'
+    → (s.errand who).point ≡ Large (large.StoreWord place i value) o → Step s who s' → IsSoundWithoutCounts g s'
 unfolding recalls_of
-store_word-sound_below g s who s' place i value o sound has at below step =
+store_word-sound g s who s' place i value o sound has at step =
     let l = sound.parts.0 in
     let old = sound.parts.1 in
     let p : Point = Large (large.StoreWord place i value) o in
@@ -246,7 +246,7 @@ store_word-sound_below g s who s' place i value o sound has at below step =
     let allowed : IsAllowed g s.history (Write who place i value) = (b, owned.block.1, owned.block.2, usable) in
     let t =
     touched-step g s l who s' p Idle (name.Arena (place + 1 + i)) value (s.history ++ Write who place i value ∷ []) old has at
-    (write-touches g s l who place i value o sound old fit.point below b owned.block.1 usable allowed) step in
+    (write-touches g s l who place i value o sound old fit.point.0 fit.point.1 b owned.block.1 usable allowed) step in
     let c : Changes s s' place b (written i value b) =
     changes-from s s' (Write who place i value) place (written i value) b t.history refl (λ x. refl) (λ x. refl) owned.block.1 in
     record {

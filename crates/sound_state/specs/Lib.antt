@@ -5,10 +5,10 @@ pub mod Holdings
 pub mod Keepers
 pub mod Lists
 pub mod Recalls
-pub mod Shown
 pub mod Sound
 pub mod Stock
 pub mod Sums
 pub mod Superblocks
 pub mod Ties
 pub mod Turns
+pub mod Uncounted

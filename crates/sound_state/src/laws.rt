@@ -1,6 +1,6 @@
 //! Laws of the sound state: theorems about the definitions, on functions that do nothing.
 
-ghost use Rattle.std.specs.Prelude.{ℕ, ◌≡◌, ◌<◌, IsTrue};
+ghost use Rattle.std.specs.Prelude.{ℕ, List, All, ◌≡◌, ◌<◌, ◌^◌, IsTrue};
 ghost use Rattle.heap_geometry.specs.declared.geometry.Geometry.{Geometry};
 ghost use Rattle.heap_geometry.specs.declared.limits.TheConstants.{CLASSES, SHELVES};
 ghost use Rattle.heap_geometry.specs.declared.need.Need.{Need};
@@ -10,9 +10,9 @@ ghost use Rattle.pool_model.specs.Legal.{IsLegal};
 ghost use Rattle.errand_steps.specs.Begins.{IsIdle, alloc_begun, free_begun, write_begun, read_begun, put_begun, take_begun};
 ghost use Rattle.errand_steps.specs.Errands.{ErrandFields};
 ghost use Rattle.errand_steps.specs.Openings.{opening, installed, IsOpening};
-ghost use Rattle.errand_steps.specs.Steps.{State, Moves, Step, found_at, event_at};
+ghost use Rattle.errand_steps.specs.Steps.{State, Moves, Step, Run, event_at};
 ghost use Rattle.sound_state.specs.Recalls.{IsOwned};
-ghost use Rattle.sound_state.specs.Shown.{is_shown, is_uncounted};
+ghost use Rattle.sound_state.specs.Uncounted.{is_uncounted};
 ghost use Rattle.sound_state.specs.Sound.{IsSound, IsSoundWithoutCounts, with_errands};
 
 pub mod consequences;
@@ -46,7 +46,7 @@ pub fn begun_calls_keep_sound()
         → IsSoundWithoutCounts g s → who < g.callers → IsIdle (s.errand who) → IsOwned s who place n
         → Moves s.errand who (free_begun (s.errand who) place n) errands → IsSoundWithoutCounts g (with_errands s errands) }
     ensures write { (g : Geometry) (s : State) (who place : ℕ) (n : Need) (i v : ℕ) (errands : ℕ → ErrandFields)
-        → IsSoundWithoutCounts g s → who < g.callers → IsIdle (s.errand who) → IsOwned s who place n → i < usable_words n
+        → IsSoundWithoutCounts g s → who < g.callers → IsIdle (s.errand who) → IsOwned s who place n → i < usable_words n → v < 2 ^ 64
         → Moves s.errand who (write_begun (s.errand who) place i v) errands → IsSoundWithoutCounts g (with_errands s errands) }
     ensures read { (g : Geometry) (s : State) (who place : ℕ) (n : Need) (i : ℕ) (errands : ℕ → ErrandFields)
         → IsSoundWithoutCounts g s → who < g.callers → IsIdle (s.errand who) → IsOwned s who place n → i < usable_words n
@@ -59,14 +59,18 @@ pub fn begun_calls_keep_sound()
         → Moves s.errand who (take_begun (s.errand who) shelf) errands → IsSoundWithoutCounts g (with_errands s errands) }
 {}
 
-/// A step from a point that is named as shown keeps the state sound without counts; and with them
-/// too, unless it tells a look or a refusal.
-pub fn shown_steps_keep_sound()
+/// Every step of every caller keeps the state sound without counts; and with them too, unless it
+/// tells a look or a refusal.
+pub fn steps_keep_sound()
     ensures without_counts { (g : Geometry) (s : State) (who : ℕ) (after : State)
-        → IsSoundWithoutCounts g s → who < g.callers
-        → IsTrue (is_shown (s.errand who).point) → Step s who after
-        → IsSoundWithoutCounts g after }
+        → IsSoundWithoutCounts g s → who < g.callers → Step s who after → IsSoundWithoutCounts g after }
     ensures with_counts { (g : Geometry) (s : State) (who : ℕ) (after : State) → IsSound g s → who < g.callers
-        → IsTrue (is_shown (s.errand who).point) → IsTrue (is_uncounted (event_at s who))
-        → Step s who after → IsSound g after }
+        → IsTrue (is_uncounted (event_at s who)) → Step s who after → IsSound g after }
+{}
+
+/// So does every run of steps, of any callers in any order.
+pub fn runs_keep_sound()
+    ensures { (g : Geometry) (s : State) (callers : List ℕ) (n : ℕ) (after : State)
+        → IsSoundWithoutCounts g s → All (λ who. who < g.callers) callers → Run s callers n after
+        → IsSoundWithoutCounts g after }
 {}

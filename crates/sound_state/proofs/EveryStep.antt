@@ -1,4 +1,4 @@
--- Each step that is shown to keep the state sound does so.
+-- Every step of every caller keeps the state sound.
 use Rattle.std.proofs.Common.{ℕ, Bool, true, false, ◌≡◌, ◌≢◌, ◌<◌, ◌-◌, refl, arith, ap, sym, inl, inr, ◌∙◌}
 use Rattle.std.specs.Prelude.{◌==◌, not, IsTrue}
 use Rattle.std.proofs.lemmas.Bool.{cases_eq, cases_Bool, true≢false}
@@ -18,7 +18,6 @@ use Rattle.stack_parts.specs.declared.point.Pile.{Pile}
 use Rattle.stack_parts.specs.declared.point.StackPoint.{StackPoint}
 use Rattle.stack_parts.specs.declared.point.StackPoint.TheVariants as stack
 use Rattle.stack_parts.specs.Piles.{head_name}
-use Rattle.large_parts.specs.declared.point.LargePoint.{LargePoint}
 use Rattle.errand_steps.specs.declared.onward.Onward.{Onward}
 use Rattle.errand_steps.specs.declared.onward.Onward.TheVariants as onward
 use Rattle.errand_steps.specs.declared.point.Point.{Point}
@@ -27,7 +26,6 @@ use Rattle.errand_steps.specs.Onwards.{is_finish, is_clearing, clears, fills}
 use Rattle.errand_steps.specs.Points.{asked, plan_point_of}
 use Rattle.errand_steps.specs.Points.{is_idle}
 use Rattle.errand_steps.specs.Steps.{State, Step}
-use Rattle.sound_state.specs.Shown.{is_shown, is_shown_block, is_shown_large}
 use Rattle.sound_state.specs.Sound.{IsSoundWithoutCounts}
 use Rattle.sound_state.specs.Superblocks.{anchor_for}
 use Rattle.sound_state.proofs.DescPushes.{push_desc-sound}
@@ -43,7 +41,8 @@ use Rattle.sound_state.proofs.ShiftSteps.{return_credits-sound, grant-sound}
 use Rattle.sound_state.proofs.StackSteps.{pop_top-sound}
 use Rattle.sound_state.proofs.StackRetires.{push_top-sound}
 use Rattle.sound_state.proofs.ConfirmSteps.{confirm_empty-sound}
-use Rattle.sound_state.proofs.TouchShown.{WritesWord, large-sound}
+use Rattle.sound_state.proofs.TouchShown.{large-sound}
+use Rattle.sound_state.proofs.AnchorSteps.{store_anchor-sound}
 use Rattle.sound_state.proofs.QuietBlocks.{load_active-sound}
 use Rattle.sound_state.proofs.QuietCredits.{take_credit-sound, install_credits-sound}
 use Rattle.sound_state.proofs.QuietDescs.{load_desc_head-sound, load_next_desc-sound, load_head_to_push-sound}
@@ -106,77 +105,77 @@ top-sound g s who s' seat pile o sound has at step =
       | inr some ↦ load_top-sound g s who s' seat pile o sound has at (λ clear. some) step
     ]
 
-shown-stack :
+stack-sound :
     (g : Geometry) (s : State) (who : ℕ) (s' : State) (p : StackPoint) (o : Onward) → IsSoundWithoutCounts g s → who < g.callers
     → (s.errand who).point ≡ Stack p o → Step s who s' → IsSoundWithoutCounts g s'
 unfolding plan_point_of
-shown-stack g s who s' (stack.LoadTop seat pile) o sound has at step = top-sound g s who s' seat pile o sound has at step
-shown-stack g s who s' (stack.LoadBelow seat pile h) o sound has at step = load_below-sound g s who s' seat pile h o sound has at step
-shown-stack g s who s' (stack.PopTop seat pile h below) o sound has at step =
+stack-sound g s who s' (stack.LoadTop seat pile) o sound has at step = top-sound g s who s' seat pile o sound has at step
+stack-sound g s who s' (stack.LoadBelow seat pile h) o sound has at step = load_below-sound g s who s' seat pile h o sound has at step
+stack-sound g s who s' (stack.PopTop seat pile h below) o sound has at step =
     pop_top-sound g s who s' seat pile h below o sound has at step
-shown-stack g s who s' (stack.ConfirmEmpty seat pile h) o sound has at step =
+stack-sound g s who s' (stack.ConfirmEmpty seat pile h) o sound has at step =
     confirm_empty-sound g s who s' seat pile h o sound has at step
-shown-stack g s who s' (stack.LoadTopToPush seat pile i) o sound has at step =
+stack-sound g s who s' (stack.LoadTopToPush seat pile i) o sound has at step =
     load_top_to_push-sound g s who s' seat pile i o sound has at step
-shown-stack g s who s' (stack.StoreBelow seat pile i h) o sound has at step = store_below-sound g s who s' seat pile i h o sound has at step
-shown-stack g s who s' (stack.PushTop seat pile i h) o sound has at step =
+stack-sound g s who s' (stack.StoreBelow seat pile i h) o sound has at step = store_below-sound g s who s' seat pile i h o sound has at step
+stack-sound g s who s' (stack.PushTop seat pile i h) o sound has at step =
     push_top-sound g s who s' seat pile i h o sound has at step
-shown-stack g s who s' (stack.Popped seat pile i) o sound has at step =
+stack-sound g s who s' (stack.Popped seat pile i) o sound has at step =
     absurd (true≢false (fits-at g s sound.parts.0 who _ sound.parts.1 has at).inside)
-shown-stack g s who s' (stack.FoundEmpty seat pile h) o sound has at step =
+stack-sound g s who s' (stack.FoundEmpty seat pile h) o sound has at step =
     absurd (true≢false (fits-at g s sound.parts.0 who _ sound.parts.1 has at).inside)
-shown-stack g s who s' (stack.ConfirmedEmpty seat pile) o sound has at step =
+stack-sound g s who s' (stack.ConfirmedEmpty seat pile) o sound has at step =
     absurd (true≢false (fits-at g s sound.parts.0 who _ sound.parts.1 has at).inside)
-shown-stack g s who s' (stack.Pushed seat pile) o sound has at step =
+stack-sound g s who s' (stack.Pushed seat pile) o sound has at step =
     absurd (true≢false (fits-at g s sound.parts.0 who _ sound.parts.1 has at).inside)
 
-shown-block :
+block-sound :
     (g : Geometry) (s : State) (who : ℕ) (s' : State) (p : BlockPoint) (o : Onward) → IsSoundWithoutCounts g s → who < g.callers
-    → (s.errand who).point ≡ Block p o → IsTrue (is_shown_block p) → Step s who s' → IsSoundWithoutCounts g s'
+    → (s.errand who).point ≡ Block p o → Step s who s' → IsSoundWithoutCounts g s'
 unfolding plan_point_of
-shown-block g s who s' (block.LoadActive seat) o sound has at shown step =
+block-sound g s who s' (block.LoadActive seat) o sound has at step =
     let is : o ≡ onward.Alloc (asked o) = the-alloc o (fits-at g s sound.parts.0 who _ sound.parts.1 has at).goes in
     load_active-sound g s who s' seat (asked o) sound has (at ∙ ap (Block (block.LoadActive seat)) is) step
-shown-block g s who s' (block.TakeCredit seat d credits) o sound has at shown step =
+block-sound g s who s' (block.TakeCredit seat d credits) o sound has at step =
     take_credit-sound g s who s' seat d credits o sound has at step
-shown-block g s who s' (block.LoadInfo seat d share) o sound has at shown step = load_info-sound g s who s' seat d share o sound has at step
-shown-block g s who s' (block.LoadAnchor site share) o sound has at shown step = load_anchor-sound g s who s' site share o sound has at step
-shown-block g s who s' (block.LoadLink site share a) o sound has at shown step = load_link-sound g s who s' site share a o sound has at step
-shown-block g s who s' (block.PopBlock site share a prefix) o sound has at shown step =
+block-sound g s who s' (block.LoadInfo seat d share) o sound has at step = load_info-sound g s who s' seat d share o sound has at step
+block-sound g s who s' (block.LoadAnchor site share) o sound has at step = load_anchor-sound g s who s' site share o sound has at step
+block-sound g s who s' (block.LoadLink site share a) o sound has at step = load_link-sound g s who s' site share a o sound has at step
+block-sound g s who s' (block.PopBlock site share a prefix) o sound has at step =
     pop_block-sound g s who s' site share a prefix o sound has at step
-shown-block g s who s' (block.StorePrefix site i) o sound has at shown step = store_prefix-sound g s who s' site i o sound has at step
-shown-block g s who s' (block.InstallCredits site i more) o sound has at shown step =
+block-sound g s who s' (block.StorePrefix site i) o sound has at step = store_prefix-sound g s who s' site i o sound has at step
+block-sound g s who s' (block.InstallCredits site i more) o sound has at step =
     install_credits-sound g s who s' site i more o sound has at step
-shown-block g s who s' (block.InstallSuperblock site) o sound has at shown step =
+block-sound g s who s' (block.InstallSuperblock site) o sound has at step =
     install_superblock-sound g s who s' site o sound has at step
-shown-block g s who s' (block.LoadReturn site i more) o sound has at shown step = load_return-sound g s who s' site i more o sound has at step
-shown-block g s who s' (block.ReturnCredits site i more a) o sound has at shown step =
+block-sound g s who s' (block.LoadReturn site i more) o sound has at step = load_return-sound g s who s' site i more o sound has at step
+block-sound g s who s' (block.ReturnCredits site i more a) o sound has at step =
     return_credits-sound g s who s' site i more a o sound has at step
-shown-block g s who s' (block.LoadPrefix seat frame i) o sound has at shown step = load_prefix-sound g s who s' seat frame i o sound has at step
-shown-block g s who s' (block.LoadPushAnchor site i guarded) o sound has at shown step =
+block-sound g s who s' (block.LoadPrefix seat frame i) o sound has at step = load_prefix-sound g s who s' seat frame i o sound has at step
+block-sound g s who s' (block.LoadPushAnchor site i guarded) o sound has at step =
     load_push_anchor-sound g s who s' site i guarded o sound has at step
-shown-block g s who s' (block.StoreGuard site i a) o sound has at shown step = store_guard-sound g s who s' site i a o sound has at step
-shown-block g s who s' (block.LoadOwner site i a) o sound has at shown step = load_owner-sound g s who s' site i a o sound has at step
-shown-block g s who s' (block.StoreLink site i a guarded heap) o sound has at shown step =
+block-sound g s who s' (block.StoreGuard site i a) o sound has at step = store_guard-sound g s who s' site i a o sound has at step
+block-sound g s who s' (block.LoadOwner site i a) o sound has at step = load_owner-sound g s who s' site i a o sound has at step
+block-sound g s who s' (block.StoreLink site i a guarded heap) o sound has at step =
     store_link-sound g s who s' site i a guarded heap o sound has at step
-shown-block g s who s' (block.PushBlock site i a guarded heap) o sound has at shown step =
+block-sound g s who s' (block.PushBlock site i a guarded heap) o sound has at step =
     push_block-sound g s who s' site i a guarded heap o sound has at step
-shown-block g s who s' (block.LinkBlock site i) o sound has at shown step = link_block-sound g s who s' site i o sound has at step
-shown-block g s who s' (block.StoreInfo site) o sound has at shown step = store_info-sound g s who s' site o sound has at step
-shown-block g s who s' (block.StoreAnchor site) o sound has at shown step = absurd (true≢false (sym shown))
-shown-block g s who s' (block.WantsPartial seat) o sound has at shown step =
+block-sound g s who s' (block.LinkBlock site i) o sound has at step = link_block-sound g s who s' site i o sound has at step
+block-sound g s who s' (block.StoreInfo site) o sound has at step = store_info-sound g s who s' site o sound has at step
+block-sound g s who s' (block.StoreAnchor site) o sound has at step = store_anchor-sound g s who s' site o sound has at step
+block-sound g s who s' (block.WantsPartial seat) o sound has at step =
     absurd (true≢false (fits-at g s sound.parts.0 who _ sound.parts.1 has at).inside)
-shown-block g s who s' (block.Returned site i) o sound has at shown step =
+block-sound g s who s' (block.Returned site i) o sound has at step =
     absurd (true≢false (fits-at g s sound.parts.0 who _ sound.parts.1 has at).inside)
-shown-block g s who s' (block.Discarded site) o sound has at shown step =
+block-sound g s who s' (block.Discarded site) o sound has at step =
     absurd (true≢false (fits-at g s sound.parts.0 who _ sound.parts.1 has at).inside)
-shown-block g s who s' (block.Given site i) o sound has at shown step =
+block-sound g s who s' (block.Given site i) o sound has at step =
     absurd (true≢false (fits-at g s sound.parts.0 who _ sound.parts.1 has at).inside)
-shown-block g s who s' (block.BecameEmpty site heap) o sound has at shown step =
+block-sound g s who s' (block.BecameEmpty site heap) o sound has at step =
     absurd (true≢false (fits-at g s sound.parts.0 who _ sound.parts.1 has at).inside)
-shown-block g s who s' (block.BecamePartial site guarded) o sound has at shown step =
+block-sound g s who s' (block.BecamePartial site guarded) o sound has at step =
     absurd (true≢false (fits-at g s sound.parts.0 who _ sound.parts.1 has at).inside)
-shown-block g s who s' (block.Pushed seat guarded) o sound has at shown step =
+block-sound g s who s' (block.Pushed seat guarded) o sound has at step =
     absurd (true≢false (fits-at g s sound.parts.0 who _ sound.parts.1 has at).inside)
 
 -- a free clears its hazard word to look through the list, to retire what it removed, or to end
@@ -199,35 +198,35 @@ clears-cases P looks ends retires (onward.PushFirst first) is = absurd (true≢f
 clears-cases P looks ends retires (onward.Finish guarded) is = absurd (true≢false (sym is))
 clears-cases P looks ends retires onward.Nothing is = absurd (true≢false (sym is))
 
-shown-desc :
+desc-sound :
     (g : Geometry) (s : State) (who : ℕ) (s' : State) (p : DescPoint) (o : Onward) → IsSoundWithoutCounts g s → who < g.callers
     → (s.errand who).point ≡ Desc p o → Step s who s' → IsSoundWithoutCounts g s'
 unfolding plan_point_of
-shown-desc g s who s' (desc.LoadDescHead seat) o sound has at step = load_desc_head-sound g s who s' seat o sound has at step
-shown-desc g s who s' (desc.StoreHazard seat d) o sound has at step = store_hazard-sound g s who s' seat d o sound has at step
-shown-desc g s who s' (desc.ReloadDescHead seat d) o sound has at step =
+desc-sound g s who s' (desc.LoadDescHead seat) o sound has at step = load_desc_head-sound g s who s' seat o sound has at step
+desc-sound g s who s' (desc.StoreHazard seat d) o sound has at step = store_hazard-sound g s who s' seat d o sound has at step
+desc-sound g s who s' (desc.ReloadDescHead seat d) o sound has at step =
     reload_desc_head-sound g s who s' seat d o sound has at step
-shown-desc g s who s' (desc.LoadNextDesc seat d) o sound has at step = load_next_desc-sound g s who s' seat d o sound has at step
-shown-desc g s who s' (desc.PopDesc seat d next) o sound has at step =
+desc-sound g s who s' (desc.LoadNextDesc seat d) o sound has at step = load_next_desc-sound g s who s' seat d o sound has at step
+desc-sound g s who s' (desc.PopDesc seat d next) o sound has at step =
     pop_desc-sound g s who s' seat d next o sound has at step
-shown-desc g s who s' (desc.ClearAfterPop seat d) o sound has at step = clear_after_pop-sound g s who s' seat d o sound has at step
-shown-desc g s who s' (desc.ClearHazard seat) o sound has at step =
+desc-sound g s who s' (desc.ClearAfterPop seat d) o sound has at step = clear_after_pop-sound g s who s' seat d o sound has at step
+desc-sound g s who s' (desc.ClearHazard seat) o sound has at step =
     clears-cases (λ o. (s.errand who).point ≡ Desc (desc.ClearHazard seat) o → IsSoundWithoutCounts g s')
     (λ at. clear_hazard_looks-sound g s who s' seat sound has at step) (λ at. clear_hazard_ends-sound g s who s' seat sound has at step)
     (λ d at. retired.clear_hazard_retires-sound g s who s' seat d sound has at step) o
     (fits-at g s sound.parts.0 who _ sound.parts.1 has at).goes at
-shown-desc g s who s' (desc.ReadHazard seat held i) o sound has at step = read_hazard-sound g s who s' seat held i o sound has at step
-shown-desc g s who s' (desc.LoadHeadToPush seat d) o sound has at step = load_head_to_push-sound g s who s' seat d o sound has at step
-shown-desc g s who s' (desc.StoreNextDesc seat d top) o sound has at step = store_next_desc-sound g s who s' seat d top o sound has at step
-shown-desc g s who s' (desc.PushDesc seat d top) o sound has at step =
+desc-sound g s who s' (desc.ReadHazard seat held i) o sound has at step = read_hazard-sound g s who s' seat held i o sound has at step
+desc-sound g s who s' (desc.LoadHeadToPush seat d) o sound has at step = load_head_to_push-sound g s who s' seat d o sound has at step
+desc-sound g s who s' (desc.StoreNextDesc seat d top) o sound has at step = store_next_desc-sound g s who s' seat d top o sound has at step
+desc-sound g s who s' (desc.PushDesc seat d top) o sound has at step =
     push_desc-sound g s who s' seat d top o sound has at step
-shown-desc g s who s' (desc.Got seat d) o sound has at step =
+desc-sound g s who s' (desc.Got seat d) o sound has at step =
     absurd (true≢false (fits-at g s sound.parts.0 who _ sound.parts.1 has at).inside)
-shown-desc g s who s' (desc.Cleared seat) o sound has at step =
+desc-sound g s who s' (desc.Cleared seat) o sound has at step =
     absurd (true≢false (fits-at g s sound.parts.0 who _ sound.parts.1 has at).inside)
-shown-desc g s who s' (desc.Scanned seat held) o sound has at step =
+desc-sound g s who s' (desc.Scanned seat held) o sound has at step =
     absurd (true≢false (fits-at g s sound.parts.0 who _ sound.parts.1 has at).inside)
-shown-desc g s who s' (desc.Pushed seat d) o sound has at step =
+desc-sound g s who s' (desc.Pushed seat d) o sound has at step =
     absurd (true≢false (fits-at g s sound.parts.0 who _ sound.parts.1 has at).inside)
 
 -- a superblock is put into a slot for a block that is given, or to finish a free
@@ -343,74 +342,68 @@ listed-sound g s who s' seat d o sound has at step =
     (λ first at. partials.load_second-sound g s who s' seat d first sound has at step) o
     (fits-at g s sound.parts.0 who _ sound.parts.1 has at).goes at
 
-shown-partial :
+partial-sound :
     (g : Geometry) (s : State) (who : ℕ) (s' : State) (p : PartialPoint) (o : Onward) → IsSoundWithoutCounts g s → who < g.callers
     → (s.errand who).point ≡ Partial p o → Step s who s' → IsSoundWithoutCounts g s'
 unfolding plan_point_of
-shown-partial g s who s' (partial.LoadSlot seat) o sound has at step =
+partial-sound g s who s' (partial.LoadSlot seat) o sound has at step =
     let is : o ≡ onward.Alloc (asked o) = the-alloc o (fits-at g s sound.parts.0 who _ sound.parts.1 has at).goes in
     partials.load_slot-sound g s who s' seat (asked o) sound has (at ∙ ap (Partial (partial.LoadSlot seat)) is) step
-shown-partial g s who s' (partial.TakeSlot seat d) o sound has at step =
+partial-sound g s who s' (partial.TakeSlot seat d) o sound has at step =
     let is : o ≡ onward.Alloc (asked o) = the-alloc o (fits-at g s sound.parts.0 who _ sound.parts.1 has at).goes in
     partials.take_slot-sound g s who s' seat d (asked o) sound has (at ∙ ap (Partial (partial.TakeSlot seat d)) is) step
-shown-partial g s who s' (partial.LoadTakenInfo seat d) o sound has at step =
+partial-sound g s who s' (partial.LoadTakenInfo seat d) o sound has at step =
     let is : o ≡ onward.Alloc (asked o) = the-alloc o (fits-at g s sound.parts.0 who _ sound.parts.1 has at).goes in
     partials.load_taken_info-sound g s who s' seat d (asked o) sound has (at ∙ ap (Partial (partial.LoadTakenInfo seat d)) is) step
-shown-partial g s who s' (partial.StoreOwner site) o sound has at step = store_owner-sound g s who s' site o sound has at step
-shown-partial g s who s' (partial.LoadGrantAnchor site) o sound has at step =
+partial-sound g s who s' (partial.StoreOwner site) o sound has at step = store_owner-sound g s who s' site o sound has at step
+partial-sound g s who s' (partial.LoadGrantAnchor site) o sound has at step =
     let is : o ≡ onward.Alloc (asked o) = the-alloc o (fits-at g s sound.parts.0 who _ sound.parts.1 has at).goes in
     taken-sound g s who s' site (asked o) sound has (at ∙ ap (Partial (partial.LoadGrantAnchor site)) is) step
-shown-partial g s who s' (partial.Grant site a) o sound has at step =
+partial-sound g s who s' (partial.Grant site a) o sound has at step =
     let is : o ≡ onward.Alloc (asked o) = the-alloc o (fits-at g s sound.parts.0 who _ sound.parts.1 has at).goes in
     grant-sound g s who s' site a (asked o) sound has (at ∙ ap (Partial (partial.Grant site a)) is) step
-shown-partial g s who s' (partial.LoadOwner seat d) o sound has at step =
+partial-sound g s who s' (partial.LoadOwner seat d) o sound has at step =
     finish-cases (λ o. (s.errand who).point ≡ Partial (partial.LoadOwner seat d) o → IsSoundWithoutCounts g s')
     (λ guarded at. partials.load_owner-sound g s who s' seat d guarded sound has at step) o
     (fits-at g s sound.parts.0 who _ sound.parts.1 has at).goes at
-shown-partial g s who s' (partial.PutSlot seat d heap) o sound has at step = put-sound g s who s' seat d heap o sound has at step
-shown-partial g s who s' (partial.LoadHeldSlot seat d heap) o sound has at step =
+partial-sound g s who s' (partial.PutSlot seat d heap) o sound has at step = put-sound g s who s' seat d heap o sound has at step
+partial-sound g s who s' (partial.LoadHeldSlot seat d heap) o sound has at step =
     let is : o ≡ onward.Free = the-free o (fits-at g s sound.parts.0 who _ sound.parts.1 has at).goes in
     partials.load_held_slot-sound g s who s' seat d heap sound has (at ∙ ap (Partial (partial.LoadHeldSlot seat d heap)) is) step
-shown-partial g s who s' (partial.RemoveFromSlot seat d heap) o sound has at step =
+partial-sound g s who s' (partial.RemoveFromSlot seat d heap) o sound has at step =
     let is : o ≡ onward.Free = the-free o (fits-at g s sound.parts.0 who _ sound.parts.1 has at).goes in
     partials.remove_from_slot-sound g s who s' seat d heap sound has (at ∙ ap (Partial (partial.RemoveFromSlot seat d heap)) is) step
-shown-partial g s who s' (partial.LoadListedAnchor seat d) o sound has at step = listed-sound g s who s' seat d o sound has at step
-shown-partial g s who s' (partial.SlotEmpty seat) o sound has at step =
+partial-sound g s who s' (partial.LoadListedAnchor seat d) o sound has at step = listed-sound g s who s' seat d o sound has at step
+partial-sound g s who s' (partial.SlotEmpty seat) o sound has at step =
     absurd (true≢false (fits-at g s sound.parts.0 who _ sound.parts.1 has at).inside)
-shown-partial g s who s' (partial.Granted site more) o sound has at step =
+partial-sound g s who s' (partial.Granted site more) o sound has at step =
     absurd (true≢false (fits-at g s sound.parts.0 who _ sound.parts.1 has at).inside)
-shown-partial g s who s' (partial.TookEmpty site) o sound has at step =
+partial-sound g s who s' (partial.TookEmpty site) o sound has at step =
     absurd (true≢false (fits-at g s sound.parts.0 who _ sound.parts.1 has at).inside)
-shown-partial g s who s' (partial.SlotFilled seat) o sound has at step =
+partial-sound g s who s' (partial.SlotFilled seat) o sound has at step =
     absurd (true≢false (fits-at g s sound.parts.0 who _ sound.parts.1 has at).inside)
-shown-partial g s who s' (partial.Displaced seat d) o sound has at step =
+partial-sound g s who s' (partial.Displaced seat d) o sound has at step =
     absurd (true≢false (fits-at g s sound.parts.0 who _ sound.parts.1 has at).inside)
-shown-partial g s who s' (partial.NotInSlot seat) o sound has at step =
+partial-sound g s who s' (partial.NotInSlot seat) o sound has at step =
     absurd (true≢false (fits-at g s sound.parts.0 who _ sound.parts.1 has at).inside)
-shown-partial g s who s' (partial.Removed seat d) o sound has at step =
+partial-sound g s who s' (partial.Removed seat d) o sound has at step =
     absurd (true≢false (fits-at g s sound.parts.0 who _ sound.parts.1 has at).inside)
-shown-partial g s who s' (partial.ListedEmpty seat d) o sound has at step =
+partial-sound g s who s' (partial.ListedEmpty seat d) o sound has at step =
     absurd (true≢false (fits-at g s sound.parts.0 who _ sound.parts.1 has at).inside)
-shown-partial g s who s' (partial.ListedPartial seat d) o sound has at step =
+partial-sound g s who s' (partial.ListedPartial seat d) o sound has at step =
     absurd (true≢false (fits-at g s sound.parts.0 who _ sound.parts.1 has at).inside)
 
--- what is written is a number of 64 bits
-writes-word : (p : LargePoint) → IsTrue (is_shown_large p) → WritesWord p
-writes-word p shown = grind (arith, shown)
-
--- a step from a point that is shown keeps the state sound
-shown-at :
+-- a step from any point keeps the state sound
+step-at :
     (g : Geometry) (s : State) (who : ℕ) (s' : State) (p : Point) → IsSoundWithoutCounts g s → who < g.callers → (s.errand who).point ≡ p
-    → IsTrue (is_shown p) → Step s who s' → IsSoundWithoutCounts g s'
-unfolding is_shown
-shown-at g s who s' Idle sound has at shown step = absurd (true≢false (sym (ap is_idle at) ∙ step.busy))
-shown-at g s who s' (Block p o) sound has at shown step = shown-block g s who s' p o sound has at shown step
-shown-at g s who s' (Stack p o) sound has at shown step = shown-stack g s who s' p o sound has at step
-shown-at g s who s' (Desc p o) sound has at shown step = shown-desc g s who s' p o sound has at step
-shown-at g s who s' (Partial p o) sound has at shown step = shown-partial g s who s' p o sound has at step
-shown-at g s who s' (Large p o) sound has at shown step = large-sound g s who s' p o sound has at (writes-word p shown) step
+    → Step s who s' → IsSoundWithoutCounts g s'
+step-at g s who s' Idle sound has at step = absurd (true≢false (sym (ap is_idle at) ∙ step.busy))
+step-at g s who s' (Block p o) sound has at step = block-sound g s who s' p o sound has at step
+step-at g s who s' (Stack p o) sound has at step = stack-sound g s who s' p o sound has at step
+step-at g s who s' (Desc p o) sound has at step = desc-sound g s who s' p o sound has at step
+step-at g s who s' (Partial p o) sound has at step = partial-sound g s who s' p o sound has at step
+step-at g s who s' (Large p o) sound has at step = large-sound g s who s' p o sound has at step
 
-pub shown-sound :
-    (g : Geometry) (s : State) (who : ℕ) (s' : State) → IsSoundWithoutCounts g s → who < g.callers
-    → IsTrue (is_shown (s.errand who).point) → Step s who s' → IsSoundWithoutCounts g s'
-shown-sound g s who s' sound has shown step = shown-at g s who s' (s.errand who).point sound has refl shown step
+pub steps-sound :
+    (g : Geometry) (s : State) (who : ℕ) (s' : State) → IsSoundWithoutCounts g s → who < g.callers → Step s who s' → IsSoundWithoutCounts g s'
+steps-sound g s who s' sound has step = step-at g s who s' (s.errand who).point sound has refl step
