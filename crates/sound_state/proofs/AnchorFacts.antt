@@ -21,6 +21,8 @@ use Rattle.sound_state.specs.Lists.{Lists}
 use Rattle.sound_state.specs.Sound.{IsSoundWith}
 use Rattle.sound_state.specs.Sums.{words_sum, callers_sum}
 use Rattle.sound_state.specs.Superblocks.{info_or_zero, anchor_for, info_for, is_bound, away_of, errand_away, errand_keeps, kept_among, waiting_of, word_reserves, reserved_among, errand_reserves, reserved_of}
+use Rattle.sound_state.proofs.PopFacts.{anchor_number}
+use Rattle.sound_state.proofs.DiscardFacts.{is_it}
 use Rattle.sound_state.proofs.InfoPlaces.{IsUnplaced, way-unplaced}
 use Rattle.sound_state.proofs.NewSuperblocks.{unbound-reserves}
 use Rattle.sound_state.proofs.PopRecalls.{new_anchor-fits}
@@ -44,10 +46,6 @@ pub record Anchors (g : Geometry) (s : State) (l : Lists) (who : ℕ) (at : Site
   pub retired : e.retired ≡ (s.errand who).retired
   pub holds_before : holds_of (s.errand who).point ≡ making at
   pub holds_after : holds_of e.point ≡ installing at
-
--- 1 where it is that descriptor
-abbrev pub is_it : Site → ℕ → ℕ
-is_it at d = if at.desc == d then 1 else 0
 
 pub it-here : (at : Site) → is_it at at.desc ≡ 1
 it-here at = cond-true {A = ℕ} (at.desc == at.desc) 1 0 (eq-eqb at.desc at.desc refl)
@@ -77,10 +75,6 @@ installing-others at d = (grind (arith), grind (arith), grind (arith))
 installing-credits :
     (at : Site) (d : ℕ) → reserved_among d (installing at).credits ≡ (if at.desc == d then new_credits at.seat.class + 1 else 0) + 0
 installing-credits at d = refl
-
-abbrev anchor_number : WordName → ℕ
-anchor_number (name.Anchor d) = d
-anchor_number n = 0
 
 -- the other anchors stay, and so does what the descriptors say
 pub anchored-anchor :

@@ -24,8 +24,9 @@ use Rattle.sound_state.specs.Recalls.{IsLocated, AreMade}
 use Rattle.sound_state.specs.Sound.{IsSoundWith}
 use Rattle.sound_state.specs.Sums.{sum_below}
 use Rattle.sound_state.specs.Superblocks.{AreChained, IsChained, info_for, is_bound, is_there, live_at, superblock_of, waiting_of}
+use Rattle.sound_state.proofs.DiscardFacts.{is_it}
 use Rattle.sound_state.proofs.AlikeLemmas.{same-superblock}
-use Rattle.sound_state.proofs.AnchorFacts.{Anchors, is_it, it-here, it-elsewhere, anchored-anchor, anchored-here, anchored-info, anchored-waits, anchored-bound, anchored-reserved, anchored-none, anchored-free}
+use Rattle.sound_state.proofs.AnchorFacts.{Anchors, it-here, it-elsewhere, anchored-anchor, anchored-here, anchored-info, anchored-waits, anchored-bound, anchored-reserved, anchored-none, anchored-free}
 use Rattle.sound_state.proofs.NewSuperblocks.{new_superblock, new-chained}
 use Rattle.sound_state.proofs.SumLemmas.{sum-same, callers-moved}
 

@@ -6,7 +6,6 @@ use Rattle.std.proofs.lemmas.List.Elements.{All-nil, All-cons, All-from_recursio
 use Rattle.heap_geometry.specs.declared.geometry.Geometry.{Geometry}
 use Rattle.packed_words.specs.Anchor.{anchor_word}
 use Rattle.packed_words.specs.Head.{head_of}
-use Rattle.word_plan.specs.declared.name.WordName.{WordName}
 use Rattle.word_plan.specs.declared.name.WordName.TheVariants as name
 use Rattle.word_plan.specs.declared.seat.Site.{Site}
 use Rattle.word_plan.specs.Seats.{SeatFields}
@@ -39,9 +38,12 @@ use Rattle.sound_state.specs.Recalls.{Recall, IsPopped, IsLocated, IsRemembered,
 use Rattle.sound_state.specs.Sound.{IsSoundWith}
 use Rattle.sound_state.specs.Sums.{callers_sum}
 use Rattle.sound_state.specs.Superblocks.{kept_among, is_bound, errand_keeps}
+use Rattle.sound_state.proofs.DiscardFacts.{is_it}
+use Rattle.sound_state.proofs.PopRecalls.{next-apart}
+use Rattle.sound_state.proofs.PopFacts.{anchor_number}
 use Rattle.sound_state.proofs.SumLemmas.{term-sum}
 use Rattle.sound_state.proofs.AlikeLemmas.{each-caller}
-use Rattle.sound_state.proofs.AnchorFacts.{Anchors, is_it, it-here, making-ways, anchored-anchor, anchored-info, anchored-bound, anchored-bound_here, anchored-ways, anchored-free}
+use Rattle.sound_state.proofs.AnchorFacts.{Anchors, it-here, making-ways, anchored-anchor, anchored-info, anchored-bound, anchored-bound_here, anchored-ways, anchored-free}
 use Rattle.sound_state.proofs.AnchorFields.{anchored-superblock}
 use Rattle.sound_state.proofs.AnchorRests.{owned-anchored}
 
@@ -51,11 +53,6 @@ IsClear d (pops e a) = e ≢ d
 IsClear d (links e a prefix) = e ≢ d
 IsClear d (says n w) = n ≢ name.Anchor d
 IsClear d r = Unit {0}
-
--- the number of an anchor's name
-abbrev anchor_number : WordName → ℕ
-anchor_number (name.Anchor d) = d
-anchor_number n = 0
 
 -- all but a new superblock that waits to be installed: in a superblock
 clear-block :
@@ -109,11 +106,6 @@ clear-onward s d seat (onward.PushFirst first) = tt
 clear-onward s d seat (onward.Finish stored) = tt
 clear-onward s d seat onward.EndFree = tt
 clear-onward s d seat onward.Nothing = tt
-
--- at a stack
-next-apart : (pile : Pile) (k d : ℕ) → next_name pile k ≢ name.Anchor d
-next-apart Frames k d = λ same. cc
-next-apart Partials k d = λ same. cc
 
 clear-stack : (s : State) (d : ℕ) (p : StackPoint) (o : Onward) → AllByRecursion (IsClear d) (stack_recalls p o)
 clear-stack s d (stack.LoadTop seat pile) o = clear-onward s d seat o

@@ -1,5 +1,5 @@
 -- What a lost install leaves, and that nobody else has anything of its superblock.
-use Rattle.std.proofs.Common.{ℕ, false, true≢false, suc, Option, Some, None, ◌≡◌, ◌≢◌, ◌<◌, ◌≤◌, ◌+◌, ◌-◌, List, length, refl, arith, ap, sym, subst, ◌∙◌}
+use Rattle.std.proofs.Common.{ℕ, false, true≢false, suc, None, ◌≡◌, ◌≢◌, ◌<◌, ◌≤◌, ◌+◌, ◌-◌, List, length, refl, arith, ap, sym, subst, ◌∙◌}
 use Rattle.std.specs.Prelude.{◌==◌, IsTrue, if◌then◌else◌}
 use Rattle.std.proofs.lemmas.Bool.{cond-true, cond-false, eq-eqb, ne_eqb}
 use Rattle.heap_geometry.specs.declared.geometry.Geometry.{Geometry}
@@ -12,7 +12,7 @@ use Rattle.word_plan.specs.declared.seat.Site.{Site}
 use Rattle.superblock_parts.specs.Anchors.{new_credits}
 use Rattle.superblock_parts.specs.Chains.{occurs}
 use Rattle.superblock_parts.proofs.ChainLemmas.{chain_of-length}
-use Rattle.pool_model.specs.Pool.{Block, block_at, pool_of}
+use Rattle.pool_model.specs.Pool.{block_at, pool_of}
 use Rattle.errand_steps.specs.Errands.{ErrandFields}
 use Rattle.errand_steps.specs.Steps.{State}
 use Rattle.sound_state.specs.Holdings.{waiting, on_its_way, holds_of}
@@ -20,7 +20,8 @@ use Rattle.sound_state.specs.Keepers.{errand_has}
 use Rattle.sound_state.specs.Lists.{Lists}
 use Rattle.sound_state.specs.Sound.{IsSoundWith}
 use Rattle.sound_state.specs.Sums.{sum_below, callers_sum}
-use Rattle.sound_state.specs.Superblocks.{IsChained, anchor_for, info_for, info_or_zero, superblock_of, free_chain, held_back, is_there, is_bound, away_of, waiting_of, reserved_of, word_reserves, errand_reserves, reserved_among, errand_keeps, errand_away, kept_among}
+use Rattle.sound_state.specs.Superblocks.{IsChained, anchor_for, info_for, info_or_zero, superblock_of, free_chain, held_back, is_bound, away_of, waiting_of, reserved_of, word_reserves, errand_reserves, reserved_among, errand_keeps, errand_away, kept_among}
+use Rattle.sound_state.proofs.InstallFacts.{had-ways, there-none}
 use Rattle.sound_state.proofs.DiscardEffects.{Discards, discarding_holds}
 use Rattle.sound_state.proofs.InstallEffects.{installing_holds}
 use Rattle.sound_state.proofs.InstallKept.{SameDescs}
@@ -53,9 +54,6 @@ had-waiting d at = grind (arith)
 
 has-waiting : (d : ℕ) (at : Site) → kept_among waiting d (discarding_holds at).kept ≡ 0
 has-waiting d at = grind (arith)
-
-had-ways : (d : ℕ) (at : Site) → kept_among on_its_way d (installing_holds at).kept ≡ 0
-had-ways d at = grind (arith)
 
 has-ways : (d : ℕ) (at : Site) → kept_among on_its_way d (discarding_holds at).kept ≡ is_it at d
 has-ways d at = grind (arith)
@@ -214,10 +212,6 @@ none-live g s l who at e s' h is k below =
     let both : sum_below size used ≡ sum_below size (λ i. occurs i xs) + sum_below size b.live = sum-plus size (λ i. occurs i xs) b.live in
     let term : b.live k ≤ sum_below size b.live = term-sum size b.live k below in
     omega (arith, same, count, mine, had-reserved g s l who at e s' h, long, all, fewer, both, term)
-
-there-none : (o : Option Block) → is_there o ≡ 0 → o ≡ None
-there-none None none = refl
-there-none (Some b) none = absurd (omega (arith, none))
 
 pub nothing-there :
     (g : Geometry) (s : State) (l : Lists) (who : ℕ) (at : Site) (e : ErrandFields) (s' : State)

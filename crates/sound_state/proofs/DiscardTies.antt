@@ -25,10 +25,10 @@ use Rattle.sound_state.specs.Recalls.{IsLocated, IsOwned, IsSo, bound_at}
 use Rattle.sound_state.specs.Sound.{IsSoundWithoutCounts, IsSoundWith}
 use Rattle.sound_state.specs.Superblocks.{info_for}
 use Rattle.sound_state.specs.Ties.{IsTied, IsLive, IsBlockOfDesc, IsExcepted}
+use Rattle.sound_state.proofs.PopTies.{any-none}
 use Rattle.sound_state.proofs.AlikeLemmas.{Excepts, each-caller}
 use Rattle.sound_state.proofs.DiscardEffects.{Discards}
 use Rattle.sound_state.proofs.DiscardFacts.{discarded-descs, discarded-bound, nothing-there}
-use Rattle.sound_state.proofs.InstallTies.{any-none}
 
 -- no live block is one of the superblock that isn't needed
 pub not-its :

@@ -1,14 +1,12 @@
 -- What a won install leaves, and how it changes the pool and what waits.
-use Rattle.std.proofs.Common.{ℕ, false, Option, Some, None, ◌≡◌, ◌≢◌, ◌<◌, ◌+◌, ◌*◌, ◌^◌, refl, arith, ap, sym, subst, ◌∙◌}
+use Rattle.std.proofs.Common.{ℕ, Option, Some, None, ◌≡◌, ◌≢◌, ◌<◌, ◌+◌, refl, arith, ap, sym, subst, ◌∙◌}
 use Rattle.std.specs.Prelude.{◌==◌, if◌then◌else◌}
 use Rattle.std.proofs.lemmas.Bool.{cond-true, cond-false, eq-eqb, ne_eqb}
 use Rattle.heap_geometry.specs.declared.geometry.Geometry.{Geometry}
 use Rattle.heap_geometry.specs.Need.{block_count_of}
 use Rattle.heap_geometry.specs.Place.{block_place}
 use Rattle.packed_words.specs.declared.active.ActiveWord.TheVariants.{Null, Held}
-use Rattle.packed_words.specs.Active.{IsActiveWord, active_word, active_of}
-use Rattle.packed_words.proofs.ActiveLemmas.{active-exact}
-use Rattle.packed_words.specs.declared.widths.TheConstants.{CREDIT_BITS}
+use Rattle.packed_words.specs.Active.{IsActiveWord, active_word}
 use Rattle.packed_words.specs.Anchor.{anchor_of}
 use Rattle.packed_words.specs.Info.{info_of}
 use Rattle.word_plan.specs.declared.name.WordName.TheVariants as name
@@ -27,6 +25,7 @@ use Rattle.sound_state.specs.Lists.{Lists}
 use Rattle.sound_state.specs.Sound.{IsSoundWith}
 use Rattle.sound_state.specs.Sums.{callers_sum}
 use Rattle.sound_state.specs.Superblocks.{IsChained, anchor_for, info_for, info_or_zero, superblock_of, free_chain, held_back, is_there, is_bound, away_of, waiting_of, reserved_of, word_reserves, errand_reserves, reserved_among, errand_keeps, errand_away, kept_among}
+use Rattle.sound_state.proofs.QuietCredits.{null-said, held-said}
 use Rattle.sound_state.proofs.InstallEffects.{Installs, installing_holds, installed_word, first_place}
 use Rattle.sound_state.proofs.SumLemmas.{callers-moved, words-written}
 
@@ -46,7 +45,7 @@ installed-anchor g s l who at words e s' h d = ap anchor_of (h.writes.elsewhere 
 had-waiting : (d : ℕ) (at : Site) → ◌≡◌ {A = ℕ} (kept_among waiting d (installing_holds at).kept) (if at.desc == d then 1 else 0)
 had-waiting d at = grind (arith)
 
-had-ways : (d : ℕ) (at : Site) → kept_among on_its_way d (installing_holds at).kept ≡ 0
+pub had-ways : (d : ℕ) (at : Site) → kept_among on_its_way d (installing_holds at).kept ≡ 0
 had-ways d at = grind (arith)
 
 ways-weigh :
@@ -112,21 +111,6 @@ pub installed-bound :
 installed-bound g s l who at words e s' h d =
     rw (installed-away g s l who at words e s' h d, installed-anchor g s l who at words e s' h d) refl
 
--- what the words say
-pub null-said : active_of (active_word Null) ≡ Some Null
-null-said = active-exact.back Null tt
-
-pub null-none : active_word Null ≡ 0
-unfolding active_word
-null-none = refl
-
-pub held-said : (d credits : ℕ) → IsActiveWord (Held d credits) → active_of (active_word (Held d credits)) ≡ Some (Held d credits)
-held-said d credits fit = active-exact.back (Held d credits) fit
-
-pub held-some : (d credits : ℕ) → (active_word (Held d credits) == 0) ≡ false
-unfolding active_word
-held-some d credits = ne_eqb (credits + (d + 1) * 2 ^ CREDIT_BITS) 0 (λ e. let bad : ⊥ = omega (arith, e) in bad)
-
 -- the credits go from the caller to the word
 credits-weigh :
     (d : ℕ) (at : Site) → IsActiveWord (Held at.desc (new_credits at.seat.class))
@@ -150,7 +134,7 @@ installed-reserved g s l who at words e s' h d =
     omega (arith, moved, now, old, written, was, credits-weigh d at h.fits)
 
 -- the first block is held back before, and live after; all other places are as they were
-there-none : (o : Option Block) → is_there o ≡ 0 → o ≡ None
+pub there-none : (o : Option Block) → is_there o ≡ 0 → o ≡ None
 there-none None none = refl
 there-none (Some b) none = absurd (omega (arith, none))
 

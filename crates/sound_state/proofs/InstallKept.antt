@@ -23,11 +23,12 @@ use Rattle.sound_state.specs.Sound.{IsSoundWith}
 use Rattle.sound_state.specs.Stock.{IsStocked, stock_of, stock_among, errand_stock, full_stock, word_stock}
 use Rattle.sound_state.specs.Sums.{sum_below}
 use Rattle.sound_state.specs.Superblocks.{anchor_for, info_for, is_bound, waiting_of}
+use Rattle.sound_state.proofs.QuietCredits.{null-said, null-none, held-said, held-some}
 use Rattle.sound_state.proofs.FrameLemmas.{bound-fills}
 use Rattle.sound_state.proofs.AlikeLemmas.{ActivesKept, each-caller}
 use Rattle.sound_state.proofs.CreditLemmas.{actives-written}
 use Rattle.sound_state.proofs.InstallEffects.{Installs, installing_holds, installed_holds, installed_word}
-use Rattle.sound_state.proofs.InstallFacts.{installed-info, installed-anchor, installed-bound, installed-others, installed-one, installed-back, null-said, null-none, held-said, held-some}
+use Rattle.sound_state.proofs.InstallFacts.{installed-info, installed-anchor, installed-bound, installed-others, installed-one, installed-back}
 use Rattle.sound_state.proofs.PointLemmas.{kept_places}
 use Rattle.sound_state.proofs.SumLemmas.{callers-moved, sum-change, sum-same, words-written}
 

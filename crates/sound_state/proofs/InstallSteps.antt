@@ -10,7 +10,6 @@ use Rattle.packed_words.specs.declared.active.ActiveWord.TheVariants.{Null, Held
 use Rattle.packed_words.specs.declared.widths.TheConstants.{CREDIT_BITS}
 use Rattle.packed_words.proofs.ActiveLemmas.{active-exact}
 use Rattle.packed_words.proofs.AnchorLemmas.{anchor_of-anchor_word}
-use Rattle.word_plan.specs.declared.action.Found.{Found}
 use Rattle.word_plan.specs.declared.name.WordName.TheVariants as name
 use Rattle.word_plan.specs.declared.seat.Site.{Site}
 use Rattle.word_plan.specs.Actions.{name_of, after_action}
@@ -41,7 +40,7 @@ use Rattle.sound_state.proofs.InstallTurns.{installed-turned, installed-guarded,
 use Rattle.sound_state.proofs.PointLemmas.{fits-at, so-at, the-alloc}
 use Rattle.sound_state.proofs.PopEffects.{StandsIn}
 use Rattle.sound_state.proofs.PopRecalls.{new_anchor-fits}
-use Rattle.sound_state.proofs.PopSteps.{small-asked}
+use Rattle.sound_state.proofs.PopSteps.{small-asked, found_won}
 use Rattle.sound_state.proofs.QuietCredits.{held-fits, seat-active}
 use Rattle.sound_state.proofs.QuietLemmas.{found_from}
 use Rattle.sound_state.proofs.StepLemmas.{settle-at, at_point, words-below}
@@ -55,10 +54,6 @@ install-stands at o = grind (arith)
 
 prefix-stands : (at : Site) (i : ℕ) (o : Onward) → StandsIn false (Block (block.StorePrefix at i) o)
 prefix-stands at i o = grind (arith)
-
--- an exchange of this word that is won
-abbrev found_won : ℕ → Found
-found_won word = record { value = word; won = true }
 
 -- what the step of a won install changes
 pub install-installs :

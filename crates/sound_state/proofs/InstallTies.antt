@@ -1,6 +1,6 @@
 -- After a won install the words still show the pool of the events, and the events are legal.
-use Rattle.std.proofs.Common.{ℕ, zero, suc, Option, Some, None, ◌≡◌, ◌≢◌, ◌<◌, ◌≤◌, ◌+◌, ◌*◌, ◌^◌, [], refl, arith, ap, sym, subst, inl, inr, ◌∙◌}
-use Rattle.std.specs.Prelude.{◌⊎◌, All, Any, IsTrue, replicate, slice_index_or}
+use Rattle.std.proofs.Common.{ℕ, Some, None, ◌≡◌, ◌≢◌, ◌<◌, ◌≤◌, ◌+◌, ◌*◌, ◌^◌, [], refl, arith, ap, sym, subst, inl, inr, ◌∙◌}
+use Rattle.std.specs.Prelude.{◌⊎◌, All, Any, IsTrue, slice_index_or}
 use Rattle.std.specs.Int.{bit_at}
 use Rattle.std.proofs.lemmas.Bool.{cases_eq}
 use Rattle.std.proofs.lemmas.List.Elements.{All-nil, All-cons}
@@ -29,6 +29,7 @@ use Rattle.sound_state.specs.Recalls.{IsLocated, IsOwned}
 use Rattle.sound_state.specs.Sound.{IsSoundWithoutCounts, IsSoundWith}
 use Rattle.sound_state.specs.Superblocks.{info_for}
 use Rattle.sound_state.specs.Ties.{IsTied, IsLive, IsBlockOfDesc, IsExcepted}
+use Rattle.sound_state.proofs.PopTies.{any-none, none-written}
 use Rattle.sound_state.proofs.FrameLemmas.{one-in-frame}
 use Rattle.sound_state.proofs.AlikeLemmas.{Excepts, each-caller}
 use Rattle.sound_state.proofs.InstallEffects.{Installs, first_place}
@@ -78,16 +79,6 @@ installed-legal g s l who at words e s' h sound is =
     subst (IsLegalWithoutCounts g) (sym h.history)
     (EachAfter-push (IsLegalEventWithoutCounts g) s.history (Alloc who words (first_place at)) sound.legal
     (h.caller, subst (λ n. IsFree g (pool_of s.history) n (first_place at)) (sym h.small) free))
-
--- a list of nothing has no element
-pub any-none : {X : Type 0} (P : X → Type 0) → Any P [] → ⊥
-any-none P some = omega (arith, some.2)
-
--- nothing is written in a fresh block
-none-written : (n i : ℕ) → ◌≡◌ {A = Option ℕ} (slice_index_or (replicate n None) i None) None
-none-written zero i = refl
-none-written (suc n) zero = refl
-none-written (suc n) (suc i) = none-written n i
 
 -- a block that was live is elsewhere and still is; one that is live elsewhere was
 was-elsewhere :

@@ -1,5 +1,5 @@
 -- A won install keeps the lists, the guards, and the bounds of tags and turns.
-use Rattle.std.proofs.Common.{ℕ, Bool, false, cond, ◌≡◌, ◌<◌, ◌≤◌, ◌+◌, [], ◌∷◌, ◌++◌, Some, length, refl, arith, ap, sym, subst, ◌∙◌}
+use Rattle.std.proofs.Common.{ℕ, Bool, cond, ◌≡◌, ◌<◌, ◌≤◌, ◌+◌, [], ◌∷◌, ◌++◌, Some, length, refl, arith, ap, sym, subst, ◌∙◌}
 use Rattle.std.proofs.Math.Path.{fun_ext}
 use Rattle.std.specs.Prelude.{◌&&◌, not, slice_index, Contains, count_by}
 use Rattle.std.proofs.lemmas.Bool.{cond_both}
@@ -26,8 +26,7 @@ use Rattle.sound_state.specs.Turns.{IsTurned, gives_small, refuses_small, turn_o
 use Rattle.sound_state.proofs.AlikeLemmas.{each-caller}
 use Rattle.sound_state.proofs.InstallEffects.{Installs, StandsFramed, first_place}
 use Rattle.sound_state.proofs.InstallFacts.{installed-anchor, installed-away}
-use Rattle.sound_state.proofs.PopEffects.{StandsIn}
-use Rattle.sound_state.proofs.PopTurns.{Weighs, each-other, small-served, gives-one, gives-none, alloc-one}
+use Rattle.sound_state.proofs.PopTurns.{each-other, small-served, gives-one, gives-none, alloc-one, given-weighs}
 use Rattle.sound_state.proofs.SumLemmas.{callers-moved, sum-same}
 
 pub installed-listed :
@@ -117,17 +116,6 @@ framed-weighs e h = record {
   unframed = rw (h.turn, h.frame) refl;
   pops = h.pops;
   unlisted = cond_both (in_turn e.point && not (has_partial e.point)) 1 0 (λ n. n ≤ 1) (λ is. omega arith) (λ is. omega arith);
-}
-
--- and one that has given its block
-given-weighs : (e : ErrandFields) → StandsIn false e.point → Weighs e 0
-given-weighs e h = record {
-  under_way = rw h.turn refl;
-  discards = rw h.turn refl;
-  unanswered = rw h.turn refl;
-  unframed = rw h.turn refl;
-  pops = h.pops;
-  unlisted = rw h.turn (omega arith);
 }
 
 pub installed-turned :

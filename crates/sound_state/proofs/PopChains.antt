@@ -193,7 +193,7 @@ popped-chain g s l who at share a link words e s' h old =
     ap (chain_of next k) first ∙ chain_of-first next k a.avail (omega (arith, popped-first g s l who at share a link words e s' h)) ∙ ap (λ xs. a.avail ∷ xs) rest
 
 -- another index in front changes nothing
-occurs-past : (j i : ℕ) (xs : List ℕ) → i ≢ j → occurs j (i ∷ xs) ≡ occurs j xs
+pub occurs-past : (j i : ℕ) (xs : List ℕ) → i ≢ j → occurs j (i ∷ xs) ≡ occurs j xs
 occurs-past j i xs differ = omega (arith, cond-false {A = ℕ} (i == j) 1 0 (ne_eqb i j differ))
 
 -- a superblock that loses the first block of its chain, which becomes live, keeps its blocks in order

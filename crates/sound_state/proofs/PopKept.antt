@@ -203,20 +203,20 @@ popped-cases g s l who at share a link words e s' h kept d =
     ]
 
 -- what holds of all that is in a list stays so where it does of each
-on-all :
+pub on-all :
     (P Q : ℕ → Type 0) (xs : List ℕ) → ((x : ℕ) → 0 < occurs x xs → P x → Q x) → All P xs → All Q xs
 on-all P Q [] f all = All-nil Q
 on-all P Q (x ∷ xs) f all =
     All-cons Q x xs (f x (omega (arith, occurs-here x xs)) (All-head P x xs all))
     (on-all P Q xs (λ y on. f y (omega (arith, on, occurs-more y x xs))) (All-tail P x xs all))
 
-kept-here : (k : Kept) (ks : List Kept) → 1 ≤ kept_places k.desc (k ∷ ks)
+pub kept-here : (k : Kept) (ks : List Kept) → 1 ≤ kept_places k.desc (k ∷ ks)
 kept-here k ks = grind (arith)
 
-kept-more : (d : ℕ) (k : Kept) (ks : List Kept) → kept_places d ks ≤ kept_places d (k ∷ ks)
+pub kept-more : (d : ℕ) (k : Kept) (ks : List Kept) → kept_places d ks ≤ kept_places d (k ∷ ks)
 kept-more d k ks = grind (arith)
 
-on-kept :
+pub on-kept :
     (P Q : Kept → Type 0) (ks : List Kept) → ((k : Kept) → 1 ≤ kept_places k.desc ks → P k → Q k) → All P ks → All Q ks
 on-kept P Q [] f all = All-nil Q
 on-kept P Q (k ∷ ks) f all =

@@ -106,11 +106,11 @@ new_anchor-fits class = record {
 }
 
 -- a caller that waits to install a superblock has reserved its first blocks, and holds block 0 back
-install-reserves : (site : Site) (o : Onward) → reserved_among site.desc (holds_of (point.Block (block.InstallSuperblock site) o)).credits ≡ new_credits site.seat.class + 1
+pub install-reserves : (site : Site) (o : Onward) → reserved_among site.desc (holds_of (point.Block (block.InstallSuperblock site) o)).credits ≡ new_credits site.seat.class + 1
 unfolding holds_of
 install-reserves site o = grind (arith)
 
-install-waits : (e : ErrandFields) (site : Site) (o : Onward) → e.point ≡ point.Block (block.InstallSuperblock site) o → errand_keeps waiting site.desc e ≡ 1
+pub install-waits : (e : ErrandFields) (site : Site) (o : Onward) → e.point ≡ point.Block (block.InstallSuperblock site) o → errand_keeps waiting site.desc e ≡ 1
 unfolding holds_of
 install-waits e site o at = rw at (grind (arith))
 
@@ -205,7 +205,7 @@ left-onward s d seat onward.EndFree = tt
 left-onward s d seat onward.Nothing = tt
 
 -- at a stack
-next-apart : (pile : Pile) (k d : ℕ) → next_name pile k ≢ name.Anchor d
+pub next-apart : (pile : Pile) (k d : ℕ) → next_name pile k ≢ name.Anchor d
 next-apart Frames k d = λ same. cc
 next-apart Partials k d = λ same. cc
 
@@ -413,14 +413,14 @@ popped-owned g s l who at share a link words e s' h sound old i place n k =
     }
 
 -- EMPTY is one state
-empty-is : (p : Phase) → is_empty p ≡ true → p ≡ phase.Empty
+pub empty-is : (p : Phase) → is_empty p ≡ true → p ≡ phase.Empty
 empty-is phase.Active is = grind (arith, is)
 empty-is phase.Full is = grind (arith, is)
 empty-is phase.Partial is = grind (arith, is)
 empty-is phase.Empty is = refl
 
 -- another caller's events are as they were
-append-nil : (xs : List Event) → xs ++ [] ≡ xs
+pub append-nil : (xs : List Event) → xs ++ [] ≡ xs
 append-nil [] = refl
 append-nil (x ∷ xs) = ap (λ (ys : List Event). x ∷ ys) (append-nil xs)
 

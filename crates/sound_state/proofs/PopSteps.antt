@@ -102,7 +102,7 @@ pub small-asked :
 small-asked g who at o alloc fit = subst (FitsOnward g who at.seat) alloc fit
 
 -- an exchange of this word that is won
-abbrev found_won : ℕ → Found
+abbrev pub found_won : ℕ → Found
 found_won word = record { value = word; won = true }
 
 -- what the step of a won pop changes

@@ -101,11 +101,11 @@ frees-after : (at : Site) (i more : ℕ) → (popped_holds at i more).frees ≡ 
 frees-after at i more = elim (cases_Bool (nat_lt 0 more)) [ inl some ↦ rw some refl | inr none ↦ rw none refl ]
 
 -- a list of nothing has no element
-any-none : {X : Type 0} (P : X → Type 0) → Any P [] → ⊥
+pub any-none : {X : Type 0} (P : X → Type 0) → Any P [] → ⊥
 any-none P some = omega (arith, some.2)
 
 -- nothing is written in a fresh block
-none-written : (n i : ℕ) → ◌≡◌ {A = Option ℕ} (slice_index_or (replicate n None) i None) None
+pub none-written : (n i : ℕ) → ◌≡◌ {A = Option ℕ} (slice_index_or (replicate n None) i None) None
 none-written zero i = refl
 none-written (suc n) zero = refl
 none-written (suc n) (suc i) = none-written n i

@@ -168,7 +168,7 @@ giving-weighs e h = record {
   unlisted = cond_both (in_turn e.point && not (has_partial e.point)) 1 0 (λ n. n ≤ 1) (λ is. omega arith) (λ is. omega arith);
 }
 
-given-weighs : (e : ErrandFields) → StandsIn false e.point → Weighs e 0
+pub given-weighs : (e : ErrandFields) → StandsIn false e.point → Weighs e 0
 given-weighs e h = record {
   under_way = rw h.turn refl;
   discards = rw h.turn refl;

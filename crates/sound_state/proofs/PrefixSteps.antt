@@ -49,6 +49,7 @@ use Rattle.sound_state.specs.Sound.{IsSoundWithoutCounts, IsSoundWith}
 use Rattle.sound_state.specs.Stock.{waits_in}
 use Rattle.sound_state.specs.Superblocks.{is_bound}
 use Rattle.sound_state.specs.Ties.{IsLive}
+use Rattle.sound_state.proofs.QuietPushes.{any-none, any-one}
 use Rattle.sound_state.proofs.FrameLemmas.{one-in-frame}
 use Rattle.sound_state.proofs.AlikeLemmas.{sound-alike, IsSaidAt, MayGoOn, MayGuard}
 use Rattle.sound_state.proofs.LoosePlaces.{arena_in, arena-written, arena-kept, IsLoose, IsUnread, is-making, live-loose, making-loose}
@@ -124,14 +125,6 @@ store-sound g s who s' place new p q sound has at given w below step =
             written,
       );
     }
-
--- what some element of a list of one has
-any-none : {X : Type 0} (P : X → Type 0) → Any P [] → ⊥
-any-none P a = omega (arith, a.2)
-
-any-one : {X : Type 0} (P : X → Type 0) (x : X) → Any P (x ∷ []) → P x
-any-one P x a =
-    subst (λ y. P y → P x) a.3 (All-cons (λ y. P y → P x) x [] (λ p. p) (All-nil (λ y. P y → P x)) a.0 a.1 a.2) a.4
 
 the-one : {X : Type 0} (P : X → Type 0) (x : X) → P x → Any P (x ∷ [])
 the-one P x is = (0, x, omega arith, refl, is)

@@ -1,7 +1,7 @@
 -- A won push: each frame stays in one place, and the superblocks keep their blocks in order.
-use Rattle.std.proofs.Common.{ℕ, Bool, true, false, ◌≡◌, ◌≢◌, ◌<◌, ◌+◌, ◌-◌, List, ◌∷◌, refl, arith, ap, sym, subst, inl, inr, ◌∙◌}
+use Rattle.std.proofs.Common.{ℕ, Bool, true, false, ◌≡◌, ◌≢◌, ◌<◌, ◌+◌, ◌-◌, ◌∷◌, refl, arith, ap, sym, subst, inl, inr, ◌∙◌}
 use Rattle.std.specs.Prelude.{◌==◌, not, if◌then◌else◌, IsTrue, IsSome}
-use Rattle.std.proofs.lemmas.Bool.{cases_eq, cond-false, ne_eqb}
+use Rattle.std.proofs.lemmas.Bool.{cases_eq}
 use Rattle.heap_geometry.specs.declared.geometry.Geometry.{Geometry}
 use Rattle.heap_geometry.specs.Need.{block_count_of}
 use Rattle.heap_geometry.specs.Place.{block_place, frame_of, index_of}
@@ -20,7 +20,7 @@ use Rattle.sound_state.specs.Lists.{Lists}
 use Rattle.sound_state.specs.Sound.{IsSoundWithoutCounts, IsSoundWith}
 use Rattle.sound_state.specs.Superblocks.{Superblock, AreChained, IsChained, superblock_of, anchor_for, reserved_of, held_back, free_chain, live_at, is_there, is_bound, info_for}
 use Rattle.sound_state.proofs.FrameLemmas.{bound-apart}
-use Rattle.sound_state.proofs.PopChains.{IsSameButLive, same-chained}
+use Rattle.sound_state.proofs.PopChains.{IsSameButLive, same-chained, occurs-past}
 use Rattle.sound_state.proofs.PushEffects.{Outcome, stays, unfills, empties, IsOutcome, Pushes, pushed_anchor, pushed_holds, pushed_place}
 use Rattle.sound_state.proofs.PushFacts.{pushed-info, pushed-anchor, pushed-waits, pushed-bound, pushed-bound-here, was-bound, pushed-reserved, pushed-links, pushed-gone, pushed-there, pushed-live, pushed-bare, makes_empty}
 use Rattle.sound_state.proofs.SumLemmas.{callers-moved, sum-change}
@@ -167,10 +167,6 @@ pushed-chain g s l who at i stored a out e s' h stands =
     ∙ chain_of-first next (k + 1) i (omega arith)
     ∙ ap (λ n. i ∷ chain_of next n (next i)) less
     ∙ ap (λ j. i ∷ chain_of next k j) goes
-
--- another index in front changes nothing
-occurs-past : (j i : ℕ) (xs : List ℕ) → i ≢ j → occurs j (i ∷ xs) ≡ occurs j xs
-occurs-past j i xs differ = omega (arith, cond-false {A = ℕ} (i == j) 1 0 (ne_eqb i j differ))
 
 -- a superblock whose chain gains in front a block that was live keeps its blocks in order
 pub first-comes :

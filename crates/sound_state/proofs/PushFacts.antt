@@ -30,7 +30,7 @@ use Rattle.sound_state.specs.Lists.{Lists}
 use Rattle.sound_state.specs.Sound.{IsSoundWithoutCounts, IsSoundWith}
 use Rattle.sound_state.specs.Sums.{sum_below, words_sum, callers_sum}
 use Rattle.sound_state.specs.Superblocks.{Superblock, IsChained, anchor_for, info_for, info_or_zero, superblock_of, free_chain, held_back, is_bound, is_there, live_at, away_of, waiting_of, reserved_of, word_reserves, errand_reserves, reserved_among, errand_keeps, errand_away, kept_among}
-use Rattle.sound_state.proofs.PopFacts.{bound-stands}
+use Rattle.sound_state.proofs.PopFacts.{bound-stands, anchor_number}
 use Rattle.sound_state.proofs.PushEffects.{Outcome, stays, unfills, empties, Pushes, pushed_anchor, pushed_holds, pushed_place}
 use Rattle.sound_state.proofs.SumLemmas.{sum-same, sum-none, sum-one, sum-ones, sum-plus, callers-moved, term-sum, two-terms}
 
@@ -40,11 +40,6 @@ pub pushed-info :
     (s' : State) → Pushes g s l who at i stored a out e s' → (d : ℕ) → info_for s' d ≡ info_for s d
 pushed-info g s l who at i stored a out e s' h d =
     ap (λ w. info_or_zero (info_of w)) (h.elsewhere (name.Info d) (λ same. cc))
-
--- the number of an anchor's name
-abbrev anchor_number : WordName → ℕ
-anchor_number (name.Anchor d) = d
-anchor_number n = 0
 
 pub pushed-anchor :
     (g : Geometry) (s : State) (l : Lists) (who : ℕ) (at : Site) (i : ℕ) (stored : Bool) (a : AnchorFields) (out : Outcome) (e : ErrandFields)

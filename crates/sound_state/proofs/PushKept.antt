@@ -186,7 +186,7 @@ word-none g s l d name.Units kept has active none = refl
 word-none g s l d (name.Shelf k) kept has active none = refl
 
 -- a bound superblock isn't away
-is-out : (n : ℕ) (c : Bool) → IsTrue ((n == 0) && not c) → n ≡ 0
+pub is-out : (n : ℕ) (c : Bool) → IsTrue ((n == 0) && not c) → n ≡ 0
 is-out n c is = grind (arith, is)
 
 -- so an ACTIVE superblock has a block reserved

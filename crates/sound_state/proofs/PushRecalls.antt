@@ -1,7 +1,7 @@
 -- A won push keeps what the callers remember.
 use Rattle.std.proofs.Common.{ℕ, Bool, true, false, ◌≡◌, ◌≢◌, ◌<◌, ◌≤◌, ◌+◌, ◌-◌, List, [], ◌∷◌, ◌++◌, refl, arith, ap, sym, subst, inl, inr, ◌∙◌}
 use Rattle.std.specs.List.{All, AllByRecursion}
-use Rattle.std.specs.Prelude.{◌==◌, ◌&&◌, not, IsTrue}
+use Rattle.std.specs.Prelude.{not, IsTrue}
 use Rattle.std.proofs.lemmas.Bool.{cases_eq, cases_Bool, ne_eqb}
 use Rattle.std.proofs.lemmas.List.Elements.{All-nil, All-cons, All-head, All-from_recursion, recursion_from_All}
 use Rattle.heap_geometry.specs.declared.geometry.Geometry.{Geometry}
@@ -12,7 +12,6 @@ use Rattle.packed_words.specs.Anchor.{AnchorFields, anchor_of, anchor_word}
 use Rattle.packed_words.specs.Head.{HeadFields, head_of}
 use Rattle.packed_words.proofs.AnchorLemmas.{anchor_of-anchor_word}
 use Rattle.partial_parts.specs.Grants.{is_empty}
-use Rattle.word_plan.specs.declared.name.WordName.{WordName}
 use Rattle.word_plan.specs.declared.name.WordName.TheVariants as name
 use Rattle.word_plan.specs.declared.seat.Site.{Site}
 use Rattle.word_plan.specs.Seats.{SeatFields}
@@ -55,8 +54,10 @@ use Rattle.sound_state.specs.Recalls.{Recall, IsPopped, IsLocated, IsTopStill, I
 use Rattle.sound_state.specs.Sound.{IsSoundWith}
 use Rattle.sound_state.specs.Sums.{sum_below, callers_sum}
 use Rattle.sound_state.specs.Superblocks.{anchor_for, info_for, superblock_of, free_chain, reserved_of, reserved_among, errand_reserves, errand_away, is_bound, away_of, errand_keeps, live_at, is_there}
+use Rattle.sound_state.proofs.PushKept.{is-out}
+use Rattle.sound_state.proofs.PopFacts.{anchor_number}
 use Rattle.sound_state.proofs.PointLemmas.{fits-at, so-at}
-use Rattle.sound_state.proofs.PopRecalls.{new_anchor-fits}
+use Rattle.sound_state.proofs.PopRecalls.{new_anchor-fits, next-apart, install-reserves, install-waits, append-nil}
 use Rattle.sound_state.proofs.PopTurns.{each-other}
 use Rattle.sound_state.proofs.PushChains.{pushed-chain, was-place}
 use Rattle.sound_state.proofs.PushEffects.{Outcome, stays, unfills, empties, Pushes, pushed_recalls, pushed_place}
@@ -64,19 +65,6 @@ use Rattle.sound_state.proofs.PushFacts.{pushed-info, pushed-anchor, pushed-boun
 use Rattle.sound_state.proofs.PushTies.{still-owned, owned-elsewhere}
 use Rattle.sound_state.proofs.PushTurns.{pushed-tag}
 use Rattle.sound_state.proofs.SumLemmas.{sum-least, term-sum}
-
--- a bound superblock isn't away
-is-out : (n : ℕ) (c : Bool) → IsTrue ((n == 0) && not c) → n ≡ 0
-is-out n c is = grind (arith, is)
-
--- a caller that waits to install a superblock has reserved its first blocks, and holds block 0 back
-install-reserves : (site : Site) (o : Onward) → reserved_among site.desc (holds_of (point.Block (block.InstallSuperblock site) o)).credits ≡ new_credits site.seat.class + 1
-unfolding holds_of
-install-reserves site o = grind (arith)
-
-install-waits : (e : ErrandFields) (site : Site) (o : Onward) → e.point ≡ point.Block (block.InstallSuperblock site) o → errand_keeps waiting site.desc e ≡ 1
-unfolding holds_of
-install-waits e site o at = rw at (grind (arith))
 
 -- nobody pushes onto a superblock that waits to be installed
 pub pushed-installed :
@@ -148,11 +136,6 @@ its-freed s j at k all =
     All-head (λ (x : Freed). IsOwned s j x.place x.need)
     (record { place = block_place at.frame at.seat.class k; need = need.Small at.seat.class; overwritten = true }) [] all
 
--- the number of an anchor's name
-abbrev anchor_number : WordName → ℕ
-anchor_number (name.Anchor d) = d
-anchor_number n = 0
-
 -- what a caller has in a superblock
 record HasBlock (g : Geometry) (s : State) (l : Lists) (j d : ℕ) (b : Bool) (p : BlockPoint) : Type 0 where
   fits : FitsBlock g j p
@@ -219,11 +202,6 @@ left-onward g s l j d b seat (onward.PushFirst first) unowned fits hands so = tt
 left-onward g s l j d b seat (onward.Finish stored) unowned fits hands so = tt
 left-onward g s l j d b seat onward.EndFree unowned fits hands so = tt
 left-onward g s l j d b seat onward.Nothing unowned fits hands so = tt
-
--- at a stack
-next-apart : (pile : Pile) (k d : ℕ) → next_name pile k ≢ name.Anchor d
-next-apart Frames k d = λ same. cc
-next-apart Partials k d = λ same. cc
 
 too-hands : (pile : Pile) (k : ℕ) (seat : SeatFields) (o : Onward) → (pushed_too pile k seat o).hands ≡ (onward_holds seat o).hands
 too-hands Frames k seat o = refl
@@ -489,11 +467,6 @@ pushed-top g s l who at i stored a out e s' h seat p head k =
       tag = subst (λ x. head.tag ≤ x.tag) (sym same) k.tag;
       top = λ is. k.top (is ∙ ap (λ x. x.tag) same);
     }
-
--- another caller's events are as they were
-append-nil : (xs : List Event) → xs ++ [] ≡ xs
-append-nil [] = refl
-append-nil (x ∷ xs) = ap (λ (ys : List Event). x ∷ ys) (append-nil xs)
 
 own-other : (j who place : ℕ) (past : List Event) → j ≢ who → own j (past ++ Free who place ∷ []) ≡ own j past
 own-other j who place past ne =

@@ -46,6 +46,7 @@ use Rattle.sound_state.specs.Lists.{Lists}
 use Rattle.sound_state.specs.Recalls.{IsSo, IsOwned, bound_here, bound_at, says, recalls_of}
 use Rattle.sound_state.specs.Sound.{IsSoundWith}
 use Rattle.sound_state.specs.Superblocks.{IsChained, anchor_for, away_of, info_for, superblock_of}
+use Rattle.sound_state.proofs.PopSteps.{found_won}
 use Rattle.sound_state.proofs.PointLemmas.{fits-at, so-at, frees-at, the-free}
 use Rattle.sound_state.proofs.PopFacts.{bound-stands}
 use Rattle.sound_state.proofs.PushEffects.{Outcome, stays, unfills, empties, IsOutcome, Pushes, FreeStands, pushed_anchor, pushed_holds, pushed_recalls, pushed_place}
@@ -172,10 +173,6 @@ pushed-fits empties class i stored a fits avail is = record { avail = avail; cou
 -- a link's word is the link
 small-link : (w : ℕ) → w < 2 ^ AVAIL_BITS → link_of w ≡ w
 small-link w lt = omega (arith, lt)
-
--- an exchange of this word that is won
-abbrev found_won : ℕ → Found
-found_won word = record { value = word; won = true }
 
 -- a push, and where it leads
 abbrev pub PushesOut : Geometry → State → Lists → ℕ → Site → ℕ → Bool → AnchorFields → State → Type 0

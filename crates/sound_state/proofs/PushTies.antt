@@ -29,15 +29,12 @@ use Rattle.sound_state.specs.Recalls.{IsLocated, IsOwned}
 use Rattle.sound_state.specs.Sound.{IsSoundWithoutCounts, IsSoundWith}
 use Rattle.sound_state.specs.Superblocks.{superblock_of, is_bound, is_there, live_at}
 use Rattle.sound_state.specs.Ties.{IsTied, IsLive, IsBlockOfDesc, IsExcepted}
+use Rattle.sound_state.proofs.PopTies.{any-none}
 use Rattle.sound_state.proofs.AlikeLemmas.{Excepts, each-caller}
 use Rattle.sound_state.proofs.PopTurns.{each-other}
 use Rattle.sound_state.proofs.PushChains.{was-place}
 use Rattle.sound_state.proofs.PushEffects.{Outcome, stays, unfills, empties, Pushes, pushed_holds, pushed_place}
 use Rattle.sound_state.proofs.PushFacts.{pushed-info, pushed-bound, pushed-bound-here, pushed-gone, pushed-there, pushed-bare}
-
--- a list of nothing has no element, and a list of one has that one
-any-none : {X : Type 0} (P : X → Type 0) → Any P [] → ⊥
-any-none P some = omega (arith, some.2)
 
 any-one : {X : Type 0} (P : X → Type 0) (y : X) → Any P (y ∷ []) → P y
 any-one P y (zero, x, lt, is, p) = subst P (sym is) p

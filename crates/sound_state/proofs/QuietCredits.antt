@@ -44,18 +44,18 @@ use Rattle.sound_state.proofs.CreditLemmas.{actives-written, active-bound, word-
 pub held-fits : (g : Geometry) (d credits : ℕ) → IsChecked g → d < descriptor_count g → credits < 2 ^ CREDIT_BITS → IsActiveWord (Held d credits)
 held-fits g d credits checked has few = (omega (arith, has, descriptor_count_within g checked), few)
 
-null-said : active_of (active_word Null) ≡ Some Null
+pub null-said : active_of (active_word Null) ≡ Some Null
 null-said = active-exact.back Null tt
 
-null-none : active_word Null ≡ 0
+pub null-none : active_word Null ≡ 0
 unfolding active_word
 null-none = refl
 
-held-said : (d credits : ℕ) → IsActiveWord (Held d credits) → active_of (active_word (Held d credits)) ≡ Some (Held d credits)
+pub held-said : (d credits : ℕ) → IsActiveWord (Held d credits) → active_of (active_word (Held d credits)) ≡ Some (Held d credits)
 held-said d credits fit = active-exact.back (Held d credits) fit
 
 -- it isn't 0
-held-some : (d credits : ℕ) → (active_word (Held d credits) == 0) ≡ false
+pub held-some : (d credits : ℕ) → (active_word (Held d credits) == 0) ≡ false
 unfolding active_word
 held-some d credits = ne_eqb (credits + (d + 1) * 2 ^ CREDIT_BITS) 0 (λ e. let bad : ⊥ = omega (arith, e) in bad)
 

@@ -28,7 +28,7 @@ use Rattle.sound_state.proofs.QuietLemmas.{HoldsSame, quiet-at}
 use Rattle.sound_state.proofs.StepLemmas.{TurnGoes}
 
 -- a step that leads to a point at which the caller holds the same
-record LeadsTo (p : Point) (n : Next) : Type 0 where
+pub record LeadsTo (p : Point) (n : Next) : Type 0 where
   pub next : n ≡ At (point_after n)
   pub holds : HoldsSame p (point_after n)
 

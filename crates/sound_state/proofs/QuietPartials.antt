@@ -31,8 +31,6 @@ use Rattle.hazard_parts.specs.declared.point.DescPoint.TheVariants as desc
 use Rattle.errand_steps.specs.Onwards.{fills}
 use Rattle.errand_steps.specs.declared.onward.Onward.{Onward}
 use Rattle.errand_steps.specs.declared.onward.Onward.TheVariants.{Alloc, Finish, GiveBlock, Free, Clear, ClearSecond, PushFirst, Retire, EndFree}
-use Rattle.errand_steps.specs.declared.next.Next.{Next}
-use Rattle.errand_steps.specs.declared.next.Next.TheVariants.{At}
 use Rattle.errand_steps.specs.Errands.{ErrandFields, point_after}
 use Rattle.errand_steps.specs.declared.point.Point.{Point}
 use Rattle.errand_steps.specs.declared.point.Point.TheVariants.{Idle, Partial, Stack, Desc, Block}
@@ -48,16 +46,12 @@ use Rattle.sound_state.specs.Lists.{Lists}
 use Rattle.sound_state.specs.Recalls.{recalls_of, IsSo, IsOwned, IsEmptied, IsLocated, located, in_use, emptied}
 use Rattle.sound_state.specs.Sound.{IsSoundWithoutCounts, IsSoundWith}
 use Rattle.sound_state.specs.Superblocks.{errand_keeps, kept_among, anchor_for, info_for, info_or_zero}
+use Rattle.sound_state.proofs.QuietDescs.{LeadsTo}
+use Rattle.sound_state.proofs.QuietBlocks.{LeadsOn}
 use Rattle.sound_state.proofs.AlikeLemmas.{ActivesKept}
 use Rattle.sound_state.proofs.PointLemmas.{HoldsAlike, alike-goes, WeighFrom, fits-at, kept-at, so-at, weigh-stays, step-from, slot-written, slot-emptied, keeps-too, keeps-none, stays-actives, exists-at, end-from, keeps-alone, All-rest}
-use Rattle.sound_state.proofs.QuietLemmas.{HoldsSame, quiet-at}
+use Rattle.sound_state.proofs.QuietLemmas.{quiet-at}
 use Rattle.sound_state.proofs.StepLemmas.{PointGoes, TurnGoes, HoldsException}
-
--- a step that leads to a point at which the caller holds the same, and nothing is remembered
-record LeadsOn (p : Point) (n : Next) : Type 0 where
-  pub next : n ≡ At (point_after n)
-  pub holds : HoldsSame p (point_after n)
-  pub recalls : recalls_of (point_after n) ≡ []
 
 -- where a slot leads
 kept-leads :
@@ -120,11 +114,6 @@ take_slot_lost-sound g s who s' seat d need sound has at lost step =
 within-some : (g : Geometry) (i : Option InfoFields) (info : InfoFields) → info_within g i ≡ Some info → info_or_zero i ≡ info
 within-some g None info is = grind (arith)
 within-some g (Some i) info is = grind (arith)
-
--- a step that leads to a point at which the caller holds the same
-record LeadsTo (p : Point) (n : Next) : Type 0 where
-  pub next : n ≡ At (point_after n)
-  pub holds : HoldsSame p (point_after n)
 
 -- where the word of a taken descriptor leads
 taken_info-leads :

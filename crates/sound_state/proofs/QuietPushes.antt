@@ -132,10 +132,10 @@ pub steady-at :
 steady-at g s who s' p q sound has at h step = steady-sound g s who s' q sound has (subst (λ r. IsSteadyAt g s who r q) (sym at) h) step
 
 -- what some element of a list of one has
-any-none : {X : Type 0} (P : X → Type 0) → Any P [] → ⊥
+pub any-none : {X : Type 0} (P : X → Type 0) → Any P [] → ⊥
 any-none P a = omega (arith, a.2)
 
-any-one : {X : Type 0} (P : X → Type 0) (x : X) → Any P (x ∷ []) → P x
+pub any-one : {X : Type 0} (P : X → Type 0) (x : X) → Any P (x ∷ []) → P x
 any-one P x a =
     subst (λ y. P y → P x) a.3 (All-cons (λ y. P y → P x) x [] (λ p. p) (All-nil (λ y. P y → P x)) a.0 a.1 a.2) a.4
 

@@ -1,7 +1,7 @@
 -- What a step leaves that moves blocks between the count and what is reserved.
-use Rattle.std.proofs.Common.{ℕ, Bool, false, ◌≡◌, ◌≢◌, ◌<◌, ◌+◌, refl, arith, ap, sym, subst, inl, inr, ◌∙◌}
+use Rattle.std.proofs.Common.{ℕ, ◌≡◌, ◌≢◌, ◌<◌, ◌+◌, refl, arith, ap, sym, subst, inl, inr, ◌∙◌}
 use Rattle.std.proofs.Math.Path.{fun_ext}
-use Rattle.std.specs.Prelude.{◌==◌, ◌&&◌, not, IsTrue, IsSome, if◌then◌else◌}
+use Rattle.std.specs.Prelude.{◌==◌, IsTrue, IsSome, if◌then◌else◌}
 use Rattle.std.proofs.lemmas.Bool.{cases_eq}
 use Rattle.heap_geometry.specs.declared.geometry.Geometry.{Geometry}
 use Rattle.heap_geometry.specs.Need.{block_count_of}
@@ -27,6 +27,7 @@ use Rattle.sound_state.specs.Lists.{Lists}
 use Rattle.sound_state.specs.Sound.{IsSoundWith}
 use Rattle.sound_state.specs.Sums.{sum_below, words_sum, callers_sum}
 use Rattle.sound_state.specs.Superblocks.{Superblock, AreChained, IsChained, anchor_for, info_for, info_or_zero, superblock_of, free_chain, held_back, is_bound, away_of, waiting_of, reserved_of, word_reserves, errand_reserves, errand_keeps, errand_away, live_at, is_there}
+use Rattle.sound_state.proofs.PopFacts.{anchor_number, bound-stands}
 use Rattle.sound_state.proofs.ShiftEffects.{Shifts}
 use Rattle.sound_state.proofs.SumLemmas.{sum-same, callers-moved}
 
@@ -34,10 +35,6 @@ use Rattle.sound_state.proofs.SumLemmas.{sum-same, callers-moved}
 pub shifted-info :
     (g : Geometry) (s : State) (l : Lists) (who : ℕ) (at : Site) (a b : AnchorFields) (e : ErrandFields) (s' : State) → Shifts g s l who at a b e s' → (d : ℕ) → info_for s' d ≡ info_for s d
 shifted-info g s l who at a b e s' h d = ap (λ w. info_or_zero (info_of w)) (h.elsewhere (name.Info d) (λ same. cc))
-
-abbrev anchor_number : WordName → ℕ
-anchor_number (name.Anchor d) = d
-anchor_number n = 0
 
 pub shifted-anchor :
     (g : Geometry) (s : State) (l : Lists) (who : ℕ) (at : Site) (a b : AnchorFields) (e : ErrandFields) (s' : State) → Shifts g s l who at a b e s' → (d : ℕ) → d ≢ at.desc → anchor_for s' d ≡ anchor_for s d
@@ -63,10 +60,6 @@ shifted-avail g s l who at a b e s' h d =
           (ap (λ x. x.avail) h.after ∙ h.avail ∙ sym (ap (λ x. x.avail) h.before))
       | inr ne ↦ ap (λ x. x.avail) (shifted-anchor g s l who at a b e s' h d ne)
     ]
-
--- a bound superblock isn't EMPTY, and is not made so
-bound-stands : (b : Bool) (c : Bool) → IsTrue (b && not c) → c ≡ false
-bound-stands b c is = grind (arith, is)
 
 pub shifted-empty :
     (g : Geometry) (s : State) (l : Lists) (who : ℕ) (at : Site) (a b : AnchorFields) (e : ErrandFields) (s' : State) → Shifts g s l who at a b e s' → (d : ℕ) → is_empty (anchor_for s' d).state ≡ is_empty (anchor_for s d).state

@@ -1,8 +1,7 @@
 -- A step that moves blocks between the count and what is reserved leaves each descriptor in one place, and as many out for each class.
-use Rattle.std.proofs.Common.{ℕ, Some, ◌≡◌, ◌≢◌, ◌<◌, ◌≤◌, ◌+◌, List, [], ◌∷◌, refl, arith, ap, sym, subst, inl, inr, ◌∙◌}
+use Rattle.std.proofs.Common.{ℕ, Some, ◌≡◌, ◌≢◌, ◌<◌, ◌≤◌, ◌+◌, refl, arith, ap, sym, subst, inl, inr, ◌∙◌}
 use Rattle.std.specs.Prelude.{◌⊎◌, ◌==◌, All, IsSome, if◌then◌else◌}
 use Rattle.std.proofs.lemmas.Bool.{cases_eq, cond-true, cond-false, eq-eqb, ne_eqb}
-use Rattle.std.proofs.lemmas.List.Elements.{All-nil, All-cons, All-head, All-tail}
 use Rattle.heap_geometry.specs.declared.geometry.Geometry.{Geometry}
 use Rattle.heap_geometry.specs.declared.limits.TheConstants.{CLASSES}
 use Rattle.packed_words.specs.declared.active.ActiveWord.TheVariants.{Held}
@@ -13,16 +12,16 @@ use Rattle.word_plan.specs.Counts.{descriptor_count}
 use Rattle.word_plan.specs.declared.name.WordName.TheVariants as name
 use Rattle.word_plan.specs.declared.seat.Site.{Site}
 use Rattle.superblock_parts.specs.Chains.{occurs}
-use Rattle.superblock_parts.proofs.ChainLemmas.{occurs-here, occurs-more}
 use Rattle.errand_steps.specs.Errands.{ErrandFields}
 use Rattle.errand_steps.specs.Steps.{State}
-use Rattle.sound_state.specs.Holdings.{Kept, Status, reserving, waiting, partly_used, on_its_way, holds_of}
+use Rattle.sound_state.specs.Holdings.{Status, reserving, waiting, partly_used, on_its_way, holds_of}
 use Rattle.sound_state.specs.Keepers.{IsKept, IsPartlyUsed, IsActive, IsWithout, IsKeptAs, places_of, errand_has, full_keeps, active_keeps, word_keeps}
 use Rattle.sound_state.specs.Lists.{Lists}
 use Rattle.sound_state.specs.Sound.{IsSoundWith}
 use Rattle.sound_state.specs.Stock.{IsStocked, stock_of, errand_stock, full_stock, word_stock}
 use Rattle.sound_state.specs.Sums.{sum_below, words_sum, callers_sum}
 use Rattle.sound_state.specs.Superblocks.{anchor_for, info_for}
+use Rattle.sound_state.proofs.PopKept.{on-all, on-kept}
 use Rattle.sound_state.proofs.CreditLemmas.{word-sum}
 use Rattle.sound_state.proofs.PointLemmas.{kept_places}
 use Rattle.sound_state.proofs.PopTurns.{each-other}
@@ -83,27 +82,6 @@ shifted-alone g s l who at a b e s' h kept =
 shifted-stays :
     (g : Geometry) (s : State) (l : Lists) (who : ℕ) (at : Site) (a b : AnchorFields) (e : ErrandFields) (s' : State) → Shifts g s l who at a b e s' → (d : ℕ) → d ≢ at.desc → StaysFor s s' d
 shifted-stays g s l who at a b e s' h d other = record { info = shifted-info g s l who at a b e s' h d; anchor = shifted-anchor g s l who at a b e s' h d other }
-
--- what holds of all that is in a list stays so where it does of each
-on-all :
-    (P Q : ℕ → Type 0) (xs : List ℕ) → ((x : ℕ) → 0 < occurs x xs → P x → Q x) → All P xs → All Q xs
-on-all P Q [] f all = All-nil Q
-on-all P Q (x ∷ xs) f all =
-    All-cons Q x xs (f x (omega (arith, occurs-here x xs)) (All-head P x xs all))
-    (on-all P Q xs (λ y on. f y (omega (arith, on, occurs-more y x xs))) (All-tail P x xs all))
-
-kept-here : (k : Kept) (ks : List Kept) → 1 ≤ kept_places k.desc (k ∷ ks)
-kept-here k ks = grind (arith)
-
-kept-more : (d : ℕ) (k : Kept) (ks : List Kept) → kept_places d ks ≤ kept_places d (k ∷ ks)
-kept-more d k ks = grind (arith)
-
-on-kept :
-    (P Q : Kept → Type 0) (ks : List Kept) → ((k : Kept) → 1 ≤ kept_places k.desc ks → P k → Q k) → All P ks → All Q ks
-on-kept P Q [] f all = All-nil Q
-on-kept P Q (k ∷ ks) f all =
-    All-cons Q k ks (f k (kept-here k ks) (All-head P k ks all))
-    (on-kept P Q ks (λ x on. f x (omega (arith, on, kept-more x.desc k ks))) (All-tail P k ks all))
 
 -- what is FULL changes at this superblock alone
 shifted-full :

@@ -1,11 +1,9 @@
 -- A step that moves blocks between the count and what is reserved keeps what the callers remember, and so the state sound.
-use Rattle.std.proofs.Common.{ℕ, true, ◌≡◌, ◌≢◌, ◌<◌, ◌≤◌, ◌-◌, [], refl, arith, ap, sym, subst, ◌∙◌}
+use Rattle.std.proofs.Common.{ℕ, ◌≡◌, ◌≢◌, ◌<◌, ◌≤◌, ◌-◌, [], arith, ap, sym, subst, ◌∙◌}
 use Rattle.std.specs.List.{All}
 use Rattle.std.specs.Prelude.{IsTrue}
 use Rattle.std.proofs.lemmas.List.Elements.{All-nil, All-cons, All-from_recursion, recursion_from_All}
 use Rattle.heap_geometry.specs.declared.geometry.Geometry.{Geometry}
-use Rattle.packed_words.specs.declared.anchor.State.{State as Phase}
-use Rattle.packed_words.specs.declared.anchor.State.TheVariants as phase
 use Rattle.packed_words.specs.Anchor.{AnchorFields}
 use Rattle.packed_words.specs.Head.{HeadFields, head_of}
 use Rattle.partial_parts.specs.Grants.{is_empty}
@@ -24,24 +22,18 @@ use Rattle.errand_steps.specs.declared.onward.Onward.{Onward}
 use Rattle.errand_steps.specs.declared.point.Point.TheVariants as point
 use Rattle.errand_steps.specs.Errands.{ErrandFields}
 use Rattle.errand_steps.specs.Steps.{State}
-use Rattle.sound_state.specs.Holdings.{waiting, holds_of}
 use Rattle.sound_state.specs.Keepers.{errand_has}
 use Rattle.sound_state.specs.Lists.{Lists}
 use Rattle.sound_state.specs.Recalls.{Recall, IsPopped, IsTopStill, IsRemembered, IsSo, bound_here, recalls_of, bound_for, located, bound_at, pops, links, tops, nexts, tops_exist, says, made, in_use, emptied, noted, owns, owns_all, looked}
 use Rattle.sound_state.specs.Sound.{IsSoundWithoutCounts, IsSoundWith, IsOwnErrand}
-use Rattle.sound_state.specs.Superblocks.{anchor_for, superblock_of, errand_keeps}
+use Rattle.sound_state.specs.Superblocks.{anchor_for, superblock_of}
 use Rattle.sound_state.proofs.AlikeLemmas.{each-caller}
-use Rattle.sound_state.proofs.PopRecalls.{IsLeft, left-point}
+use Rattle.sound_state.proofs.PopRecalls.{IsLeft, left-point, install-waits, empty-is}
 use Rattle.sound_state.proofs.PopTurns.{each-other}
 use Rattle.sound_state.proofs.ShiftEffects.{Shifts}
 use Rattle.sound_state.proofs.ShiftFacts.{shifted-info, shifted-tag, shifted-empty, shifted-ways, shifted-bound, shifted-next, shifted-chain, shifted-chained, shifted-framed}
 use Rattle.sound_state.proofs.ShiftKept.{shifted-alone, shifted-kept, shifted-stocked}
 use Rattle.sound_state.proofs.ShiftTurns.{shifted-located, shifted-owned, shifted-listed, shifted-guarded, shifted-turned, shifted-tied}
-
--- no other caller is about to install the superblock
-install-waits : (e : ErrandFields) (site : Site) (o : Onward) → e.point ≡ point.Block (block.InstallSuperblock site) o → errand_keeps waiting site.desc e ≡ 1
-unfolding holds_of
-install-waits e site o at = rw at (grind (arith))
 
 shifted-installed :
     (g : Geometry) (s : State) (l : Lists) (who : ℕ) (at : Site) (a b : AnchorFields) (e : ErrandFields) (s' : State) → Shifts g s l who at a b e s' → IsSoundWith g s l → (i : ℕ) → i < g.callers → i ≢ who
@@ -78,13 +70,6 @@ shifted-top g s l who at a b e s' h seat p head k =
       tag = subst (λ x. head.tag ≤ x.tag) (sym same) k.tag;
       top = λ is. k.top (is ∙ ap (λ x. x.tag) same);
     }
-
--- EMPTY is one state
-empty-is : (p : Phase) → is_empty p ≡ true → p ≡ phase.Empty
-empty-is phase.Active is = grind (arith, is)
-empty-is phase.Full is = grind (arith, is)
-empty-is phase.Partial is = grind (arith, is)
-empty-is phase.Empty is = refl
 
 -- what another caller remembers stays so
 pub shifted-so :

@@ -52,6 +52,7 @@ use Rattle.sound_state.specs.Stock.{stock_among}
 use Rattle.sound_state.specs.Sums.{sum_below, callers_sum}
 use Rattle.sound_state.specs.Superblocks.{Superblock, IsChained, anchor_for, info_for, info_or_zero, superblock_of, free_chain, live_at, is_there, is_bound, away_of, reserved_among, errand_reserves, errand_keeps, errand_away, kept_among}
 use Rattle.sound_state.specs.Turns.{has_partial}
+use Rattle.sound_state.proofs.PopSteps.{found_won}
 use Rattle.sound_state.proofs.QuietExchanges.{return_credits-lost}
 use Rattle.sound_state.proofs.QuietPartials.{grant_lost-sound}
 use Rattle.sound_state.proofs.PointLemmas.{fits-at, so-at, kept-at, hands-at, the-alloc, kept_places}
@@ -62,10 +63,6 @@ use Rattle.sound_state.proofs.ShiftEffects.{Shifts}
 use Rattle.sound_state.proofs.ShiftRecalls.{shifted-sound}
 use Rattle.sound_state.proofs.StepLemmas.{settle-at, at_point, words-below}
 use Rattle.sound_state.proofs.SumLemmas.{sum-plus, sum-least, sum-most, term-sum}
-
--- an exchange of this word that is won
-abbrev pub found_won : ℕ → Found
-found_won word = record { value = word; won = true }
 
 found-cas :
     (n : WordName) (word expected new : ℕ) → word ≡ expected → found_by (Cas n expected new) word ≡ found_won expected

@@ -1,8 +1,7 @@
 -- A step at a large block, a usable word or a shelf: no superblock, list or descriptor changes, and what is said of them stays.
-use Rattle.std.proofs.Common.{ℕ, false, None, Some, ◌≡◌, ◌≢◌, ◌<◌, ◌≤◌, ◌+◌, ◌-◌, ◌^◌, [], length, refl, arith, ap, sym, subst, inl, inr, ◌∙◌}
+use Rattle.std.proofs.Common.{ℕ, false, None, Some, ◌≡◌, ◌≢◌, ◌<◌, ◌≤◌, ◌+◌, ◌-◌, ◌^◌, [], length, refl, arith, ap, sym, subst, ◌∙◌}
 use Rattle.std.proofs.Math.Path.{fun_ext}
 use Rattle.std.specs.Prelude.{◌⊎◌, slice_index, All, Contains, IsTrue, IsSome, count_by}
-use Rattle.std.proofs.lemmas.Bool.{cases_eq}
 use Rattle.std.proofs.lemmas.List.Elements.{All-nil}
 use Rattle.heap_geometry.specs.declared.geometry.Geometry.{Geometry}
 use Rattle.heap_geometry.specs.declared.need.Need.{Need}
@@ -45,6 +44,7 @@ use Rattle.sound_state.specs.Ties.{IsTied}
 use Rattle.sound_state.specs.Sums.{sum_below, words_sum, callers_sum}
 use Rattle.sound_state.specs.Superblocks.{AreChained, IsChained, info_or_zero, live_at, anchor_for, info_for, superblock_of, free_chain, reserved_of, word_reserves, errand_reserves, reserved_among, waiting_of, away_of, errand_away, is_bound, errand_keeps, kept_among}
 use Rattle.sound_state.specs.Turns.{IsTurned, gives_small, refuses_small, turn_open, turn_unframed, turn_unlisted, turn_unanswered, errand_discards, errand_pops, turns_of, cleared_of, emptied_out, is_small_alloc, is_small_free, in_turn, pops_left}
+use Rattle.sound_state.proofs.PopTurns.{each-other}
 use Rattle.sound_state.proofs.SumLemmas.{callers-moved, sum-same}
 
 -- the word is none of the arena's, of the units and of the shelves
@@ -107,17 +107,6 @@ pub record Touches (g : Geometry) (s : State) (l : Lists) (who : ℕ) (e : Erran
   pub before : IsAside (s.errand who).point
   pub after : IsAside e.point
   pub recalls : recalls_of e.point ≡ []
-
--- what holds of the new errand and of those of the others holds of each
-pub each-other :
-    (g : Geometry) (P : ℕ → ErrandFields → Type 0) (errands : ℕ → ErrandFields) (who : ℕ) (e : ErrandFields) (errands' : ℕ → ErrandFields)
-    → Moves errands who e errands' → P who e → ((i : ℕ) → i < g.callers → i ≢ who → P i (errands i))
-    → (i : ℕ) → i < g.callers → P i (errands' i)
-each-other g P errands who e errands' m here others i has =
-    elim (cases_eq i who) [
-      | inl same ↦ let at : P who (errands' who) = subst (P who) (sym m.here) here in subst (λ j. P j (errands' j)) (sym same) at
-      | inr differ ↦ subst (P i) (sym (m.elsewhere i differ)) (others i has differ)
-    ]
 
 pub touched-anchor : (g : Geometry) (s : State) (l : Lists) (who : ℕ) (e : ErrandFields) (s' : State) → Touches g s l who e s' → (d : ℕ) → anchor_for s' d ≡ anchor_for s d
 touched-anchor g s l who e s' h d = ap anchor_of (h.word (name.Anchor d) tt)

@@ -38,10 +38,11 @@ use Rattle.sound_state.specs.Recalls.{IsOwned}
 use Rattle.sound_state.specs.Sound.{IsSoundWithoutCounts, IsSoundWith}
 use Rattle.sound_state.specs.Superblocks.{is_there}
 use Rattle.sound_state.specs.Ties.{IsLive, IsTied, IsExcepted, IsCovered}
+use Rattle.sound_state.proofs.PopTurns.{each-other}
 use Rattle.sound_state.proofs.AlikeLemmas.{Excepts}
 use Rattle.sound_state.proofs.OverlapLemmas.{live-apart}
 use Rattle.sound_state.proofs.PointLemmas.{fits-at, frees-at}
-use Rattle.sound_state.proofs.TouchEffects.{IsAside, Touches, each-other, sound-touched, touched-bound, located-touched, owned-touched}
+use Rattle.sound_state.proofs.TouchEffects.{IsAside, Touches, sound-touched, touched-bound, located-touched, owned-touched}
 use Rattle.sound_state.proofs.TouchPrefix.{any-one, frame-before}
 use Rattle.sound_state.proofs.TouchPrefixes.{info-frame}
 use Rattle.sound_state.proofs.TouchShelves.{idle-aside, idle-bare, idle-recalls}

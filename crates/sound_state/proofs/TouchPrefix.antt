@@ -37,10 +37,11 @@ use Rattle.sound_state.specs.Lists.{Lists}
 use Rattle.sound_state.specs.Recalls.{IsOwned}
 use Rattle.sound_state.specs.Sound.{IsSoundWithoutCounts, IsSoundWith}
 use Rattle.sound_state.specs.Ties.{IsLive, IsTied, IsExcepted}
+use Rattle.sound_state.proofs.PopTurns.{each-other}
 use Rattle.sound_state.proofs.AlikeLemmas.{Excepts}
 use Rattle.sound_state.proofs.OverlapLemmas.{live-apart}
 use Rattle.sound_state.proofs.PointLemmas.{fits-at, hands-at}
-use Rattle.sound_state.proofs.TouchEffects.{IsAwayWord, IsAside, Touches, each-other, sound-touched, touched-bound, located-touched, owned-touched}
+use Rattle.sound_state.proofs.TouchEffects.{IsAwayWord, IsAside, Touches, sound-touched, touched-bound, located-touched, owned-touched}
 use Rattle.sound_state.proofs.TouchPrefixes.{KeepsPrefixes, prefixes-stay, info-frame}
 use Rattle.sound_state.proofs.TouchShelves.{idle-aside, idle-bare, idle-recalls}
 use Rattle.sound_state.proofs.TouchSteps.{TouchesAt, leaves-same, touched-step}

@@ -48,10 +48,11 @@ use Rattle.sound_state.specs.Recalls.{IsOwned, recalls_of}
 use Rattle.sound_state.specs.Sound.{IsSoundWithoutCounts, IsSoundWith}
 use Rattle.sound_state.specs.Superblocks.{is_there}
 use Rattle.sound_state.specs.Ties.{IsLive, IsTied, IsExcepted, IsCovered}
+use Rattle.sound_state.proofs.PopTurns.{each-other}
 use Rattle.sound_state.proofs.AlikeLemmas.{Excepts}
 use Rattle.sound_state.proofs.PointLemmas.{fits-at}
 use Rattle.sound_state.proofs.QuietLemmas.{words-stay}
-use Rattle.sound_state.proofs.TouchEffects.{IsAside, Touches, each-other, sound-touched, touched-bound, located-touched, owned-touched}
+use Rattle.sound_state.proofs.TouchEffects.{IsAside, Touches, sound-touched, touched-bound, located-touched, owned-touched}
 use Rattle.sound_state.proofs.TouchFrees.{cases_run}
 use Rattle.sound_state.proofs.TouchPrefix.{frame-before, prefix-aside}
 use Rattle.sound_state.proofs.TouchPrefixes.{info-frame}

@@ -19,8 +19,9 @@ use Rattle.sound_state.specs.Lists.{Lists}
 use Rattle.sound_state.specs.Recalls.{IsOwned}
 use Rattle.sound_state.specs.Sound.{IsSoundWith}
 use Rattle.sound_state.specs.Ties.{IsTied, IsLive, IsExcepted}
+use Rattle.sound_state.proofs.PopTurns.{each-other}
 use Rattle.sound_state.proofs.AlikeLemmas.{Excepts}
-use Rattle.sound_state.proofs.TouchEffects.{Touches, each-other, touched-bound, located-touched, owned-touched}
+use Rattle.sound_state.proofs.TouchEffects.{Touches, touched-bound, located-touched, owned-touched}
 
 -- the same places have live blocks, which serve the same needs
 pub record SamePlaces (s s' : State) : Type 0 where
