@@ -11,4 +11,3 @@ pub mod Sums
 pub mod Superblocks
 pub mod Ties
 pub mod Turns
-pub mod Uncounted

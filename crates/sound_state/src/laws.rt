@@ -1,18 +1,19 @@
 //! Laws of the sound state: theorems about the definitions, on functions that do nothing.
 
-ghost use Rattle.std.specs.Prelude.{ℕ, List, All, ◌≡◌, ◌<◌, ◌^◌, IsTrue};
+ghost use Rattle.std.specs.Prelude.{ℕ, List, All, Some, ◌≡◌, ◌<◌, ◌^◌};
 ghost use Rattle.heap_geometry.specs.declared.geometry.Geometry.{Geometry};
 ghost use Rattle.heap_geometry.specs.declared.limits.TheConstants.{CLASSES, SHELVES};
 ghost use Rattle.heap_geometry.specs.declared.need.Need.{Need};
 ghost use Rattle.heap_geometry.specs.Geometry.{IsChecked};
 ghost use Rattle.heap_geometry.specs.Need.{usable_words};
-ghost use Rattle.pool_model.specs.Legal.{IsLegal};
+ghost use Rattle.pool_model.specs.declared.event.Event.{Event};
+ghost use Rattle.pool_model.specs.Legal.{IsCounted, IsLegal};
+ghost use Rattle.pool_model.specs.Pool.{pool_of};
 ghost use Rattle.errand_steps.specs.Begins.{IsIdle, alloc_begun, free_begun, write_begun, read_begun, put_begun, take_begun};
 ghost use Rattle.errand_steps.specs.Errands.{ErrandFields};
 ghost use Rattle.errand_steps.specs.Openings.{opening, installed, IsOpening};
 ghost use Rattle.errand_steps.specs.Steps.{State, Moves, Step, Run, event_at};
 ghost use Rattle.sound_state.specs.Recalls.{IsOwned};
-ghost use Rattle.sound_state.specs.Uncounted.{is_uncounted};
 ghost use Rattle.sound_state.specs.Sound.{IsSound, IsSoundWithoutCounts, with_errands};
 
 pub mod consequences;
@@ -59,13 +60,14 @@ pub fn begun_calls_keep_sound()
         → Moves s.errand who (take_begun (s.errand who) shelf) errands → IsSoundWithoutCounts g (with_errands s errands) }
 {}
 
-/// Every step of every caller keeps the state sound without counts; and with them too, unless it
-/// tells a look or a refusal.
+/// Every step of every caller keeps the state sound without counts; and with them too, where the
+/// event that it tells, if any, has its count. Only a look and a refusal of a small need have one.
 pub fn steps_keep_sound()
     ensures without_counts { (g : Geometry) (s : State) (who : ℕ) (after : State)
         → IsSoundWithoutCounts g s → who < g.callers → Step s who after → IsSoundWithoutCounts g after }
     ensures with_counts { (g : Geometry) (s : State) (who : ℕ) (after : State) → IsSound g s → who < g.callers
-        → IsTrue (is_uncounted (event_at s who)) → Step s who after → IsSound g after }
+        → ((e : Event) → event_at s who ≡ Some e → IsCounted g (pool_of s.history) e) → Step s who after
+        → IsSound g after }
 {}
 
 /// So does every run of steps, of any callers in any order.
