@@ -28,31 +28,31 @@ use Rattle.errand_steps.specs.Points.{is_idle}
 use Rattle.errand_steps.specs.Steps.{State, Step}
 use Rattle.sound_state.specs.Sound.{IsSoundWithoutCounts}
 use Rattle.sound_state.specs.Superblocks.{anchor_for}
-use Rattle.sound_state.proofs.DescPushes.{push_desc-sound}
-use Rattle.sound_state.proofs.DescSteps.{pop_desc-sound}
-use Rattle.sound_state.proofs.DiscardSteps.{install_superblock-sound}
-use Rattle.sound_state.proofs.PushSound.{push_block-sound}
-use Rattle.sound_state.proofs.InfoSteps.{store_owner-sound, store_info-sound}
-use Rattle.sound_state.proofs.PrefixSteps.{store_prefix-sound, store_link-sound, link_block-sound}
-use Rattle.sound_state.proofs.HazardSteps.{store_hazard-sound, reload_desc_head-sound, clear_after_pop-sound, clear_hazard_looks-sound, clear_hazard_ends-sound, store_guard-sound, read_hazard-sound}
-use Rattle.sound_state.proofs.PointLemmas.{fits-at, the-alloc, the-free}
-use Rattle.sound_state.proofs.PopSteps.{pop_block-sound}
-use Rattle.sound_state.proofs.ShiftSteps.{return_credits-sound, grant-sound}
-use Rattle.sound_state.proofs.StackSteps.{pop_top-sound}
-use Rattle.sound_state.proofs.StackRetires.{push_top-sound}
-use Rattle.sound_state.proofs.ConfirmSteps.{confirm_empty-sound}
-use Rattle.sound_state.proofs.TouchShown.{large-sound}
-use Rattle.sound_state.proofs.AnchorSteps.{store_anchor-sound}
-use Rattle.sound_state.proofs.QuietBlocks.{load_active-sound}
-use Rattle.sound_state.proofs.QuietCredits.{take_credit-sound, install_credits-sound}
-use Rattle.sound_state.proofs.QuietDescs.{load_desc_head-sound, load_next_desc-sound, load_head_to_push-sound}
-use Rattle.sound_state.proofs.QuietPops.{load_info-sound, load_anchor-sound, load_link-sound, load_return-sound}
-use Rattle.sound_state.proofs.QuietPushes.{load_owner-sound, load_prefix-sound, load_push_anchor-sound}
-use Rattle.sound_state.proofs.QuietPartials as partials
-use Rattle.sound_state.proofs.RetirePartials as retired
-use Rattle.sound_state.proofs.QuietEnds.{clear_ends-sound}
-use Rattle.sound_state.proofs.QuietLinks.{store_below-sound, store_next_desc-sound}
-use Rattle.sound_state.proofs.QuietStacks.{load_top-sound, load_below-sound, load_top_to_push-sound}
+use Rattle.sound_state.proofs.descriptors.DescPushes.{push_desc-sound}
+use Rattle.sound_state.proofs.descriptors.DescSteps.{pop_desc-sound}
+use Rattle.sound_state.proofs.discards.DiscardSteps.{install_superblock-sound}
+use Rattle.sound_state.proofs.pushes.PushSound.{push_block-sound}
+use Rattle.sound_state.proofs.stores.InfoSteps.{store_owner-sound, store_info-sound}
+use Rattle.sound_state.proofs.stores.PrefixSteps.{store_prefix-sound, store_link-sound, link_block-sound}
+use Rattle.sound_state.proofs.hazards.HazardSteps.{store_hazard-sound, reload_desc_head-sound, clear_after_pop-sound, clear_hazard_looks-sound, clear_hazard_ends-sound, store_guard-sound, read_hazard-sound}
+use Rattle.sound_state.proofs.shared.PointLemmas.{fits-at, the-alloc, the-free}
+use Rattle.sound_state.proofs.pops.PopSteps.{pop_block-sound}
+use Rattle.sound_state.proofs.shifts.ShiftSteps.{return_credits-sound, grant-sound}
+use Rattle.sound_state.proofs.stacks.StackSteps.{pop_top-sound}
+use Rattle.sound_state.proofs.stacks.StackRetires.{push_top-sound}
+use Rattle.sound_state.proofs.tellings.ConfirmSteps.{confirm_empty-sound}
+use Rattle.sound_state.proofs.large.TouchShown.{large-sound}
+use Rattle.sound_state.proofs.anchors.AnchorSteps.{store_anchor-sound}
+use Rattle.sound_state.proofs.quiet.QuietBlocks.{load_active-sound}
+use Rattle.sound_state.proofs.quiet.QuietCredits.{take_credit-sound, install_credits-sound}
+use Rattle.sound_state.proofs.quiet.QuietDescs.{load_desc_head-sound, load_next_desc-sound, load_head_to_push-sound}
+use Rattle.sound_state.proofs.quiet.QuietPops.{load_info-sound, load_anchor-sound, load_link-sound, load_return-sound}
+use Rattle.sound_state.proofs.quiet.QuietPushes.{load_owner-sound, load_prefix-sound, load_push_anchor-sound}
+use Rattle.sound_state.proofs.quiet.QuietPartials as partials
+use Rattle.sound_state.proofs.retirements.RetirePartials as retired
+use Rattle.sound_state.proofs.quiet.QuietEnds.{clear_ends-sound}
+use Rattle.sound_state.proofs.quiet.QuietLinks.{store_below-sound, store_next_desc-sound}
+use Rattle.sound_state.proofs.quiet.QuietStacks.{load_top-sound, load_below-sound, load_top_to_push-sound}
 
 -- a lost exchange finds another word
 pub differs : (w e : ℕ) → not (w == e) ≡ true → w ≢ e

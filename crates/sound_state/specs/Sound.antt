@@ -1,11 +1,13 @@
 -- The sound state of the machine.
-use Rattle.std.specs.Prelude.{ℕ, ◌≡◌, ◌<◌, ◌^◌}
+use Rattle.std.specs.Prelude.{ℕ, ◌≡◌, ◌<◌, ◌^◌, Some}
 use Rattle.heap_geometry.specs.declared.geometry.Geometry.{Geometry}
 use Rattle.heap_geometry.specs.Geometry.{IsChecked}
 use Rattle.word_plan.specs.declared.name.WordName.{WordName}
-use Rattle.pool_model.specs.Legal.{IsLegal, IsLegalWithoutCounts}
+use Rattle.pool_model.specs.declared.event.Event.{Event}
+use Rattle.pool_model.specs.Legal.{IsCounted, IsLegal, IsLegalWithoutCounts}
+use Rattle.pool_model.specs.Pool.{pool_of}
 use Rattle.errand_steps.specs.Errands.{ErrandFields, IsErrand}
-use Rattle.errand_steps.specs.Steps.{State}
+use Rattle.errand_steps.specs.Steps.{State, event_at}
 use Rattle.sound_state.specs.Frames.{IsFramed}
 use Rattle.sound_state.specs.Guards.{IsGuarded}
 use Rattle.sound_state.specs.Keepers.{IsKept}
@@ -52,3 +54,7 @@ pub record IsSound (g : Geometry) (s : State) : Type 0 where
   pub checked : IsChecked g
   pub legal : IsLegal g s.history
   pub parts : (l : Lists) × IsSoundWith g s l
+
+-- what a caller tells next, if anything, has its number: a look finds few part-used frames of its class, and a refusal few bare frames
+abbrev pub TellsCounted : Geometry → State → ℕ → Type 0
+TellsCounted g s who = (e : Event) → event_at s who ≡ Some e → IsCounted g (pool_of s.history) e

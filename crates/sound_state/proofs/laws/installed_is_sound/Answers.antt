@@ -1,4 +1,4 @@
-use Rattle.sound_state.proofs.InstalledLemmas.{installed-sound}
+use Rattle.sound_state.proofs.beginnings.InstalledLemmas.{installed-sound}
 use Rattle.sound_state.proofs.laws.installed_is_sound.Goals as goal
 
 pub returns : goal.returns

@@ -1,4 +1,4 @@
-use Rattle.sound_state.proofs.OverlapLemmas.{live-apart, live-taken, free-unlive}
+use Rattle.sound_state.proofs.shared.OverlapLemmas.{live-apart, live-taken, free-unlive}
 use Rattle.sound_state.proofs.laws.consequences.live_blocks_never_overlap.Goals as goal
 
 pub returns : goal.returns

@@ -1,4 +1,4 @@
-use Rattle.sound_state.proofs.TagLemmas.{anchor-tags-below, frame-tag-below, list-tags-below}
+use Rattle.sound_state.proofs.shared.TagLemmas.{anchor-tags-below, frame-tag-below, list-tags-below}
 use Rattle.sound_state.proofs.laws.consequences.tags_stay_below.Goals as goal
 
 pub returns : goal.returns

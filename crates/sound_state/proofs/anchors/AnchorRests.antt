@@ -1,0 +1,186 @@
+-- The store of a new superblock's anchor keeps the stock of descriptors, the hazard words and the ties to the events.
+use Rattle.std.proofs.Common.{ℕ, Some, ◌≡◌, ◌≢◌, ◌<◌, ◌≤◌, ◌+◌, ◌^◌, ◌*◌, length, refl, arith, ap, sym, subst, inl, inr, ◌∙◌}
+use Rattle.std.specs.Prelude.{◌⊎◌, ◌==◌, if◌then◌else◌, All, Any, IsTrue, Contains, slice_index}
+use Rattle.std.specs.Int.{bit_at}
+use Rattle.std.proofs.lemmas.Bool.{cases_eq}
+use Rattle.std.proofs.lemmas.Option.{none-some}
+use Rattle.std.proofs.lemmas.List.Elements.{All-nil}
+use Rattle.heap_geometry.specs.declared.geometry.Geometry.{Geometry}
+use Rattle.heap_geometry.specs.declared.need.Need.{Need}
+use Rattle.heap_geometry.specs.Place.{unit_place}
+use Rattle.word_plan.specs.declared.name.WordName.TheVariants as name
+use Rattle.word_plan.specs.declared.seat.Site.{Site}
+use Rattle.word_plan.specs.Counts.{descriptor_count}
+use Rattle.superblock_parts.specs.declared.point.BlockPoint.TheVariants as block
+use Rattle.pool_model.specs.Pool.{Block, block_at, pool_of}
+use Rattle.errand_steps.specs.declared.onward.Onward.{Onward}
+use Rattle.errand_steps.specs.declared.point.Point.TheVariants as point
+use Rattle.errand_steps.specs.Errands.{ErrandFields}
+use Rattle.errand_steps.specs.Fits.{spare_of, pushed_by}
+use Rattle.errand_steps.specs.Steps.{State}
+use Rattle.sound_state.specs.Guards.{IsGuarded, Guards, IsGuard, IsHazard, passed_by, held_by}
+use Rattle.sound_state.specs.Holdings.{clear, making, holds_of}
+use Rattle.sound_state.specs.Keepers.{full_keeps}
+use Rattle.sound_state.specs.Lists.{Lists}
+use Rattle.sound_state.specs.Recalls.{IsOwned}
+use Rattle.sound_state.specs.Sound.{IsSoundWith}
+use Rattle.sound_state.specs.Stock.{IsStocked, stock_among, waits_in, word_stock, errand_stock, full_stock}
+use Rattle.sound_state.specs.Sums.{sum_below}
+use Rattle.sound_state.specs.Superblocks.{anchor_for, info_for, is_bound}
+use Rattle.sound_state.specs.Ties.{IsTied, IsLive, IsExcepted}
+use Rattle.sound_state.proofs.shared.AlikeLemmas.{each-caller, Excepts}
+use Rattle.sound_state.proofs.anchors.AnchorFacts.{Anchors, installing, anchored-anchor, anchored-here, anchored-info, anchored-bound, anchored-free, anchored-words}
+use Rattle.sound_state.proofs.shared.SumLemmas.{sum-same, callers-moved}
+
+-- how many descriptors are out
+pub anchored-stocked :
+    (g : Geometry) (s : State) (l : Lists) (who : ℕ) (at : Site) (e : ErrandFields) (s' : State) (o : Onward) → Anchors g s l who at e s'
+    → (s.errand who).point ≡ point.Block (block.StoreAnchor at) o → e.point ≡ point.Block (block.InstallSuperblock at) o
+    → IsSoundWith g s l → IsStocked g s' l
+anchored-stocked g s l who at e s' o h before after old =
+    let free = anchored-free g s l who at e s' h old in
+    record {
+      most = λ class has.
+          let full : sum_below (descriptor_count g) (full_stock s' class) ≡ sum_below (descriptor_count g) (full_stock s class) =
+          sum-same (descriptor_count g) (full_stock s class) (full_stock s' class)
+          (λ d lt.
+          let keeps : full_keeps (anchor_for s' d).state ≡ full_keeps (anchor_for s d).state =
+          elim (cases_eq d at.desc) [
+            | inl is ↦
+                subst (λ j. full_keeps (anchor_for s' j).state ≡ full_keeps (anchor_for s j).state) (sym is)
+                (ap (λ a. full_keeps a.state) (anchored-here g s l who at e s' h) ∙ sym free.full)
+            | inr differ ↦ ap (λ a. full_keeps a.state) (anchored-anchor g s l who at e s' h d differ)
+          ] in
+          ap (λ n. if (info_for s' d).class == class then n else 0) keeps
+          ∙ ap (λ i. if i.class == class then full_keeps (anchor_for s d).state else 0) (anchored-info g s l who at e s' h d)) in
+          let was : errand_stock class (s.errand who) ≡ stock_among class (making at).kept =
+          ap (λ x. stock_among class x.kept + waits_in class (s.errand who).point) h.holds_before
+          ∙ ap (λ p. stock_among class (making at).kept + waits_in class p) before ∙ omega arith in
+          let now : errand_stock class e ≡ stock_among class (installing at).kept =
+          ap (λ x. stock_among class x.kept + waits_in class e.point) h.holds_after
+          ∙ ap (λ p. stock_among class (installing at).kept + waits_in class p) after ∙ omega arith in
+          omega (
+            arith,
+            full,
+            was,
+            now,
+            callers-moved g (errand_stock class) s.errand who e s'.errand h.caller h.moves,
+            anchored-words g s l who at e s' h (word_stock class) (λ v. refl),
+            old.stocked.most class has,
+          );
+    }
+
+-- the hazard words
+anchored-guards :
+    (g : Geometry) (s : State) (l : Lists) (who : ℕ) (at : Site) (e : ErrandFields) (s' : State) → Anchors g s l who at e s'
+    → (i d : ℕ) → i < g.callers → Guards s' i d → Guards s i d
+anchored-guards g s l who at e s' h i d has guards = record {
+  word = sym (h.writes.elsewhere (name.Hazard i) (λ is. cc)) ∙ guards.word;
+  guard =
+      each-caller g (λ i f. IsGuard (holds_of f.point).hazard → IsGuard (holds_of (s.errand i).point).hazard) s.errand who e s'.errand h.moves
+      (λ guard. absurd (subst IsGuard (ap (λ x. x.hazard) h.holds_after) guard)) (λ i has same. same) i has guards.guard;
+}
+
+pub anchored-guarded :
+    (g : Geometry) (s : State) (l : Lists) (who : ℕ) (at : Site) (e : ErrandFields) (s' : State) (o : Onward) → Anchors g s l who at e s'
+    → e.point ≡ point.Block (block.InstallSuperblock at) o → IsSoundWith g s l → IsGuarded g s'
+anchored-guarded g s l who at e s' o h after old =
+    let guarded = old.guarded in
+    let none : IsHazard clear (s.word (name.Hazard who)) =
+    subst (λ x. IsHazard x.hazard (s.word (name.Hazard who))) h.holds_before (guarded.words who h.caller) in
+    record {
+      words = λ i has.
+          subst (λ v. IsHazard (holds_of (s'.errand i).point).hazard v) (sym (h.writes.elsewhere (name.Hazard i) (λ is. cc)))
+          (each-caller g (λ i f. IsHazard (holds_of f.point).hazard (s.word (name.Hazard i))) s.errand who e s'.errand h.moves
+          (subst (λ x. IsHazard x.hazard (s.word (name.Hazard who))) (sym h.holds_after) none) guarded.words i has);
+      pushed = λ i other d has has_other guards is.
+          guarded.pushed i other d has has_other (anchored-guards g s l who at e s' h i d has guards)
+          (each-caller g (λ j f. (d : ℕ) → pushed_by f.point ≡ Some d → pushed_by (s.errand j).point ≡ Some d) s.errand who e s'.errand h.moves
+          (λ d is. absurd (none-some d (sym (ap pushed_by after) ∙ is))) (λ j has d is. is) other has_other d is);
+      passed = λ i other d has has_other guards.
+          each-caller g
+          (λ j f. Contains f.retired d → i < passed_by f.point → slice_index (held_by f.point) i ≡ d + 1) s.errand who e s'.errand h.moves
+          (λ listed below. let bad : ⊥ = omega (arith, below, ap passed_by after) in absurd bad)
+          (λ j has_j. guarded.passed i j d has has_j (anchored-guards g s l who at e s' h i d has guards))
+          other has_other;
+      unread = λ i k has.
+          each-caller g (λ j f. passed_by f.point ≤ k → k < length (held_by f.point) → slice_index (held_by f.point) k ≡ 0) s.errand who e s'.errand h.moves
+          (λ passed below. let bad : ⊥ = omega (arith, below, ap (λ p. length (held_by p)) after) in absurd bad)
+          (λ j has_j. guarded.unread j k has_j) i has;
+      full =
+          each-caller g (λ i f. spare_of f.point ≡ 1 → length f.retired ≡ g.callers + 1) s.errand who e s'.errand h.moves
+          (λ is. let bad : ⊥ = omega (arith, is, ap spare_of after) in absurd bad) guarded.full;
+    }
+
+-- who makes a superblock excepts no block
+making-excepts : (at : Site) (place : ℕ) → Any (λ b. b.place ≡ place) (making at).hands ⊎ Any (λ b. (b.place ≡ place) × IsTrue b.overwritten) (making at).frees → ⊥
+making-excepts at place (inl x) = omega (arith, x.2)
+making-excepts at place (inr x) = omega (arith, x.2)
+
+pub owned-anchored :
+    (g : Geometry) (s : State) (l : Lists) (who : ℕ) (at : Site) (e : ErrandFields) (s' : State) → Anchors g s l who at e s'
+    → (i place : ℕ) (n : Need) → IsOwned s i place n → IsOwned s' i place n
+owned-anchored g s l who at e s' h i place n k = record {
+  block = (k.block.0, ap (λ past. block_at place (pool_of past)) h.history ∙ k.block.1, k.block.2, k.block.3);
+}
+
+pub anchored-tied :
+    (g : Geometry) (s : State) (l : Lists) (who : ℕ) (at : Site) (e : ErrandFields) (s' : State) → Anchors g s l who at e s'
+    → IsSoundWith g s l → IsTied g s' l
+anchored-tied g s l who at e s' h old =
+    let tied = old.tied in
+    let w = h.writes in
+    let free = anchored-free g s l who at e s' h old in
+    let was = λ (place : ℕ) (b : Block) (live : IsLive s' place b). ap (λ past. block_at place (pool_of past)) (sym h.history) ∙ live in
+    let excepted : (place : ℕ) → IsExcepted g s place → IsExcepted g s' place =
+    λ place x. record {
+      who = (
+        x.who.0,
+        x.who.1,
+        each-caller g (λ j f. Excepts (s.errand j) place → Excepts f place) s.errand who e s'.errand h.moves
+            (λ ex. absurd (making-excepts at place (subst (λ x. Any (λ b. b.place ≡ place) x.hands ⊎ Any (λ b. (b.place ≡ place) × IsTrue b.overwritten) x.frees) h.holds_before ex)))
+            (λ j has same. same) x.who.0 x.who.1 x.who.2,
+      );
+    } in
+    let tie : (place v : ℕ) → IsExcepted g s place ⊎ (s.word (name.Arena place) ≡ v) → IsExcepted g s' place ⊎ (s'.word (name.Arena place) ≡ v) =
+    λ place v t. elim t [ inl x ↦ inl (excepted place x) | inr is ↦ inr (w.elsewhere (name.Arena place) (λ same. cc) ∙ is) ] in
+    record {
+      small = λ place class b live is.
+          let of = tied.small place class b (was place b live) is in
+          let d : ℕ = of.0 in
+          let differ : d ≢ at.desc = λ same. free.bound (subst (λ k. IsTrue (is_bound g s l k)) same of.1.bound) in
+          let info = anchored-info g s l who at e s' h d in (
+            d,
+            record {
+              exists = of.1.exists;
+              bound = subst IsTrue (sym (anchored-bound g s l who at e s' h d differ)) of.1.bound;
+              located = record {
+                frame = ap (λ x. x.frame) info ∙ of.1.located.frame;
+                class = ap (λ x. x.class) info ∙ of.1.located.class;
+              };
+            },
+            tie place (2 * d) of.2,
+          );
+      large = λ place units b live is. tie place (2 * units + 1) (tied.large place units b (was place b live) is);
+      units = λ unit has.
+          let of = tied.units unit has in
+          let word : s'.word name.Units ≡ s.word name.Units = w.elsewhere name.Units (λ is. cc) in (
+            λ bit. let c = of.0 (ap (λ v. bit_at v unit) (sym word) ∙ bit) in
+                (c.0, c.1, c.2, ap (λ past. block_at (unit_place g.frames c.1) (pool_of past)) h.history ∙ c.3, c.4, c.5, c.6),
+            λ c. ap (λ v. bit_at v unit) word ∙ of.1 (c.0, c.1, c.2, was (unit_place g.frames c.1) c.0 c.3, c.4, c.5, c.6),
+          );
+      no_more_units = subst (λ v. v < 2 ^ g.units) (sym (w.elsewhere name.Units (λ is. cc))) tied.no_more_units;
+      shelved = λ k place b has live is. w.elsewhere (name.Shelf k) (λ same. cc) ∙ tied.shelved k place b has (was place b live) is;
+      bare_shelf = λ k has none.
+          w.elsewhere (name.Shelf k) (λ same. cc)
+          ∙ tied.bare_shelf k has (λ place b live is. none place b (ap (λ past. block_at place (pool_of past)) h.history ∙ live) is);
+      contents = λ place i v b live is. w.elsewhere (name.Arena (place + 1 + i)) (λ same. cc) ∙ tied.contents place i v b (was place b live) is;
+      hands =
+          each-caller g (λ i f. All (λ x. IsOwned s' i x.place x.need) (holds_of f.point).hands) s.errand who e s'.errand h.moves
+          (subst (λ x. All (λ y. IsOwned s' who y.place y.need) x.hands) (sym h.holds_after) (All-nil (λ y. IsOwned s' who y.place y.need)))
+          (λ i has k d lt. owned-anchored g s l who at e s' h i _ _ (tied.hands i has k d lt));
+      frees =
+          each-caller g (λ i f. All (λ x. IsOwned s' i x.place x.need) (holds_of f.point).frees) s.errand who e s'.errand h.moves
+          (subst (λ x. All (λ y. IsOwned s' who y.place y.need) x.frees) (sym h.holds_after) (All-nil (λ y. IsOwned s' who y.place y.need)))
+          (λ i has k d lt. owned-anchored g s l who at e s' h i _ _ (tied.frees i has k d lt));
+    }

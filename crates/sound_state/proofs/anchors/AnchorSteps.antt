@@ -1,0 +1,226 @@
+-- The store of a new superblock's anchor keeps the state sound.
+use Rattle.std.proofs.Common.{ℕ, Option, Some, None, false, ◌≡◌, ◌<◌, ◌≤◌, ◌+◌, [], ◌∷◌, refl, arith, ap, sym, subst, inl, inr, ◌∙◌}
+use Rattle.std.specs.Prelude.{◌&&◌, not, count_by}
+use Rattle.std.proofs.lemmas.Bool.{cases_eq}
+use Rattle.std.proofs.lemmas.List.Elements.{All-head}
+use Rattle.heap_geometry.specs.declared.geometry.Geometry.{Geometry}
+use Rattle.heap_geometry.specs.Need.{block_count_of}
+use Rattle.heap_geometry.specs.Place.{block_place}
+use Rattle.heap_geometry.proofs.PlaceLemmas.{frame_of-block_place}
+use Rattle.packed_words.specs.Anchor.{anchor_word}
+use Rattle.packed_words.specs.Head.{head_of}
+use Rattle.packed_words.specs.Info.{info_word, info_of}
+use Rattle.packed_words.proofs.AnchorLemmas.{anchor_word-below}
+use Rattle.packed_words.proofs.InfoLemmas.{info-exact}
+use Rattle.sound_state.proofs.pops.PopRecalls.{new_anchor-fits}
+use Rattle.word_plan.specs.declared.name.WordName.TheVariants as name
+use Rattle.word_plan.specs.declared.seat.Site.{Site}
+use Rattle.word_plan.specs.Counts.{descriptor_count}
+use Rattle.word_plan.specs.Sites.{info_at, IsSiteOf}
+use Rattle.word_plan.specs.Words.{Writes}
+use Rattle.superblock_parts.specs.Anchors.{new_anchor}
+use Rattle.superblock_parts.specs.declared.point.BlockPoint.TheVariants as block
+use Rattle.pool_model.specs.Legal.{IsLegalWithoutCounts}
+use Rattle.pool_model.specs.Pool.{Block as Live, block_at, pool_of}
+use Rattle.errand_steps.specs.declared.next.Next.TheVariants.{At}
+use Rattle.errand_steps.specs.declared.onward.Onward.{Onward}
+use Rattle.errand_steps.specs.declared.point.Point.TheVariants.{Block}
+use Rattle.errand_steps.specs.Errands.{ErrandFields, IsErrand, raised, counts_lost, counts_cleared}
+use Rattle.errand_steps.specs.Events.{event_of}
+use Rattle.errand_steps.specs.Nexts.{next_of}
+use Rattle.errand_steps.specs.Points.{plan_point_of}
+use Rattle.errand_steps.specs.Steps.{State, Step, Moves, name_at, found_at, with_event}
+use Rattle.errand_steps.proofs.ErrandLemmas.{settle_errand}
+use Rattle.sound_state.specs.Holdings.{holds_of}
+use Rattle.sound_state.specs.Lists.{Lists}
+use Rattle.sound_state.specs.Recalls.{IsSo, IsLocated, AreMade, recalls_of, says, made}
+use Rattle.sound_state.specs.Sound.{IsSoundWithoutCounts, IsSoundWith, IsOwnErrand}
+use Rattle.sound_state.specs.Sums.{sum_below}
+use Rattle.sound_state.specs.Superblocks.{info_or_zero, anchor_for, away_of, is_there, live_at}
+use Rattle.sound_state.specs.Turns.{IsTurned, gives_small, refuses_small, is_small_alloc, is_small_free, one_if, in_turn, has_frame, has_partial, has_refused, is_discarding_at, pops_left, turn_open, turn_unframed, turn_unlisted, turn_unanswered, errand_discards, errand_pops, turns_of, cleared_of, emptied_out}
+use Rattle.sound_state.proofs.shared.AlikeLemmas.{each-caller}
+use Rattle.sound_state.proofs.anchors.AnchorFacts.{Anchors, it-here, it-elsewhere, anchored-anchor, anchored-here, anchored-away, anchored-home}
+use Rattle.sound_state.proofs.anchors.AnchorFields.{anchored-chained, anchored-framed, anchored-listed}
+use Rattle.sound_state.proofs.anchors.AnchorKept.{anchored-kept}
+use Rattle.sound_state.proofs.anchors.AnchorRecalls.{anchored-remembered}
+use Rattle.sound_state.proofs.anchors.AnchorRests.{anchored-stocked, anchored-guarded, anchored-tied}
+use Rattle.sound_state.proofs.stores.InfoSteps.{site-info}
+use Rattle.sound_state.proofs.stores.LoosePlaces.{is-making, live-unmade}
+use Rattle.sound_state.proofs.shared.PointLemmas.{fits-at, so-at, All-rest}
+use Rattle.sound_state.proofs.quiet.QuietLemmas.{found_from}
+use Rattle.sound_state.proofs.quiet.QuietLinks.{written-at}
+use Rattle.sound_state.proofs.shared.StepLemmas.{at_point, settle-at, words-below, raised-least, raised-below}
+use Rattle.sound_state.proofs.shared.SumLemmas.{sum-same, callers-moved}
+
+-- the tags and the turns
+anchored-turned :
+    (g : Geometry) (s : State) (l : Lists) (who : ℕ) (at : Site) (e : ErrandFields) (s' : State) (o : Onward) → Anchors g s l who at e s'
+    → (s.errand who).point ≡ Block (block.StoreAnchor at) o → e.point ≡ Block (block.InstallSuperblock at) o
+    → e.turns ≡ (s.errand who).turns → (s.errand who).lost ≤ e.lost → e.cleared ≡ (s.errand who).cleared
+    → IsSoundWith g s l → IsTurned g s' l
+anchored-turned g s l who at e s' o h before after turns lost cleared old =
+    let turned = old.turned in
+    let p = (s.errand who).point in
+    let moved = λ (weight : ErrandFields → ℕ). callers-moved g weight s.errand who e s'.errand h.caller h.moves in
+    let open_0 : turn_open (s.errand who) ≡ 1 = ap (λ p. one_if (in_turn p)) before in
+    let open_1 : turn_open e ≡ 1 = ap (λ p. one_if (in_turn p)) after in
+    let discards_0 : errand_discards (s.errand who) ≡ 0 = ap (λ p. one_if (in_turn p && is_discarding_at p)) before in
+    let discards_1 : errand_discards e ≡ 0 = ap (λ p. one_if (in_turn p && is_discarding_at p)) after in
+    let unanswered_0 : turn_unanswered (s.errand who) ≡ 1 = ap (λ p. one_if (in_turn p && not (has_refused p))) before in
+    let unanswered_1 : turn_unanswered e ≡ 1 = ap (λ p. one_if (in_turn p && not (has_refused p))) after in
+    let unframed_0 : turn_unframed (s.errand who) ≡ 0 = ap (λ p. one_if (in_turn p && not (has_frame p))) before in
+    let unframed_1 : turn_unframed e ≡ 0 = ap (λ p. one_if (in_turn p && not (has_frame p))) after in
+    let unlisted_0 : turn_unlisted (s.errand who) ≡ 1 = ap (λ p. one_if (in_turn p && not (has_partial p))) before in
+    let unlisted_1 : turn_unlisted e ≡ 1 = ap (λ p. one_if (in_turn p && not (has_partial p))) after in
+    let pops_0 : errand_pops (s.errand who) ≡ 0 = ap pops_left before in
+    let pops_1 : errand_pops e ≡ 0 = ap pops_left after in
+    let frees : count_by (is_small_free g) s'.history ≡ count_by (is_small_free g) s.history = ap (count_by (is_small_free g)) h.history in
+    let allocs : count_by is_small_alloc s'.history ≡ count_by is_small_alloc s.history = ap (count_by is_small_alloc) h.history in
+    let home = anchored-home g s l who at e s' h old in
+    let one : away_of g s l at.desc ≡ 1 = omega (arith, anchored-away g s l who at e s' h at.desc, home, it-here at) in
+    let out_0 : emptied_out g s l at.desc ≡ 0 = rw one refl in
+    let out_1 : emptied_out g s' l at.desc ≡ 0 = rw (home, anchored-here g s l who at e s' h) refl in
+    let emptied_same : sum_below (descriptor_count g) (emptied_out g s' l) ≡ sum_below (descriptor_count g) (emptied_out g s l) =
+    sum-same (descriptor_count g) (emptied_out g s l) (emptied_out g s' l)
+    (λ d lt.
+    elim (cases_eq d at.desc) [
+      | inl is ↦ subst (λ k. emptied_out g s' l k ≡ emptied_out g s l k) (sym is) (out_1 ∙ sym out_0)
+      | inr differ ↦
+          let away : away_of g s' l d ≡ away_of g s l d = omega (arith, anchored-away g s l who at e s' h d, it-elsewhere at d differ) in
+          rw (away, anchored-anchor g s l who at e s' h d differ) refl
+    ]) in
+    record {
+      own_turns = λ i has.
+          subst (λ past. count_by (gives_small i) past + turn_open (s'.errand i) ≤ (s'.errand i).turns) (sym h.history)
+          (each-caller g (λ i f. count_by (gives_small i) s.history + turn_open f ≤ f.turns) s.errand who e s'.errand h.moves
+          (omega (arith, turned.own_turns who h.caller, open_0, open_1, turns)) turned.own_turns i has);
+      own_lost = λ i has.
+          subst
+          (λ past. (s'.errand i).turns + errand_discards (s'.errand i)
+          ≤ count_by (gives_small i) past + count_by (refuses_small i) past + (s'.errand i).lost + turn_unanswered (s'.errand i)) (sym h.history)
+          (each-caller g
+          (λ i f. f.turns + errand_discards f
+          ≤ count_by (gives_small i) s.history + count_by (refuses_small i) s.history + f.lost + turn_unanswered f) s.errand who e s'.errand h.moves
+          (omega (arith, turned.own_lost who h.caller, discards_0, discards_1, unanswered_0, unanswered_1, turns, lost)) turned.own_lost i has);
+      anchor_tags = λ d has.
+          elim (cases_eq d at.desc) [
+            | inl is ↦
+                subst (λ k. (anchor_for s' k).tag ≤ count_by is_small_alloc s'.history) (sym is)
+                (omega (arith, ap (λ a. a.tag) (anchored-here g s l who at e s' h)))
+            | inr differ ↦ omega (arith, turned.anchor_tags d has, ap (λ a. a.tag) (anchored-anchor g s l who at e s' h d differ), allocs)
+          ];
+      frame_tag =
+          omega (
+            arith,
+            turned.frame_tag,
+            ap (λ w. (head_of w).tag) (h.writes.elsewhere name.FrameHead (λ is. cc)),
+            moved turn_unframed,
+            moved turns_of,
+            unframed_0,
+            unframed_1,
+            turns,
+          );
+      emptied = omega (arith, turned.emptied, emptied_same, moved cleared_of, cleared, frees);
+      list_tags = λ class has.
+          omega (
+            arith,
+            turned.list_tags class has,
+            ap (λ w. (head_of w).tag) (h.writes.elsewhere (name.ListHead class) (λ is. cc)),
+            moved errand_pops,
+            moved turn_unlisted,
+            moved turns_of,
+            moved cleared_of,
+            cleared,
+            turns,
+            unlisted_0,
+            unlisted_1,
+            pops_0,
+            pops_1,
+            frees,
+          );
+    }
+
+none-live : (o : Option Live) → ((b : Live) → o ≡ Some b → ⊥) → is_there o ≡ 0
+none-live None none = refl
+none-live (Some b) none = absurd (none b refl)
+
+-- the anchor of a new superblock
+pub store_anchor-sound :
+    (g : Geometry) (s : State) (who : ℕ) (s' : State) (site : Site) (o : Onward) → IsSoundWithoutCounts g s → who < g.callers
+    → (s.errand who).point ≡ Block (block.StoreAnchor site) o → Step s who s' → IsSoundWithoutCounts g s'
+unfolding plan_point_of next_of event_of holds_of recalls_of
+store_anchor-sound g s who s' site o sound has at step =
+    let p = Block (block.StoreAnchor site) o in
+    let q = Block (block.InstallSuperblock site) o in
+    let c = site.seat.class in
+    let l = sound.parts.0 in
+    let old = sound.parts.1 in
+    let x = found_at s who in
+    let e = at_point (s.errand who) x q in
+    let fit : IsSiteOf g who site = (fits-at g s l who p old has at).point in
+    let after = settle-at (s.errand who) x q (subst (λ r. next_of r (found_from s r) ≡ At q) (sym at) refl) in
+    let quiet : event_of who (s.errand who).point x ≡ None = subst (λ r. event_of who r (found_from s r) ≡ None) (sym at) refl in
+    let uncleared : counts_cleared (s.errand who).point x ≡ false = subst (λ r. counts_cleared r (found_from s r) ≡ false) (sym at) refl in
+    let moves : Moves s.errand who e s'.errand = subst (λ f. Moves s.errand who f s'.errand) after step.errand in
+    let past : s'.history ≡ s.history = step.history ∙ ap (with_event s.history) quiet in
+    let w : Writes s.word (name.Anchor site.desc) (anchor_word (new_anchor c)) s'.word = written-at s who s' p at step in
+    let h : Anchors g s l who site e s' = record {
+      caller = has;
+      moves = moves;
+      site = fit;
+      writes = w;
+      history = past;
+      retired = refl;
+      holds_before = ap holds_of at;
+      holds_after = refl;
+    } in
+    let own = old.errands who has in
+    let so = so-at g s l who p old has at in
+    let said : s.word (name.Info site.desc) ≡ info_word (info_at site) =
+    (All-head (IsSo g s l who) (says (name.Info site.desc) (info_word (info_at site))) (made site.frame c (block_count_of c) ∷ []) so).1 in
+    let links_made : AreMade s site.frame c (block_count_of c) =
+    All-head (IsSo g s l who) (made site.frame c (block_count_of c)) []
+    (All-rest (IsSo g s l who) (says (name.Info site.desc) (info_word (info_at site))) (made site.frame c (block_count_of c) ∷ []) so) in
+    let back : info_of (s.word (name.Info site.desc)) ≡ Some (info_at site) =
+    ap info_of said ∙ info-exact.back (info_at site) (site-info g who site sound.checked fit) in
+    let lies : IsLocated s site.desc site.frame c = record {
+      frame = ap (λ i. (info_or_zero i).frame) back;
+      class = ap (λ i. (info_or_zero i).class) back;
+    } in
+    let unlive : (i : ℕ) → i < block_count_of c → live_at s (block_place site.frame c i) ≡ 0 =
+    λ i lt.
+    none-live (block_at (block_place site.frame c i) (pool_of s.history))
+    (λ b live.
+    live-unmade g s l who site.frame (block_place site.frame c i) b b.need sound old has fit.frame
+    (is-making s who p site at refl) live refl (frame_of-block_place site.frame c i lt)) in
+    record {
+      checked = sound.checked;
+      legal = subst (IsLegalWithoutCounts g) (sym past) sound.legal;
+      parts = (
+        l,
+        record {
+          words = words-below s.word (name.Anchor site.desc) (anchor_word (new_anchor c)) s'.word w old.words (anchor_word-below (new_anchor c) (new_anchor-fits c));
+          errands =
+              each-caller g (IsOwnErrand g) s.errand who e s'.errand moves
+              (record {
+                caller = own.caller;
+                geometry = own.geometry;
+                rule = subst IsErrand after (settle_errand (s.errand who) x own.rule (old.words (name_at s who)));
+                lost = raised-below (counts_lost (s.errand who).point x) (s.errand who).lost own.lost;
+              })
+              old.errands;
+          listed = anchored-listed g s l who site e s' h old;
+          kept = anchored-kept g s l who site e s' h old lies;
+          chained = anchored-chained g s l who site e s' h old lies links_made unlive;
+          framed = anchored-framed g s l who site e s' h old;
+          remembered = anchored-remembered g s l who site e s' h old lies refl;
+          guarded = anchored-guarded g s l who site e s' o h refl old;
+          stocked = anchored-stocked g s l who site e s' o h at refl old;
+          turned =
+              anchored-turned g s l who site e s' o h at refl refl
+              (raised-least (counts_lost (s.errand who).point x) (s.errand who).lost own.lost)
+              (ap (λ b. raised b (s.errand who).cleared) uncleared) old;
+          tied = anchored-tied g s l who site e s' h old;
+        },
+      );
+    }

@@ -1,0 +1,224 @@
+-- A new superblock: before its anchor is stored nobody has reserved blocks of it, and after it its blocks are in order.
+use Rattle.std.proofs.Common.{ℕ, true, zero, suc, Option, Some, None, ◌≡◌, ◌≢◌, ◌<◌, ◌≤◌, ◌+◌, ◌-◌, List, refl, arith, ap, sym, subst, ◌∙◌}
+use Rattle.std.specs.List.{AllByRecursion}
+use Rattle.std.specs.Prelude.{◌==◌, IsTrue, nat_lt, if◌then◌else◌}
+use Rattle.std.proofs.lemmas.Bool.{cond-true, cond-false, cond_both, ne_eqb, lt-ltb, ltb-true}
+use Rattle.std.proofs.lemmas.List.Elements.{recursion_from_All}
+use Rattle.heap_geometry.specs.declared.geometry.Geometry.{Geometry}
+use Rattle.heap_geometry.specs.declared.limits.TheConstants.{CLASSES}
+use Rattle.heap_geometry.specs.Need.{block_count_of}
+use Rattle.heap_geometry.specs.Place.{block_place}
+use Rattle.packed_words.specs.declared.active.ActiveWord.{ActiveWord}
+use Rattle.packed_words.specs.declared.active.ActiveWord.TheVariants.{Null, Held}
+use Rattle.packed_words.specs.Active.{active_of}
+use Rattle.packed_words.specs.Prefix.{link_of}
+use Rattle.word_plan.specs.declared.name.WordName.{WordName}
+use Rattle.word_plan.specs.declared.name.WordName.TheVariants as name
+use Rattle.word_plan.specs.Counts.{word_count}
+use Rattle.word_plan.specs.Table.{word_name}
+use Rattle.word_plan.proofs.SeatLemmas.{block_count_of-least, block_count_of-most}
+use Rattle.superblock_parts.specs.Anchors.{new_anchor, new_credits, new_link}
+use Rattle.superblock_parts.specs.Chains.{occurs, chain_of, link_in}
+use Rattle.superblock_parts.specs.declared.point.BlockPoint.{BlockPoint}
+use Rattle.superblock_parts.specs.declared.point.BlockPoint.TheVariants as block
+use Rattle.superblock_parts.specs.declared.point.Share.{Share}
+use Rattle.superblock_parts.specs.declared.point.Share.TheVariants.{Credit, LastCredit, Grant}
+use Rattle.errand_steps.specs.declared.onward.Onward.{Onward}
+use Rattle.errand_steps.specs.declared.point.Point.{Point}
+use Rattle.errand_steps.specs.declared.point.Point.TheVariants as point
+use Rattle.errand_steps.specs.Steps.{State}
+use Rattle.stack_parts.specs.declared.point.StackPoint.{StackPoint}
+use Rattle.hazard_parts.specs.declared.point.DescPoint.{DescPoint}
+use Rattle.partial_parts.specs.declared.point.PartialPoint.{PartialPoint}
+use Rattle.large_parts.specs.declared.point.LargePoint.{LargePoint}
+use Rattle.sound_state.specs.Holdings.{before_pop, block_holds, stack_holds, desc_holds, partial_holds, large_holds, holds_of}
+use Rattle.sound_state.specs.Keepers.{word_keeps, active_keeps}
+use Rattle.sound_state.specs.Lists.{Lists}
+use Rattle.sound_state.specs.Recalls.{IsSo, AreMade, block_recalls, recalls_of}
+use Rattle.sound_state.specs.Sound.{IsSoundWith}
+use Rattle.sound_state.specs.Sums.{words_sum, callers_sum}
+use Rattle.sound_state.specs.Superblocks.{Superblock, IsChained, is_bound, free_chain, live_at, offered, word_reserves, reserved_among, errand_reserves, reserved_of}
+use Rattle.sound_state.proofs.beginnings.OpeningLists.{indexes, indexes-before, indexes-once, indexes-end, indexes-chained}
+use Rattle.sound_state.proofs.shared.SumLemmas.{sum-none, term-sum, callers-none}
+
+-- blocks of another descriptor
+before-other : (e d class : ℕ) (share : Share) → e ≢ d → reserved_among d (before_pop e class share).credits ≡ 0
+before-other e d class Credit differ = grind (arith, ne_eqb e d differ)
+before-other e d class LastCredit differ = grind (arith, ne_eqb e d differ)
+before-other e d class (Grant more) differ = grind (arith, ne_eqb e d differ)
+
+one-other : (e d blocks : ℕ) → e ≢ d → (if e == d then blocks else 0) + 0 ≡ 0
+one-other e d blocks differ = grind (arith, ne_eqb e d differ)
+
+-- nobody has reserved blocks of a descriptor that isn't bound
+unbound-block :
+    (g : Geometry) (s : State) (l : Lists) (i d : ℕ) (p : BlockPoint) → (IsTrue (is_bound g s l d) → ⊥)
+    → AllByRecursion (IsSo g s l i) (block_recalls p) → reserved_among d (block_holds p).credits ≡ 0
+unbound-block g s l i d (block.LoadInfo seat e share) free so =
+    before-other e d seat.class share (λ is. free (subst (λ k. IsTrue (is_bound g s l k)) is so.0.0))
+unbound-block g s l i d (block.LoadAnchor at share) free so =
+    before-other at.desc d at.seat.class share (λ is. free (subst (λ k. IsTrue (is_bound g s l k)) is so.0.0))
+unbound-block g s l i d (block.LoadLink at share x) free so =
+    before-other at.desc d at.seat.class share (λ is. free (subst (λ k. IsTrue (is_bound g s l k)) is so.1.0.0))
+unbound-block g s l i d (block.PopBlock at share x prefix) free so =
+    before-other at.desc d at.seat.class share (λ is. free (subst (λ k. IsTrue (is_bound g s l k)) is so.1.1.0.0))
+unbound-block g s l i d (block.InstallCredits at k more) free so =
+    one-other at.desc d more (λ is. free (subst (λ k. IsTrue (is_bound g s l k)) is so.0.0))
+unbound-block g s l i d (block.InstallSuperblock at) free so =
+    one-other at.desc d (new_credits at.seat.class + 1) (λ is. free (subst (λ k. IsTrue (is_bound g s l k)) is so.1.0.0))
+unbound-block g s l i d (block.LoadReturn at k more) free so =
+    one-other at.desc d more (λ is. free (subst (λ k. IsTrue (is_bound g s l k)) is so.0.0))
+unbound-block g s l i d (block.ReturnCredits at k more x) free so =
+    one-other at.desc d more (λ is. free (subst (λ k. IsTrue (is_bound g s l k)) is so.0.0))
+unbound-block g s l i d (block.LoadActive seat) free so = refl
+unbound-block g s l i d (block.TakeCredit seat e credits) free so = refl
+unbound-block g s l i d (block.StorePrefix at k) free so = refl
+unbound-block g s l i d (block.LoadPrefix seat frame k) free so = refl
+unbound-block g s l i d (block.LoadPushAnchor at k stored) free so = refl
+unbound-block g s l i d (block.StoreGuard at k x) free so = refl
+unbound-block g s l i d (block.LoadOwner at k x) free so = refl
+unbound-block g s l i d (block.StoreLink at k x stored heap) free so = refl
+unbound-block g s l i d (block.PushBlock at k x stored heap) free so = refl
+unbound-block g s l i d (block.LinkBlock at k) free so = refl
+unbound-block g s l i d (block.StoreInfo at) free so = refl
+unbound-block g s l i d (block.StoreAnchor at) free so = refl
+unbound-block g s l i d (block.WantsPartial seat) free so = refl
+unbound-block g s l i d (block.Returned at k) free so = refl
+unbound-block g s l i d (block.Discarded at) free so = refl
+unbound-block g s l i d (block.Given at k) free so = refl
+unbound-block g s l i d (block.BecameEmpty at heap) free so = refl
+unbound-block g s l i d (block.BecamePartial at stored) free so = refl
+unbound-block g s l i d (block.Pushed seat stored) free so = refl
+
+none-stack : (d : ℕ) (p : StackPoint) (o : Onward) → reserved_among d (stack_holds p o).credits ≡ 0
+none-stack d p o = grind (arith)
+
+none-desc : (d : ℕ) (p : DescPoint) (o : Onward) → reserved_among d (desc_holds p o).credits ≡ 0
+none-desc d p o = grind (arith)
+
+none-partial : (d : ℕ) (p : PartialPoint) (o : Onward) → reserved_among d (partial_holds p o).credits ≡ 0
+none-partial d p o = grind (arith)
+
+none-large : (d : ℕ) (p : LargePoint) → reserved_among d (large_holds p).credits ≡ 0
+none-large d p = grind (arith)
+
+unbound-point :
+    (g : Geometry) (s : State) (l : Lists) (i d : ℕ) (p : Point) → (IsTrue (is_bound g s l d) → ⊥)
+    → AllByRecursion (IsSo g s l i) (recalls_of p) → reserved_among d (holds_of p).credits ≡ 0
+unfolding holds_of recalls_of
+unbound-point g s l i d point.Idle free so = refl
+unbound-point g s l i d (point.Block p o) free so = unbound-block g s l i d p free so
+unbound-point g s l i d (point.Stack p o) free so = none-stack d p o
+unbound-point g s l i d (point.Desc p o) free so = none-desc d p o
+unbound-point g s l i d (point.Partial p o) free so = none-partial d p o
+unbound-point g s l i d (point.Large p o) free so = none-large d p
+
+-- a word that doesn't hold it offers none
+held-none : (d : ℕ) (o : Option ActiveWord) → active_keeps d o ≡ 0 → offered d o ≡ 0
+held-none d None none = refl
+held-none d (Some Null) none = refl
+held-none d (Some (Held e credits)) none = grind (arith, none)
+
+word-none : (d : ℕ) (n : WordName) (w : ℕ) → word_keeps d n w ≡ 0 → word_reserves d n w ≡ 0
+word-none d (name.Active heap class) w none = held-none d (active_of w) none
+word-none d (name.Slot heap class) w none = refl
+word-none d (name.Arena place) w none = refl
+word-none d (name.Anchor e) w none = refl
+word-none d (name.Next e) w none = refl
+word-none d (name.Info e) w none = refl
+word-none d (name.ListHead class) w none = refl
+word-none d (name.FrameNext f) w none = refl
+word-none d name.FrameHead w none = refl
+word-none d name.DescHead w none = refl
+word-none d (name.Hazard who) w none = refl
+word-none d name.Units w none = refl
+word-none d (name.Shelf k) w none = refl
+
+-- so a descriptor that isn't bound, and that no processor heap holds, has no reserved blocks
+pub unbound-reserves :
+    (g : Geometry) (s : State) (l : Lists) (d : ℕ) → IsSoundWith g s l → (IsTrue (is_bound g s l d) → ⊥)
+    → words_sum g (word_keeps d) s.word ≡ 0 → reserved_of g s d ≡ 0
+unfolding words_sum
+unbound-reserves g s l d old free none =
+    let words : words_sum g (word_reserves d) s.word ≡ 0 =
+    sum-none (word_count g) (λ k. word_reserves d (word_name g k) (s.word (word_name g k)))
+    (λ k lt.
+    let term = term-sum (word_count g) (λ k. word_keeps d (word_name g k) (s.word (word_name g k))) k lt in
+    word-none d (word_name g k) (s.word (word_name g k)) (omega (arith, term, none))) in
+    let callers : callers_sum g (errand_reserves d) s.errand ≡ 0 =
+    callers-none g (errand_reserves d) s.errand
+    (λ i has.
+    unbound-point g s l i d (s.errand i).point free
+    (recursion_from_All (IsSo g s l i) (recalls_of (s.errand i).point) (old.remembered.so i has))) in
+    omega (arith, words, callers)
+
+-- a new superblock whose first block is held back
+abbrev pub new_superblock : State → ℕ → ℕ → Superblock
+new_superblock s f c = record {
+  anchor = new_anchor c;
+  reserved = new_credits c + 1;
+  waiting = 1;
+  next = link_in s.word f c;
+  live = λ i. live_at s (block_place f c i);
+  size = block_count_of c;
+}
+
+-- its links
+made-link : (s : State) (f c i : ℕ) → AreMade s f c (block_count_of c) → i < block_count_of c → link_in s.word f c i ≡ new_link c i
+made-link s f c i made_all has =
+    ap link_of (made_all i has)
+    ∙ cond_both (nat_lt (i + 1) (block_count_of c)) (i + 1) 0 (λ w. link_of w ≡ w)
+    (λ e. omega (arith, block_count_of-most c, ltb-true (i + 1) (block_count_of c) e)) (λ e. refl)
+
+made-next : (s : State) (f c i : ℕ) → AreMade s f c (block_count_of c) → suc i < block_count_of c → link_in s.word f c i ≡ suc i
+made-next s f c i made_all has =
+    let more : nat_lt (i + 1) (block_count_of c) ≡ true = lt-ltb (i + 1) (block_count_of c) (omega (arith, has)) in
+    omega (arith, made-link s f c i made_all (omega arith), cond-true (nat_lt (i + 1) (block_count_of c)) (i + 1) 0 more)
+
+made-within : (s : State) (f c i : ℕ) → AreMade s f c (block_count_of c) → i < block_count_of c → link_in s.word f c i < block_count_of c
+made-within s f c i made_all has =
+    subst (λ w. w < block_count_of c) (sym (made-link s f c i made_all has))
+    (cond_both (nat_lt (i + 1) (block_count_of c)) (i + 1) 0 (λ w. w < block_count_of c)
+    (λ e. ltb-true (i + 1) (block_count_of c) e) (λ e. omega (arith, has)))
+
+-- its credits
+new-fit : (c : ℕ) → c < CLASSES → new_credits c + 1 ≤ block_count_of c - 1
+new-fit c has = grind (arith, block_count_of-least c has)
+
+-- its blocks but the first one are free, one behind the other
+new-chain :
+    (s : State) (f c : ℕ) → c < CLASSES → AreMade s f c (block_count_of c)
+    → free_chain (new_superblock s f c) ≡ indexes 1 (block_count_of c - 1)
+new-chain s f c has made_all =
+    let all : (block_count_of c - 1) - (new_credits c + 1) + (new_credits c + 1) ≡ block_count_of c - 1 = omega (arith, new-fit c has) in
+    ap (λ k. chain_of (link_in s.word f c) k 1) all
+    ∙ indexes-chained (link_in s.word f c) 1 (block_count_of c - 1) (block_count_of c)
+    (omega (arith, block_count_of-least c has)) (λ i lt. made-next s f c i made_all lt)
+
+-- each is free, or held back
+new-once :
+    (count i live : ℕ) (xs : List ℕ) → xs ≡ indexes 1 (count - 1) → i < count → live ≡ 0
+    → occurs i xs + live + (if i == 0 then 1 else 0) ≡ 1
+new-once count zero live xs chain lt none = omega (arith, ap (occurs 0) chain, indexes-before 1 (count - 1) 0 (omega arith), none)
+new-once count (suc i) live xs chain lt none =
+    let behind : ◌≡◌ {A = ℕ} (if suc i == 0 then 1 else 0) 0 =
+    cond-false {A = ℕ} (suc i == 0) 1 0 (ne_eqb (suc i) 0 (λ is. let bad : ⊥ = omega (arith, is) in bad)) in
+    omega (arith, ap (occurs (suc i)) chain, indexes-once 1 (count - 1) (suc i) (omega arith) (omega (arith, lt)), none, behind)
+
+-- so its blocks are in order
+pub new-chained :
+    (s : State) (f c : ℕ) → c < CLASSES → AreMade s f c (block_count_of c)
+    → ((i : ℕ) → i < block_count_of c → live_at s (block_place f c i) ≡ 0) → IsChained (new_superblock s f c)
+new-chained s f c has made_all unlive =
+    let count = block_count_of c in
+    let two = block_count_of-least c has in
+    let chain = new-chain s f c has made_all in
+    let within : (i : ℕ) → 0 < occurs i (free_chain (new_superblock s f c)) → i < count =
+    λ i on. omega (arith, two, indexes-end 1 (count - 1) i (subst (λ xs. 0 < occurs i xs) chain on)) in
+    record {
+      avail = omega (arith, two);
+      within = within;
+      links = λ i on. made-within s f c i made_all (within i on);
+      once = λ i lt. new-once count i (live_at s (block_place f c i)) (free_chain (new_superblock s f c)) chain lt (unlive i lt);
+      some = omega (arith, two, new-fit c has);
+    }

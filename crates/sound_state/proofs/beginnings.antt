@@ -1,0 +1,6 @@
+pub mod BegunErrands
+pub mod BegunLemmas
+pub mod FirstLemmas
+pub mod InstalledLemmas
+pub mod OpeningLemmas
+pub mod OpeningLists

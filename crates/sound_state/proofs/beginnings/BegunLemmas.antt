@@ -1,0 +1,422 @@
+-- A call that begins keeps the state sound.
+use Rattle.std.proofs.Common.{ℕ, false, None, ◌≡◌, ◌<◌, ◌≤◌, ◌+◌, List, [], refl, arith, sym, subst, inl, inr, ◌∙◌, ◌^◌}
+use Rattle.std.proofs.Math.Path.{fun_ext}
+use Rattle.std.specs.Prelude.{◌⊎◌, ◌&&◌, not, All, Any, IsTrue, length, count_by}
+use Rattle.std.proofs.lemmas.Bool.{cases_eq, cases_Bool, cond-true, cond-false}
+use Rattle.std.proofs.lemmas.List.Elements.{All-nil, All-cons}
+use Rattle.std.proofs.lemmas.Option.{none-some}
+use Rattle.heap_geometry.specs.declared.geometry.Geometry.{Geometry}
+use Rattle.heap_geometry.specs.declared.limits.TheConstants.{SHELVES}
+use Rattle.heap_geometry.specs.declared.need.Need.{Need}
+use Rattle.heap_geometry.specs.declared.need.Need.TheVariants.{Small, Large, TooLarge}
+use Rattle.heap_geometry.specs.Need.{need_of, usable_words}
+use Rattle.heap_geometry.specs.Place.{block_place, frame_of, index_of}
+use Rattle.heap_geometry.proofs.PlaceLemmas.{block_place-split}
+use Rattle.pool_model.specs.Pool.{pool_of}
+use Rattle.pool_model.specs.WellFormed.{IsWellFormed}
+use Rattle.pool_model.proofs.PoolLemmas.{every-each, place-found}
+use Rattle.pool_model.proofs.WellFormedLemmas.{sound-of}
+use Rattle.word_plan.specs.declared.name.WordName.{WordName}
+use Rattle.word_plan.specs.declared.name.WordName.TheVariants as name
+use Rattle.errand_steps.specs.declared.point.Point.{Point}
+use Rattle.errand_steps.specs.declared.point.Point.TheVariants.{Idle}
+use Rattle.errand_steps.specs.Begins.{IsIdle, IsHeapBlock, begins_alloc, alloc_begun, free_begun, write_begun, read_begun, put_begun, take_begun}
+use Rattle.errand_steps.specs.Errands.{ErrandFields, IsErrand, is_spent, one_more}
+use Rattle.errand_steps.specs.Fits.{spare_of, pushed_by}
+use Rattle.errand_steps.specs.Steps.{State, Moves}
+use Rattle.sound_state.specs.Guards.{IsGuard, IsHazard, passed_by, held_by}
+use Rattle.sound_state.specs.Holdings.{Holding, Freed, nothing, holds_of}
+use Rattle.sound_state.specs.Keepers.{IsKeptAs, IsWithout}
+use Rattle.sound_state.specs.Lists.{Lists}
+use Rattle.sound_state.specs.Recalls.{IsSo, IsOwned, recalls_of}
+use Rattle.sound_state.specs.Sound.{IsSoundWith, IsOwnErrand, IsSoundWithoutCounts, with_errands}
+use Rattle.sound_state.specs.Stock.{waits_in}
+use Rattle.sound_state.specs.Turns.{gives_small, refuses_small, turn_open, turn_unanswered, errand_discards, one_if, in_turn, has_frame, has_partial, has_refused, is_discarding_at, pops_left}
+use Rattle.sound_state.proofs.beginnings.BegunErrands.{idle-is, alloc-errand, free-errand, write-errand, read-errand, put-errand, take-errand}
+use Rattle.sound_state.proofs.shared.AlikeLemmas.{MayGoOn, MayGuard, sound-alike}
+use Rattle.sound_state.proofs.quiet.QuietLemmas.{actives-stay}
+use Rattle.sound_state.proofs.shared.WeighLemmas.{WeighAlike, alike-most, weigh-alike, weigh-emptied}
+
+-- a caller that holds nothing but a block that it frees
+abbrev pub freeing : List Freed → Holding
+freeing blocks = record nothing { frees = blocks }
+
+-- the point at which a call begins
+pub record Begins (g : Geometry) (s : State) (l : Lists) (who : ℕ) (p : Point) (blocks : List Freed) : Type 0 where
+  pub holds : holds_of p ≡ freeing blocks
+  pub frees : All (λ x. IsOwned s who x.place x.need) blocks
+  pub so : All (IsSo g s l who) (recalls_of p)
+  pub waits : (class : ℕ) → waits_in class p ≡ 0
+  pub pushed : pushed_by p ≡ None
+  pub passed : passed_by p ≡ 0
+  pub unread : length (held_by p) ≡ 0
+  pub spare : spare_of p ≡ 0
+  pub pops : pops_left p ≡ 0
+
+-- it takes so many turns, none or one, and is in as many
+pub record Takes (p : Point) (t before after : ℕ) : Type 0 where
+  pub turns : after ≡ before + t
+  pub under_way : one_if (in_turn p) ≡ t
+  pub discards : one_if (in_turn p && is_discarding_at p) ≡ 0
+  pub unanswered : one_if (in_turn p && not (has_refused p)) ≡ t
+  pub unframed : one_if (in_turn p && not (has_frame p)) ≡ t
+  pub unlisted : one_if (in_turn p && not (has_partial p)) ≡ t
+
+idle-takes : Takes Idle 0 0 0
+idle-takes = record { turns = refl; under_way = refl; discards = refl; unanswered = refl; unframed = refl; unlisted = refl }
+
+-- what an idle caller weighs, and what one weighs that begins
+pub begun-weighs :
+    (g : Geometry) (s : State) (l : Lists) (who : ℕ) (a : ErrandFields) (p : Point) (turns : ℕ) (blocks : List Freed) → IsIdle a
+    → Begins g s l who p blocks → (n : WordName) (w : ℕ) → WeighAlike n w w a (record a { point = p; turns = turns })
+unfolding holds_of
+begun-weighs g s l who a p turns blocks idle b n w =
+    let was = idle-is a.point idle in
+    record {
+      still = λ plain. refl;
+      reserves = λ d. rw (was, b.holds) refl;
+      waits = λ d. rw (was, b.holds) refl;
+      ways = λ d. rw (was, b.holds) refl;
+      away = λ d. rw (was, b.holds) refl;
+      places = λ d. rw (was, b.holds) refl;
+      frames = λ f. rw (was, b.holds) refl;
+      stock = λ class. rw (was, b.holds, b.waits class) refl;
+    }
+
+-- who holds nothing excepts no block
+abbrev ExceptsAt : Holding → ℕ → Type 0
+ExceptsAt h place = Any (λ b. b.place ≡ place) h.hands ⊎ Any (λ b. (b.place ≡ place) × IsTrue b.overwritten) h.frees
+
+not-excepts : (place : ℕ) → ExceptsAt nothing place → ⊥
+not-excepts place (inl x) = omega (arith, x.2)
+not-excepts place (inr x) = omega (arith, x.2)
+
+-- a caller that begins a call may go on to it
+begun-may :
+    (g : Geometry) (s : State) (l : Lists) (who : ℕ) (a : ErrandFields) (p : Point) (t turns : ℕ) (blocks : List Freed)
+    → IsSoundWith g s l → who < g.callers → s.errand who ≡ a → IsIdle a → Begins g s l who p blocks
+    → IsErrand (record a { point = p; turns = turns }) → Takes p t a.turns turns → MayGoOn g s l who a (record a { point = p; turns = turns })
+unfolding holds_of
+begun-may g s l who a p t turns blocks sound has at idle b rule takes =
+    let was = idle-is a.point idle in
+    let own = subst (IsOwnErrand g who) at (sound.errands who has) in
+    let turned : count_by (gives_small who) s.history + turn_open a ≤ a.turns =
+    subst (λ e. count_by (gives_small who) s.history + turn_open e ≤ e.turns) at (sound.turned.own_turns who has) in
+    let idle_takes : Takes a.point 0 0 0 = subst (λ q. Takes q 0 0 0) (sym was) idle-takes in
+    record {
+      rule = record { caller = own.caller; geometry = own.geometry; rule = rule; lost = own.lost };
+      retired = subst (λ e. All (IsWithout s) e.retired) at (sound.kept.retired who has);
+      kept = subst (λ h. All (λ k. IsKeptAs s k.status k.desc k.class) h.kept) (sym b.holds) (All-nil (λ k. IsKeptAs s k.status k.desc k.class));
+      so = b.so;
+      full = λ is. let bad : ⊥ = omega (arith, is, b.spare) in absurd bad;
+      hands = subst (λ h. All (λ x. IsOwned s who x.place x.need) h.hands) (sym b.holds) (All-nil (λ x. IsOwned s who x.place x.need));
+      frees = subst (λ h. All (λ x. IsOwned s who x.place x.need) h.frees) (sym b.holds) b.frees;
+      excepts = λ place x. absurd (not-excepts place (subst (λ q. ExceptsAt (holds_of q) place) was x));
+      own_turns = omega (arith, turned, takes.turns, takes.under_way);
+      own_lost =
+          let lost : a.turns + errand_discards a ≤ count_by (gives_small who) s.history + count_by (refuses_small who) s.history + a.lost + turn_unanswered a =
+          subst
+          (λ e. e.turns + errand_discards e
+          ≤ count_by (gives_small who) s.history + count_by (refuses_small who) s.history + e.lost + turn_unanswered e) at
+          (sound.turned.own_lost who has) in
+          omega (arith, lost, takes.turns, takes.discards, takes.unanswered, idle_takes.unanswered);
+      frame_turns = omega (arith, takes.turns, takes.unframed);
+      list_turns = omega (arith, takes.turns, takes.unlisted, b.pops);
+    }
+
+-- it guards nothing, nor does it push or scan
+begun-guards :
+    (g : Geometry) (s : State) (l : Lists) (who : ℕ) (p : Point) (retired : List ℕ) (blocks : List Freed) → IsSoundWith g s l
+    → who < g.callers → IsIdle (s.errand who) → Begins g s l who p blocks → MayGuard g s who p retired (s.word (name.Hazard who))
+unfolding holds_of
+begun-guards g s l who p retired blocks sound has idle b =
+    let was = idle-is (s.errand who).point idle in
+    record {
+      hazard =
+          subst (λ h. IsHazard h.hazard (s.word (name.Hazard who))) (sym b.holds)
+          (subst (λ e. IsHazard (holds_of e).hazard (s.word (name.Hazard who))) was (sound.guarded.words who has));
+      guard = λ d word guard. absurd (subst (λ h. IsGuard h.hazard) b.holds guard);
+      pushed = λ i d has_i guards is. absurd (none-some d (sym b.pushed ∙ is));
+      passed = λ i d has_i guards listed below. let bad : ⊥ = omega (arith, below, b.passed) in absurd bad;
+      unread = λ i passed below. let bad : ⊥ = omega (arith, below, b.unread) in absurd bad;
+    }
+
+-- a caller that begins a call keeps the state sound
+begun-sound :
+    (g : Geometry) (s : State) (who : ℕ) (p : Point) (t turns : ℕ) (blocks : List Freed) (errands' : ℕ → ErrandFields)
+    → IsSoundWithoutCounts g s → who < g.callers → IsIdle (s.errand who)
+    → ((l : Lists) → Begins g s l who p blocks) → IsErrand (record (s.errand who) { point = p; turns = turns })
+    → Takes p t (s.errand who).turns turns → Moves s.errand who (record (s.errand who) { point = p; turns = turns }) errands'
+    → IsSoundWithoutCounts g (with_errands s errands')
+begun-sound g s who p t turns blocks errands' sound has idle begins rule takes moves =
+    let l = sound.parts.0 in
+    let old = sound.parts.1 in
+    let e = record (s.errand who) { point = p; turns = turns } in
+    let word = s.word name.FrameHead in
+    record {
+      checked = sound.checked;
+      legal = sound.legal;
+      parts = (
+        l,
+        sound-alike g s l who e (with_errands s errands')
+            (record {
+              caller = has;
+              moves = moves;
+              alike =
+                  weigh-alike g s l who name.FrameHead word e (with_errands s errands') tt has
+                  (record { here = refl; elsewhere = λ other differ. refl }) moves refl
+                  (alike-most name.FrameHead word word (s.errand who) e
+                  (begun-weighs g s l who (s.errand who) p turns blocks idle (begins l) name.FrameHead word));
+              may = begun-may g s l who (s.errand who) p t turns blocks old has refl idle (begins l) rule takes;
+              others = λ i differ. refl;
+              guards = begun-guards g s l who p (s.errand who).retired blocks old has idle (begins l);
+              actives = actives-stay g s l s.word old.kept (λ n. refl);
+              words = old.words;
+              emptied =
+                  omega (
+                    arith,
+                    weigh-emptied g s l who name.FrameHead word e (with_errands s errands') has
+                        (record { here = refl; elsewhere = λ other differ. refl }) moves
+                        (alike-most name.FrameHead word word (s.errand who) e
+                        (begun-weighs g s l who (s.errand who) p turns blocks idle (begins l) name.FrameHead word)),
+                  );
+            })
+            old,
+      );
+    }
+
+-- an errand that stays as it is keeps the state sound
+stays-sound :
+    (g : Geometry) (s : State) (who : ℕ) (errands' : ℕ → ErrandFields) → IsSoundWithoutCounts g s → Moves s.errand who (s.errand who) errands'
+    → IsSoundWithoutCounts g (with_errands s errands')
+stays-sound g s who errands' sound moves =
+    let same : errands' ≡ s.errand =
+    fun_ext (λ i. elim (cases_eq i who) [
+      | inl is ↦ subst (λ j. errands' j ≡ s.errand j) (sym is) moves.here
+      | inr differ ↦ moves.elsewhere i differ
+    ]) in
+    subst (λ e. IsSoundWithoutCounts g (with_errands s e)) (sym same) sound
+
+alloc-from :
+    (g : Geometry) (s : State) (who words : ℕ) (n : Need) (errands' : ℕ → ErrandFields) → need_of words ≡ n → IsSoundWithoutCounts g s
+    → who < g.callers → IsIdle (s.errand who) → IsErrand (begins_alloc (s.errand who) words n)
+    → Moves s.errand who (begins_alloc (s.errand who) words n) errands' → IsSoundWithoutCounts g (with_errands s errands')
+unfolding holds_of recalls_of
+alloc-from g s who words (Small class) errands' is sound has idle rule moves =
+    let e = s.errand who in
+    let own = sound.parts.1.errands who has in
+    elim (cases_Bool (is_spent e)) [
+      | inl spent ↦
+          stays-sound g s who errands' sound
+          (subst (λ f. Moves s.errand who f errands') (cond-true (is_spent e) e _ spent) moves)
+      | inr left ↦
+          let more = cond-false (is_spent e) e _ left in
+          begun-sound g s who _ 1 (one_more e.turns) [] errands' sound has idle
+          (λ l. record {
+            holds = refl;
+            frees = All-nil (λ x. IsOwned s who x.place x.need);
+            so = All-nil (IsSo g s l who);
+            waits = λ class. refl;
+            pushed = refl;
+            passed = refl;
+            unread = refl;
+            spare = refl;
+            pops = refl;
+          })
+          (subst IsErrand more rule)
+          (record {
+            turns = let most = own.rule.turns in let limit = own.rule.geometry.turn_limit in grind (arith, left, most, limit);
+            under_way = refl;
+            discards = refl;
+            unanswered = refl;
+            unframed = refl;
+            unlisted = refl;
+          })
+          (subst (λ f. Moves s.errand who f errands') more moves)
+    ]
+alloc-from g s who words (Large units) errands' is sound has idle rule moves =
+    begun-sound g s who _ 0 (s.errand who).turns [] errands' sound has idle
+    (λ l. record {
+      holds = refl;
+      frees = All-nil (λ x. IsOwned s who x.place x.need);
+      so = All-nil (IsSo g s l who);
+      waits = λ class. refl;
+      pushed = refl;
+      passed = refl;
+      unread = refl;
+      spare = refl;
+      pops = refl;
+    })
+    rule (record { turns = omega arith; under_way = refl; discards = refl; unanswered = refl; unframed = refl; unlisted = refl }) moves
+alloc-from g s who words TooLarge errands' is sound has idle rule moves = stays-sound g s who errands' sound moves
+
+-- an allocation that begins
+pub alloc-sound :
+    (g : Geometry) (s : State) (who words : ℕ) (errands' : ℕ → ErrandFields) → IsSoundWithoutCounts g s → who < g.callers → IsIdle (s.errand who)
+    → Moves s.errand who (alloc_begun (s.errand who) words) errands' → IsSoundWithoutCounts g (with_errands s errands')
+unfolding alloc_begun
+alloc-sound g s who words errands' sound has idle moves =
+    alloc-from g s who words (need_of words) errands' refl sound has idle
+    (alloc-errand (s.errand who) words (sound.parts.1.errands who has).rule idle) moves
+
+-- an owned block is one of the heap's
+owned-block :
+    (g : Geometry) (s : State) (who place : ℕ) (n : Need) → IsSoundWithoutCounts g s → IsOwned s who place n → IsHeapBlock g place n
+owned-block g s who place n sound owned =
+    let b = owned.block.0 in
+    let live = owned.block.1 in
+    let formed =
+    every-each (IsWellFormed g) (pool_of s.history) (sound-of g s.history sound.legal).each place b live in
+    let at : b.place ≡ place = place-found place (pool_of s.history) b live in
+    subst (λ m. IsHeapBlock g place m) owned.block.3 (subst (λ p. IsHeapBlock g p b.need) at (formed.need, formed.place))
+
+-- a call that begins at a point without a turn
+no-turn-sound :
+    (g : Geometry) (s : State) (who : ℕ) (p : Point) (blocks : List Freed) (errands' : ℕ → ErrandFields) → IsSoundWithoutCounts g s
+    → who < g.callers → IsIdle (s.errand who) → ((l : Lists) → Begins g s l who p blocks) → IsErrand (record (s.errand who) { point = p })
+    → in_turn p ≡ false → Moves s.errand who (record (s.errand who) { point = p }) errands' → IsSoundWithoutCounts g (with_errands s errands')
+no-turn-sound g s who p blocks errands' sound has idle begins rule no_turn moves =
+    begun-sound g s who p 0 (s.errand who).turns blocks errands' sound has idle begins rule
+    (record {
+      turns = omega arith;
+      under_way = rw no_turn refl;
+      discards = rw no_turn refl;
+      unanswered = rw no_turn refl;
+      unframed = rw no_turn refl;
+      unlisted = rw no_turn refl;
+    })
+    moves
+
+-- a free
+pub free-sound :
+    (g : Geometry) (s : State) (who place : ℕ) (n : Need) (errands' : ℕ → ErrandFields) → IsSoundWithoutCounts g s → who < g.callers
+    → IsIdle (s.errand who) → IsOwned s who place n → Moves s.errand who (free_begun (s.errand who) place n) errands'
+    → IsSoundWithoutCounts g (with_errands s errands')
+unfolding free_begun holds_of recalls_of
+free-sound g s who place (Small class) errands' sound has idle owned moves =
+    let block = owned-block g s who place (Small class) sound owned in
+    let own = sound.parts.1.errands who has in
+    let at : block_place (frame_of place) class (index_of class place) ≡ place =
+    block_place-split class place
+    (block.1.0, block.1.1, omega (arith, block.1.2, sound.checked.frames.1), block.1.3, block.1.4) in
+    no-turn-sound g s who _ _ errands' sound has idle
+    (λ l. record {
+      holds = refl;
+      frees =
+          All-cons (λ x. IsOwned s who x.place x.need) _ [] (subst (λ p. IsOwned s who p (Small class)) (sym at) owned)
+          (All-nil (λ x. IsOwned s who x.place x.need));
+      so = All-nil (IsSo g s l who);
+      waits = λ class. refl;
+      pushed = refl;
+      passed = refl;
+      unread = refl;
+      spare = refl;
+      pops = refl;
+    })
+    (free-errand (s.errand who) place (Small class) (subst (λ h. IsHeapBlock h place (Small class)) (sym own.geometry) block) own.rule idle)
+    refl moves
+free-sound g s who place (Large units) errands' sound has idle owned moves =
+    let block = owned-block g s who place (Large units) sound owned in
+    let own = sound.parts.1.errands who has in
+    no-turn-sound g s who _ _ errands' sound has idle
+    (λ l. record {
+      holds = refl;
+      frees = All-cons (λ x. IsOwned s who x.place x.need) _ [] owned (All-nil (λ x. IsOwned s who x.place x.need));
+      so = All-nil (IsSo g s l who);
+      waits = λ class. refl;
+      pushed = refl;
+      passed = refl;
+      unread = refl;
+      spare = refl;
+      pops = refl;
+    })
+    (free-errand (s.errand who) place (Large units) (subst (λ h. IsHeapBlock h place (Large units)) (sym own.geometry) block) own.rule idle)
+    refl moves
+free-sound g s who place TooLarge errands' sound has idle owned moves = absurd (owned-block g s who place TooLarge sound owned).1
+
+-- a write, a read, a put and a take
+pub write-sound :
+    (g : Geometry) (s : State) (who place : ℕ) (n : Need) (i v : ℕ) (errands' : ℕ → ErrandFields) → IsSoundWithoutCounts g s → who < g.callers
+    → IsIdle (s.errand who) → IsOwned s who place n → i < usable_words n → v < 2 ^ 64
+    → Moves s.errand who (write_begun (s.errand who) place i v) errands' → IsSoundWithoutCounts g (with_errands s errands')
+unfolding write_begun holds_of recalls_of
+write-sound g s who place n i v errands' sound has idle owned below word moves =
+    let block = owned-block g s who place n sound owned in
+    let own = sound.parts.1.errands who has in
+    no-turn-sound g s who _ [] errands' sound has idle
+    (λ l. record {
+      holds = refl;
+      frees = All-nil (λ x. IsOwned s who x.place x.need);
+      so = All-cons (IsSo g s l who) _ [] (n, owned, below) (All-nil (IsSo g s l who));
+      waits = λ class. refl;
+      pushed = refl;
+      passed = refl;
+      unread = refl;
+      spare = refl;
+      pops = refl;
+    })
+    (write-errand (s.errand who) place n i v (subst (λ h. IsHeapBlock h place n) (sym own.geometry) block) below word own.rule idle) refl moves
+
+pub read-sound :
+    (g : Geometry) (s : State) (who place : ℕ) (n : Need) (i : ℕ) (errands' : ℕ → ErrandFields) → IsSoundWithoutCounts g s → who < g.callers
+    → IsIdle (s.errand who) → IsOwned s who place n → i < usable_words n
+    → Moves s.errand who (read_begun (s.errand who) place i) errands' → IsSoundWithoutCounts g (with_errands s errands')
+unfolding read_begun holds_of recalls_of
+read-sound g s who place n i errands' sound has idle owned below moves =
+    let block = owned-block g s who place n sound owned in
+    let own = sound.parts.1.errands who has in
+    no-turn-sound g s who _ [] errands' sound has idle
+    (λ l. record {
+      holds = refl;
+      frees = All-nil (λ x. IsOwned s who x.place x.need);
+      so = All-cons (IsSo g s l who) _ [] (n, owned, below) (All-nil (IsSo g s l who));
+      waits = λ class. refl;
+      pushed = refl;
+      passed = refl;
+      unread = refl;
+      spare = refl;
+      pops = refl;
+    })
+    (read-errand (s.errand who) place n i (subst (λ h. IsHeapBlock h place n) (sym own.geometry) block) below own.rule idle) refl moves
+
+pub put-sound :
+    (g : Geometry) (s : State) (who place : ℕ) (n : Need) (k : ℕ) (errands' : ℕ → ErrandFields) → IsSoundWithoutCounts g s → who < g.callers
+    → IsIdle (s.errand who) → IsOwned s who place n → k < SHELVES
+    → Moves s.errand who (put_begun (s.errand who) place n k) errands' → IsSoundWithoutCounts g (with_errands s errands')
+unfolding put_begun holds_of recalls_of
+put-sound g s who place n k errands' sound has idle owned shelf moves =
+    let block = owned-block g s who place n sound owned in
+    let own = sound.parts.1.errands who has in
+    no-turn-sound g s who _ [] errands' sound has idle
+    (λ l. record {
+      holds = refl;
+      frees = All-nil (λ x. IsOwned s who x.place x.need);
+      so = All-cons (IsSo g s l who) _ [] owned (All-nil (IsSo g s l who));
+      waits = λ class. refl;
+      pushed = refl;
+      passed = refl;
+      unread = refl;
+      spare = refl;
+      pops = refl;
+    })
+    (put-errand (s.errand who) place n k (subst (λ h. IsHeapBlock h place n) (sym own.geometry) block) shelf own.rule idle) refl moves
+
+pub take-sound :
+    (g : Geometry) (s : State) (who k : ℕ) (errands' : ℕ → ErrandFields) → IsSoundWithoutCounts g s → who < g.callers → IsIdle (s.errand who)
+    → k < SHELVES → Moves s.errand who (take_begun (s.errand who) k) errands' → IsSoundWithoutCounts g (with_errands s errands')
+unfolding take_begun holds_of recalls_of
+take-sound g s who k errands' sound has idle shelf moves =
+    let own = sound.parts.1.errands who has in
+    no-turn-sound g s who _ [] errands' sound has idle
+    (λ l. record {
+      holds = refl;
+      frees = All-nil (λ x. IsOwned s who x.place x.need);
+      so = All-nil (IsSo g s l who);
+      waits = λ class. refl;
+      pushed = refl;
+      passed = refl;
+      unread = refl;
+      spare = refl;
+      pops = refl;
+    })
+    (take-errand (s.errand who) k shelf own.rule idle) refl moves

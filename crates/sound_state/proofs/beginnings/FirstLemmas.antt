@@ -1,0 +1,469 @@
+-- A state before the first step, whatever the heap begins with: all callers are idle, and nothing is live.
+use Rattle.std.proofs.Common.{ℕ, true, false, Some, None, ◌≡◌, ◌<◌, ◌≤◌, ◌+◌, ◌^◌, List, [], ◌∷◌, length, refl, arith, ap, sym, subst, inl, inr, ◌∙◌}
+use Rattle.std.specs.Prelude.{◌==◌, ◌-◌, All, IsSome, nat_lt, slice_index_or, count_by}
+use Rattle.std.specs.Int.{bit_at}
+use Rattle.std.proofs.lemmas.Bool.{cond_both, cond-true, lt-ltb, and_from, cases_lt, true≢false}
+use Rattle.std.proofs.lemmas.List.Elements.{All-nil}
+use Rattle.std.proofs.lemmas.Nat.{pow_pos}
+use Rattle.std.proofs.lemmas.Option.{none-some}
+use Rattle.std.proofs.lemmas.List.{length-append}
+use Rattle.heap_geometry.specs.declared.geometry.Geometry.{Geometry}
+use Rattle.heap_geometry.specs.declared.limits.TheConstants.{CLASSES}
+use Rattle.heap_geometry.specs.Geometry.{IsChecked}
+use Rattle.heap_geometry.specs.Place.{unit_place}
+use Rattle.packed_words.specs.declared.active.ActiveWord.TheVariants.{Held}
+use Rattle.packed_words.specs.declared.anchor.State.TheVariants as phase
+use Rattle.packed_words.specs.declared.shelf.ShelfWord.TheVariants as shelf
+use Rattle.packed_words.specs.Active.{active_of}
+use Rattle.packed_words.specs.Anchor.{anchor_of}
+use Rattle.packed_words.specs.declared.widths.TheConstants.{TOP_BITS, HEAD_TAG_BITS}
+use Rattle.packed_words.specs.Fields.{bits_at}
+use Rattle.packed_words.specs.Head.{head_of}
+use Rattle.packed_words.specs.Info.{info_of}
+use Rattle.packed_words.specs.Shelf.{shelf_word}
+use Rattle.word_plan.specs.declared.limits.TheConstants.{MAX_DESCRIPTORS}
+use Rattle.word_plan.specs.declared.name.WordName.{WordName}
+use Rattle.word_plan.specs.declared.name.WordName.TheVariants as name
+use Rattle.word_plan.specs.Counts.{descriptor_count}
+use Rattle.word_plan.specs.Seats.{info_in, info_within}
+use Rattle.word_plan.specs.Table.{exists}
+use Rattle.superblock_parts.specs.Chains.{occurs}
+use Rattle.stack_parts.specs.declared.point.Pile.TheVariants.{Frames, Partials}
+use Rattle.stack_parts.specs.Stacks.{Stacked, next_in}
+use Rattle.pool_model.specs.declared.event.Event.{Event}
+use Rattle.pool_model.specs.Histories.{EachAfter}
+use Rattle.pool_model.specs.Pool.{Block, block_at, pool_of}
+use Rattle.errand_steps.specs.Fits.{spare_of}
+use Rattle.errand_steps.specs.Errands.{ErrandFields, open_errand}
+use Rattle.errand_steps.specs.Openings.{next_index, IsOpening}
+use Rattle.errand_steps.specs.Steps.{State}
+use Rattle.sound_state.specs.Frames.{IsFramed, errand_frames, fills}
+use Rattle.sound_state.specs.Guards.{IsGuarded, Guards, IsGuard, IsHazard, held_by}
+use Rattle.sound_state.specs.Holdings.{Status, waiting, holds_of}
+use Rattle.sound_state.specs.Keepers.{IsKept, IsPartlyUsed, IsWithout, IsKeptAs, word_keeps, errand_has, full_keeps}
+use Rattle.sound_state.specs.Lists.{Lists, IsListed}
+use Rattle.sound_state.specs.Recalls.{IsRemembered, IsSo, IsOwned, recalls_of}
+use Rattle.sound_state.specs.Sound.{IsSoundWith, IsOwnErrand}
+use Rattle.sound_state.specs.Stock.{IsStocked, word_stock, errand_stock, full_stock}
+use Rattle.sound_state.specs.Sums.{sum_below, words_sum, callers_sum}
+use Rattle.sound_state.specs.Superblocks.{AreChained, IsChained, anchor_for, info_for, superblock_of, is_bound, away_of, errand_away, errand_reserves, waiting_of, errand_keeps}
+use Rattle.sound_state.specs.Ties.{IsTied, IsLive}
+use Rattle.sound_state.specs.Turns.{IsTurned, turn_open, turn_unframed, turn_unlisted, errand_pops, cleared_of, emptied_out, gives_small, refuses_small, errand_discards, turn_unanswered}
+use Rattle.sound_state.proofs.beginnings.OpeningLists.{indexes, indexes-below, indexes-before, indexes-once, indexes-stacked, top_from}
+use Rattle.sound_state.proofs.shared.SumLemmas.{sum-none, callers-none}
+
+-- the words that a heap begins with, where its first n frames and descriptors are in use and all others on their stacks
+pub record IsFirst (g : Geometry) (n : ℕ) (first : WordName → ℕ) : Type 0 where
+  pub frames : n ≤ g.frames
+  pub descriptors : n ≤ descriptor_count g
+  pub words : (m : WordName) → exists g m ≡ true → first m < 2 ^ 64
+  pub frame_head : first name.FrameHead ≡ top_from n g.frames
+  pub frame_nexts : (f : ℕ) → first (name.FrameNext f) ≡ next_index g.frames f
+  pub desc_head : first name.DescHead ≡ top_from n (descriptor_count g)
+  pub desc_nexts : (d : ℕ) → first (name.Next d) ≡ next_index (descriptor_count g) d
+  pub list_heads : (class : ℕ) → first (name.ListHead class) ≡ 0
+  pub slots : (heap class : ℕ) → first (name.Slot heap class) ≡ 0
+  pub hazards : (who : ℕ) → first (name.Hazard who) ≡ 0
+  pub units : first name.Units ≡ 0
+  pub shelves : (k : ℕ) → first (name.Shelf k) ≡ 0
+  pub active_words :
+      (heap class : ℕ) → heap < g.heaps → class < CLASSES → IsSome (active_of (first (name.Active heap class)))
+  pub infos : (d : ℕ) → d < descriptor_count g → IsSome (info_in g (first (name.Info d)))
+  pub states : (d : ℕ) → (anchor_of (first (name.Anchor d))).state ≡ phase.Active
+  pub tags : (d : ℕ) → (anchor_of (first (name.Anchor d))).tag ≡ 0
+
+-- the state at hand is one before the first step
+pub record IsBegun (g : Geometry) (n : ℕ) (first : WordName → ℕ) (s : State) : Type 0 where
+  pub checked : IsChecked g
+  pub opening : IsOpening g first s
+  pub rule : IsFirst g n first
+
+-- its lists
+abbrev pub first_lists : Geometry → ℕ → Lists
+first_lists g n = record {
+  frames = indexes n (g.frames - n);
+  available = indexes n (descriptor_count g - n);
+  partials = λ class. [];
+}
+
+-- the next word of an index names an index of the stack, or none
+pub next-word : (count i : ℕ) → i < count → next_index count i ≤ count
+next-word count i has = grind (arith)
+
+pub some-descriptors : (g : Geometry) → IsChecked g → 2 ≤ descriptor_count g
+unfolding descriptor_count
+some-descriptors g checked = omega (arith, checked.frames.0)
+
+-- a descriptor's word that says frame 0 and processor heap 0, which each heap has
+pub info-some : (g : Geometry) (class : ℕ) → IsChecked g → IsSome (info_within g (Some (record { frame = 0; heap = 0; class = class })))
+info-some g class checked =
+    let frame : nat_lt 0 g.frames ≡ true = lt-ltb 0 g.frames (omega (arith, checked.frames.0)) in
+    let heap : nat_lt 0 g.heaps ≡ true = lt-ltb 0 g.heaps (omega (arith, checked.heaps.0)) in
+    grind (arith, frame, heap)
+
+zero-info : info_of 0 ≡ Some (record { frame = 0; heap = 0; class = 0 })
+unfolding info_of
+zero-info = refl
+
+pub info-zero : (g : Geometry) → IsChecked g → IsSome (info_in g 0)
+info-zero g checked = subst (λ i. IsSome (info_within g i)) (sym zero-info) (info-some g 0 checked)
+
+-- a word that is 0 in the beginning
+pub zero-word : (g : Geometry) (first : WordName → ℕ) (s : State) (m : WordName) → IsOpening g first s → first m ≡ 0 → s.word m ≡ 0
+zero-word g first s m o is =
+    o.word m ∙ cond_both (exists g m) (first m) 0 (λ w. w ≡ 0) (λ e. is) (λ e. refl)
+
+-- a word that the heap has
+pub first-word : (g : Geometry) (first : WordName → ℕ) (s : State) (m : WordName) → IsOpening g first s → exists g m ≡ true → s.word m ≡ first m
+first-word g first s m o has = o.word m ∙ cond-true (exists g m) (first m) 0 has
+
+-- an opening errand weighs what an idle one weighs
+pub opened-weighs :
+    (g : Geometry) (first : WordName → ℕ) (s : State) (weight : ErrandFields → ℕ) → IsOpening g first s
+    → ((who : ℕ) → weight (open_errand who g) ≡ 0) → callers_sum g weight s.errand ≡ 0
+opened-weighs g first s weight o none = callers-none g weight s.errand (λ who has. ap weight (o.errand who has) ∙ none who)
+
+-- what holds of the errand of an idle caller holds in the beginning
+pub at-opening :
+    (g : Geometry) (first : WordName → ℕ) (s : State) (P : ErrandFields → Type 0) → IsOpening g first s → ((who : ℕ) → P (open_errand who g))
+    → (who : ℕ) → who < g.callers → P (s.errand who)
+at-opening g first s P o idle who has = subst P (sym (o.errand who has)) (idle who)
+
+-- an idle caller weighs nothing
+none-away : (who : ℕ) (g : Geometry) (d : ℕ) → errand_away d (open_errand who g) ≡ 0
+unfolding holds_of
+none-away who g d = refl
+
+none-had : (g : Geometry) (d who : ℕ) → errand_has d (open_errand who g) ≡ 0
+unfolding holds_of
+none-had g d who = refl
+
+none-framed : (g : Geometry) (f who : ℕ) → errand_frames f (open_errand who g) ≡ 0
+unfolding holds_of
+none-framed g f who = refl
+
+none-stocked : (g : Geometry) (class who : ℕ) → errand_stock class (open_errand who g) ≡ 0
+unfolding holds_of
+none-stocked g class who = refl
+
+none-reserved : (g : Geometry) (d who : ℕ) → errand_reserves d (open_errand who g) ≡ 0
+unfolding holds_of
+none-reserved g d who = refl
+
+none-waiting : (g : Geometry) (status : Status) (d who : ℕ) → errand_keeps status d (open_errand who g) ≡ 0
+unfolding holds_of
+none-waiting g status d who = refl
+
+pub first-reserved : (g : Geometry) (first : WordName → ℕ) (s : State) (d : ℕ) → IsOpening g first s → callers_sum g (errand_reserves d) s.errand ≡ 0
+first-reserved g first s d o = opened-weighs g first s (errand_reserves d) o (none-reserved g d)
+
+pub first-waiting : (g : Geometry) (first : WordName → ℕ) (s : State) (d : ℕ) → IsOpening g first s → waiting_of g s d ≡ 0
+first-waiting g first s d o = opened-weighs g first s (errand_keeps waiting d) o (none-waiting g waiting d)
+
+-- a descriptor from n on is available; one before isn't
+pub first-away :
+    (g : Geometry) (n : ℕ) (first : WordName → ℕ) (s : State) (d : ℕ) → IsBegun g n first s → n ≤ d → d < descriptor_count g
+    → away_of g s (first_lists g n) d ≡ 1
+first-away g n first s d b least has =
+    omega (arith, b.rule.descriptors, indexes-once n (descriptor_count g - n) d least (omega (arith, b.rule.descriptors)), opened-weighs g first s (errand_away d) b.opening (λ who. none-away who g d))
+
+pub first-here :
+    (g : Geometry) (n : ℕ) (first : WordName → ℕ) (s : State) (d : ℕ) → IsBegun g n first s → d < n
+    → away_of g s (first_lists g n) d ≡ 0
+first-here g n first s d b below =
+    omega (arith, indexes-before n (descriptor_count g - n) d below, opened-weighs g first s (errand_away d) b.opening (λ who. none-away who g d))
+
+pub first-unbound :
+    (g : Geometry) (n : ℕ) (first : WordName → ℕ) (s : State) (d : ℕ) → IsBegun g n first s → n ≤ d → d < descriptor_count g
+    → is_bound g s (first_lists g n) d ≡ false
+first-unbound g n first s d b least has = grind (arith, first-away g n first s d b least has)
+
+-- words of 0
+zero-head : (head_of 0).top ≡ 0
+unfolding head_of
+zero-head = refl
+
+zero-tag : (head_of 0).tag ≡ 0
+unfolding head_of
+zero-tag = refl
+
+zero-shelf : shelf_word shelf.Nothing ≡ 0
+unfolding shelf_word
+zero-shelf = refl
+
+-- a small number is a head without a tag
+small-head : (top : ℕ) → top ≤ MAX_DESCRIPTORS → head_of top ≡ record { top = top; tag = 0 }
+unfolding head_of
+small-head top below =
+    let whole : bits_at 0 TOP_BITS top ≡ top = omega (arith, below) in
+    let none : bits_at TOP_BITS HEAD_TAG_BITS top ≡ 0 = omega (arith, below) in
+    rw (whole, none) refl
+
+top-small : (n count : ℕ) → n ≤ count → top_from n count ≤ count
+top-small n count h = grind (arith)
+
+frame-head : (g : Geometry) (n : ℕ) (first : WordName → ℕ) (s : State) → IsBegun g n first s → head_of (s.word name.FrameHead) ≡ record { top = top_from n g.frames; tag = 0 }
+frame-head g n first s b =
+    ap head_of (first-word g first s name.FrameHead b.opening refl ∙ b.rule.frame_head)
+    ∙ small-head (top_from n g.frames) (omega (arith, b.checked.frames.1, top-small n g.frames b.rule.frames))
+
+-- every anchor says ACTIVE, and has no tag
+pub zero-state : (anchor_of 0).state ≡ phase.Active
+unfolding anchor_of
+zero-state = refl
+
+pub zero-anchor_tag : (anchor_of 0).tag ≡ 0
+unfolding anchor_of
+zero-anchor_tag = refl
+
+pub first-state : (g : Geometry) (n : ℕ) (first : WordName → ℕ) (s : State) (d : ℕ) → IsBegun g n first s → (anchor_for s d).state ≡ phase.Active
+first-state g n first s d b =
+    subst (λ w. (anchor_of w).state ≡ phase.Active) (sym (b.opening.word (name.Anchor d)))
+    (cond_both (exists g (name.Anchor d)) (first (name.Anchor d)) 0 (λ w. (anchor_of w).state ≡ phase.Active) (λ e. b.rule.states d) (λ e. zero-state))
+
+first-tag : (g : Geometry) (n : ℕ) (first : WordName → ℕ) (s : State) (d : ℕ) → IsBegun g n first s → (anchor_for s d).tag ≡ 0
+first-tag g n first s d b =
+    subst (λ w. (anchor_of w).tag ≡ 0) (sym (b.opening.word (name.Anchor d)))
+    (cond_both (exists g (name.Anchor d)) (first (name.Anchor d)) 0 (λ w. (anchor_of w).tag ≡ 0) (λ e. b.rule.tags d) (λ e. zero-anchor_tag))
+
+-- the lists are the stacks
+first-listed : (g : Geometry) (n : ℕ) (first : WordName → ℕ) (s : State) → IsBegun g n first s → IsListed g s.word (first_lists g n)
+first-listed g n first s b =
+    let frames : n + (g.frames - n) ≡ g.frames = omega (arith, b.rule.frames) in
+    let descriptors : n + (descriptor_count g - n) ≡ descriptor_count g = omega (arith, b.rule.descriptors) in
+    record {
+      nexts = λ d has.
+          omega (arith, first-word g first s (name.Next d) b.opening (lt-ltb d (descriptor_count g) has) ∙ b.rule.desc_nexts d, next-word (descriptor_count g) d has);
+      frame_nexts = λ f has.
+          omega (arith, first-word g first s (name.FrameNext f) b.opening (lt-ltb f g.frames has) ∙ b.rule.frame_nexts f, next-word g.frames f has);
+      frames =
+          subst (λ h. Stacked (next_in s.word Frames) h.top (indexes n (g.frames - n))) (sym (frame-head g n first s b))
+          (indexes-stacked (next_in s.word Frames) n (g.frames - n) g.frames frames
+          (λ i has. first-word g first s (name.FrameNext i) b.opening (lt-ltb i g.frames has) ∙ b.rule.frame_nexts i));
+      frames_exist = indexes-below n (g.frames - n) g.frames (omega (arith, frames));
+      available =
+          subst (λ top. Stacked (next_in s.word Partials) top (indexes n (descriptor_count g - n)))
+          (sym (first-word g first s name.DescHead b.opening refl ∙ b.rule.desc_head))
+          (indexes-stacked (next_in s.word Partials) n (descriptor_count g - n) (descriptor_count g) descriptors
+          (λ i has. first-word g first s (name.Next i) b.opening (lt-ltb i (descriptor_count g) has) ∙ b.rule.desc_nexts i));
+      available_exist = indexes-below n (descriptor_count g - n) (descriptor_count g) (omega (arith, descriptors));
+      partials = λ class has. ap (λ w. (head_of w).top) (zero-word g first s (name.ListHead class) b.opening (b.rule.list_heads class)) ∙ zero-head;
+      partials_exist = λ class has. All-nil (λ d. d < descriptor_count g);
+    }
+
+-- where the words keep the first n descriptors, each descriptor stands in one place
+pub first-kept :
+    (g : Geometry) (n : ℕ) (first : WordName → ℕ) (s : State) → IsBegun g n first s
+    → ((d : ℕ) → d < descriptor_count g → words_sum g (word_keeps d) s.word + occurs d (indexes n (descriptor_count g - n)) ≡ 1)
+    → ((heap class d credits : ℕ) → heap < g.heaps → class < CLASSES
+    → active_of (first (name.Active heap class)) ≡ Some (Held d credits) → (d < descriptor_count g) × ((info_for s d).class ≡ class))
+    → IsKept g s (first_lists g n)
+unfolding holds_of
+first-kept g n first s b once held =
+    let o = b.opening in
+    let active_word : (heap class : ℕ) → heap < g.heaps → class < CLASSES → s.word (name.Active heap class) ≡ first (name.Active heap class) =
+    λ heap class has_heap has_class. first-word g first s (name.Active heap class) o (and_from (nat_lt heap g.heaps) (nat_lt class CLASSES) (lt-ltb heap g.heaps has_heap) (lt-ltb class CLASSES has_class)) in
+    let slot_word : (heap class : ℕ) → s.word (name.Slot heap class) ≡ 0 =
+    λ heap class. zero-word g first s (name.Slot heap class) o (b.rule.slots heap class) in
+    record {
+      once = λ d has.
+          let listed : sum_below CLASSES (λ class. 0) ≡ 0 = sum-none CLASSES (λ class. 0) (λ j lt. refl) in
+          let callers : callers_sum g (errand_has d) s.errand ≡ 0 = opened-weighs g first s (errand_has d) o (none-had g d) in
+          let full : full_keeps (anchor_for s d).state ≡ 0 = ap full_keeps (first-state g n first s d b) in
+          omega (arith, once d has, listed, callers, full);
+      active_words = λ heap class has_heap has_class.
+          subst (λ w. IsSome (active_of w)) (sym (active_word heap class has_heap has_class)) (b.rule.active_words heap class has_heap has_class);
+      slot_words = λ heap class has_heap has_class. omega (arith, slot_word heap class);
+      active = λ heap class d credits has_heap has_class is.
+          let (exists, of_class) = held heap class d credits has_heap has_class (sym (ap active_of (active_word heap class has_heap has_class)) ∙ is) in
+          (exists, record { class = of_class; state = first-state g n first s d b });
+      slot = λ heap class d has_heap has_class is. let no : ⊥ = omega (arith, is, slot_word heap class) in absurd no;
+      full = λ d has is. absurd (let active = first-state g n first s d b in cc);
+      listed = λ class has. All-nil (λ d. IsPartlyUsed s d class);
+      available = λ k d has. inl (first-state g n first s (slice_index_or (indexes n (descriptor_count g - n)) k d) b);
+      retired = at-opening g first s (λ e. All (IsWithout s) e.retired) o (λ who. All-nil (IsWithout s));
+      errand = at-opening g first s (λ e. All (λ k. IsKeptAs s k.status k.desc k.class) (holds_of e.point).kept) o (λ who. All-nil (λ k. IsKeptAs s k.status k.desc k.class));
+    }
+
+-- where the superblocks of the first n descriptors have their blocks in order, all superblocks have
+pub first-chained :
+    (g : Geometry) (n : ℕ) (first : WordName → ℕ) (s : State) → IsBegun g n first s
+    → ((d : ℕ) → d < n → IsChained (superblock_of g s d)) → AreChained g s (first_lists g n)
+first-chained g n first s b chained = record {
+  infos = λ d has.
+      subst (λ w. IsSome (info_in g w)) (sym (first-word g first s (name.Info d) b.opening (lt-ltb d (descriptor_count g) has))) (b.rule.infos d has);
+  chained = λ d has bound.
+      elim (cases_lt d n) [
+        | inl below ↦ chained d below
+        | inr least ↦ absurd (true≢false (sym bound ∙ first-unbound g n first s d b least has))
+      ];
+}
+
+-- a descriptor from n on fills no frame
+pub first-fills :
+    (g : Geometry) (n : ℕ) (first : WordName → ℕ) (s : State) (f d : ℕ) → IsBegun g n first s → n ≤ d → d < descriptor_count g
+    → fills g s (first_lists g n) f d ≡ 0
+first-fills g n first s f d b least has = let unbound = first-unbound g n first s d b least has in grind (arith, unbound)
+
+-- where the superblocks fill the frames that aren't on the stack, each frame is in one place
+pub first-framed :
+    (g : Geometry) (n : ℕ) (first : WordName → ℕ) (s : State) → IsBegun g n first s
+    → ((f : ℕ) → f < g.frames
+    → occurs f (indexes n (g.frames - n)) + sum_below (descriptor_count g) (fills g s (first_lists g n) f) ≡ 1)
+    → IsFramed g s (first_lists g n)
+first-framed g n first s b once = record {
+  once = λ f has. omega (arith, once f has, opened-weighs g first s (errand_frames f) b.opening (none-framed g f));
+}
+
+first-remembered : (g : Geometry) (n : ℕ) (first : WordName → ℕ) (s : State) → IsBegun g n first s → IsRemembered g s (first_lists g n)
+unfolding recalls_of
+first-remembered g n first s b = record {
+  so = λ who has.
+      at-opening g first s (λ e. All (IsSo g s (first_lists g n) who) (recalls_of e.point)) b.opening
+      (λ other. All-nil (IsSo g s (first_lists g n) who)) who has;
+}
+
+-- an idle caller guards nothing
+unguarded : (g : Geometry) (first : WordName → ℕ) (s : State) (who d : ℕ) → IsOpening g first s → who < g.callers → Guards s who d → ⊥
+unfolding holds_of
+unguarded g first s who d o has h =
+    at-opening g first s (λ e. IsGuard (holds_of e.point).hazard → ⊥) o (λ other no. no) who has h.guard
+
+first-guarded : (g : Geometry) (n : ℕ) (first : WordName → ℕ) (s : State) → IsBegun g n first s → IsGuarded g s
+unfolding holds_of
+first-guarded g n first s b =
+    let o = b.opening in
+    record {
+      words = λ who has.
+          at-opening g first s (λ e. IsHazard (holds_of e.point).hazard (s.word (name.Hazard who))) o
+          (λ other. zero-word g first s (name.Hazard who) o (b.rule.hazards who)) who has;
+      pushed = λ who other d has has_other guards is. unguarded g first s who d o has guards;
+      passed = λ who other d has has_other guards listed below. absurd (unguarded g first s who d o has guards);
+      unread = λ who i has passed below.
+          absurd (let none : length (held_by (s.errand who).point) ≡ 0 = ap (λ e. length (held_by e.point)) (o.errand who has) in
+          let no : ⊥ = omega (arith, none, below) in no);
+      full = λ who has is.
+          absurd (let none : spare_of (s.errand who).point ≡ 0 = ap (λ e. spare_of e.point) (o.errand who has) in
+          let no : ⊥ = omega (arith, none, is) in no);
+    }
+
+-- where the words keep one descriptor at most, few are out
+pub first-stocked :
+    (g : Geometry) (n : ℕ) (first : WordName → ℕ) (s : State) → IsBegun g n first s
+    → ((class : ℕ) → words_sum g (word_stock class) s.word ≤ 1) → IsStocked g s (first_lists g n)
+first-stocked g n first s b words =
+    let none-full : (class d : ℕ) → full_stock s class d ≡ 0 = λ class d.
+    cond_both ((info_for s d).class == class) (full_keeps (anchor_for s d).state) 0 (λ m. m ≡ 0)
+    (λ e. ap full_keeps (first-state g n first s d b)) (λ e. refl) in
+    record {
+      most = λ class has.
+          let callers : callers_sum g (errand_stock class) s.errand ≡ 0 = opened-weighs g first s (errand_stock class) b.opening (none-stocked g class) in
+          let full : sum_below (descriptor_count g) (full_stock s class) ≡ 0 =
+          sum-none (descriptor_count g) (full_stock s class) (λ d lt. none-full class d) in
+          omega (arith, words class, callers, full, b.checked.frames.0);
+    }
+
+-- no descriptor is EMPTY
+none-emptied : (g : Geometry) (n : ℕ) (first : WordName → ℕ) (s : State) (d : ℕ) → IsBegun g n first s → emptied_out g s (first_lists g n) d ≡ 0
+none-emptied g n first s d b = let active = first-state g n first s d b in grind (arith, active)
+
+first-turned : (g : Geometry) (n : ℕ) (first : WordName → ℕ) (s : State) → IsBegun g n first s → IsTurned g s (first_lists g n)
+first-turned g n first s b =
+    let o = b.opening in
+    let head : (head_of (s.word name.FrameHead)).tag ≡ 0 = ap (λ h. h.tag) (frame-head g n first s b) in
+    record {
+      own_turns = λ who has.
+          let given : count_by (gives_small who) s.history ≡ 0 = ap (count_by (gives_small who)) o.history in
+          at-opening g first s (λ e. count_by (gives_small who) s.history + turn_open e ≤ e.turns) o (λ other. omega (arith, given)) who has;
+      own_lost = λ who has.
+          at-opening g first s
+          (λ e. e.turns + errand_discards e
+          ≤ count_by (gives_small who) s.history + count_by (refuses_small who) s.history + e.lost + turn_unanswered e) o
+          (λ other. omega arith) who has;
+      anchor_tags = λ d has. omega (arith, first-tag g n first s d b);
+      frame_tag = omega (arith, head, opened-weighs g first s turn_unframed o (λ who. refl));
+      emptied =
+          omega (arith, opened-weighs g first s cleared_of o (λ who. refl), sum-none (descriptor_count g) (emptied_out g s (first_lists g n)) (λ d has. none-emptied g n first s d b));
+      list_tags = λ class has.
+          omega (arith, ap (λ w. (head_of w).tag) (zero-word g first s (name.ListHead class) o (b.rule.list_heads class)) ∙ zero-tag, opened-weighs g first s errand_pops o (λ who. refl), opened-weighs g first s turn_unlisted o (λ who. refl));
+    }
+
+zero-bit : (i : ℕ) → bit_at 0 i ≡ 0
+zero-bit i = omega (arith, pow_pos i)
+
+-- no block is live
+pub first-live : (g : Geometry) (first : WordName → ℕ) (s : State) (place : ℕ) → IsOpening g first s → block_at place (pool_of s.history) ≡ None
+first-live g first s place o = ap (λ h. block_at place (pool_of h)) o.history
+
+none-live : (g : Geometry) (first : WordName → ℕ) (s : State) (place : ℕ) (b : Block) → IsOpening g first s → IsLive s place b → ⊥
+none-live g first s place b o live = none-some b (sym (first-live g first s place o) ∙ live)
+
+first-tied : (g : Geometry) (n : ℕ) (first : WordName → ℕ) (s : State) → IsBegun g n first s → IsTied g s (first_lists g n)
+unfolding holds_of
+first-tied g n first s begun =
+    let o = begun.opening in
+    let units : s.word name.Units ≡ 0 = zero-word g first s name.Units o begun.rule.units in
+    record {
+      small = λ place class b live is. absurd (none-live g first s place b o live);
+      large = λ place m b live is. absurd (none-live g first s place b o live);
+      units = λ unit has. (λ bit. absurd (let no : ⊥ = omega (arith, bit, ap (λ w. bit_at w unit) units, zero-bit unit) in no), λ covered. absurd (none-live g first s (unit_place g.frames covered.1) covered.0 o covered.3));
+      no_more_units = omega (arith, units, pow_pos g.units);
+      shelved = λ k place b has live is. absurd (none-live g first s place b o live);
+      bare_shelf = λ k has none. zero-word g first s (name.Shelf k) o (begun.rule.shelves k) ∙ sym zero-shelf;
+      contents = λ place i v b live is. absurd (none-live g first s place b o live);
+      hands = λ who has.
+          at-opening g first s (λ e. All (λ b. IsOwned s who b.place b.need) (holds_of e.point).hands) o
+          (λ other. All-nil (λ b. IsOwned s who b.place b.need)) who has;
+      frees = λ who has.
+          at-opening g first s (λ e. All (λ b. IsOwned s who b.place b.need) (holds_of e.point).frees) o
+          (λ other. All-nil (λ b. IsOwned s who b.place b.need)) who has;
+    }
+
+-- the words are words
+first-words : (g : Geometry) (n : ℕ) (first : WordName → ℕ) (s : State) → IsBegun g n first s → (m : WordName) → s.word m < 2 ^ 64
+first-words g n first s b m =
+    subst (λ w. w < 2 ^ 64) (sym (b.opening.word m))
+    (cond_both (exists g m) (first m) 0 (λ w. w < 2 ^ 64) (λ e. b.rule.words m e) (λ e. omega arith))
+
+-- an opening errand keeps its rule
+open-own : (g : Geometry) (who : ℕ) → IsChecked g → who < g.callers → IsOwnErrand g who (open_errand who g)
+open-own g who checked has = record {
+  caller = refl;
+  geometry = refl;
+  rule = record {
+    geometry = checked;
+    caller = has;
+    point = tt;
+    listed = All-nil (λ d. d < descriptor_count g);
+    room = omega arith;
+    pushed = tt;
+    turns = omega arith;
+  };
+  lost = omega arith;
+}
+
+-- nothing has happened, so everything that has is as any rule wants
+pub first-history :
+    (g : Geometry) (first : WordName → ℕ) (s : State) (R : List Event → Event → Type 0) → IsOpening g first s → EachAfter R s.history
+first-history g first s R o =
+    subst (EachAfter R) (sym o.history)
+    (λ before rest event is. absurd (let no : ⊥ = omega (arith, ap length is, length-append before (event ∷ rest)) in no))
+
+-- where the superblocks of the first n descriptors are in order, everything is
+pub first-sound :
+    (g : Geometry) (n : ℕ) (first : WordName → ℕ) (s : State) → IsBegun g n first s → IsKept g s (first_lists g n)
+    → AreChained g s (first_lists g n) → IsFramed g s (first_lists g n) → IsStocked g s (first_lists g n)
+    → IsSoundWith g s (first_lists g n)
+first-sound g n first s b kept chained framed stocked = record {
+  words = first-words g n first s b;
+  errands = λ who has. subst (IsOwnErrand g who) (sym (b.opening.errand who has)) (open-own g who b.checked has);
+  listed = first-listed g n first s b;
+  kept = kept;
+  chained = chained;
+  framed = framed;
+  remembered = first-remembered g n first s b;
+  guarded = first-guarded g n first s b;
+  stocked = stocked;
+  turned = first-turned g n first s b;
+  tied = first-tied g n first s b;
+}

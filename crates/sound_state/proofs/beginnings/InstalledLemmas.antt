@@ -1,0 +1,330 @@
+-- The state with one superblock installed, all of whose blocks are free, is sound.
+use Rattle.std.proofs.Common.{ℕ, zero, suc, true, ◌≡◌, ◌≢◌, ◌<◌, ◌≤◌, ◌+◌, ◌^◌, Some, refl, arith, ap, sym, subst, ◌∙◌, inl, inr}
+use Rattle.std.specs.Prelude.{◌-◌, ◌==◌, ◌&&◌, if◌then◌else◌, IsSome, is_some, nat_lt}
+use Rattle.std.proofs.lemmas.Bool.{cond_both, cond-true, cond-false, lt-ltb, ltb-true, eq-eqb, eqb-true, and_parts, and_from, cases_Bool}
+use Rattle.heap_geometry.specs.declared.geometry.Geometry.{Geometry}
+use Rattle.heap_geometry.specs.declared.limits.TheConstants.{CLASSES}
+use Rattle.heap_geometry.specs.Geometry.{IsChecked}
+use Rattle.heap_geometry.specs.Need.{block_count_of}
+use Rattle.heap_geometry.specs.Place.{block_place, index_of}
+use Rattle.heap_geometry.proofs.PlaceLemmas.{index_of-block_place}
+use Rattle.packed_words.specs.declared.active.ActiveWord.TheVariants.{Held}
+use Rattle.packed_words.specs.declared.anchor.State.TheVariants as phase
+use Rattle.packed_words.specs.declared.widths.TheConstants.{CREDIT_BITS}
+use Rattle.packed_words.specs.Active.{active_of, active_word}
+use Rattle.packed_words.specs.Anchor.{IsAnchor, anchor_of, anchor_word}
+use Rattle.packed_words.specs.Info.{InfoFields, info_of, info_word}
+use Rattle.packed_words.specs.Prefix.{link_of}
+use Rattle.packed_words.proofs.ActiveLemmas.{active-exact}
+use Rattle.packed_words.proofs.AnchorLemmas.{anchor_word-below, anchor_of-anchor_word}
+use Rattle.packed_words.proofs.InfoLemmas.{info-exact}
+use Rattle.word_plan.specs.declared.name.WordName.{WordName}
+use Rattle.word_plan.specs.declared.name.WordName.TheVariants as name
+use Rattle.word_plan.specs.Counts.{arena_words, descriptor_count}
+use Rattle.word_plan.specs.Table.{exists}
+use Rattle.word_plan.specs.Seats.{info_in, info_within}
+use Rattle.word_plan.proofs.CountLemmas.{descriptor_count_within}
+use Rattle.word_plan.proofs.SeatLemmas.{block_place-within, block_count_of-least, block_count_of-most}
+use Rattle.superblock_parts.specs.Chains.{occurs, chain_of, prefix_name, link_in}
+use Rattle.pool_model.specs.Legal.{IsLegalEvent}
+use Rattle.errand_steps.specs.Openings.{installed, link_at, full_credits, full_anchor, IsOpening}
+use Rattle.errand_steps.specs.Steps.{State}
+use Rattle.sound_state.specs.Frames.{fills}
+use Rattle.sound_state.specs.Keepers.{word_keeps, active_keeps}
+use Rattle.sound_state.specs.Sound.{IsSound}
+use Rattle.sound_state.specs.Stock.{word_stock}
+use Rattle.sound_state.specs.Sums.{sum_below, words_sum}
+use Rattle.sound_state.specs.Superblocks.{Superblock, IsChained, superblock_of, free_chain, anchor_for, info_for, info_or_zero, reserved_of, word_reserves, offered, live_at, is_there}
+use Rattle.sound_state.proofs.beginnings.FirstLemmas.{IsFirst, IsBegun, next-word, some-descriptors, info-some, info-zero, first_lists, zero-word, first-word, zero-state, zero-anchor_tag, first-here, first-state, first-waiting, first-reserved, first-live, first-kept, first-chained, first-fills, first-framed, first-stocked, first-history, first-sound}
+use Rattle.sound_state.proofs.shared.HolderLemmas.{IsHolderWeight, is_holder, holders-one, keeps-holder, reserves-holder, stock-holder, zero-active}
+use Rattle.sound_state.proofs.beginnings.OpeningLists.{indexes, indexes-before, indexes-once, indexes-end, indexes-chained}
+use Rattle.sound_state.proofs.shared.SumLemmas.{sum-one}
+
+-- all but one of a superblock's blocks, and at most as many as an active word can say
+credits-fit : (class : ℕ) → class < CLASSES → (full_credits class < 2 ^ CREDIT_BITS) × (full_credits class + 1 ≤ block_count_of class)
+credits-fit class has = grind (arith, block_count_of-least class has)
+
+-- the three packed words of the superblock say what was packed
+full-fits : (class : ℕ) → class < CLASSES → IsAnchor (full_anchor class)
+full-fits class has = record {
+  avail = omega arith;
+  count = omega (arith, block_count_of-least class has, block_count_of-most class, credits-fit class has);
+  tag = omega arith;
+}
+
+full-says : (class : ℕ) → class < CLASSES → anchor_of (anchor_word (full_anchor class)) ≡ full_anchor class
+full-says class has = anchor_of-anchor_word (full_anchor class) (full-fits class has)
+
+abbrev installed_info : ℕ → InfoFields
+installed_info class = record { frame = 0; heap = 0; class = class }
+
+info-says : (class : ℕ) → class < CLASSES → info_of (info_word (installed_info class)) ≡ Some (installed_info class)
+info-says class has = info-exact.back (installed_info class) (record { frame = omega arith; heap = omega arith; class = has })
+
+info-below : (class : ℕ) → class < CLASSES → info_word (installed_info class) < 2 ^ 64
+info-below class has = info-exact.fits (installed_info class) (record { frame = omega arith; heap = omega arith; class = has })
+
+active-says : (class : ℕ) → class < CLASSES → active_of (active_word (Held 0 (full_credits class))) ≡ Some (Held 0 (full_credits class))
+active-says class has = active-exact.back (Held 0 (full_credits class)) (omega arith, (credits-fit class has).0)
+
+active-below : (class : ℕ) → class < CLASSES → active_word (Held 0 (full_credits class)) < 2 ^ 64
+active-below class has = active-exact.fits (Held 0 (full_credits class)) (omega arith, (credits-fit class has).0)
+
+-- the links are words
+link-below : (class word : ℕ) → link_at class word < 2 ^ 64
+link-below class word =
+    let index = index_of class word in
+    let test = word == block_place 0 class index && nat_lt (index + 1) (block_count_of class) in
+    cond_both test (index + 1) 0 (λ w. w < 2 ^ 64)
+    (λ e. omega (arith, block_count_of-most class, ltb-true (index + 1) (block_count_of class) (and_parts (word == block_place 0 class index) (nat_lt (index + 1) (block_count_of class)) e).1))
+    (λ e. omega arith)
+
+-- the words with the superblock are words
+installed-below : (g : Geometry) (class : ℕ) (m : WordName) → IsChecked g → class < CLASSES → exists g m ≡ true → installed g class m < 2 ^ 64
+installed-below g class (name.Next d) checked of has =
+    omega (arith, next-word (descriptor_count g) d (ltb-true d (descriptor_count g) has), descriptor_count_within g checked)
+installed-below g class (name.FrameNext f) checked of has =
+    omega (arith, next-word g.frames f (ltb-true f g.frames has), checked.frames.1)
+installed-below g class (name.Arena k) checked of has = link-below class k
+installed-below g class (name.Anchor k) checked of has =
+    cond_both (k == 0) (anchor_word (full_anchor class)) 0 (λ w. w < 2 ^ 64) (λ e. anchor_word-below (full_anchor class) (full-fits class of)) (λ e. omega arith)
+installed-below g class (name.Info k) checked of has =
+    cond_both (k == 0) (info_word (installed_info class)) 0 (λ w. w < 2 ^ 64) (λ e. info-below class of) (λ e. omega arith)
+installed-below g class (name.Active heap of_class) checked of has =
+    cond_both (heap == 0 && of_class == class) (active_word (Held 0 (full_credits class))) 0 (λ w. w < 2 ^ 64) (λ e. active-below class of) (λ e. omega arith)
+installed-below g class (name.Slot heap of_class) checked of has = omega arith
+installed-below g class (name.ListHead k) checked of has = omega arith
+installed-below g class name.FrameHead checked of has = omega (arith, next-word g.frames 0 checked.frames.0, checked.frames.1)
+installed-below g class name.DescHead checked of has =
+    omega (arith, next-word (descriptor_count g) 0 (omega (arith, some-descriptors g checked)), descriptor_count_within g checked)
+installed-below g class (name.Hazard k) checked of has = omega arith
+installed-below g class name.Units checked of has = omega arith
+installed-below g class (name.Shelf k) checked of has = omega arith
+
+-- frame 0 and descriptor 0 are in use, all others on their stacks
+installed-first : (g : Geometry) (class : ℕ) → IsChecked g → class < CLASSES → IsFirst g 1 (installed g class)
+installed-first g class checked of = record {
+  frames = checked.frames.0;
+  descriptors = omega (arith, some-descriptors g checked);
+  words = λ m has. installed-below g class m checked of has;
+  frame_head = grind (arith);
+  frame_nexts = λ f. refl;
+  desc_head = grind (arith);
+  desc_nexts = λ d. refl;
+  list_heads = λ of_class. refl;
+  slots = λ heap of_class. refl;
+  hazards = λ who. refl;
+  units = refl;
+  shelves = λ k. refl;
+  active_words = λ heap of_class has_heap has_class.
+      cond_both (heap == 0 && of_class == class) (active_word (Held 0 (full_credits class))) 0 (λ w. IsSome (active_of w))
+      (λ e. ap is_some (active-says class of)) (λ e. ap is_some zero-active);
+  infos = λ d has.
+      cond_both (d == 0) (info_word (installed_info class)) 0 (λ w. IsSome (info_in g w))
+      (λ e. subst (λ i. IsSome (info_within g i)) (sym (info-says class of)) (info-some g class checked)) (λ e. info-zero g checked);
+  states = λ d.
+      cond_both (d == 0) (anchor_word (full_anchor class)) 0 (λ w. (anchor_of w).state ≡ phase.Active)
+      (λ e. ap (λ a. a.state) (full-says class of)) (λ e. zero-state);
+  tags = λ d.
+      cond_both (d == 0) (anchor_word (full_anchor class)) 0 (λ w. (anchor_of w).tag ≡ 0)
+      (λ e. ap (λ a. a.tag) (full-says class of)) (λ e. zero-anchor_tag);
+}
+
+-- a state that begins so
+record IsInstalled (g : Geometry) (class : ℕ) (s : State) : Type 0 where
+  checked : IsChecked g
+  of : class < CLASSES
+  opening : IsOpening g (installed g class) s
+  begun : IsBegun g 1 (installed g class) s
+
+is-installed : (g : Geometry) (class : ℕ) (s : State) → IsChecked g → class < CLASSES → IsOpening g (installed g class) s → IsInstalled g class s
+is-installed g class s checked of o = record {
+  checked = checked;
+  of = of;
+  opening = o;
+  begun = record { checked = checked; opening = o; rule = installed-first g class checked of };
+}
+
+-- what descriptor 0 says
+anchor-installed : (g : Geometry) (class : ℕ) (s : State) → IsInstalled g class s → anchor_for s 0 ≡ full_anchor class
+anchor-installed g class s h =
+    ap anchor_of (first-word g (installed g class) s (name.Anchor 0) h.opening (lt-ltb 0 (descriptor_count g) (omega (arith, some-descriptors g h.checked))))
+    ∙ full-says class h.of
+
+info-installed : (g : Geometry) (class : ℕ) (s : State) → IsInstalled g class s → info_for s 0 ≡ installed_info class
+info-installed g class s h =
+    ap (λ w. info_or_zero (info_of w)) (first-word g (installed g class) s (name.Info 0) h.opening (lt-ltb 0 (descriptor_count g) (omega (arith, some-descriptors g h.checked))))
+    ∙ ap info_or_zero (info-says class h.of)
+
+-- the active word of the class's processor heap 0
+active-installed : (g : Geometry) (class : ℕ) (s : State) → IsInstalled g class s → active_of (s.word (name.Active 0 class)) ≡ Some (Held 0 (full_credits class))
+active-installed g class s h =
+    let has : exists g (name.Active 0 class) ≡ true =
+    and_from (nat_lt 0 g.heaps) (nat_lt class CLASSES) (lt-ltb 0 g.heaps h.checked.heaps.0) (lt-ltb class CLASSES h.of) in
+    let word : installed g class (name.Active 0 class) ≡ active_word (Held 0 (full_credits class)) =
+    cond-true (class == class) (active_word (Held 0 (full_credits class))) 0 (eq-eqb class class refl) in
+    ap active_of (first-word g (installed g class) s (name.Active 0 class) h.opening has ∙ word) ∙ active-says class h.of
+
+-- is the only one that holds a superblock
+installed-empty : (g : Geometry) (class : ℕ) (m : WordName) → m ≢ name.Active 0 class → is_holder m ≡ true → installed g class m ≡ 0
+installed-empty g class m other holds = grind (arith, other)
+
+installed-weighs :
+    (g : Geometry) (class : ℕ) (s : State) (weight : WordName → ℕ → ℕ) → IsInstalled g class s → IsHolderWeight weight
+    → words_sum g weight s.word ≡ weight (name.Active 0 class) (s.word (name.Active 0 class))
+installed-weighs g class s weight h holds =
+    holders-one g weight s.word (name.Active 0 class) holds (h.checked.heaps.0, h.of)
+    (λ m other is. zero-word g (installed g class) s m h.opening (installed-empty g class m other is))
+
+-- an index is the first one, or is among those behind it
+first-or-behind : (count i : ℕ) → i < count → (if 0 == i then 1 else 0) + occurs i (indexes 1 (count - 1)) ≡ 1
+first-or-behind count zero has = omega (arith, indexes-before 1 (count - 1) 0 (omega arith))
+first-or-behind count (suc i) has = grind (arith, indexes-once 1 (count - 1) (suc i) (omega arith) (omega arith))
+
+installed-kept : (g : Geometry) (class : ℕ) (s : State) (d : ℕ) → IsInstalled g class s → d < descriptor_count g
+    → words_sum g (word_keeps d) s.word + occurs d (indexes 1 (descriptor_count g - 1)) ≡ 1
+installed-kept g class s d h has =
+    let word : words_sum g (word_keeps d) s.word ≡ (if 0 == d then 1 else 0) =
+    installed-weighs g class s (word_keeps d) h (keeps-holder d) ∙ ap (active_keeps d) (active-installed g class s h) in
+    omega (arith, word, first-or-behind (descriptor_count g) d has)
+
+installed-held :
+    (g : Geometry) (class : ℕ) (s : State) (heap of_class d credits : ℕ) → IsInstalled g class s
+    → active_of (installed g class (name.Active heap of_class)) ≡ Some (Held d credits) → (d < descriptor_count g) × ((info_for s d).class ≡ of_class)
+installed-held g class s heap of_class d credits h is =
+    let test = heap == 0 && of_class == class in
+    let word = active_word (Held 0 (full_credits class)) in
+    elim (cases_Bool test) [
+      | inl holds ↦
+          let said : Some (Held 0 (full_credits class)) ≡ Some (Held d credits) =
+          sym (ap active_of (cond-true test word 0 holds) ∙ active-says class h.of) ∙ is in
+          let here : 0 ≡ d = cc in
+          let same : class ≡ of_class = sym (eqb-true of_class class (and_parts (heap == 0) (of_class == class) holds).1) in
+          (omega (arith, here, some-descriptors g h.checked), subst (λ e. (info_for s e).class ≡ of_class) here (ap (λ i. i.class) (info-installed g class s h) ∙ same))
+      | inr other ↦ absurd (let null = ap active_of (cond-false test word 0 other) ∙ zero-active in cc)
+    ]
+
+-- the link of a block names the next one, and that of the last block the first one
+link-is : (class i : ℕ) → i < block_count_of class → link_at class (block_place 0 class i) ≡ (if nat_lt (i + 1) (block_count_of class) then i + 1 else 0)
+link-is class i has =
+    let place = block_place 0 class i in
+    let P : ℕ → Type 0 = λ j.
+    (if place == block_place 0 class j && nat_lt (j + 1) (block_count_of class) then j + 1 else 0)
+    ≡ (if nat_lt (i + 1) (block_count_of class) then i + 1 else 0) in
+    subst P (sym (index_of-block_place 0 class i has))
+    (ap (λ b. if b && nat_lt (i + 1) (block_count_of class) then i + 1 else 0) (eq-eqb place place refl))
+
+link-installed :
+    (g : Geometry) (class : ℕ) (s : State) (i : ℕ) → IsInstalled g class s → i < block_count_of class
+    → link_in s.word 0 class i ≡ (if nat_lt (i + 1) (block_count_of class) then i + 1 else 0)
+link-installed g class s i h has =
+    let m = prefix_name 0 class i in
+    let word : s.word m ≡ (if nat_lt (i + 1) (block_count_of class) then i + 1 else 0) =
+    first-word g (installed g class) s m h.opening (lt-ltb (block_place 0 class i) (arena_words g) (block_place-within g 0 class i h.checked.frames.0 has))
+    ∙ link-is class i has in
+    ap link_of word
+    ∙ cond_both (nat_lt (i + 1) (block_count_of class)) (i + 1) 0 (λ w. link_of w ≡ w)
+    (λ e. omega (arith, block_count_of-most class, ltb-true (i + 1) (block_count_of class) e)) (λ e. refl)
+
+link-next :
+    (g : Geometry) (class : ℕ) (s : State) (i : ℕ) → IsInstalled g class s → suc i < block_count_of class → link_in s.word 0 class i ≡ suc i
+link-next g class s i h has = let more : nat_lt (i + 1) (block_count_of class) ≡ true = lt-ltb (i + 1) (block_count_of class) (omega (arith, has)) in
+    omega (arith, link-installed g class s i h (omega arith), cond-true (nat_lt (i + 1) (block_count_of class)) (i + 1) 0 more)
+
+link-within :
+    (g : Geometry) (class : ℕ) (s : State) (i : ℕ) → IsInstalled g class s → i < block_count_of class → link_in s.word 0 class i < block_count_of class
+link-within g class s i h has =
+    let link = link-installed g class s i h has in
+    subst (λ w. w < block_count_of class) (sym link)
+    (cond_both (nat_lt (i + 1) (block_count_of class)) (i + 1) 0 (λ w. w < block_count_of class)
+    (λ e. ltb-true (i + 1) (block_count_of class) e) (λ e. omega (arith, has)))
+
+-- the superblock of descriptor 0
+abbrev installed_superblock : ℕ → State → Superblock
+installed_superblock class s = record {
+  anchor = full_anchor class;
+  reserved = full_credits class + 1;
+  waiting = 0;
+  next = link_in s.word 0 class;
+  live = λ i. live_at s (block_place 0 class i);
+  size = block_count_of class;
+}
+
+reserved-installed : (g : Geometry) (class : ℕ) (s : State) → IsInstalled g class s → reserved_of g s 0 ≡ full_credits class + 1
+reserved-installed g class s h =
+    let word : words_sum g (word_reserves 0) s.word ≡ full_credits class + 1 =
+    installed-weighs g class s (word_reserves 0) h (reserves-holder 0) ∙ ap (offered 0) (active-installed g class s h) in
+    omega (arith, word, first-reserved g (installed g class) s 0 h.opening)
+
+superblock-installed : (g : Geometry) (class : ℕ) (s : State) → IsInstalled g class s → superblock_of g s 0 ≡ installed_superblock class s
+superblock-installed g class s h =
+    rw (info-installed g class s h, anchor-installed g class s h, reserved-installed g class s h, first-waiting g (installed g class) s 0 h.opening) refl
+
+-- its blocks are all free, one behind the other
+chain-installed : (g : Geometry) (class : ℕ) (s : State) → IsInstalled g class s → free_chain (installed_superblock class s) ≡ indexes 0 (block_count_of class)
+chain-installed g class s h =
+    let all : block_count_of class - (full_credits class + 1) + (full_credits class + 1) ≡ block_count_of class = omega (arith, credits-fit class h.of) in
+    ap (λ k. chain_of (link_in s.word 0 class) k 0) all
+    ∙ indexes-chained (link_in s.word 0 class) 0 (block_count_of class) (block_count_of class) (omega arith) (λ i has. link-next g class s i h has)
+
+installed-chained : (g : Geometry) (class : ℕ) (s : State) → IsInstalled g class s → IsChained (superblock_of g s 0)
+installed-chained g class s h =
+    let count = block_count_of class in
+    let chain = chain-installed g class s h in
+    let within : (i : ℕ) → 0 < occurs i (free_chain (installed_superblock class s)) → i < count = λ i on.
+    omega (arith, indexes-end 0 count i (subst (λ xs. 0 < occurs i xs) chain on)) in
+    subst IsChained (sym (superblock-installed g class s h))
+    (record {
+      avail = omega (arith, block_count_of-least class h.of);
+      within = within;
+      links = λ i on. link-within g class s i h (within i on);
+      once = λ i has.
+          let live : live_at s (block_place 0 class i) ≡ 0 = ap is_there (first-live g (installed g class) s (block_place 0 class i) h.opening) in
+          let free : occurs i (free_chain (installed_superblock class s)) ≡ 1 = ap (occurs i) chain ∙ indexes-once 0 count i (omega arith) (omega arith) in
+          grind (arith, live, free);
+      some = omega (arith, block_count_of-least class h.of, credits-fit class h.of);
+    })
+
+-- it fills frame 0
+installed-fills : (g : Geometry) (class : ℕ) (s : State) (f : ℕ) → IsInstalled g class s → fills g s (first_lists g 1) f 0 ≡ (if 0 == f then 1 else 0)
+installed-fills g class s f h =
+    let away = first-here g 1 (installed g class) s 0 h.begun (omega arith) in
+    let active = first-state g 1 (installed g class) s 0 h.begun in
+    let waits = first-waiting g (installed g class) s 0 h.opening in
+    let frame : (info_for s 0).frame ≡ 0 = ap (λ i. i.frame) (info-installed g class s h) in
+    rw (away, active, waits, frame) refl
+
+installed-framed : (g : Geometry) (class : ℕ) (s : State) (f : ℕ) → IsInstalled g class s → f < g.frames
+    → occurs f (indexes 1 (g.frames - 1)) + sum_below (descriptor_count g) (fills g s (first_lists g 1) f) ≡ 1
+installed-framed g class s f h has =
+    let filled : sum_below (descriptor_count g) (fills g s (first_lists g 1) f) ≡ (if 0 == f then 1 else 0) =
+    sum-one (descriptor_count g) (fills g s (first_lists g 1) f) 0 (omega (arith, some-descriptors g h.checked))
+    (λ d lt other. first-fills g 1 (installed g class) s f d h.begun (omega (arith, other)) lt)
+    ∙ installed-fills g class s f h in
+    omega (arith, filled, first-or-behind g.frames f has)
+
+-- it is one that is out
+stock-most : (class heap of_class word : ℕ) → word_stock class (name.Active heap of_class) word ≤ 1
+stock-most class heap of_class word = grind (arith)
+
+-- a state before the first step, with a superblock installed, is sound
+pub installed-sound : (g : Geometry) (class : ℕ) (s : State) → IsChecked g → class < CLASSES → IsOpening g (installed g class) s → IsSound g s
+installed-sound g class s checked of o =
+    let h = is-installed g class s checked of o in
+    let first = installed g class in
+    record {
+      checked = checked;
+      legal = first-history g first s (IsLegalEvent g) o;
+      parts = (
+        first_lists g 1,
+        first-sound g 1 first s h.begun
+            (first-kept g 1 first s h.begun (λ d has. installed-kept g class s d h has)
+            (λ heap of_class d credits has_heap has_class is. installed-held g class s heap of_class d credits h is))
+            (first-chained g 1 first s h.begun
+            (λ d below. let here : 0 ≡ d = omega (arith, below) in subst (λ e. IsChained (superblock_of g s e)) here (installed-chained g class s h)))
+            (first-framed g 1 first s h.begun (λ f has. installed-framed g class s f h has))
+            (first-stocked g 1 first s h.begun
+            (λ of_class.
+            omega (arith, installed-weighs g class s (word_stock of_class) h (stock-holder of_class), stock-most of_class 0 class (s.word (name.Active 0 class))))),
+      );
+    }

@@ -1,0 +1,94 @@
+-- The opening state is sound.
+use Rattle.std.proofs.Common.{ℕ, true, ◌≡◌, ◌<◌, ◌^◌, refl, arith, ap}
+use Rattle.std.specs.Prelude.{◌-◌, is_some}
+use Rattle.std.proofs.lemmas.Bool.{ltb-true}
+use Rattle.heap_geometry.specs.declared.geometry.Geometry.{Geometry}
+use Rattle.heap_geometry.specs.Geometry.{IsChecked}
+use Rattle.word_plan.specs.declared.name.WordName.{WordName}
+use Rattle.word_plan.specs.declared.name.WordName.TheVariants as name
+use Rattle.word_plan.specs.Counts.{descriptor_count}
+use Rattle.word_plan.specs.Table.{exists}
+use Rattle.word_plan.proofs.CountLemmas.{descriptor_count_within}
+use Rattle.superblock_parts.specs.Chains.{occurs}
+use Rattle.pool_model.specs.Legal.{IsLegalEvent}
+use Rattle.errand_steps.specs.Openings.{opening, IsOpening}
+use Rattle.errand_steps.specs.Steps.{State}
+use Rattle.sound_state.specs.Frames.{fills}
+use Rattle.sound_state.specs.Keepers.{word_keeps}
+use Rattle.sound_state.specs.Sound.{IsSound}
+use Rattle.sound_state.specs.Stock.{word_stock}
+use Rattle.sound_state.specs.Sums.{words_sum}
+use Rattle.sound_state.proofs.beginnings.FirstLemmas.{IsFirst, IsBegun, next-word, some-descriptors, info-zero, first_lists, zero-word, zero-state, zero-anchor_tag, first-kept, first-chained, first-fills, first-framed, first-stocked, first-history, first-sound}
+use Rattle.sound_state.proofs.shared.HolderLemmas.{IsHolderWeight, is_holder, holders-none, keeps-holder, stock-holder, zero-active}
+use Rattle.sound_state.proofs.beginnings.OpeningLists.{indexes, indexes-once}
+use Rattle.sound_state.proofs.shared.SumLemmas.{sum-none}
+
+-- the words at opening are words
+opening-below : (g : Geometry) (m : WordName) → IsChecked g → exists g m ≡ true → opening g m < 2 ^ 64
+opening-below g (name.Next d) checked has =
+    omega (arith, next-word (descriptor_count g) d (ltb-true d (descriptor_count g) has), descriptor_count_within g checked)
+opening-below g (name.FrameNext f) checked has =
+    omega (arith, next-word g.frames f (ltb-true f g.frames has), checked.frames.1)
+opening-below g (name.Arena k) checked has = omega arith
+opening-below g (name.Anchor k) checked has = omega arith
+opening-below g (name.Info k) checked has = omega arith
+opening-below g (name.Active heap class) checked has = omega arith
+opening-below g (name.Slot heap class) checked has = omega arith
+opening-below g (name.ListHead k) checked has = omega arith
+opening-below g name.FrameHead checked has = omega arith
+opening-below g name.DescHead checked has = omega arith
+opening-below g (name.Hazard k) checked has = omega arith
+opening-below g name.Units checked has = omega arith
+opening-below g (name.Shelf k) checked has = omega arith
+
+-- at opening all frames and descriptors are on their stacks
+opening-first : (g : Geometry) → IsChecked g → IsFirst g 0 (opening g)
+opening-first g checked = record {
+  frames = omega arith;
+  descriptors = omega arith;
+  words = λ m has. opening-below g m checked has;
+  frame_head = grind (arith, checked.frames.0);
+  frame_nexts = λ f. refl;
+  desc_head = grind (arith, some-descriptors g checked);
+  desc_nexts = λ d. refl;
+  list_heads = λ class. refl;
+  slots = λ heap class. refl;
+  hazards = λ who. refl;
+  units = refl;
+  shelves = λ k. refl;
+  active_words = λ heap class has_heap has_class. ap is_some zero-active;
+  infos = λ d has. info-zero g checked;
+  states = λ d. zero-state;
+  tags = λ d. zero-anchor_tag;
+}
+
+-- and no word holds a superblock
+opening-empty : (g : Geometry) (m : WordName) → is_holder m ≡ true → opening g m ≡ 0
+opening-empty g m holds = grind (arith)
+
+opening-weighs : (g : Geometry) (s : State) (weight : WordName → ℕ → ℕ) → IsOpening g (opening g) s → IsHolderWeight weight → words_sum g weight s.word ≡ 0
+opening-weighs g s weight o h = holders-none g weight s.word h (λ m holds. zero-word g (opening g) s m o (opening-empty g m holds))
+
+-- a state before the first step is sound
+pub opening-sound : (g : Geometry) (s : State) → IsChecked g → IsOpening g (opening g) s → IsSound g s
+opening-sound g s checked o =
+    let begun : IsBegun g 0 (opening g) s = record { checked = checked; opening = o; rule = opening-first g checked } in
+    record {
+      checked = checked;
+      legal = first-history g (opening g) s (IsLegalEvent g) o;
+      parts = (
+        first_lists g 0,
+        first-sound g 0 (opening g) s begun
+            (first-kept g 0 (opening g) s begun
+            (λ d has.
+            let available : occurs d (indexes 0 (descriptor_count g - 0)) ≡ 1 = indexes-once 0 (descriptor_count g - 0) d (omega arith) (omega arith) in
+            omega (arith, opening-weighs g s (word_keeps d) o (keeps-holder d), available))
+            (λ heap class d credits has_heap has_class is. absurd (let null = zero-active in cc)))
+            (first-chained g 0 (opening g) s begun (λ d below. let no : ⊥ = omega (arith, below) in absurd no))
+            (first-framed g 0 (opening g) s begun
+            (λ f has.
+            let listed : occurs f (indexes 0 (g.frames - 0)) ≡ 1 = indexes-once 0 (g.frames - 0) f (omega arith) (omega arith) in
+            omega (arith, listed, sum-none (descriptor_count g) (fills g s (first_lists g 0) f) (λ d lt. first-fills g 0 (opening g) s f d begun (omega arith) lt))))
+            (first-stocked g 0 (opening g) s begun (λ class. omega (arith, opening-weighs g s (word_stock class) o (stock-holder class)))),
+      );
+    }

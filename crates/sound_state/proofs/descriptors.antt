@@ -1,0 +1,5 @@
+pub mod DescEffects
+pub mod DescPushes
+pub mod DescRecalls
+pub mod DescSteps
+pub mod DescWeighs

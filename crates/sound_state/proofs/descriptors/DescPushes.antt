@@ -1,0 +1,297 @@
+-- A won push of a retired descriptor onto the available ones keeps the state sound.
+use Rattle.std.proofs.Common.{ℕ, Bool, true, false, None, Some, ◌≡◌, ◌<◌, ◌≤◌, ◌+◌, ◌^◌, List, [], ◌∷◌, zero, suc, length, refl, arith, ap, sym, subst, inl, inr, ◌∙◌}
+use Rattle.std.specs.Prelude.{◌==◌, ◌&&◌, not, All, Any, Contains, IsTrue, IfSome, if◌then◌else◌}
+use Rattle.std.proofs.lemmas.Bool.{cases_eq, cond-true, cond-false, eq-eqb, ne_eqb}
+use Rattle.std.proofs.lemmas.List.Elements.{All-nil, All-cons, All-head, All-tail}
+use Rattle.heap_geometry.specs.declared.geometry.Geometry.{Geometry}
+use Rattle.word_plan.specs.declared.action.Found.{Found}
+use Rattle.word_plan.specs.declared.name.WordName.TheVariants as name
+use Rattle.word_plan.specs.Actions.{name_of, after_action}
+use Rattle.word_plan.specs.Counts.{descriptor_count}
+use Rattle.word_plan.specs.Seats.{SeatFields}
+use Rattle.word_plan.specs.Words.{Writes}
+use Rattle.superblock_parts.specs.Chains.{occurs}
+use Rattle.superblock_parts.specs.declared.point.BlockPoint.TheVariants as block
+use Rattle.stack_parts.specs.declared.point.Pile.TheVariants.{Partials}
+use Rattle.stack_parts.specs.Stacks.{Stacked, next_in}
+use Rattle.hazard_parts.specs.Retired.{without}
+use Rattle.hazard_parts.specs.declared.point.DescPoint.TheVariants as desc
+use Rattle.pool_model.specs.Legal.{IsLegalWithoutCounts}
+use Rattle.errand_steps.specs.declared.next.Next.{Next}
+use Rattle.errand_steps.specs.declared.next.Next.TheVariants.{At, End, Unlist}
+use Rattle.errand_steps.specs.declared.onward.Onward.{Onward}
+use Rattle.errand_steps.specs.declared.onward.Onward.TheVariants as onward
+use Rattle.errand_steps.specs.declared.point.Point.{Point}
+use Rattle.errand_steps.specs.declared.point.Point.TheVariants.{Block, Desc}
+use Rattle.errand_steps.specs.declared.reply.Reply.TheVariants as reply
+use Rattle.errand_steps.specs.Errands.{ErrandFields, IsErrand, settle_of, course_of, plan_of, after_turn, begins_turn, is_spent, point_after, raised, one_more, counts_won, counts_lost, counts_cleared}
+use Rattle.errand_steps.specs.Events.{event_of}
+use Rattle.errand_steps.specs.Fits.{spare_of, pushed_by}
+use Rattle.errand_steps.specs.Nexts.{next_of, resumed}
+use Rattle.errand_steps.specs.Onwards.{resumes}
+use Rattle.errand_steps.specs.Points.{plan_point_of}
+use Rattle.errand_steps.specs.Steps.{State, Step, Moves, found_at, with_event, name_at}
+use Rattle.errand_steps.proofs.ErrandLemmas.{settle_errand}
+use Rattle.sound_state.specs.Guards.{IsGuard, IsHazard, passed_by, held_by}
+use Rattle.sound_state.specs.Holdings.{Kept, nothing, holds_of}
+use Rattle.sound_state.specs.Keepers.{IsWithout, IsKeptAs}
+use Rattle.sound_state.specs.Lists.{Lists}
+use Rattle.sound_state.specs.Recalls.{IsSo, IsOwned, says, recalls_of}
+use Rattle.sound_state.specs.Sound.{IsSoundWithoutCounts, IsSoundWith}
+use Rattle.sound_state.specs.Stock.{waits_in}
+use Rattle.sound_state.specs.Turns.{one_if, in_turn, has_frame, has_partial, has_refused, is_discarding_at, pops_left}
+use Rattle.sound_state.proofs.shared.AlikeLemmas.{MayGoOn, Excepts}
+use Rattle.sound_state.proofs.descriptors.DescEffects.{IsOfListed, sound-restocked, with_available}
+use Rattle.sound_state.proofs.descriptors.DescRecalls.{recalls-pushed}
+use Rattle.sound_state.proofs.descriptors.DescWeighs.{ListWeighs, restocks-by}
+use Rattle.sound_state.proofs.hazards.HazardLemmas.{plain-guards, name-below}
+use Rattle.sound_state.proofs.shared.PointLemmas.{exists-at, fits-at, so-at, hazard-at}
+use Rattle.sound_state.proofs.quiet.QuietDescs.{push_desc_lost-sound}
+use Rattle.sound_state.proofs.quiet.QuietLemmas.{found_from}
+use Rattle.sound_state.proofs.shared.StepLemmas.{raised-least, raised-below}
+
+-- where a call goes on after a retirement, and how many turns it has begun then
+abbrev pub resumed_point : ErrandFields → SeatFields → Onward → Point
+resumed_point e seat o = point_after (after_turn e (resumed seat o))
+
+abbrev pub resumed_turns : ErrandFields → SeatFields → Onward → ℕ
+resumed_turns e seat o = raised (begins_turn e (resumed seat o)) e.turns
+
+-- the errand after a descriptor of its list is pushed
+abbrev pub pushed_errand : ErrandFields → Found → SeatFields → ℕ → Onward → ErrandFields
+pushed_errand e x seat d o =
+    record e {
+      point = resumed_point e seat o;
+      retired = without d e.retired;
+      turns = resumed_turns e seat o;
+      won = raised (counts_won (plan_of e) x) e.won;
+      lost = raised (counts_lost e.point x) e.lost;
+      cleared = raised (counts_cleared e.point x) e.cleared;
+    }
+
+settle-pushed :
+    (e : ErrandFields) (x : Found) (seat : SeatFields) (d : ℕ) (o : Onward) → next_of e.point x ≡ Unlist seat d o
+    → settle_of e x ≡ pushed_errand e x seat d o
+unfolding settle_of course_of
+settle-pushed e x seat d o is = rw is refl
+
+-- a point at which a caller holds, remembers, pushes and scans nothing
+pub record IsBare (q : Point) : Type 0 where
+  pub holds : holds_of q ≡ nothing
+  pub recalls : recalls_of q ≡ []
+  pub waits : (class : ℕ) → waits_in class q ≡ 0
+  pub pushed : pushed_by q ≡ None
+  pub passed : passed_by q ≡ 0
+  pub unread : length (held_by q) ≡ 0
+  pub spare : spare_of q ≡ 0
+
+-- and how far its turn is there, with so many turns begun
+pub record TurnResumes (p q : Point) (turns turns' : ℕ) : Type 0 where
+  pub under_way : one_if (in_turn q) + turns ≤ one_if (in_turn p) + turns'
+  pub lost :
+      turns' + one_if (in_turn q && is_discarding_at q) + one_if (in_turn p && not (has_refused p))
+      ≤ turns + one_if (in_turn p && is_discarding_at p) + one_if (in_turn q && not (has_refused q))
+  pub unframed :
+      one_if (in_turn q && not (has_frame q)) + turns ≤ one_if (in_turn p && not (has_frame p)) + turns'
+  pub pops :
+      pops_left q + one_if (in_turn q && not (has_partial q)) + turns
+      ≤ pops_left p + one_if (in_turn p && not (has_partial p)) + turns'
+
+-- the next turn begins, or the call ends where none is left
+abbrev turn_next : Bool → SeatFields → ℕ → Next
+turn_next b seat words = if b then End reply.Spent else At (Block (block.LoadActive seat) (onward.Alloc words))
+
+turn-bare : (b : Bool) (seat : SeatFields) (words : ℕ) → IsBare (point_after (turn_next b seat words))
+unfolding holds_of recalls_of
+turn-bare true seat words = grind (arith)
+turn-bare false seat words = grind (arith)
+
+resumed-bare : (e : ErrandFields) (seat : SeatFields) (o : Onward) → IsTrue (resumes o) → IsBare (resumed_point e seat o)
+unfolding holds_of recalls_of
+resumed-bare e seat (onward.Turn words) is = turn-bare (is_spent e) seat words
+resumed-bare e seat (onward.Look words) is = grind (arith)
+resumed-bare e seat onward.Refuse is = grind (arith)
+resumed-bare e seat onward.EndFree is = grind (arith)
+resumed-bare e seat o is = grind (arith, is)
+
+one_more-below : (n : ℕ) → n + 1 < 2 ^ 64 → one_more n ≡ n + 1
+one_more-below n below = grind (arith, below)
+
+turn-resumes :
+    (b : Bool) (seat : SeatFields) (d top words turns : ℕ) → turns + 1 < 2 ^ 64
+    → TurnResumes (Desc (desc.PushDesc seat d top) (onward.Turn words)) (point_after (turn_next b seat words)) turns (raised (not b) turns)
+turn-resumes true seat d top words turns below = grind (arith)
+turn-resumes false seat d top words turns below = rw (one_more-below turns below) (grind (arith))
+
+resumed-turns :
+    (e : ErrandFields) (seat : SeatFields) (d top : ℕ) (o : Onward) → IsTrue (resumes o) → e.turns + 1 < 2 ^ 64
+    → TurnResumes (Desc (desc.PushDesc seat d top) o) (resumed_point e seat o) e.turns (resumed_turns e seat o)
+resumed-turns e seat d top (onward.Turn words) is below = turn-resumes (is_spent e) seat d top words e.turns below
+resumed-turns e seat d top (onward.Look words) is below = grind (arith)
+resumed-turns e seat d top onward.Refuse is below = grind (arith)
+resumed-turns e seat d top onward.EndFree is below = grind (arith)
+resumed-turns e seat d top o is below = grind (arith, is)
+
+-- a list without one that it contains has it once less
+occurs-without : (d k : ℕ) (xs : List ℕ) → Contains xs d → occurs k xs ≡ (if d == k then 1 else 0) + occurs k (without d xs)
+occurs-without d k [] (i, within, is) = let bad : ⊥ = omega (arith, within) in absurd bad
+occurs-without d k (x ∷ xs) (zero, within, is) =
+    let found : (x == d) ≡ true = eq-eqb x d is in
+    rw found (ap (λ j. (if j == k then 1 else 0) + occurs k xs) is)
+occurs-without d k (x ∷ xs) (suc i, within, is) =
+    elim (cases_eq x d) [
+      | inl same ↦ let found : (x == d) ≡ true = eq-eqb x d same in rw found (ap (λ j. (if j == k then 1 else 0) + occurs k xs) same)
+      | inr differ ↦
+          let other : (x == d) ≡ false = ne_eqb x d differ in
+          let rest : Contains xs d = (i, omega (arith, within), is) in
+          rw other (omega (arith, occurs-without d k xs rest))
+    ]
+
+All-without : (P : ℕ → Type 0) (d : ℕ) (xs : List ℕ) → All P xs → All P (without d xs)
+All-without P d [] all = all
+All-without P d (x ∷ xs) all =
+    elim (cases_eq x d) [
+      | inl same ↦ subst (All P) (sym (cond-true {A = List ℕ} (x == d) xs (x ∷ without d xs) (eq-eqb x d same))) (All-tail P x xs all)
+      | inr differ ↦
+          subst (All P) (sym (cond-false {A = List ℕ} (x == d) xs (x ∷ without d xs) (ne_eqb x d differ)))
+          (All-cons P x (without d xs) (All-head P x xs all) (All-without P d xs (All-tail P x xs all)))
+    ]
+
+All-at : (P : ℕ → Type 0) (d : ℕ) (xs : List ℕ) → All P xs → Contains xs d → P d
+All-at P d xs all (k, within, is) = subst P is (all k d within)
+
+pub push-weighs :
+    (l : Lists) (seat : SeatFields) (d top : ℕ) (o : Onward) (e : ErrandFields) (x : Found) → e.point ≡ Desc (desc.PushDesc seat d top) o
+    → Contains e.retired d → IsBare (resumed_point e seat o) → ListWeighs l (d ∷ l.available) e (pushed_errand e x seat d o)
+unfolding holds_of
+push-weighs l seat d top o e x at listed bare = record {
+  reserves = λ k. rw (at, bare.holds) refl;
+  waits = λ k. rw (at, bare.holds) refl;
+  ways = λ k off. rw (at, bare.holds) refl;
+  away = λ k. rw (at, bare.holds) (omega (arith, occurs-without d k e.retired listed));
+  places = λ k. rw (at, bare.holds) (omega (arith, occurs-without d k e.retired listed));
+  frames = λ f. rw (at, bare.holds) refl;
+  stock = λ class. rw (at, bare.holds, bare.waits class) refl;
+}
+
+-- a caller's turns are few
+turns-below : (g : Geometry) (e : ErrandFields) → e.geometry ≡ g → IsErrand e → e.turns + 1 < 2 ^ 64
+turns-below g e same rule = omega (arith, rule.turns, rule.geometry.turn_limit)
+
+-- the caller may go on so
+push-may :
+    (g : Geometry) (s : State) (l : Lists) (who : ℕ) (seat : SeatFields) (d : ℕ) (o : Onward) (x : Found) → IsSoundWith g s l
+    → who < g.callers → x.value < 2 ^ 64 → settle_of (s.errand who) x ≡ pushed_errand (s.errand who) x seat d o
+    → counts_cleared (s.errand who).point x ≡ false → IsBare (resumed_point (s.errand who) seat o)
+    → TurnResumes (s.errand who).point (resumed_point (s.errand who) seat o) (s.errand who).turns (resumed_turns (s.errand who) seat o)
+    → ((place : ℕ) → Excepts (s.errand who) place → ⊥) → MayGoOn g s l who (s.errand who) (pushed_errand (s.errand who) x seat d o)
+push-may g s l who seat d o x old has word after still bare turn excepts =
+    let e = s.errand who in
+    let own = old.errands who has in
+    let more : e.lost ≤ raised (counts_lost e.point x) e.lost = raised-least (counts_lost e.point x) e.lost own.lost in
+    let holds = sym bare.holds in
+    record {
+      rule = record {
+        caller = own.caller;
+        geometry = own.geometry;
+        rule = subst IsErrand after (settle_errand e x own.rule word);
+        lost = raised-below (counts_lost e.point x) e.lost own.lost;
+      };
+      kept =
+          subst (λ h. All (λ k. IsKeptAs s k.status k.desc k.class) h.kept) holds
+          (All-nil (λ (k : Kept). IsKeptAs s k.status k.desc k.class));
+      retired = All-without (IsWithout s) d e.retired (old.kept.retired who has);
+      so = subst (All (IsSo g s l who)) (sym bare.recalls) (All-nil (IsSo g s l who));
+      full = λ spare. let bad : ⊥ = omega (arith, spare, bare.spare) in absurd bad;
+      hands = subst (λ h. All (λ x. IsOwned s who x.place x.need) h.hands) holds (All-nil (λ x. IsOwned s who x.place x.need));
+      frees = subst (λ h. All (λ x. IsOwned s who x.place x.need) h.frees) holds (All-nil (λ x. IsOwned s who x.place x.need));
+      excepts = λ place is. absurd (excepts place is);
+      own_turns = omega (arith, old.turned.own_turns who has, turn.under_way);
+      own_lost = omega (arith, old.turned.own_lost who has, turn.lost, more);
+      frame_turns = turn.unframed;
+      list_turns = omega (arith, turn.pops, ap (λ b. raised b e.cleared) still);
+    }
+
+-- nobody's block is excepted there
+push-excepts :
+    (seat : SeatFields) (d top : ℕ) (o : Onward) (e : ErrandFields) → e.point ≡ Desc (desc.PushDesc seat d top) o → (place : ℕ)
+    → Excepts e place → ⊥
+unfolding holds_of
+push-excepts seat d top o e at place x =
+    let none : holds_of e.point ≡ nothing = ap holds_of at in
+    elim x [
+      | inl a ↦
+          let bad : Any (λ b. b.place ≡ place) nothing.hands = subst (λ h. Any (λ b. b.place ≡ place) h.hands) none a in
+          let no_place : ⊥ = omega (arith, bad.2) in no_place
+      | inr a ↦
+          let bad : Any (λ b. (b.place ≡ place) × IsTrue b.overwritten) nothing.frees =
+          subst (λ h. Any (λ b. (b.place ≡ place) × IsTrue b.overwritten) h.frees) none a in
+          let no_place : ⊥ = omega (arith, bad.2) in no_place
+    ]
+
+-- the descriptor is put in front of the available ones, and the call goes on or ends
+pub push_desc_won-sound :
+    (g : Geometry) (s : State) (who : ℕ) (s' : State) (seat : SeatFields) (d top : ℕ) (o : Onward) → IsSoundWithoutCounts g s → who < g.callers
+    → (s.errand who).point ≡ Desc (desc.PushDesc seat d top) o → s.word name.DescHead ≡ top → Step s who s' → IsSoundWithoutCounts g s'
+unfolding plan_point_of next_of event_of holds_of recalls_of
+push_desc_won-sound g s who s' seat d top o sound has at won step =
+    let p = Desc (desc.PushDesc seat d top) o in
+    let l = sound.parts.0 in
+    let old = sound.parts.1 in
+    let x = found_at s who in
+    let is_won : (s.word name.DescHead == top) ≡ true = eq-eqb (s.word name.DescHead) top won in
+    let own = old.errands who has in
+    let fits = fits-at g s l who p old has at in
+    let next : next_of p (found_from s p) ≡ Unlist seat d o = rw is_won refl in
+    let after : settle_of (s.errand who) x ≡ pushed_errand (s.errand who) x seat d o =
+    settle-pushed (s.errand who) x seat d o (subst (λ r. next_of r (found_from s r) ≡ Unlist seat d o) (sym at) next) in
+    let e = pushed_errand (s.errand who) x seat d o in
+    let writes : Writes s.word name.DescHead (d + 1) s'.word =
+    subst (λ v. Writes s.word name.DescHead v s'.word) (rw is_won refl)
+    (subst (λ r. Writes s.word (name_of (plan_point_of r)) (after_action (plan_point_of r) (s.word (name_of (plan_point_of r)))) s'.word) at step.word) in
+    let event : event_of who p (found_from s p) ≡ None = rw is_won refl in
+    let past : s'.history ≡ s.history =
+    step.history ∙ ap (with_event s.history) (subst (λ r. event_of who r (found_from s r) ≡ None) (sym at) event) in
+    let link : s.word (name.Next d) ≡ top = (All-head (IsSo g s l who) (says (name.Next d) top) [] (so-at g s l who p old has at)).1 in
+    let pushes : pushed_by (s.errand who).point ≡ Some d = ap pushed_by at in
+    let listed : Contains (s.errand who).retired d =
+    subst (λ k. IfSome k (λ j. Contains (s.errand who).retired j)) pushes own.rule.pushed in
+    let exists : d < descriptor_count g = fits.point.desc.desc in
+    let bare = resumed-bare (s.errand who) seat o fits.goes in
+    let small : (s.errand who).turns + 1 < 2 ^ 64 =
+    turns-below g (s.errand who) own.geometry own.rule in
+    let turn =
+    subst (λ r. TurnResumes r (resumed_point (s.errand who) seat o) (s.errand who).turns (resumed_turns (s.errand who) seat o)) (sym at)
+    (resumed-turns (s.errand who) seat d top o fits.goes small) in
+    let cleared : counts_cleared (s.errand who).point x ≡ false = subst (λ r. counts_cleared r x ≡ false) (sym at) refl in
+    let may = push-may g s l who seat d o x old has (old.words (name_at s who)) after cleared bare turn (push-excepts seat d top o (s.errand who) at) in
+    let clear : s.word (name.Hazard who) ≡ 0 = hazard-at g s l who p old has at in
+    let guards =
+    plain-guards g s who e.point e.retired (s.word (name.Hazard who))
+    (subst (λ h. IsHazard h.hazard (s.word (name.Hazard who))) (sym bare.holds) clear)
+    (λ k named guard. absurd (subst (λ h. IsGuard h.hazard) bare.holds guard)) bare.pushed bare.passed bare.unread in
+    let stack : Stacked (next_in s.word Partials) (d + 1) (d ∷ l.available) =
+    (refl, subst (λ t. Stacked (next_in s.word Partials) t l.available) (won ∙ sym link) old.listed.available) in
+    let restocks =
+    restocks-by g s l who e s' (d ∷ l.available) (d + 1) old has (exists-at g s who p sound has at) writes
+    (subst (λ f. Moves s.errand who f s'.errand) after step.errand) past (name-below g d sound.checked exists)
+    (ap (λ b. raised b (s.errand who).cleared) cleared) (λ place x. absurd (push-excepts seat d top o (s.errand who) at place x)) may guards stack
+    (All-cons (λ k. k < descriptor_count g) d l.available exists old.listed.available_exist)
+    (All-cons (IsWithout s) d l.available (All-at (IsWithout s) d (s.errand who).retired (old.kept.retired who has) listed) old.kept.available)
+    (push-weighs l seat d top o (s.errand who) x at listed bare) (recalls-pushed g s l who d old has exists listed pushes)
+    (subst (All (IsOfListed l (d ∷ l.available))) (sym bare.recalls) (All-nil (IsOfListed l (d ∷ l.available)))) in
+    record {
+      checked = sound.checked;
+      legal = subst (IsLegalWithoutCounts g) (sym past) sound.legal;
+      parts = (with_available l (d ∷ l.available), sound-restocked g s l who e s' (d ∷ l.available) restocks old);
+    }
+
+-- won or lost
+pub push_desc-sound :
+    (g : Geometry) (s : State) (who : ℕ) (s' : State) (seat : SeatFields) (d top : ℕ) (o : Onward) → IsSoundWithoutCounts g s → who < g.callers
+    → (s.errand who).point ≡ Desc (desc.PushDesc seat d top) o → Step s who s' → IsSoundWithoutCounts g s'
+push_desc-sound g s who s' seat d top o sound has at step =
+    elim (cases_eq (s.word name.DescHead) top) [
+      | inl won ↦ push_desc_won-sound g s who s' seat d top o sound has at won step
+      | inr lost ↦ push_desc_lost-sound g s who s' seat d top o sound has at lost step
+    ]

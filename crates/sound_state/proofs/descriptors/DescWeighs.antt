@@ -1,0 +1,94 @@
+-- What a step at the head of the available descriptors weighs.
+use Rattle.std.proofs.Common.{ℕ, ◌≡◌, ◌<◌, ◌+◌, ◌^◌, List, refl, arith, ap, sym, subst, inl, inr}
+use Rattle.std.specs.Prelude.{All}
+use Rattle.heap_geometry.specs.declared.geometry.Geometry.{Geometry}
+use Rattle.packed_words.specs.Anchor.{anchor_of}
+use Rattle.packed_words.specs.Info.{info_of}
+use Rattle.word_plan.specs.declared.name.WordName.{WordName}
+use Rattle.word_plan.specs.declared.name.WordName.TheVariants as name
+use Rattle.word_plan.specs.Counts.{descriptor_count}
+use Rattle.word_plan.specs.Table.{Exists}
+use Rattle.word_plan.specs.Words.{Writes}
+use Rattle.word_plan.proofs.NameLemmas.{cases_name}
+use Rattle.superblock_parts.specs.Chains.{occurs}
+use Rattle.stack_parts.specs.declared.point.Pile.TheVariants.{Partials}
+use Rattle.stack_parts.specs.Stacks.{Stacked, next_in}
+use Rattle.errand_steps.specs.Errands.{ErrandFields}
+use Rattle.errand_steps.specs.Steps.{State, Moves}
+use Rattle.sound_state.specs.Frames.{errand_frames}
+use Rattle.sound_state.specs.Holdings.{waiting, on_its_way}
+use Rattle.sound_state.specs.Keepers.{IsWithout, word_keeps, errand_has, full_keeps}
+use Rattle.sound_state.specs.Lists.{Lists}
+use Rattle.sound_state.specs.Recalls.{recalls_of}
+use Rattle.sound_state.specs.Sound.{IsSoundWith}
+use Rattle.sound_state.specs.Stock.{word_stock, errand_stock, full_stock}
+use Rattle.sound_state.specs.Sums.{sum_below}
+use Rattle.sound_state.specs.Superblocks.{info_or_zero, word_reserves, errand_reserves, errand_keeps, errand_away}
+use Rattle.sound_state.proofs.shared.AlikeLemmas.{MayGoOn, MayGuard, Excepts}
+use Rattle.sound_state.proofs.descriptors.DescEffects.{IsNoDescHead, IsOfListed, Restocks}
+use Rattle.sound_state.proofs.shared.StepLemmas.{words-below}
+use Rattle.sound_state.proofs.shared.SumLemmas.{words-written, callers-moved, sum-same}
+
+-- the list and the new errand weigh what the list and the errand before it did
+pub record ListWeighs (l : Lists) (ys : List ℕ) (a b : ErrandFields) : Type 0 where
+  pub reserves : (d : ℕ) → errand_reserves d b ≡ errand_reserves d a
+  pub waits : (d : ℕ) → errand_keeps waiting d b ≡ errand_keeps waiting d a
+  pub ways : (d : ℕ) → occurs d l.available ≡ 0 → errand_keeps on_its_way d b ≡ errand_keeps on_its_way d a
+  pub away : (d : ℕ) → occurs d ys + errand_away d b ≡ occurs d l.available + errand_away d a
+  pub places : (d : ℕ) → occurs d ys + errand_has d b ≡ occurs d l.available + errand_has d a
+  pub frames : (f : ℕ) → errand_frames f b ≡ errand_frames f a
+  pub stock : (class : ℕ) → errand_stock class b ≡ errand_stock class a
+
+-- a word that is not the head stays
+others-stay :
+    (words : WordName → ℕ) (new : ℕ) (words' : WordName → ℕ) → Writes words name.DescHead new words' → (n : WordName) → IsNoDescHead n
+    → words' n ≡ words n
+others-stay words new words' w n apart =
+    elim (cases_name n name.DescHead) [
+      | inl is ↦ let bad : ⊥ = subst IsNoDescHead is apart in absurd bad
+      | inr differ ↦ w.elsewhere n differ
+    ]
+
+-- a step that writes the head, with the stack that it leaves
+pub restocks-by :
+    (g : Geometry) (s : State) (l : Lists) (who : ℕ) (e : ErrandFields) (s' : State) (ys : List ℕ) (new : ℕ) → IsSoundWith g s l
+    → who < g.callers → Exists g name.DescHead → Writes s.word name.DescHead new s'.word → Moves s.errand who e s'.errand
+    → s'.history ≡ s.history → new < 2 ^ 64 → e.cleared ≡ (s.errand who).cleared
+    → ((place : ℕ) → Excepts (s.errand who) place → Excepts e place) → MayGoOn g s l who (s.errand who) e
+    → MayGuard g s who e.point e.retired (s.word (name.Hazard who)) → Stacked (next_in s.word Partials) new ys
+    → All (λ d. d < descriptor_count g) ys → All (IsWithout s) ys → ListWeighs l ys (s.errand who) e
+    → ((i : ℕ) → i < g.callers → All (IsOfListed l ys) (recalls_of (s.errand i).point)) → All (IsOfListed l ys) (recalls_of e.point)
+    → Restocks g s l who e s' ys
+restocks-by g s l who e s' ys new old has exists w m past small still excepts may guards stack exist without weigh recalls here =
+    let stay = others-stay s.word new s'.word w in
+    let words = λ (weight : WordName → ℕ → ℕ). words-written g weight s.word name.DescHead new s'.word exists w in
+    let callers = λ (weight : ErrandFields → ℕ). callers-moved g weight s.errand who e s'.errand has m in
+    let anchor = λ (d : ℕ). ap anchor_of (stay (name.Anchor d) tt) in
+    record {
+      caller = has;
+      moves = m;
+      may = may;
+      guards = subst (MayGuard g s who e.point e.retired) (sym (stay (name.Hazard who) tt)) guards;
+      word = stay;
+      below = words-below s.word name.DescHead new s'.word w old.words small;
+      history = past;
+      cleared = still;
+      excepts = excepts;
+      stack = subst (λ top. Stacked (next_in s.word Partials) top ys) (sym w.here) stack;
+      exist = exist;
+      without = without;
+      reserved = λ d. omega (arith, words (word_reserves d), callers (errand_reserves d), weigh.reserves d);
+      waits = λ d. omega (arith, callers (errand_keeps waiting d), weigh.waits d);
+      ways = λ d off. omega (arith, callers (errand_keeps on_its_way d), weigh.ways d off);
+      away = λ d. omega (arith, callers (errand_away d), weigh.away d);
+      places = λ d.
+          omega (arith, words (word_keeps d), callers (errand_has d), weigh.places d, ap (λ a. full_keeps a.state) (anchor d));
+      frames = λ f. omega (arith, callers (errand_frames f), weigh.frames f);
+      stock = λ class.
+          let full : sum_below (descriptor_count g) (full_stock s' class) ≡ sum_below (descriptor_count g) (full_stock s class) =
+          sum-same (descriptor_count g) (full_stock s class) (full_stock s' class)
+          (λ d lt. rw (anchor d, ap (λ x. info_or_zero (info_of x)) (stay (name.Info d) tt)) refl) in
+          omega (arith, words (word_stock class), callers (errand_stock class), weigh.stock class, full);
+      recalls = recalls;
+      recalls_here = here;
+    }

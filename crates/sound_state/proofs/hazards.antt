@@ -1,0 +1,2 @@
+pub mod HazardLemmas
+pub mod HazardSteps

@@ -1,0 +1,292 @@
+-- A step that stores its caller's hazard word, or reads one, and after which the caller holds what else it held.
+use Rattle.std.proofs.Common.{ℕ, zero, suc, false, Option, Some, None, ◌≡◌, ◌<◌, ◌≤◌, ◌+◌, ◌^◌, List, [], ◌∷◌, length, refl, arith, ap, sym, subst, inl, inr, ◌⊎◌, ◌∙◌}
+use Rattle.std.specs.Prelude.{All, Any, Contains, IsSome, IsTrue, IfSome, ◌==◌}
+use Rattle.std.proofs.lemmas.Bool.{cond-true, eq-eqb}
+use Rattle.std.proofs.lemmas.Option.{none-some}
+use Rattle.heap_geometry.specs.declared.geometry.Geometry.{Geometry}
+use Rattle.heap_geometry.specs.Geometry.{IsChecked}
+use Rattle.packed_words.specs.Active.{active_of}
+use Rattle.word_plan.specs.declared.action.Found.{Found}
+use Rattle.word_plan.specs.declared.name.WordName.{WordName}
+use Rattle.word_plan.specs.declared.name.WordName.TheVariants as name
+use Rattle.word_plan.specs.Actions.{name_of, after_action}
+use Rattle.word_plan.specs.Counts.{descriptor_count}
+use Rattle.word_plan.specs.Words.{Writes}
+use Rattle.word_plan.proofs.CountLemmas.{descriptor_count_within}
+use Rattle.superblock_parts.specs.Chains.{occurs}
+use Rattle.errand_steps.specs.declared.next.Next.TheVariants.{At, End, Pick}
+use Rattle.errand_steps.specs.declared.onward.Onward.{Onward}
+use Rattle.errand_steps.specs.declared.point.Point.{Point}
+use Rattle.errand_steps.specs.declared.point.Point.TheVariants.{Idle, Desc}
+use Rattle.errand_steps.specs.declared.reply.Reply.{Reply}
+use Rattle.hazard_parts.specs.declared.point.DescPoint.TheVariants as desc
+use Rattle.hazard_parts.specs.Retired.{first_unheld}
+use Rattle.word_plan.specs.Seats.{SeatFields}
+use Rattle.errand_steps.specs.Errands.{ErrandFields, counts_cleared, settle_of, course_of}
+use Rattle.errand_steps.specs.Events.{event_of}
+use Rattle.errand_steps.specs.Fits.{spare_of, pushed_by}
+use Rattle.errand_steps.specs.Nexts.{next_of}
+use Rattle.errand_steps.specs.Points.{plan_point_of}
+use Rattle.errand_steps.specs.Steps.{State, Step, found_at}
+use Rattle.sound_state.specs.Guards.{Guards, IsHazard, IsGuard, passed_by, held_by}
+use Rattle.sound_state.specs.Holdings.{holds_of, waiting, on_its_way}
+use Rattle.sound_state.specs.Keepers.{IsKeptAs, word_keeps, errand_has}
+use Rattle.sound_state.specs.Lists.{Lists}
+use Rattle.sound_state.specs.Recalls.{IsPlain, IsSo, IsOwned, recalls_of}
+use Rattle.sound_state.specs.Sound.{IsSoundWithoutCounts, IsSoundWith}
+use Rattle.sound_state.specs.Stock.{waits_in, word_stock, stock_among}
+use Rattle.sound_state.specs.Sums.{callers_sum}
+use Rattle.sound_state.specs.Superblocks.{word_reserves, reserved_among, kept_among, errand_away}
+use Rattle.sound_state.proofs.shared.AlikeLemmas.{MayGuard, GuardsAnew, IsUnretired, ActivesKept}
+use Rattle.sound_state.proofs.quiet.QuietLemmas.{found_from, actives-stay, words-stay}
+use Rattle.sound_state.proofs.shared.StepLemmas.{PointStands, TurnGoes, at_point, settle-at, settle-end, step-most}
+use Rattle.sound_state.proofs.shared.SumLemmas.{term-sum}
+use Rattle.sound_state.proofs.shared.WeighLemmas.{WeighMost}
+
+-- at the second point a caller holds what it holds at the first, but for its hazard word, and is no further back in its turn
+pub record HoldsBut (p q : Point) : Type 0 where
+  pub credits : (holds_of q).credits ≡ (holds_of p).credits
+  pub kept : (holds_of q).kept ≡ (holds_of p).kept
+  pub frames : (holds_of q).frames ≡ (holds_of p).frames
+  pub hands : (holds_of q).hands ≡ (holds_of p).hands
+  pub frees : (holds_of q).frees ≡ (holds_of p).frees
+  pub stock : (class : ℕ) → stock_among class (holds_of q).kept + waits_in class q ≡ stock_among class (holds_of p).kept + waits_in class p
+  pub spare : spare_of q ≡ spare_of p
+  pub turn : TurnGoes p q
+
+-- it may stand there, where what it remembers is so
+but-stands :
+    (g : Geometry) (s : State) (l : Lists) (who : ℕ) (q : Point) → IsSoundWith g s l → who < g.callers → HoldsBut (s.errand who).point q
+    → All (IsSo g s l who) (recalls_of q) → PointStands g s l who (s.errand who).point q
+but-stands g s l who q old has h so = record {
+  kept = subst (λ ks. All (λ k. IsKeptAs s k.status k.desc k.class) ks) (sym h.kept) (old.kept.errand who has);
+  so = so;
+  spare = h.spare;
+  hands = subst (λ bs. All (λ x. IsOwned s who x.place x.need) bs) (sym h.hands) (old.tied.hands who has);
+  frees = subst (λ bs. All (λ x. IsOwned s who x.place x.need) bs) (sym h.frees) (old.tied.frees who has);
+  excepts = λ place x.
+      elim x [
+        | inl a ↦ inl (subst (λ bs. Any (λ b. b.place ≡ place) bs) (sym h.hands) a)
+        | inr a ↦ inr (subst (λ bs. Any (λ b. (b.place ≡ place) × IsTrue b.overwritten) bs) (sym h.frees) a)
+      ];
+  turn = h.turn;
+}
+
+-- a word that weighs nothing, or stays, and an errand that holds the same
+but-weighs :
+    (n : WordName) (before after : ℕ) (e : ErrandFields) (x : Found) (q : Point) → HoldsBut e.point q → (IsPlain n → after ≡ before)
+    → ((d : ℕ) → word_reserves d n after ≡ word_reserves d n before) → ((d : ℕ) → word_keeps d n after ≡ word_keeps d n before)
+    → ((class : ℕ) → word_stock class n after ≡ word_stock class n before) → WeighMost n before after e (at_point e x q)
+but-weighs n before after e x q h plain reserves keeps stock = record {
+  plain = plain;
+  reserves = λ d. omega (arith, reserves d, ap (reserved_among d) h.credits);
+  waits = λ d. ap (kept_among waiting d) h.kept;
+  ways = λ d. ap (kept_among on_its_way d) h.kept;
+  away = λ d. ap (λ ks. occurs d e.retired + kept_among on_its_way d ks) h.kept;
+  places = λ d. rw (keeps d, h.kept) refl;
+  frames = λ f. ap (occurs f) h.frames;
+  stock = λ class. omega (arith, stock class, h.stock class);
+}
+
+-- what the step to this point needs, where this is the hazard word after it
+pub record GoesHazard (g : Geometry) (s : State) (l : Lists) (who : ℕ) (p q : Point) (word : ℕ) : Type 0 where
+  pub event : event_of who p (found_from s p) ≡ None
+  pub cleared : counts_cleared p (found_from s p) ≡ false
+  pub holds : HoldsBut p q
+  pub so : All (IsSo g s l who) (recalls_of q)
+  pub guards : MayGuard g s who q (s.errand who).retired word
+
+-- it leads there
+pub leads-at :
+    (s : State) (who : ℕ) (p q : Point) → (s.errand who).point ≡ p → next_of p (found_from s p) ≡ At q
+    → settle_of (s.errand who) (found_at s who) ≡ at_point (s.errand who) (found_at s who) q
+leads-at s who p q at next =
+    let is : next_of (s.errand who).point (found_from s (s.errand who).point) ≡ At q =
+    subst (λ r. next_of r (found_from s r) ≡ At q) (sym at) next in
+    settle-at (s.errand who) (found_at s who) q is
+
+-- it ends the call
+pub ends-at :
+    (s : State) (who : ℕ) (p : Point) (r : Reply) → (s.errand who).point ≡ p → next_of p (found_from s p) ≡ End r
+    → settle_of (s.errand who) (found_at s who) ≡ at_point (s.errand who) (found_at s who) Idle
+ends-at s who p r at next =
+    let is : next_of (s.errand who).point (found_from s (s.errand who).point) ≡ End r =
+    subst (λ q. next_of q (found_from s q) ≡ End r) (sym at) next in
+    settle-end (s.errand who) (found_at s who) r is
+
+-- where a scan ends: at the push of what it picked; where it picked nothing the point stays
+abbrev pub picked_point : Point → SeatFields → Onward → Option ℕ → Point
+picked_point p seat o None = p
+picked_point p seat o (Some d) = Desc (desc.LoadHeadToPush seat d) o
+
+settle-picked :
+    (e : ErrandFields) (x : Found) (seat : SeatFields) (held : List ℕ) (o : Onward) (r : Option ℕ) → next_of e.point x ≡ Pick seat held o
+    → first_unheld held e.retired ≡ r → settle_of e x ≡ at_point e x (picked_point e.point seat o r)
+unfolding settle_of course_of
+settle-picked e x seat held o None is pick = rw (is, pick) refl
+settle-picked e x seat held o (Some d) is pick = rw (is, pick) refl
+
+pub picks-at :
+    (s : State) (who : ℕ) (p : Point) (seat : SeatFields) (held : List ℕ) (o : Onward) (r : Option ℕ) → (s.errand who).point ≡ p
+    → next_of p (found_from s p) ≡ Pick seat held o → first_unheld held (s.errand who).retired ≡ r
+    → settle_of (s.errand who) (found_at s who) ≡ at_point (s.errand who) (found_at s who) (picked_point p seat o r)
+picks-at s who p seat held o r at next pick =
+    let is : next_of (s.errand who).point (found_from s (s.errand who).point) ≡ Pick seat held o =
+    subst (λ q. next_of q (found_from s q) ≡ Pick seat held o) (sym at) next in
+    subst (λ q. settle_of (s.errand who) (found_at s who) ≡ at_point (s.errand who) (found_at s who) (picked_point q seat o r)) at
+    (settle-picked (s.errand who) (found_at s who) seat held o r is pick)
+
+-- a step that reads a word
+pub read-hazard :
+    (g : Geometry) (s : State) (who : ℕ) (s' : State) (p q : Point) → IsSoundWithoutCounts g s → who < g.callers → (s.errand who).point ≡ p
+    → settle_of (s.errand who) (found_at s who) ≡ at_point (s.errand who) (found_at s who) q
+    → after_action (plan_point_of p) (s.word (name_of (plan_point_of p))) ≡ s.word (name_of (plan_point_of p))
+    → ((l : Lists) → IsSoundWith g s l → GoesHazard g s l who p q (s.word (name.Hazard who))) → Step s who s' → IsSoundWithoutCounts g s'
+read-hazard g s who s' p q sound has at after word goes step =
+    let n = name_of (plan_point_of (s.errand who).point) in
+    let same : after_action (plan_point_of (s.errand who).point) (s.word n) ≡ s.word n =
+    subst (λ r. after_action (plan_point_of r) (s.word (name_of (plan_point_of r))) ≡ s.word (name_of (plan_point_of r))) (sym at) word in
+    let went = λ (l : Lists) (old : IsSoundWith g s l). subst (λ r. GoesHazard g s l who r q (s.word (name.Hazard who))) (sym at) (goes l old) in
+    let stay = words-stay s.word n _ s'.word step.word same in
+    step-most g s who s' q sound has
+    (λ l old.
+    let to : GoesHazard g s l who (s.errand who).point q (s.word (name.Hazard who)) = went l old in
+    record {
+      after = after;
+      event = to.event;
+      cleared = to.cleared;
+      stands = but-stands g s l who q old has to.holds to.so;
+      weigh =
+          but-weighs n (s.word n) _ (s.errand who) (found_at s who) q to.holds (λ plain. same) (λ d. ap (word_reserves d n) same)
+          (λ d. ap (word_keeps d n) same) (λ class. ap (word_stock class n) same);
+      below = subst (λ v. v < 2 ^ 64) (sym same) (old.words n);
+    })
+    (λ l old. actives-stay g s l s'.word old.kept stay)
+    (λ l old.
+    let to : GoesHazard g s l who (s.errand who).point q (s.word (name.Hazard who)) = went l old in
+    record {
+      others = λ i differ. stay (name.Hazard i);
+      guards = subst (MayGuard g s who q (s.errand who).retired) (sym (stay (name.Hazard who))) to.guards;
+    })
+    step
+
+-- whose hazard word it is
+abbrev pub hazard_caller : WordName → ℕ
+hazard_caller (name.Hazard caller) = caller
+hazard_caller n = 0
+
+-- a store to a hazard word changes no active word and no slot
+pub hazard-actives :
+    (g : Geometry) (s : State) (l : Lists) (i new : ℕ) (words' : WordName → ℕ) → IsSoundWith g s l
+    → Writes s.word (name.Hazard i) new words' → ActivesKept g s words'
+hazard-actives g s l i new words' old w = record {
+  active_words = λ heap class has_heap has_class.
+      subst (λ v. IsSome (active_of v)) (sym (w.elsewhere (name.Active heap class) (λ same. cc))) (old.kept.active_words heap class has_heap has_class);
+  slot_words = λ heap class has_heap has_class.
+      subst (λ v. v ≤ descriptor_count g) (sym (w.elsewhere (name.Slot heap class) (λ same. cc))) (old.kept.slot_words heap class has_heap has_class);
+  active = λ heap class d credits has_heap has_class is.
+      old.kept.active heap class d credits has_heap has_class (ap active_of (sym (w.elsewhere (name.Active heap class) (λ same. cc))) ∙ is);
+  slot = λ heap class d has_heap has_class is.
+      old.kept.slot heap class d has_heap has_class (sym (w.elsewhere (name.Slot heap class) (λ same. cc)) ∙ is);
+}
+
+-- a store to a hazard word weighs nothing
+hazard-weighs :
+    (n : WordName) (i before after : ℕ) (e : ErrandFields) (x : Found) (q : Point) → n ≡ name.Hazard i → HoldsBut e.point q
+    → WeighMost n before after e (at_point e x q)
+hazard-weighs n i before after e x q is h =
+    let here : WeighMost (name.Hazard i) before after e (at_point e x q) =
+    but-weighs (name.Hazard i) before after e x q h (λ plain. absurd plain) (λ d. refl) (λ d. refl) (λ class. refl) in
+    subst (λ m. WeighMost m before after e (at_point e x q)) (sym is) here
+
+-- a step that stores its caller's hazard word
+pub store-hazard :
+    (g : Geometry) (s : State) (who : ℕ) (s' : State) (p q : Point) (new : ℕ) → IsSoundWithoutCounts g s → who < g.callers → (s.errand who).point ≡ p
+    → settle_of (s.errand who) (found_at s who) ≡ at_point (s.errand who) (found_at s who) q
+    → name_of (plan_point_of p) ≡ name.Hazard who → after_action (plan_point_of p) (s.word (name_of (plan_point_of p))) ≡ new
+    → new < 2 ^ 64 → ((l : Lists) → IsSoundWith g s l → GoesHazard g s l who p q new) → Step s who s' → IsSoundWithoutCounts g s'
+store-hazard g s who s' p q new sound has at after is stores below goes step =
+    let n = name_of (plan_point_of (s.errand who).point) in
+    let v = after_action (plan_point_of (s.errand who).point) (s.word n) in
+    let named : n ≡ name.Hazard who = subst (λ r. name_of (plan_point_of r) ≡ name.Hazard who) (sym at) is in
+    let stored : v ≡ new = subst (λ r. after_action (plan_point_of r) (s.word (name_of (plan_point_of r))) ≡ new) (sym at) stores in
+    let w : Writes s.word n v s'.word = step.word in
+    let writes : Writes s.word (name.Hazard who) v s'.word = subst (λ m. Writes s.word m v s'.word) named w in
+    let went = λ (l : Lists) (old : IsSoundWith g s l). subst (λ r. GoesHazard g s l who r q new) (sym at) (goes l old) in
+    step-most g s who s' q sound has
+    (λ l old.
+    let to : GoesHazard g s l who (s.errand who).point q new = went l old in
+    record {
+      after = after;
+      event = to.event;
+      cleared = to.cleared;
+      stands = but-stands g s l who q old has to.holds to.so;
+      weigh = hazard-weighs n who (s.word n) v (s.errand who) (found_at s who) q named to.holds;
+      below = subst (λ v. v < 2 ^ 64) (sym stored) below;
+    })
+    (λ l old. hazard-actives g s l who v s'.word old writes)
+    (λ l old.
+    let to : GoesHazard g s l who (s.errand who).point q new = went l old in
+    record {
+      others = λ i differ. writes.elsewhere (name.Hazard i) (λ same. differ (ap hazard_caller same));
+      guards = subst (MayGuard g s who q (s.errand who).retired) (sym (writes.here ∙ stored)) to.guards;
+    })
+    step
+
+-- at a point at which nothing is pushed and nothing scanned
+pub plain-guards :
+    (g : Geometry) (s : State) (who : ℕ) (q : Point) (retired : List ℕ) (word : ℕ) → IsHazard (holds_of q).hazard word
+    → ((d : ℕ) → word ≡ d + 1 → IsGuard (holds_of q).hazard → Guards s who d ⊎ GuardsAnew g s q d) → pushed_by q ≡ None
+    → passed_by q ≡ 0 → length (held_by q) ≡ 0 → MayGuard g s who q retired word
+plain-guards g s who q retired word hazard guard pushed passed unread = record {
+  hazard = hazard;
+  guard = guard;
+  pushed = λ i d has guards is. absurd (none-some d (sym pushed ∙ is));
+  passed = λ i d has guards listed below. let bad : ⊥ = omega (arith, below, passed) in absurd bad;
+  unread = λ i from below. let bad : ⊥ = omega (arith, below, unread) in absurd bad;
+}
+
+-- the name of a descriptor fits a word
+pub name-below : (g : Geometry) (d : ℕ) → IsChecked g → d < descriptor_count g → d + 1 < 2 ^ 64
+name-below g d checked exists = omega (arith, descriptor_count_within g checked, exists)
+
+-- what a list contains occurs in it
+pub contains-occurs : (xs : List ℕ) (d : ℕ) → Contains xs d → 1 ≤ occurs d xs
+contains-occurs [] d has = omega (arith, has.1)
+contains-occurs (x ∷ xs) d (zero, below, is) = omega (arith, cond-true {A = ℕ} (x == d) 1 0 (eq-eqb x d is))
+contains-occurs (x ∷ xs) d (suc k, below, is) = omega (arith, contains-occurs xs d (k, omega (arith, below), is))
+
+-- what occurs in no caller's list is retired nowhere, and nobody pushes it
+pub unretired :
+    (g : Geometry) (s : State) (l : Lists) (d : ℕ) → IsSoundWith g s l
+    → ((other : ℕ) → other < g.callers → occurs d (s.errand other).retired ≡ 0) → IsUnretired g s d
+unretired g s l d old none =
+    let listed = λ (other : ℕ) (has : other < g.callers) (in_list : Contains (s.errand other).retired d).
+    let bad : ⊥ = omega (arith, contains-occurs (s.errand other).retired d in_list, none other has) in bad in
+    record {
+      pushed = λ other has is.
+          listed other has (subst (λ o. IfSome o (λ k. Contains (s.errand other).retired k)) is (old.errands other has).rule.pushed);
+      listed = listed;
+    }
+
+-- so is one that is available
+pub available-unretired :
+    (g : Geometry) (s : State) (l : Lists) (d : ℕ) → IsSoundWith g s l → d < descriptor_count g → 1 ≤ occurs d l.available
+    → IsUnretired g s d
+unfolding callers_sum
+available-unretired g s l d old exists on =
+    unretired g s l d old
+    (λ other has.
+    let once = old.kept.once d exists in
+    let mine : errand_has d (s.errand other) ≤ callers_sum g (errand_has d) s.errand = term-sum g.callers (λ i. errand_has d (s.errand i)) other has in
+    omega (arith, once, mine, on))
+
+-- and one that has a superblock
+pub bound-unretired :
+    (g : Geometry) (s : State) (l : Lists) (d : ℕ) → IsSoundWith g s l → callers_sum g (errand_away d) s.errand ≡ 0 → IsUnretired g s d
+unfolding callers_sum
+bound-unretired g s l d old none =
+    unretired g s l d old
+    (λ other has.
+    let mine : errand_away d (s.errand other) ≤ callers_sum g (errand_away d) s.errand = term-sum g.callers (λ i. errand_away d (s.errand i)) other has in
+    omega (arith, mine, none))

@@ -1,0 +1,225 @@
+-- A won install leaves each descriptor in one place, as many out for each class, and each frame in one place.
+use Rattle.std.proofs.Common.{ℕ, Some, ◌≡◌, ◌≢◌, ◌<◌, ◌≤◌, ◌+◌, [], refl, arith, ap, sym, subst, inl, inr, ◌∙◌}
+use Rattle.std.specs.Prelude.{◌⊎◌, ◌==◌, All, IsTrue, if◌then◌else◌}
+use Rattle.std.proofs.lemmas.Bool.{cases_eq, cond-true, eq-eqb, ne_eqb}
+use Rattle.std.proofs.lemmas.List.Elements.{All-nil, All-head}
+use Rattle.heap_geometry.specs.declared.geometry.Geometry.{Geometry}
+use Rattle.packed_words.specs.declared.active.ActiveWord.TheVariants.{Null, Held}
+use Rattle.packed_words.specs.declared.anchor.State.TheVariants as phase
+use Rattle.packed_words.specs.Active.{IsActiveWord, active_word}
+use Rattle.word_plan.specs.Counts.{descriptor_count}
+use Rattle.word_plan.specs.declared.seat.Site.{Site}
+use Rattle.word_plan.specs.Seats.{heap_of}
+use Rattle.word_plan.specs.Sites.{active_name}
+use Rattle.superblock_parts.specs.Anchors.{new_credits}
+use Rattle.superblock_parts.specs.Chains.{occurs}
+use Rattle.errand_steps.specs.Errands.{ErrandFields}
+use Rattle.errand_steps.specs.Steps.{State}
+use Rattle.sound_state.specs.Frames.{IsFramed, errand_frames, fills}
+use Rattle.sound_state.specs.Holdings.{Kept, Status, reserving, waiting, partly_used, on_its_way, holds_of}
+use Rattle.sound_state.specs.Keepers.{IsKept, IsPartlyUsed, IsActive, IsWithout, IsKeptAs, places_of, errand_has, full_keeps, word_keeps}
+use Rattle.sound_state.specs.Lists.{Lists}
+use Rattle.sound_state.specs.Sound.{IsSoundWith}
+use Rattle.sound_state.specs.Stock.{IsStocked, stock_of, stock_among, errand_stock, full_stock, word_stock}
+use Rattle.sound_state.specs.Sums.{sum_below}
+use Rattle.sound_state.specs.Superblocks.{anchor_for, info_for, is_bound, waiting_of}
+use Rattle.sound_state.proofs.quiet.QuietCredits.{null-said, null-none, held-said, held-some}
+use Rattle.sound_state.proofs.shared.FrameLemmas.{bound-fills}
+use Rattle.sound_state.proofs.shared.AlikeLemmas.{ActivesKept, each-caller}
+use Rattle.sound_state.proofs.shared.CreditLemmas.{actives-written}
+use Rattle.sound_state.proofs.installs.InstallEffects.{Installs, installing_holds, installed_holds, installed_word}
+use Rattle.sound_state.proofs.installs.InstallFacts.{installed-info, installed-anchor, installed-bound, installed-others, installed-one, installed-back}
+use Rattle.sound_state.proofs.shared.PointLemmas.{kept_places}
+use Rattle.sound_state.proofs.shared.SumLemmas.{callers-moved, sum-change, sum-same, words-written}
+
+-- two states whose descriptors say the same
+pub record SameDescs (s s' : State) : Type 0 where
+  pub info : (d : ℕ) → info_for s' d ≡ info_for s d
+  pub anchor : (d : ℕ) → anchor_for s' d ≡ anchor_for s d
+
+-- so each descriptor is in the same state
+pub active-shown : (s s' : State) → SameDescs s s' → (d c : ℕ) → IsActive s d c → IsActive s' d c
+active-shown s s' h d c k = record {
+  class = ap (λ x. x.class) (h.info d) ∙ k.class;
+  state = ap (λ a. a.state) (h.anchor d) ∙ k.state;
+}
+
+pub partly-shown : (s s' : State) → SameDescs s s' → (d c : ℕ) → IsPartlyUsed s d c → IsPartlyUsed s' d c
+partly-shown s s' h d c k = record {
+  class = ap (λ x. x.class) (h.info d) ∙ k.class;
+  state = subst (λ a. ((a.state ≡ phase.Partial) × (1 ≤ a.count)) ⊎ (a.state ≡ phase.Empty)) (sym (h.anchor d)) k.state;
+}
+
+pub without-shown : (s s' : State) → SameDescs s s' → (d : ℕ) → IsWithout s d → IsWithout s' d
+without-shown s s' h d k = subst (λ a. (a.state ≡ phase.Active) ⊎ (a.state ≡ phase.Empty)) (sym (h.anchor d)) k
+
+pub kept_as-shown : (s s' : State) → SameDescs s s' → (status : Status) (d c : ℕ) → IsKeptAs s status d c → IsKeptAs s' status d c
+kept_as-shown s s' h reserving d c k = active-shown s s' h d c k
+kept_as-shown s s' h waiting d c k = active-shown s s' h d c k
+kept_as-shown s s' h partly_used d c k = partly-shown s s' h d c k
+kept_as-shown s s' h on_its_way d c k = without-shown s s' h d k
+
+pub installed-descs :
+    (g : Geometry) (s : State) (l : Lists) (who : ℕ) (at : Site) (words : ℕ) (e : ErrandFields) (s' : State)
+    → Installs g s l who at words e s' → SameDescs s s'
+installed-descs g s l who at words e s' h = record {
+  info = installed-info g s l who at words e s' h;
+  anchor = installed-anchor g s l who at words e s' h;
+}
+
+-- the descriptor goes from the caller to the word
+places-weigh :
+    (d : ℕ) (at : Site) → IsActiveWord (Held at.desc (new_credits at.seat.class))
+    → word_keeps d (active_name at.seat) (installed_word at)
+    ≡ word_keeps d (active_name at.seat) (active_word Null) + kept_places d (installing_holds at).kept
+places-weigh d at fits =
+    let null = null-said in
+    let held = held-said at.desc (new_credits at.seat.class) fits in
+    rw (null, held) (grind (arith))
+
+stock-weighs :
+    (class : ℕ) (at : Site)
+    → word_stock class (active_name at.seat) (installed_word at)
+    ≡ word_stock class (active_name at.seat) (active_word Null) + stock_among class (installing_holds at).kept
+stock-weighs class at =
+    let some = held-some at.desc (new_credits at.seat.class) in
+    rw (null-none, some) (grind (arith))
+
+installed-places :
+    (g : Geometry) (s : State) (l : Lists) (who : ℕ) (at : Site) (words : ℕ) (e : ErrandFields) (s' : State)
+    → Installs g s l who at words e s' → (d : ℕ) → places_of g s' l d ≡ places_of g s l d
+installed-places g s l who at words e s' h d =
+    let now : errand_has d e ≡ occurs d (s.errand who).retired + kept_places d (installed_holds at).kept =
+    omega (arith, ap (occurs d) h.retired, ap (λ x. kept_places d x.kept) h.holds_after) in
+    let old : errand_has d (s.errand who) ≡ occurs d (s.errand who).retired + kept_places d (installing_holds at).kept =
+    omega (arith, ap (λ x. kept_places d x.kept) h.holds_before) in
+    omega (
+      arith,
+      now,
+      old,
+      callers-moved g (errand_has d) s.errand who e s'.errand h.caller h.moves,
+      words-written g (word_keeps d) s.word (active_name at.seat) (installed_word at) s'.word h.exists h.writes,
+      ap (word_keeps d (active_name at.seat)) h.before,
+      places-weigh d at h.fits,
+      ap (λ x. full_keeps x.state) (installed-anchor g s l who at words e s' h d),
+    )
+
+-- what the active words and the slots hold
+
+held-desc : (d credits e others : ℕ) → Some (Held d credits) ≡ Some (Held e others) → d ≡ e
+held-desc d credits e others same = cc
+
+installed-actives :
+    (g : Geometry) (s : State) (l : Lists) (who : ℕ) (at : Site) (words : ℕ) (e : ErrandFields) (s' : State)
+    → Installs g s l who at words e s' → IsKept g s l → ActivesKept g s s'.word
+installed-actives g s l who at words e s' h kept =
+    let held = held-said at.desc (new_credits at.seat.class) h.fits in
+    let active : IsActive s at.desc at.seat.class =
+    All-head (λ k. IsKeptAs s k.status k.desc k.class) (record { desc = at.desc; class = at.seat.class; status = waiting }) []
+    (subst (λ x. All (λ k. IsKeptAs s k.status k.desc k.class) x.kept) h.holds_before (kept.errand who h.caller)) in
+    actives-written g s l (heap_of at.seat) at.seat.class (installed_word at) s'.word kept h.writes (rw held refl)
+    (λ d credits says.
+    let same : at.desc ≡ d = held-desc at.desc (new_credits at.seat.class) d credits (sym held ∙ says) in
+    (subst (λ k. k < descriptor_count g) same h.site.desc, subst (λ k. IsActive s k at.seat.class) same active))
+
+-- each descriptor still stands in one place, in the state that belongs there
+pub installed-kept :
+    (g : Geometry) (s : State) (l : Lists) (who : ℕ) (at : Site) (words : ℕ) (e : ErrandFields) (s' : State)
+    → Installs g s l who at words e s' → IsSoundWith g s l → IsKept g s' l
+installed-kept g s l who at words e s' h sound =
+    let kept : IsKept g s l = sound.kept in
+    let same = installed-descs g s l who at words e s' h in
+    let actives = installed-actives g s l who at words e s' h kept in
+    record {
+      once = λ d has. installed-places g s l who at words e s' h d ∙ kept.once d has;
+      active_words = actives.active_words;
+      slot_words = actives.slot_words;
+      active = λ heap class d credits has_heap has_class is.
+          let a = actives.active heap class d credits has_heap has_class is in (a.0, active-shown s s' same d class a.1);
+      slot = λ heap class d has_heap has_class is.
+          let a = actives.slot heap class d has_heap has_class is in (a.0, partly-shown s s' same d class a.1);
+      full = λ d has is. ap (λ a. a.count) (same.anchor d) ∙ kept.full d has (ap (λ a. a.state) (sym (same.anchor d)) ∙ is);
+      listed = λ class has k d lt. partly-shown s s' same _ class (kept.listed class has k d lt);
+      available = λ k d lt. without-shown s s' same _ (kept.available k d lt);
+      retired =
+          each-caller g (λ i e. All (IsWithout s') e.retired) s.errand who e s'.errand h.moves
+          (subst (All (IsWithout s')) (sym h.retired) (λ k d lt. without-shown s s' same _ (kept.retired who h.caller k d lt)))
+          (λ i has k d lt. without-shown s s' same _ (kept.retired i has k d lt));
+      errand =
+          each-caller g (λ i e. All (λ k. IsKeptAs s' k.status k.desc k.class) (holds_of e.point).kept) s.errand who e s'.errand h.moves
+          (subst (λ x. All (λ (k : Kept). IsKeptAs s' k.status k.desc k.class) x.kept) (sym h.holds_after)
+          (All-nil (λ (k : Kept). IsKeptAs s' k.status k.desc k.class)))
+          (λ i has k d lt. kept_as-shown s s' same _ _ _ (kept.errand i has k d lt));
+    }
+
+-- so much is out for each class as before
+installed-stock :
+    (g : Geometry) (s : State) (l : Lists) (who : ℕ) (at : Site) (words : ℕ) (e : ErrandFields) (s' : State)
+    → Installs g s l who at words e s' → (class : ℕ) → stock_of g s' l class ≡ stock_of g s l class
+installed-stock g s l who at words e s' h class =
+    let now : errand_stock class e ≡ 0 =
+    omega (arith, ap (λ x. stock_among class x.kept) h.holds_after, h.stands_after.waits class) in
+    let old : errand_stock class (s.errand who) ≡ stock_among class (installing_holds at).kept =
+    omega (arith, ap (λ x. stock_among class x.kept) h.holds_before, h.stands_before.waits class) in
+    let filled : sum_below (descriptor_count g) (full_stock s' class) ≡ sum_below (descriptor_count g) (full_stock s class) =
+    sum-same (descriptor_count g) (full_stock s class) (full_stock s' class)
+    (λ d has. rw (installed-info g s l who at words e s' h d, installed-anchor g s l who at words e s' h d) refl) in
+    omega (
+      arith,
+      now,
+      old,
+      filled,
+      callers-moved g (errand_stock class) s.errand who e s'.errand h.caller h.moves,
+      words-written g (word_stock class) s.word (active_name at.seat) (installed_word at) s'.word h.exists h.writes,
+      ap (word_stock class (active_name at.seat)) h.before,
+      stock-weighs class at,
+    )
+
+pub installed-stocked :
+    (g : Geometry) (s : State) (l : Lists) (who : ℕ) (at : Site) (words : ℕ) (e : ErrandFields) (s' : State)
+    → Installs g s l who at words e s' → IsSoundWith g s l → IsStocked g s' l
+installed-stocked g s l who at words e s' h sound = record {
+  most = λ class has. omega (arith, sound.stocked.most class has, installed-stock g s l who at words e s' h class);
+}
+
+-- the frame goes from the caller's hand to the superblock
+had-frames : (f : ℕ) (at : Site) → ◌≡◌ {A = ℕ} (occurs f (installing_holds at).frames) (if at.frame == f then 1 else 0)
+had-frames f at = grind (arith)
+
+-- a superblock that waits fills nothing
+pub waiting-fills : (g : Geometry) (s : State) (l : Lists) (d f : ℕ) → waiting_of g s d ≡ 1 → fills g s l f d ≡ 0
+waiting-fills g s l d f one = rw one (grind (arith))
+
+fills-frame :
+    (g : Geometry) (s : State) (l : Lists) (d f frame : ℕ) → IsTrue (is_bound g s l d) → waiting_of g s d ≡ 0 → (info_for s d).frame ≡ frame
+    → fills g s l f d ≡ (if frame == f then 1 else 0)
+fills-frame g s l d f frame bound none lies =
+    elim (cases_eq frame f) [
+      | inl same ↦ bound-fills g s l d f bound none (lies ∙ same) ∙ sym (cond-true {A = ℕ} (frame == f) 1 0 (eq-eqb frame f same))
+      | inr differ ↦ rw (lies, ne_eqb frame f differ) (grind (arith))
+    ]
+
+pub installed-framed :
+    (g : Geometry) (s : State) (l : Lists) (who : ℕ) (at : Site) (words : ℕ) (e : ErrandFields) (s' : State)
+    → Installs g s l who at words e s' → IsSoundWith g s l → IsFramed g s' l
+installed-framed g s l who at words e s' h old = record {
+  once = λ f has.
+      let moved = callers-moved g (errand_frames f) s.errand who e s'.errand h.caller h.moves in
+      let now : errand_frames f e ≡ 0 = ap (λ x. occurs f x.frames) h.holds_after in
+      let was : errand_frames f (s.errand who) ≡ (if at.frame == f then 1 else 0) = ap (λ x. occurs f x.frames) h.holds_before ∙ had-frames f at in
+      let elsewhere : (d : ℕ) → d < descriptor_count g → d ≢ at.desc → fills g s' l f d ≡ fills g s l f d =
+      λ d lt differ.
+      rw (
+        installed-bound g s l who at words e s' h d,
+        installed-others g s l who at words e s' h d differ,
+        installed-info g s l who at words e s' h d,
+      ) refl in
+      let changed = sum-change (descriptor_count g) (fills g s l f) (fills g s' l f) at.desc h.site.desc elsewhere in
+      let waited : waiting_of g s at.desc ≡ 1 = (installed-back g s l who at words e s' h old).2 in
+      let empty : fills g s l f at.desc ≡ 0 = waiting-fills g s l at.desc f waited in
+      let filled : fills g s' l f at.desc ≡ (if at.frame == f then 1 else 0) =
+      fills-frame g s' l at.desc f at.frame (subst IsTrue (sym (installed-bound g s l who at words e s' h at.desc)) h.bound)
+      (omega (arith, installed-one g s l who at words e s' h, waited))
+      (ap (λ x. x.frame) (installed-info g s l who at words e s' h at.desc) ∙ h.located.frame) in
+      omega (arith, changed, empty, filled, moved, now, was, old.framed.once f has);
+}

@@ -1,0 +1,11 @@
+pub mod TouchEffects
+pub mod TouchFrees
+pub mod TouchPrefix
+pub mod TouchPrefixes
+pub mod TouchRecalls
+pub mod TouchShelves
+pub mod TouchShown
+pub mod TouchSteps
+pub mod TouchTakes
+pub mod TouchTies
+pub mod TouchWords

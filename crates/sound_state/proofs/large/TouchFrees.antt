@@ -1,0 +1,276 @@
+-- A run that is freed.
+use Rattle.std.proofs.Common.{ℕ, false, None, Some, ◌≡◌, ◌≢◌, ◌<◌, ◌≤◌, ◌+◌, ◌*◌, ◌^◌, [], ◌∷◌, ◌++◌, refl, arith, ap, sym, subst, inl, inr, ◌∙◌}
+use Rattle.std.specs.Prelude.{◌⊎◌, All, Any, IsTrue}
+use Rattle.std.specs.Int.{bit_at}
+use Rattle.std.proofs.lemmas.Bool.{cases_eq, cases_lt, lt-leb}
+use Rattle.std.proofs.lemmas.Nat.{and_le_l}
+use Rattle.std.proofs.lemmas.List.Elements.{All-nil, All-head}
+use Rattle.heap_geometry.specs.declared.geometry.Geometry.{Geometry}
+use Rattle.heap_geometry.specs.declared.need.Need.TheVariants as need
+use Rattle.heap_geometry.specs.Need.{usable_words}
+use Rattle.heap_geometry.specs.Place.{frame_of, unit_place}
+use Rattle.word_plan.specs.declared.name.WordName.TheVariants as name
+use Rattle.word_plan.specs.Words.{Writes}
+use Rattle.large_parts.specs.declared.point.LargePoint.TheVariants as large
+use Rattle.large_parts.specs.Fits.{IsRunAt}
+use Rattle.large_parts.specs.Runs.{RunFields}
+use Rattle.large_parts.specs.Units.{IsInRun, other_bits, without_run}
+use Rattle.large_parts.proofs.UnitLemmas.{without_run-inside, without_run-outside, without_run-below}
+use Rattle.pool_model.specs.declared.event.Event.TheVariants.{Free}
+use Rattle.pool_model.specs.declared.owner.Owner.TheVariants.{Caller, Shelf}
+use Rattle.pool_model.specs.Legal.{IsAllowed, IsLegalEventWithoutCounts, IsLegalWithoutCounts}
+use Rattle.pool_model.specs.Pool.{Block, block_at, without, pool_of}
+use Rattle.pool_model.proofs.HistoryLemmas.{EachAfter-push, pool_of-push}
+use Rattle.pool_model.proofs.PoolLemmas.{place-found, block_at-without_other, block_at-without_same}
+use Rattle.pool_model.proofs.WellFormedLemmas.{sound-of, sound-differ}
+use Rattle.errand_steps.specs.declared.onward.Onward.{Onward}
+use Rattle.errand_steps.specs.declared.point.Point.{Point}
+use Rattle.errand_steps.specs.declared.point.Point.TheVariants.{Idle, Large}
+use Rattle.errand_steps.specs.declared.reply.Reply.TheVariants as reply
+use Rattle.errand_steps.specs.Errands.{ErrandFields}
+use Rattle.errand_steps.specs.Events.{event_of}
+use Rattle.errand_steps.specs.Nexts.{next_of}
+use Rattle.errand_steps.specs.Points.{plan_point_of}
+use Rattle.errand_steps.specs.Steps.{State, Step}
+use Rattle.sound_state.specs.Holdings.{holds_of, freed}
+use Rattle.sound_state.specs.Lists.{Lists}
+use Rattle.sound_state.specs.Recalls.{IsOwned}
+use Rattle.sound_state.specs.Sound.{IsSoundWithoutCounts, IsSoundWith}
+use Rattle.sound_state.specs.Superblocks.{is_there}
+use Rattle.sound_state.specs.Ties.{IsLive, IsTied, IsExcepted, IsCovered}
+use Rattle.sound_state.proofs.pops.PopTurns.{each-other}
+use Rattle.sound_state.proofs.shared.AlikeLemmas.{Excepts}
+use Rattle.sound_state.proofs.shared.OverlapLemmas.{live-apart}
+use Rattle.sound_state.proofs.shared.PointLemmas.{fits-at, frees-at}
+use Rattle.sound_state.proofs.large.TouchEffects.{IsAside, Touches, sound-touched, touched-bound, located-touched, owned-touched}
+use Rattle.sound_state.proofs.large.TouchPrefix.{any-one, frame-before}
+use Rattle.sound_state.proofs.large.TouchPrefixes.{info-frame}
+use Rattle.sound_state.proofs.large.TouchShelves.{idle-aside, idle-bare, idle-recalls}
+use Rattle.sound_state.proofs.large.TouchSteps.{IsAsideEvent, TouchesAt, leaves-event, stays-still, touched-step}
+use Rattle.sound_state.proofs.large.TouchTies.{IsBareHanded, excepted-touched, tie-stays}
+
+-- a unit is one of a run's, or none
+pub cases_run : (first units i : ℕ) → IsInRun first units i ⊎ (IsInRun first units i → ⊥)
+cases_run first units i =
+    elim (cases_lt i first) [
+      | inl before ↦ inr (λ h. omega (arith, before, h.from))
+      | inr from ↦
+          elim (cases_lt i (first + units)) [
+            | inl below ↦ inl (record { from = from; below = below })
+            | inr past ↦ inr (λ h. omega (arith, past, h.below))
+          ]
+    ]
+
+-- two live runs at different places have no unit in common
+pub runs-apart :
+    (g : Geometry) (s : State) → IsSoundWithoutCounts g s → (first other units more unit : ℕ) (a b : Block) → IsLive s (unit_place g.frames first) a
+    → IsLive s (unit_place g.frames other) b → a.need ≡ need.Large units → b.need ≡ need.Large more
+    → unit_place g.frames first ≢ unit_place g.frames other → first ≤ unit → unit < first + units → other ≤ unit → unit < other + more → ⊥
+runs-apart g s sound first other units more unit a b at_a at_b of_a of_b ne from below from_b below_b =
+    let here_a : a.place ≡ unit_place g.frames first = place-found _ (pool_of s.history) a at_a in
+    let here_b : b.place ≡ unit_place g.frames other = place-found _ (pool_of s.history) b at_b in
+    let words_a : usable_words a.need ≡ usable_words (need.Large units) = ap usable_words of_a in
+    let words_b : usable_words b.need ≡ usable_words (need.Large more) = ap usable_words of_b in
+    elim (live-apart g s sound (unit_place g.frames first) (unit_place g.frames other) a b at_a at_b ne) [
+      | inl before ↦ omega (arith, before, here_a, here_b, words_a, words_b, from, below, from_b, below_b)
+      | inr after ↦ omega (arith, after, here_a, here_b, words_a, words_b, from, below, from_b, below_b)
+    ]
+
+free-aside : (place : ℕ) (run : RunFields) (o : Onward) → IsAside (Large (large.FreeRun place run) o)
+unfolding holds_of
+free-aside place run o = grind (arith)
+
+-- who frees a run excepts nothing
+free-excepts : (e : ErrandFields) (place : ℕ) (run : RunFields) (o : Onward) (p : ℕ) → e.point ≡ Large (large.FreeRun place run) o → Excepts e p → ⊥
+unfolding holds_of
+free-excepts e place run o p at (inl x) =
+    let none : Any (λ b. b.place ≡ p) [] = subst (λ q. Any (λ b. b.place ≡ p) (holds_of q).hands) at x in omega (arith, none.2)
+free-excepts e place run o p at (inr x) =
+    let one : Any (λ b. (b.place ≡ p) × IsTrue b.overwritten) (freed place (need.Large run.units) false) =
+    subst (λ q. Any (λ b. (b.place ≡ p) × IsTrue b.overwritten) (holds_of q).frees) at x in
+    let is = any-one _ (λ b. (b.place ≡ p) × IsTrue b.overwritten) _ one in
+    let bad : IsTrue false = is.1 in absurd (cc)
+
+-- a run lies behind the frames
+behind : (frames first : ℕ) → frames < frame_of (unit_place frames first) + 1
+behind frames first = omega arith
+
+free-event : (g : Geometry) (who place first : ℕ) → place ≡ unit_place g.frames first → IsAsideEvent g who (Free who place)
+free-event g who place first is = record {
+  caller = refl;
+  gives = λ i. refl;
+  refuses = λ i. refl;
+  allocs = refl;
+  freed = lt-leb (frame_of place + 1) g.frames (subst (λ p. g.frames < frame_of p + 1) (sym is) (behind g.frames first));
+}
+
+free-touches :
+    (g : Geometry) (s : State) (l : Lists) (who place : ℕ) (run : RunFields) (o : Onward) → IsSoundWith g s l → IsRunAt g place run
+    → IsAllowed g s.history (Free who place)
+    → TouchesAt g s l who (Large (large.FreeRun place run) o) Idle name.Units (without_run (s.word name.Units) run.first run.units)
+    (s.history ++ Free who place ∷ [])
+unfolding plan_point_of next_of event_of
+free-touches g s l who place run o old fit allowed = record {
+  leads = inr (reply.Freed, refl, refl);
+  here = refl;
+  written = refl;
+  below = without_run-below (s.word name.Units) run.first run.units (old.words name.Units);
+  touched = λ away. away;
+  lost = refl;
+  cleared = refl;
+  told = refl;
+  leaves =
+      leaves-event g s l who (Free who place) (free-event g who place run.first fit.place) allowed
+      (λ d i has bound lt.
+      ap is_there
+      (block_at-without_other place _ (pool_of s.history)
+      (λ same. frame-before g.frames _ _ i run.first (info-frame g s l d old has) lt (same ∙ fit.place))));
+  before = free-aside place run o;
+  after = idle-aside;
+  recalls = idle-recalls;
+  prefixes = λ words' w d i has bound lt. w.elsewhere _ (λ same. cc);
+  stays = λ words' w i has differ. stays-still g s name.Units _ words' w (λ p same. cc) (λ away. away) (s.errand i).point;
+}
+
+-- a block is gone, and all other places are as they were
+pub record Goes (s s' : State) (at : ℕ) (a : Block) : Type 0 where
+  pub was : IsLive s at a
+  pub gone : block_at at (pool_of s'.history) ≡ None
+  pub elsewhere : (p : ℕ) → p ≢ at → block_at p (pool_of s'.history) ≡ block_at p (pool_of s.history)
+
+ne-some : (b : Block) → None ≡ Some b → ⊥
+ne-some b bad = cc
+
+-- the freed units are clear and uncovered, and the others as they were
+free-uncovers :
+    (g : Geometry) (s s' : State) (place : ℕ) (run : RunFields) (unit : ℕ) (l : Lists) → IsSoundWithoutCounts g s → IsSoundWith g s l → IsRunAt g place run
+    → Writes s.word name.Units (without_run (s.word name.Units) run.first run.units) s'.word → (a : Block) → a.need ≡ need.Large run.units
+    → Goes s s' place a → (bit_at (s.word name.Units) unit ≡ 1 → IsCovered g s unit) → bit_at (s'.word name.Units) unit ≡ 1 → IsCovered g s' unit
+free-uncovers g s s' place run unit l sound old fit w a of c was bit =
+    let taken : bit_at (without_run (s.word name.Units) run.first run.units) unit ≡ 1 = ap (λ x. bit_at x unit) (sym w.here) ∙ bit in
+    elim (cases_run run.first run.units unit) [
+      | inl inside ↦
+          absurd (omega (arith, taken, without_run-inside (s.word name.Units) run.first run.units unit fit.run.within (old.words name.Units) inside))
+      | inr outside ↦
+          let k = was (sym (without_run-outside (s.word name.Units) run.first run.units unit fit.run.within (old.words name.Units) outside) ∙ taken) in
+          let ne : unit_place g.frames k.1 ≢ place =
+          λ same.
+          let firsts : k.1 ≡ run.first = omega (arith, same, fit.place) in
+          let one : Some a ≡ Some k.0 = sym c.was ∙ ap (λ q. block_at q (pool_of s.history)) (sym same) ∙ k.3 in
+          let blocks : a ≡ k.0 = cc in
+          let needs : need.Large run.units ≡ need.Large k.2 = sym of ∙ ap (λ (x : Block). x.need) blocks ∙ k.4 in
+          let units : run.units ≡ k.2 = cc in
+          outside (record { from = omega (arith, firsts, k.5); below = omega (arith, firsts, units, k.6) }) in
+          (k.0, k.1, k.2, c.elsewhere (unit_place g.frames k.1) ne ∙ k.3, k.4, k.5, k.6)
+    ]
+
+free-covers :
+    (g : Geometry) (s s' : State) (place : ℕ) (run : RunFields) (unit : ℕ) (l : Lists) → IsSoundWithoutCounts g s → IsSoundWith g s l → IsRunAt g place run
+    → Writes s.word name.Units (without_run (s.word name.Units) run.first run.units) s'.word → (a : Block) → a.need ≡ need.Large run.units
+    → Goes s s' place a → (IsCovered g s unit → bit_at (s.word name.Units) unit ≡ 1) → IsCovered g s' unit → bit_at (s'.word name.Units) unit ≡ 1
+free-covers g s s' place run unit l sound old fit w a of c was k =
+    let ne : unit_place g.frames k.1 ≢ place =
+    λ same. ne-some k.0 (sym c.gone ∙ ap (λ q. block_at q (pool_of s'.history)) (sym same) ∙ k.3) in
+    let live : IsLive s (unit_place g.frames k.1) k.0 = sym (c.elsewhere (unit_place g.frames k.1) ne) ∙ k.3 in
+    elim (cases_run run.first run.units unit) [
+      | inl inside ↦
+          absurd
+          (runs-apart g s sound k.1 run.first k.2 run.units unit k.0 a live (subst (λ q. IsLive s q a) fit.place c.was) k.4 of
+          (λ same. ne (same ∙ sym fit.place)) k.5 k.6 inside.from inside.below)
+      | inr outside ↦
+          ap (λ x. bit_at x unit) w.here
+          ∙ without_run-outside (s.word name.Units) run.first run.units unit fit.run.within (old.words name.Units) outside
+          ∙ was (k.0, k.1, k.2, live, k.4, k.5, k.6)
+    ]
+
+free-tied :
+    (g : Geometry) (s : State) (l : Lists) (who place : ℕ) (run : RunFields) (o : Onward) (s' : State) (e : ErrandFields) → Touches g s l who e s'
+    → IsSoundWithoutCounts g s → IsSoundWith g s l → (s.errand who).point ≡ Large (large.FreeRun place run) o → IsRunAt g place run
+    → Writes s.word name.Units (without_run (s.word name.Units) run.first run.units) s'.word → IsBareHanded e.point
+    → (a : Block) → a.owner ≡ Caller who → a.need ≡ need.Large run.units → Goes s s' place a → IsTied g s' l
+free-tied g s l who place run o s' e h sound old at fit w bare_after a owned of c =
+    let tied = old.tied in
+    let differs = λ (p : ℕ) (b : Block) (live : IsLive s' p b) (same : p ≡ place).
+    let bad : None ≡ Some b = sym c.gone ∙ ap (λ q. block_at q (pool_of s'.history)) (sym same) ∙ live in ne-some b bad in
+    let was = λ (p : ℕ) (b : Block) (live : IsLive s' p b). sym (c.elsewhere p (differs p b live)) ∙ live in
+    let arena = λ (p : ℕ). w.elsewhere (name.Arena p) (λ same. cc) in
+    let tie = λ (p v : ℕ) (x : IsExcepted g s p ⊎ (s.word (name.Arena p) ≡ v)).
+    tie-stays g s s' p v (excepted-touched g s l who e s' h p (λ excepts. absurd (free-excepts (s.errand who) place run o p at excepts))) (arena p) x in
+    record {
+      small = λ p class b live is.
+          let t = tied.small p class b (was p b live) is in (
+            t.0,
+            record {
+              exists = t.1.exists;
+              bound = subst IsTrue (sym (touched-bound g s l who e s' h t.0)) t.1.bound;
+              located = located-touched g s l who e s' h t.0 (frame_of p) class t.1.located;
+            },
+            tie p (2 * t.0) t.2,
+          );
+      large = λ p n b live is. tie p (2 * n + 1) (tied.large p n b (was p b live) is);
+      units = λ unit has.
+          let t = tied.units unit has in (
+            free-uncovers g s s' place run unit l sound old fit w a of c t.0,
+            free-covers g s s' place run unit l sound old fit w a of c t.1,
+          );
+      no_more_units =
+          subst (λ x. x < 2 ^ g.units) (sym w.here)
+          (omega (arith, tied.no_more_units, and_le_l (s.word name.Units) (other_bits run.first run.units)));
+      shelved = λ k p b has live on. w.elsewhere (name.Shelf k) (λ same. cc) ∙ tied.shelved k p b has (was p b live) on;
+      bare_shelf = λ k has none.
+          w.elsewhere (name.Shelf k) (λ same. cc)
+          ∙ tied.bare_shelf k has
+          (λ p b live on.
+          elim (cases_eq p place) [
+            | inl here ↦
+                let one : Some a ≡ Some b = sym c.was ∙ ap (λ q. block_at q (pool_of s.history)) (sym here) ∙ live in
+                let same : a ≡ b = cc in
+                let owners : Caller who ≡ Shelf k = sym owned ∙ ap (λ (y : Block). y.owner) same ∙ on in
+                absurd (cc)
+            | inr ne ↦ none p b (c.elsewhere p ne ∙ live) on
+          ]);
+      contents = λ p i v b live written. arena (p + 1 + i) ∙ tied.contents p i v b (was p b live) written;
+      hands =
+          each-other g (λ i e. All (λ x. IsOwned s' i x.place x.need) (holds_of e.point).hands) s.errand who e s'.errand h.moves
+          (subst (All (λ x. IsOwned s' who x.place x.need)) (sym bare_after.hands) (All-nil (λ x. IsOwned s' who x.place x.need)))
+          (λ i has differ k d lt. owned-touched g s l who e s' h i _ _ differ (tied.hands i has k d lt));
+      frees =
+          each-other g (λ i e. All (λ x. IsOwned s' i x.place x.need) (holds_of e.point).frees) s.errand who e s'.errand h.moves
+          (subst (All (λ x. IsOwned s' who x.place x.need)) (sym bare_after.frees) (All-nil (λ x. IsOwned s' who x.place x.need)))
+          (λ i has differ k d lt. owned-touched g s l who e s' h i _ _ differ (tied.frees i has k d lt));
+    }
+
+pub free_run-sound :
+    (g : Geometry) (s : State) (who : ℕ) (s' : State) (place : ℕ) (run : RunFields) (o : Onward) → IsSoundWithoutCounts g s → who < g.callers
+    → (s.errand who).point ≡ Large (large.FreeRun place run) o → Step s who s' → IsSoundWithoutCounts g s'
+unfolding holds_of
+free_run-sound g s who s' place run o sound has at step =
+    let l = sound.parts.0 in
+    let old = sound.parts.1 in
+    let p : Point = Large (large.FreeRun place run) o in
+    let fit = fits-at g s l who p old has at in
+    let owned : IsOwned s who place (need.Large run.units) =
+    All-head (λ x. IsOwned s who x.place x.need) (record { place = place; need = need.Large run.units; overwritten = false }) [] (frees-at g s l who p old has at) in
+    let a : Block = owned.block.0 in
+    let allowed : IsAllowed g s.history (Free who place) = (a, owned.block.1, owned.block.2) in
+    let t =
+    touched-step g s l who s' p Idle name.Units (without_run (s.word name.Units) run.first run.units) (s.history ++ Free who place ∷ []) old has at
+    (free-touches g s l who place run o old fit.point allowed) step in
+    let pool : pool_of s'.history ≡ without place (pool_of s.history) = ap pool_of t.history ∙ pool_of-push s.history (Free who place) in
+    let c : Goes s s' place a = record {
+      was = owned.block.1;
+      gone =
+          ap (block_at place) pool
+          ∙ block_at-without_same place (pool_of s.history)
+          (sound-differ g (pool_of s.history) (sound-of g s.history sound.legal));
+      elsewhere = λ q ne. ap (block_at q) pool ∙ block_at-without_other place q (pool_of s.history) ne;
+    } in
+    record {
+      checked = sound.checked;
+      legal = subst (IsLegalWithoutCounts g) (sym t.history) (EachAfter-push (IsLegalEventWithoutCounts g) s.history (Free who place) sound.legal (has, allowed));
+      parts = (
+        l,
+        sound-touched g s l who _ s' t.touches old
+            (free-tied g s l who place run o s' _ t.touches sound old at fit.point t.word idle-bare a owned.block.2 owned.block.3 c),
+      );
+    }

@@ -1,0 +1,239 @@
+-- The prefix word of a run that is handed out.
+use Rattle.std.proofs.Common.{ℕ, zero, suc, Option, None, Some, ◌≡◌, ◌≢◌, ◌<◌, ◌≤◌, ◌+◌, ◌*◌, ◌^◌, List, [], ◌∷◌, length, refl, arith, ap, sym, subst, inl, inr, ◌∙◌}
+use Rattle.std.specs.Prelude.{◌⊎◌, All, Any, IsTrue, slice_index_or}
+use Rattle.std.specs.Int.{bit_at}
+use Rattle.std.proofs.lemmas.Bool.{cases_eq}
+use Rattle.std.proofs.lemmas.Nat.{pow_pos}
+use Rattle.std.proofs.lemmas.List.Elements.{All-nil, All-head}
+use Rattle.heap_geometry.specs.declared.geometry.Geometry.{Geometry}
+use Rattle.heap_geometry.specs.declared.need.Need.TheVariants as need
+use Rattle.heap_geometry.specs.Need.{block_count_of, usable_words}
+use Rattle.heap_geometry.specs.Place.{block_place, frame_of, unit_place}
+use Rattle.heap_geometry.proofs.PlaceLemmas.{block-within}
+use Rattle.packed_words.specs.declared.prefix.Prefix.TheVariants as prefix
+use Rattle.packed_words.specs.Prefix.{prefix_word}
+use Rattle.word_plan.specs.declared.name.WordName.{WordName}
+use Rattle.word_plan.specs.declared.name.WordName.TheVariants as name
+use Rattle.word_plan.specs.Words.{Writes}
+use Rattle.large_parts.specs.declared.point.LargePoint.TheVariants as large
+use Rattle.large_parts.specs.Fits.{IsRunAt}
+use Rattle.large_parts.specs.Runs.{RunFields}
+use Rattle.pool_model.specs.Pool.{Block, block_at, pool_of}
+use Rattle.pool_model.specs.WellFormed.{IsWellFormed}
+use Rattle.pool_model.specs.Legal.{IsLegalWithoutCounts}
+use Rattle.pool_model.proofs.PoolLemmas.{every-found, place-found}
+use Rattle.pool_model.proofs.WellFormedLemmas.{sound-of}
+use Rattle.errand_steps.specs.declared.onward.Onward.{Onward}
+use Rattle.errand_steps.specs.declared.point.Point.{Point}
+use Rattle.errand_steps.specs.declared.point.Point.TheVariants.{Idle, Large}
+use Rattle.errand_steps.specs.declared.reply.Reply.TheVariants as reply
+use Rattle.errand_steps.specs.Errands.{ErrandFields}
+use Rattle.errand_steps.specs.Events.{event_of}
+use Rattle.errand_steps.specs.Nexts.{next_of}
+use Rattle.errand_steps.specs.Points.{plan_point_of}
+use Rattle.errand_steps.specs.Steps.{State, Step}
+use Rattle.sound_state.specs.Holdings.{holds_of, run_handed}
+use Rattle.sound_state.specs.Lists.{Lists}
+use Rattle.sound_state.specs.Recalls.{IsOwned}
+use Rattle.sound_state.specs.Sound.{IsSoundWithoutCounts, IsSoundWith}
+use Rattle.sound_state.specs.Ties.{IsLive, IsTied, IsExcepted}
+use Rattle.sound_state.proofs.pops.PopTurns.{each-other}
+use Rattle.sound_state.proofs.shared.AlikeLemmas.{Excepts}
+use Rattle.sound_state.proofs.shared.OverlapLemmas.{live-apart}
+use Rattle.sound_state.proofs.shared.PointLemmas.{fits-at, hands-at}
+use Rattle.sound_state.proofs.large.TouchEffects.{IsAwayWord, IsAside, Touches, sound-touched, touched-bound, located-touched, owned-touched}
+use Rattle.sound_state.proofs.large.TouchPrefixes.{KeepsPrefixes, prefixes-stay, info-frame}
+use Rattle.sound_state.proofs.large.TouchShelves.{idle-aside, idle-bare, idle-recalls}
+use Rattle.sound_state.proofs.large.TouchSteps.{TouchesAt, leaves-same, touched-step}
+use Rattle.sound_state.proofs.large.TouchTies.{IsBareHanded, excepted-touched, tie-stays}
+
+-- the place of a word of the arena
+abbrev pub arena_place : WordName → ℕ
+arena_place (name.Arena p) = p
+arena_place n = 0
+
+-- a block of a frame lies before the units
+pub frame-before : (frames f c i first : ℕ) → f < frames → i < block_count_of c → block_place f c i ≢ unit_place frames first
+frame-before frames f c i first has within same = omega (arith, has, same, block-within c i within, pow_pos (c + 1))
+
+-- what was written is one of the block's words
+written-within : (xs : List (Option ℕ)) (i v : ℕ) → slice_index_or xs i None ≡ Some v → i < length xs
+written-within [] i v is = let bad : ◌≡◌ {A = Option ℕ} None (Some v) = is in absurd (cc)
+written-within (x ∷ xs) zero v is = omega arith
+written-within (x ∷ xs) (suc i) v is = omega (arith, written-within xs i v is)
+
+pub written-usable :
+    (g : Geometry) (s : State) → IsSoundWithoutCounts g s → (p i v : ℕ) (b : Block) → IsLive s p b → slice_index_or b.contents i None ≡ Some v → i < usable_words b.need
+written-usable g s sound p i v b live is =
+    let formed : IsWellFormed g b = every-found (IsWellFormed g) p (pool_of s.history) b (sound-of g s.history sound.legal).each live in
+    omega (arith, formed.full, written-within b.contents i v is)
+
+-- words of two live blocks differ
+pub words-apart :
+    (g : Geometry) (s : State) → IsSoundWithoutCounts g s → (p q i j : ℕ) (a b : Block) → IsLive s p a → IsLive s q b → p ≢ q → i ≤ usable_words a.need
+    → j ≤ usable_words b.need → p + i ≢ q + j
+words-apart g s sound p q i j a b at_p at_q ne of_a of_b same =
+    let here_p : a.place ≡ p = place-found p (pool_of s.history) a at_p in
+    let here_q : b.place ≡ q = place-found q (pool_of s.history) b at_q in
+    elim (live-apart g s sound p q a b at_p at_q ne) [
+      | inl before ↦ omega (arith, before, here_p, here_q, of_a, of_b, same)
+      | inr after ↦ omega (arith, after, here_p, here_q, of_a, of_b, same)
+    ]
+
+-- where a word behind the frames is written, no block of a frame is touched
+pub behind-keeps :
+    (g : Geometry) (s : State) (l : Lists) (who first new : ℕ) (words : WordName → ℕ) → IsSoundWith g s l
+    → Writes s.word (name.Arena (unit_place g.frames first)) new words → KeepsPrefixes g s l who words
+behind-keeps g s l who first new words old w = record {
+  away = λ n away. w.elsewhere n (λ same. let bad : ⊥ = subst IsAwayWord same away in bad);
+  bound = λ d i has bound lt.
+      w.elsewhere _ (λ same. frame-before g.frames _ _ i first (info-frame g s l d old has) lt (ap arena_place same));
+  making = λ i f c k has other within hand none lt. w.elsewhere _ (λ same. frame-before g.frames f c k first within lt (ap arena_place same));
+}
+
+run-word : (units : ℕ) → prefix_word (prefix.Large units) ≡ 2 * units + 1
+unfolding prefix_word
+run-word units = omega arith
+
+pub prefix-aside : (place : ℕ) (run : RunFields) (o : Onward) → IsAside (Large (large.StoreRunPrefix place run) o)
+unfolding holds_of
+prefix-aside place run o = grind (arith)
+
+prefix-touches :
+    (g : Geometry) (s : State) (l : Lists) (who place : ℕ) (run : RunFields) (o : Onward) → IsSoundWith g s l → IsRunAt g place run
+    → TouchesAt g s l who (Large (large.StoreRunPrefix place run) o) Idle (name.Arena place) (prefix_word (prefix.Large run.units)) s.history
+unfolding plan_point_of next_of event_of
+prefix-touches g s l who place run o old fit = record {
+  leads = inr (reply.Given place (need.Large run.units), refl, refl);
+  here = refl;
+  written = refl;
+  below = omega (arith, run-word run.units, fit.run.within);
+  touched = λ away. away;
+  lost = refl;
+  cleared = refl;
+  told = refl;
+  leaves = leaves-same g s l who;
+  before = prefix-aside place run o;
+  after = idle-aside;
+  recalls = idle-recalls;
+  prefixes = λ words' w d i has bound lt.
+      let at : Writes s.word (name.Arena (unit_place g.frames run.first)) (prefix_word (prefix.Large run.units)) words' =
+      subst (λ p. Writes s.word (name.Arena p) (prefix_word (prefix.Large run.units)) words') fit.place w in
+      (behind-keeps g s l who run.first (prefix_word (prefix.Large run.units)) words' old at).bound d i has bound lt;
+  stays = λ words' w i has differ.
+      let at : Writes s.word (name.Arena (unit_place g.frames run.first)) (prefix_word (prefix.Large run.units)) words' =
+      subst (λ p. Writes s.word (name.Arena p) (prefix_word (prefix.Large run.units)) words') fit.place w in
+      prefixes-stay g s l who words' (behind-keeps g s l who run.first (prefix_word (prefix.Large run.units)) words' old at) old i has differ;
+}
+
+-- a list of one has that one
+pub any-one : (X : Type 0) (P : X → Type 0) (x : X) → Any P (x ∷ []) → P x
+any-one X P x (zero, y, lt, at, is) = subst P (sym at) is
+any-one X P x (suc i, y, lt, at, is) = absurd (omega (arith, lt))
+
+-- the caller excepts the run alone
+excepts-run : (e : ErrandFields) (place : ℕ) (run : RunFields) (o : Onward) (p : ℕ) → e.point ≡ Large (large.StoreRunPrefix place run) o → Excepts e p → place ≡ p
+unfolding holds_of
+excepts-run e place run o p at (inl x) =
+    let one : Any (λ b. b.place ≡ p) (run_handed place run.units) = subst (λ q. Any (λ b. b.place ≡ p) (holds_of q).hands) at x in
+    any-one _ (λ b. b.place ≡ p) _ one
+excepts-run e place run o p at (inr x) =
+    let none : Any (λ b. (b.place ≡ p) × IsTrue b.overwritten) [] = subst (λ q. Any (λ b. (b.place ≡ p) × IsTrue b.overwritten) (holds_of q).frees) at x in
+    omega (arith, none.2)
+
+-- after the store the run's word says it, and all else shows the pool as before
+prefix-tied :
+    (g : Geometry) (s : State) (l : Lists) (who place : ℕ) (run : RunFields) (o : Onward) (s' : State) (e : ErrandFields) → Touches g s l who e s'
+    → IsSoundWithoutCounts g s → IsSoundWith g s l → (s.errand who).point ≡ Large (large.StoreRunPrefix place run) o
+    → IsOwned s who place (need.Large run.units) → Writes s.word (name.Arena place) (prefix_word (prefix.Large run.units)) s'.word
+    → s'.history ≡ s.history → IsBareHanded e.point → IsTied g s' l
+prefix-tied g s l who place run o s' e h sound old at owned w past bare_after =
+    let tied = old.tied in
+    let pool = λ (p : ℕ). ap (λ xs. block_at p (pool_of xs)) past in
+    let was = λ (p : ℕ) (b : Block) (live : IsLive s' p b). sym (pool p) ∙ live in
+    let run_is = λ (p : ℕ) (b : Block) (here : p ≡ place) (live : IsLive s p b).
+    let one : Some owned.block.0 ≡ Some b = sym owned.block.1 ∙ ap (λ q. block_at q (pool_of s.history)) (sym here) ∙ live in
+    let same : owned.block.0 ≡ b = cc in
+    ap (λ (x : Block). x.need) (sym same) ∙ owned.block.3 in
+    let tie = λ (p v : ℕ) (ne : p ≢ place) (x : IsExcepted g s p ⊎ (s.word (name.Arena p) ≡ v)).
+    tie-stays g s s' p v
+    (excepted-touched g s l who e s' h p (λ excepts. absurd (ne (sym (excepts-run (s.errand who) place run o p at excepts)))))
+    (w.elsewhere (name.Arena p) (λ same. ne (ap arena_place same))) x in
+    record {
+      small = λ p class b live is.
+          let t = tied.small p class b (was p b live) is in
+          elim (cases_eq p place) [
+            | inl here ↦ let bad : need.Small class ≡ need.Large run.units = sym is ∙ run_is p b here (was p b live) in absurd (cc)
+            | inr ne ↦ (
+              t.0,
+              record {
+                exists = t.1.exists;
+                bound = subst IsTrue (sym (touched-bound g s l who e s' h t.0)) t.1.bound;
+                located = located-touched g s l who e s' h t.0 (frame_of p) class t.1.located;
+              },
+              tie p (2 * t.0) ne t.2,
+            )
+          ];
+      large = λ p n b live is.
+          elim (cases_eq p place) [
+            | inl here ↦
+                let needs : need.Large n ≡ need.Large run.units = sym is ∙ run_is p b here (was p b live) in
+                let units : run.units ≡ n = cc in
+                inr (ap (λ q. s'.word (name.Arena q)) here ∙ w.here ∙ run-word run.units ∙ ap (λ m. 2 * m + 1) units)
+            | inr ne ↦ tie p (2 * n + 1) ne (tied.large p n b (was p b live) is)
+          ];
+      units = λ unit has.
+          let t = tied.units unit has in
+          let units : s'.word name.Units ≡ s.word name.Units = w.elsewhere name.Units (λ same. cc) in (
+            λ bit.
+                let c = t.0 (ap (λ x. bit_at x unit) (sym units) ∙ bit) in
+                (c.0, c.1, c.2, pool (unit_place g.frames c.1) ∙ c.3, c.4, c.5, c.6),
+            λ c.
+                ap (λ x. bit_at x unit) units ∙ t.1 (c.0, c.1, c.2, was (unit_place g.frames c.1) c.0 c.3, c.4, c.5, c.6),
+          );
+      no_more_units = subst (λ x. x < 2 ^ g.units) (sym (w.elsewhere name.Units (λ same. cc))) tied.no_more_units;
+      shelved = λ k p b has live on. w.elsewhere (name.Shelf k) (λ same. cc) ∙ tied.shelved k p b has (was p b live) on;
+      bare_shelf = λ k has none.
+          w.elsewhere (name.Shelf k) (λ same. cc) ∙ tied.bare_shelf k has (λ p b live on. none p b (pool p ∙ live) on);
+      contents = λ p i v b live written.
+          let old_live : IsLive s p b = was p b live in
+          let apart : p + 1 + i ≢ place =
+          elim (cases_eq p place) [
+            | inl here ↦ λ same. omega (arith, here, same)
+            | inr ne ↦ λ same.
+                words-apart g s sound p place (1 + i) 0 b owned.block.0 old_live owned.block.1 ne
+                (omega (arith, written-usable g s sound p i v b old_live written)) (omega arith) (omega (arith, same))
+          ] in
+          w.elsewhere (name.Arena (p + 1 + i)) (λ same. apart (ap arena_place same)) ∙ tied.contents p i v b old_live written;
+      hands =
+          each-other g (λ i e. All (λ x. IsOwned s' i x.place x.need) (holds_of e.point).hands) s.errand who e s'.errand h.moves
+          (subst (All (λ x. IsOwned s' who x.place x.need)) (sym bare_after.hands) (All-nil (λ x. IsOwned s' who x.place x.need)))
+          (λ i has differ k d lt. owned-touched g s l who e s' h i _ _ differ (tied.hands i has k d lt));
+      frees =
+          each-other g (λ i e. All (λ x. IsOwned s' i x.place x.need) (holds_of e.point).frees) s.errand who e s'.errand h.moves
+          (subst (All (λ x. IsOwned s' who x.place x.need)) (sym bare_after.frees) (All-nil (λ x. IsOwned s' who x.place x.need)))
+          (λ i has differ k d lt. owned-touched g s l who e s' h i _ _ differ (tied.frees i has k d lt));
+    }
+
+pub store_run_prefix-sound :
+    (g : Geometry) (s : State) (who : ℕ) (s' : State) (place : ℕ) (run : RunFields) (o : Onward) → IsSoundWithoutCounts g s → who < g.callers
+    → (s.errand who).point ≡ Large (large.StoreRunPrefix place run) o → Step s who s' → IsSoundWithoutCounts g s'
+unfolding holds_of
+store_run_prefix-sound g s who s' place run o sound has at step =
+    let l = sound.parts.0 in
+    let old = sound.parts.1 in
+    let p : Point = Large (large.StoreRunPrefix place run) o in
+    let fit = fits-at g s l who p old has at in
+    let owned : IsOwned s who place (need.Large run.units) =
+    All-head (λ x. IsOwned s who x.place x.need) (record { place = place; need = need.Large run.units }) [] (hands-at g s l who p old has at) in
+    let t =
+    touched-step g s l who s' p Idle (name.Arena place) (prefix_word (prefix.Large run.units)) s.history old has at
+    (prefix-touches g s l who place run o old fit.point) step in
+    record {
+      checked = sound.checked;
+      legal = subst (IsLegalWithoutCounts g) (sym t.history) sound.legal;
+      parts = (
+        l,
+        sound-touched g s l who _ s' t.touches old (prefix-tied g s l who place run o s' _ t.touches sound old at owned t.word t.history idle-bare),
+      );
+    }

@@ -1,0 +1,150 @@
+-- A word of the arena that is no block's prefix word in a frame at work: what is remembered of superblocks stays where it changes.
+use Rattle.std.proofs.Common.{ℕ, ◌≡◌, ◌≢◌, ◌<◌, ◌+◌, [], ◌∷◌, Option, Some, None, arith, ap, sym, subst}
+use Rattle.std.specs.List.{All, AllByRecursion}
+use Rattle.std.specs.Prelude.{IsTrue, IsSome}
+use Rattle.std.proofs.lemmas.List.Elements.{All-from_recursion, recursion_from_All}
+use Rattle.heap_geometry.specs.declared.geometry.Geometry.{Geometry}
+use Rattle.heap_geometry.specs.Need.{block_count_of}
+use Rattle.packed_words.specs.Info.{InfoFields, info_of}
+use Rattle.packed_words.specs.Prefix.{link_of}
+use Rattle.word_plan.specs.declared.name.WordName.{WordName}
+use Rattle.word_plan.specs.declared.name.WordName.TheVariants as name
+use Rattle.word_plan.specs.declared.seat.Site.{Site}
+use Rattle.word_plan.specs.Counts.{descriptor_count}
+use Rattle.word_plan.specs.Seats.{info_within}
+use Rattle.superblock_parts.specs.Chains.{occurs, chain_of, prefix_name, link_in}
+use Rattle.superblock_parts.specs.Fits.{FitsBlock}
+use Rattle.superblock_parts.proofs.ChainLemmas.{chain_of-same}
+use Rattle.superblock_parts.specs.declared.point.BlockPoint.{BlockPoint}
+use Rattle.superblock_parts.specs.declared.point.BlockPoint.TheVariants as block
+use Rattle.errand_steps.specs.declared.onward.Onward.{Onward}
+use Rattle.errand_steps.specs.declared.point.Point.TheVariants as point
+use Rattle.errand_steps.specs.Steps.{State}
+use Rattle.sound_state.specs.Frames.{errand_frames}
+use Rattle.sound_state.specs.Holdings as holding
+use Rattle.sound_state.specs.Holdings.{waiting, holds_of, block_holds}
+use Rattle.sound_state.specs.Lists.{Lists}
+use Rattle.sound_state.specs.Recalls.{IsSo, IsLocated, recalls_of, block_recalls}
+use Rattle.sound_state.specs.Sound.{IsSoundWith}
+use Rattle.sound_state.specs.Superblocks.{IsChained, info_for, info_or_zero, anchor_for, reserved_of, superblock_of, free_chain, is_bound, errand_keeps, kept_among}
+use Rattle.sound_state.proofs.shared.PointLemmas.{fits-at, so-at}
+use Rattle.sound_state.proofs.large.TouchEffects.{IsAwayWord, Stays}
+use Rattle.sound_state.proofs.large.TouchRecalls.{all-stays}
+
+-- these words have the prefix words of the blocks of bound superblocks, and of frames in which other callers make superblocks
+pub record KeepsPrefixes (g : Geometry) (s : State) (l : Lists) (who : ℕ) (words : WordName → ℕ) : Type 0 where
+  pub away : (n : WordName) → IsAwayWord n → words n ≡ s.word n
+  pub bound :
+      (d i : ℕ) → d < descriptor_count g → IsTrue (is_bound g s l d) → i < block_count_of (info_for s d).class
+      → words (prefix_name (info_for s d).frame (info_for s d).class i) ≡ s.word (prefix_name (info_for s d).frame (info_for s d).class i)
+  pub making :
+      (i f c k : ℕ) → i < g.callers → i ≢ who → f < g.frames → 0 < errand_frames f (s.errand i) → ((d : ℕ) → errand_keeps waiting d (s.errand i) ≡ 0)
+      → k < block_count_of c
+      → words (prefix_name f c k) ≡ s.word (prefix_name f c k)
+
+-- the prefix word of a block of a superblock at hand
+at-hand :
+    (g : Geometry) (s : State) (l : Lists) (who : ℕ) (words : WordName → ℕ) → KeepsPrefixes g s l who words → (at : Site) → at.desc < descriptor_count g
+    → IsTrue (is_bound g s l at.desc) × IsLocated s at.desc at.frame at.seat.class → (i : ℕ) → i < block_count_of at.seat.class
+    → words (prefix_name at.frame at.seat.class i) ≡ s.word (prefix_name at.frame at.seat.class i)
+at-hand g s l who words h at has here i within =
+    let P : ℕ → ℕ → Type 0 = λ f c. words (prefix_name f c i) ≡ s.word (prefix_name f c i) in
+    subst (λ f. P f at.seat.class) here.1.frame
+    (subst (λ c. P (info_for s at.desc).frame c) here.1.class
+    (h.bound at.desc i has here.0 (subst (λ c. i < block_count_of c) (sym here.1.class) within)))
+
+-- its links, and its chain of free blocks
+at-link :
+    (g : Geometry) (s : State) (l : Lists) (who : ℕ) (words : WordName → ℕ) → KeepsPrefixes g s l who words → (d i : ℕ) → d < descriptor_count g
+    → IsTrue (is_bound g s l d) → i < block_count_of (info_for s d).class
+    → link_in words (info_for s d).frame (info_for s d).class i ≡ link_in s.word (info_for s d).frame (info_for s d).class i
+at-link g s l who words h d i has bound within = ap link_of (h.bound d i has bound within)
+
+at-chain :
+    (g : Geometry) (s : State) (l : Lists) (who : ℕ) (words : WordName → ℕ) → KeepsPrefixes g s l who words → IsSoundWith g s l → (d : ℕ)
+    → d < descriptor_count g → IsTrue (is_bound g s l d)
+    → chain_of (link_in words (info_for s d).frame (info_for s d).class) ((anchor_for s d).count + reserved_of g s d) (anchor_for s d).avail
+    ≡ free_chain (superblock_of g s d)
+at-chain g s l who words h old d has bound =
+    let c : IsChained (superblock_of g s d) = old.chained.chained d has bound in
+    chain_of-same (superblock_of g s d).next (link_in words (info_for s d).frame (info_for s d).class) ((anchor_for s d).count + reserved_of g s d)
+    (anchor_for s d).avail (λ j on. at-link g s l who words h d j has bound (c.within j on))
+
+frame-in-hand : (f : ℕ) → 0 < occurs f (f ∷ [])
+frame-in-hand f = grind (arith)
+
+-- a superblock in the making doesn't wait
+making-waits : (d : ℕ) (at : Site) → kept_among waiting d (holding.making at).kept ≡ 0
+making-waits d at = grind (arith)
+
+block-stays :
+    (g : Geometry) (s : State) (l : Lists) (who : ℕ) (words : WordName → ℕ) → KeepsPrefixes g s l who words → IsSoundWith g s l → (i : ℕ)
+    → i < g.callers → i ≢ who → (p : BlockPoint) (o : Onward) → (s.errand i).point ≡ point.Block p o → FitsBlock g i p
+    → AllByRecursion (IsSo g s l i) (block_recalls p) → AllByRecursion (Stays g s words) (block_recalls p)
+unfolding holds_of
+block-stays g s l who words h old i has other (block.LoadActive seat) o stands fit so = tt
+block-stays g s l who words h old i has other (block.TakeCredit seat e credits) o stands fit so = tt
+block-stays g s l who words h old i has other (block.LoadInfo seat e share) o stands fit so = (tt, tt)
+block-stays g s l who words h old i has other (block.LoadAnchor at share) o stands fit so = (tt, tt)
+block-stays g s l who words h old i has other (block.LoadLink at share a) o stands fit so =
+    (at-chain g s l who words h old at.desc fit.site.desc so.1.0.0, (tt, tt))
+block-stays g s l who words h old i has other (block.PopBlock at share a prefix) o stands fit so = (
+  at-link g s l who words h at.desc a.avail fit.site.desc so.1.1.0.0
+      (subst (λ c. a.avail < block_count_of c) (sym so.1.1.0.1.class) fit.anchor.avail),
+  (at-chain g s l who words h old at.desc fit.site.desc so.1.1.0.0, (tt, tt)),
+)
+block-stays g s l who words h old i has other (block.StorePrefix at k) o stands fit so = (tt, tt)
+block-stays g s l who words h old i has other (block.InstallCredits at k more) o stands fit so = (tt, tt)
+block-stays g s l who words h old i has other (block.InstallSuperblock at) o stands fit so = (h.away (name.Anchor at.desc) tt, (tt, tt))
+block-stays g s l who words h old i has other (block.LoadReturn at k more) o stands fit so = (tt, tt)
+block-stays g s l who words h old i has other (block.ReturnCredits at k more a) o stands fit so = (tt, tt)
+block-stays g s l who words h old i has other (block.LoadPrefix seat frame k) o stands fit so = tt
+block-stays g s l who words h old i has other (block.LoadPushAnchor at k stored) o stands fit so = (tt, tt)
+block-stays g s l who words h old i has other (block.StoreGuard at k a) o stands fit so = (tt, tt)
+block-stays g s l who words h old i has other (block.LoadOwner at k a) o stands fit so = (tt, tt)
+block-stays g s l who words h old i has other (block.StoreLink at k a stored heap) o stands fit so = (tt, tt)
+block-stays g s l who words h old i has other (block.PushBlock at k a stored heap) o stands fit so =
+    (at-hand g s l who words h at fit.block.site.desc so.1.0 k fit.block.index, (tt, tt))
+block-stays g s l who words h old i has other (block.LinkBlock at n) o stands fit so =
+    let hand : 0 < errand_frames at.frame (s.errand i) = subst (λ q. 0 < occurs at.frame (holds_of q).frames) (sym stands) (frame-in-hand at.frame) in
+    let none : (d : ℕ) → errand_keeps waiting d (s.errand i) ≡ 0 =
+    λ d. subst (λ q. kept_among waiting d (holds_of q).kept ≡ 0) (sym stands) (making-waits d at) in
+    (λ k lt. h.making i at.frame at.seat.class k has other fit.site.frame hand none (omega (arith, lt, fit.index)), tt)
+block-stays g s l who words h old i has other (block.StoreInfo at) o stands fit so =
+    let hand : 0 < errand_frames at.frame (s.errand i) = subst (λ q. 0 < occurs at.frame (holds_of q).frames) (sym stands) (frame-in-hand at.frame) in
+    let none : (d : ℕ) → errand_keeps waiting d (s.errand i) ≡ 0 =
+    λ d. subst (λ q. kept_among waiting d (holds_of q).kept ≡ 0) (sym stands) (making-waits d at) in
+    (λ k lt. h.making i at.frame at.seat.class k has other fit.frame hand none lt, tt)
+block-stays g s l who words h old i has other (block.StoreAnchor at) o stands fit so =
+    let hand : 0 < errand_frames at.frame (s.errand i) = subst (λ q. 0 < occurs at.frame (holds_of q).frames) (sym stands) (frame-in-hand at.frame) in
+    let none : (d : ℕ) → errand_keeps waiting d (s.errand i) ≡ 0 =
+    λ d. subst (λ q. kept_among waiting d (holds_of q).kept ≡ 0) (sym stands) (making-waits d at) in
+    (h.away (name.Info at.desc) tt, (λ k lt. h.making i at.frame at.seat.class k has other fit.frame hand none lt, tt))
+block-stays g s l who words h old i has other (block.WantsPartial seat) o stands fit so = tt
+block-stays g s l who words h old i has other (block.Returned at k) o stands fit so = tt
+block-stays g s l who words h old i has other (block.Discarded at) o stands fit so = tt
+block-stays g s l who words h old i has other (block.Given at k) o stands fit so = tt
+block-stays g s l who words h old i has other (block.BecameEmpty at heap) o stands fit so = tt
+block-stays g s l who words h old i has other (block.BecamePartial at stored) o stands fit so = tt
+block-stays g s l who words h old i has other (block.Pushed seat stored) o stands fit so = tt
+
+-- so all that the others remember stays
+pub prefixes-stay :
+    (g : Geometry) (s : State) (l : Lists) (who : ℕ) (words : WordName → ℕ) → KeepsPrefixes g s l who words → IsSoundWith g s l → (i : ℕ)
+    → i < g.callers → i ≢ who → All (Stays g s words) (recalls_of (s.errand i).point)
+unfolding recalls_of
+prefixes-stay g s l who words h old i has other =
+    all-stays g s words h.away (s.errand i).point
+    (λ b o is.
+    let fit = fits-at g s l i (point.Block b o) old has is in
+    All-from_recursion (Stays g s words) (block_recalls b)
+    (block-stays g s l who words h old i has other b o is fit.point
+    (recursion_from_All (IsSo g s l i) (block_recalls b) (so-at g s l i (point.Block b o) old has is))))
+
+-- a descriptor's frame is one of the heap's
+frame-of-within : (g : Geometry) (o : Option InfoFields) → IsSome (info_within g o) → (info_or_zero o).frame < g.frames
+frame-of-within g None some = absurd (cc)
+frame-of-within g (Some i) some = grind (arith, some)
+
+pub info-frame : (g : Geometry) (s : State) (l : Lists) (d : ℕ) → IsSoundWith g s l → d < descriptor_count g → (info_for s d).frame < g.frames
+info-frame g s l d old has = frame-of-within g (info_of (s.word (name.Info d))) (old.chained.infos d has)

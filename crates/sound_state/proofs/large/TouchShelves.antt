@@ -1,0 +1,500 @@
+-- Won exchanges of a shelf's word keep the state sound.
+use Rattle.std.proofs.Common.{ℕ, true, None, Some, ◌≡◌, ◌≢◌, ◌<◌, ◌+◌, [], ◌∷◌, ◌++◌, refl, arith, ap, sym, subst, inl, inr, ◌∙◌}
+use Rattle.std.specs.Prelude.{◌⊎◌, ◌==◌, slice_index_or}
+use Rattle.std.proofs.lemmas.Bool.{cases_eq, eq-eqb}
+use Rattle.std.proofs.lemmas.List.Elements.{All-head}
+use Rattle.heap_geometry.specs.declared.geometry.Geometry.{Geometry}
+use Rattle.heap_geometry.specs.Geometry.{IsChecked}
+use Rattle.heap_geometry.specs.declared.limits.TheConstants.{SHELVES}
+use Rattle.heap_geometry.specs.declared.need.Need.{Need}
+use Rattle.heap_geometry.specs.declared.need.Need.TheVariants as need
+use Rattle.heap_geometry.specs.Need.{IsNeed}
+use Rattle.heap_geometry.proofs.PlaceLemmas.{block-within}
+use Rattle.packed_words.specs.declared.shelf.TheConstants.{MAX_ARENA_WORDS}
+use Rattle.std.proofs.lemmas.Nat.{pow_pos}
+use Rattle.packed_words.specs.declared.shelf.ShelfWord.TheVariants as shelf
+use Rattle.packed_words.specs.Shelf.{IsShelfWord, shelf_word}
+use Rattle.packed_words.proofs.ShelfLemmas.{shelf-exact}
+use Rattle.word_plan.specs.declared.name.WordName.{WordName}
+use Rattle.word_plan.specs.declared.name.WordName.TheVariants as name
+use Rattle.word_plan.specs.Words.{Writes}
+use Rattle.large_parts.specs.declared.point.LargePoint.TheVariants as large
+use Rattle.pool_model.specs.declared.event.Event.{Event}
+use Rattle.pool_model.specs.declared.event.Event.TheVariants.{Put, Take, TakeNone}
+use Rattle.pool_model.specs.declared.owner.Owner.{Owner}
+use Rattle.pool_model.specs.declared.owner.Owner.TheVariants.{Caller, Shelf}
+use Rattle.pool_model.specs.Legal.{IsAllowed, IsEmptyShelf, IsLegalEventWithoutCounts, IsLegalWithoutCounts}
+use Rattle.pool_model.specs.Pool.{Block, Pool, block_at, handed_to, with_changed, pool_after, pool_of}
+use Rattle.pool_model.specs.WellFormed.{IsWellFormed, IsPlaceFor}
+use Rattle.pool_model.proofs.HistoryLemmas.{EachAfter-push, pool_of-push}
+use Rattle.pool_model.proofs.PoolLemmas.{Every, every-each, every-found, block_at-changed_other, block_at-changed_same}
+use Rattle.pool_model.proofs.WellFormedLemmas.{sound-of, sound-differ, separate-found, found-itself}
+use Rattle.errand_steps.specs.declared.onward.Onward.{Onward}
+use Rattle.errand_steps.specs.declared.point.Point.{Point}
+use Rattle.errand_steps.specs.declared.point.Point.TheVariants.{Idle, Large}
+use Rattle.errand_steps.specs.declared.reply.Reply.TheVariants as reply
+use Rattle.errand_steps.specs.Errands.{ErrandFields}
+use Rattle.errand_steps.specs.Events.{event_of}
+use Rattle.errand_steps.specs.Nexts.{next_of}
+use Rattle.errand_steps.specs.Points.{plan_point_of}
+use Rattle.errand_steps.specs.Steps.{State, Step}
+use Rattle.sound_state.specs.Holdings.{holds_of}
+use Rattle.sound_state.specs.Lists.{Lists}
+use Rattle.sound_state.specs.Recalls.{IsSo, IsOwned, owns_all, recalls_of}
+use Rattle.sound_state.specs.Sound.{IsSoundWithoutCounts, IsSoundWith}
+use Rattle.sound_state.specs.Superblocks.{is_there}
+use Rattle.sound_state.specs.Ties.{IsLive, IsTied}
+use Rattle.sound_state.proofs.shared.PointLemmas.{fits-at, so-at}
+use Rattle.sound_state.proofs.quiet.QuietLemmas.{words-stay}
+use Rattle.sound_state.proofs.large.TouchEffects.{IsAside, Touches, sound-touched}
+use Rattle.sound_state.proofs.large.TouchSteps.{IsAsideEvent, TouchesAt, leaves-event, stays-still, touched-step}
+use Rattle.sound_state.proofs.large.TouchTies.{SamePlaces, IsBareHanded, tied-touched}
+
+-- a shelf's word with a block isn't that of an empty one
+shelf-some : (place : ℕ) (n : Need) → shelf_word (shelf.Block place n) ≡ shelf_word shelf.Nothing → ⊥
+unfolding shelf_word
+shelf-some place n same = omega (arith, same)
+
+shelf-nothing : shelf_word shelf.Nothing ≡ 0
+unfolding shelf_word
+shelf-nothing = refl
+
+-- where the word says so, no block lies on the shelf
+empty-shelf :
+    (g : Geometry) (s : State) (l : Lists) (k : ℕ) → IsSoundWith g s l → k < SHELVES → s.word (name.Shelf k) ≡ shelf_word shelf.Nothing
+    → IsEmptyShelf (pool_of s.history) k
+empty-shelf g s l k old has word place b live on = shelf-some place b.need (sym (old.tied.shelved k place b has live on) ∙ word)
+
+-- a block is changed, and its place and its need stay
+pub record Changes (s s' : State) (at : ℕ) (a b : Block) : Type 0 where
+  pub was : IsLive s at a
+  pub now : IsLive s' at b
+  pub need : b.need ≡ a.need
+  pub elsewhere : (p : ℕ) → p ≢ at → block_at p (pool_of s'.history) ≡ block_at p (pool_of s.history)
+
+pub changes-places : (s s' : State) (at : ℕ) (a b : Block) → Changes s s' at a b → SamePlaces s s'
+changes-places s s' at a b h = record {
+  was = λ p x live.
+      elim (cases_eq p at) [
+        | inl here ↦
+            let one : Some b ≡ Some x = sym h.now ∙ ap (λ q. block_at q (pool_of s'.history)) (sym here) ∙ live in
+            let same : b ≡ x = cc in
+            (a, subst (λ q. IsLive s q a) (sym here) h.was, ap (λ (y : Block). y.need) (sym same) ∙ h.need)
+        | inr ne ↦ (x, sym (h.elsewhere p ne) ∙ live, refl)
+      ];
+  still = λ p x live.
+      elim (cases_eq p at) [
+        | inl here ↦
+            let one : Some a ≡ Some x = sym h.was ∙ ap (λ q. block_at q (pool_of s.history)) (sym here) ∙ live in
+            let same : a ≡ x = cc in
+            (b, subst (λ q. IsLive s' q b) (sym here) h.now, h.need ∙ ap (λ (y : Block). y.need) same)
+        | inr ne ↦ (x, h.elsewhere p ne ∙ live, refl)
+      ];
+}
+
+-- the block that is live at the changed place
+pub changed-is : (s s' : State) (at : ℕ) (a b : Block) → Changes s s' at a b → (p : ℕ) (x : Block) → p ≡ at → IsLive s' p x → b ≡ x
+changed-is s s' at a b h p x here live =
+    let one : Some b ≡ Some x = sym h.now ∙ ap (λ q. block_at q (pool_of s'.history)) (sym here) ∙ live in cc
+
+-- a change leaves each place live or not
+pub changed-there :
+    (at p : ℕ) (change : Block → Block) (pool : Pool) (a : Block) → ((x : Block) → (change x).place ≡ x.place) → block_at at pool ≡ Some a
+    → is_there (block_at p (with_changed at change pool)) ≡ is_there (block_at p pool)
+changed-there at p change pool a keeps found =
+    elim (cases_eq p at) [
+      | inl here ↦
+          let P : ℕ → Type 0 = λ q. is_there (block_at q (with_changed at change pool)) ≡ is_there (block_at q pool) in
+          subst P (sym here) (ap is_there (block_at-changed_same at change pool a keeps found) ∙ sym (ap is_there found))
+      | inr ne ↦ ap is_there (block_at-changed_other at p change pool keeps ne)
+    ]
+
+pub changes-from :
+    (s s' : State) (event : Event) (at : ℕ) (change : Block → Block) (a : Block) → s'.history ≡ s.history ++ event ∷ []
+    → pool_after (pool_of s.history) event ≡ with_changed at change (pool_of s.history)
+    → ((x : Block) → (change x).place ≡ x.place) → ((x : Block) → (change x).need ≡ x.need) → IsLive s at a → Changes s s' at a (change a)
+changes-from s s' event at change a history pool places needs live =
+    let new : pool_of s'.history ≡ with_changed at change (pool_of s.history) = ap pool_of history ∙ pool_of-push s.history event ∙ pool in
+    record {
+      was = live;
+      now = ap (block_at at) new ∙ block_at-changed_same at change (pool_of s.history) a places live;
+      need = needs a;
+      elsewhere = λ p ne. ap (block_at p) new ∙ block_at-changed_other at p change (pool_of s.history) places ne;
+    }
+
+-- the number of a shelf
+abbrev shelf_number : WordName → ℕ
+shelf_number (name.Shelf k) = k
+shelf_number n = 0
+
+-- a block is put on a shelf
+put-aside : (k place : ℕ) (n : Need) (o : Onward) → IsAside (Large (large.PutBlock k place n) o)
+unfolding holds_of
+put-aside k place n o = grind (arith)
+
+put-bare : (k place : ℕ) (n : Need) (o : Onward) → IsBareHanded (Large (large.PutBlock k place n) o)
+unfolding holds_of
+put-bare k place n o = grind (arith)
+
+pub idle-aside : IsAside Idle
+unfolding holds_of
+idle-aside = grind (arith)
+
+pub idle-bare : IsBareHanded Idle
+unfolding holds_of
+idle-bare = grind (arith)
+
+pub idle-recalls : recalls_of Idle ≡ []
+unfolding recalls_of
+idle-recalls = refl
+
+put-event : (g : Geometry) (who k place : ℕ) → IsAsideEvent g who (Put who place k)
+put-event g who k place = record { caller = refl; gives = λ i. refl; refuses = λ i. refl; allocs = refl; freed = refl }
+
+put-touches :
+    (g : Geometry) (s : State) (l : Lists) (who k place : ℕ) (n : Need) (o : Onward) → IsSoundWith g s l → k < SHELVES
+    → IsShelfWord (shelf.Block place n) → s.word (name.Shelf k) ≡ shelf_word shelf.Nothing → (b : Block) → IsLive s place b
+    → IsAllowed g s.history (Put who place k)
+    → TouchesAt g s l who (Large (large.PutBlock k place n) o) Idle (name.Shelf k) (shelf_word (shelf.Block place n)) (s.history ++ Put who place k ∷ [])
+unfolding plan_point_of next_of event_of
+put-touches g s l who k place n o old has fit word b live allowed =
+    let won : (s.word (name.Shelf k) == shelf_word shelf.Nothing) ≡ true = eq-eqb (s.word (name.Shelf k)) (shelf_word shelf.Nothing) word in
+    record {
+      leads = inr (reply.Put, rw won refl, refl);
+      here = refl;
+      written = rw won refl;
+      below = shelf-exact.fits (shelf.Block place n) fit;
+      touched = λ away. away;
+      lost = refl;
+      cleared = refl;
+      told = rw won refl;
+      leaves =
+          leaves-event g s l who (Put who place k) (put-event g who k place) allowed
+          (λ d i has_d bound lt. changed-there place _ (handed_to (Shelf k)) (pool_of s.history) b (λ x. refl) live);
+      before = put-aside k place n o;
+      after = idle-aside;
+      recalls = idle-recalls;
+      prefixes = λ words' w d i has_d bound lt. w.elsewhere _ (λ same. cc);
+      stays = λ words' w i has_i differ. stays-still g s (name.Shelf k) _ words' w (λ p same. cc) (λ away. away) (s.errand i).point;
+    }
+
+put-tied :
+    (g : Geometry) (s : State) (l : Lists) (who k place : ℕ) (n : Need) (s' : State) (e : ErrandFields) → Touches g s l who e s' → IsSoundWith g s l → k < SHELVES
+    → Writes s.word (name.Shelf k) (shelf_word (shelf.Block place n)) s'.word → IsBareHanded (s.errand who).point → IsBareHanded e.point
+    → IsEmptyShelf (pool_of s.history) k → (b : Block) → b.owner ≡ Caller who → b.need ≡ n → Changes s s' place b (handed_to (Shelf k) b)
+    → IsTied g s' l
+put-tied g s l who k place n s' e h old has w bare_before bare_after empty b owned of c =
+    tied-touched g s l who e s' h old (changes-places s s' place b (handed_to (Shelf k) b) c) bare_before bare_after
+    (λ p x live. w.elsewhere (name.Arena p) (λ same. cc)) (w.elsewhere name.Units (λ same. cc))
+    (λ j p x has_j live on.
+    elim (cases_eq p place) [
+      | inl here ↦
+          let same : handed_to (Shelf k) b ≡ x = changed-is s s' place b (handed_to (Shelf k) b) c p x here live in
+          let shelves : Shelf k ≡ Shelf j = ap (λ (y : Block). y.owner) same ∙ on in
+          let is : k ≡ j = cc in
+          subst (λ m. s'.word (name.Shelf m) ≡ shelf_word (shelf.Block p x.need)) is
+          (w.here ∙ ap (λ q. shelf_word (shelf.Block q n)) (sym here) ∙ ap (λ m. shelf_word (shelf.Block p m)) (sym of ∙ ap (λ (y : Block). y.need) same))
+      | inr ne ↦
+          let was : IsLive s p x = sym (c.elsewhere p ne) ∙ live in
+          elim (cases_eq j k) [
+            | inl is ↦ absurd (empty p x was (on ∙ ap Shelf is))
+            | inr differ ↦ w.elsewhere (name.Shelf j) (λ same. differ (ap shelf_number same)) ∙ old.tied.shelved j p x has_j was on
+          ]
+    ])
+    (λ j has_j none.
+    elim (cases_eq j k) [
+      | inl is ↦ absurd (none place (handed_to (Shelf k) b) c.now (ap Shelf (sym is)))
+      | inr differ ↦
+          w.elsewhere (name.Shelf j) (λ same. differ (ap shelf_number same))
+          ∙ old.tied.bare_shelf j has_j
+          (λ p x was on.
+          elim (cases_eq p place) [
+            | inl here ↦
+                let one : Some b ≡ Some x = sym c.was ∙ ap (λ q. block_at q (pool_of s.history)) (sym here) ∙ was in
+                let same : b ≡ x = cc in
+                let owners : Caller who ≡ Shelf j = sym owned ∙ ap (λ (y : Block). y.owner) same ∙ on in
+                absurd (cc)
+            | inr ne ↦ none p x (c.elsewhere p ne ∙ was) on
+          ])
+    ])
+    (λ p i v x live written.
+    w.elsewhere (name.Arena (p + 1 + i)) (λ same. cc)
+    ∙ elim (cases_eq p place) [
+      | inl here ↦
+          let same : handed_to (Shelf k) b ≡ x = changed-is s s' place b (handed_to (Shelf k) b) c p x here live in
+          old.tied.contents p i v b (subst (λ q. IsLive s q b) (sym here) c.was) (ap (λ (y : Block). slice_index_or y.contents i None) same ∙ written)
+      | inr ne ↦ old.tied.contents p i v x (sym (c.elsewhere p ne) ∙ live) written
+    ])
+
+pub put_block-sound :
+    (g : Geometry) (s : State) (who : ℕ) (s' : State) (k place : ℕ) (n : Need) (o : Onward) → IsSoundWithoutCounts g s → who < g.callers
+    → (s.errand who).point ≡ Large (large.PutBlock k place n) o → s.word (name.Shelf k) ≡ shelf_word shelf.Nothing → Step s who s' → IsSoundWithoutCounts g s'
+unfolding recalls_of
+put_block-sound g s who s' k place n o sound has at word step =
+    let l = sound.parts.0 in
+    let old = sound.parts.1 in
+    let p : Point = Large (large.PutBlock k place n) o in
+    let fit = fits-at g s l who p old has at in
+    let owned : IsOwned s who place n = All-head (IsSo g s l who) (owns_all place n) [] (so-at g s l who p old has at) in
+    let b : Block = owned.block.0 in
+    let empty : IsEmptyShelf (pool_of s.history) k = empty-shelf g s l k old fit.point.shelf word in
+    let allowed : IsAllowed g s.history (Put who place k) = ((b, owned.block.1, owned.block.2), fit.point.shelf, empty) in
+    let t =
+    touched-step g s l who s' p Idle (name.Shelf k) (shelf_word (shelf.Block place n)) (s.history ++ Put who place k ∷ []) old has at
+    (put-touches g s l who k place n o old fit.point.shelf fit.point.block word b owned.block.1 allowed) step in
+    let c : Changes s s' place b (handed_to (Shelf k) b) =
+    changes-from s s' (Put who place k) place (handed_to (Shelf k)) b t.history refl (λ x. refl) (λ x. refl) owned.block.1 in
+    record {
+      checked = sound.checked;
+      legal = subst (IsLegalWithoutCounts g) (sym t.history) (EachAfter-push (IsLegalEventWithoutCounts g) s.history (Put who place k) sound.legal (has, allowed));
+      parts = (
+        l,
+        sound-touched g s l who _ s' t.touches old
+            (put-tied g s l who k place n s' _ t.touches old fit.point.shelf t.word (subst IsBareHanded (sym at) (put-bare k place n o)) idle-bare empty b
+            owned.block.2 owned.block.3 c),
+      );
+    }
+
+-- the number of an owner
+abbrev owner_number : Owner → ℕ
+owner_number (Caller i) = i
+owner_number (Shelf k) = k
+
+-- whether an owner is this shelf
+owner-is : (owner : Owner) (k : ℕ) → (owner ≡ Shelf k) ⊎ (owner ≢ Shelf k)
+owner-is (Caller i) k = inr (λ same. cc)
+owner-is (Shelf j) k = elim (cases_eq j k) [ inl is ↦ inl (ap Shelf is) | inr differ ↦ inr (λ same. differ (ap owner_number same)) ]
+
+small-place : (g : Geometry) (class place : ℕ) → IsChecked g → IsPlaceFor g (need.Small class) place → place < MAX_ARENA_WORDS
+small-place g class place checked at =
+    omega (arith, at.2, at.4, block-within class at.1 at.3, pow_pos (class + 1), checked.frames.1, checked.units.1)
+
+-- a live block's place and need fit a shelf's word
+shelf-fits : (g : Geometry) (n : Need) (place : ℕ) → IsChecked g → IsNeed n → IsPlaceFor g n place → IsShelfWord (shelf.Block place n)
+shelf-fits g (need.Small class) place checked is at = (small-place g class place checked at, is)
+shelf-fits g (need.Large units) place checked is at = (omega (arith, at.1, at.2, is.0, checked.frames.1, checked.units.1), is)
+shelf-fits g need.TooLarge place checked is at = absurd at
+
+-- some block is owned so, or none
+owned-or-none :
+    (all pool : Pool) (k : ℕ) → Every (λ b. block_at b.place all ≡ Some b) pool
+    → ((b : Block) × (block_at b.place all ≡ Some b) × (b.owner ≡ Shelf k)) ⊎ Every (λ b. b.owner ≢ Shelf k) pool
+owned-or-none all [] k found = inr tt
+owned-or-none all (b ∷ pool) k found =
+    elim (owner-is b.owner k) [
+      | inl is ↦ inl (b, found.0, is)
+      | inr differ ↦
+          elim (owned-or-none all pool k found.1) [
+            | inl one ↦ inl one
+            | inr none ↦ inr (differ, none)
+          ]
+    ]
+
+-- the block of which a shelf's word says that it lies there does
+shelved-block :
+    (g : Geometry) (s : State) (l : Lists) (k place : ℕ) (n : Need) → IsSoundWithoutCounts g s → IsSoundWith g s l → k < SHELVES
+    → IsShelfWord (shelf.Block place n) → s.word (name.Shelf k) ≡ shelf_word (shelf.Block place n)
+    → (b : Block) × IsLive s place b × (b.owner ≡ Shelf k) × (b.need ≡ n)
+shelved-block g s l k place n sound old has fit word =
+    let pool = sound-of g s.history sound.legal in
+    elim (owned-or-none (pool_of s.history) (pool_of s.history) k (found-itself (pool_of s.history) (sound-differ g (pool_of s.history) pool))) [
+      | inl one ↦
+          let formed : IsWellFormed g one.0 = every-found (IsWellFormed g) one.0.place (pool_of s.history) one.0 pool.each one.1 in
+          let says : shelf_word (shelf.Block one.0.place one.0.need) ≡ shelf_word (shelf.Block place n) =
+          sym (old.tied.shelved k one.0.place one.0 has one.1 one.2) ∙ word in
+          let same : shelf.Block one.0.place one.0.need ≡ shelf.Block place n =
+          shelf-exact.one_word (shelf.Block one.0.place one.0.need) (shelf.Block place n)
+          (shelf-fits g one.0.need one.0.place sound.checked formed.need formed.place) fit says in
+          let here : one.0.place ≡ place = cc in
+          (one.0, subst (λ p. IsLive s p one.0) here one.1, one.2, (cc))
+      | inr none ↦
+          absurd
+          (shelf-some place n
+          (sym word ∙ old.tied.bare_shelf k has (λ p b live on. every-each (λ x. x.owner ≢ Shelf k) (pool_of s.history) none p b live on)))
+    ]
+
+-- a block is taken from a shelf
+take-aside : (k place : ℕ) (n : Need) (o : Onward) → IsAside (Large (large.TakeBlock k place n) o)
+unfolding holds_of
+take-aside k place n o = grind (arith)
+
+take-bare : (k place : ℕ) (n : Need) (o : Onward) → IsBareHanded (Large (large.TakeBlock k place n) o)
+unfolding holds_of
+take-bare k place n o = grind (arith)
+
+take-event : (g : Geometry) (who k place : ℕ) → IsAsideEvent g who (Take who k place)
+take-event g who k place = record { caller = refl; gives = λ i. refl; refuses = λ i. refl; allocs = refl; freed = refl }
+
+take-touches :
+    (g : Geometry) (s : State) (l : Lists) (who k place : ℕ) (n : Need) (o : Onward) → IsSoundWith g s l → k < SHELVES
+    → s.word (name.Shelf k) ≡ shelf_word (shelf.Block place n) → (b : Block) → IsLive s place b → IsAllowed g s.history (Take who k place)
+    → TouchesAt g s l who (Large (large.TakeBlock k place n) o) Idle (name.Shelf k) (shelf_word shelf.Nothing) (s.history ++ Take who k place ∷ [])
+unfolding plan_point_of next_of event_of
+take-touches g s l who k place n o old has word b live allowed =
+    let won : (s.word (name.Shelf k) == shelf_word (shelf.Block place n)) ≡ true = eq-eqb (s.word (name.Shelf k)) (shelf_word (shelf.Block place n)) word in
+    record {
+      leads = inr (reply.Got place n, rw won refl, refl);
+      here = refl;
+      written = rw won refl;
+      below = omega (arith, shelf-nothing);
+      touched = λ away. away;
+      lost = rw won refl;
+      cleared = refl;
+      told = rw won refl;
+      leaves =
+          leaves-event g s l who (Take who k place) (take-event g who k place) allowed
+          (λ d i has_d bound lt. changed-there place _ (handed_to (Caller who)) (pool_of s.history) b (λ x. refl) live);
+      before = take-aside k place n o;
+      after = idle-aside;
+      recalls = idle-recalls;
+      prefixes = λ words' w d i has_d bound lt. w.elsewhere _ (λ same. cc);
+      stays = λ words' w i has_i differ. stays-still g s (name.Shelf k) _ words' w (λ p same. cc) (λ away. away) (s.errand i).point;
+    }
+
+take-tied :
+    (g : Geometry) (s : State) (l : Lists) (who k place : ℕ) (s' : State) (e : ErrandFields) → Touches g s l who e s' → IsSoundWithoutCounts g s
+    → IsSoundWith g s l → Writes s.word (name.Shelf k) (shelf_word shelf.Nothing) s'.word → IsBareHanded (s.errand who).point
+    → IsBareHanded e.point → (b : Block) → b.owner ≡ Shelf k → Changes s s' place b (handed_to (Caller who) b) → IsTied g s' l
+take-tied g s l who k place s' e h sound old w bare_before bare_after b owned c =
+    tied-touched g s l who e s' h old (changes-places s s' place b (handed_to (Caller who) b) c) bare_before bare_after
+    (λ p x live. w.elsewhere (name.Arena p) (λ same. cc)) (w.elsewhere name.Units (λ same. cc))
+    (λ j p x has_j live on.
+    elim (cases_eq p place) [
+      | inl here ↦
+          let same : handed_to (Caller who) b ≡ x = changed-is s s' place b (handed_to (Caller who) b) c p x here live in
+          let owners : Caller who ≡ Shelf j = ap (λ (y : Block). y.owner) same ∙ on in
+          absurd (cc)
+      | inr ne ↦
+          let was : IsLive s p x = sym (c.elsewhere p ne) ∙ live in
+          elim (cases_eq j k) [
+            | inl is ↦
+                absurd
+                ((separate-found g (pool_of s.history) (sound-of g s.history sound.legal) p place x b was c.was ne).shelves k
+                (on ∙ ap Shelf is) owned)
+            | inr differ ↦ w.elsewhere (name.Shelf j) (λ same. differ (ap shelf_number same)) ∙ old.tied.shelved j p x has_j was on
+          ]
+    ])
+    (λ j has_j none.
+    elim (cases_eq j k) [
+      | inl is ↦ ap (λ m. s'.word (name.Shelf m)) is ∙ w.here
+      | inr differ ↦
+          w.elsewhere (name.Shelf j) (λ same. differ (ap shelf_number same))
+          ∙ old.tied.bare_shelf j has_j
+          (λ p x was on.
+          elim (cases_eq p place) [
+            | inl here ↦
+                let one : Some b ≡ Some x = sym c.was ∙ ap (λ q. block_at q (pool_of s.history)) (sym here) ∙ was in
+                let same : b ≡ x = cc in
+                let owners : Shelf k ≡ Shelf j = sym owned ∙ ap (λ (y : Block). y.owner) same ∙ on in
+                let is : k ≡ j = cc in
+                absurd (differ (sym is))
+            | inr ne ↦ none p x (c.elsewhere p ne ∙ was) on
+          ])
+    ])
+    (λ p i v x live written.
+    w.elsewhere (name.Arena (p + 1 + i)) (λ same. cc)
+    ∙ elim (cases_eq p place) [
+      | inl here ↦
+          let same : handed_to (Caller who) b ≡ x = changed-is s s' place b (handed_to (Caller who) b) c p x here live in
+          old.tied.contents p i v b (subst (λ q. IsLive s q b) (sym here) c.was) (ap (λ (y : Block). slice_index_or y.contents i None) same ∙ written)
+      | inr ne ↦ old.tied.contents p i v x (sym (c.elsewhere p ne) ∙ live) written
+    ])
+
+pub take_block-sound :
+    (g : Geometry) (s : State) (who : ℕ) (s' : State) (k place : ℕ) (n : Need) (o : Onward) → IsSoundWithoutCounts g s → who < g.callers
+    → (s.errand who).point ≡ Large (large.TakeBlock k place n) o → s.word (name.Shelf k) ≡ shelf_word (shelf.Block place n) → Step s who s' → IsSoundWithoutCounts g s'
+take_block-sound g s who s' k place n o sound has at word step =
+    let l = sound.parts.0 in
+    let old = sound.parts.1 in
+    let p : Point = Large (large.TakeBlock k place n) o in
+    let fit = fits-at g s l who p old has at in
+    let there = shelved-block g s l k place n sound old fit.point.shelf fit.point.block word in
+    let b : Block = there.0 in
+    let allowed : IsAllowed g s.history (Take who k place) = ((b, there.1, there.2), fit.point.shelf) in
+    let t =
+    touched-step g s l who s' p Idle (name.Shelf k) (shelf_word shelf.Nothing) (s.history ++ Take who k place ∷ []) old has at
+    (take-touches g s l who k place n o old fit.point.shelf word b there.1 allowed) step in
+    let c : Changes s s' place b (handed_to (Caller who) b) =
+    changes-from s s' (Take who k place) place (handed_to (Caller who)) b t.history refl (λ x. refl) (λ x. refl) there.1 in
+    record {
+      checked = sound.checked;
+      legal = subst (IsLegalWithoutCounts g) (sym t.history) (EachAfter-push (IsLegalEventWithoutCounts g) s.history (Take who k place) sound.legal (has, allowed));
+      parts = (
+        l,
+        sound-touched g s l who _ s' t.touches old
+            (take-tied g s l who k place s' _ t.touches sound old t.word (subst IsBareHanded (sym at) (take-bare k place n o)) idle-bare b there.2 c),
+      );
+    }
+
+-- a shelf is still empty
+none-aside : (k : ℕ) (o : Onward) → IsAside (Large (large.ConfirmNothing k) o)
+unfolding holds_of
+none-aside k o = grind (arith)
+
+none-bare : (k : ℕ) (o : Onward) → IsBareHanded (Large (large.ConfirmNothing k) o)
+unfolding holds_of
+none-bare k o = grind (arith)
+
+none-event : (g : Geometry) (who k : ℕ) → IsAsideEvent g who (TakeNone who k)
+none-event g who k = record { caller = refl; gives = λ i. refl; refuses = λ i. refl; allocs = refl; freed = refl }
+
+none-touches :
+    (g : Geometry) (s : State) (l : Lists) (who k : ℕ) (o : Onward) → IsSoundWith g s l → k < SHELVES
+    → s.word (name.Shelf k) ≡ shelf_word shelf.Nothing → IsAllowed g s.history (TakeNone who k)
+    → TouchesAt g s l who (Large (large.ConfirmNothing k) o) Idle (name.Shelf k) (shelf_word shelf.Nothing) (s.history ++ TakeNone who k ∷ [])
+unfolding plan_point_of next_of event_of
+none-touches g s l who k o old has word allowed =
+    let won : (s.word (name.Shelf k) == shelf_word shelf.Nothing) ≡ true = eq-eqb (s.word (name.Shelf k)) (shelf_word shelf.Nothing) word in
+    record {
+      leads = inr (reply.Empty, rw won refl, refl);
+      here = refl;
+      written = rw won refl;
+      below = omega (arith, shelf-nothing);
+      touched = λ away. away;
+      lost = rw won refl;
+      cleared = refl;
+      told = rw won refl;
+      leaves = leaves-event g s l who (TakeNone who k) (none-event g who k) allowed (λ d i has_d bound lt. refl);
+      before = none-aside k o;
+      after = idle-aside;
+      recalls = idle-recalls;
+      prefixes = λ words' w d i has_d bound lt. w.elsewhere _ (λ same. cc);
+      stays = λ words' w i has_i differ. stays-still g s (name.Shelf k) _ words' w (λ p same. cc) (λ away. away) (s.errand i).point;
+    }
+
+-- words and blocks that all stay are tied as they were
+pub same-tied :
+    (g : Geometry) (s : State) (l : Lists) (who : ℕ) (s' : State) (e : ErrandFields) → Touches g s l who e s' → IsSoundWith g s l
+    → ((m : WordName) → s'.word m ≡ s.word m) → IsBareHanded (s.errand who).point → IsBareHanded e.point
+    → ((p : ℕ) → block_at p (pool_of s'.history) ≡ block_at p (pool_of s.history)) → IsTied g s' l
+same-tied g s l who s' e h old words bare_before bare_after pool =
+    tied-touched g s l who e s' h old
+    (record { was = λ p x live. (x, sym (pool p) ∙ live, refl); still = λ p x live. (x, pool p ∙ live, refl) }) bare_before bare_after
+    (λ p x live. words (name.Arena p)) (words name.Units)
+    (λ j p x has_j live on. words (name.Shelf j) ∙ old.tied.shelved j p x has_j (sym (pool p) ∙ live) on)
+    (λ j has_j none. words (name.Shelf j) ∙ old.tied.bare_shelf j has_j (λ p x live on. none p x (pool p ∙ live) on))
+    (λ p i v x live written. words (name.Arena (p + 1 + i)) ∙ old.tied.contents p i v x (sym (pool p) ∙ live) written)
+
+pub confirm_nothing-sound :
+    (g : Geometry) (s : State) (who : ℕ) (s' : State) (k : ℕ) (o : Onward) → IsSoundWithoutCounts g s → who < g.callers
+    → (s.errand who).point ≡ Large (large.ConfirmNothing k) o → s.word (name.Shelf k) ≡ shelf_word shelf.Nothing → Step s who s' → IsSoundWithoutCounts g s'
+confirm_nothing-sound g s who s' k o sound has at word step =
+    let l = sound.parts.0 in
+    let old = sound.parts.1 in
+    let p : Point = Large (large.ConfirmNothing k) o in
+    let fit = fits-at g s l who p old has at in
+    let shelf_there : k < SHELVES = fit.point in
+    let allowed : IsAllowed g s.history (TakeNone who k) = (shelf_there, empty-shelf g s l k old shelf_there word) in
+    let t =
+    touched-step g s l who s' p Idle (name.Shelf k) (shelf_word shelf.Nothing) (s.history ++ TakeNone who k ∷ []) old has at
+    (none-touches g s l who k o old shelf_there word allowed) step in
+    record {
+      checked = sound.checked;
+      legal = subst (IsLegalWithoutCounts g) (sym t.history) (EachAfter-push (IsLegalEventWithoutCounts g) s.history (TakeNone who k) sound.legal (has, allowed));
+      parts = (
+        l,
+        sound-touched g s l who _ s' t.touches old
+            (same-tied g s l who s' _ t.touches old (words-stay s.word (name.Shelf k) _ s'.word t.word (sym word)) (subst IsBareHanded (sym at) (none-bare k o))
+            idle-bare (λ q. ap (block_at q) (ap pool_of t.history ∙ pool_of-push s.history (TakeNone who k)))),
+      );
+    }

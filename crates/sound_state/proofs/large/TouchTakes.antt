@@ -1,0 +1,441 @@
+-- A run that is taken, or refused.
+use Rattle.std.proofs.Common.{ℕ, Bool, true, false, zero, suc, Option, None, Some, ◌≡◌, ◌≢◌, ◌<◌, ◌≤◌, ◌+◌, ◌*◌, ◌^◌, [], ◌∷◌, ◌++◌, refl, arith, ap, sym, subst, inl, inr, ◌∙◌}
+use Rattle.std.specs.Prelude.{◌⊎◌, ◌==◌, ◌&&◌, nat_le, All, Any, IsTrue, slice_index_or, replicate}
+use Rattle.std.specs.Int.{bit_at}
+use Rattle.std.proofs.Math.Pow.{pow_mono}
+use Rattle.std.proofs.lemmas.Bool.{cases_eq, cases_lt, lt-leb, le-leb, eq-eqb}
+use Rattle.std.proofs.lemmas.Nat.{pow_pos, or_lt}
+use Rattle.std.proofs.lemmas.Nat.Bits.{bit_at-lt}
+use Rattle.std.proofs.lemmas.List.Elements.{All-nil, All-cons}
+use Rattle.heap_geometry.specs.declared.geometry.Geometry.{Geometry}
+use Rattle.heap_geometry.specs.declared.limits.TheConstants.{SMALL_MOST}
+use Rattle.heap_geometry.specs.declared.need.Need.{Need}
+use Rattle.heap_geometry.specs.declared.need.Need.TheVariants as need
+use Rattle.heap_geometry.specs.Need.{IsNeed, need_of, usable_words}
+use Rattle.heap_geometry.specs.Place.{IsApart, frame_of, unit_place, run_span}
+use Rattle.heap_geometry.proofs.PlaceLemmas.{block-within}
+use Rattle.word_plan.specs.declared.name.WordName.TheVariants as name
+use Rattle.word_plan.specs.Words.{Writes}
+use Rattle.large_parts.specs.declared.point.LargePoint.TheVariants as large
+use Rattle.large_parts.specs.Points.{first_wanted}
+use Rattle.large_parts.specs.Runs.{WantFields, RunFields}
+use Rattle.large_parts.specs.Units.{IsInRun, IsFirstRun, IsLowestRun, run_bits, with_run}
+use Rattle.large_parts.specs.Units as units
+use Rattle.large_parts.proofs.LowestLemmas.{first_run-exact}
+use Rattle.large_parts.proofs.UnitLemmas.{run_bits-mask, with_run-inside, with_run-outside, with_run-below}
+use Rattle.pool_model.specs.declared.event.Event.TheVariants.{Alloc, Refuse}
+use Rattle.pool_model.specs.declared.owner.Owner.TheVariants.{Caller, Shelf}
+use Rattle.pool_model.specs.Legal.{IsAllowed, IsClear, IsFree, IsLegalEventWithoutCounts, IsLegalWithoutCounts, IsRefusable}
+use Rattle.pool_model.specs.Pool.{Block, block_at, fresh_block, pool_of, span_of}
+use Rattle.pool_model.specs.WellFormed.{IsPlaceFor, IsWellFormed}
+use Rattle.pool_model.proofs.HistoryLemmas.{EachAfter-push, pool_of-push}
+use Rattle.pool_model.proofs.OwnerLemmas.{free-elsewhere}
+use Rattle.pool_model.proofs.PoolLemmas.{every-found, place-found, block_at-here, block_at-past}
+use Rattle.pool_model.proofs.WellFormedLemmas.{class_span, sound-of}
+use Rattle.errand_steps.specs.declared.onward.Onward.{Onward}
+use Rattle.errand_steps.specs.declared.point.Point.{Point}
+use Rattle.errand_steps.specs.declared.point.Point.TheVariants.{Idle, Large}
+use Rattle.errand_steps.specs.declared.reply.Reply.TheVariants as reply
+use Rattle.errand_steps.specs.Errands.{ErrandFields}
+use Rattle.errand_steps.specs.Events.{event_of}
+use Rattle.errand_steps.specs.Nexts.{next_of}
+use Rattle.errand_steps.specs.Onwards.{IsRunFor}
+use Rattle.errand_steps.specs.Points.{asked, plan_point_of}
+use Rattle.errand_steps.specs.Steps.{State, Step}
+use Rattle.sound_state.specs.Holdings.{holds_of, run_handed}
+use Rattle.sound_state.specs.Lists.{Lists}
+use Rattle.sound_state.specs.Recalls.{IsOwned, recalls_of}
+use Rattle.sound_state.specs.Sound.{IsSoundWithoutCounts, IsSoundWith}
+use Rattle.sound_state.specs.Superblocks.{is_there}
+use Rattle.sound_state.specs.Ties.{IsLive, IsTied, IsExcepted, IsCovered}
+use Rattle.sound_state.proofs.pops.PopTurns.{each-other}
+use Rattle.sound_state.proofs.shared.AlikeLemmas.{Excepts}
+use Rattle.sound_state.proofs.shared.PointLemmas.{fits-at}
+use Rattle.sound_state.proofs.quiet.QuietLemmas.{words-stay}
+use Rattle.sound_state.proofs.large.TouchEffects.{IsAside, Touches, sound-touched, touched-bound, located-touched, owned-touched}
+use Rattle.sound_state.proofs.large.TouchFrees.{cases_run}
+use Rattle.sound_state.proofs.large.TouchPrefix.{frame-before, prefix-aside}
+use Rattle.sound_state.proofs.large.TouchPrefixes.{info-frame}
+use Rattle.sound_state.proofs.large.TouchShelves.{idle-aside, idle-bare, idle-recalls, same-tied}
+use Rattle.sound_state.proofs.large.TouchSteps.{TouchesAt, leaves-event, stays-still, touched-step}
+use Rattle.sound_state.proofs.large.TouchTies.{IsBareHanded, excepts-none, excepted-touched, tie-stays}
+
+-- an allocation of units serves its words by as many
+run-asked : (n : ℕ) (o : Onward) → IsRunFor n o → need_of (asked o) ≡ need.Large n
+run-asked n o h = grind (arith, h)
+
+-- what units serve isn't small
+pub large-served : (words n : ℕ) → need_of words ≡ need.Large n → nat_le words SMALL_MOST ≡ false
+unfolding need_of
+large-served words n is =
+    elim (cases_lt SMALL_MOST words) [
+      | inl above ↦ lt-leb words SMALL_MOST above
+      | inr most ↦ let e = rw (le-leb words SMALL_MOST most) at is in cc
+    ]
+
+and-false : (b c : Bool) → c ≡ false → (b && c) ≡ false
+and-false b c is = grind (arith, is)
+
+-- a clear span of units has no taken one
+clear-bits :
+    (g : Geometry) (s : State) (l : Lists) (first n i : ℕ) → IsSoundWith g s l → IsClear (pool_of s.history) (run_span g.frames first n)
+    → IsInRun first n i → i < g.units → bit_at (s.word name.Units) i ≡ 0
+clear-bits g s l first n i old clear inside has =
+    elim (cases_eq (bit_at (s.word name.Units) i) 1) [
+      | inl one ↦
+          let k = (old.tied.units i has).0 one in
+          let here : k.0.place ≡ unit_place g.frames k.1 = place-found _ (pool_of s.history) k.0 k.3 in
+          let words : usable_words k.0.need ≡ usable_words (need.Large k.2) = ap usable_words k.4 in
+          elim (clear (unit_place g.frames k.1) k.0 k.3) [
+            | inl before ↦ absurd (omega (arith, before, here, words, inside.from, inside.below, k.5, k.6))
+            | inr after ↦ absurd (omega (arith, after, here, words, inside.from, inside.below, k.5, k.6))
+          ]
+      | inr ne ↦ omega (arith, ne, bit_at-lt (s.word name.Units) i)
+    ]
+
+-- a run whose units are free is clear
+clear-need :
+    (g : Geometry) (s : State) (l : Lists) (first n : ℕ) → IsSoundWith g s l → first + n ≤ g.units → 1 ≤ n
+    → units.IsFreeRun (s.word name.Units) first n → (q : ℕ) (b : Block) → IsLive s q b → (m : Need) → b.need ≡ m → IsNeed m → IsPlaceFor g m b.place
+    → IsApart (run_span g.frames first n) (span_of b)
+clear-need g s l first n old within some free q b live (need.Small class) of is at =
+    let words : 1 + usable_words b.need ≡ 1 + usable_words (need.Small class) = ap (λ m. 1 + usable_words m) of in
+    inr (omega (arith, words, class_span class, at.2, at.4, block-within class at.1 at.3, pow_pos (class + 1)))
+clear-need g s l first n old within some free q b live (need.Large m) of is at =
+    let words : usable_words b.need ≡ usable_words (need.Large m) = ap usable_words of in
+    let here : q ≡ unit_place g.frames at.0 = sym (place-found q (pool_of s.history) b live) ∙ at.2 in
+    let there : IsLive s (unit_place g.frames at.0) b = subst (λ p. IsLive s p b) here live in
+    elim (cases_lt at.0 (first + n)) [
+      | inr behind ↦ inl (omega (arith, behind, at.2))
+      | inl before ↦
+          elim (cases_lt first (at.0 + m)) [
+            | inr past ↦ inr (omega (arith, past, at.2, words, is.0))
+            | inl over ↦
+                elim (cases_lt at.0 first) [
+                  | inl lower ↦
+                      let one : bit_at (s.word name.Units) first ≡ 1 =
+                      (old.tied.units first (omega (arith, within, some))).1 (b, at.0, m, there, of, omega (arith, lower), over) in
+                      let none = free first (record { from = omega arith; below = omega (arith, some) }) in
+                      absurd (omega (arith, one, none))
+                  | inr upper ↦
+                      let one : bit_at (s.word name.Units) at.0 ≡ 1 =
+                      (old.tied.units at.0 (omega (arith, at.1, is.0))).1 (b, at.0, m, there, of, omega arith, omega (arith, is.0)) in
+                      let none = free at.0 (record { from = upper; below = before }) in
+                      absurd (omega (arith, one, none))
+                ]
+          ]
+    ]
+clear-need g s l first n old within some free q b live need.TooLarge of is at = absurd at
+
+clear-run :
+    (g : Geometry) (s : State) (l : Lists) (first n : ℕ) → IsSoundWithoutCounts g s → IsSoundWith g s l → first + n ≤ g.units → 1 ≤ n
+    → units.IsFreeRun (s.word name.Units) first n → IsClear (pool_of s.history) (run_span g.frames first n)
+clear-run g s l first n sound old within some free q b live =
+    let formed : IsWellFormed g b = every-found (IsWellFormed g) q (pool_of s.history) b (sound-of g s.history sound.legal).each live in
+    clear-need g s l first n old within some free q b live b.need refl formed.need formed.place
+
+take-aside : (w : WantFields) (bits : ℕ) (o : Onward) → IsAside (Large (large.TakeRun w bits) o)
+unfolding holds_of
+take-aside w bits o = grind (arith)
+
+take-bare : (w : WantFields) (bits : ℕ) (o : Onward) → IsBareHanded (Large (large.TakeRun w bits) o)
+unfolding holds_of
+take-bare w bits o = grind (arith)
+
+-- there is no run
+refuse-touches :
+    (g : Geometry) (s : State) (l : Lists) (who : ℕ) (w : WantFields) (bits : ℕ) (o : Onward) → IsSoundWith g s l → s.word name.Units ≡ bits
+    → first_wanted w bits ≡ None → nat_le (asked o) SMALL_MOST ≡ false → IsAllowed g s.history (Refuse who (asked o))
+    → TouchesAt g s l who (Large (large.TakeRun w bits) o) Idle name.Units bits (s.history ++ Refuse who (asked o) ∷ [])
+unfolding plan_point_of next_of event_of
+refuse-touches g s l who w bits o old word none above allowed =
+    let won : (s.word name.Units == bits) ≡ true = eq-eqb (s.word name.Units) bits word in
+    record {
+      leads = inr (reply.Refused, rw (won, none) refl, refl);
+      here = refl;
+      written = rw (won, none) refl;
+      below = subst (λ v. v < 2 ^ 64) word (old.words name.Units);
+      touched = λ away. away;
+      lost = rw won refl;
+      cleared = refl;
+      told = rw (won, none) refl;
+      leaves =
+          leaves-event g s l who (Refuse who (asked o))
+          (record { caller = refl; gives = λ i. refl; refuses = λ i. and-false (who == i) (nat_le (asked o) SMALL_MOST) above; allocs = refl; freed = refl })
+          allowed (λ d i has bound lt. refl);
+      before = take-aside w bits o;
+      after = idle-aside;
+      recalls = idle-recalls;
+      prefixes = λ words' x d i has bound lt. x.elsewhere _ (λ same. cc);
+      stays = λ words' x i has differ. stays-still g s name.Units _ words' x (λ p same. cc) (λ away. away) (s.errand i).point;
+    }
+
+refused-sound :
+    (g : Geometry) (s : State) (who : ℕ) (s' : State) (w : WantFields) (bits : ℕ) (o : Onward) → IsSoundWithoutCounts g s → who < g.callers
+    → (s.errand who).point ≡ Large (large.TakeRun w bits) o → s.word name.Units ≡ bits → first_wanted w bits ≡ None → Step s who s' → IsSoundWithoutCounts g s'
+refused-sound g s who s' w bits o sound has at word none step =
+    let l = sound.parts.0 in
+    let old = sound.parts.1 in
+    let p : Point = Large (large.TakeRun w bits) o in
+    let fit = fits-at g s l who p old has at in
+    let served : need_of (asked o) ≡ need.Large w.units = run-asked w.units o fit.goes in
+    let exact : IsFirstRun bits w.geometry.units w.units None = subst (IsFirstRun bits w.geometry.units w.units) none (first_run-exact bits w.geometry.units w.units) in
+    let heap : w.geometry.units ≡ g.units = ap (λ (h : Geometry). h.units) fit.point.geometry in
+    let refusable : IsRefusable g s.history who (need.Large w.units) =
+    λ place free.
+    exact free.unit (omega (arith, free.in_heap, heap))
+    (λ i inside.
+    subst (λ v. bit_at v i ≡ 0) word (clear-bits g s l free.unit w.units i old free.clear inside (omega (arith, free.in_heap, inside.below)))) in
+    let allowed : IsAllowed g s.history (Refuse who (asked o)) = subst (IsRefusable g s.history who) (sym served) refusable in
+    let t =
+    touched-step g s l who s' p Idle name.Units bits (s.history ++ Refuse who (asked o) ∷ []) old has at
+    (refuse-touches g s l who w bits o old word none (large-served (asked o) w.units served) allowed) step in
+    record {
+      checked = sound.checked;
+      legal =
+          subst (IsLegalWithoutCounts g) (sym t.history)
+          (EachAfter-push (IsLegalEventWithoutCounts g) s.history (Refuse who (asked o)) sound.legal (has, allowed));
+      parts = (
+        l,
+        sound-touched g s l who _ s' t.touches old
+            (same-tied g s l who s' _ t.touches old (words-stay s.word name.Units _ s'.word t.word (sym word)) (subst IsBareHanded (sym at) (take-bare w bits o))
+            idle-bare (λ q. ap (block_at q) (ap pool_of t.history ∙ pool_of-push s.history (Refuse who (asked o))))),
+      );
+    }
+
+-- where a run is found, it is the first of these units
+abbrev run_at : ℕ → WantFields → RunFields
+run_at first w = record { first = first; units = w.units }
+
+given-touches :
+    (g : Geometry) (s : State) (l : Lists) (who : ℕ) (w : WantFields) (bits : ℕ) (o : Onward) (first : ℕ) → IsSoundWith g s l
+    → s.word name.Units ≡ bits → first_wanted w bits ≡ Some first → w.geometry ≡ g → with_run bits first w.units < 2 ^ 64
+    → nat_le (asked o) SMALL_MOST ≡ false → IsAllowed g s.history (Alloc who (asked o) (unit_place w.geometry.frames first))
+    → TouchesAt g s l who (Large (large.TakeRun w bits) o)
+    (Large (large.StoreRunPrefix (unit_place w.geometry.frames first) (run_at first w)) o) name.Units (with_run bits first w.units)
+    (s.history ++ Alloc who (asked o) (unit_place w.geometry.frames first) ∷ [])
+unfolding plan_point_of next_of event_of recalls_of
+given-touches g s l who w bits o first old word some heap below above allowed =
+    let won : (s.word name.Units == bits) ≡ true = eq-eqb (s.word name.Units) bits word in
+    let place : ℕ = unit_place w.geometry.frames first in
+    record {
+      leads = inl (rw (won, some) refl);
+      here = refl;
+      written = rw (won, some) refl;
+      below = below;
+      touched = λ away. away;
+      lost = rw won refl;
+      cleared = refl;
+      told = rw (won, some) refl;
+      leaves =
+          leaves-event g s l who (Alloc who (asked o) place)
+          (record { caller = refl; gives = λ i. and-false (who == i) (nat_le (asked o) SMALL_MOST) above; refuses = λ i. refl; allocs = above; freed = refl })
+          allowed
+          (λ d i has bound lt.
+          ap is_there
+          (block_at-past _ (fresh_block who (asked o) place) (pool_of s.history)
+          (λ same.
+          frame-before g.frames _ _ i first (info-frame g s l d old has) lt (sym same ∙ ap (λ (h : Geometry). unit_place h.frames first) heap))));
+      before = take-aside w bits o;
+      after = prefix-aside place (run_at first w) o;
+      recalls = refl;
+      prefixes = λ words' x d i has bound lt. x.elsewhere _ (λ same. cc);
+      stays = λ words' x i has differ. stays-still g s name.Units _ words' x (λ p same. cc) (λ away. away) (s.errand i).point;
+    }
+
+-- a block comes, and all other places are as they were
+pub record Comes (s s' : State) (at : ℕ) (a : Block) : Type 0 where
+  pub unlive : (p : ℕ) (b : Block) → IsLive s p b → p ≢ at
+  pub now : IsLive s' at a
+  pub elsewhere : (p : ℕ) → p ≢ at → block_at p (pool_of s'.history) ≡ block_at p (pool_of s.history)
+
+-- nothing is written in a fresh block
+none-written : (n i v : ℕ) → slice_index_or (replicate n None) i None ≡ Some v → ⊥
+none-written zero i v is = let bad : ◌≡◌ {A = Option ℕ} None (Some v) = is in cc
+none-written (suc n) zero v is = let bad : ◌≡◌ {A = Option ℕ} None (Some v) = is in cc
+none-written (suc n) (suc i) v is = none-written n i v is
+
+run-excepted : (place n : ℕ) → Any (λ b. b.place ≡ place) (run_handed place n)
+run-excepted place n = (0, record { place = place; need = need.Large n }, omega arith, refl, refl)
+
+-- the taken units are covered by the run, and the others as they were
+given-units :
+    (g : Geometry) (s s' : State) (l : Lists) (first n unit : ℕ) (a : Block) → IsSoundWith g s l
+    → Writes s.word name.Units (with_run (s.word name.Units) first n) s'.word → a.need ≡ need.Large n
+    → Comes s s' (unit_place g.frames first) a → unit < g.units
+    → (bit_at (s'.word name.Units) unit ≡ 1 → IsCovered g s' unit) × (IsCovered g s' unit → bit_at (s'.word name.Units) unit ≡ 1)
+given-units g s s' l first n unit a old w of c has =
+    let bits = s.word name.Units in
+    let t = old.tied.units unit has in
+    elim (cases_run first n unit) [
+      | inl inside ↦ (
+        λ bit. (a, first, n, c.now, of, inside.from, inside.below),
+        λ k. ap (λ x. bit_at x unit) w.here ∙ with_run-inside bits first n unit inside,
+      )
+      | inr outside ↦ (
+        λ bit.
+            let k = t.0 (sym (with_run-outside bits first n unit outside) ∙ ap (λ x. bit_at x unit) (sym w.here) ∙ bit) in
+            (k.0, k.1, k.2, c.elsewhere (unit_place g.frames k.1) (c.unlive (unit_place g.frames k.1) k.0 k.3) ∙ k.3, k.4, k.5, k.6),
+        λ k.
+            let ne : unit_place g.frames k.1 ≢ unit_place g.frames first =
+            λ same.
+            let firsts : k.1 ≡ first = omega (arith, same) in
+            let one : Some a ≡ Some k.0 = sym c.now ∙ ap (λ q. block_at q (pool_of s'.history)) (sym same) ∙ k.3 in
+            let blocks : a ≡ k.0 = cc in
+            let needs : need.Large n ≡ need.Large k.2 = sym of ∙ ap (λ (x : Block). x.need) blocks ∙ k.4 in
+            let as_many : n ≡ k.2 = cc in
+            outside (record { from = omega (arith, firsts, k.5); below = omega (arith, firsts, as_many, k.6) }) in
+            ap (λ x. bit_at x unit) w.here ∙ with_run-outside bits first n unit outside
+            ∙ t.1 (k.0, k.1, k.2, sym (c.elsewhere (unit_place g.frames k.1) ne) ∙ k.3, k.4, k.5, k.6),
+      )
+    ]
+
+some-same : (a b : Block) → Some a ≡ Some b → a ≡ b
+some-same a b one = cc
+
+given-tied :
+    (g : Geometry) (s : State) (l : Lists) (who words first n : ℕ) (s' : State) (e : ErrandFields) → Touches g s l who e s' → IsSoundWith g s l
+    → IsBareHanded (s.errand who).point → (holds_of e.point).hands ≡ run_handed (unit_place g.frames first) n → (holds_of e.point).frees ≡ []
+    → Writes s.word name.Units (with_run (s.word name.Units) first n) s'.word → need_of words ≡ need.Large n → first + n ≤ g.units
+    → Comes s s' (unit_place g.frames first) (fresh_block who words (unit_place g.frames first)) → IsTied g s' l
+given-tied g s l who words first n s' e h old bare hands frees w served within c =
+    let tied = old.tied in
+    let at : ℕ = unit_place g.frames first in
+    let a : Block = fresh_block who words at in
+    let arena = λ (p : ℕ). w.elsewhere (name.Arena p) (λ same. cc) in
+    let is_fresh = λ (p : ℕ) (b : Block) (here : p ≡ at) (live : IsLive s' p b).
+    let one : Some a ≡ Some b = sym c.now ∙ ap (λ q. block_at q (pool_of s'.history)) (sym here) ∙ live in
+    some-same a b one in
+    let was = λ (p : ℕ) (b : Block) (ne : p ≢ at) (live : IsLive s' p b). sym (c.elsewhere p ne) ∙ live in
+    let still = λ (p : ℕ) (b : Block) (live : IsLive s p b). c.elsewhere p (c.unlive p b live) ∙ live in
+    let tie = λ (p v : ℕ) (x : IsExcepted g s p ⊎ (s.word (name.Arena p) ≡ v)).
+    tie-stays g s s' p v (excepted-touched g s l who e s' h p (λ excepts. absurd (excepts-none (s.errand who) p bare excepts))) (arena p) x in
+    let mine : IsOwned s' who at (need.Large n) = record { block = (a, c.now, refl, served) } in
+    record {
+      small = λ p class b live is.
+          elim (cases_eq p at) [
+            | inl here ↦
+                let bad : need.Large n ≡ need.Small class = sym served ∙ ap (λ (x : Block). x.need) (is_fresh p b here live) ∙ is in absurd (cc)
+            | inr ne ↦
+                let t = tied.small p class b (was p b ne live) is in (
+                  t.0,
+                  record {
+                    exists = t.1.exists;
+                    bound = subst IsTrue (sym (touched-bound g s l who e s' h t.0)) t.1.bound;
+                    located = located-touched g s l who e s' h t.0 (frame_of p) class t.1.located;
+                  },
+                  tie p (2 * t.0) t.2,
+                )
+          ];
+      large = λ p m b live is.
+          elim (cases_eq p at) [
+            | inl here ↦
+                let excepts : Excepts e at = inl (subst (Any (λ x. x.place ≡ at)) (sym hands) (run-excepted at n)) in
+                inl
+                (record {
+                  who = (who, h.caller, subst (λ q. Excepts (s'.errand who) q) (sym here) (subst (λ f. Excepts f at) (sym h.moves.here) excepts));
+                })
+            | inr ne ↦ tie p (2 * m + 1) (tied.large p m b (was p b ne live) is)
+          ];
+      units = λ unit has.
+          let u = given-units g s s' l first n unit a old w served c has in (u.0, u.1);
+      no_more_units =
+          let most : 2 ^ (first + n) ≤ 2 ^ g.units = pow_mono within in
+          let run : run_bits first n < 2 ^ g.units = omega (arith, run_bits-mask first n, pow_pos first, most) in
+          subst (λ x. x < 2 ^ g.units) (sym w.here) (or_lt g.units (s.word name.Units) (run_bits first n) tied.no_more_units run);
+      shelved = λ k p b has live on.
+          elim (cases_eq p at) [
+            | inl here ↦
+                let owners : Caller who ≡ Shelf k = ap (λ (x : Block). x.owner) (is_fresh p b here live) ∙ on in absurd (cc)
+            | inr ne ↦ w.elsewhere (name.Shelf k) (λ same. cc) ∙ tied.shelved k p b has (was p b ne live) on
+          ];
+      bare_shelf = λ k has none. w.elsewhere (name.Shelf k) (λ same. cc) ∙ tied.bare_shelf k has (λ p b live on. none p b (still p b live) on);
+      contents = λ p i v b live written.
+          elim (cases_eq p at) [
+            | inl here ↦
+                absurd
+                (none-written (usable_words (need_of words)) i v
+                (ap (λ (x : Block). slice_index_or x.contents i None) (is_fresh p b here live) ∙ written))
+            | inr ne ↦ arena (p + 1 + i) ∙ tied.contents p i v b (was p b ne live) written
+          ];
+      hands =
+          each-other g (λ i e. All (λ x. IsOwned s' i x.place x.need) (holds_of e.point).hands) s.errand who e s'.errand h.moves
+          (subst (All (λ x. IsOwned s' who x.place x.need)) (sym hands)
+          (All-cons (λ x. IsOwned s' who x.place x.need) (record { place = at; need = need.Large n }) [] mine (All-nil (λ x. IsOwned s' who x.place x.need))))
+          (λ i has differ k d lt. owned-touched g s l who e s' h i _ _ differ (tied.hands i has k d lt));
+      frees =
+          each-other g (λ i e. All (λ x. IsOwned s' i x.place x.need) (holds_of e.point).frees) s.errand who e s'.errand h.moves
+          (subst (All (λ x. IsOwned s' who x.place x.need)) (sym frees) (All-nil (λ x. IsOwned s' who x.place x.need)))
+          (λ i has differ k d lt. owned-touched g s l who e s' h i _ _ differ (tied.frees i has k d lt));
+    }
+
+run-held : (place : ℕ) (run : RunFields) (o : Onward) → (holds_of (Large (large.StoreRunPrefix place run) o)).hands ≡ run_handed place run.units
+unfolding holds_of
+run-held place run o = refl
+
+run-frees : (place : ℕ) (run : RunFields) (o : Onward) → (holds_of (Large (large.StoreRunPrefix place run) o)).frees ≡ []
+unfolding holds_of
+run-frees place run o = refl
+
+given-sound :
+    (g : Geometry) (s : State) (who : ℕ) (s' : State) (w : WantFields) (bits : ℕ) (o : Onward) (first : ℕ) → IsSoundWithoutCounts g s → who < g.callers
+    → (s.errand who).point ≡ Large (large.TakeRun w bits) o → s.word name.Units ≡ bits → first_wanted w bits ≡ Some first → Step s who s' → IsSoundWithoutCounts g s'
+given-sound g s who s' w bits o first sound has at word some step =
+    let l = sound.parts.0 in
+    let old = sound.parts.1 in
+    let p : Point = Large (large.TakeRun w bits) o in
+    let fit = fits-at g s l who p old has at in
+    let n : ℕ = w.units in
+    let words : ℕ = asked o in
+    let served : need_of words ≡ need.Large n = run-asked n o fit.goes in
+    let exact : IsFirstRun bits w.geometry.units n (Some first) =
+    subst (IsFirstRun bits w.geometry.units n) some (first_run-exact bits w.geometry.units n) in
+    let lowest : IsLowestRun bits w.geometry.units n first = exact in
+    let heap : w.geometry.units ≡ g.units = ap (λ (h : Geometry). h.units) fit.point.geometry in
+    let within : first + n ≤ g.units = omega (arith, lowest.within, heap) in
+    let place : ℕ = unit_place w.geometry.frames first in
+    let here : place ≡ unit_place g.frames first = ap (λ (h : Geometry). unit_place h.frames first) fit.point.geometry in
+    let free_units : units.IsFreeRun (s.word name.Units) first n = subst (λ v. units.IsFreeRun v first n) (sym word) lowest.free in
+    let free : IsFree g (pool_of s.history) (need.Large n) place = record {
+      unit = first;
+      in_heap = within;
+      is_place = here;
+      clear = clear-run g s l first n sound old within fit.point.units.0 free_units;
+    } in
+    let free_words : IsFree g (pool_of s.history) (need_of words) place = subst (λ m. IsFree g (pool_of s.history) m place) (sym served) free in
+    let allowed : IsAllowed g s.history (Alloc who words place) = free_words in
+    let below : with_run bits first n < 2 ^ 64 =
+    with_run-below bits first n (omega (arith, within, sound.checked.units.1)) (subst (λ v. v < 2 ^ 64) word (old.words name.Units)) in
+    let q : Point = Large (large.StoreRunPrefix place (run_at first w)) o in
+    let t =
+    touched-step g s l who s' p q name.Units (with_run bits first n) (s.history ++ Alloc who words place ∷ []) old has at
+    (given-touches g s l who w bits o first old word some fit.point.geometry below (large-served words n served) allowed) step in
+    let pool = ap pool_of t.history ∙ pool_of-push s.history (Alloc who words place) in
+    let came : Comes s s' place (fresh_block who words place) = record {
+      unlive = λ x b live same. free-elsewhere g (pool_of s.history) who words place x b free_words live (sym same);
+      now = ap (block_at place) pool ∙ block_at-here place (fresh_block who words place) (pool_of s.history) refl;
+      elsewhere = λ x ne. ap (block_at x) pool ∙ block_at-past x (fresh_block who words place) (pool_of s.history) (λ same. ne (sym same));
+    } in
+    record {
+      checked = sound.checked;
+      legal = subst (IsLegalWithoutCounts g) (sym t.history) (EachAfter-push (IsLegalEventWithoutCounts g) s.history (Alloc who words place) sound.legal (has, allowed));
+      parts = (
+        l,
+        sound-touched g s l who _ s' t.touches old
+            (given-tied g s l who words first n s' _ t.touches old (subst IsBareHanded (sym at) (take-bare w bits o))
+            (run-held place (run_at first w) o ∙ ap (λ x. run_handed x n) here) (run-frees place (run_at first w) o)
+            (subst (λ v. Writes s.word name.Units (with_run v first n) s'.word) (sym word) t.word) served within
+            (subst (λ x. Comes s s' x (fresh_block who words x)) here came)),
+      );
+    }
+
+take-found :
+    (g : Geometry) (s : State) (who : ℕ) (s' : State) (w : WantFields) (bits : ℕ) (o : Onward) (found : Option ℕ) → IsSoundWithoutCounts g s → who < g.callers
+    → (s.errand who).point ≡ Large (large.TakeRun w bits) o → s.word name.Units ≡ bits → first_wanted w bits ≡ found → Step s who s' → IsSoundWithoutCounts g s'
+take-found g s who s' w bits o None sound has at word is step = refused-sound g s who s' w bits o sound has at word is step
+take-found g s who s' w bits o (Some first) sound has at word is step = given-sound g s who s' w bits o first sound has at word is step
+
+pub take_run-sound :
+    (g : Geometry) (s : State) (who : ℕ) (s' : State) (w : WantFields) (bits : ℕ) (o : Onward) → IsSoundWithoutCounts g s → who < g.callers
+    → (s.errand who).point ≡ Large (large.TakeRun w bits) o → s.word name.Units ≡ bits → Step s who s' → IsSoundWithoutCounts g s'
+take_run-sound g s who s' w bits o sound has at word step = take-found g s who s' w bits o (first_wanted w bits) sound has at word refl step

@@ -1,0 +1,261 @@
+-- A usable word that is written.
+use Rattle.std.proofs.Common.{ℕ, None, Some, ◌≡◌, ◌≢◌, ◌<◌, ◌≤◌, ◌+◌, ◌%◌, ◌^◌, [], ◌∷◌, ◌++◌, refl, arith, ap, sym, subst, inl, inr, get_or-set_same, get_or-set_other, ◌∙◌}
+use Rattle.std.specs.Prelude.{slice_index_or}
+use Rattle.std.proofs.lemmas.Bool.{cases_eq}
+use Rattle.std.proofs.lemmas.Nat.{pow_pos}
+use Rattle.std.proofs.lemmas.List.Elements.{All-head}
+use Rattle.heap_geometry.specs.declared.geometry.Geometry.{Geometry}
+use Rattle.heap_geometry.specs.Geometry.{IsChecked}
+use Rattle.heap_geometry.specs.declared.need.Need.{Need}
+use Rattle.heap_geometry.specs.declared.need.Need.TheVariants as need
+use Rattle.heap_geometry.specs.Need.{block_count_of, usable_words}
+use Rattle.heap_geometry.specs.Place.{block_place, frame_of}
+use Rattle.heap_geometry.proofs.PlaceLemmas.{block-within, frame_of-block_place, frame-apart}
+use Rattle.word_plan.specs.declared.name.WordName.{WordName}
+use Rattle.word_plan.specs.declared.name.WordName.TheVariants as name
+use Rattle.word_plan.specs.Counts.{arena_words}
+use Rattle.word_plan.specs.Words.{Writes}
+use Rattle.large_parts.specs.declared.point.LargePoint.TheVariants as large
+use Rattle.pool_model.specs.declared.event.Event.TheVariants.{Write}
+use Rattle.pool_model.specs.declared.owner.Owner.TheVariants.{Caller, Shelf}
+use Rattle.pool_model.specs.Legal.{IsAllowed, IsLegalEventWithoutCounts, IsLegalWithoutCounts}
+use Rattle.pool_model.specs.Pool.{Block, block_at, pool_of, written}
+use Rattle.pool_model.specs.WellFormed.{IsPlaceFor, IsWellFormed}
+use Rattle.pool_model.proofs.HistoryLemmas.{EachAfter-push}
+use Rattle.pool_model.proofs.PoolLemmas.{every-found, place-found}
+use Rattle.pool_model.proofs.WellFormedLemmas.{class_span, sound-of}
+use Rattle.errand_steps.specs.declared.onward.Onward.{Onward}
+use Rattle.errand_steps.specs.declared.point.Point.{Point}
+use Rattle.errand_steps.specs.declared.point.Point.TheVariants.{Idle, Large}
+use Rattle.errand_steps.specs.declared.reply.Reply.TheVariants as reply
+use Rattle.errand_steps.specs.Errands.{ErrandFields}
+use Rattle.errand_steps.specs.Events.{event_of}
+use Rattle.errand_steps.specs.Nexts.{next_of}
+use Rattle.errand_steps.specs.Points.{plan_point_of}
+use Rattle.errand_steps.specs.Steps.{State, Step}
+use Rattle.sound_state.specs.Holdings.{waiting, holds_of}
+use Rattle.sound_state.specs.Lists.{Lists}
+use Rattle.sound_state.specs.Recalls.{IsSo, IsOwned, owns, recalls_of}
+use Rattle.sound_state.specs.Sound.{IsSoundWithoutCounts, IsSoundWith}
+use Rattle.sound_state.specs.Superblocks.{info_for, errand_keeps}
+use Rattle.sound_state.specs.Ties.{IsLive, IsTied, IsBlockOfDesc}
+use Rattle.sound_state.proofs.shared.PointLemmas.{fits-at, so-at}
+use Rattle.sound_state.proofs.large.TouchEffects.{IsAwayWord, IsAside, Touches, sound-touched}
+use Rattle.sound_state.proofs.shared.FrameLemmas.{one-in-frame, in-hand-waits}
+use Rattle.sound_state.proofs.large.TouchPrefix.{arena_place, written-usable, words-apart}
+use Rattle.sound_state.proofs.large.TouchPrefixes.{KeepsPrefixes, prefixes-stay, info-frame}
+use Rattle.sound_state.proofs.large.TouchShelves.{Changes, changes-places, changed-is, changed-there, changes-from, idle-aside, idle-bare, idle-recalls}
+use Rattle.sound_state.proofs.large.TouchSteps.{TouchesAt, leaves-event, touched-step}
+use Rattle.sound_state.proofs.large.TouchTies.{IsBareHanded, tied-touched}
+
+-- a usable word of a block isn't the first one of another block of its class, nor its own first one
+inside-block :
+    (f c i0 j i : ℕ) → i < usable_words (need.Small c) → block_place f c j ≢ block_place f c i0 + 1 + i
+inside-block f c i0 j i within same =
+    elim (cases_eq j i0) [
+      | inl one ↦ let P : ℕ → Type 0 = λ k. block_place f c k ≡ block_place f c i0 + 1 + i in let bad : P i0 = subst P one same in omega (arith, bad)
+      | inr ne ↦
+          elim (frame-apart f c j i0 ne) [
+            | inl before ↦ omega (arith, before, same, class_span c, pow_pos (c + 1))
+            | inr after ↦ omega (arith, after, same, within, class_span c, pow_pos (c + 1))
+          ]
+    ]
+
+-- nor one of a block of another frame
+other-frame :
+    (f f0 c c0 i0 j i : ℕ) → f ≢ f0 → i0 < block_count_of c0 → j < block_count_of c → i < usable_words (need.Small c0)
+    → block_place f c j ≢ block_place f0 c0 i0 + 1 + i
+other-frame f f0 c c0 i0 j i ne within0 within usable same =
+    let end0 = block-within c0 i0 within0 in
+    let end1 = block-within c j within in
+    ne (omega (arith, same, end0, end1, usable, class_span c0, pow_pos (c0 + 1), pow_pos (c + 1)))
+
+-- nor where the block lies behind the frames
+behind-frames : (frames f c j place i : ℕ) → f < frames → j < block_count_of c → frames ≤ frame_of place → block_place f c j ≢ place + 1 + i
+behind-frames frames f c j place i has within behind same = omega (arith, has, same, behind, block-within c j within, pow_pos (c + 1))
+
+-- where a usable word of a live block is written, the prefix words of all superblocks stay
+payload-keeps :
+    (g : Geometry) (s : State) (l : Lists) (who place i new : ℕ) (words : WordName → ℕ) → IsSoundWithoutCounts g s → IsSoundWith g s l
+    → Writes s.word (name.Arena (place + 1 + i)) new words → (b : Block) → IsLive s place b → i < usable_words b.need
+    → (m : Need) → b.need ≡ m → IsPlaceFor g m b.place → KeepsPrefixes g s l who words
+payload-keeps g s l who place i new words sound old w b live usable (need.Small c0) of placed =
+    let t = old.tied.small place c0 b live of in
+    let d0 : ℕ = t.0 in
+    let its : IsBlockOfDesc g s l place c0 d0 = t.1 in
+    let f0 : ℕ = placed.0 in
+    let i0 : ℕ = placed.1 in
+    let here : place ≡ block_place f0 c0 i0 = sym (place-found place (pool_of s.history) b live) ∙ placed.4 in
+    let frame : (info_for s d0).frame ≡ f0 = its.located.frame ∙ ap frame_of here ∙ frame_of-block_place f0 c0 i0 placed.3 in
+    let within : i < usable_words (need.Small c0) = subst (λ m. i < usable_words m) of usable in
+    record {
+      away = λ n away. w.elsewhere n (λ same. let bad : ⊥ = subst IsAwayWord same away in bad);
+      bound = λ d j has bound lt.
+          w.elsewhere _
+          (λ same.
+          let places : block_place (info_for s d).frame (info_for s d).class j ≡ block_place f0 c0 i0 + 1 + i =
+          ap arena_place same ∙ ap (λ p. p + 1 + i) here in
+          elim (cases_eq (info_for s d).frame f0) [
+            | inl there ↦
+                let one : d ≡ d0 = one-in-frame g s l f0 d d0 old placed.2 has its.exists bound its.bound there frame in
+                let class : (info_for s d).class ≡ c0 = ap (λ k. (info_for s k).class) one ∙ its.located.class in
+                inside-block f0 c0 i0 j i within
+                (ap (λ f. block_place f c0 j) (sym there) ∙ ap (λ c. block_place (info_for s d).frame c j) (sym class) ∙ places)
+            | inr ne ↦ other-frame (info_for s d).frame f0 (info_for s d).class c0 i0 j i ne placed.3 lt within places
+          ]);
+      making = λ k f c j has other exists hand none lt.
+          w.elsewhere _
+          (λ same.
+          let places : block_place f c j ≡ block_place f0 c0 i0 + 1 + i = ap arena_place same ∙ ap (λ p. p + 1 + i) here in
+          elim (cases_eq f f0) [
+            | inl there ↦
+                let waits : 0 < errand_keeps waiting d0 (s.errand k) =
+                in-hand-waits g s l f d0 k old exists its.exists its.bound (frame ∙ sym there) has hand in
+                omega (arith, waits, none d0)
+            | inr ne ↦ other-frame f f0 c c0 i0 j i ne placed.3 lt within places
+          ]);
+    }
+payload-keeps g s l who place i new words sound old w b live usable (need.Large n) of placed =
+    let here : place ≡ b.place = sym (place-found place (pool_of s.history) b live) in
+    let behind : g.frames ≤ frame_of place = omega (arith, here, placed.2) in
+    record {
+      away = λ n away. w.elsewhere n (λ same. let bad : ⊥ = subst IsAwayWord same away in bad);
+      bound = λ d j has bound lt.
+          w.elsewhere _
+          (λ same. behind-frames g.frames _ _ j place i (info-frame g s l d old has) lt behind (ap arena_place same));
+      making = λ k f c j has other exists hand none lt. w.elsewhere _ (λ same. behind-frames g.frames f c j place i exists lt behind (ap arena_place same));
+    }
+payload-keeps g s l who place i new words sound old w b live usable need.TooLarge of placed = absurd placed
+
+write-aside : (place i value : ℕ) (o : Onward) → IsAside (Large (large.StoreWord place i value) o)
+unfolding holds_of
+write-aside place i value o = grind (arith)
+
+write-bare : (place i value : ℕ) (o : Onward) → IsBareHanded (Large (large.StoreWord place i value) o)
+unfolding holds_of
+write-bare place i value o = grind (arith)
+
+-- the arena's names are of 32 bits
+payload-uncut : (g : Geometry) (place i : ℕ) → IsChecked g → place + 1 + i < arena_words g → (place + 1 + i) % 2 ^ 32 ≡ place + 1 + i
+payload-uncut g place i checked within = omega (arith, within, checked.frames.1, checked.units.1)
+
+write-touches :
+    (g : Geometry) (s : State) (l : Lists) (who place i value : ℕ) (o : Onward) → IsSoundWithoutCounts g s → IsSoundWith g s l
+    → place + 1 + i < arena_words g → value < 2 ^ 64 → (b : Block) → IsLive s place b → i < usable_words b.need
+    → IsAllowed g s.history (Write who place i value)
+    → TouchesAt g s l who (Large (large.StoreWord place i value) o) Idle (name.Arena (place + 1 + i)) value (s.history ++ Write who place i value ∷ [])
+unfolding plan_point_of next_of event_of
+write-touches g s l who place i value o sound old within below b live usable allowed =
+    let formed : IsWellFormed g b = every-found (IsWellFormed g) place (pool_of s.history) b (sound-of g s.history sound.legal).each live in
+    let keeps = λ (words : WordName → ℕ) (w : Writes s.word (name.Arena (place + 1 + i)) value words).
+    payload-keeps g s l who place i value words sound old w b live usable b.need refl formed.place in
+    record {
+      leads = inr (reply.Wrote, refl, refl);
+      here = ap name.Arena (payload-uncut g place i sound.checked within);
+      written = refl;
+      below = below;
+      touched = λ away. away;
+      lost = refl;
+      cleared = refl;
+      told = refl;
+      leaves =
+          leaves-event g s l who (Write who place i value)
+          (record { caller = refl; gives = λ k. refl; refuses = λ k. refl; allocs = refl; freed = refl }) allowed
+          (λ d k has bound lt. changed-there place _ (written i value) (pool_of s.history) b (λ x. refl) live);
+      before = write-aside place i value o;
+      after = idle-aside;
+      recalls = idle-recalls;
+      prefixes = λ words w. (keeps words w).bound;
+      stays = λ words w k has differ. prefixes-stay g s l who words (keeps words w) old k has differ;
+    }
+
+write-tied :
+    (g : Geometry) (s : State) (l : Lists) (who place i value : ℕ) (s' : State) (e : ErrandFields) → Touches g s l who e s' → IsSoundWithoutCounts g s
+    → IsSoundWith g s l → Writes s.word (name.Arena (place + 1 + i)) value s'.word → IsBareHanded (s.errand who).point → IsBareHanded e.point
+    → (b : Block) → b.owner ≡ Caller who → i < usable_words b.need → Changes s s' place b (written i value b) → IsTied g s' l
+write-tied g s l who place i value s' e h sound old w bare_before bare_after b owned usable c =
+    let at : ℕ = place + 1 + i in
+    let arena = λ (p : ℕ) (ne : p ≢ at). w.elsewhere (name.Arena p) (λ same. ne (ap arena_place same)) in
+    let formed : IsWellFormed g b = every-found (IsWellFormed g) place (pool_of s.history) b (sound-of g s.history sound.legal).each c.was in
+    let is_changed = λ (p : ℕ) (x : Block) (here : p ≡ place) (live : IsLive s' p x). changed-is s s' place b (written i value b) c p x here live in
+    tied-touched g s l who e s' h old (changes-places s s' place b (written i value b) c) bare_before bare_after
+    (λ p x live.
+    arena p
+    (λ same.
+    elim (cases_eq p place) [
+      | inl here ↦ omega (arith, here, same)
+      | inr ne ↦ words-apart g s sound p place 0 (1 + i) x b live c.was ne (omega arith) (omega (arith, usable)) (omega (arith, same))
+    ]))
+    (w.elsewhere name.Units (λ same. cc))
+    (λ k p x has live on.
+    elim (cases_eq p place) [
+      | inl here ↦
+          let owners : Caller who ≡ Shelf k = sym owned ∙ ap (λ (y : Block). y.owner) (is_changed p x here live) ∙ on in absurd (cc)
+      | inr ne ↦ w.elsewhere (name.Shelf k) (λ same. cc) ∙ old.tied.shelved k p x has (sym (c.elsewhere p ne) ∙ live) on
+    ])
+    (λ k has none.
+    w.elsewhere (name.Shelf k) (λ same. cc)
+    ∙ old.tied.bare_shelf k has
+    (λ p x live on.
+    elim (cases_eq p place) [
+      | inl here ↦
+          let one : Some b ≡ Some x = sym c.was ∙ ap (λ q. block_at q (pool_of s.history)) (sym here) ∙ live in
+          let same : b ≡ x = cc in
+          let owners : Caller who ≡ Shelf k = sym owned ∙ ap (λ (y : Block). y.owner) same ∙ on in absurd (cc)
+      | inr ne ↦ none p x (c.elsewhere p ne ∙ live) on
+    ]))
+    (λ p j v x live said.
+    elim (cases_eq p place) [
+      | inl here ↦
+          let of : slice_index_or (written i value b).contents j None ≡ Some v = ap (λ (y : Block). slice_index_or y.contents j None) (is_changed p x here live) ∙ said in
+          elim (cases_eq j i) [
+            | inl same ↦
+                let got : slice_index_or (written i value b).contents i None ≡ Some value =
+                get_or-set_same b.contents i (Some value) None (omega (arith, usable, formed.full)) in
+                let both : Some value ≡ Some v = sym got ∙ ap (λ k. slice_index_or (written i value b).contents k None) (sym same) ∙ of in
+                let values : value ≡ v = cc in
+                ap (λ q. s'.word (name.Arena (q + 1 + j))) here ∙ ap (λ k. s'.word (name.Arena (place + 1 + k))) same ∙ w.here ∙ values
+            | inr ne ↦
+                let was : slice_index_or b.contents j None ≡ Some v = sym (get_or-set_other b.contents i j (Some value) None ne) ∙ of in
+                arena (p + 1 + j) (λ same. ne (omega (arith, here, same)))
+                ∙ old.tied.contents p j v b (subst (λ q. IsLive s q b) (sym here) c.was) was
+          ]
+      | inr ne ↦
+          let was : IsLive s p x = sym (c.elsewhere p ne) ∙ live in
+          arena (p + 1 + j)
+          (λ same.
+          words-apart g s sound p place (1 + j) (1 + i) x b was c.was ne (omega (arith, written-usable g s sound p j v x was said)) (omega (arith, usable))
+          (omega (arith, same)))
+          ∙ old.tied.contents p j v x was said
+    ])
+
+-- a store of a usable word keeps the state sound
+pub store_word-sound :
+    (g : Geometry) (s : State) (who : ℕ) (s' : State) (place i value : ℕ) (o : Onward) → IsSoundWithoutCounts g s → who < g.callers
+    → (s.errand who).point ≡ Large (large.StoreWord place i value) o → Step s who s' → IsSoundWithoutCounts g s'
+unfolding recalls_of
+store_word-sound g s who s' place i value o sound has at step =
+    let l = sound.parts.0 in
+    let old = sound.parts.1 in
+    let p : Point = Large (large.StoreWord place i value) o in
+    let fit = fits-at g s l who p old has at in
+    let so : IsSo g s l who (owns place i) = All-head (IsSo g s l who) (owns place i) [] (so-at g s l who p old has at) in
+    let owned : IsOwned s who place so.0 = so.1 in
+    let b : Block = owned.block.0 in
+    let usable : i < usable_words b.need = subst (λ m. i < usable_words m) (sym owned.block.3) so.2 in
+    let allowed : IsAllowed g s.history (Write who place i value) = (b, owned.block.1, owned.block.2, usable) in
+    let t =
+    touched-step g s l who s' p Idle (name.Arena (place + 1 + i)) value (s.history ++ Write who place i value ∷ []) old has at
+    (write-touches g s l who place i value o sound old fit.point.0 fit.point.1 b owned.block.1 usable allowed) step in
+    let c : Changes s s' place b (written i value b) =
+    changes-from s s' (Write who place i value) place (written i value) b t.history refl (λ x. refl) (λ x. refl) owned.block.1 in
+    record {
+      checked = sound.checked;
+      legal = subst (IsLegalWithoutCounts g) (sym t.history) (EachAfter-push (IsLegalEventWithoutCounts g) s.history (Write who place i value) sound.legal (has, allowed));
+      parts = (
+        l,
+        sound-touched g s l who _ s' t.touches old
+            (write-tied g s l who place i value s' _ t.touches sound old t.word (subst IsBareHanded (sym at) (write-bare place i value o)) idle-bare b
+            owned.block.2 usable c),
+      );
+    }

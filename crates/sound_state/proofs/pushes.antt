@@ -1,0 +1,9 @@
+pub mod PushChains
+pub mod PushEffects
+pub mod PushFacts
+pub mod PushKept
+pub mod PushRecalls
+pub mod PushSound
+pub mod PushSteps
+pub mod PushTies
+pub mod PushTurns

@@ -1,0 +1,12 @@
+pub mod QuietBlocks
+pub mod QuietCredits
+pub mod QuietDescs
+pub mod QuietEnds
+pub mod QuietExchanges
+pub mod QuietLarge
+pub mod QuietLemmas
+pub mod QuietLinks
+pub mod QuietPartials
+pub mod QuietPops
+pub mod QuietPushes
+pub mod QuietStacks

@@ -1,0 +1,289 @@
+-- A credit is taken, and reserved blocks are offered.
+use Rattle.std.proofs.Common.{ℕ, zero, suc, false, Option, Some, None, ◌≡◌, ◌≢◌, ◌<◌, ◌+◌, ◌*◌, ◌-◌, ◌^◌, [], refl, arith, ap, sym, subst, inl, inr, ◌∙◌, eq-eqb, ne_eqb}
+use Rattle.std.specs.Prelude.{◌==◌, All, IsTrue, if◌then◌else◌}
+use Rattle.std.proofs.lemmas.Bool.{cond-true, cond-false, cases_eq}
+use Rattle.std.proofs.lemmas.List.Elements.{All-nil, All-cons, All-head}
+use Rattle.heap_geometry.specs.declared.geometry.Geometry.{Geometry}
+use Rattle.heap_geometry.specs.Geometry.{IsChecked}
+use Rattle.packed_words.specs.declared.active.ActiveWord.{ActiveWord}
+use Rattle.packed_words.specs.declared.active.ActiveWord.TheVariants.{Null, Held}
+use Rattle.packed_words.specs.declared.widths.TheConstants.{CREDIT_BITS}
+use Rattle.packed_words.specs.Active.{IsActiveWord, active_word, active_of}
+use Rattle.packed_words.proofs.ActiveLemmas.{active-exact}
+use Rattle.word_plan.specs.declared.action.Action.TheVariants.{Cas}
+use Rattle.word_plan.specs.declared.name.WordName.TheVariants as name
+use Rattle.word_plan.specs.declared.seat.Site.{Site}
+use Rattle.word_plan.specs.Counts.{descriptor_count}
+use Rattle.word_plan.specs.Seats.{SeatFields, heap_of}
+use Rattle.word_plan.specs.Sites.{IsSeatOf, active_name}
+use Rattle.word_plan.specs.Table.{Exists}
+use Rattle.word_plan.proofs.CountLemmas.{descriptor_count_within}
+use Rattle.word_plan.proofs.SeatLemmas.{heap_of-within}
+use Rattle.superblock_parts.specs.declared.point.BlockPoint.TheVariants as block
+use Rattle.superblock_parts.specs.declared.point.Share.TheVariants.{Credit, LastCredit}
+use Rattle.errand_steps.specs.declared.onward.Onward.{Onward}
+use Rattle.errand_steps.specs.declared.point.Point.{Point}
+use Rattle.errand_steps.specs.declared.point.Point.TheVariants.{Block}
+use Rattle.errand_steps.specs.declared.next.Next.TheVariants.{At}
+use Rattle.errand_steps.specs.Events.{event_of}
+use Rattle.errand_steps.specs.Nexts.{next_of}
+use Rattle.errand_steps.specs.Points.{plan_point_of}
+use Rattle.errand_steps.specs.Steps.{State, Step}
+use Rattle.sound_state.specs.Guards.{IsHazard}
+use Rattle.sound_state.specs.Holdings.{Kept, holds_of, reserving}
+use Rattle.sound_state.specs.Keepers.{IsKeptAs, IsActive, word_keeps}
+use Rattle.sound_state.specs.Lists.{Lists}
+use Rattle.sound_state.specs.Recalls.{IsSo, IsOwned, recalls_of, bound_for}
+use Rattle.sound_state.specs.Sound.{IsSoundWithoutCounts, IsSoundWith}
+use Rattle.sound_state.specs.Superblocks.{is_bound}
+use Rattle.sound_state.proofs.shared.PointLemmas.{so-at, fits-at}
+use Rattle.sound_state.proofs.quiet.QuietExchanges.{take_credit-lost, install_credits-lost}
+use Rattle.sound_state.proofs.shared.CreditLemmas.{actives-written, active-bound, word-keeps-away, won-at}
+
+-- the numbers of an active word fit, and it says them
+pub held-fits : (g : Geometry) (d credits : ℕ) → IsChecked g → d < descriptor_count g → credits < 2 ^ CREDIT_BITS → IsActiveWord (Held d credits)
+held-fits g d credits checked has few = (omega (arith, has, descriptor_count_within g checked), few)
+
+pub null-said : active_of (active_word Null) ≡ Some Null
+null-said = active-exact.back Null tt
+
+pub null-none : active_word Null ≡ 0
+unfolding active_word
+null-none = refl
+
+pub held-said : (d credits : ℕ) → IsActiveWord (Held d credits) → active_of (active_word (Held d credits)) ≡ Some (Held d credits)
+held-said d credits fit = active-exact.back (Held d credits) fit
+
+-- it isn't 0
+pub held-some : (d credits : ℕ) → (active_word (Held d credits) == 0) ≡ false
+unfolding active_word
+held-some d credits = ne_eqb (credits + (d + 1) * 2 ^ CREDIT_BITS) 0 (λ e. let bad : ⊥ = omega (arith, e) in bad)
+
+-- the descriptor that a word says
+abbrev desc_said : Option ActiveWord → ℕ
+desc_said None = 0
+desc_said (Some Null) = 0
+desc_said (Some (Held d credits)) = d
+
+held-desc : (d credits e others : ℕ) → Some (Held d credits) ≡ Some (Held e others) → d ≡ e
+held-desc d credits e others same = ap desc_said same
+
+-- a seat's active word is one of the heap's
+pub seat-active : (g : Geometry) (who : ℕ) (seat : SeatFields) → IsChecked g → IsSeatOf g who seat → Exists g (active_name seat)
+seat-active g who seat checked of =
+    let heaps : seat.geometry.heaps ≡ g.heaps = ap (λ (h : Geometry). h.heaps) of.geometry in
+    let within : heap_of seat < seat.geometry.heaps = heap_of-within seat (omega (arith, heaps, checked.heaps.0)) in
+    (omega (arith, within, heaps), of.class)
+
+-- what was held in an active word that gives a credit
+credit-held :
+    (g : Geometry) (s : State) (l : Lists) (who : ℕ) (seat : SeatFields) (d credits : ℕ) (o : Onward) → IsChecked g → IsSoundWith g s l
+    → who < g.callers → (s.errand who).point ≡ Block (block.TakeCredit seat d credits) o
+    → s.word (active_name seat) ≡ active_word (Held d credits)
+    → Exists g (active_name seat) × IsActiveWord (Held d credits) × (d < descriptor_count g) × IsActive s d seat.class × IsTrue (is_bound g s l d)
+credit-held g s l who seat d credits o checked old has at is =
+    let fit = (fits-at g s l who (Block (block.TakeCredit seat d credits) o) old has at).point in
+    let exists : Exists g (active_name seat) = seat-active g who seat checked fit.0.seat in
+    let word : IsActiveWord (Held d credits) = held-fits g d credits checked fit.0.desc fit.1 in
+    let says : active_of (s.word (active_name seat)) ≡ Some (Held d credits) = ap active_of is ∙ held-said d credits word in
+    let active = old.kept.active (heap_of seat) seat.class d credits exists.0 exists.1 says in
+    let keeps : word_keeps d (active_name seat) (s.word (active_name seat)) ≡ 1 = rw says (cond-true {A = ℕ} (d == d) 1 0 (eq-eqb d d refl)) in (
+      exists,
+      word,
+      active.0,
+      active.1,
+      active-bound g s l d seat.class (word-keeps-away g s l d (active_name seat) old.kept active.0 exists keeps) active.1,
+    )
+
+-- the last credit is taken: the word becomes null, and the caller keeps the descriptor
+take_credit-last :
+    (g : Geometry) (s : State) (who : ℕ) (s' : State) (seat : SeatFields) (d : ℕ) (o : Onward) → IsSoundWithoutCounts g s → who < g.callers
+    → (s.errand who).point ≡ Block (block.TakeCredit seat d 0) o → s.word (active_name seat) ≡ active_word (Held d 0) → Step s who s'
+    → IsSoundWithoutCounts g s'
+unfolding plan_point_of next_of event_of holds_of recalls_of
+take_credit-last g s who s' seat d o sound has at is step =
+    let p : Point = Block (block.TakeCredit seat d 0) o in
+    let fit = credit-held g s sound.parts.0 who seat d 0 o sound.checked sound.parts.1 has at is in
+    let null = null-said in
+    let held = held-said d 0 fit.1 in
+    let some = held-some d 0 in
+    won-at g s who s' p (Block (block.LoadInfo seat d LastCredit) o) (active_name seat) (active_word (Held d 0)) (active_word Null) sound has at
+    (record {
+      plan = refl;
+      next = refl;
+      event = refl;
+      cleared = refl;
+      below = active-exact.fits Null tt;
+      weighs = record {
+        still = λ plain. absurd plain;
+        reserves = λ e. rw (null, held) (grind (arith));
+        waits = λ e. grind (arith);
+        ways = λ e. grind (arith);
+        places = λ e. rw (null, held) (grind (arith));
+        frames = refl;
+        stock = λ class. rw (null-none, some) (grind (arith));
+      };
+      goes = λ l old.
+          let old_fit = credit-held g s l who seat d 0 o sound.checked old has at is in
+          record {
+            kept =
+                All-cons (λ (k : Kept). IsKeptAs s k.status k.desc k.class) (record { desc = d; class = seat.class; status = reserving }) []
+                old_fit.3 (All-nil _);
+            so = All-cons (IsSo g s l who) (bound_for d seat.class) [] (old_fit.4, old_fit.3.class) (All-nil (IsSo g s l who));
+            hazard = subst (λ r. IsHazard (holds_of r).hazard (s.word (name.Hazard who))) at (old.guarded.words who has);
+            guard = λ d word guard. guard;
+            pushed = refl;
+            passed = refl;
+            unread = refl;
+            spare = refl;
+            hands = All-nil _;
+            frees = All-nil _;
+            excepts = λ place x. x;
+            turn = grind (arith);
+          };
+      actives = λ l old words' w.
+          actives-written g s l (heap_of seat) seat.class (active_word Null) words' old.kept w (rw null refl)
+          (λ e credits says. absurd (let bad : Some Null ≡ Some (Held e credits) = sym null ∙ says in cc));
+    })
+    is step
+
+-- a credit is taken that is not the last one
+take_credit-more :
+    (g : Geometry) (s : State) (who : ℕ) (s' : State) (seat : SeatFields) (d credits : ℕ) (o : Onward) → IsSoundWithoutCounts g s → who < g.callers
+    → (s.errand who).point ≡ Block (block.TakeCredit seat d credits) o → s.word (active_name seat) ≡ active_word (Held d credits)
+    → credits ≢ 0 → Step s who s' → IsSoundWithoutCounts g s'
+unfolding plan_point_of next_of event_of holds_of recalls_of
+take_credit-more g s who s' seat d credits o sound has at is some_left step =
+    let left : ℕ = credits - 1 in
+    let one : credits ≡ left + 1 = omega (arith, some_left) in
+    let none : (credits == 0) ≡ false = ne_eqb credits 0 some_left in
+    let p : Point = Block (block.TakeCredit seat d credits) o in
+    let fit = credit-held g s sound.parts.0 who seat d credits o sound.checked sound.parts.1 has at is in
+    let fit_less : IsActiveWord (Held d left) = (fit.1.0, omega (arith, fit.1.1)) in
+    let less = held-said d left fit_less in
+    let held = held-said d credits fit.1 in
+    let some = held-some d credits in
+    let some_less = held-some d left in
+    won-at g s who s' p (Block (block.LoadInfo seat d Credit) o) (active_name seat) (active_word (Held d credits)) (active_word (Held d left))
+    sound has at
+    (record {
+      plan = ap (Cas (active_name seat) (active_word (Held d credits))) (cond-false {A = ℕ} (credits == 0) (active_word Null) (active_word (Held d left)) none);
+      next = ap (λ b. At (Block (block.LoadInfo seat d (if b then LastCredit else Credit)) o)) none;
+      event = refl;
+      cleared = refl;
+      below = active-exact.fits (Held d left) fit_less;
+      weighs = record {
+        still = λ plain. absurd plain;
+        reserves = λ e. rw (less, held) (grind (arith, one));
+        waits = λ e. refl;
+        ways = λ e. refl;
+        places = λ e. rw (less, held) (grind (arith, one));
+        frames = refl;
+        stock = λ class. rw (some_less, some) (grind (arith));
+      };
+      goes = λ l old.
+          let old_fit = credit-held g s l who seat d credits o sound.checked old has at is in
+          record {
+            kept = All-nil _;
+            so = All-cons (IsSo g s l who) (bound_for d seat.class) [] (old_fit.4, old_fit.3.class) (All-nil (IsSo g s l who));
+            hazard = subst (λ r. IsHazard (holds_of r).hazard (s.word (name.Hazard who))) at (old.guarded.words who has);
+            guard = λ d word guard. guard;
+            pushed = refl;
+            passed = refl;
+            unread = refl;
+            spare = refl;
+            hands = All-nil _;
+            frees = All-nil _;
+            excepts = λ place x. x;
+            turn = grind (arith);
+          };
+      actives = λ l old words' w.
+          let old_fit = credit-held g s l who seat d credits o sound.checked old has at is in
+          actives-written g s l (heap_of seat) seat.class (active_word (Held d left)) words' old.kept w (rw less refl)
+          (λ e others says.
+          let same : d ≡ e = held-desc d left e others (sym less ∙ says) in
+          (subst (λ k. k < descriptor_count g) same old_fit.2, subst (λ k. IsActive s k seat.class) same old_fit.3));
+    })
+    is step
+
+-- a credit is taken
+pub take_credit-won :
+    (g : Geometry) (s : State) (who : ℕ) (s' : State) (seat : SeatFields) (d credits : ℕ) (o : Onward) → IsSoundWithoutCounts g s → who < g.callers
+    → (s.errand who).point ≡ Block (block.TakeCredit seat d credits) o → s.word (active_name seat) ≡ active_word (Held d credits)
+    → Step s who s' → IsSoundWithoutCounts g s'
+take_credit-won g s who s' seat d zero o sound has at is step = take_credit-last g s who s' seat d o sound has at is step
+take_credit-won g s who s' seat d (suc left) o sound has at is step = take_credit-more g s who s' seat d (suc left) o sound has at is (omega arith) step
+
+pub take_credit-sound :
+    (g : Geometry) (s : State) (who : ℕ) (s' : State) (seat : SeatFields) (d credits : ℕ) (o : Onward) → IsSoundWithoutCounts g s → who < g.callers
+    → (s.errand who).point ≡ Block (block.TakeCredit seat d credits) o → Step s who s' → IsSoundWithoutCounts g s'
+take_credit-sound g s who s' seat d credits o sound has at step =
+    elim (cases_eq (s.word (active_name seat)) (active_word (Held d credits))) [
+      | inl is ↦ take_credit-won g s who s' seat d credits o sound has at is step
+      | inr other ↦ take_credit-lost g s who s' seat d credits o sound has at other step
+    ]
+
+-- reserved blocks are offered: they and the descriptor go into the word
+pub install_credits-won :
+    (g : Geometry) (s : State) (who : ℕ) (s' : State) (site : Site) (i more : ℕ) (o : Onward) → IsSoundWithoutCounts g s → who < g.callers
+    → (s.errand who).point ≡ Block (block.InstallCredits site i more) o → s.word (active_name site.seat) ≡ active_word Null → Step s who s'
+    → IsSoundWithoutCounts g s'
+unfolding plan_point_of next_of event_of holds_of recalls_of
+install_credits-won g s who s' site i more o sound has at is step =
+    let p : Point = Block (block.InstallCredits site i more) o in
+    let d : ℕ = site.desc in
+    let fit = (fits-at g s sound.parts.0 who p sound.parts.1 has at).point in
+    let word : IsActiveWord (Held d (more - 1)) = held-fits g d (more - 1) sound.checked fit.0.site.desc (omega (arith, fit.1.0, fit.1.1)) in
+    let some_more : more ≡ more - 1 + 1 = omega (arith, fit.1.0) in
+    let null = null-said in
+    let held = held-said d (more - 1) word in
+    let some = held-some d (more - 1) in
+    won-at g s who s' p (Block (block.StorePrefix site i) o) (active_name site.seat) (active_word Null) (active_word (Held d (more - 1))) sound has at
+    (record {
+      plan = refl;
+      next = refl;
+      event = refl;
+      cleared = refl;
+      below = active-exact.fits (Held d (more - 1)) word;
+      weighs = record {
+        still = λ plain. absurd plain;
+        reserves = λ e. rw (null, held) (grind (arith, some_more));
+        waits = λ e. grind (arith);
+        ways = λ e. grind (arith);
+        places = λ e. rw (null, held) (grind (arith));
+        frames = refl;
+        stock = λ class. rw (null-none, some) (grind (arith));
+      };
+      goes = λ l old. record {
+        kept = All-nil _;
+        so = so-at g s l who p old has at;
+        hazard = subst (λ r. IsHazard (holds_of r).hazard (s.word (name.Hazard who))) at (old.guarded.words who has);
+        guard = λ d word guard. guard;
+        pushed = refl;
+        passed = refl;
+        unread = refl;
+        spare = refl;
+        hands = subst (λ r. All (λ b. IsOwned s who b.place b.need) (holds_of r).hands) at (old.tied.hands who has);
+        frees = All-nil _;
+        excepts = λ place x. x;
+        turn = grind (arith);
+      };
+      actives = λ l old words' w.
+          let kept : IsActive s d site.seat.class =
+          All-head (λ (k : Kept). IsKeptAs s k.status k.desc k.class) (record { desc = d; class = site.seat.class; status = reserving }) []
+          (subst (λ r. All (λ k. IsKeptAs s k.status k.desc k.class) (holds_of r).kept) at (old.kept.errand who has)) in
+          actives-written g s l (heap_of site.seat) site.seat.class (active_word (Held d (more - 1))) words' old.kept w (rw held refl)
+          (λ e credits says.
+          let same : d ≡ e = held-desc d (more - 1) e credits (sym held ∙ says) in
+          (subst (λ k. k < descriptor_count g) same fit.0.site.desc, subst (λ k. IsActive s k site.seat.class) same kept));
+    })
+    is step
+
+pub install_credits-sound :
+    (g : Geometry) (s : State) (who : ℕ) (s' : State) (site : Site) (i more : ℕ) (o : Onward) → IsSoundWithoutCounts g s → who < g.callers
+    → (s.errand who).point ≡ Block (block.InstallCredits site i more) o → Step s who s' → IsSoundWithoutCounts g s'
+install_credits-sound g s who s' site i more o sound has at step =
+    elim (cases_eq (s.word (active_name site.seat)) (active_word Null)) [
+      | inl is ↦ install_credits-won g s who s' site i more o sound has at is step
+      | inr other ↦ install_credits-lost g s who s' site i more o sound has at other step
+    ]

@@ -1,0 +1,275 @@
+-- Quiet steps at a stack: loads, and exchanges that are lost.
+use Rattle.std.proofs.Common.{ℕ, ◌≡◌, ◌≢◌, ◌<◌, ◌≤◌, ◌-◌, List, [], ◌∷◌, refl, arith, sym, subst}
+use Rattle.std.specs.Prelude.{◌==◌, All, nat_le, if◌then◌else◌}
+use Rattle.std.proofs.lemmas.Bool.{cond_both, cond-true, eq-eqb, eqb-true, eqb-false, ne_eqb}
+use Rattle.std.proofs.lemmas.List.Elements.{All-cons, All-head, All-tail}
+use Rattle.heap_geometry.specs.declared.geometry.Geometry.{Geometry}
+use Rattle.heap_geometry.specs.declared.limits.TheConstants.{CLASSES}
+use Rattle.packed_words.specs.Head.{HeadFields, head_word, head_of}
+use Rattle.word_plan.specs.Seats.{SeatFields}
+use Rattle.superblock_parts.specs.Chains.{occurs}
+use Rattle.stack_parts.specs.declared.point.Pile.{Pile}
+use Rattle.stack_parts.specs.declared.point.Pile.TheVariants.{Frames, Partials}
+use Rattle.stack_parts.specs.declared.point.StackPoint.{StackPoint}
+use Rattle.stack_parts.specs.declared.point.StackPoint.TheVariants as stack
+use Rattle.stack_parts.specs.Piles.{head_name, next_name, pile_limit}
+use Rattle.stack_parts.specs.Points.{after_top, after_below}
+use Rattle.stack_parts.specs.Stacks.{Stacked, next_in}
+use Rattle.errand_steps.specs.declared.onward.Onward.{Onward}
+use Rattle.errand_steps.specs.declared.onward.Onward.TheVariants.{Clear}
+use Rattle.errand_steps.specs.declared.next.Next.{Next}
+use Rattle.errand_steps.specs.declared.next.Next.TheVariants.{At}
+use Rattle.errand_steps.specs.declared.point.Point.{Point}
+use Rattle.errand_steps.specs.declared.point.Point.TheVariants.{Stack}
+use Rattle.errand_steps.specs.Errands.{point_after}
+use Rattle.errand_steps.specs.Events.{event_of}
+use Rattle.errand_steps.specs.Fits.{FitsPoint, FitsInStack}
+use Rattle.errand_steps.specs.Nexts.{next_of, enter_stack, found_empty}
+use Rattle.errand_steps.specs.Points.{plan_point_of}
+use Rattle.errand_steps.specs.Steps.{State, Step}
+use Rattle.sound_state.specs.Holdings.{holds_of}
+use Rattle.sound_state.specs.Lists.{Lists, IsListed}
+use Rattle.sound_state.specs.Recalls.{IsSo, list_of, onward_recalls, recalls_of, tops, nexts, tops_exist, says}
+use Rattle.sound_state.specs.Sound.{IsSoundWithoutCounts, IsSoundWith}
+use Rattle.sound_state.proofs.quiet.QuietLemmas.{HoldsSame, quiet-at}
+
+-- what a caller remembers at its point is so
+so-at :
+    (g : Geometry) (s : State) (l : Lists) (who : ℕ) (p : Point) → IsSoundWith g s l → who < g.callers → (s.errand who).point ≡ p
+    → All (IsSo g s l who) (recalls_of p)
+so-at g s l who p sound has at = subst (λ r. All (IsSo g s l who) (recalls_of r)) at (sound.remembered.so who has)
+
+-- what it remembers at a stack fits there
+fits-at :
+    (g : Geometry) (s : State) (l : Lists) (who : ℕ) (p : StackPoint) (o : Onward) → IsSoundWith g s l → who < g.callers
+    → (s.errand who).point ≡ Stack p o → FitsInStack (s.errand who).geometry (s.errand who).caller p o
+fits-at g s l who p o sound has at =
+    subst (λ r. FitsPoint (s.errand who).geometry (s.errand who).caller r) at (sound.errands who has).rule.point
+
+-- an index on top of a stack is in its list
+top-listed : (next : ℕ → ℕ) (top : ℕ) (xs : List ℕ) → Stacked next top xs → top ≢ 0 → 0 < occurs (top - 1) xs
+top-listed next top [] stack some = absurd (some stack)
+top-listed next top (x ∷ xs) stack some =
+    let here : x ≡ top - 1 = omega (arith, stack.0) in
+    omega (arith, cond-true {A = ℕ} (x == top - 1) 1 0 (eq-eqb x (top - 1) here))
+
+-- and exists where the list's indexes do
+top-exists :
+    (next : ℕ → ℕ) (top limit : ℕ) (xs : List ℕ) → Stacked next top xs → All (λ i. i < limit) xs → top ≤ limit
+top-exists next top limit [] stack exist = omega (arith, stack)
+top-exists next top limit (x ∷ xs) stack exist = omega (arith, stack.0, All-head (λ i. i < limit) x xs exist)
+
+-- the stack of a pile is the list of the sound state
+pub pile-stacked :
+    (g : Geometry) (s : State) (l : Lists) (seat : SeatFields) (pile : Pile) → IsListed g s.word l → seat.class < CLASSES
+    → Stacked (next_in s.word pile) (head_of (s.word (head_name seat pile))).top (list_of l seat pile)
+pile-stacked g s l seat Frames listed has = listed.frames
+pile-stacked g s l seat Partials listed has = listed.partials seat.class has
+
+pub pile-exists :
+    (g : Geometry) (s : State) (l : Lists) (seat : SeatFields) (pile : Pile) → IsListed g s.word l → seat.class < CLASSES
+    → All (λ i. i < pile_limit g pile) (list_of l seat pile)
+pile-exists g s l seat Frames listed has = listed.frames_exist
+pile-exists g s l seat Partials listed has = listed.partials_exist seat.class has
+
+-- at another point of a stack a caller with the same continuation holds the same
+pops-same :
+    (p q : StackPoint) (o : Onward) → holds_of (Stack q o) ≡ holds_of (Stack p o) → HoldsSame (Stack p o) (Stack q o)
+pops-same p q o same = record {
+  holds = same;
+  waits = λ class. refl;
+  pushed = refl;
+  passed = refl;
+  unread = refl;
+  spare = refl;
+  turn = record { under_way = omega arith; discards = omega arith; unanswered = omega arith; unframed = omega arith; pops = omega arith };
+}
+
+-- a step that goes on quietly to where this leads
+record LeadsQuietly (g : Geometry) (s : State) (who : ℕ) (p : Point) (n : Next) : Type 0 where
+  next : n ≡ At (point_after n)
+  holds : HoldsSame p (point_after n)
+  so : (l : Lists) → IsSoundWith g s l → All (IsSo g s l who) (recalls_of (point_after n))
+
+-- a head that is read for a push: its top exists
+pub load_top_to_push-sound :
+    (g : Geometry) (s : State) (who : ℕ) (s' : State) (seat : SeatFields) (pile : Pile) (i : ℕ) (o : Onward) → IsSoundWithoutCounts g s
+    → who < g.callers → (s.errand who).point ≡ Stack (stack.LoadTopToPush seat pile i) o → Step s who s' → IsSoundWithoutCounts g s'
+unfolding plan_point_of next_of event_of holds_of recalls_of
+load_top_to_push-sound g s who s' seat pile i o sound has at step =
+    let p = stack.LoadTopToPush seat pile i in
+    let h = head_of (s.word (head_name seat pile)) in
+    quiet-at g s who s' (Stack p o) (Stack (stack.StoreBelow seat pile i h) o) sound has at
+    (record {
+      next = refl;
+      event = refl;
+      cleared = refl;
+      word = refl;
+      holds = pops-same p (stack.StoreBelow seat pile i h) o refl;
+      so = λ l old.
+          let class = (fits-at g s l who p o old has at).point.seat.class in
+          All-cons (IsSo g s l who) (tops_exist seat pile h) (onward_recalls seat o)
+          (top-exists (next_in s.word pile) h.top (pile_limit g pile) (list_of l seat pile) (pile-stacked g s l seat pile old.listed class)
+          (pile-exists g s l seat pile old.listed class))
+          (so-at g s l who (Stack p o) old has at);
+    })
+    step
+
+-- the next word of the index on top is read: it is remembered as it is
+below-leads :
+    (g : Geometry) (s : State) (who : ℕ) (seat : SeatFields) (pile : Pile) (h : HeadFields) (o : Onward) → who < g.callers
+    → (s.errand who).point ≡ Stack (stack.LoadBelow seat pile h) o
+    → LeadsQuietly g s who (Stack (stack.LoadBelow seat pile h) o)
+    (enter_stack (after_below seat pile h (s.word (next_name pile (h.top - 1)))) o)
+unfolding holds_of recalls_of
+below-leads g s who seat pile h o has at =
+    let p = stack.LoadBelow seat pile h in
+    let below = s.word (next_name pile (h.top - 1)) in
+    let q = stack.PopTop seat pile h below in
+    cond_both (nat_le below (pile_limit seat.geometry pile)) q p (λ r. LeadsQuietly g s who (Stack p o) (enter_stack r o))
+    (λ within. record {
+      next = refl;
+      holds = pops-same p q o refl;
+      so = λ l old.
+          All-cons (IsSo g s l who) (nexts seat pile h below) (tops seat pile h ∷ onward_recalls seat o) (λ same. refl)
+          (so-at g s l who (Stack p o) old has at);
+    })
+    (λ beyond. record { next = refl; holds = pops-same p p o refl; so = λ l old. so-at g s l who (Stack p o) old has at })
+
+pub load_below-sound :
+    (g : Geometry) (s : State) (who : ℕ) (s' : State) (seat : SeatFields) (pile : Pile) (h : HeadFields) (o : Onward) → IsSoundWithoutCounts g s
+    → who < g.callers → (s.errand who).point ≡ Stack (stack.LoadBelow seat pile h) o → Step s who s' → IsSoundWithoutCounts g s'
+unfolding plan_point_of next_of event_of
+load_below-sound g s who s' seat pile h o sound has at step =
+    let leads = below-leads g s who seat pile h o has at in
+    quiet-at g s who s' (Stack (stack.LoadBelow seat pile h) o) _ sound has at
+    (record { next = leads.next; event = refl; cleared = refl; word = refl; holds = leads.holds; so = leads.so }) step
+
+-- a pop that is lost begins again
+pub pop_top_lost-sound :
+    (g : Geometry) (s : State) (who : ℕ) (s' : State) (seat : SeatFields) (pile : Pile) (h : HeadFields) (below : ℕ) (o : Onward)
+    → IsSoundWithoutCounts g s → who < g.callers → (s.errand who).point ≡ Stack (stack.PopTop seat pile h below) o
+    → s.word (head_name seat pile) ≢ head_word h → Step s who s' → IsSoundWithoutCounts g s'
+unfolding plan_point_of next_of event_of holds_of recalls_of
+pop_top_lost-sound g s who s' seat pile h below o sound has at lost step =
+    let p = stack.PopTop seat pile h below in
+    let q = stack.LoadTop seat pile in
+    let differs = ne_eqb (s.word (head_name seat pile)) (head_word h) lost in
+    quiet-at g s who s' (Stack p o) (Stack q o) sound has at
+    (record {
+      next = rw differs refl;
+      event = rw differs refl;
+      cleared = refl;
+      word = rw differs refl;
+      holds = pops-same p q o refl;
+      so = λ l old.
+          All-tail (IsSo g s l who) (tops seat pile h) (onward_recalls seat o)
+          (All-tail (IsSo g s l who) (nexts seat pile h below) (tops seat pile h ∷ onward_recalls seat o)
+          (so-at g s l who (Stack p o) old has at));
+    })
+    step
+
+-- so does the look whether the stack is still empty
+pub confirm_empty_lost-sound :
+    (g : Geometry) (s : State) (who : ℕ) (s' : State) (seat : SeatFields) (pile : Pile) (h : HeadFields) (o : Onward) → IsSoundWithoutCounts g s
+    → who < g.callers → (s.errand who).point ≡ Stack (stack.ConfirmEmpty seat pile h) o
+    → s.word (head_name seat pile) ≢ head_word h → Step s who s' → IsSoundWithoutCounts g s'
+unfolding plan_point_of next_of event_of holds_of recalls_of
+confirm_empty_lost-sound g s who s' seat pile h o sound has at lost step =
+    let p = stack.ConfirmEmpty seat pile h in
+    let q = stack.LoadTop seat pile in
+    let differs = ne_eqb (s.word (head_name seat pile)) (head_word h) lost in
+    quiet-at g s who s' (Stack p o) (Stack q o) sound has at
+    (record {
+      next = rw differs refl;
+      event = rw differs refl;
+      cleared = refl;
+      word = rw differs refl;
+      holds = pops-same p q o refl;
+      so = λ l old. so-at g s l who (Stack p o) old has at;
+    })
+    step
+
+-- and a push that is lost
+pub push_top_lost-sound :
+    (g : Geometry) (s : State) (who : ℕ) (s' : State) (seat : SeatFields) (pile : Pile) (i : ℕ) (h : HeadFields) (o : Onward)
+    → IsSoundWithoutCounts g s → who < g.callers → (s.errand who).point ≡ Stack (stack.PushTop seat pile i h) o
+    → s.word (head_name seat pile) ≢ head_word h → Step s who s' → IsSoundWithoutCounts g s'
+unfolding plan_point_of next_of event_of holds_of recalls_of
+push_top_lost-sound g s who s' seat pile i h o sound has at lost step =
+    let p = stack.PushTop seat pile i h in
+    let q = stack.LoadTopToPush seat pile i in
+    let differs = ne_eqb (s.word (head_name seat pile)) (head_word h) lost in
+    quiet-at g s who s' (Stack p o) (Stack q o) sound has at
+    (record {
+      next = rw differs refl;
+      event = rw differs refl;
+      cleared = refl;
+      word = rw differs refl;
+      holds = pops-same p q o refl;
+      so = λ l old.
+          All-tail (IsSo g s l who) (tops_exist seat pile h) (onward_recalls seat o)
+          (All-tail (IsSo g s l who) (says (next_name pile i) h.top) (tops_exist seat pile h ∷ onward_recalls seat o)
+          (so-at g s l who (Stack p o) old has at));
+    })
+    step
+
+-- a stack that is read empty: an allocation looks again, and a clearing that has popped one puts it back
+record LeadsOn (p : Point) (n : Next) : Type 0 where
+  next : n ≡ At (point_after n)
+  holds : HoldsSame p (point_after n)
+  recalls : recalls_of (point_after n) ≡ recalls_of p
+
+empty-leads :
+    (seat : SeatFields) (pile : Pile) (h : HeadFields) (o : Onward) → o ≢ Clear
+    → LeadsOn (Stack (stack.LoadTop seat pile) o) (found_empty seat pile h o)
+unfolding holds_of recalls_of
+empty-leads seat pile h o goes = grind (arith)
+
+-- a head that is read for a pop: the index on top is in the list
+top-leads :
+    (g : Geometry) (s : State) (who : ℕ) (seat : SeatFields) (pile : Pile) (o : Onward) → who < g.callers
+    → (s.errand who).point ≡ Stack (stack.LoadTop seat pile) o
+    → (o ≡ Clear → (head_of (s.word (head_name seat pile))).top ≢ 0)
+    → LeadsQuietly g s who (Stack (stack.LoadTop seat pile) o) (enter_stack (after_top seat pile (head_of (s.word (head_name seat pile)))) o)
+unfolding holds_of recalls_of
+top-leads g s who seat pile o has at goes =
+    let p = stack.LoadTop seat pile in
+    let h = head_of (s.word (head_name seat pile)) in
+    let q = stack.LoadBelow seat pile h in
+    cond_both (h.top == 0) (stack.FoundEmpty seat pile h) (if nat_le h.top (pile_limit seat.geometry pile) then q else p)
+    (λ r. LeadsQuietly g s who (Stack p o) (enter_stack r o))
+    (λ empty.
+    let leads = empty-leads seat pile h o (λ is. goes is (eqb-true h.top 0 empty)) in
+    record {
+      next = leads.next;
+      holds = leads.holds;
+      so = λ l old. subst (All (IsSo g s l who)) (sym leads.recalls) (so-at g s l who (Stack p o) old has at);
+    })
+    (λ some.
+    cond_both (nat_le h.top (pile_limit seat.geometry pile)) q p (λ r. LeadsQuietly g s who (Stack p o) (enter_stack r o))
+    (λ within. record {
+      next = refl;
+      holds = pops-same p q o refl;
+      so = λ l old.
+          let class = (fits-at g s l who p o old has at).point.class in
+          All-cons (IsSo g s l who) (tops seat pile h) (onward_recalls seat o)
+          (record {
+            tag = omega arith;
+            top = λ same.
+                top-listed (next_in s.word pile) h.top (list_of l seat pile) (pile-stacked g s l seat pile old.listed class)
+                (eqb-false h.top 0 some);
+          })
+          (so-at g s l who (Stack p o) old has at);
+    })
+    (λ beyond. record { next = refl; holds = pops-same p p o refl; so = λ l old. so-at g s l who (Stack p o) old has at }))
+
+pub load_top-sound :
+    (g : Geometry) (s : State) (who : ℕ) (s' : State) (seat : SeatFields) (pile : Pile) (o : Onward) → IsSoundWithoutCounts g s
+    → who < g.callers → (s.errand who).point ≡ Stack (stack.LoadTop seat pile) o
+    → (o ≡ Clear → (head_of (s.word (head_name seat pile))).top ≢ 0) → Step s who s' → IsSoundWithoutCounts g s'
+unfolding plan_point_of next_of event_of
+load_top-sound g s who s' seat pile o sound has at goes step =
+    let leads = top-leads g s who seat pile o has at goes in
+    quiet-at g s who s' (Stack (stack.LoadTop seat pile) o) _ sound has at
+    (record { next = leads.next; event = refl; cleared = refl; word = refl; holds = leads.holds; so = leads.so }) step

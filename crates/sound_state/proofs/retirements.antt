@@ -1,0 +1,2 @@
+pub mod RetireLemmas
+pub mod RetirePartials

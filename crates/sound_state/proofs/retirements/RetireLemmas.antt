@@ -1,0 +1,484 @@
+-- A step that retires the descriptor of an EMPTY superblock, and leaves its word or clears a hazard word, keeps the state sound.
+use Rattle.std.proofs.Common.{ℕ, Bool, true, false, Option, Some, None, ◌≡◌, ◌≢◌, ◌<◌, ◌≤◌, ◌+◌, ◌^◌, List, [], ◌∷◌, ◌++◌, length, refl, arith, ap, sym, subst, inl, inr, ◌∙◌, length-append, ne_eqb, eq-eqb}
+use Rattle.std.specs.Prelude.{◌==◌, ◌&&◌, ◌⊎◌, not, All, if◌then◌else◌, slice_index}
+use Rattle.std.proofs.lemmas.Bool.{cases_eq, cases_Bool, cond-true, cond-false, leb-true}
+use Rattle.std.proofs.lemmas.Grind.{common_steps}
+use Rattle.std.proofs.lemmas.List.Elements.{All-append, All-cons, All-nil}
+use Rattle.heap_geometry.specs.declared.geometry.Geometry.{Geometry}
+use Rattle.packed_words.specs.declared.anchor.State.TheVariants as phase
+use Rattle.packed_words.specs.Anchor.{AnchorFields, anchor_of}
+use Rattle.partial_parts.specs.Grants.{is_empty}
+use Rattle.word_plan.specs.declared.action.Found.{Found}
+use Rattle.word_plan.specs.declared.name.WordName.{WordName}
+use Rattle.word_plan.specs.declared.name.WordName.TheVariants as name
+use Rattle.word_plan.specs.Counts.{descriptor_count}
+use Rattle.superblock_parts.specs.Chains.{occurs}
+use Rattle.word_plan.specs.Actions.{name_of, after_action}
+use Rattle.word_plan.specs.Seats.{SeatFields}
+use Rattle.word_plan.specs.Table.{Exists}
+use Rattle.word_plan.specs.Words.{Writes}
+use Rattle.word_plan.proofs.NameLemmas.{cases_name}
+use Rattle.pool_model.specs.Legal.{IsLegalWithoutCounts}
+use Rattle.hazard_parts.specs.declared.point.DescPoint.TheVariants as desc
+use Rattle.errand_steps.specs.declared.next.Next.TheVariants.{At, End, Retire}
+use Rattle.errand_steps.specs.declared.onward.Onward.{Onward}
+use Rattle.errand_steps.specs.declared.point.Point.{Point}
+use Rattle.errand_steps.specs.declared.reply.Reply.{Reply}
+use Rattle.errand_steps.specs.declared.point.Point.TheVariants.{Idle, Desc}
+use Rattle.errand_steps.specs.Errands.{ErrandFields, IsErrand, settle_of, course_of, plan_of, raised, counts_won, counts_lost, counts_cleared, is_full, no_words}
+use Rattle.errand_steps.specs.Events.{event_of}
+use Rattle.errand_steps.specs.Fits.{spare_of, pushed_by}
+use Rattle.errand_steps.specs.Nexts.{next_of, resumed}
+use Rattle.errand_steps.specs.Points.{plan_point_of}
+use Rattle.errand_steps.specs.Steps.{State, Step, Moves, action_at, name_at, word_at, found_at, event_at, with_event}
+use Rattle.errand_steps.proofs.ErrandLemmas.{settle_errand}
+use Rattle.errand_steps.proofs.PlanLemmas.{plan-exists}
+use Rattle.sound_state.specs.Guards.{IsHazard, IsGuard, passed_by, held_by}
+use Rattle.sound_state.specs.Holdings.{Hazard, clear, nothing, keep, holds_of, waiting, reserving, on_its_way, partly_used}
+use Rattle.sound_state.specs.Keepers.{errand_has, word_keeps, IsWithout, IsKeptAs}
+use Rattle.sound_state.specs.Lists.{Lists}
+use Rattle.sound_state.specs.Recalls.{IsSo, IsOwned, IsPlain, recalls_of}
+use Rattle.sound_state.specs.Sound.{IsSoundWithoutCounts, IsSoundWith}
+use Rattle.sound_state.specs.Stock.{waits_in, word_stock}
+use Rattle.sound_state.specs.Sums.{sum_below, callers_sum}
+use Rattle.sound_state.specs.Superblocks.{anchor_for, errand_keeps, errand_away, away_of, is_bound, kept_among, word_reserves}
+use Rattle.sound_state.specs.Turns.{emptied_out, one_if, in_turn, has_frame, has_partial, has_refused, is_discarding_at, pops_left}
+use Rattle.sound_state.proofs.shared.AlikeLemmas.{MayGoOn, MayGuard, ActivesKept, sound-alike}
+use Rattle.sound_state.proofs.hazards.HazardLemmas.{hazard_caller, hazard-actives}
+use Rattle.sound_state.proofs.quiet.QuietLemmas.{found_from, actives-stay, words-stay}
+use Rattle.sound_state.proofs.shared.StepLemmas.{HoldsException}
+use Rattle.sound_state.proofs.shared.SumLemmas.{sum-plus, sum-least, sum-change, term-sum, callers-moved}
+use Rattle.sound_state.proofs.shared.TagLemmas.{cleared-below}
+use Rattle.sound_state.proofs.shared.WeighLemmas.{WeighClose, weigh-close}
+
+-- one more entry of a list
+pub occurs-push : (k d : ℕ) (xs : List ℕ) → occurs k (xs ++ d ∷ []) ≡ occurs k xs + (if d == k then 1 else 0)
+occurs-push k d [] = omega arith
+occurs-push k d (x ∷ xs) = omega (arith, occurs-push k d xs)
+
+-- a partly used superblock that a caller keeps isn't away
+keeps-near :
+    (g : Geometry) (s : State) (l : Lists) (who d : ℕ) → IsSoundWith g s l → who < g.callers → d < descriptor_count g
+    → 1 ≤ errand_keeps partly_used d (s.errand who) → away_of g s l d ≡ 0
+unfolding callers_sum
+keeps-near g s l who d old has exists keeps =
+    let partly = λ (i : ℕ). errand_keeps partly_used d (s.errand i) in
+    let away = λ (i : ℕ). errand_away d (s.errand i) in
+    let both : sum_below g.callers (λ i. partly i + away i) ≡ sum_below g.callers partly + sum_below g.callers away = sum-plus g.callers partly away in
+    let least : sum_below g.callers (λ i. partly i + away i) ≤ sum_below g.callers (λ i. errand_has d (s.errand i)) =
+    sum-least g.callers (λ i. partly i + away i) (λ i. errand_has d (s.errand i)) (λ i lt. omega arith) in
+    let once = old.kept.once d exists in
+    let mine : partly who ≤ sum_below g.callers partly = term-sum g.callers partly who has in
+    omega (arith, once, both, least, mine, keeps)
+
+-- the descriptor goes away with this errand, and no other one does
+pub record GoesAway (d : ℕ) (a b : ErrandFields) : Type 0 where
+  pub here : errand_away d b ≡ errand_away d a + 1
+  pub elsewhere : (k : ℕ) → k ≢ d → errand_away k b ≡ errand_away k a
+
+-- whether a superblock is there, and whether it is EMPTY and out
+bound-none : (away : ℕ) (a : AnchorFields) → a.state ≡ phase.Empty → ((away == 0) && not (is_empty a.state)) ≡ false
+bound-none away a is = grind (arith)
+
+-- where its superblock is EMPTY, the same superblocks are there
+pub away-bound :
+    (g : Geometry) (s : State) (l : Lists) (who d : ℕ) (e : ErrandFields) (s' : State) → who < g.callers → Moves s.errand who e s'.errand
+    → GoesAway d (s.errand who) e → ((k : ℕ) → anchor_for s' k ≡ anchor_for s k) → (anchor_for s d).state ≡ phase.Empty
+    → (k : ℕ) → is_bound g s' l k ≡ is_bound g s l k
+away-bound g s l who d e s' has m away anchors empty k =
+    elim (cases_eq k d) [
+      | inl same ↦
+          let before : is_bound g s l d ≡ false = bound-none (away_of g s l d) (anchor_for s d) empty in
+          let after : is_bound g s' l d ≡ false = bound-none (away_of g s' l d) (anchor_for s' d) (ap (λ a. a.state) (anchors d) ∙ empty) in
+          subst (λ j. is_bound g s' l j ≡ is_bound g s l j) (sym same) (after ∙ sym before)
+      | inr differ ↦
+          let moved = callers-moved g (errand_away k) s.errand who e s'.errand has m in
+          let still : away_of g s' l k ≡ away_of g s l k = omega (arith, moved, away.elsewhere k differ) in
+          rw (still, anchors k) refl
+    ]
+
+out-one : (away : ℕ) (a : AnchorFields) → away ≡ 0 → a.state ≡ phase.Empty → one_if ((away == 0) && is_empty a.state) ≡ 1
+out-one away a none is = grind (arith, none, is)
+
+out-none : (away : ℕ) (b : Bool) → 1 ≤ away → one_if ((away == 0) && b) ≡ 0
+out-none away b some = rw (ne_eqb away 0 (λ e. let bad : ⊥ = omega (arith, e, some) in bad)) refl
+
+-- and one less is EMPTY and out
+pub away-emptied :
+    (g : Geometry) (s : State) (l : Lists) (who d : ℕ) (e : ErrandFields) (s' : State) → who < g.callers → Moves s.errand who e s'.errand
+    → GoesAway d (s.errand who) e → ((k : ℕ) → anchor_for s' k ≡ anchor_for s k) → (anchor_for s d).state ≡ phase.Empty
+    → d < descriptor_count g → away_of g s l d ≡ 0
+    → sum_below (descriptor_count g) (emptied_out g s' l) + 1 ≡ sum_below (descriptor_count g) (emptied_out g s l)
+away-emptied g s l who d e s' has m away anchors empty exists near =
+    let moved = λ (k : ℕ). callers-moved g (errand_away k) s.errand who e s'.errand has m in
+    let change = sum-change (descriptor_count g) (emptied_out g s l) (emptied_out g s' l) d exists
+    (λ k lt differ.
+    let still : away_of g s' l k ≡ away_of g s l k = omega (arith, moved k, away.elsewhere k differ) in
+    rw (still, anchors k) refl) in
+    let before : emptied_out g s l d ≡ 1 = out-one (away_of g s l d) (anchor_for s d) near empty in
+    let after : emptied_out g s' l d ≡ 0 = out-none (away_of g s' l d) (is_empty (anchor_for s' d).state) (omega (arith, moved d, away.here)) in
+    omega (arith, change, before, after)
+
+-- the errand at the second point, with one more descriptor retired
+abbrev pub retired_at : ErrandFields → Found → ℕ → Point → ErrandFields
+retired_at e x d q =
+    record e {
+      point = q;
+      retired = e.retired ++ d ∷ [];
+      won = raised (counts_won (plan_of e) x) e.won;
+      lost = raised (counts_lost e.point x) e.lost;
+      cleared = raised (counts_cleared e.point x) e.cleared;
+    }
+
+-- where the list is full then, a scan begins
+pub settle-full :
+    (e : ErrandFields) (x : Found) (s : SeatFields) (d : ℕ) (o : Onward) → next_of e.point x ≡ Retire s d o → is_full e ≡ true
+    → settle_of e x ≡ retired_at e x d (Desc (desc.ReadHazard s no_words 0) o)
+unfolding settle_of course_of
+settle-full e x s d o is full = rw (is, full) refl
+
+-- else the call is resumed
+settle-at :
+    (e : ErrandFields) (x : Found) (s : SeatFields) (d : ℕ) (o : Onward) (q : Point) → next_of e.point x ≡ Retire s d o → is_full e ≡ false
+    → resumed s o ≡ At q → settle_of e x ≡ retired_at e x d q
+unfolding settle_of course_of
+settle-at e x s d o q is few to = rw (is, few, to) refl
+
+pub settle-end :
+    (e : ErrandFields) (x : Found) (s : SeatFields) (d : ℕ) (o : Onward) → next_of e.point x ≡ Retire s d o → is_full e ≡ false
+    → (r : Reply) → resumed s o ≡ End r → settle_of e x ≡ retired_at e x d Idle
+unfolding settle_of course_of
+settle-end e x s d o is few r to = rw (is, few, to) refl
+
+-- how far a call's turn is at two points, where the first step may have found a superblock EMPTY that it took
+pub record TurnRetires (p q : Point) (x : Found) : Type 0 where
+  pub under_way : one_if (in_turn q) ≤ one_if (in_turn p)
+  pub discards : one_if (in_turn q && is_discarding_at q) ≤ one_if (in_turn p && is_discarding_at p)
+  pub unanswered : one_if (in_turn p && not (has_refused p)) ≤ one_if (in_turn q && not (has_refused q))
+  pub unframed : one_if (in_turn q && not (has_frame q)) ≤ one_if (in_turn p && not (has_frame p))
+  pub pops :
+      pops_left q + one_if (in_turn q && not (has_partial q))
+      ≤ pops_left p + one_if (in_turn p && not (has_partial p)) + one_if (counts_cleared p x)
+
+-- a caller that keeps one partly used superblock, and nothing else but a hazard word, holds nothing at the second point
+pub record Lets (p q : Point) (d class : ℕ) (word : Hazard) (x : Found) : Type 0 where
+  pub before : holds_of p ≡ record nothing { kept = keep d class partly_used; hazard = word }
+  pub after : holds_of q ≡ nothing
+  pub recalls : recalls_of q ≡ []
+  pub waits : (c : ℕ) → waits_in c q ≡ waits_in c p
+  pub pushed : pushed_by q ≡ None
+  pub passed : passed_by q ≡ 0
+  pub unread : (i : ℕ) → i < length (held_by q) → slice_index (held_by q) i ≡ 0
+  pub spare : spare_of p ≡ 0
+  pub turn : TurnRetires p q x
+
+occurs-here : (d : ℕ) (xs : List ℕ) → occurs d (xs ++ d ∷ []) ≡ occurs d xs + 1
+occurs-here d xs = omega (arith, occurs-push d d xs, cond-true {A = ℕ} (d == d) 1 0 (eq-eqb d d refl))
+
+occurs-other : (k d : ℕ) (xs : List ℕ) → k ≢ d → occurs k (xs ++ d ∷ []) ≡ occurs k xs
+occurs-other k d xs differ = omega (arith, occurs-push k d xs, cond-false {A = ℕ} (d == k) 1 0 (ne_eqb d k (λ e. differ (sym e))))
+
+-- one that is partly used isn't in another state
+partly-alone :
+    (k d class : ℕ)
+    → (kept_among reserving k (keep d class partly_used) ≡ 0) × (kept_among waiting k (keep d class partly_used) ≡ 0)
+    × (kept_among on_its_way k (keep d class partly_used) ≡ 0)
+    × (kept_among partly_used k (keep d class partly_used) ≡ (if d == k then 1 else 0))
+partly-alone k d class = grind (arith)
+
+lets-away : (d class : ℕ) (h : Hazard) (x : Found) (q : Point) (e : ErrandFields) → Lets e.point q d class h x → GoesAway d e (retired_at e x d q)
+lets-away d class h x q e lets = record {
+  here = rw (lets.before, lets.after) (omega (arith, occurs-here d e.retired, (partly-alone d d class).2));
+  elsewhere = λ k differ. rw (lets.before, lets.after) (omega (arith, occurs-other k d e.retired differ, (partly-alone k d class).2));
+}
+
+lets-weigh :
+    (n : WordName) (before after d class : ℕ) (h : Hazard) (x : Found) (q : Point) (e : ErrandFields) → Lets e.point q d class h x
+    → (IsPlain n → after ≡ before) → ((k : ℕ) → word_reserves k n after ≡ word_reserves k n before)
+    → ((k : ℕ) → word_keeps k n after ≡ word_keeps k n before) → ((c : ℕ) → word_stock c n after ≡ word_stock c n before)
+    → WeighClose n before after e (retired_at e x d q)
+lets-weigh n before after d class h x q e lets plain reserves keeps stock = record {
+  plain = plain;
+  reserves = λ k. rw (lets.before, lets.after) (omega (arith, reserves k));
+  waits = λ k. rw (lets.before, lets.after) (sym (partly-alone k d class).1);
+  ways = λ k. rw (lets.before, lets.after) (sym (partly-alone k d class).2);
+  places = λ k.
+      let alone = partly-alone k d class in
+      rw (lets.before, lets.after) (omega (arith, keeps k, occurs-push k d e.retired, alone.0, alone.1, alone.2, alone.3));
+  frames = λ f. rw (lets.before, lets.after) refl;
+  stock = λ c. rw (lets.before, lets.after, lets.waits c) (omega (arith, stock c));
+}
+
+-- a step after which the caller stands at another point and has one more descriptor retired
+pub record RetiresTo (g : Geometry) (s : State) (who : ℕ) (d class : ℕ) (h : Hazard) (q : Point) : Type 0 where
+  pub after : settle_of (s.errand who) (found_at s who) ≡ retired_at (s.errand who) (found_at s who) d q
+  pub event : event_at s who ≡ None
+  pub exists : d < descriptor_count g
+  pub empty : (anchor_for s d).state ≡ phase.Empty
+  pub lets : Lets (s.errand who).point q d class h (found_at s who)
+  pub full : spare_of q ≡ 1 → is_full (s.errand who) ≡ true
+
+-- what the words are after it: the caller's hazard word is 0
+record WordsLeft (g : Geometry) (s : State) (who : ℕ) (e : ErrandFields) (words' : WordName → ℕ) : Type 0 where
+  pub weigh : WeighClose (name_at s who) (word_at s who) (after_action (action_at s who) (word_at s who)) (s.errand who) e
+  pub anchors : (k : ℕ) → words' (name.Anchor k) ≡ s.word (name.Anchor k)
+  pub others : (i : ℕ) → i ≢ who → words' (name.Hazard i) ≡ s.word (name.Hazard i)
+  pub own : words' (name.Hazard who) ≡ 0
+  pub actives : ActivesKept g s words'
+  pub below : (n : WordName) → words' n < 2 ^ 64
+
+-- counts that rise by one, far from their ends
+raised-by : (b : Bool) (n : ℕ) → n + 1 < 2 ^ 64 → raised b n ≡ n + one_if b
+raised-by b n most = grind (arith)
+
+pub raised-within : (b : Bool) (n : ℕ) → n < 2 ^ 64 → (n ≤ raised b n) × (raised b n < 2 ^ 64)
+raised-within b n most = grind (arith)
+
+pub one-most : (b : Bool) → one_if b ≤ 1
+one-most b = grind (arith)
+
+-- who keeps a descriptor, and nothing else, excepts no block
+keeps-excepts :
+    (d class : ℕ) (h : Hazard) (place : ℕ) → HoldsException (record nothing { kept = keep d class partly_used; hazard = h }) place → ⊥
+keeps-excepts d class h place (inl x) = omega (arith, x.2)
+keeps-excepts d class h place (inr x) = omega (arith, x.2)
+
+pub none-some : (d : ℕ) → ◌≡◌ {A = Option ℕ} None (Some d) → ⊥
+none-some d e = cc
+
+-- the list has one more entry than the heap has callers
+pub full-length : (e : ErrandFields) (d : ℕ) → is_full e ≡ true → length e.retired ≤ e.geometry.callers → length (e.retired ++ d ∷ []) ≡ e.geometry.callers + 1
+full-length e d full room =
+    omega (arith, leb-true e.geometry.callers (length e.retired) full, room, length-append e.retired (d ∷ []))
+
+-- so the caller may go on
+retired-may :
+    (g : Geometry) (s : State) (l : Lists) (who d class : ℕ) (h : Hazard) (q : Point) → IsSoundWithoutCounts g s → IsSoundWith g s l → who < g.callers
+    → RetiresTo g s who d class h q → MayGoOn g s l who (s.errand who) (retired_at (s.errand who) (found_at s who) d q)
+retired-may g s l who d class h q sound old has to =
+    let e = s.errand who in
+    let x = found_at s who in
+    let lets = to.lets in
+    let own = old.errands who has in
+    let lost = raised-within (counts_lost e.point x) e.lost own.lost in
+    let cleared = raised-by (counts_cleared e.point x) e.cleared
+    (cleared-below g s (record { checked = sound.checked; legal = sound.legal; parts = (l, old) }) who has) in
+    let keeps : holds_of q ≡ nothing = lets.after in
+    record {
+      rule = record {
+        caller = own.caller;
+        geometry = own.geometry;
+        rule = subst IsErrand to.after (settle_errand e x own.rule (old.words (name_at s who)));
+        lost = lost.1;
+      };
+      kept = subst (λ held. All (λ k. IsKeptAs s k.status k.desc k.class) held.kept) (sym keeps) (All-nil (λ k. IsKeptAs s k.status k.desc k.class));
+      retired =
+          All-append (IsWithout s) e.retired (d ∷ []) (old.kept.retired who has) (All-cons (IsWithout s) d [] (inr to.empty) (All-nil (IsWithout s)));
+      so = subst (All (IsSo g s l who)) (sym lets.recalls) (All-nil (IsSo g s l who));
+      full = λ spare.
+          let room : length e.retired ≤ e.geometry.callers = omega (arith, own.rule.room, lets.spare) in
+          full-length e d (to.full spare) room ∙ ap (λ o. o.callers + 1) own.geometry;
+      hands = subst (λ held. All (λ b. IsOwned s who b.place b.need) held.hands) (sym keeps) (All-nil (λ b. IsOwned s who b.place b.need));
+      frees = subst (λ held. All (λ b. IsOwned s who b.place b.need) held.frees) (sym keeps) (All-nil (λ b. IsOwned s who b.place b.need));
+      excepts = λ place b. absurd (keeps-excepts d class h place (subst (λ held. HoldsException held place) lets.before b));
+      own_turns = omega (arith, old.turned.own_turns who has, lets.turn.under_way);
+      own_lost = omega (arith, old.turned.own_lost who has, lets.turn.discards, lets.turn.unanswered, lost.0);
+      frame_turns = omega (arith, lets.turn.unframed);
+      list_turns = omega (arith, lets.turn.pops, cleared);
+    }
+
+-- and guards nothing; where a scan begins it has passed no hazard word
+retired-guards :
+    (g : Geometry) (s : State) (who d class : ℕ) (h : Hazard) (q : Point) (x : Found) (retired : List ℕ) (word : ℕ)
+    → Lets (s.errand who).point q d class h x → word ≡ 0 → MayGuard g s who q retired word
+retired-guards g s who d class h q x retired word lets bare = record {
+  hazard = subst (λ held. IsHazard held.hazard word) (sym lets.after) bare;
+  guard = λ d is guard. absurd (subst (λ held. IsGuard held.hazard) lets.after guard);
+  pushed = λ i d has guards is. absurd (none-some d (sym lets.pushed ∙ is));
+  passed = λ i d has guards listed below. let bad : ⊥ = omega (arith, below, lets.passed) in absurd bad;
+  unread = λ i passed below. lets.unread i below;
+}
+
+-- the step keeps the state sound
+retire-sound :
+    (g : Geometry) (s : State) (who : ℕ) (s' : State) (d class : ℕ) (h : Hazard) (q : Point) → IsSoundWithoutCounts g s → who < g.callers
+    → RetiresTo g s who d class h q
+    → ((l : Lists) → IsSoundWith g s l → WordsLeft g s who (retired_at (s.errand who) (found_at s who) d q) s'.word) → Step s who s'
+    → IsSoundWithoutCounts g s'
+retire-sound g s who s' d class h q sound has to left step =
+    let l = sound.parts.0 in
+    let old = sound.parts.1 in
+    let words = left l old in
+    let e = retired_at (s.errand who) (found_at s who) d q in
+    let own = old.errands who has in
+    let exists : Exists g (name_at s who) =
+    subst (λ o. Exists o (name_at s who)) own.geometry
+    (plan-exists (s.errand who).geometry (s.errand who).caller (s.errand who).point own.rule.geometry own.rule.caller own.rule.point) in
+    let moves : Moves s.errand who e s'.errand = subst (λ f. Moves s.errand who f s'.errand) to.after step.errand in
+    let past : s'.history ≡ s.history = step.history ∙ ap (with_event s.history) to.event in
+    let anchors = λ (k : ℕ). ap anchor_of (words.anchors k) in
+    let away = lets-away d class h (found_at s who) q (s.errand who) to.lets in
+    let keeps : 1 ≤ errand_keeps partly_used d (s.errand who) =
+    let alone = (partly-alone d d class).3 in
+    rw to.lets.before (omega (arith, alone, cond-true {A = ℕ} (d == d) 1 0 (eq-eqb d d refl))) in
+    let near = keeps-near g s l who d old has to.exists keeps in
+    record {
+      checked = sound.checked;
+      legal = subst (IsLegalWithoutCounts g) (sym past) sound.legal;
+      parts = (
+        l,
+        sound-alike g s l who e s'
+            (record {
+              caller = has;
+              moves = moves;
+              alike =
+                  weigh-close g s l who (name_at s who) _ e s' exists has step.word moves past
+                  (away-bound g s l who d e s' has moves away anchors to.empty) words.weigh;
+              may = retired-may g s l who d class h q sound old has to;
+              others = words.others;
+              guards = retired-guards g s who d class h q (found_at s who) e.retired (s'.word (name.Hazard who)) to.lets words.own;
+              actives = words.actives;
+              words = words.below;
+              emptied =
+                  let one = away-emptied g s l who d e s' has moves away anchors to.empty to.exists near in
+                  let cleared = raised-by (counts_cleared (s.errand who).point (found_at s who)) (s.errand who).cleared
+                  (cleared-below g s (record { checked = sound.checked; legal = sound.legal; parts = (l, old) }) who has) in
+                  let most : one_if (counts_cleared (s.errand who).point (found_at s who)) ≤ 1 =
+                  one-most (counts_cleared (s.errand who).point (found_at s who)) in
+                  omega (arith, one, cleared, most);
+            })
+            old,
+      );
+    }
+
+-- so it does where its word stays, and the caller's hazard word was 0
+retire-reads :
+    (g : Geometry) (s : State) (who : ℕ) (s' : State) (d class : ℕ) (q : Point) → IsSoundWithoutCounts g s → who < g.callers
+    → RetiresTo g s who d class clear q → after_action (action_at s who) (word_at s who) ≡ word_at s who → Step s who s' → IsSoundWithoutCounts g s'
+retire-reads g s who s' d class q sound has to same step =
+    let n = name_at s who in
+    let words = words-stay s.word n _ s'.word step.word same in
+    retire-sound g s who s' d class clear q sound has to
+    (λ l old. record {
+      weigh =
+          lets-weigh n (s.word n) _ d class clear (found_at s who) q (s.errand who) to.lets (λ plain. same) (λ k. ap (word_reserves k n) same)
+          (λ k. ap (word_keeps k n) same) (λ c. ap (word_stock c n) same);
+      anchors = λ k. words (name.Anchor k);
+      others = λ i differ. words (name.Hazard i);
+      own = words (name.Hazard who) ∙ subst (λ held. IsHazard held.hazard (s.word (name.Hazard who))) to.lets.before (old.guarded.words who has);
+      actives = actives-stay g s l s'.word old.kept words;
+      below = λ m. subst (λ v. v < 2 ^ 64) (sym (words m)) (old.words m);
+    })
+    step
+
+-- and where it clears the caller's hazard word
+hazard-close :
+    (n : WordName) (i before after d class : ℕ) (h : Hazard) (x : Found) (q : Point) (e : ErrandFields) → n ≡ name.Hazard i
+    → Lets e.point q d class h x → WeighClose n before after e (retired_at e x d q)
+hazard-close n i before after d class h x q e is lets =
+    let here : WeighClose (name.Hazard i) before after e (retired_at e x d q) =
+    lets-weigh (name.Hazard i) before after d class h x q e lets (λ plain. absurd plain) (λ k. refl) (λ k. refl) (λ c. refl) in
+    subst (λ m. WeighClose m before after e (retired_at e x d q)) (sym is) here
+
+retire-clears :
+    (g : Geometry) (s : State) (who : ℕ) (s' : State) (d class : ℕ) (h : Hazard) (q : Point) → IsSoundWithoutCounts g s → who < g.callers
+    → RetiresTo g s who d class h q → name_at s who ≡ name.Hazard who → after_action (action_at s who) (word_at s who) ≡ 0
+    → Step s who s' → IsSoundWithoutCounts g s'
+retire-clears g s who s' d class h q sound has to named bare step =
+    let n = name_at s who in
+    let v = after_action (action_at s who) (word_at s who) in
+    let written : Writes s.word n v s'.word = step.word in
+    let w : Writes s.word (name.Hazard who) v s'.word = subst (λ m. Writes s.word m v s'.word) named written in
+    retire-sound g s who s' d class h q sound has to
+    (λ l old. record {
+      weigh = hazard-close n who (s.word n) v d class h (found_at s who) q (s.errand who) named to.lets;
+      anchors = λ k. w.elsewhere (name.Anchor k) (λ same. cc);
+      others = λ i differ. w.elsewhere (name.Hazard i) (λ same. differ (ap hazard_caller same));
+      own = w.here ∙ bare;
+      actives = hazard-actives g s l who v s'.word old w;
+      below = λ m.
+          elim (cases_name m (name.Hazard who)) [
+            | inl is ↦ subst (λ u. u < 2 ^ 64) (sym (ap s'.word is ∙ w.here ∙ bare)) (omega arith)
+            | inr differ ↦ subst (λ u. u < 2 ^ 64) (sym (w.elsewhere m differ)) (old.words m)
+          ];
+    })
+    step
+
+-- where the call is resumed
+abbrev pub ResumesAt : SeatFields → Onward → Point → Type 0
+ResumesAt s o q = (resumed s o ≡ At q) ⊎ ((q ≡ Idle) × ((r : Reply) × (resumed s o ≡ End r)))
+
+resumes-after :
+    (e : ErrandFields) (x : Found) (s : SeatFields) (d : ℕ) (o : Onward) (q : Point) → next_of e.point x ≡ Retire s d o → is_full e ≡ false
+    → ResumesAt s o q → settle_of e x ≡ retired_at e x d q
+resumes-after e x s d o q is few (inl to) = settle-at e x s d o q is few to
+resumes-after e x s d o q is few (inr to) =
+    subst (λ r. settle_of e x ≡ retired_at e x d r) (sym to.0) (settle-end e x s d o is few to.1.0 to.1.1)
+
+-- a step from this point that retires a descriptor, and after which a scan begins or the call is resumed at the second point
+pub record Retires (g : Geometry) (s : State) (who : ℕ) (p : Point) (seat : SeatFields) (d : ℕ) (h : Hazard) (o : Onward) (q : Point) : Type 0 where
+  pub next : next_of p (found_from s p) ≡ Retire seat d o
+  pub resumes : ResumesAt seat o q
+  pub event : event_of who p (found_from s p) ≡ None
+  pub exists : d < descriptor_count g
+  pub empty : (anchor_for s d).state ≡ phase.Empty
+  pub lets : Lets p q d seat.class h (found_from s p)
+  pub unspared : spare_of q ≡ 0
+  pub scans : Lets p (Desc (desc.ReadHazard seat no_words 0) o) d seat.class h (found_from s p)
+
+-- it leads to one or the other
+retires-to :
+    (g : Geometry) (s : State) (who : ℕ) (seat : SeatFields) (d : ℕ) (h : Hazard) (o : Onward) (q : Point) (P : Type 0)
+    → Retires g s who (s.errand who).point seat d h o q → ((r : Point) → RetiresTo g s who d seat.class h r → P) → P
+retires-to g s who seat d h o q P r leads =
+    let e = s.errand who in
+    elim (cases_Bool (is_full e)) [
+      | inl full ↦
+          leads (Desc (desc.ReadHazard seat no_words 0) o)
+          (record {
+            after = settle-full e (found_at s who) seat d o r.next full;
+            event = r.event;
+            exists = r.exists;
+            empty = r.empty;
+            lets = r.scans;
+            full = λ spare. full;
+          })
+      | inr few ↦
+          leads q
+          (record {
+            after = resumes-after e (found_at s who) seat d o q r.next few r.resumes;
+            event = r.event;
+            exists = r.exists;
+            empty = r.empty;
+            lets = r.lets;
+            full = λ spare. let bad : ⊥ = omega (arith, spare, r.unspared) in absurd bad;
+          })
+    ]
+
+-- where the word of the point stays, it keeps the state sound
+pub retire-at :
+    (g : Geometry) (s : State) (who : ℕ) (s' : State) (p : Point) (seat : SeatFields) (d : ℕ) (o : Onward) (q : Point) → IsSoundWithoutCounts g s
+    → who < g.callers → (s.errand who).point ≡ p → Retires g s who p seat d clear o q
+    → after_action (plan_point_of p) (s.word (name_of (plan_point_of p))) ≡ s.word (name_of (plan_point_of p)) → Step s who s' → IsSoundWithoutCounts g s'
+retire-at g s who s' p seat d o q sound has at h same step =
+    let r : Retires g s who (s.errand who).point seat d clear o q = subst (λ z. Retires g s who z seat d clear o q) (sym at) h in
+    let stays : after_action (action_at s who) (word_at s who) ≡ word_at s who =
+    subst (λ z. after_action (plan_point_of z) (s.word (name_of (plan_point_of z))) ≡ s.word (name_of (plan_point_of z))) (sym at) same in
+    retires-to g s who seat d clear o q (IsSoundWithoutCounts g s') r (λ z to. retire-reads g s who s' d seat.class z sound has to stays step)
+
+-- so it does where it clears the caller's hazard word
+pub retire-clearing :
+    (g : Geometry) (s : State) (who : ℕ) (s' : State) (p : Point) (seat : SeatFields) (d : ℕ) (h : Hazard) (o : Onward) (q : Point)
+    → IsSoundWithoutCounts g s → who < g.callers → (s.errand who).point ≡ p → Retires g s who p seat d h o q
+    → name_of (plan_point_of p) ≡ name.Hazard who → after_action (plan_point_of p) (s.word (name_of (plan_point_of p))) ≡ 0
+    → Step s who s' → IsSoundWithoutCounts g s'
+retire-clearing g s who s' p seat d h o q sound has at k named bare step =
+    let r : Retires g s who (s.errand who).point seat d h o q = subst (λ z. Retires g s who z seat d h o q) (sym at) k in
+    let own : name_at s who ≡ name.Hazard who = subst (λ z. name_of (plan_point_of z) ≡ name.Hazard who) (sym at) named in
+    let clears : after_action (action_at s who) (word_at s who) ≡ 0 =
+    subst (λ z. after_action (plan_point_of z) (s.word (name_of (plan_point_of z))) ≡ 0) (sym at) bare in
+    retires-to g s who seat d h o q (IsSoundWithoutCounts g s') r (λ z to. retire-clears g s who s' d seat.class h z sound has to own clears step)
+
+-- no hazard word is noted yet
+pub no_words-zero : (i : ℕ) → i < length no_words → slice_index no_words i ≡ 0
+no_words-zero i lt = grind (arith, common_steps)

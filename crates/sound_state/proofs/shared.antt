@@ -1,0 +1,12 @@
+pub mod AlikeLemmas
+pub mod CreditLemmas
+pub mod FrameLemmas
+pub mod HolderLemmas
+pub mod LinkLemmas
+pub mod OverlapLemmas
+pub mod PointLemmas
+pub mod StepLemmas
+pub mod StockLemmas
+pub mod SumLemmas
+pub mod TagLemmas
+pub mod WeighLemmas

@@ -1,0 +1,183 @@
+-- Exchanges of an active word that are won: a credit is taken, or reserved blocks are offered.
+use Rattle.std.proofs.Common.{ℕ, true, false, Some, None, ◌≡◌, ◌<◌, ◌≤◌, ◌+◌, ◌^◌, refl, arith, ap, sym, subst, inl, inr, ◌∙◌, eq-eqb}
+use Rattle.std.specs.Prelude.{◌==◌, IsTrue, IsSome}
+use Rattle.std.proofs.lemmas.Bool.{cond-true}
+use Rattle.heap_geometry.specs.declared.geometry.Geometry.{Geometry}
+use Rattle.packed_words.specs.declared.active.ActiveWord.TheVariants.{Held}
+use Rattle.packed_words.specs.Active.{active_of}
+use Rattle.word_plan.specs.declared.action.Action.TheVariants.{Cas}
+use Rattle.word_plan.specs.declared.action.Found.{Found}
+use Rattle.word_plan.specs.declared.name.WordName.{WordName}
+use Rattle.word_plan.specs.declared.name.WordName.TheVariants as name
+use Rattle.word_plan.specs.Actions.{name_of, after_action, found_by}
+use Rattle.word_plan.specs.Counts.{descriptor_count}
+use Rattle.word_plan.specs.Table.{Exists, word_index, word_name}
+use Rattle.word_plan.specs.Counts.{word_count}
+use Rattle.word_plan.specs.Words.{Writes}
+use Rattle.word_plan.proofs.NameLemmas.{cases_name}
+use Rattle.word_plan.proofs.TableLemmas.{word_index-within, word_name-word_index}
+use Rattle.superblock_parts.specs.Chains.{occurs}
+use Rattle.errand_steps.specs.declared.point.Point.{Point}
+use Rattle.errand_steps.specs.declared.next.Next.TheVariants.{At}
+use Rattle.errand_steps.specs.Errands.{ErrandFields, counts_cleared}
+use Rattle.errand_steps.specs.Events.{event_of}
+use Rattle.errand_steps.specs.Nexts.{next_of}
+use Rattle.errand_steps.specs.Points.{plan_point_of}
+use Rattle.errand_steps.specs.Steps.{State, Step, found_at}
+use Rattle.sound_state.specs.Holdings.{holds_of, waiting, on_its_way, reserving, partly_used}
+use Rattle.sound_state.specs.Keepers.{IsKept, IsActive, word_keeps, errand_has}
+use Rattle.sound_state.specs.Lists.{Lists}
+use Rattle.sound_state.specs.Sound.{IsSoundWithoutCounts, IsSoundWith}
+use Rattle.sound_state.specs.Stock.{waits_in, word_stock, stock_among}
+use Rattle.sound_state.specs.Sums.{sum_below, words_sum, callers_sum}
+use Rattle.sound_state.specs.Superblocks.{is_bound, away_of, errand_away, word_reserves, reserved_among, kept_among}
+use Rattle.sound_state.proofs.shared.AlikeLemmas.{ActivesKept}
+use Rattle.sound_state.proofs.quiet.QuietLemmas.{found_from}
+use Rattle.sound_state.proofs.shared.StepLemmas.{PointGoes, at_point, step-sound}
+use Rattle.sound_state.proofs.shared.SumLemmas.{term-sum, sum-least}
+use Rattle.sound_state.proofs.shared.WeighLemmas.{IsStill, WeighAlike}
+
+-- a word is no more than all words weigh together
+pub word-sum :
+    (g : Geometry) (weight : WordName → ℕ → ℕ) (words : WordName → ℕ) (n : WordName) → Exists g n
+    → weight n (words n) ≤ words_sum g weight words
+unfolding words_sum
+word-sum g weight words n exists =
+    subst (λ m. weight m (words m) ≤ sum_below (word_count g) (λ k. weight (word_name g k) (words (word_name g k)))) (word_name-word_index g n exists)
+    (term-sum (word_count g) (λ k. weight (word_name g k) (words (word_name g k))) (word_index g n) (word_index-within g n exists))
+
+-- what an errand has away it has
+away-has : (d : ℕ) (e : ErrandFields) → errand_away d e ≤ errand_has d e
+away-has d e = omega arith
+
+-- a descriptor that stands in a word isn't away
+pub word-keeps-away :
+    (g : Geometry) (s : State) (l : Lists) (d : ℕ) (n : WordName) → IsKept g s l → d < descriptor_count g → Exists g n
+    → word_keeps d n (s.word n) ≡ 1 → away_of g s l d ≡ 0
+unfolding callers_sum
+word-keeps-away g s l d n kept has exists keeps =
+    omega (
+      arith,
+      kept.once d has,
+      keeps,
+      word-sum g (word_keeps d) s.word n exists,
+      sum-least g.callers (λ i. errand_away d (s.errand i)) (λ i. errand_has d (s.errand i)) (λ i lt. away-has d (s.errand i)),
+    )
+
+-- so an active superblock has its descriptor
+pub active-bound :
+    (g : Geometry) (s : State) (l : Lists) (d class : ℕ) → away_of g s l d ≡ 0 → IsActive s d class → IsTrue (is_bound g s l d)
+active-bound g s l d class none active = rw (eq-eqb (away_of g s l d) 0 none, active.state) refl
+
+-- the class of an active word
+abbrev class_named : WordName → ℕ
+class_named (name.Active heap class) = class
+class_named n = 0
+
+slot-apart : (h c heap class : ℕ) → name.Slot h c ≡ name.Active heap class → ⊥
+slot-apart h c heap class e = cc
+
+-- a write of an active word that says what belongs there leaves in active words and slots what belongs there
+pub actives-written :
+    (g : Geometry) (s : State) (l : Lists) (heap class new : ℕ) (words' : WordName → ℕ) → IsKept g s l
+    → Writes s.word (name.Active heap class) new words' → IsSome (active_of new)
+    → ((d credits : ℕ) → active_of new ≡ Some (Held d credits) → (d < descriptor_count g) × IsActive s d class) → ActivesKept g s words'
+actives-written g s l heap class new words' kept w some held = record {
+  active_words = λ h c has_heap has_class.
+      elim (cases_name (name.Active h c) (name.Active heap class)) [
+        | inl is ↦ subst (λ n. IsSome (active_of (words' n))) (sym is) (subst (λ v. IsSome (active_of v)) (sym w.here) some)
+        | inr differ ↦
+            subst (λ v. IsSome (active_of v)) (sym (w.elsewhere (name.Active h c) differ)) (kept.active_words h c has_heap has_class)
+      ];
+  slot_words = λ h c has_heap has_class.
+      subst (λ v. v ≤ descriptor_count g) (sym (w.elsewhere (name.Slot h c) (λ e. slot-apart h c heap class e))) (kept.slot_words h c has_heap has_class);
+  active = λ h c d credits has_heap has_class says.
+      elim (cases_name (name.Active h c) (name.Active heap class)) [
+        | inl is ↦
+            let here : active_of new ≡ Some (Held d credits) = ap active_of (sym w.here) ∙ ap (λ n. active_of (words' n)) (sym is) ∙ says in
+            let same : class ≡ c = sym (ap class_named is) in
+            let of = held d credits here in (of.0, subst (IsActive s d) same of.1)
+        | inr differ ↦ kept.active h c d credits has_heap has_class (ap active_of (sym (w.elsewhere (name.Active h c) differ)) ∙ says)
+      ];
+  slot = λ h c d has_heap has_class says.
+      kept.slot h c d has_heap has_class (sym (w.elsewhere (name.Slot h c) (λ e. slot-apart h c heap class e)) ∙ says);
+}
+
+-- a word and a point weigh together what they weighed
+pub record WeighsOver (n : WordName) (before after : ℕ) (p q : Point) : Type 0 where
+  pub still : IsStill n → after ≡ before
+  pub reserves :
+      (d : ℕ) → word_reserves d n after + reserved_among d (holds_of q).credits ≡ word_reserves d n before + reserved_among d (holds_of p).credits
+  pub waits : (d : ℕ) → kept_among waiting d (holds_of q).kept ≡ kept_among waiting d (holds_of p).kept
+  pub ways : (d : ℕ) → kept_among on_its_way d (holds_of q).kept ≡ kept_among on_its_way d (holds_of p).kept
+  pub places :
+      (d : ℕ)
+      → word_keeps d n after + (kept_among reserving d (holds_of q).kept + kept_among partly_used d (holds_of q).kept)
+      ≡ word_keeps d n before + (kept_among reserving d (holds_of p).kept + kept_among partly_used d (holds_of p).kept)
+  pub frames : (holds_of q).frames ≡ (holds_of p).frames
+  pub stock :
+      (class : ℕ)
+      → word_stock class n after + (stock_among class (holds_of q).kept + waits_in class q)
+      ≡ word_stock class n before + (stock_among class (holds_of p).kept + waits_in class p)
+
+over-alike :
+    (n : WordName) (before after : ℕ) (e : ErrandFields) (x : Found) (q : Point) → WeighsOver n before after e.point q
+    → WeighAlike n before after e (at_point e x q)
+over-alike n before after e x q w = record {
+  still = w.still;
+  reserves = w.reserves;
+  waits = w.waits;
+  ways = w.ways;
+  away = λ d. ap (λ k. occurs d e.retired + k) (w.ways d);
+  places = λ d. omega (arith, w.places d, w.waits d, w.ways d);
+  frames = λ f. ap (occurs f) w.frames;
+  stock = w.stock;
+}
+
+-- what an exchange finds that is won
+abbrev pub won_with : ℕ → Found
+won_with word = record { value = word; won = true }
+
+-- an exchange that is won and leads on
+pub record WinsTo (g : Geometry) (s : State) (who : ℕ) (p q : Point) (n : WordName) (expected new : ℕ) : Type 0 where
+  pub plan : plan_point_of p ≡ Cas n expected new
+  pub next : next_of p (won_with (s.word n)) ≡ At q
+  pub event : event_of who p (won_with (s.word n)) ≡ None
+  pub cleared : counts_cleared p (won_with (s.word n)) ≡ false
+  pub below : new < 2 ^ 64
+  pub weighs : WeighsOver n expected new p q
+  pub goes : (l : Lists) → IsSoundWith g s l → PointGoes g s l who p q
+  pub actives : (l : Lists) → IsSoundWith g s l → (words' : WordName → ℕ) → Writes s.word n new words' → ActivesKept g s words'
+
+won-sound :
+    (g : Geometry) (s : State) (who : ℕ) (s' : State) (q : Point) (n : WordName) (expected new : ℕ) → IsSoundWithoutCounts g s → who < g.callers
+    → WinsTo g s who (s.errand who).point q n expected new → s.word n ≡ expected → Step s who s' → IsSoundWithoutCounts g s'
+won-sound g s who s' q n expected new sound has h is step =
+    let p = (s.errand who).point in
+    let e = s.errand who in
+    let won : (s.word n == expected) ≡ true = eq-eqb (s.word n) expected is in
+    let found : found_from s p ≡ won_with (s.word n) =
+    ap (λ a. found_by a (s.word (name_of a))) h.plan ∙ ap (λ b. record { value = s.word n; won = b }) won in
+    let after : after_action (Cas n expected new) (s.word n) ≡ new = cond-true {A = ℕ} (s.word n == expected) new (s.word n) won in
+    let weigh : WeighAlike n (s.word n) (after_action (Cas n expected new) (s.word n)) e (at_point e (found_at s who) q) =
+    subst (λ v. WeighAlike n (s.word n) v e (at_point e (found_at s who) q)) (sym after)
+    (subst (λ v. WeighAlike n v new e (at_point e (found_at s who) q)) (sym is) (over-alike n expected new e (found_at s who) q h.weighs)) in
+    let writes : Writes s.word n (after_action (Cas n expected new) (s.word n)) s'.word =
+    subst (λ a. Writes s.word (name_of a) (after_action a (s.word (name_of a))) s'.word) h.plan step.word in
+    step-sound g s who s' q sound has
+    (λ l old. record {
+      next = ap (next_of p) found ∙ h.next;
+      event = ap (event_of who p) found ∙ h.event;
+      cleared = ap (counts_cleared p) found ∙ h.cleared;
+      goes = h.goes l old;
+      weigh = subst (λ a. WeighAlike (name_of a) (s.word (name_of a)) (after_action a (s.word (name_of a))) e (at_point e (found_at s who) q)) (sym h.plan) weigh;
+      below =
+          subst (λ a. after_action a (s.word (name_of a)) < 2 ^ 64) (sym h.plan) (subst (λ v. v < 2 ^ 64) (sym after) h.below);
+    })
+    (λ l old. h.actives l old s'.word (subst (λ v. Writes s.word n v s'.word) after writes)) step
+
+pub won-at :
+    (g : Geometry) (s : State) (who : ℕ) (s' : State) (p q : Point) (n : WordName) (expected new : ℕ) → IsSoundWithoutCounts g s → who < g.callers
+    → (s.errand who).point ≡ p → WinsTo g s who p q n expected new → s.word n ≡ expected → Step s who s' → IsSoundWithoutCounts g s'
+won-at g s who s' p q n expected new sound has at h is step =
+    won-sound g s who s' q n expected new sound has (subst (λ r. WinsTo g s who r q n expected new) (sym at) h) is step

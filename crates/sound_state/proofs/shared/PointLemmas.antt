@@ -1,0 +1,313 @@
+-- Steps from a point that is known: what a sound state says of the caller there, and what its word and errand weigh.
+use Rattle.std.proofs.Common.{ℕ, false, None, ◌≡◌, ◌<◌, ◌≤◌, ◌+◌, ◌^◌, List, [], ◌∷◌, suc, refl, arith, ap, sym, subst, inl, inr, ◌∙◌}
+use Rattle.std.specs.Prelude.{All, Any, IsSome, IsTrue, length}
+use Rattle.std.proofs.lemmas.List.Elements.{All-nil, All-cons}
+use Rattle.heap_geometry.specs.declared.geometry.Geometry.{Geometry}
+use Rattle.packed_words.specs.Active.{active_of}
+use Rattle.word_plan.specs.declared.action.Found.{Found}
+use Rattle.word_plan.specs.declared.name.WordName.{WordName}
+use Rattle.word_plan.specs.declared.name.WordName.TheVariants as name
+use Rattle.word_plan.specs.Actions.{name_of, after_action}
+use Rattle.word_plan.specs.Counts.{descriptor_count}
+use Rattle.word_plan.specs.Table.{Exists}
+use Rattle.word_plan.specs.Words.{Writes}
+use Rattle.word_plan.proofs.NameLemmas.{cases_name}
+use Rattle.superblock_parts.specs.Chains.{occurs}
+use Rattle.errand_steps.specs.declared.onward.Onward.{Onward}
+use Rattle.errand_steps.specs.declared.onward.Onward.TheVariants as onward
+use Rattle.errand_steps.specs.declared.next.Next.TheVariants.{At, End}
+use Rattle.errand_steps.specs.declared.point.Point.{Point}
+use Rattle.errand_steps.specs.declared.point.Point.TheVariants.{Idle}
+use Rattle.errand_steps.specs.declared.reply.Reply.{Reply}
+use Rattle.errand_steps.specs.Errands.{ErrandFields, counts_cleared}
+use Rattle.errand_steps.specs.Events.{event_of}
+use Rattle.errand_steps.specs.Fits.{FitsPoint, spare_of, pushed_by}
+use Rattle.errand_steps.specs.Nexts.{next_of}
+use Rattle.errand_steps.specs.Onwards.{is_alloc, is_free}
+use Rattle.errand_steps.specs.Points.{asked, plan_point_of}
+use Rattle.errand_steps.specs.Steps.{State, Step, found_at}
+use Rattle.errand_steps.proofs.PlanLemmas.{plan-exists}
+use Rattle.sound_state.specs.Guards.{IsHazard, IsGuard, passed_by, held_by}
+use Rattle.sound_state.specs.Holdings.{Kept, holds_of, on_its_way, waiting, reserving, partly_used}
+use Rattle.sound_state.specs.Keepers.{IsKeptAs, IsPartlyUsed, errand_has, word_keeps}
+use Rattle.sound_state.specs.Lists.{Lists}
+use Rattle.sound_state.specs.Recalls.{IsSo, IsOwned, recalls_of}
+use Rattle.sound_state.specs.Sound.{IsSoundWithoutCounts, IsSoundWith}
+use Rattle.sound_state.specs.Stock.{waits_in, word_stock, stock_among}
+use Rattle.sound_state.specs.Sums.{sum_below, callers_sum}
+use Rattle.sound_state.specs.Superblocks.{errand_keeps, word_reserves, reserved_among, kept_among}
+use Rattle.sound_state.proofs.shared.AlikeLemmas.{ActivesKept}
+use Rattle.sound_state.proofs.quiet.QuietLemmas.{found_from, actives-stay, words-stay}
+use Rattle.sound_state.proofs.shared.StepLemmas.{PointGoes, TurnGoes, at_point, settle-end, step-after, step-sound}
+use Rattle.sound_state.proofs.shared.SumLemmas.{sum-plus, sum-least, term-sum}
+use Rattle.sound_state.proofs.shared.WeighLemmas.{IsStill, WeighAlike}
+
+-- what a sound state says of a caller at this point
+pub fits-at :
+    (g : Geometry) (s : State) (l : Lists) (who : ℕ) (p : Point) → IsSoundWith g s l → who < g.callers → (s.errand who).point ≡ p
+    → FitsPoint g who p
+fits-at g s l who p old has at =
+    let own = old.errands who has in
+    subst (FitsPoint g who) at
+    (subst (λ h. FitsPoint h who (s.errand who).point) own.geometry
+    (subst (λ i. FitsPoint (s.errand who).geometry i (s.errand who).point) own.caller own.rule.point))
+
+pub kept-at :
+    (g : Geometry) (s : State) (l : Lists) (who : ℕ) (p : Point) → IsSoundWith g s l → who < g.callers → (s.errand who).point ≡ p
+    → All (λ k. IsKeptAs s k.status k.desc k.class) (holds_of p).kept
+kept-at g s l who p old has at = subst (λ q. All (λ k. IsKeptAs s k.status k.desc k.class) (holds_of q).kept) at (old.kept.errand who has)
+
+pub so-at :
+    (g : Geometry) (s : State) (l : Lists) (who : ℕ) (p : Point) → IsSoundWith g s l → who < g.callers → (s.errand who).point ≡ p
+    → All (IsSo g s l who) (recalls_of p)
+so-at g s l who p old has at = subst (λ q. All (IsSo g s l who) (recalls_of q)) at (old.remembered.so who has)
+
+pub hazard-at :
+    (g : Geometry) (s : State) (l : Lists) (who : ℕ) (p : Point) → IsSoundWith g s l → who < g.callers → (s.errand who).point ≡ p
+    → IsHazard (holds_of p).hazard (s.word (name.Hazard who))
+hazard-at g s l who p old has at = subst (λ q. IsHazard (holds_of q).hazard (s.word (name.Hazard who))) at (old.guarded.words who has)
+
+pub hands-at :
+    (g : Geometry) (s : State) (l : Lists) (who : ℕ) (p : Point) → IsSoundWith g s l → who < g.callers → (s.errand who).point ≡ p
+    → All (λ x. IsOwned s who x.place x.need) (holds_of p).hands
+hands-at g s l who p old has at = subst (λ q. All (λ x. IsOwned s who x.place x.need) (holds_of q).hands) at (old.tied.hands who has)
+
+pub frees-at :
+    (g : Geometry) (s : State) (l : Lists) (who : ℕ) (p : Point) → IsSoundWith g s l → who < g.callers → (s.errand who).point ≡ p
+    → All (λ x. IsOwned s who x.place x.need) (holds_of p).frees
+frees-at g s l who p old has at = subst (λ q. All (λ x. IsOwned s who x.place x.need) (holds_of q).frees) at (old.tied.frees who has)
+
+-- the continuation of an allocation at work, and of a free
+pub the-alloc : (o : Onward) → IsTrue (is_alloc o) → o ≡ onward.Alloc (asked o)
+the-alloc o is = grind (arith, is)
+
+pub the-free : (o : Onward) → IsTrue (is_free o) → o ≡ onward.Free
+the-free o is = grind (arith, is)
+
+-- all but the first
+pub All-rest : {X : Type 0} (P : X → Type 0) (x : X) (xs : List X) → All P (x ∷ xs) → All P xs
+All-rest P x xs h = λ k d within. h (suc k) d (omega arith)
+
+-- the word of the point is one of the heap's
+pub exists-at :
+    (g : Geometry) (s : State) (who : ℕ) (p : Point) → IsSoundWithoutCounts g s → who < g.callers → (s.errand who).point ≡ p
+    → Exists g (name_of (plan_point_of p))
+exists-at g s who p sound has at = plan-exists g who p sound.checked has (fits-at g s sound.parts.0 who p sound.parts.1 has at)
+
+-- at the second point a caller has the hazard word, the blocks and the push that it has at the first, and is no further back in its turn
+pub record HoldsAlike (p q : Point) : Type 0 where
+  pub hazard : (holds_of q).hazard ≡ (holds_of p).hazard
+  pub hands : (holds_of q).hands ≡ (holds_of p).hands
+  pub frees : (holds_of q).frees ≡ (holds_of p).frees
+  pub pushed : pushed_by q ≡ pushed_by p
+  pub passed : passed_by q ≡ 0
+  pub unread : length (held_by q) ≡ 0
+  pub spare : spare_of q ≡ spare_of p
+  pub turn : TurnGoes p q
+
+-- it may stand there, where what it keeps is in its state and what it remembers is so
+pub alike-goes :
+    (g : Geometry) (s : State) (l : Lists) (who : ℕ) (p q : Point) → IsSoundWith g s l → who < g.callers → (s.errand who).point ≡ p
+    → HoldsAlike p q → All (λ k. IsKeptAs s k.status k.desc k.class) (holds_of q).kept → All (IsSo g s l who) (recalls_of q)
+    → PointGoes g s l who p q
+alike-goes g s l who p q old has at h kept so = record {
+  kept = kept;
+  so = so;
+  hazard = subst (λ x. IsHazard x (s.word (name.Hazard who))) (sym h.hazard) (hazard-at g s l who p old has at);
+  guard = λ d word guard. subst IsGuard h.hazard guard;
+  pushed = h.pushed;
+  passed = h.passed;
+  unread = h.unread;
+  spare = h.spare;
+  hands = subst (λ bs. All (λ x. IsOwned s who x.place x.need) bs) (sym h.hands) (hands-at g s l who p old has at);
+  frees = subst (λ bs. All (λ x. IsOwned s who x.place x.need) bs) (sym h.frees) (frees-at g s l who p old has at);
+  excepts = λ place x.
+      elim x [
+        | inl a ↦ inl (subst (λ bs. Any (λ b. b.place ≡ place) bs) (sym h.hands) a)
+        | inr a ↦ inr (subst (λ bs. Any (λ b. (b.place ≡ place) × IsTrue b.overwritten) bs) (sym h.frees) a)
+      ];
+  turn = h.turn;
+}
+
+-- in how many places a caller keeps d
+abbrev pub kept_places : ℕ → List Kept → ℕ
+kept_places d ks = kept_among reserving d ks + kept_among waiting d ks + kept_among partly_used d ks + kept_among on_its_way d ks
+
+-- the word after the step and the second point weigh what the word before it and the first point did
+pub record WeighFrom (n : WordName) (before after : ℕ) (p q : Point) : Type 0 where
+  pub still : IsStill n → after ≡ before
+  pub reserves :
+      (d : ℕ) → word_reserves d n after + reserved_among d (holds_of q).credits
+      ≡ word_reserves d n before + reserved_among d (holds_of p).credits
+  pub waits : (d : ℕ) → kept_among waiting d (holds_of q).kept ≡ kept_among waiting d (holds_of p).kept
+  pub ways : (d : ℕ) → kept_among on_its_way d (holds_of q).kept ≡ kept_among on_its_way d (holds_of p).kept
+  pub places :
+      (d : ℕ) → word_keeps d n after + kept_places d (holds_of q).kept ≡ word_keeps d n before + kept_places d (holds_of p).kept
+  pub frames : (f : ℕ) → occurs f (holds_of q).frames ≡ occurs f (holds_of p).frames
+  pub stock :
+      (class : ℕ) → word_stock class n after + (stock_among class (holds_of q).kept + waits_in class q)
+      ≡ word_stock class n before + (stock_among class (holds_of p).kept + waits_in class p)
+
+-- a word that stays, and points that keep the same
+pub weigh-stays :
+    (n : WordName) (w : ℕ) (p q : Point) → (holds_of q).credits ≡ (holds_of p).credits → (holds_of q).kept ≡ (holds_of p).kept
+    → (holds_of q).frames ≡ (holds_of p).frames → ((class : ℕ) → waits_in class q ≡ waits_in class p) → WeighFrom n w w p q
+weigh-stays n w p q credits kept frames waits = record {
+  still = λ plain. refl;
+  reserves = λ d. ap (λ x. word_reserves d n w + reserved_among d x) credits;
+  waits = λ d. ap (kept_among waiting d) kept;
+  ways = λ d. ap (kept_among on_its_way d) kept;
+  places = λ d. ap (λ ks. word_keeps d n w + kept_places d ks) kept;
+  frames = λ f. ap (occurs f) frames;
+  stock = λ class. rw (kept, waits class) refl;
+}
+
+pub from-weighs :
+    (n : WordName) (before after : ℕ) (e : ErrandFields) (x : Found) (q : Point) → WeighFrom n before after e.point q
+    → WeighAlike n before after e (at_point e x q)
+from-weighs n before after e x q h = record {
+  still = h.still;
+  reserves = h.reserves;
+  waits = h.waits;
+  ways = h.ways;
+  away = λ d. omega (arith, h.ways d);
+  places = λ d. omega (arith, h.places d);
+  frames = h.frames;
+  stock = h.stock;
+}
+
+-- a step from the first point to the second, and what the active words and the slots hold after it
+pub record StepsFrom (g : Geometry) (s : State) (l : Lists) (who : ℕ) (p q : Point) : Type 0 where
+  pub next : next_of p (found_from s p) ≡ At q
+  pub event : event_of who p (found_from s p) ≡ None
+  pub cleared : counts_cleared p (found_from s p) ≡ false
+  pub goes : PointGoes g s l who p q
+  pub weigh :
+      WeighFrom (name_of (plan_point_of p)) (s.word (name_of (plan_point_of p)))
+      (after_action (plan_point_of p) (s.word (name_of (plan_point_of p)))) p q
+  pub below : after_action (plan_point_of p) (s.word (name_of (plan_point_of p))) < 2 ^ 64
+  pub actives :
+      (words' : WordName → ℕ)
+      → Writes s.word (name_of (plan_point_of p)) (after_action (plan_point_of p) (s.word (name_of (plan_point_of p)))) words'
+      → ActivesKept g s words'
+
+-- it keeps the state sound
+pub step-from :
+    (g : Geometry) (s : State) (who : ℕ) (s' : State) (p q : Point) → IsSoundWithoutCounts g s → who < g.callers → (s.errand who).point ≡ p
+    → ((l : Lists) → IsSoundWith g s l → StepsFrom g s l who p q) → Step s who s' → IsSoundWithoutCounts g s'
+step-from g s who s' p q sound has at h step =
+    let moved = λ (l : Lists) (old : IsSoundWith g s l). subst (λ r. StepsFrom g s l who r q) (sym at) (h l old) in
+    step-sound g s who s' q sound has
+    (λ l old.
+    let m : StepsFrom g s l who (s.errand who).point q = moved l old in
+    record {
+      next = m.next;
+      event = m.event;
+      cleared = m.cleared;
+      goes = m.goes;
+      weigh = from-weighs _ _ _ (s.errand who) (found_at s who) q m.weigh;
+      below = m.below;
+    })
+    (λ l old. let m : StepsFrom g s l who (s.errand who).point q = moved l old in m.actives s'.word step.word) step
+
+-- a step from the first point that ends the call, and what the active words and the slots hold after it
+pub record EndsFrom (g : Geometry) (s : State) (l : Lists) (who : ℕ) (p : Point) (r : Reply) : Type 0 where
+  pub next : next_of p (found_from s p) ≡ End r
+  pub event : event_of who p (found_from s p) ≡ None
+  pub cleared : counts_cleared p (found_from s p) ≡ false
+  pub goes : PointGoes g s l who p Idle
+  pub weigh :
+      WeighFrom (name_of (plan_point_of p)) (s.word (name_of (plan_point_of p)))
+      (after_action (plan_point_of p) (s.word (name_of (plan_point_of p)))) p Idle
+  pub below : after_action (plan_point_of p) (s.word (name_of (plan_point_of p))) < 2 ^ 64
+  pub actives :
+      (words' : WordName → ℕ)
+      → Writes s.word (name_of (plan_point_of p)) (after_action (plan_point_of p) (s.word (name_of (plan_point_of p)))) words'
+      → ActivesKept g s words'
+
+-- it keeps the state sound
+pub end-from :
+    (g : Geometry) (s : State) (who : ℕ) (s' : State) (p : Point) (r : Reply) → IsSoundWithoutCounts g s → who < g.callers → (s.errand who).point ≡ p
+    → ((l : Lists) → IsSoundWith g s l → EndsFrom g s l who p r) → Step s who s' → IsSoundWithoutCounts g s'
+end-from g s who s' p r sound has at h step =
+    let moved = λ (l : Lists) (old : IsSoundWith g s l). subst (λ z. EndsFrom g s l who z r) (sym at) (h l old) in
+    step-after g s who s' Idle sound has
+    (λ l old.
+    let m : EndsFrom g s l who (s.errand who).point r = moved l old in
+    record {
+      after = settle-end (s.errand who) (found_at s who) r m.next;
+      event = m.event;
+      cleared = m.cleared;
+      goes = m.goes;
+      weigh = from-weighs _ _ _ (s.errand who) (found_at s who) Idle m.weigh;
+      below = m.below;
+    })
+    (λ l old. let m : EndsFrom g s l who (s.errand who).point r = moved l old in m.actives s'.word step.word) step
+
+-- where the word stays, the active words and the slots do
+pub stays-actives :
+    (g : Geometry) (s : State) (l : Lists) (n : WordName) (new : ℕ) (words' : WordName → ℕ) → IsSoundWith g s l → Writes s.word n new words'
+    → new ≡ s.word n → ActivesKept g s words'
+stays-actives g s l n new words' old w same = actives-stay g s l words' old.kept (words-stay s.word n new words' w same)
+
+-- the class of a slot
+abbrev slot_class : WordName → ℕ
+slot_class (name.Slot heap class) = class
+slot_class n = 0
+
+-- a slot into which a partly used superblock of its class is put, or nothing
+pub slot-written :
+    (g : Geometry) (s : State) (l : Lists) (heap class new : ℕ) (words' : WordName → ℕ) → IsSoundWith g s l
+    → Writes s.word (name.Slot heap class) new words' → new ≤ descriptor_count g
+    → ((d : ℕ) → new ≡ d + 1 → (d < descriptor_count g) × IsPartlyUsed s d class) → ActivesKept g s words'
+slot-written g s l heap class new words' old w most holds = record {
+  active_words = λ h c has_heap has_class.
+      subst (λ w. IsSome (active_of w)) (sym (w.elsewhere (name.Active h c) (λ same. cc))) (old.kept.active_words h c has_heap has_class);
+  slot_words = λ h c has_heap has_class.
+      elim (cases_name (name.Slot h c) (name.Slot heap class)) [
+        | inl is ↦ subst (λ x. x ≤ descriptor_count g) (sym (ap words' is ∙ w.here)) most
+        | inr differ ↦ subst (λ x. x ≤ descriptor_count g) (sym (w.elsewhere (name.Slot h c) differ)) (old.kept.slot_words h c has_heap has_class)
+      ];
+  active = λ h c d credits has_heap has_class is.
+      old.kept.active h c d credits has_heap has_class (ap active_of (sym (w.elsewhere (name.Active h c) (λ same. cc))) ∙ is);
+  slot = λ h c d has_heap has_class is.
+      elim (cases_name (name.Slot h c) (name.Slot heap class)) [
+        | inl one ↦
+            subst (λ k. (d < descriptor_count g) × IsPartlyUsed s d k) (sym (ap slot_class one)) (holds d (sym (ap words' one ∙ w.here) ∙ is))
+        | inr differ ↦ old.kept.slot h c d has_heap has_class (sym (w.elsewhere (name.Slot h c) differ) ∙ is)
+      ];
+}
+
+-- a slot that is emptied
+pub slot-emptied :
+    (g : Geometry) (s : State) (l : Lists) (heap class new : ℕ) (words' : WordName → ℕ) → IsSoundWith g s l
+    → Writes s.word (name.Slot heap class) new words' → new ≡ 0 → ActivesKept g s words'
+slot-emptied g s l heap class new words' old w bare =
+    slot-written g s l heap class new words' old w (omega (arith, bare)) (λ d is. let bad : ⊥ = omega (arith, bare, is) in absurd bad)
+
+-- one more partly used superblock is kept
+pub keeps-too :
+    (s : State) (d class : ℕ) (ks : List Kept) → IsPartlyUsed s d class → All (λ k. IsKeptAs s k.status k.desc k.class) ks
+    → All (λ k. IsKeptAs s k.status k.desc k.class) (record { desc = d; class = class; status = partly_used } ∷ ks)
+keeps-too s d class ks is rest =
+    All-cons (λ k. IsKeptAs s k.status k.desc k.class) (record { desc = d; class = class; status = partly_used }) ks is rest
+
+-- nothing is kept
+pub keeps-none : (s : State) → All (λ (k : Kept). IsKeptAs s k.status k.desc k.class) []
+keeps-none s = All-nil (λ (k : Kept). IsKeptAs s k.status k.desc k.class)
+
+-- a partly used superblock that a caller keeps is neither available nor on its way
+pub keeps-alone :
+    (g : Geometry) (s : State) (l : Lists) (who d : ℕ) → IsSoundWith g s l → who < g.callers → d < descriptor_count g
+    → 1 ≤ errand_keeps partly_used d (s.errand who)
+    → (occurs d l.available ≡ 0) × (callers_sum g (errand_keeps on_its_way d) s.errand ≡ 0)
+unfolding callers_sum
+keeps-alone g s l who d old has exists keeps =
+    let partly = λ (i : ℕ). errand_keeps partly_used d (s.errand i) in
+    let ways = λ (i : ℕ). errand_keeps on_its_way d (s.errand i) in
+    let both : sum_below g.callers (λ i. partly i + ways i) ≡ sum_below g.callers partly + sum_below g.callers ways = sum-plus g.callers partly ways in
+    let least : sum_below g.callers (λ i. partly i + ways i) ≤ sum_below g.callers (λ i. errand_has d (s.errand i)) =
+    sum-least g.callers (λ i. partly i + ways i) (λ i. errand_has d (s.errand i)) (λ i lt. omega arith) in
+    let once = old.kept.once d exists in
+    let mine : partly who ≤ sum_below g.callers partly = term-sum g.callers partly who has in
+    (omega (arith, once, both, least, mine, keeps), omega (arith, once, both, least, mine, keeps))

@@ -1,0 +1,287 @@
+-- A step that leads from one point to another, and changes nothing that is shown, keeps the state sound.
+use Rattle.std.proofs.Common.{ℕ, Bool, false, None, ◌≡◌, ◌≢◌, ◌<◌, ◌≤◌, ◌+◌, ◌^◌, List, length, refl, arith, ap, sym, subst, inl, inr, ◌∙◌}
+use Rattle.std.specs.Prelude.{◌⊎◌, ◌&&◌, not, All, Any, IsTrue}
+use Rattle.heap_geometry.specs.declared.geometry.Geometry.{Geometry}
+use Rattle.word_plan.specs.declared.action.Found.{Found}
+use Rattle.word_plan.specs.declared.name.WordName.{WordName}
+use Rattle.word_plan.specs.declared.name.WordName.TheVariants as name
+use Rattle.word_plan.specs.Actions.{after_action}
+use Rattle.word_plan.specs.Table.{Exists}
+use Rattle.word_plan.specs.Words.{Writes}
+use Rattle.word_plan.proofs.NameLemmas.{cases_name}
+use Rattle.pool_model.specs.Legal.{IsLegalWithoutCounts}
+use Rattle.errand_steps.specs.declared.next.Next.TheVariants.{At, End}
+use Rattle.errand_steps.specs.declared.point.Point.{Point}
+use Rattle.errand_steps.specs.declared.point.Point.TheVariants.{Idle}
+use Rattle.errand_steps.specs.declared.reply.Reply.{Reply}
+use Rattle.errand_steps.specs.Errands.{ErrandFields, IsErrand, settle_of, course_of, plan_of, raised, counts_won, counts_lost, counts_cleared}
+use Rattle.errand_steps.specs.Fits.{spare_of, pushed_by}
+use Rattle.errand_steps.specs.Nexts.{next_of}
+use Rattle.errand_steps.specs.Steps.{State, Step, Moves, action_at, name_at, word_at, found_at, event_at, with_event}
+use Rattle.errand_steps.proofs.ErrandLemmas.{settle_errand}
+use Rattle.errand_steps.proofs.PlanLemmas.{plan-exists}
+use Rattle.sound_state.specs.Guards.{IsGuarded, IsGuard, IsHazard, passed_by, held_by}
+use Rattle.sound_state.specs.Holdings.{Holding, holds_of}
+use Rattle.sound_state.specs.Keepers.{IsKeptAs}
+use Rattle.sound_state.specs.Lists.{Lists}
+use Rattle.sound_state.specs.Recalls.{IsSo, IsOwned, recalls_of}
+use Rattle.sound_state.specs.Sound.{IsSoundWithoutCounts, IsSoundWith}
+use Rattle.sound_state.specs.Turns.{one_if, in_turn, has_frame, has_partial, has_refused, is_discarding_at, pops_left}
+use Rattle.sound_state.proofs.shared.AlikeLemmas.{MayGoOn, MayGuard, ActivesKept, sound-alike}
+use Rattle.sound_state.proofs.shared.WeighLemmas.{WeighAlike, WeighMost, alike-most, hazards-stay, weigh-alike, weigh-emptied}
+
+-- the block at the place is excepted by what is held
+abbrev pub HoldsException : Holding → ℕ → Type 0
+HoldsException h place = Any (λ b. b.place ≡ place) h.hands ⊎ Any (λ b. (b.place ≡ place) × IsTrue b.overwritten) h.frees
+
+-- how far a call's turn is at two points: at the second one it is no further back
+pub record TurnGoes (p q : Point) : Type 0 where
+  pub under_way : one_if (in_turn q) ≤ one_if (in_turn p)
+  pub discards : one_if (in_turn q && is_discarding_at q) ≤ one_if (in_turn p && is_discarding_at p)
+  pub unanswered : one_if (in_turn p && not (has_refused p)) ≤ one_if (in_turn q && not (has_refused q))
+  pub unframed : one_if (in_turn q && not (has_frame q)) ≤ one_if (in_turn p && not (has_frame p))
+  pub pops :
+      pops_left q + one_if (in_turn q && not (has_partial q)) ≤ pops_left p + one_if (in_turn p && not (has_partial p))
+
+-- a caller may stand at the second point where it stood at the first
+pub record PointGoes (g : Geometry) (s : State) (l : Lists) (who : ℕ) (p q : Point) : Type 0 where
+  pub kept : All (λ k. IsKeptAs s k.status k.desc k.class) (holds_of q).kept
+  pub so : All (IsSo g s l who) (recalls_of q)
+  pub hazard : IsHazard (holds_of q).hazard (s.word (name.Hazard who))
+  pub guard : (d : ℕ) → s.word (name.Hazard who) ≡ d + 1 → IsGuard (holds_of q).hazard → IsGuard (holds_of p).hazard
+  pub pushed : pushed_by q ≡ pushed_by p
+  pub passed : passed_by q ≡ 0
+  pub unread : length (held_by q) ≡ 0
+  pub spare : spare_of q ≡ spare_of p
+  pub hands : All (λ x. IsOwned s who x.place x.need) (holds_of q).hands
+  pub frees : All (λ x. IsOwned s who x.place x.need) (holds_of q).frees
+  pub excepts : (place : ℕ) → HoldsException (holds_of p) place → HoldsException (holds_of q) place
+  pub turn : TurnGoes p q
+
+-- the same, but for the hazard words
+pub record PointStands (g : Geometry) (s : State) (l : Lists) (who : ℕ) (p q : Point) : Type 0 where
+  pub kept : All (λ k. IsKeptAs s k.status k.desc k.class) (holds_of q).kept
+  pub so : All (IsSo g s l who) (recalls_of q)
+  pub spare : spare_of q ≡ spare_of p
+  pub hands : All (λ x. IsOwned s who x.place x.need) (holds_of q).hands
+  pub frees : All (λ x. IsOwned s who x.place x.need) (holds_of q).frees
+  pub excepts : (place : ℕ) → HoldsException (holds_of p) place → HoldsException (holds_of q) place
+  pub turn : TurnGoes p q
+
+pub goes-stands : (g : Geometry) (s : State) (l : Lists) (who : ℕ) (p q : Point) → PointGoes g s l who p q → PointStands g s l who p q
+goes-stands g s l who p q h = record {
+  kept = h.kept;
+  so = h.so;
+  spare = h.spare;
+  hands = h.hands;
+  frees = h.frees;
+  excepts = h.excepts;
+  turn = h.turn;
+}
+
+-- who goes on with the same hazard word, and scans nothing, may guard what it guarded
+pub goes-guards :
+    (g : Geometry) (s : State) (l : Lists) (who : ℕ) (q : Point) (retired : List ℕ) (word : ℕ) → IsGuarded g s → who < g.callers
+    → word ≡ s.word (name.Hazard who) → PointGoes g s l who (s.errand who).point q → MayGuard g s who q retired word
+goes-guards g s l who q retired word guarded has same h = record {
+  hazard = subst (IsHazard (holds_of q).hazard) (sym same) h.hazard;
+  guard = λ d is guard. inl (record { word = sym same ∙ is; guard = h.guard d (sym same ∙ is) guard });
+  pushed = λ i d has_i guards is. guarded.pushed i who d has_i has guards (sym h.pushed ∙ is);
+  passed = λ i d has_i guards listed below. let bad : ⊥ = omega (arith, below, h.passed) in absurd bad;
+  unread = λ i passed below. let bad : ⊥ = omega (arith, below, h.unread) in absurd bad;
+}
+
+-- a count never falls
+pub raised-least : (b : Bool) (n : ℕ) → n < 2 ^ 64 → n ≤ raised b n
+raised-least b n most = grind (arith)
+
+pub raised-below : (b : Bool) (n : ℕ) → n < 2 ^ 64 → raised b n < 2 ^ 64
+raised-below b n most = grind (arith)
+
+-- the errand at the second point
+abbrev pub at_point : ErrandFields → Found → Point → ErrandFields
+at_point e x q =
+    record e {
+      point = q;
+      won = raised (counts_won (plan_of e) x) e.won;
+      lost = raised (counts_lost e.point x) e.lost;
+      cleared = raised (counts_cleared e.point x) e.cleared;
+    }
+
+-- where a step leads to a point, that is the errand after it
+pub settle-at : (e : ErrandFields) (x : Found) (q : Point) → next_of e.point x ≡ At q → settle_of e x ≡ at_point e x q
+unfolding settle_of course_of
+settle-at e x q is = rw is refl
+
+-- where it ends the call, the caller is idle after it
+pub settle-end : (e : ErrandFields) (x : Found) (r : Reply) → next_of e.point x ≡ End r → settle_of e x ≡ at_point e x Idle
+unfolding settle_of course_of
+settle-end e x r is = rw is refl
+
+-- so the caller may go on
+pub may-after :
+    (g : Geometry) (s : State) (l : Lists) (who : ℕ) (x : Found) (q : Point) → IsSoundWith g s l → who < g.callers → x.value < 2 ^ 64
+    → settle_of (s.errand who) x ≡ at_point (s.errand who) x q → counts_cleared (s.errand who).point x ≡ false
+    → PointStands g s l who (s.errand who).point q
+    → MayGoOn g s l who (s.errand who) (at_point (s.errand who) x q)
+may-after g s l who x q sound has word after still goes =
+    let e = s.errand who in
+    let old = sound.errands who has in
+    let turned = sound.turned.own_turns who has in
+    let more : e.lost ≤ raised (counts_lost e.point x) e.lost = raised-least (counts_lost e.point x) e.lost old.lost in
+    let same : raised (counts_cleared e.point x) e.cleared ≡ e.cleared = ap (λ b. raised b e.cleared) still in
+    record {
+      rule = record {
+        caller = old.caller;
+        geometry = old.geometry;
+        rule = subst IsErrand after (settle_errand e x old.rule word);
+        lost = raised-below (counts_lost e.point x) e.lost old.lost;
+      };
+      kept = goes.kept;
+      retired = sound.kept.retired who has;
+      so = goes.so;
+      full = λ spare. sound.guarded.full who has (sym goes.spare ∙ spare);
+      hands = goes.hands;
+      frees = goes.frees;
+      excepts = λ place x. inl (goes.excepts place x);
+      own_turns = omega (arith, turned, goes.turn.under_way);
+      own_lost = omega (arith, sound.turned.own_lost who has, goes.turn.discards, goes.turn.unanswered, more);
+      frame_turns = omega (arith, goes.turn.unframed);
+      list_turns = omega (arith, goes.turn.pops, same);
+    }
+
+-- a step after which the caller stands at another point, whose word and errand weigh together what they did
+pub record StepsAfter (g : Geometry) (s : State) (l : Lists) (who : ℕ) (q : Point) : Type 0 where
+  pub after : settle_of (s.errand who) (found_at s who) ≡ at_point (s.errand who) (found_at s who) q
+  pub event : event_at s who ≡ None
+  pub cleared : counts_cleared (s.errand who).point (found_at s who) ≡ false
+  pub goes : PointGoes g s l who (s.errand who).point q
+  pub weigh :
+      WeighAlike (name_at s who) (word_at s who) (after_action (action_at s who) (word_at s who)) (s.errand who)
+      (at_point (s.errand who) (found_at s who) q)
+  pub below : after_action (action_at s who) (word_at s who) < 2 ^ 64
+
+-- the same, where the step leads to the point
+pub record StepsTo (g : Geometry) (s : State) (l : Lists) (who : ℕ) (q : Point) : Type 0 where
+  pub next : next_of (s.errand who).point (found_at s who) ≡ At q
+  pub event : event_at s who ≡ None
+  pub cleared : counts_cleared (s.errand who).point (found_at s who) ≡ false
+  pub goes : PointGoes g s l who (s.errand who).point q
+  pub weigh :
+      WeighAlike (name_at s who) (word_at s who) (after_action (action_at s who) (word_at s who)) (s.errand who)
+      (at_point (s.errand who) (found_at s who) q)
+  pub below : after_action (action_at s who) (word_at s who) < 2 ^ 64
+
+-- what the active words and the slots hold after it
+abbrev pub ActivesAfter : Geometry → State → ℕ → State → Type 0
+ActivesAfter g s who s' = ActivesKept g s s'.word
+
+-- each word is a word after a write of one
+pub words-below :
+    (words : WordName → ℕ) (n : WordName) (new : ℕ) (words' : WordName → ℕ) → Writes words n new words'
+    → ((m : WordName) → words m < 2 ^ 64) → new < 2 ^ 64 → (m : WordName) → words' m < 2 ^ 64
+words-below words n new words' w old below m =
+    elim (cases_name m n) [
+      | inl is ↦ subst (λ x. words' x < 2 ^ 64) (sym is) (subst (λ v. v < 2 ^ 64) (sym w.here) below)
+      | inr differ ↦ subst (λ v. v < 2 ^ 64) (sym (w.elsewhere m differ)) (old m)
+    ]
+
+-- a step after which the caller stands at another point; its hazard word may change
+pub record StepsMost (g : Geometry) (s : State) (l : Lists) (who : ℕ) (q : Point) : Type 0 where
+  pub after : settle_of (s.errand who) (found_at s who) ≡ at_point (s.errand who) (found_at s who) q
+  pub event : event_at s who ≡ None
+  pub cleared : counts_cleared (s.errand who).point (found_at s who) ≡ false
+  pub stands : PointStands g s l who (s.errand who).point q
+  pub weigh :
+      WeighMost (name_at s who) (word_at s who) (after_action (action_at s who) (word_at s who)) (s.errand who)
+      (at_point (s.errand who) (found_at s who) q)
+  pub below : after_action (action_at s who) (word_at s who) < 2 ^ 64
+
+-- the hazard words after it: those of the others stay, and with its own the caller may stand at the point
+pub record HazardsAfter (g : Geometry) (s : State) (who : ℕ) (q : Point) (words' : WordName → ℕ) : Type 0 where
+  pub others : (i : ℕ) → i ≢ who → words' (name.Hazard i) ≡ s.word (name.Hazard i)
+  pub guards : MayGuard g s who q (s.errand who).retired (words' (name.Hazard who))
+
+-- the step keeps the state sound
+pub step-most :
+    (g : Geometry) (s : State) (who : ℕ) (s' : State) (q : Point) → IsSoundWithoutCounts g s → who < g.callers
+    → ((l : Lists) → IsSoundWith g s l → StepsMost g s l who q) → ((l : Lists) → IsSoundWith g s l → ActivesAfter g s who s')
+    → ((l : Lists) → IsSoundWith g s l → HazardsAfter g s who q s'.word) → Step s who s' → IsSoundWithoutCounts g s'
+step-most g s who s' q sound has steps actives hazards step =
+    let l = sound.parts.0 in
+    let old = sound.parts.1 in
+    let to = steps l old in
+    let words = hazards l old in
+    let e = at_point (s.errand who) (found_at s who) q in
+    let own = old.errands who has in
+    let exists : Exists g (name_at s who) =
+    subst (λ h. Exists h (name_at s who)) own.geometry
+    (plan-exists (s.errand who).geometry (s.errand who).caller (s.errand who).point own.rule.geometry own.rule.caller own.rule.point) in
+    let moves : Moves s.errand who e s'.errand =
+    subst (λ f. Moves s.errand who f s'.errand) to.after step.errand in
+    let past : s'.history ≡ s.history = step.history ∙ ap (with_event s.history) to.event in
+    record {
+      checked = sound.checked;
+      legal = subst (IsLegalWithoutCounts g) (sym past) sound.legal;
+      parts = (
+        l,
+        sound-alike g s l who e s'
+            (record {
+              caller = has;
+              moves = moves;
+              alike = weigh-alike g s l who (name_at s who) _ e s' exists has step.word moves past to.weigh;
+              may = may-after g s l who (found_at s who) q old has (old.words (name_at s who)) to.after to.cleared to.stands;
+              others = words.others;
+              guards = words.guards;
+              actives = actives l old;
+              words = words-below s.word (name_at s who) _ s'.word step.word old.words to.below;
+              emptied =
+                  let same : raised (counts_cleared (s.errand who).point (found_at s who)) (s.errand who).cleared ≡ (s.errand who).cleared =
+                  ap (λ b. raised b (s.errand who).cleared) to.cleared in
+                  omega (arith, weigh-emptied g s l who (name_at s who) _ e s' has step.word moves to.weigh, same);
+            })
+            old,
+      );
+    }
+
+-- so does one that writes no hazard word
+pub step-after :
+    (g : Geometry) (s : State) (who : ℕ) (s' : State) (q : Point) → IsSoundWithoutCounts g s → who < g.callers
+    → ((l : Lists) → IsSoundWith g s l → StepsAfter g s l who q) → ((l : Lists) → IsSoundWith g s l → ActivesAfter g s who s')
+    → Step s who s' → IsSoundWithoutCounts g s'
+step-after g s who s' q sound has steps actives step =
+    step-most g s who s' q sound has
+    (λ l old. let to = steps l old in record {
+      after = to.after;
+      event = to.event;
+      cleared = to.cleared;
+      stands = goes-stands g s l who (s.errand who).point q to.goes;
+      weigh = alike-most (name_at s who) _ _ (s.errand who) (at_point (s.errand who) (found_at s who) q) to.weigh;
+      below = to.below;
+    })
+    actives
+    (λ l old.
+    let to = steps l old in
+    let stay = hazards-stay s.word (name_at s who) _ s'.word step.word to.weigh.still in
+    record {
+      others = λ i differ. stay i;
+      guards = goes-guards g s l who q (s.errand who).retired (s'.word (name.Hazard who)) old.guarded has (stay who) to.goes;
+    })
+    step
+
+-- so does one that leads to a point
+pub step-sound :
+    (g : Geometry) (s : State) (who : ℕ) (s' : State) (q : Point) → IsSoundWithoutCounts g s → who < g.callers
+    → ((l : Lists) → IsSoundWith g s l → StepsTo g s l who q) → ((l : Lists) → IsSoundWith g s l → ActivesAfter g s who s')
+    → Step s who s' → IsSoundWithoutCounts g s'
+step-sound g s who s' q sound has steps actives step =
+    step-after g s who s' q sound has
+    (λ l old. let to = steps l old in record {
+      after = settle-at (s.errand who) (found_at s who) q to.next;
+      event = to.event;
+      cleared = to.cleared;
+      goes = to.goes;
+      weigh = to.weigh;
+      below = to.below;
+    })
+    actives step

@@ -1,0 +1,380 @@
+-- Descriptors never run out.
+use Rattle.std.proofs.Common.{ℕ, Option, Some, None, ◌≡◌, ◌<◌, ◌≤◌, ◌+◌, ◌*◌, List, [], ◌∷◌, length, refl, sym, ◌∙◌, ap, subst, arith, inl, inr}
+use Rattle.std.specs.Prelude.{◌==◌, ◌-◌, ◌&&◌, if◌then◌else◌, All}
+use Rattle.std.proofs.lemmas.Bool.{cases_eq, cond-true, cond-false, eq-eqb, ne_eqb}
+use Rattle.heap_geometry.specs.declared.geometry.Geometry.{Geometry}
+use Rattle.heap_geometry.specs.declared.limits.TheConstants.{CLASSES}
+use Rattle.packed_words.specs.declared.active.ActiveWord.{ActiveWord}
+use Rattle.packed_words.specs.declared.active.ActiveWord.TheVariants.{Null, Held}
+use Rattle.packed_words.specs.Active.{active_of}
+use Rattle.packed_words.specs.Info.{InfoFields, info_of}
+use Rattle.word_plan.specs.declared.name.WordName.{WordName}
+use Rattle.word_plan.specs.declared.name.WordName.TheVariants as name
+use Rattle.word_plan.specs.Counts.{descriptor_count, word_count}
+use Rattle.word_plan.specs.Seats.{SeatFields}
+use Rattle.word_plan.specs.Table.{Exists, word_name}
+use Rattle.word_plan.proofs.TableLemmas.{word_name-Exists}
+use Rattle.superblock_parts.specs.Chains.{occurs}
+use Rattle.superblock_parts.specs.declared.point.BlockPoint.{BlockPoint}
+use Rattle.superblock_parts.specs.Fits.{FitsBlock}
+use Rattle.stack_parts.specs.declared.point.StackPoint.{StackPoint}
+use Rattle.stack_parts.specs.declared.point.Pile.TheVariants.{Partials}
+use Rattle.stack_parts.specs.Stacks.{Stacked, next_in}
+use Rattle.stack_parts.specs.Fits.{FitsStack}
+use Rattle.hazard_parts.specs.declared.point.DescPoint.{DescPoint}
+use Rattle.hazard_parts.specs.declared.point.DescPoint.TheVariants as desc
+use Rattle.hazard_parts.specs.Fits.{FitsDesc}
+use Rattle.partial_parts.specs.declared.point.PartialPoint.{PartialPoint}
+use Rattle.partial_parts.specs.Fits.{FitsPartial}
+use Rattle.large_parts.specs.declared.point.LargePoint.{LargePoint}
+use Rattle.errand_steps.specs.declared.onward.Onward.{Onward}
+use Rattle.errand_steps.specs.declared.point.Point.{Point}
+use Rattle.errand_steps.specs.declared.point.Point.TheVariants as point
+use Rattle.errand_steps.specs.Fits.{FitsPoint, spare_of}
+use Rattle.errand_steps.specs.Errands.{ErrandFields}
+use Rattle.errand_steps.specs.Steps.{State}
+use Rattle.sound_state.specs.Holdings.{Kept, reserving, waiting, partly_used, on_its_way, holds_of, block_holds, stack_holds, desc_holds, partial_holds, large_holds}
+use Rattle.sound_state.specs.Keepers.{active_keeps, word_keeps, full_keeps, errand_has, places_of}
+use Rattle.sound_state.specs.Lists.{Lists}
+use Rattle.sound_state.specs.Stock.{word_stock, full_stock, stock_of, errand_stock, stock_among, waits_in}
+use Rattle.sound_state.specs.Sound.{IsSoundWith, IsSoundWithoutCounts}
+use Rattle.sound_state.specs.Sums.{sum_below, words_sum, callers_sum}
+use Rattle.sound_state.specs.Superblocks.{anchor_for, info_for, info_or_zero, kept_among}
+use Rattle.sound_state.proofs.shared.SumLemmas.{sum-same, sum-none, sum-ones, sum-plus, sum-most, sum-least, sum-swap, sum-once, sum-occurs, term-sum}
+
+-- 1 where a word isn't 0
+abbrev some_word : ℕ → ℕ
+some_word word = if word == 0 then 0 else 1
+
+-- an active word names at most one descriptor, and none where it is 0
+active-one : (n : ℕ) (o : Option ActiveWord) → sum_below n (λ d. active_keeps d o) ≤ 1
+active-one n None = omega (arith, sum-none n (λ d. 0) (λ d lt. refl))
+active-one n (Some Null) = omega (arith, sum-none n (λ d. 0) (λ d lt. refl))
+active-one n (Some (Held e credits)) = sum-once n e
+
+active-none : active_of 0 ≡ Some Null
+unfolding active_of
+active-none = refl
+
+active-named : (n word : ℕ) → sum_below n (λ d. active_keeps d (active_of word)) ≤ some_word word
+active-named n word =
+    elim (cases_eq word 0) [
+      | inl e ↦
+          omega (
+            arith,
+            cond-true {A = ℕ} (word == 0) 0 1 (eq-eqb word 0 e),
+            sum-none n (λ d. active_keeps d (active_of word)) (λ d lt. ap (λ w. active_keeps d (active_of w)) e ∙ ap (active_keeps d) active-none),
+          )
+      | inr ne ↦ omega (arith, cond-false {A = ℕ} (word == 0) 0 1 (ne_eqb word 0 ne), active-one n (active_of word))
+    ]
+
+-- so does a slot
+slot-one : (word d : ℕ) → (if word == d + 1 then 1 else 0) ≤ (if word == 0 then 0 else (if word - 1 == d then 1 else 0))
+slot-one word d = grind (arith)
+
+slot-named : (n word : ℕ) → sum_below n (λ d. if word == d + 1 then 1 else 0) ≤ some_word word
+slot-named n word =
+    elim (cases_eq word 0) [
+      | inl e ↦
+          omega (
+            arith,
+            cond-true {A = ℕ} (word == 0) 0 1 (eq-eqb word 0 e),
+            sum-none n (λ d. if word == d + 1 then 1 else 0) (λ d lt. cond-false {A = ℕ} (word == d + 1) 1 0 (ne_eqb word (d + 1) (λ q. let no : ⊥ = omega (arith, q, e) in no))),
+          )
+      | inr ne ↦
+          omega (
+            arith,
+            cond-false {A = ℕ} (word == 0) 0 1 (ne_eqb word 0 ne),
+            sum-once n (word - 1),
+            sum-least n (λ d. if word == d + 1 then 1 else 0) (λ d. if word - 1 == d then 1 else 0)
+                (λ d lt. omega (arith, slot-one word d, cond-false {A = ℕ} (word == 0) 0 (if word - 1 == d then 1 else 0) (ne_eqb word 0 ne))),
+          )
+    ]
+
+-- a word that holds a descriptor is one of its class's
+word-stocked : (class word : ℕ) → (if (class == class) && (word == 0) then 0 else (if class == class then 1 else 0)) ≡ some_word word
+word-stocked class word = grind (arith)
+
+word-once : (g : Geometry) (n : WordName) (word : ℕ) → Exists g n
+    → sum_below (descriptor_count g) (λ d. word_keeps d n word) ≤ sum_below CLASSES (λ class. word_stock class n word)
+word-once g (name.Active heap c) word exists =
+    omega (
+      arith,
+      active-named (descriptor_count g) word,
+      word-stocked c word,
+      term-sum CLASSES (λ class. word_stock class (name.Active heap c) word) c exists.1,
+    )
+word-once g (name.Slot heap c) word exists =
+    omega (
+      arith,
+      slot-named (descriptor_count g) word,
+      word-stocked c word,
+      term-sum CLASSES (λ class. word_stock class (name.Slot heap c) word) c exists.1,
+    )
+word-once g (name.Arena k) word exists = omega (arith, sum-none (descriptor_count g) (λ d. 0) (λ d lt. refl))
+word-once g (name.Anchor k) word exists = omega (arith, sum-none (descriptor_count g) (λ d. 0) (λ d lt. refl))
+word-once g (name.Next k) word exists = omega (arith, sum-none (descriptor_count g) (λ d. 0) (λ d lt. refl))
+word-once g (name.Info k) word exists = omega (arith, sum-none (descriptor_count g) (λ d. 0) (λ d lt. refl))
+word-once g (name.ListHead k) word exists = omega (arith, sum-none (descriptor_count g) (λ d. 0) (λ d lt. refl))
+word-once g (name.FrameNext k) word exists = omega (arith, sum-none (descriptor_count g) (λ d. 0) (λ d lt. refl))
+word-once g name.FrameHead word exists = omega (arith, sum-none (descriptor_count g) (λ d. 0) (λ d lt. refl))
+word-once g name.DescHead word exists = omega (arith, sum-none (descriptor_count g) (λ d. 0) (λ d lt. refl))
+word-once g (name.Hazard k) word exists = omega (arith, sum-none (descriptor_count g) (λ d. 0) (λ d lt. refl))
+word-once g name.Units word exists = omega (arith, sum-none (descriptor_count g) (λ d. 0) (λ d lt. refl))
+word-once g (name.Shelf k) word exists = omega (arith, sum-none (descriptor_count g) (λ d. 0) (λ d lt. refl))
+
+-- what the words keep is in stock
+words-stocked : (g : Geometry) (words : WordName → ℕ)
+    → sum_below (descriptor_count g) (λ d. words_sum g (word_keeps d) words) ≤ sum_below CLASSES (λ class. words_sum g (word_stock class) words)
+unfolding words_sum
+words-stocked g words =
+    let kept = λ (d k : ℕ). word_keeps d (word_name g k) (words (word_name g k)) in
+    let stock = λ (class k : ℕ). word_stock class (word_name g k) (words (word_name g k)) in
+    let each : sum_below (word_count g) (λ k. sum_below (descriptor_count g) (λ d. kept d k)) ≤ sum_below (word_count g) (λ k. sum_below CLASSES (λ class. stock class k)) =
+    sum-least (word_count g) (λ k. sum_below (descriptor_count g) (λ d. kept d k)) (λ k. sum_below CLASSES (λ class. stock class k))
+    (λ k lt. word-once g (word_name g k) (words (word_name g k)) (word_name-Exists g k lt)) in
+    omega (arith, sum-swap (descriptor_count g) (word_count g) kept, sum-swap CLASSES (word_count g) stock)
+
+-- the lists have no more than their lengths
+lists-stocked : (n : ℕ) (partials : ℕ → List ℕ)
+    → sum_below n (λ d. sum_below CLASSES (λ class. occurs d (partials class))) ≤ sum_below CLASSES (λ class. length (partials class))
+lists-stocked n partials =
+    omega (
+      arith,
+      sum-swap n CLASSES (λ d class. occurs d (partials class)),
+      sum-least CLASSES (λ class. sum_below n (λ d. occurs d (partials class))) (λ class. length (partials class)) (λ class lt. sum-occurs n (partials class)),
+    )
+
+-- the class of a descriptor's word is one of the classes
+info-class : (word : ℕ) → (i : InfoFields) → info_of word ≡ Some i → i.class < CLASSES
+unfolding info_of
+info-class word i is = grind (arith, is)
+
+info-class-of : (s : State) (d : ℕ) (o : Option InfoFields) → info_of (s.word (name.Info d)) ≡ o → (info_for s d).class < CLASSES
+info-class-of s d None is = subst (λ o. (info_or_zero o).class < CLASSES) (sym is) (omega arith)
+info-class-of s d (Some i) is = subst (λ o. (info_or_zero o).class < CLASSES) (sym is) (info-class (s.word (name.Info d)) i is)
+
+-- a FULL superblock is in stock for its class
+full-class : (s : State) (d : ℕ) → full_stock s (info_for s d).class d ≡ full_keeps (anchor_for s d).state
+full-class s d = cond-true {A = ℕ} ((info_for s d).class == (info_for s d).class) (full_keeps (anchor_for s d).state) 0 (eq-eqb (info_for s d).class (info_for s d).class refl)
+
+full-stocked : (n : ℕ) (s : State)
+    → sum_below n (λ d. full_keeps (anchor_for s d).state) ≤ sum_below CLASSES (λ class. sum_below n (full_stock s class))
+full-stocked n s =
+    omega (
+      arith,
+      sum-swap CLASSES n (full_stock s),
+      sum-least n (λ d. full_keeps (anchor_for s d).state) (λ d. sum_below CLASSES (λ class. full_stock s class d))
+          (λ d lt. omega (
+            arith,
+            full-class s d,
+            term-sum CLASSES (λ class. full_stock s class d) (info_for s d).class
+                (info-class-of s d (info_of (s.word (name.Info d))) refl),
+          )),
+    )
+
+-- each descriptor that a caller keeps is kept in one of the states
+abbrev any_among : ℕ → List Kept → ℕ
+any_among d ks = kept_among reserving d ks + kept_among waiting d ks + kept_among partly_used d ks + kept_among on_its_way d ks
+
+any-more : (d : ℕ) (k : Kept) (ks : List Kept) → any_among d (k ∷ ks) ≡ (if k.desc == d then 1 else 0) + any_among d ks
+any-more d k ks = grind (arith)
+
+any-most : (n : ℕ) (ks : List Kept) → sum_below n (λ d. any_among d ks) ≤ length ks
+any-most n [] = omega (arith, sum-none n (λ d. 0) (λ d lt. refl))
+any-most n (k ∷ ks) =
+    omega (
+      arith,
+      any-most n ks,
+      sum-once n k.desc,
+      sum-plus n (λ d. if k.desc == d then 1 else 0) (λ d. any_among d ks),
+      sum-same n (λ d. (if k.desc == d then 1 else 0) + any_among d ks) (λ d. any_among d (k ∷ ks)) (λ d lt. any-more d k ks),
+    )
+
+-- for a class that there is
+abbrev InClass : List Kept → Type 0
+InClass [] = Unit {0}
+InClass (k ∷ ks) = (k.class < CLASSES) × InClass ks
+
+stock-least : (ks : List Kept) → InClass ks → length ks ≤ sum_below CLASSES (λ class. stock_among class ks)
+stock-least [] all = omega arith
+stock-least (k ∷ ks) all =
+    omega (
+      arith,
+      stock-least ks all.1,
+      sum-plus CLASSES (λ class. if k.class == class then 1 else 0) (λ class. stock_among class ks),
+      term-sum CLASSES (λ class. if k.class == class then 1 else 0) k.class all.0,
+      cond-true {A = ℕ} (k.class == k.class) 1 0 (eq-eqb k.class k.class refl),
+    )
+
+in-class-block : (g : Geometry) (who : ℕ) (p : BlockPoint) → FitsBlock g who p → InClass (block_holds p).kept
+in-class-block g who p fits = grind (arith)
+
+in-class-desc : (g : Geometry) (who : ℕ) (p : DescPoint) (o : Onward) → FitsDesc g who p → InClass (desc_holds p o).kept
+in-class-desc g who p o fits = grind (arith)
+
+in-class-partial : (g : Geometry) (who : ℕ) (p : PartialPoint) (o : Onward) → FitsPartial g who p → InClass (partial_holds p o).kept
+in-class-partial g who p o fits = grind (arith)
+
+in-class-stack : (g : Geometry) (who : ℕ) (p : StackPoint) (o : Onward) → FitsStack g who p → InClass (stack_holds p o).kept
+in-class-stack g who p o fits = grind (arith)
+
+in-class-large : (p : LargePoint) → InClass (large_holds p).kept
+in-class-large p = grind (arith)
+
+in-class : (g : Geometry) (who : ℕ) (p : Point) → FitsPoint g who p → InClass (holds_of p).kept
+unfolding holds_of
+in-class g who point.Idle fits = tt
+in-class g who (point.Block p o) fits = in-class-block g who p fits.point
+in-class g who (point.Stack p o) fits = in-class-stack g who p o fits.point
+in-class g who (point.Desc p o) fits = in-class-desc g who p o fits.point
+in-class g who (point.Partial p o) fits = in-class-partial g who p o fits.point
+in-class g who (point.Large p o) fits = in-class-large p
+
+spare-most : (p : Point) → spare_of p ≤ 1
+spare-most p = grind (arith)
+
+-- what a caller has: what is retired and what it keeps
+caller-has : (n : ℕ) (e : ErrandFields) → sum_below n (λ d. errand_has d e) ≤ length e.retired + length (holds_of e.point).kept
+caller-has n e =
+    omega (
+      arith,
+      sum-same n (λ d. occurs d e.retired + any_among d (holds_of e.point).kept) (λ d. errand_has d e) (λ d lt. omega arith),
+      sum-plus n (λ d. occurs d e.retired) (λ d. any_among d (holds_of e.point).kept),
+      sum-occurs n e.retired,
+      any-most n (holds_of e.point).kept,
+    )
+
+-- for how many classes a caller waits for a descriptor
+abbrev waits_of : ErrandFields → ℕ
+waits_of e = sum_below CLASSES (λ class. waits_in class e.point)
+
+caller-stocked : (g : Geometry) (who n : ℕ) (e : ErrandFields) → FitsPoint g who e.point
+    → sum_below n (λ d. errand_has d e) + waits_of e ≤ length e.retired + sum_below CLASSES (λ class. errand_stock class e)
+caller-stocked g who n e fits =
+    omega (
+      arith,
+      caller-has n e,
+      stock-least (holds_of e.point).kept (in-class g who e.point fits),
+      sum-plus CLASSES (λ class. stock_among class (holds_of e.point).kept) (λ class. waits_in class e.point),
+    )
+
+abbrev retired_of : ErrandFields → ℕ
+retired_of e = length e.retired
+
+-- what all callers have
+callers-stocked : (g : Geometry) (s : State) (l : Lists) (n : ℕ) → IsSoundWith g s l
+    → sum_below n (λ d. callers_sum g (errand_has d) s.errand) + callers_sum g waits_of s.errand
+    ≤ callers_sum g retired_of s.errand + sum_below CLASSES (λ class. callers_sum g (errand_stock class) s.errand)
+unfolding callers_sum
+callers-stocked g s l n sound =
+    let has = λ (d who : ℕ). errand_has d (s.errand who) in
+    let stock = λ (class who : ℕ). errand_stock class (s.errand who) in
+    let waits = λ (who : ℕ). waits_of (s.errand who) in
+    let retired = λ (who : ℕ). retired_of (s.errand who) in
+    let each : sum_below g.callers (λ who. sum_below n (λ d. has d who) + waits who)
+    ≤ sum_below g.callers (λ who. retired who + sum_below CLASSES (λ class. stock class who)) =
+    sum-least g.callers (λ who. sum_below n (λ d. has d who) + waits who) (λ who. retired who + sum_below CLASSES (λ class. stock class who))
+    (λ who lt.
+    let own = sound.errands who lt in
+    caller-stocked (s.errand who).geometry (s.errand who).caller n (s.errand who) own.rule.point) in
+    omega (
+      arith,
+      sum-swap n g.callers has,
+      sum-swap CLASSES g.callers stock,
+      sum-plus g.callers (λ who. sum_below n (λ d. has d who)) waits,
+      sum-plus g.callers retired (λ who. sum_below CLASSES (λ class. stock class who)),
+    )
+
+-- no more are retired than all callers' lists hold
+retired-most : (g : Geometry) (s : State) (l : Lists) → IsSoundWith g s l → callers_sum g retired_of s.errand ≤ g.callers * (g.callers + 1)
+unfolding callers_sum
+retired-most g s l sound =
+    sum-most g.callers (λ who. retired_of (s.errand who)) (g.callers + 1)
+    (λ who lt.
+    let own = sound.errands who lt in
+    let same : (s.errand who).geometry.callers ≡ g.callers = ap (λ (o : Geometry). o.callers) own.geometry in
+    omega (arith, own.rule.room, spare-most (s.errand who).point))
+
+-- a caller that waits
+waits-least : (g : Geometry) (s : State) (who class : ℕ) → who < g.callers → class < CLASSES
+    → waits_in class (s.errand who).point ≤ callers_sum g waits_of s.errand
+unfolding callers_sum
+waits-least g s who class has is =
+    omega (arith, term-sum g.callers (λ i. waits_of (s.errand i)) who has, term-sum CLASSES (λ c. waits_in c (s.errand who).point) class is)
+
+-- all places together
+places-all : (g : Geometry) (s : State) (l : Lists) → IsSoundWith g s l
+    → descriptor_count g + callers_sum g waits_of s.errand
+    ≤ sum_below CLASSES (stock_of g s l) + callers_sum g retired_of s.errand + length l.available
+places-all g s l sound =
+    let n = descriptor_count g in
+    let words = λ (d : ℕ). words_sum g (word_keeps d) s.word in
+    let partials = λ (d : ℕ). sum_below CLASSES (λ class. occurs d (l.partials class)) in
+    let available = λ (d : ℕ). occurs d l.available in
+    let callers = λ (d : ℕ). callers_sum g (errand_has d) s.errand in
+    let full = λ (d : ℕ). full_keeps (anchor_for s d).state in
+    let w = λ (class : ℕ). words_sum g (word_stock class) s.word in
+    let p = λ (class : ℕ). length (l.partials class) in
+    let c = λ (class : ℕ). callers_sum g (errand_stock class) s.errand in
+    let f = λ (class : ℕ). sum_below n (full_stock s class) in
+    let ones : sum_below n (λ d. 1) ≡ n = sum-ones n in
+    let once : sum_below n (places_of g s l) ≡ sum_below n (λ d. 1) = sum-same n (λ d. 1) (places_of g s l) (λ d lt. sound.kept.once d lt) in
+    omega (
+      arith,
+      ones,
+      once,
+      sum-plus n (λ d. words d + partials d + available d + callers d) full,
+      sum-plus n (λ d. words d + partials d + available d) callers,
+      sum-plus n (λ d. words d + partials d) available,
+      sum-plus n words partials,
+      sum-plus CLASSES (λ class. w class + p class + c class) f,
+      sum-plus CLASSES (λ class. w class + p class) c,
+      sum-plus CLASSES w p,
+      words-stocked g s.word,
+      lists-stocked n l.partials,
+      sum-occurs n l.available,
+      callers-stocked g s l n sound,
+      full-stocked n s,
+    )
+
+-- no more is out than the classes have
+stock-most : (g : Geometry) (s : State) (l : Lists) → IsSoundWith g s l
+    → sum_below CLASSES (stock_of g s l) ≤ CLASSES * (g.frames + g.heaps + 2 * g.callers)
+stock-most g s l sound =
+    sum-most CLASSES (stock_of g s l) (g.frames + g.heaps + 2 * g.callers) (λ class has. sound.stocked.most class has)
+
+-- so where a caller waits, one is available
+available-least : (g : Geometry) (s : State) (l : Lists) → IsSoundWith g s l → (who class : ℕ) → who < g.callers → class < CLASSES
+    → waits_in class (s.errand who).point ≡ 1 → 1 ≤ length l.available
+unfolding descriptor_count
+available-least g s l sound who class has is waits =
+    omega (arith, places-all g s l sound, stock-most g s l sound, retired-most g s l sound, waits-least g s who class has is)
+
+-- a stack that isn't empty has a top
+stack-top : (next : ℕ → ℕ) (top n : ℕ) (xs : List ℕ) → Stacked next top xs → All (λ d. d < n) xs → 1 ≤ length xs
+    → (d : ℕ) × (d < n) × (top ≡ d + 1)
+stack-top next top n [] stacked all some = absurd (let no : ⊥ = omega (arith, some) in no)
+stack-top next top n (x ∷ xs) stacked all some = (x, all 0 0 (omega arith), stacked.0)
+
+pub waiting-has : (g : Geometry) (s : State) → IsSoundWithoutCounts g s → (who class : ℕ) → who < g.callers → class < CLASSES
+    → waits_in class (s.errand who).point ≡ 1 → (d : ℕ) × (d < descriptor_count g) × (s.word name.DescHead ≡ d + 1)
+waiting-has g s sound who class has is waits =
+    let l : Lists = sound.parts.0 in
+    let with : IsSoundWith g s l = sound.parts.1 in
+    stack-top (next_in s.word Partials) (s.word name.DescHead) (descriptor_count g) l.available with.listed.available with.listed.available_exist
+    (available-least g s l with who class has is waits)
+
+-- the seat of a caller that looks
+looks-seat : (g : Geometry) (who : ℕ) (p : Point) (seat : SeatFields) (o : Onward) → FitsPoint g who p → p ≡ point.Desc (desc.LoadDescHead seat) o
+    → (seat.class < CLASSES) × (waits_in seat.class p ≡ 1)
+looks-seat g who p seat o fits is =
+    let there : FitsPoint g who (point.Desc (desc.LoadDescHead seat) o) = subst (FitsPoint g who) is fits in
+    (there.point.class, ap (waits_in seat.class) is ∙ cond-true {A = ℕ} (seat.class == seat.class) 1 0 (eq-eqb seat.class seat.class refl))
+
+pub looking-has : (g : Geometry) (s : State) → IsSoundWithoutCounts g s → (who : ℕ) (seat : SeatFields) (o : Onward) → who < g.callers
+    → (s.errand who).point ≡ point.Desc (desc.LoadDescHead seat) o → (d : ℕ) × (d < descriptor_count g) × (s.word name.DescHead ≡ d + 1)
+looking-has g s sound who seat o has is =
+    let own = sound.parts.1.errands who has in
+    let seat_is = looks-seat (s.errand who).geometry (s.errand who).caller (s.errand who).point seat o own.rule.point is in
+    waiting-has g s sound who seat.class has seat_is.0 seat_is.1

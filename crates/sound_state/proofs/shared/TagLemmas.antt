@@ -1,0 +1,212 @@
+-- Tags stay below their ends: what the events and the turns allow.
+use Rattle.std.proofs.Common.{ℕ, false, cond, ◌≡◌, ◌<◌, ◌≤◌, ◌+◌, ◌*◌, ◌^◌, List, [], ◌∷◌, ◌++◌, Some, refl, sym, ◌∙◌, ap, arith, ⊎_elim, eq-eqb, ne_eqb, inl, inr}
+use Rattle.std.specs.Prelude.{sum_by, count_by, nat_le}
+use Rattle.std.proofs.lemmas.Bool.{cases_eq, cases_lt, lt-leb, le-leb, cond_both}
+use Rattle.std.proofs.lemmas.Nat.{mul-le}
+use Rattle.std.proofs.lemmas.List.Sums.{sum_by-cons, sum_by_push}
+use Rattle.heap_geometry.specs.declared.geometry.Geometry.{Geometry}
+use Rattle.heap_geometry.specs.declared.limits.TheConstants.{CLASSES, MAX_CALLERS, MAX_TURNS, SMALL_MOST, LARGE_MOST}
+use Rattle.heap_geometry.specs.declared.need.Need.{Need}
+use Rattle.heap_geometry.specs.declared.need.Need.TheVariants.{Small, Large, TooLarge}
+use Rattle.heap_geometry.specs.Geometry.{IsChecked}
+use Rattle.heap_geometry.specs.Need.{need_of}
+use Rattle.heap_geometry.specs.Place.{frame_of}
+use Rattle.packed_words.specs.declared.widths.TheConstants.{TAG_BITS, HEAD_TAG_BITS}
+use Rattle.packed_words.specs.Head.{head_of}
+use Rattle.word_plan.specs.declared.name.WordName.TheVariants as name
+use Rattle.word_plan.specs.Counts.{descriptor_count}
+use Rattle.pool_model.specs.declared.owner.Owner.TheVariants.{Caller, Shelf}
+use Rattle.pool_model.specs.declared.event.Event.{Event}
+use Rattle.pool_model.specs.declared.event.Event.TheVariants.{Alloc, Looked, Refuse, Free, Write, Put, Take, TakeNone}
+use Rattle.pool_model.specs.Histories.{caller_of}
+use Rattle.pool_model.specs.Pool.{Block, Pool, block_at, fresh_block, written, handed_to, without, with_changed, pool_after, pool_of}
+use Rattle.pool_model.specs.Legal.{IsFree, IsAllowed, IsLegalEventWithoutCounts, IsLegalWithoutCounts}
+use Rattle.pool_model.proofs.PoolLemmas.{block_at-past}
+use Rattle.pool_model.proofs.HistoryLemmas.{kept, pool_of-push}
+use Rattle.pool_model.proofs.WellFormedLemmas.{free-place, large-frame}
+use Rattle.errand_steps.specs.Steps.{State}
+use Rattle.sound_state.specs.Lists.{Lists}
+use Rattle.sound_state.specs.Sound.{IsSoundWith, IsSoundWithoutCounts}
+use Rattle.sound_state.specs.Sums.{sum_below, callers_sum}
+use Rattle.sound_state.specs.Superblocks.{anchor_for}
+use Rattle.sound_state.specs.Turns.{gives_small, is_small_alloc, is_small_free, turns_of, cleared_of}
+use Rattle.sound_state.proofs.shared.SumLemmas.{sum-same, sum-plus, sum-most, sum-least, term-sum}
+
+-- each small allocation is one of its caller's
+given-once : (g : Geometry) (event : Event) → caller_of event < g.callers
+    → cond (is_small_alloc event) 1 0 ≤ sum_below g.callers (λ who. cond (gives_small who event) 1 0)
+given-once g (Alloc caller need place) has =
+    let own : cond (gives_small caller (Alloc caller need place)) 1 0 ≤ sum_below g.callers (λ who. cond (gives_small who (Alloc caller need place)) 1 0) =
+    term-sum g.callers (λ who. cond (gives_small who (Alloc caller need place)) 1 0) caller has in
+    grind (arith, own)
+given-once g (Looked caller class) has = omega arith
+given-once g (Refuse caller need) has = omega arith
+given-once g (Free caller place) has = omega arith
+given-once g (Write caller place i v) has = omega arith
+given-once g (Put caller place shelf) has = omega arith
+given-once g (Take caller shelf place) has = omega arith
+given-once g (TakeNone caller shelf) has = omega arith
+
+-- all small allocations are the callers' together
+small-given : (g : Geometry) (history : List Event) → IsLegalWithoutCounts g history
+    → count_by is_small_alloc history ≤ sum_below g.callers (λ who. count_by (gives_small who) history)
+small-given g history legal =
+    kept (IsLegalEventWithoutCounts g) (λ h. count_by is_small_alloc h ≤ sum_below g.callers (λ who. count_by (gives_small who) h)) history
+    (λ before event h so_far.
+    let allocs : count_by is_small_alloc (before ++ event ∷ []) ≡ count_by is_small_alloc before + cond (is_small_alloc event) 1 0 =
+    sum_by_push (λ e. cond (is_small_alloc e) 1 0) before event in
+    let each : sum_below g.callers (λ who. count_by (gives_small who) (before ++ event ∷ []))
+    ≡ sum_below g.callers (λ who. count_by (gives_small who) before + cond (gives_small who event) 1 0) =
+    sum-same g.callers (λ who. count_by (gives_small who) before + cond (gives_small who event) 1 0)
+    (λ who. count_by (gives_small who) (before ++ event ∷ []))
+    (λ who has. sum_by_push (λ e. cond (gives_small who e) 1 0) before event) in
+    let both : sum_below g.callers (λ who. count_by (gives_small who) before + cond (gives_small who event) 1 0)
+    ≡ sum_below g.callers (λ who. count_by (gives_small who) before) + sum_below g.callers (λ who. cond (gives_small who event) 1 0) =
+    sum-plus g.callers (λ who. count_by (gives_small who) before) (λ who. cond (gives_small who event) 1 0) in
+    let once = given-once g event h.0 in
+    omega arith) legal (omega arith)
+
+-- 1 where the block lies in a frame
+abbrev framed : Geometry → Block → ℕ
+framed g block = cond (nat_le (frame_of block.place + 1) g.frames) 1 0
+
+framed-without : (g : Geometry) (place : ℕ) (pool : Pool) (block : Block) → block_at place pool ≡ Some block
+    → sum_by (framed g) (without place pool) + cond (nat_le (frame_of place + 1) g.frames) 1 0 ≡ sum_by (framed g) pool
+framed-without g place [] block found = absurd (cc)
+framed-without g place (first ∷ pool) block found =
+    ⊎_elim
+    (λ here.
+    let words : framed g first ≡ cond (nat_le (frame_of place + 1) g.frames) 1 0 = ap (λ p. cond (nat_le (frame_of p + 1) g.frames) 1 0) here in
+    let all : sum_by (framed g) (first ∷ pool) ≡ framed g first + sum_by (framed g) pool = sum_by-cons (framed g) first pool in
+    rw (eq-eqb first.place place here) (omega arith))
+    (λ past.
+    let rest : sum_by (framed g) (without place pool) + cond (nat_le (frame_of place + 1) g.frames) 1 0 ≡ sum_by (framed g) pool =
+    framed-without g place pool block (sym (block_at-past place first pool past) ∙ found) in
+    let all : sum_by (framed g) (first ∷ pool) ≡ framed g first + sum_by (framed g) pool = sum_by-cons (framed g) first pool in
+    let left : sum_by (framed g) (first ∷ without place pool) ≡ framed g first + sum_by (framed g) (without place pool) =
+    sum_by-cons (framed g) first (without place pool) in
+    rw (ne_eqb first.place place past) (omega arith))
+    (cases_eq first.place place)
+
+framed-changed : (g : Geometry) (place : ℕ) (change : Block → Block) (pool : Pool)
+    → ((block : Block) → (change block).place ≡ block.place) → sum_by (framed g) (with_changed place change pool) ≡ sum_by (framed g) pool
+framed-changed g place change [] keeps = refl
+framed-changed g place change (first ∷ pool) keeps =
+    let all : sum_by (framed g) (first ∷ pool) ≡ framed g first + sum_by (framed g) pool = sum_by-cons (framed g) first pool in
+    ⊎_elim
+    (λ here.
+    let changed : sum_by (framed g) (change first ∷ pool) ≡ framed g (change first) + sum_by (framed g) pool =
+    sum_by-cons (framed g) (change first) pool in
+    let same : framed g (change first) ≡ framed g first = ap (λ p. cond (nat_le (frame_of p + 1) g.frames) 1 0) (keeps first) in
+    rw (eq-eqb first.place place here) (omega arith))
+    (λ past.
+    let rest : sum_by (framed g) (with_changed place change pool) ≡ sum_by (framed g) pool = framed-changed g place change pool keeps in
+    let left : sum_by (framed g) (first ∷ with_changed place change pool) ≡ framed g first + sum_by (framed g) (with_changed place change pool) =
+    sum_by-cons (framed g) first (with_changed place change pool) in
+    rw (ne_eqb first.place place past) (omega arith))
+    (cases_eq first.place place)
+
+-- a larger need isn't served by a small block
+large-need : (need class : ℕ) → SMALL_MOST < need → need_of need ≡ Small class → ⊥
+unfolding need_of
+large-need need class above is =
+    elim (cases_lt LARGE_MOST need) [
+      | inr most ↦ let e = rw (lt-leb need SMALL_MOST above, le-leb need LARGE_MOST most) at is in cc
+      | inl more ↦ let e = rw (lt-leb need SMALL_MOST above, lt-leb need LARGE_MOST more) at is in cc
+    ]
+
+-- what is given in a frame is small
+given-framed : (g : Geometry) (pool : Pool) (need place : ℕ) (n : Need) → need_of need ≡ n → IsFree g pool n place → SMALL_MOST < need
+    → nat_le (frame_of place + 1) g.frames ≡ false
+given-framed g pool need place (Small class) is free above = absurd (large-need need class above is)
+given-framed g pool need place (Large units) is free above =
+    lt-leb (frame_of place + 1) g.frames
+    (omega (arith, large-frame g (Large units) units place refl (free-place g pool (Large units) place free)))
+given-framed g pool need place TooLarge is free above = elim free [ ]
+
+framed-given : (g : Geometry) (pool : Pool) (need place : ℕ) → IsFree g pool (need_of need) place
+    → cond (nat_le (frame_of place + 1) g.frames) 1 0 ≤ cond (nat_le need SMALL_MOST) 1 0
+framed-given g pool need place free =
+    elim (cases_lt SMALL_MOST need) [
+      | inl above ↦ rw (lt-leb need SMALL_MOST above, given-framed g pool need place (need_of need) refl free above) (omega arith)
+      | inr most ↦ rw (le-leb need SMALL_MOST most) (cond_both (nat_le (frame_of place + 1) g.frames) 1 0 (λ n. n ≤ 1) (λ e. omega arith) (λ e. omega arith))
+    ]
+
+framed-after : (g : Geometry) (before : List Event) (event : Event) → IsAllowed g before event
+    → sum_by (framed g) (pool_after (pool_of before) event) + cond (is_small_free g event) 1 0
+    ≤ sum_by (framed g) (pool_of before) + cond (is_small_alloc event) 1 0
+framed-after g before (Alloc caller need place) allowed =
+    let all : sum_by (framed g) (fresh_block caller need place ∷ pool_of before) ≡ framed g (fresh_block caller need place) + sum_by (framed g) (pool_of before) =
+    sum_by-cons (framed g) (fresh_block caller need place) (pool_of before) in
+    let one : cond (nat_le (frame_of place + 1) g.frames) 1 0 ≤ cond (nat_le need SMALL_MOST) 1 0 = framed-given g (pool_of before) need place allowed in
+    omega arith
+framed-after g before (Looked caller class) allowed = omega arith
+framed-after g before (Refuse caller need) allowed = omega arith
+framed-after g before (Free caller place) allowed = omega (arith, framed-without g place (pool_of before) allowed.0 allowed.1)
+framed-after g before (Write caller place i v) allowed = omega (arith, framed-changed g place (written i v) (pool_of before) (λ b. refl))
+framed-after g before (Put caller place shelf) allowed = omega (arith, framed-changed g place (handed_to (Shelf shelf)) (pool_of before) (λ b. refl))
+framed-after g before (Take caller shelf place) allowed = omega (arith, framed-changed g place (handed_to (Caller caller)) (pool_of before) (λ b. refl))
+framed-after g before (TakeNone caller shelf) allowed = omega arith
+
+-- no more small blocks are freed than given
+small-freed : (g : Geometry) (history : List Event) → IsLegalWithoutCounts g history
+    → sum_by (framed g) (pool_of history) + count_by (is_small_free g) history ≤ count_by is_small_alloc history
+small-freed g history legal =
+    kept (IsLegalEventWithoutCounts g)
+    (λ h. sum_by (framed g) (pool_of h) + count_by (is_small_free g) h ≤ count_by is_small_alloc h) history
+    (λ before event h so_far.
+    let after = framed-after g before event h.1 in
+    let frees : count_by (is_small_free g) (before ++ event ∷ []) ≡ count_by (is_small_free g) before + cond (is_small_free g event) 1 0 =
+    sum_by_push (λ e. cond (is_small_free g e) 1 0) before event in
+    let allocs : count_by is_small_alloc (before ++ event ∷ []) ≡ count_by is_small_alloc before + cond (is_small_alloc event) 1 0 =
+    sum_by_push (λ e. cond (is_small_alloc e) 1 0) before event in
+    let pool : sum_by (framed g) (pool_of (before ++ event ∷ [])) ≡ sum_by (framed g) (pool_after (pool_of before) event) = ap (sum_by (framed g)) (pool_of-push before event) in
+    omega arith) legal (omega arith)
+
+-- all turns are within the limits
+turns-most : (g : Geometry) (s : State) (l : Lists) → IsChecked g → IsSoundWith g s l → callers_sum g turns_of s.errand ≤ MAX_CALLERS * MAX_TURNS
+unfolding callers_sum
+turns-most g s l checked sound =
+    let own : sum_below g.callers (λ who. turns_of (s.errand who)) ≤ g.callers * g.turn_limit =
+    sum-most g.callers (λ who. turns_of (s.errand who)) g.turn_limit
+    (λ who has.
+    let limit : (s.errand who).geometry.turn_limit ≡ g.turn_limit = ap (λ (o : Geometry). o.turn_limit) (sound.errands who has).geometry in
+    omega (arith, (sound.errands who has).rule.turns)) in
+    omega (arith, mul-le g.callers g.turn_limit MAX_CALLERS MAX_TURNS checked.callers.1 checked.turn_limit.1)
+
+-- no more small blocks are given than turns begun
+given-most : (g : Geometry) (s : State) (l : Lists) → IsLegalWithoutCounts g s.history → IsSoundWith g s l
+    → count_by is_small_alloc s.history ≤ callers_sum g turns_of s.errand
+unfolding callers_sum
+given-most g s l legal sound =
+    let each : sum_below g.callers (λ who. count_by (gives_small who) s.history) ≤ sum_below g.callers (λ who. turns_of (s.errand who)) =
+    sum-least g.callers (λ who. count_by (gives_small who) s.history) (λ who. turns_of (s.errand who))
+    (λ who has. omega (arith, sound.turned.own_turns who has)) in
+    omega (arith, small-given g s.history legal)
+
+pub anchor-tags-below : (g : Geometry) (s : State) → IsSoundWithoutCounts g s → (d : ℕ) → d < descriptor_count g → (anchor_for s d).tag + 1 < 2 ^ TAG_BITS
+anchor-tags-below g s sound d has =
+    let l : Lists = sound.parts.0 in
+    let is : IsSoundWith g s l = sound.parts.1 in
+    omega (arith, is.turned.anchor_tags d has, given-most g s l sound.legal is, turns-most g s l sound.checked is)
+
+pub frame-tag-below : (g : Geometry) (s : State) → IsSoundWithoutCounts g s → (head_of (s.word name.FrameHead)).tag + 1 < 2 ^ HEAD_TAG_BITS
+frame-tag-below g s sound =
+    let l : Lists = sound.parts.0 in
+    let is : IsSoundWith g s l = sound.parts.1 in
+    omega (arith, is.turned.frame_tag, turns-most g s l sound.checked is)
+
+pub list-tags-below : (g : Geometry) (s : State) → IsSoundWithoutCounts g s → (class : ℕ) → class < CLASSES → (head_of (s.word (name.ListHead class))).tag + 1 < 2 ^ HEAD_TAG_BITS
+list-tags-below g s sound class has =
+    let l : Lists = sound.parts.0 in
+    let is : IsSoundWith g s l = sound.parts.1 in
+    omega (arith, is.turned.list_tags class has, is.turned.emptied, small-freed g s.history sound.legal, given-most g s l sound.legal is, turns-most g s l sound.checked is)
+
+-- a caller's cleared count is far from its end
+pub cleared-below : (g : Geometry) (s : State) → IsSoundWithoutCounts g s → (who : ℕ) → who < g.callers → (s.errand who).cleared + 1 < 2 ^ 64
+unfolding callers_sum
+cleared-below g s sound who has =
+    let l : Lists = sound.parts.0 in
+    let is : IsSoundWith g s l = sound.parts.1 in
+    let own : (s.errand who).cleared ≤ sum_below g.callers (λ i. cleared_of (s.errand i)) = term-sum g.callers (λ i. cleared_of (s.errand i)) who has in
+    omega (arith, own, is.turned.emptied, small-freed g s.history sound.legal, given-most g s l sound.legal is, turns-most g s l sound.checked is)

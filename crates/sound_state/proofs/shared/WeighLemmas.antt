@@ -1,0 +1,161 @@
+-- A step whose word and errand weigh together what they weighed before changes nothing that is shown.
+use Rattle.std.proofs.Common.{ℕ, ◌≡◌, ◌<◌, ◌≤◌, ◌+◌, refl, arith, ap, sym, subst, inl, inr, ◌∙◌}
+use Rattle.heap_geometry.specs.declared.geometry.Geometry.{Geometry}
+use Rattle.packed_words.specs.Anchor.{anchor_of}
+use Rattle.packed_words.specs.Info.{info_of}
+use Rattle.word_plan.specs.declared.name.WordName.{WordName}
+use Rattle.word_plan.specs.declared.name.WordName.TheVariants as name
+use Rattle.word_plan.specs.Counts.{descriptor_count}
+use Rattle.word_plan.specs.Table.{Exists}
+use Rattle.word_plan.specs.Words.{Writes}
+use Rattle.word_plan.proofs.NameLemmas.{cases_name}
+use Rattle.errand_steps.specs.Errands.{ErrandFields}
+use Rattle.errand_steps.specs.Steps.{State, Moves}
+use Rattle.sound_state.specs.Frames.{errand_frames}
+use Rattle.sound_state.specs.Holdings.{waiting, on_its_way}
+use Rattle.sound_state.specs.Keepers.{word_keeps, errand_has, full_keeps}
+use Rattle.sound_state.specs.Lists.{Lists}
+use Rattle.sound_state.specs.Recalls.{IsPlain}
+use Rattle.sound_state.specs.Stock.{word_stock, errand_stock, full_stock}
+use Rattle.sound_state.specs.Sums.{sum_below}
+use Rattle.sound_state.specs.Superblocks.{info_or_zero, word_reserves, errand_reserves, errand_keeps, errand_away, away_of, is_bound}
+use Rattle.sound_state.specs.Turns.{emptied_out}
+use Rattle.sound_state.proofs.shared.AlikeLemmas.{Alike}
+use Rattle.sound_state.proofs.shared.SumLemmas.{words-written, callers-moved, sum-same}
+
+-- the word is none of a processor heap's: no active word and no slot
+abbrev pub IsStill : WordName → Type 0
+IsStill (name.Active heap class) = ⊥
+IsStill (name.Slot heap class) = ⊥
+IsStill n = Unit {0}
+
+plain-still : (n : WordName) → IsPlain n → IsStill n
+plain-still n plain = grind (arith)
+
+-- the word after the step and the new errand weigh what the word before it and the old errand did; a hazard word that the step writes may change
+pub record WeighMost (n : WordName) (before after : ℕ) (a b : ErrandFields) : Type 0 where
+  pub plain : IsPlain n → after ≡ before
+  pub reserves : (d : ℕ) → word_reserves d n after + errand_reserves d b ≡ word_reserves d n before + errand_reserves d a
+  pub waits : (d : ℕ) → errand_keeps waiting d b ≡ errand_keeps waiting d a
+  pub ways : (d : ℕ) → errand_keeps on_its_way d b ≡ errand_keeps on_its_way d a
+  pub away : (d : ℕ) → errand_away d b ≡ errand_away d a
+  pub places : (d : ℕ) → word_keeps d n after + errand_has d b ≡ word_keeps d n before + errand_has d a
+  pub frames : (f : ℕ) → errand_frames f b ≡ errand_frames f a
+  pub stock : (class : ℕ) → word_stock class n after + errand_stock class b ≡ word_stock class n before + errand_stock class a
+
+-- the same, and a hazard word doesn't change either
+pub record WeighAlike (n : WordName) (before after : ℕ) (a b : ErrandFields) : Type 0 where
+  pub still : IsStill n → after ≡ before
+  pub reserves : (d : ℕ) → word_reserves d n after + errand_reserves d b ≡ word_reserves d n before + errand_reserves d a
+  pub waits : (d : ℕ) → errand_keeps waiting d b ≡ errand_keeps waiting d a
+  pub ways : (d : ℕ) → errand_keeps on_its_way d b ≡ errand_keeps on_its_way d a
+  pub away : (d : ℕ) → errand_away d b ≡ errand_away d a
+  pub places : (d : ℕ) → word_keeps d n after + errand_has d b ≡ word_keeps d n before + errand_has d a
+  pub frames : (f : ℕ) → errand_frames f b ≡ errand_frames f a
+  pub stock : (class : ℕ) → word_stock class n after + errand_stock class b ≡ word_stock class n before + errand_stock class a
+
+pub alike-most : (n : WordName) (before after : ℕ) (a b : ErrandFields) → WeighAlike n before after a b → WeighMost n before after a b
+alike-most n before after a b h = record {
+  plain = λ plain. h.still (plain-still n plain);
+  reserves = h.reserves;
+  waits = h.waits;
+  ways = h.ways;
+  away = h.away;
+  places = h.places;
+  frames = h.frames;
+  stock = h.stock;
+}
+
+-- nor does any other one
+pub hazards-stay :
+    (words : WordName → ℕ) (n : WordName) (new : ℕ) (words' : WordName → ℕ) → Writes words n new words'
+    → (IsStill n → new ≡ words n) → (i : ℕ) → words' (name.Hazard i) ≡ words (name.Hazard i)
+hazards-stay words n new words' w still i =
+    elim (cases_name (name.Hazard i) n) [
+      | inl is ↦ ap words' is ∙ w.here ∙ still (subst IsStill is tt) ∙ ap words (sym is)
+      | inr differ ↦ w.elsewhere (name.Hazard i) differ
+    ]
+
+-- words that are none of a processor heap's nor hazard words stay
+plain-same :
+    (words : WordName → ℕ) (n : WordName) (new : ℕ) (words' : WordName → ℕ) → Writes words n new words'
+    → (IsPlain n → new ≡ words n) → (m : WordName) → IsPlain m → words' m ≡ words m
+plain-same words n new words' w still m plain =
+    elim (cases_name m n) [
+      | inl is ↦ subst (λ x. IsPlain x → words' x ≡ words x) (sym is) (λ plain_n. w.here ∙ still plain_n) plain
+      | inr differ ↦ w.elsewhere m differ
+    ]
+
+-- the descriptors that are away stay away, and no other one is
+away-same :
+    (g : Geometry) (s : State) (l : Lists) (who : ℕ) (n : WordName) (before after : ℕ) (e : ErrandFields) (s' : State) → who < g.callers
+    → Moves s.errand who e s'.errand → WeighMost n before after (s.errand who) e → (d : ℕ) → away_of g s' l d ≡ away_of g s l d
+away-same g s l who n before after e s' has m weigh d =
+    omega (arith, callers-moved g (errand_away d) s.errand who e s'.errand has m, weigh.away d)
+
+-- the same, but that an EMPTY superblock's descriptor may go away, and stand for its class no more
+pub record WeighClose (n : WordName) (before after : ℕ) (a b : ErrandFields) : Type 0 where
+  pub plain : IsPlain n → after ≡ before
+  pub reserves : (d : ℕ) → word_reserves d n after + errand_reserves d b ≡ word_reserves d n before + errand_reserves d a
+  pub waits : (d : ℕ) → errand_keeps waiting d b ≡ errand_keeps waiting d a
+  pub ways : (d : ℕ) → errand_keeps on_its_way d b ≡ errand_keeps on_its_way d a
+  pub places : (d : ℕ) → word_keeps d n after + errand_has d b ≡ word_keeps d n before + errand_has d a
+  pub frames : (f : ℕ) → errand_frames f b ≡ errand_frames f a
+  pub stock : (class : ℕ) → word_stock class n after + errand_stock class b ≤ word_stock class n before + errand_stock class a
+
+pub weigh-close :
+    (g : Geometry) (s : State) (l : Lists) (who : ℕ) (n : WordName) (new : ℕ) (e : ErrandFields) (s' : State) → Exists g n
+    → who < g.callers → Writes s.word n new s'.word → Moves s.errand who e s'.errand → s'.history ≡ s.history
+    → ((d : ℕ) → is_bound g s' l d ≡ is_bound g s l d) → WeighClose n (s.word n) new (s.errand who) e → Alike g s l s'
+weigh-close g s l who n new e s' exists has w m past bound weigh =
+    let plain = plain-same s.word n new s'.word w weigh.plain in
+    let words = λ (weight : WordName → ℕ → ℕ). words-written g weight s.word n new s'.word exists w in
+    let callers = λ (weight : ErrandFields → ℕ). callers-moved g weight s.errand who e s'.errand has m in
+    let anchor = λ (d : ℕ). ap anchor_of (plain (name.Anchor d) tt) in
+    record {
+      word = plain;
+      history = past;
+      reserved = λ d. omega (arith, words (word_reserves d), callers (errand_reserves d), weigh.reserves d);
+      waits = λ d. omega (arith, callers (errand_keeps waiting d), weigh.waits d);
+      ways = λ d. omega (arith, callers (errand_keeps on_its_way d), weigh.ways d);
+      bound = bound;
+      places = λ d.
+          omega (arith, words (word_keeps d), callers (errand_has d), weigh.places d, ap (λ a. full_keeps a.state) (anchor d));
+      frames = λ f. omega (arith, callers (errand_frames f), weigh.frames f);
+      stock = λ stocked.
+          record {
+            most = λ class has.
+                let full : sum_below (descriptor_count g) (full_stock s' class) ≡ sum_below (descriptor_count g) (full_stock s class) =
+                sum-same (descriptor_count g) (full_stock s class) (full_stock s' class)
+                (λ d lt. rw (anchor d, ap (λ x. info_or_zero (info_of x)) (plain (name.Info d) tt)) refl) in
+                omega (arith, words (word_stock class), callers (errand_stock class), weigh.stock class, full, stocked.most class has);
+          };
+    }
+
+pub weigh-alike :
+    (g : Geometry) (s : State) (l : Lists) (who : ℕ) (n : WordName) (new : ℕ) (e : ErrandFields) (s' : State) → Exists g n
+    → who < g.callers → Writes s.word n new s'.word → Moves s.errand who e s'.errand → s'.history ≡ s.history
+    → WeighMost n (s.word n) new (s.errand who) e → Alike g s l s'
+weigh-alike g s l who n new e s' exists has w m past weigh =
+    let plain = plain-same s.word n new s'.word w weigh.plain in
+    weigh-close g s l who n new e s' exists has w m past
+    (λ d. rw (away-same g s l who n _ new e s' has m weigh d, ap anchor_of (plain (name.Anchor d) tt)) refl)
+    (record {
+      plain = weigh.plain;
+      reserves = weigh.reserves;
+      waits = weigh.waits;
+      ways = weigh.ways;
+      places = weigh.places;
+      frames = weigh.frames;
+      stock = λ class. omega (arith, weigh.stock class);
+    })
+
+-- as many descriptors are EMPTY and out
+pub weigh-emptied :
+    (g : Geometry) (s : State) (l : Lists) (who : ℕ) (n : WordName) (new : ℕ) (e : ErrandFields) (s' : State) → who < g.callers
+    → Writes s.word n new s'.word → Moves s.errand who e s'.errand → WeighMost n (s.word n) new (s.errand who) e
+    → sum_below (descriptor_count g) (emptied_out g s' l) ≡ sum_below (descriptor_count g) (emptied_out g s l)
+weigh-emptied g s l who n new e s' has w m weigh =
+    let plain = plain-same s.word n new s'.word w weigh.plain in
+    sum-same (descriptor_count g) (emptied_out g s l) (emptied_out g s' l)
+    (λ d lt. rw (away-same g s l who n _ new e s' has m weigh d, ap anchor_of (plain (name.Anchor d) tt)) refl)

@@ -1,0 +1,73 @@
+-- A step that moves blocks of a superblock between its count and what is reserved: what it changes, and that everything else stays.
+use Rattle.std.proofs.Common.{ℕ, Bool, false, ◌≡◌, ◌≢◌, ◌<◌, ◌≤◌, ◌+◌, ◌^◌}
+use Rattle.std.specs.Prelude.{◌==◌, IsTrue, if◌then◌else◌, All}
+use Rattle.heap_geometry.specs.declared.geometry.Geometry.{Geometry}
+use Rattle.heap_geometry.specs.Need.{block_count_of}
+use Rattle.packed_words.specs.Anchor.{AnchorFields}
+use Rattle.packed_words.specs.declared.anchor.State.TheVariants as phase
+use Rattle.partial_parts.specs.Grants.{is_empty}
+use Rattle.word_plan.specs.declared.name.WordName.{WordName}
+use Rattle.word_plan.specs.declared.name.WordName.TheVariants as name
+use Rattle.word_plan.specs.declared.seat.Site.{Site}
+use Rattle.word_plan.specs.Sites.{IsSiteOf}
+use Rattle.superblock_parts.specs.Chains.{occurs}
+use Rattle.errand_steps.specs.Errands.{ErrandFields}
+use Rattle.errand_steps.specs.Steps.{State, Moves}
+use Rattle.sound_state.specs.Holdings.{waiting, on_its_way, clear, holds_of}
+use Rattle.sound_state.specs.Keepers.{IsKeptAs, full_keeps}
+use Rattle.sound_state.specs.Lists.{Lists}
+use Rattle.sound_state.specs.Recalls.{IsLocated, bound_here, recalls_of}
+use Rattle.sound_state.specs.Sound.{IsOwnErrand}
+use Rattle.sound_state.specs.Stock.{stock_among}
+use Rattle.sound_state.specs.Superblocks.{anchor_for, is_bound, reserved_among, kept_among}
+use Rattle.sound_state.specs.Turns.{has_partial}
+use Rattle.sound_state.proofs.shared.PointLemmas.{kept_places}
+use Rattle.sound_state.proofs.pops.PopEffects.{StandsIn}
+
+-- a caller that alone keeps a superblock moves blocks between its count and what it has reserved, and all else stays
+pub record Shifts (g : Geometry) (s : State) (l : Lists) (who : ℕ) (at : Site) (a b : AnchorFields) (e : ErrandFields) (s' : State) : Type 0 where
+  pub caller : who < g.callers
+  pub moves : Moves s.errand who e s'.errand
+  pub site : IsSiteOf g who at
+  pub bound : IsTrue (is_bound g s l at.desc)
+  pub located : IsLocated s at.desc at.frame at.seat.class
+  pub before : anchor_for s at.desc ≡ a
+  pub after : anchor_for s' at.desc ≡ b
+  pub avail : b.avail ≡ a.avail
+  pub tag : b.tag ≡ a.tag
+  pub some : b.count < block_count_of at.seat.class
+  pub in_use : is_empty b.state ≡ false
+  pub full : b.state ≡ phase.Full → b.count ≡ 0
+  pub elsewhere : (n : WordName) → n ≢ name.Anchor at.desc → s'.word n ≡ s.word n
+  pub below : (n : WordName) → s'.word n < 2 ^ 64
+  pub history : s'.history ≡ s.history
+  pub rule : IsOwnErrand g who e
+  pub retired : e.retired ≡ (s.errand who).retired
+  pub turns : e.turns ≡ (s.errand who).turns
+  pub lost : e.lost ≡ (s.errand who).lost
+  pub cleared : e.cleared ≡ (s.errand who).cleared
+  pub reserves :
+      b.count + reserved_among at.desc (holds_of e.point).credits
+      ≡ a.count + reserved_among at.desc (holds_of (s.errand who).point).credits
+  pub reserves_elsewhere :
+      (d : ℕ) → d ≢ at.desc → reserved_among d (holds_of e.point).credits ≡ reserved_among d (holds_of (s.errand who).point).credits
+  pub waits : (d : ℕ) → kept_among waiting d (holds_of e.point).kept ≡ kept_among waiting d (holds_of (s.errand who).point).kept
+  pub ways : (d : ℕ) → kept_among on_its_way d (holds_of e.point).kept ≡ kept_among on_its_way d (holds_of (s.errand who).point).kept
+  pub places :
+      (d : ℕ) → kept_places d (holds_of e.point).kept + (if at.desc == d then full_keeps b.state else 0)
+      ≡ kept_places d (holds_of (s.errand who).point).kept + (if at.desc == d then full_keeps a.state else 0)
+  pub stock :
+      (class : ℕ) → stock_among class (holds_of e.point).kept + (if at.seat.class == class then full_keeps b.state else 0)
+      ≡ stock_among class (holds_of (s.errand who).point).kept + (if at.seat.class == class then full_keeps a.state else 0)
+  pub has : 1 ≤ kept_places at.desc (holds_of (s.errand who).point).kept
+  pub frames : (f : ℕ) → occurs f (holds_of e.point).frames ≡ occurs f (holds_of (s.errand who).point).frames
+  pub hands : (holds_of e.point).hands ≡ (holds_of (s.errand who).point).hands
+  pub frees : (holds_of e.point).frees ≡ (holds_of (s.errand who).point).frees
+  pub clear_before : (holds_of (s.errand who).point).hazard ≡ clear
+  pub clear_after : (holds_of e.point).hazard ≡ clear
+  pub kept_after : All (λ k. IsKeptAs s' k.status k.desc k.class) (holds_of e.point).kept
+  pub recalls_after : recalls_of e.point ≡ bound_here at
+  pub giving : Bool
+  pub stands_before : StandsIn giving (s.errand who).point
+  pub stands_after : StandsIn giving e.point
+  pub partials : has_partial e.point ≡ has_partial (s.errand who).point

@@ -1,0 +1,536 @@
+-- Reserved blocks are returned, and blocks of a partial superblock are granted.
+use Rattle.std.proofs.Common.{ℕ, zero, suc, Bool, true, false, None, ◌≡◌, ◌≢◌, ◌<◌, ◌≤◌, ◌+◌, ◌^◌, List, [], ◌∷◌, length, refl, arith, ap, sym, subst, inl, inr, ◌∙◌}
+use Rattle.std.specs.Prelude.{◌==◌, IsTrue, if◌then◌else◌, nat_lt, All}
+use Rattle.std.proofs.lemmas.Bool.{cases_eq, cases_lt, cond-true, eq-eqb, lt-ltb}
+use Rattle.std.proofs.lemmas.List.Elements.{All-nil, All-cons, All-head, All-tail}
+use Rattle.std.proofs.Math.Nat.{mod-eq_of_lt}
+use Rattle.heap_geometry.specs.declared.geometry.Geometry.{Geometry}
+use Rattle.heap_geometry.specs.declared.need.Need.{Need}
+use Rattle.heap_geometry.specs.declared.need.Need.TheVariants as need
+use Rattle.heap_geometry.specs.Need.{block_count_of}
+use Rattle.heap_geometry.specs.Place.{block_place}
+use Rattle.packed_words.specs.Anchor.{AnchorFields, IsAnchor, anchor_of, anchor_word}
+use Rattle.packed_words.specs.Info.{info_of}
+use Rattle.packed_words.specs.declared.anchor.State.{State as Phase}
+use Rattle.packed_words.specs.declared.anchor.State.TheVariants as phase
+use Rattle.packed_words.specs.declared.widths.TheConstants.{COUNT_BITS}
+use Rattle.packed_words.proofs.AnchorLemmas.{anchor_of-anchor_word, anchor_word-below}
+use Rattle.partial_parts.specs.declared.point.PartialPoint.TheVariants as partial
+use Rattle.partial_parts.specs.Grants.{grant_more, granted, granted_state, is_empty}
+use Rattle.word_plan.specs.declared.action.Action.TheVariants.{Cas}
+use Rattle.word_plan.specs.declared.action.Found.{Found}
+use Rattle.word_plan.specs.declared.name.WordName.{WordName}
+use Rattle.word_plan.specs.declared.name.WordName.TheVariants as name
+use Rattle.word_plan.specs.declared.seat.Site.{Site}
+use Rattle.word_plan.specs.Actions.{name_of, after_action, found_by}
+use Rattle.word_plan.specs.Counts.{descriptor_count}
+use Rattle.word_plan.specs.Seats.{heap_of}
+use Rattle.word_plan.specs.Words.{Writes}
+use Rattle.word_plan.proofs.SeatLemmas.{block_count_of-most}
+use Rattle.superblock_parts.specs.Anchors.{returned}
+use Rattle.superblock_parts.specs.Chains.{occurs}
+use Rattle.superblock_parts.specs.declared.point.BlockPoint.TheVariants as block
+use Rattle.superblock_parts.specs.declared.point.Share.TheVariants.{Grant}
+use Rattle.superblock_parts.proofs.ChainLemmas.{chain_of-length}
+use Rattle.errand_steps.specs.declared.next.Next.TheVariants.{At}
+use Rattle.errand_steps.specs.declared.onward.Onward.{Onward}
+use Rattle.errand_steps.specs.declared.onward.Onward.TheVariants as onward
+use Rattle.errand_steps.specs.declared.point.Point.{Point}
+use Rattle.errand_steps.specs.declared.point.Point.TheVariants.{Block, Partial}
+use Rattle.errand_steps.specs.Errands.{IsErrand, settle_of, counts_lost, counts_cleared, raised}
+use Rattle.errand_steps.specs.Events.{event_of}
+use Rattle.errand_steps.specs.Nexts.{next_of}
+use Rattle.errand_steps.specs.Points.{asked, plan_point_of}
+use Rattle.errand_steps.specs.Steps.{State, Step, Moves, found_at, with_event, name_at}
+use Rattle.errand_steps.proofs.ErrandLemmas.{settle_errand}
+use Rattle.sound_state.specs.Holdings.{Handed, Kept, reserving, waiting, partly_used, on_its_way, keep, before_pop, after_pop, holds_of}
+use Rattle.sound_state.specs.Keepers.{IsActive, IsPartlyUsed, IsKeptAs, errand_has, full_keeps}
+use Rattle.sound_state.specs.Lists.{Lists}
+use Rattle.sound_state.specs.Recalls.{IsLocated, IsOwned, IsSo, bound_at, located, in_use, recalls_of}
+use Rattle.sound_state.specs.Sound.{IsSoundWithoutCounts, IsSoundWith, IsOwnErrand}
+use Rattle.sound_state.specs.Stock.{stock_among}
+use Rattle.sound_state.specs.Sums.{sum_below, callers_sum}
+use Rattle.sound_state.specs.Superblocks.{Superblock, IsChained, anchor_for, info_for, info_or_zero, superblock_of, free_chain, live_at, is_there, is_bound, away_of, reserved_among, errand_reserves, errand_keeps, errand_away, kept_among}
+use Rattle.sound_state.specs.Turns.{has_partial}
+use Rattle.sound_state.proofs.pops.PopSteps.{found_won}
+use Rattle.sound_state.proofs.quiet.QuietExchanges.{return_credits-lost}
+use Rattle.sound_state.proofs.quiet.QuietPartials.{grant_lost-sound}
+use Rattle.sound_state.proofs.shared.PointLemmas.{fits-at, so-at, kept-at, hands-at, the-alloc, kept_places}
+use Rattle.sound_state.proofs.pops.PopEffects.{StandsIn}
+use Rattle.sound_state.proofs.pops.PopRecalls.{occurs-all}
+use Rattle.sound_state.proofs.quiet.QuietLemmas.{found_from}
+use Rattle.sound_state.proofs.shifts.ShiftEffects.{Shifts}
+use Rattle.sound_state.proofs.shifts.ShiftRecalls.{shifted-sound}
+use Rattle.sound_state.proofs.shared.StepLemmas.{settle-at, at_point, words-below}
+use Rattle.sound_state.proofs.shared.SumLemmas.{sum-plus, sum-least, sum-most, term-sum}
+
+found-cas :
+    (n : WordName) (word expected new : ℕ) → word ≡ expected → found_by (Cas n expected new) word ≡ found_won expected
+found-cas n word expected new same = rw (same, eq-eqb expected expected refl) refl
+
+-- what a won exchange of an anchor does that leads to a point and gives no event
+pub record AnchorWon (g : Geometry) (s : State) (who d : ℕ) (a b : AnchorFields) (q : Point) (s' : State) : Type 0 where
+  pub moves : Moves s.errand who (at_point (s.errand who) (found_won (anchor_word a)) q) s'.errand
+  pub before : anchor_for s d ≡ a
+  pub after : anchor_for s' d ≡ b
+  pub elsewhere : (n : WordName) → n ≢ name.Anchor d → s'.word n ≡ s.word n
+  pub below : (n : WordName) → s'.word n < 2 ^ 64
+  pub history : s'.history ≡ s.history
+  pub rule : IsOwnErrand g who (at_point (s.errand who) (found_won (anchor_word a)) q)
+  pub lost : raised (counts_lost (s.errand who).point (found_won (anchor_word a))) (s.errand who).lost ≡ (s.errand who).lost
+  pub cleared :
+      raised (counts_cleared (s.errand who).point (found_won (anchor_word a))) (s.errand who).cleared ≡ (s.errand who).cleared
+
+pub anchor-won :
+    (g : Geometry) (s : State) (l : Lists) (who : ℕ) (s' : State) (d : ℕ) (a b : AnchorFields) (p q : Point) → IsSoundWith g s l
+    → who < g.callers → (s.errand who).point ≡ p → s.word (name.Anchor d) ≡ anchor_word a → IsAnchor a → IsAnchor b
+    → plan_point_of p ≡ Cas (name.Anchor d) (anchor_word a) (anchor_word b) → next_of p (found_won (anchor_word a)) ≡ At q
+    → event_of who p (found_won (anchor_word a)) ≡ None → counts_lost p (found_won (anchor_word a)) ≡ false
+    → counts_cleared p (found_won (anchor_word a)) ≡ false → Step s who s' → AnchorWon g s who d a b q s'
+anchor-won g s l who s' d a b p q old has here word fits new plan next event lost cleared step =
+    let x : Found = found_won (anchor_word a) in
+    let found : found_at s who ≡ x =
+    ap (found_from s) here ∙ ap (λ c. found_by c (s.word (name_of c))) plan
+    ∙ found-cas (name.Anchor d) (s.word (name.Anchor d)) (anchor_word a) (anchor_word b) word in
+    let moved : settle_of (s.errand who) (found_at s who) ≡ at_point (s.errand who) x q =
+    ap (settle_of (s.errand who)) found ∙ settle-at (s.errand who) x q (ap (λ r. next_of r x) here ∙ next) in
+    let is_won : (s.word (name.Anchor d) == anchor_word a) ≡ true = eq-eqb (s.word (name.Anchor d)) (anchor_word a) word in
+    let written : Writes s.word (name.Anchor d) (after_action (Cas (name.Anchor d) (anchor_word a) (anchor_word b)) (s.word (name.Anchor d))) s'.word =
+    subst (λ c. Writes s.word (name_of c) (after_action c (s.word (name_of c))) s'.word) (ap plan_point_of here ∙ plan) step.word in
+    let writes : Writes s.word (name.Anchor d) (anchor_word b) s'.word =
+    subst (λ v. Writes s.word (name.Anchor d) v s'.word) (rw is_won refl) written in
+    let own = old.errands who has in
+    let is_lost : counts_lost (s.errand who).point x ≡ false = ap (λ r. counts_lost r x) here ∙ lost in
+    record {
+      moves = subst (λ f. Moves s.errand who f s'.errand) moved step.errand;
+      before = ap anchor_of word ∙ anchor_of-anchor_word a fits;
+      after = ap anchor_of writes.here ∙ anchor_of-anchor_word b new;
+      elsewhere = writes.elsewhere;
+      below = words-below s.word (name.Anchor d) (anchor_word b) s'.word writes old.words (anchor_word-below b new);
+      history = step.history ∙ ap (with_event s.history) (ap (event_of who (s.errand who).point) found ∙ ap (λ r. event_of who r x) here ∙ event);
+      rule = record {
+        caller = own.caller;
+        geometry = own.geometry;
+        rule = subst IsErrand moved (settle_errand (s.errand who) (found_at s who) own.rule (old.words (name_at s who)));
+        lost = subst (λ t. raised t (s.errand who).lost < 2 ^ 64) (sym is_lost) own.lost;
+      };
+      lost = ap (λ t. raised t (s.errand who).lost) is_lost;
+      cleared = ap (λ t. raised t (s.errand who).cleared) (ap (λ r. counts_cleared r x) here ∙ cleared);
+    }
+
+-- terms that are 1 at most, and one of them 0
+sum-hole : (n : ℕ) (f : ℕ → ℕ) (i : ℕ) → i < n → f i ≡ 0 → ((j : ℕ) → j < n → f j ≤ 1) → sum_below n f < n
+sum-hole zero f i lt none most = absurd (omega (arith, lt))
+sum-hole (suc n) f i lt none most =
+    elim (cases_eq n i) [
+      | inl e ↦
+          let last : f n ≡ 0 = subst (λ k. f k ≡ 0) (sym e) none in
+          omega (arith, last, sum-most n f 1 (λ j below. most j (omega (arith, below))))
+      | inr ne ↦
+          omega (arith, sum-hole n f i (omega (arith, lt, ne)) none (λ j below. most j (omega (arith, below))), most n (omega arith))
+    ]
+
+-- a superblock with a live block has fewer free blocks than blocks
+pub live-fewer :
+    (b : Superblock) (i : ℕ) → IsChained b → i < b.size → b.live i ≡ 1 → b.anchor.count + b.reserved < b.size
+live-fewer b i chained within live =
+    let xs : List ℕ = free_chain b in
+    let long : length xs ≡ b.anchor.count + b.reserved = chain_of-length b.next (b.anchor.count + b.reserved) b.anchor.avail in
+    let all : length xs ≤ sum_below b.size (λ j. occurs j xs) = occurs-all b.size xs chained.within in
+    let none : occurs i xs ≡ 0 = omega (arith, chained.once i within, live) in
+    let fewer : sum_below b.size (λ j. occurs j xs) < b.size =
+    sum-hole b.size (λ j. occurs j xs) i within none (λ j below. omega (arith, chained.once j below)) in
+    omega (arith, long, all, fewer)
+
+-- a live block at hand
+hand-live : (s : State) (who place : ℕ) (n : Need) → IsOwned s who place n → live_at s place ≡ 1
+hand-live s who place n owned = ap is_there owned.block.1
+
+-- before and after a return
+return-places :
+    (at : Site) (i more : ℕ) (state : Phase) (d : ℕ) → full_keeps state ≡ 0
+    → kept_places d (keep at.desc at.seat.class partly_used) + (if at.desc == d then full_keeps phase.Partial else 0)
+    ≡ kept_places d (after_pop at i more).kept + (if at.desc == d then full_keeps state else 0)
+return-places at i more state d none = grind (arith, none)
+
+return-stock :
+    (at : Site) (i more : ℕ) (state : Phase) (c : ℕ) → full_keeps state ≡ 0
+    → stock_among c (keep at.desc at.seat.class partly_used) + (if at.seat.class == c then full_keeps phase.Partial else 0)
+    ≡ stock_among c (after_pop at i more).kept + (if at.seat.class == c then full_keeps state else 0)
+return-stock at i more state c none = grind (arith, none)
+
+return-reserves : (at : Site) (i more : ℕ) → reserved_among at.desc (after_pop at i more).credits ≡ more
+return-reserves at i more = grind (arith)
+
+return-elsewhere : (at : Site) (i more d : ℕ) → d ≢ at.desc → 0 ≡ reserved_among d (after_pop at i more).credits
+return-elsewhere at i more d ne = grind (arith, ne)
+
+return-has : (at : Site) (i more : ℕ) → 1 ≤ kept_places at.desc (after_pop at i more).kept
+return-has at i more = grind (arith)
+
+return-waits : (at : Site) (i more d : ℕ) → kept_among waiting d (keep at.desc at.seat.class partly_used) ≡ kept_among waiting d (after_pop at i more).kept
+return-waits at i more d = grind (arith)
+
+return-ways : (at : Site) (i more d : ℕ) → kept_among on_its_way d (keep at.desc at.seat.class partly_used) ≡ kept_among on_its_way d (after_pop at i more).kept
+return-ways at i more d = grind (arith)
+
+return-stands : (at : Site) (i more : ℕ) (a : AnchorFields) (o : Onward) → StandsIn false (Block (block.ReturnCredits at i more a) o)
+return-stands at i more a o = grind (arith)
+
+put-stands : (at : Site) (heap i words : ℕ) → StandsIn false (Partial (partial.PutSlot at.seat at.desc heap) (onward.GiveBlock words at i))
+put-stands at heap i words = grind (arith)
+
+-- the anchor with the returned blocks
+abbrev pub with_returned : ℕ → AnchorFields → AnchorFields
+with_returned more a = record { avail = a.avail; count = a.count + more; state = phase.Partial; tag = a.tag }
+
+-- where a return leads
+abbrev pub puts_away : Site → ℕ → Onward → Point
+puts_away at i o = Partial (partial.PutSlot at.seat at.desc (heap_of at.seat)) (onward.GiveBlock (asked o) at i)
+
+-- reserved blocks and free ones are fewer than all blocks, since one is at hand
+return-fewer :
+    (g : Geometry) (s : State) (l : Lists) (who : ℕ) (site : Site) (i more : ℕ) (a : AnchorFields) (o : Onward) → IsSoundWith g s l
+    → who < g.callers → (s.errand who).point ≡ Block (block.ReturnCredits site i more a) o
+    → (anchor_for s site.desc).count + more < block_count_of site.seat.class
+unfolding holds_of recalls_of callers_sum
+return-fewer g s l who site i more a o old has here =
+    let p : Point = Block (block.ReturnCredits site i more a) o in
+    let fit = fits-at g s l who p old has here in
+    let so = All-head (IsSo g s l who) (bound_at site.desc site.frame site.seat.class) [] (so-at g s l who p old has here) in
+    let owned : IsOwned s who (block_place site.frame site.seat.class i) (need.Small site.seat.class) =
+    All-head (λ (x : Handed). IsOwned s who x.place x.need)
+    (record { place = block_place site.frame site.seat.class i; need = need.Small site.seat.class }) [] (hands-at g s l who p old has here) in
+    let sup : Superblock = superblock_of g s site.desc in
+    let size : sup.size ≡ block_count_of site.seat.class = ap block_count_of so.1.class in
+    let live : sup.live i ≡ 1 =
+    ap (λ f. live_at s (block_place f (info_for s site.desc).class i)) so.1.frame
+    ∙ ap (λ c. live_at s (block_place site.frame c i)) so.1.class
+    ∙ hand-live s who (block_place site.frame site.seat.class i) (need.Small site.seat.class) owned in
+    let chained : IsChained sup = old.chained.chained site.desc fit.point.0.site.desc so.0 in
+    let fewer = live-fewer sup i chained (omega (arith, size, fit.point.0.index)) live in
+    let mine : errand_reserves site.desc (s.errand who) ≡ more =
+    ap (λ q. reserved_among site.desc (holds_of q).credits) here ∙ return-reserves site i more in
+    let some : errand_reserves site.desc (s.errand who) ≤ sum_below g.callers (λ j. errand_reserves site.desc (s.errand j)) =
+    term-sum g.callers (λ j. errand_reserves site.desc (s.errand j)) who has in
+    omega (arith, fewer, size, mine, some)
+
+returned-uncut : (more : ℕ) (a : AnchorFields) → a.count + more < 2 ^ COUNT_BITS → returned more a ≡ with_returned more a
+returned-uncut more a room = ap (λ n. record (with_returned more a) { count = n }) (mod-eq_of_lt {n = a.count + more} {m = 2 ^ COUNT_BITS} room)
+
+pub return-shifts :
+    (g : Geometry) (s : State) (l : Lists) (who : ℕ) (s' : State) (site : Site) (i more : ℕ) (a : AnchorFields) (o : Onward)
+    → IsSoundWith g s l → who < g.callers → (s.errand who).point ≡ Block (block.ReturnCredits site i more a) o
+    → s.word (name.Anchor site.desc) ≡ anchor_word a → Step s who s'
+    → Shifts g s l who site a (with_returned more a) (at_point (s.errand who) (found_won (anchor_word a)) (puts_away site i o)) s'
+unfolding event_of next_of plan_point_of holds_of recalls_of
+return-shifts g s l who s' site i more a o old has here word step =
+    let p : Point = Block (block.ReturnCredits site i more a) o in
+    let q : Point = puts_away site i o in
+    let b : AnchorFields = with_returned more a in
+    let fit = fits-at g s l who p old has here in
+    let so = All-head (IsSo g s l who) (bound_at site.desc site.frame site.seat.class) [] (so-at g s l who p old has here) in
+    let active : IsActive s site.desc site.seat.class =
+    All-head (λ k. IsKeptAs s k.status k.desc k.class) (record { desc = site.desc; class = site.seat.class; status = reserving }) [] (kept-at g s l who p old has here) in
+    let fits : IsAnchor a = fit.point.2.fits in
+    let was : anchor_for s site.desc ≡ a = ap anchor_of word ∙ anchor_of-anchor_word a fits in
+    let fewer : a.count + more < block_count_of site.seat.class =
+    subst (λ x. x.count + more < block_count_of site.seat.class) was (return-fewer g s l who site i more a o old has here) in
+    let room : a.count + more < 2 ^ COUNT_BITS = omega (arith, fewer, block_count_of-most site.seat.class) in
+    let new : IsAnchor b = record { avail = fits.avail; count = room; tag = fits.tag } in
+    let won : AnchorWon g s who site.desc a b q s' =
+    anchor-won g s l who s' site.desc a b p q old has here word fits new
+    (ap (λ x. Cas (name.Anchor site.desc) (anchor_word a) (anchor_word x)) (returned-uncut more a room)) refl refl refl refl step in
+    let none : full_keeps a.state ≡ 0 = ap (λ x. full_keeps x.state) (sym was) ∙ ap full_keeps active.state in
+    let some : 1 ≤ a.count + more = omega (arith, fit.point.1.0) in
+    let info : info_for s' site.desc ≡ info_for s site.desc =
+    ap (λ w. info_or_zero (info_of w)) (won.elsewhere (name.Info site.desc) (λ same. cc)) in
+    record {
+      caller = has;
+      moves = won.moves;
+      site = fit.point.0.site;
+      bound = so.0;
+      located = so.1;
+      before = won.before;
+      after = won.after;
+      avail = refl;
+      tag = refl;
+      some = fewer;
+      in_use = refl;
+      full = λ is. cc;
+      elsewhere = won.elsewhere;
+      below = won.below;
+      history = won.history;
+      rule = won.rule;
+      retired = refl;
+      turns = refl;
+      lost = won.lost;
+      cleared = won.cleared;
+      reserves =
+          let mine : reserved_among site.desc (holds_of (s.errand who).point).credits ≡ more =
+          ap (λ r. reserved_among site.desc (holds_of r).credits) here ∙ return-reserves site i more in
+          omega (arith, mine);
+      reserves_elsewhere = λ d ne. return-elsewhere site i more d ne ∙ sym (ap (λ r. reserved_among d (holds_of r).credits) here);
+      waits = λ d. return-waits site i more d ∙ sym (ap (λ r. kept_among waiting d (holds_of r).kept) here);
+      ways = λ d. return-ways site i more d ∙ sym (ap (λ r. kept_among on_its_way d (holds_of r).kept) here);
+      places = λ d.
+          subst
+          (λ r. kept_places d (holds_of q).kept + (if site.desc == d then full_keeps b.state else 0)
+          ≡ kept_places d (holds_of r).kept + (if site.desc == d then full_keeps a.state else 0)) (sym here)
+          (return-places site i more a.state d none);
+      stock = λ c.
+          subst
+          (λ r. stock_among c (holds_of q).kept + (if site.seat.class == c then full_keeps b.state else 0)
+          ≡ stock_among c (holds_of r).kept + (if site.seat.class == c then full_keeps a.state else 0)) (sym here)
+          (return-stock site i more a.state c none);
+      has = subst (λ r. 1 ≤ kept_places site.desc (holds_of r).kept) (sym here) (return-has site i more);
+      frames = λ f. sym (ap (λ r. occurs f (holds_of r).frames) here);
+      hands = sym (ap (λ r. (holds_of r).hands) here);
+      frees = sym (ap (λ r. (holds_of r).frees) here);
+      clear_before = ap (λ r. (holds_of r).hazard) here;
+      clear_after = refl;
+      kept_after =
+          All-cons (λ k. IsKeptAs s' k.status k.desc k.class) (record { desc = site.desc; class = site.seat.class; status = partly_used }) []
+          (record {
+            class = ap (λ x. x.class) info ∙ so.1.class;
+            state = inl (ap (λ x. x.state) won.after, subst (λ x. 1 ≤ x.count) (sym won.after) some);
+          })
+          (All-nil (λ (k : Kept). IsKeptAs s' k.status k.desc k.class));
+      recalls_after = refl;
+      giving = false;
+      stands_before = subst (StandsIn false) (sym here) (return-stands site i more a o);
+      stands_after = put-stands site (heap_of site.seat) i (asked o);
+      partials = sym (ap has_partial here);
+    }
+
+-- reserved blocks are returned
+pub return_credits_won-sound :
+    (g : Geometry) (s : State) (who : ℕ) (s' : State) (site : Site) (i more : ℕ) (a : AnchorFields) (o : Onward) → IsSoundWithoutCounts g s
+    → who < g.callers → (s.errand who).point ≡ Block (block.ReturnCredits site i more a) o
+    → s.word (name.Anchor site.desc) ≡ anchor_word a → Step s who s' → IsSoundWithoutCounts g s'
+return_credits_won-sound g s who s' site i more a o sound has here word step =
+    let l : Lists = sound.parts.0 in
+    let old : IsSoundWith g s l = sound.parts.1 in
+    shifted-sound g s l who site a (with_returned more a) (at_point (s.errand who) (found_won (anchor_word a)) (puts_away site i o)) s'
+    (return-shifts g s l who s' site i more a o old has here word step) sound old
+
+-- before and after a grant, by whether more than one block is granted
+abbrev grant_keeps : ℕ → ℕ → Bool → List Kept
+grant_keeps d class t = if t then keep d class reserving else []
+
+abbrev grant_state : Bool → Phase
+grant_state t = if t then phase.Active else phase.Full
+
+grant-places :
+    (x class : ℕ) (t : Bool) (state : Phase) (d : ℕ) → full_keeps state ≡ 0
+    → kept_places d (grant_keeps x class t) + (if x == d then full_keeps (grant_state t) else 0)
+    ≡ kept_places d (keep x class partly_used) + (if x == d then full_keeps state else 0)
+grant-places x class true state d none = grind (arith, none)
+grant-places x class false state d none = grind (arith, none)
+
+grant-stock :
+    (x class : ℕ) (t : Bool) (state : Phase) (c : ℕ) → full_keeps state ≡ 0
+    → stock_among c (grant_keeps x class t) + (if class == c then full_keeps (grant_state t) else 0)
+    ≡ stock_among c (keep x class partly_used) + (if class == c then full_keeps state else 0)
+grant-stock x class true state c none = grind (arith, none)
+grant-stock x class false state c none = grind (arith, none)
+
+grant-waits : (x class : ℕ) (t : Bool) (d : ℕ) → kept_among waiting d (grant_keeps x class t) ≡ kept_among waiting d (keep x class partly_used)
+grant-waits x class true d = grind (arith)
+grant-waits x class false d = grind (arith)
+
+grant-ways : (x class : ℕ) (t : Bool) (d : ℕ) → kept_among on_its_way d (grant_keeps x class t) ≡ kept_among on_its_way d (keep x class partly_used)
+grant-ways x class true d = grind (arith)
+grant-ways x class false d = grind (arith)
+
+grant-has : (x class : ℕ) → 1 ≤ kept_places x (keep x class partly_used)
+grant-has x class = grind (arith)
+
+grant-partly : (x class : ℕ) → 1 ≤ kept_among partly_used x (keep x class partly_used)
+grant-partly x class = grind (arith)
+
+grant-reserves : (x class more : ℕ) → reserved_among x (before_pop x class (Grant more)).credits ≡ more + 1
+grant-reserves x class more = grind (arith)
+
+grant-elsewhere : (x class more d : ℕ) → d ≢ x → reserved_among d (before_pop x class (Grant more)).credits ≡ 0
+grant-elsewhere x class more d ne = grind (arith, ne)
+
+grant-in_use : (t : Bool) → is_empty (grant_state t) ≡ false
+grant-in_use true = refl
+grant-in_use false = refl
+
+grant-stands : (at : Site) (a : AnchorFields) (words : ℕ) → StandsIn true (Partial (partial.Grant at a) (onward.Alloc words))
+grant-stands at a words = grind (arith)
+
+loads-stands : (at : Site) (more words : ℕ) → StandsIn true (Block (block.LoadAnchor at (Grant more)) (onward.Alloc words))
+loads-stands at more words = grind (arith)
+
+grant-kept :
+    (s : State) (d class : ℕ) (t : Bool) → (info_for s d).class ≡ class → (anchor_for s d).state ≡ grant_state t
+    → All (λ k. IsKeptAs s k.status k.desc k.class) (grant_keeps d class t)
+grant-kept s d class true is state =
+    All-cons (λ k. IsKeptAs s k.status k.desc k.class) (record { desc = d; class = class; status = reserving }) []
+    (record { class = is; state = state }) (All-nil (λ (k : Kept). IsKeptAs s k.status k.desc k.class))
+grant-kept s d class false is state = All-nil (λ (k : Kept). IsKeptAs s k.status k.desc k.class)
+
+-- a superblock that a grant makes FULL has no free block left
+granted-full : (a : AnchorFields) → (granted a).state ≡ phase.Full → (granted a).count ≡ 0
+granted-full a is =
+    elim (cases_lt 0 (grant_more a.count)) [
+      | inl some ↦
+          let active : granted_state (grant_more a.count) ≡ phase.Active =
+          cond-true {A = Phase} (nat_lt 0 (grant_more a.count)) phase.Active phase.Full (lt-ltb 0 (grant_more a.count) some) in
+          let bad : phase.Active ≡ phase.Full = sym active ∙ is in absurd (cc)
+      | inr none ↦ omega (arith, none)
+    ]
+
+-- a caller that keeps a superblock partly used has its descriptor out
+granting-away :
+    (g : Geometry) (s : State) (l : Lists) (who d : ℕ) → IsSoundWith g s l → who < g.callers → d < descriptor_count g
+    → 1 ≤ errand_keeps partly_used d (s.errand who) → away_of g s l d ≡ 0
+unfolding callers_sum
+granting-away g s l who d old has exists keeps =
+    let partly = λ (i : ℕ). errand_keeps partly_used d (s.errand i) in
+    let aways = λ (i : ℕ). errand_away d (s.errand i) in
+    let both : sum_below g.callers (λ i. partly i + aways i) ≡ sum_below g.callers partly + sum_below g.callers aways = sum-plus g.callers partly aways in
+    let least : sum_below g.callers (λ i. partly i + aways i) ≤ sum_below g.callers (λ i. errand_has d (s.errand i)) =
+    sum-least g.callers (λ i. partly i + aways i) (λ i. errand_has d (s.errand i)) (λ i lt. omega arith) in
+    let once = old.kept.once d exists in
+    let mine : partly who ≤ sum_below g.callers partly = term-sum g.callers partly who has in
+    omega (arith, once, both, least, mine, keeps)
+
+-- a partly used superblock that isn't EMPTY has free blocks
+partial-some : (s : State) (d c : ℕ) → IsPartlyUsed s d c → is_empty (anchor_for s d).state ≡ false → ((anchor_for s d).state ≡ phase.Partial) × (1 ≤ (anchor_for s d).count)
+partial-some s d c is used =
+    elim is.state [
+      | inl some ↦ some
+      | inr empty ↦ let bad : true ≡ false = sym (ap is_empty empty) ∙ used in absurd (cc)
+    ]
+
+granted-less : (a : AnchorFields) → (granted a).count ≤ a.count
+granted-less a = omega arith
+
+granted-together : (a : AnchorFields) → 1 ≤ a.count → (granted a).count + (grant_more a.count + 1) ≡ a.count
+granted-together a some = omega (arith, some)
+
+pub grant-shifts :
+    (g : Geometry) (s : State) (l : Lists) (who : ℕ) (s' : State) (site : Site) (a : AnchorFields) (words : ℕ)
+    → IsSoundWith g s l → who < g.callers → (s.errand who).point ≡ Partial (partial.Grant site a) (onward.Alloc words)
+    → s.word (name.Anchor site.desc) ≡ anchor_word a → Step s who s'
+    → Shifts g s l who site a (granted a)
+    (at_point (s.errand who) (found_won (anchor_word a)) (Block (block.LoadAnchor site (Grant (grant_more a.count))) (onward.Alloc words))) s'
+unfolding event_of next_of plan_point_of holds_of recalls_of
+grant-shifts g s l who s' site a words old has here word step =
+    let p : Point = Partial (partial.Grant site a) (onward.Alloc words) in
+    let more : ℕ = grant_more a.count in
+    let q : Point = Block (block.LoadAnchor site (Grant more)) (onward.Alloc words) in
+    let b : AnchorFields = granted a in
+    let t : Bool = nat_lt 0 more in
+    let d : ℕ = site.desc in
+    let c : ℕ = site.seat.class in
+    let fit = fits-at g s l who p old has here in
+    let recalled = so-at g s l who p old has here in
+    let used : is_empty a.state ≡ false = All-head (IsSo g s l who) (in_use a) (located d site.frame c ∷ []) recalled in
+    let lies : IsLocated s d site.frame c =
+    All-head (IsSo g s l who) (located d site.frame c) [] (All-tail (IsSo g s l who) (in_use a) (located d site.frame c ∷ []) recalled) in
+    let partly : IsPartlyUsed s d c =
+    All-head (λ k. IsKeptAs s k.status k.desc k.class) (record { desc = d; class = c; status = partly_used }) [] (kept-at g s l who p old has here) in
+    let fits : IsAnchor a = fit.point.1.fits in
+    let was : anchor_for s d ≡ a = ap anchor_of word ∙ anchor_of-anchor_word a fits in
+    let used_still : is_empty (anchor_for s d).state ≡ false = ap (λ x. is_empty x.state) was ∙ used in
+    let some : ((anchor_for s d).state ≡ phase.Partial) × (1 ≤ (anchor_for s d).count) = partial-some s d c partly used_still in
+    let count : 1 ≤ a.count = subst (λ x. 1 ≤ x.count) was some.1 in
+    let keeps : 1 ≤ errand_keeps partly_used d (s.errand who) =
+    subst (λ r. 1 ≤ kept_among partly_used d (holds_of r).kept) (sym here) (grant-partly d c) in
+    let away : away_of g s l d ≡ 0 = granting-away g s l who d old has fit.point.0.desc keeps in
+    let bound : IsTrue (is_bound g s l d) = rw (eq-eqb (away_of g s l d) 0 away, used_still) refl in
+    let chained : IsChained (superblock_of g s d) = old.chained.chained d fit.point.0.desc bound in
+    let size : (superblock_of g s d).size ≡ block_count_of c = ap block_count_of lies.class in
+    let new : IsAnchor b = record { avail = fits.avail; count = omega (arith, fits.count, granted-less a); tag = fits.tag } in
+    let won : AnchorWon g s who d a b q s' =
+    anchor-won g s l who s' d a b p q old has here word fits new refl refl refl refl refl step in
+    let none : full_keeps a.state ≡ 0 = ap (λ x. full_keeps x.state) (sym was) ∙ ap full_keeps some.0 in
+    let info : info_for s' d ≡ info_for s d = ap (λ w. info_or_zero (info_of w)) (won.elsewhere (name.Info d) (λ same. cc)) in
+    record {
+      caller = has;
+      moves = won.moves;
+      site = fit.point.0;
+      bound = bound;
+      located = lies;
+      before = won.before;
+      after = won.after;
+      avail = refl;
+      tag = refl;
+      some = omega (arith, granted-less a, chained.some, size, ap (λ x. x.count) was);
+      in_use = grant-in_use t;
+      full = granted-full a;
+      elsewhere = won.elsewhere;
+      below = won.below;
+      history = won.history;
+      rule = won.rule;
+      retired = refl;
+      turns = refl;
+      lost = won.lost;
+      cleared = won.cleared;
+      reserves =
+          let mine : reserved_among d (holds_of (s.errand who).point).credits ≡ 0 = ap (λ r. reserved_among d (holds_of r).credits) here in
+          omega (arith, mine, grant-reserves d c more, granted-together a count);
+      reserves_elsewhere = λ e ne. grant-elsewhere d c more e ne ∙ sym (ap (λ r. reserved_among e (holds_of r).credits) here);
+      waits = λ e. grant-waits d c t e ∙ sym (ap (λ r. kept_among waiting e (holds_of r).kept) here);
+      ways = λ e. grant-ways d c t e ∙ sym (ap (λ r. kept_among on_its_way e (holds_of r).kept) here);
+      places = λ e.
+          subst
+          (λ r. kept_places e (holds_of q).kept + (if d == e then full_keeps b.state else 0)
+          ≡ kept_places e (holds_of r).kept + (if d == e then full_keeps a.state else 0)) (sym here)
+          (grant-places d c t a.state e none);
+      stock = λ e.
+          subst
+          (λ r. stock_among e (holds_of q).kept + (if c == e then full_keeps b.state else 0)
+          ≡ stock_among e (holds_of r).kept + (if c == e then full_keeps a.state else 0)) (sym here)
+          (grant-stock d c t a.state e none);
+      has = subst (λ r. 1 ≤ kept_places d (holds_of r).kept) (sym here) (grant-has d c);
+      frames = λ f. sym (ap (λ r. occurs f (holds_of r).frames) here);
+      hands = sym (ap (λ r. (holds_of r).hands) here);
+      frees = sym (ap (λ r. (holds_of r).frees) here);
+      clear_before = ap (λ r. (holds_of r).hazard) here;
+      clear_after = refl;
+      kept_after = grant-kept s' d c t (ap (λ x. x.class) info ∙ lies.class) (ap (λ x. x.state) won.after);
+      recalls_after = refl;
+      giving = true;
+      stands_before = subst (StandsIn true) (sym here) (grant-stands site a words);
+      stands_after = loads-stands site more words;
+      partials = sym (ap has_partial here);
+    }
+
+-- blocks of a partial superblock are granted
+pub grant_won-sound :
+    (g : Geometry) (s : State) (who : ℕ) (s' : State) (site : Site) (a : AnchorFields) (o : Onward) → IsSoundWithoutCounts g s → who < g.callers
+    → (s.errand who).point ≡ Partial (partial.Grant site a) o → s.word (name.Anchor site.desc) ≡ anchor_word a → Step s who s' → IsSoundWithoutCounts g s'
+grant_won-sound g s who s' site a o sound has here word step =
+    let l : Lists = sound.parts.0 in
+    let old : IsSoundWith g s l = sound.parts.1 in
+    let alloc : o ≡ onward.Alloc (asked o) = the-alloc o (fits-at g s l who (Partial (partial.Grant site a) o) old has here).goes in
+    let stands : (s.errand who).point ≡ Partial (partial.Grant site a) (onward.Alloc (asked o)) =
+    here ∙ ap (λ o. Partial (partial.Grant site a) o) alloc in
+    shifted-sound g s l who site a (granted a)
+    (at_point (s.errand who) (found_won (anchor_word a)) (Block (block.LoadAnchor site (Grant (grant_more a.count))) (onward.Alloc (asked o)))) s'
+    (grant-shifts g s l who s' site a (asked o) old has stands word step) sound old
+
+-- so it is after both, won or lost
+pub return_credits-sound :
+    (g : Geometry) (s : State) (who : ℕ) (s' : State) (site : Site) (i more : ℕ) (a : AnchorFields) (o : Onward) → IsSoundWithoutCounts g s
+    → who < g.callers → (s.errand who).point ≡ Block (block.ReturnCredits site i more a) o → Step s who s' → IsSoundWithoutCounts g s'
+return_credits-sound g s who s' site i more a o sound has here step =
+    elim (cases_eq (s.word (name.Anchor site.desc)) (anchor_word a)) [
+      | inl is ↦ return_credits_won-sound g s who s' site i more a o sound has here is step
+      | inr other ↦ return_credits-lost g s who s' site i more a o sound has here other step
+    ]
+
+pub grant-sound :
+    (g : Geometry) (s : State) (who : ℕ) (s' : State) (site : Site) (a : AnchorFields) (need : ℕ) → IsSoundWithoutCounts g s → who < g.callers
+    → (s.errand who).point ≡ Partial (partial.Grant site a) (onward.Alloc need) → Step s who s' → IsSoundWithoutCounts g s'
+grant-sound g s who s' site a need sound has here step =
+    elim (cases_eq (s.word (name.Anchor site.desc)) (anchor_word a)) [
+      | inl is ↦ grant_won-sound g s who s' site a (onward.Alloc need) sound has here is step
+      | inr other ↦ grant_lost-sound g s who s' site a need sound has here other step
+    ]

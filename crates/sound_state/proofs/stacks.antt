@@ -1,0 +1,5 @@
+pub mod StackEffects
+pub mod StackFacts
+pub mod StackRetires
+pub mod StackShifts
+pub mod StackSteps

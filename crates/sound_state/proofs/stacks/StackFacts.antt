@@ -1,0 +1,504 @@
+-- A step that takes the first index off a stack, or puts one in front, keeps the state sound, with the list that is left.
+use Rattle.std.proofs.Common.{ℕ, Some, ◌≡◌, ◌<◌, ◌≤◌, ◌+◌, ◌^◌, ◌-◌, ◌*◌, length, refl, arith, ap, sym, subst, inl, inr, ◌∙◌}
+use Rattle.std.proofs.Math.Path.{fun_ext}
+use Rattle.std.specs.Prelude.{Bool, true, false, List, [], ◌∷◌, ◌==◌, ◌&&◌, not, ◌⊎◌, slice_index, All, Contains, IsTrue, IsSome, count_by}
+use Rattle.std.specs.Int.{bit_at}
+use Rattle.std.proofs.lemmas.List.Elements.{All-nil, All-cons, All-head, All-tail}
+use Rattle.heap_geometry.specs.declared.geometry.Geometry.{Geometry}
+use Rattle.heap_geometry.specs.declared.need.Need.{Need}
+use Rattle.heap_geometry.specs.Need.{block_count_of}
+use Rattle.heap_geometry.specs.Place.{block_place, frame_of, unit_place}
+use Rattle.packed_words.specs.Anchor.{anchor_of}
+use Rattle.packed_words.specs.Active.{active_of}
+use Rattle.packed_words.specs.declared.anchor.State.{State as Phase}
+use Rattle.packed_words.specs.declared.anchor.State.TheVariants as phase
+use Rattle.partial_parts.specs.Grants.{is_empty}
+use Rattle.packed_words.specs.Head.{HeadFields, head_of}
+use Rattle.packed_words.specs.Info.{info_of}
+use Rattle.packed_words.specs.Prefix.{link_of}
+use Rattle.word_plan.specs.declared.name.WordName.{WordName}
+use Rattle.word_plan.specs.declared.name.WordName.TheVariants as name
+use Rattle.word_plan.specs.Counts.{descriptor_count}
+use Rattle.superblock_parts.specs.Chains.{occurs, prefix_name, link_in}
+use Rattle.superblock_parts.specs.declared.point.BlockPoint.{BlockPoint}
+use Rattle.stack_parts.specs.declared.point.StackPoint.{StackPoint}
+use Rattle.stack_parts.specs.declared.point.StackPoint.TheVariants as stack
+use Rattle.hazard_parts.specs.declared.point.DescPoint.{DescPoint}
+use Rattle.partial_parts.specs.declared.point.PartialPoint.{PartialPoint}
+use Rattle.large_parts.specs.declared.point.LargePoint.{LargePoint}
+use Rattle.errand_steps.specs.declared.onward.Onward.{Onward}
+use Rattle.errand_steps.specs.declared.point.Point.{Point}
+use Rattle.errand_steps.specs.declared.point.Point.TheVariants as point
+use Rattle.stack_parts.specs.declared.point.Pile.{Pile}
+use Rattle.stack_parts.specs.declared.point.Pile.TheVariants.{Frames, Partials}
+use Rattle.stack_parts.specs.Piles.{head_name, next_name}
+use Rattle.word_plan.specs.Seats.{SeatFields, info_in}
+use Rattle.pool_model.specs.declared.event.Event.TheVariants.{Looked}
+use Rattle.pool_model.specs.Histories.{own, EndsWith}
+use Rattle.pool_model.specs.Pool.{Block, block_at, pool_of}
+use Rattle.errand_steps.specs.Errands.{ErrandFields}
+use Rattle.errand_steps.specs.Fits.{spare_of, pushed_by}
+use Rattle.errand_steps.specs.Steps.{State}
+use Rattle.sound_state.specs.Frames.{IsFramed, fills}
+use Rattle.sound_state.specs.Guards.{IsGuarded, Guards, IsGuard, IsHazard, passed_by, held_by}
+use Rattle.sound_state.specs.Holdings.{Status, reserving, waiting, partly_used, on_its_way, holds_of}
+use Rattle.sound_state.specs.Keepers.{IsKept, IsPartlyUsed, IsActive, IsWithout, IsKeptAs}
+use Rattle.sound_state.specs.Lists.{Lists}
+use Rattle.sound_state.specs.Recalls.{Recall, IsPopped, IsLocated, IsTopStill, IsRemembered, IsSo, IsOwned, recalls_of, list_of, block_recalls, onward_recalls, stack_recalls, desc_recalls, partial_recalls, large_recalls, bound_for, located, bound_at, pops, links, tops, nexts, tops_exist, says, made, in_use, emptied, noted, owns, owns_all, looked}
+use Rattle.sound_state.specs.Sound.{IsSoundWith, IsOwnErrand}
+use Rattle.sound_state.specs.Sums.{sum_below}
+use Rattle.sound_state.specs.Superblocks.{AreChained, IsChained, info_or_zero, live_at, is_there, anchor_for, info_for, superblock_of, away_of, is_bound}
+use Rattle.sound_state.specs.Ties.{IsTied, IsLive, IsExcepted}
+use Rattle.sound_state.specs.Turns.{IsTurned, one_if, gives_small, refuses_small, turn_open, turn_unframed, turn_unlisted, turn_unanswered, errand_discards, errand_pops, turns_of, cleared_of, emptied_out, is_small_alloc, is_small_free}
+use Rattle.sound_state.proofs.shared.AlikeLemmas.{Excepts, each-caller, same-superblock}
+use Rattle.sound_state.proofs.stacks.StackEffects.{Restacks, IsNoHead}
+use Rattle.sound_state.proofs.shared.SumLemmas.{callers-moved, sum-same, sum-least}
+
+-- what is remembered of a word is of no head, and a next word is remembered with a tag that its head has or had
+abbrev IsTimely : State → Recall → Type 0
+IsTimely s (nexts seat pile h below) = h.tag ≤ (head_of (s.word (head_name seat pile))).tag
+IsTimely s (says n w) = IsNoHead n
+IsTimely s r = Unit {0}
+
+-- the same for all recalls of a list, where none is a next word
+abbrev is_no_head : WordName → Bool
+is_no_head name.FrameHead = false
+is_no_head (name.ListHead class) = false
+is_no_head n = true
+
+abbrev is_timely : Recall → Bool
+is_timely (nexts seat pile h below) = false
+is_timely (says n w) = is_no_head n
+is_timely r = true
+
+abbrev are_timely : List Recall → Bool
+are_timely [] = true
+are_timely (r ∷ rest) = is_timely r && are_timely rest
+
+no_head : (n : WordName) → is_no_head n ≡ true → IsNoHead n
+no_head name.FrameHead is = absurd (cc)
+no_head (name.ListHead class) is = absurd (cc)
+no_head (name.Arena i) is = tt
+no_head (name.Anchor i) is = tt
+no_head (name.Next i) is = tt
+no_head (name.Info i) is = tt
+no_head (name.Active i j) is = tt
+no_head (name.Slot i j) is = tt
+no_head (name.FrameNext i) is = tt
+no_head name.DescHead is = tt
+no_head (name.Hazard i) is = tt
+no_head name.Units is = tt
+no_head (name.Shelf i) is = tt
+
+timely-one : (s : State) (r : Recall) → is_timely r ≡ true → IsTimely s r
+timely-one s (bound_for d c) is = tt
+timely-one s (located d f c) is = tt
+timely-one s (bound_at d f c) is = tt
+timely-one s (pops d a) is = tt
+timely-one s (links d a prefix) is = tt
+timely-one s (tops seat p head) is = tt
+timely-one s (nexts seat p head below) is = absurd (cc)
+timely-one s (tops_exist seat p head) is = tt
+timely-one s (says n w) is = no_head n is
+timely-one s (made f c blocks) is = tt
+timely-one s (in_use a) is = tt
+timely-one s (emptied d) is = tt
+timely-one s (noted d next) is = tt
+timely-one s (owns place k) is = tt
+timely-one s (owns_all place n) is = tt
+timely-one s (looked c) is = tt
+
+both-timely : (a b : Bool) → (a && b) ≡ true → (a ≡ true) × (b ≡ true)
+both-timely true b is = (refl, is)
+both-timely false b is = absurd (cc)
+
+timely-all : (s : State) (rs : List Recall) → are_timely rs ≡ true → All (IsTimely s) rs
+timely-all s [] is = All-nil (IsTimely s)
+timely-all s (r ∷ rest) is =
+    let both = both-timely (is_timely r) (are_timely rest) is in
+    All-cons (IsTimely s) r rest (timely-one s r both.0) (timely-all s rest both.1)
+
+-- at most points none is
+block-timely : (p : BlockPoint) → are_timely (block_recalls p) ≡ true
+block-timely p = grind (arith)
+
+onward-timely : (s : SeatFields) (o : Onward) → are_timely (onward_recalls s o) ≡ true
+onward-timely s o = grind (arith)
+
+desc-timely : (p : DescPoint) (o : Onward) → are_timely (desc_recalls p o) ≡ true
+desc-timely p o = grind (arith)
+
+partial-timely : (p : PartialPoint) (o : Onward) → are_timely (partial_recalls p o) ≡ true
+partial-timely p o = grind (arith)
+
+large-timely : (p : LargePoint) → are_timely (large_recalls p) ≡ true
+large-timely p = grind (arith)
+
+push-timely : (pile : Pile) (i : ℕ) → is_no_head (next_name pile i) ≡ true
+push-timely pile i = grind (arith)
+
+stack-timely :
+    (g : Geometry) (s : State) (l : Lists) (i : ℕ) (p : StackPoint) (o : Onward) → All (IsSo g s l i) (stack_recalls p o)
+    → All (IsTimely s) (stack_recalls p o)
+stack-timely g s l i (stack.LoadTop seat pile) o so = timely-all s (onward_recalls seat o) (onward-timely seat o)
+stack-timely g s l i (stack.LoadBelow seat pile h) o so = timely-all s (tops seat pile h ∷ onward_recalls seat o) (onward-timely seat o)
+stack-timely g s l i (stack.PopTop seat pile h below) o so =
+    let rest = All-tail (IsSo g s l i) (nexts seat pile h below) (tops seat pile h ∷ onward_recalls seat o) so in
+    let top = All-head (IsSo g s l i) (tops seat pile h) (onward_recalls seat o) rest in
+    All-cons (IsTimely s) (nexts seat pile h below) (tops seat pile h ∷ onward_recalls seat o) top.tag
+    (timely-all s (tops seat pile h ∷ onward_recalls seat o) (onward-timely seat o))
+stack-timely g s l i (stack.ConfirmEmpty seat pile h) o so = timely-all s (onward_recalls seat o) (onward-timely seat o)
+stack-timely g s l i (stack.LoadTopToPush seat pile j) o so = timely-all s (onward_recalls seat o) (onward-timely seat o)
+stack-timely g s l i (stack.StoreBelow seat pile j h) o so = timely-all s (tops_exist seat pile h ∷ onward_recalls seat o) (onward-timely seat o)
+stack-timely g s l i (stack.PushTop seat pile j h) o so =
+    timely-all s (says (next_name pile j) h.top ∷ tops_exist seat pile h ∷ onward_recalls seat o)
+    (rw (push-timely pile j, onward-timely seat o) refl)
+stack-timely g s l i (stack.Popped seat pile j) o so = All-nil (IsTimely s)
+stack-timely g s l i (stack.FoundEmpty seat pile h) o so = All-nil (IsTimely s)
+stack-timely g s l i (stack.ConfirmedEmpty seat pile) o so = All-nil (IsTimely s)
+stack-timely g s l i (stack.Pushed seat pile) o so = All-nil (IsTimely s)
+
+all-timely :
+    (g : Geometry) (s : State) (l : Lists) (i : ℕ) (p : Point) → All (IsSo g s l i) (recalls_of p) → All (IsTimely s) (recalls_of p)
+unfolding recalls_of
+all-timely g s l i point.Idle so = All-nil (IsTimely s)
+all-timely g s l i (point.Block p o) so = timely-all s (block_recalls p) (block-timely p)
+all-timely g s l i (point.Stack p o) so = stack-timely g s l i p o so
+all-timely g s l i (point.Desc p o) so = timely-all s (desc_recalls p o) (desc-timely p o)
+all-timely g s l i (point.Partial p o) so = timely-all s (partial_recalls p o) (partial-timely p o)
+all-timely g s l i (point.Large p o) so = timely-all s (large_recalls p) (large-timely p)
+
+anchor-restacked : (g : Geometry) (s : State) (l : Lists) (who : ℕ) (e : ErrandFields) (s' : State) (l' : Lists) → Restacks g s l who e s' l' → (d : ℕ) → anchor_for s' d ≡ anchor_for s d
+anchor-restacked g s l who e s' l' h d = ap anchor_of (h.word (name.Anchor d) tt)
+
+info-restacked : (g : Geometry) (s : State) (l : Lists) (who : ℕ) (e : ErrandFields) (s' : State) (l' : Lists) → Restacks g s l who e s' l' → (d : ℕ) → info_for s' d ≡ info_for s d
+info-restacked g s l who e s' l' h d = ap (λ w. info_or_zero (info_of w)) (h.word (name.Info d) tt)
+
+-- what is away, and EMPTY is bound to nothing
+empty-unbound : (b : Bool) (p : Phase) → p ≡ phase.Empty → (b && not (is_empty p)) ≡ false
+empty-unbound true p is = rw is refl
+empty-unbound false p is = refl
+
+bound-restacked : (g : Geometry) (s : State) (l : Lists) (who : ℕ) (e : ErrandFields) (s' : State) (l' : Lists) → Restacks g s l who e s' l' → (d : ℕ) → is_bound g s' l' d ≡ is_bound g s l d
+bound-restacked g s l who e s' l' h d =
+    elim (h.away d) [
+      | inl same ↦ rw (h.available, same, anchor-restacked g s l who e s' l' h d) refl
+      | inr more ↦
+          empty-unbound (away_of g s' l' d == 0) (anchor_for s' d).state (ap (λ a. a.state) (anchor-restacked g s l who e s' l' h d) ∙ more.0)
+          ∙ sym (empty-unbound (away_of g s l d == 0) (anchor_for s d).state more.0)
+    ]
+
+-- no more are EMPTY and out
+out-least : (m n : ℕ) (b : Bool) → m ≤ n → one_if ((n == 0) && b) ≤ one_if ((m == 0) && b)
+out-least m n b most = grind (arith, most)
+
+out-restacked : (g : Geometry) (s : State) (l : Lists) (who : ℕ) (e : ErrandFields) (s' : State) (l' : Lists) → Restacks g s l who e s' l' → (d : ℕ) → emptied_out g s' l' d ≤ emptied_out g s l d
+out-restacked g s l who e s' l' h d =
+    let grows : away_of g s l d ≤ away_of g s' l' d =
+    elim (h.away d) [
+      | inl same ↦ omega (arith, same, ap (occurs d) h.available)
+      | inr more ↦ omega (arith, more.1, ap (occurs d) h.available)
+    ] in
+    subst (λ a. one_if ((away_of g s' l' d == 0) && is_empty a.state) ≤ emptied_out g s l d) (sym (anchor-restacked g s l who e s' l' h d))
+    (out-least (away_of g s l d) (away_of g s' l' d) (is_empty (anchor_for s d).state) grows)
+
+live-restacked : (g : Geometry) (s : State) (l : Lists) (who : ℕ) (e : ErrandFields) (s' : State) (l' : Lists) → Restacks g s l who e s' l' → (place : ℕ) → live_at s' place ≡ live_at s place
+live-restacked g s l who e s' l' h place = ap (λ e. is_there (block_at place (pool_of e))) h.history
+
+superblock-restacked : (g : Geometry) (s : State) (l : Lists) (who : ℕ) (e : ErrandFields) (s' : State) (l' : Lists) → Restacks g s l who e s' l' → (d : ℕ) → superblock_of g s' d ≡ superblock_of g s d
+superblock-restacked g s l who e s' l' h d =
+    let i = info-restacked g s l who e s' l' h d in
+    let next : link_in s'.word (info_for s' d).frame (info_for s' d).class ≡ link_in s.word (info_for s d).frame (info_for s d).class =
+    fun_ext (λ k. ap link_of (h.word (prefix_name (info_for s' d).frame (info_for s' d).class k) tt ∙ ap (λ x. s.word (prefix_name x.frame x.class k)) i)) in
+    let live : (λ k. live_at s' (block_place (info_for s' d).frame (info_for s' d).class k)) ≡ (λ k. live_at s (block_place (info_for s d).frame (info_for s d).class k)) =
+    fun_ext (λ k. live-restacked g s l who e s' l' h (block_place (info_for s' d).frame (info_for s' d).class k) ∙ ap (λ x. live_at s (block_place x.frame x.class k)) i) in
+    same-superblock _ _ _ _ _ _ _ _ _ _ _ _ (anchor-restacked g s l who e s' l' h d) (h.reserved d) (h.waits d) next live (ap (λ x. block_count_of x.class) i)
+
+fills-restacked : (g : Geometry) (s : State) (l : Lists) (who : ℕ) (e : ErrandFields) (s' : State) (l' : Lists) → Restacks g s l who e s' l' → (f d : ℕ) → fills g s' l' f d ≡ fills g s l f d
+fills-restacked g s l who e s' l' h f d = rw (bound-restacked g s l who e s' l' h d, h.waits d, info-restacked g s l who e s' l' h d) refl
+
+-- what is said of a descriptor's word or anchor stays so
+partly-restacked : (g : Geometry) (s : State) (l : Lists) (who : ℕ) (e : ErrandFields) (s' : State) (l' : Lists) → Restacks g s l who e s' l' → (d c : ℕ) → IsPartlyUsed s d c → IsPartlyUsed s' d c
+partly-restacked g s l who e s' l' h d c k = record {
+  class = ap (λ x. x.class) (info-restacked g s l who e s' l' h d) ∙ k.class;
+  state = subst (λ a. ((a.state ≡ phase.Partial) × (1 ≤ a.count)) ⊎ (a.state ≡ phase.Empty)) (sym (anchor-restacked g s l who e s' l' h d)) k.state;
+}
+
+active-restacked : (g : Geometry) (s : State) (l : Lists) (who : ℕ) (e : ErrandFields) (s' : State) (l' : Lists) → Restacks g s l who e s' l' → (d c : ℕ) → IsActive s d c → IsActive s' d c
+active-restacked g s l who e s' l' h d c k = record {
+  class = ap (λ x. x.class) (info-restacked g s l who e s' l' h d) ∙ k.class;
+  state = ap (λ a. a.state) (anchor-restacked g s l who e s' l' h d) ∙ k.state;
+}
+
+without-restacked : (g : Geometry) (s : State) (l : Lists) (who : ℕ) (e : ErrandFields) (s' : State) (l' : Lists) → Restacks g s l who e s' l' → (d : ℕ) → IsWithout s d → IsWithout s' d
+without-restacked g s l who e s' l' h d k = subst (λ a. (a.state ≡ phase.Active) ⊎ (a.state ≡ phase.Empty)) (sym (anchor-restacked g s l who e s' l' h d)) k
+
+kept_as-restacked :
+    (g : Geometry) (s : State) (l : Lists) (who : ℕ) (e : ErrandFields) (s' : State) (l' : Lists) → Restacks g s l who e s' l' → (status : Status) (d c : ℕ) → IsKeptAs s status d c
+    → IsKeptAs s' status d c
+kept_as-restacked g s l who e s' l' h reserving d c k = active-restacked g s l who e s' l' h d c k
+kept_as-restacked g s l who e s' l' h waiting d c k = active-restacked g s l who e s' l' h d c k
+kept_as-restacked g s l who e s' l' h partly_used d c k = partly-restacked g s l who e s' l' h d c k
+kept_as-restacked g s l who e s' l' h on_its_way d c k = without-restacked g s l who e s' l' h d k
+
+located-restacked : (g : Geometry) (s : State) (l : Lists) (who : ℕ) (e : ErrandFields) (s' : State) (l' : Lists) → Restacks g s l who e s' l' → (d f c : ℕ) → IsLocated s d f c → IsLocated s' d f c
+located-restacked g s l who e s' l' h d f c k = record {
+  frame = ap (λ x. x.frame) (info-restacked g s l who e s' l' h d) ∙ k.frame;
+  class = ap (λ x. x.class) (info-restacked g s l who e s' l' h d) ∙ k.class;
+}
+
+owned-restacked : (g : Geometry) (s : State) (l : Lists) (who : ℕ) (e : ErrandFields) (s' : State) (l' : Lists) → Restacks g s l who e s' l' → (i place : ℕ) (n : Need) → IsOwned s i place n → IsOwned s' i place n
+owned-restacked g s l who e s' l' h i place n k = record {
+  block = (
+    k.block.0,
+    ap (λ e. block_at place (pool_of e)) h.history ∙ k.block.1,
+    k.block.2,
+    k.block.3,
+  );
+}
+
+next-restacked :
+    (g : Geometry) (s : State) (l : Lists) (who : ℕ) (e : ErrandFields) (s' : State) (l' : Lists) → Restacks g s l who e s' l' → (p : Pile) (i : ℕ)
+    → s'.word (next_name p i) ≡ s.word (next_name p i)
+next-restacked g s l who e s' l' h Frames i = h.word (name.FrameNext i) tt
+next-restacked g s l who e s' l' h Partials i = h.word (name.Next i) tt
+
+top-restacked :
+    (g : Geometry) (s : State) (l : Lists) (who : ℕ) (e : ErrandFields) (s' : State) (l' : Lists) → Restacks g s l who e s' l' → (seat : SeatFields) (p : Pile) (head : HeadFields)
+    → IsTopStill s l seat p head → IsTopStill s' l' seat p head
+top-restacked g s l who e s' l' h seat p head k =
+    let grows = h.tag seat p in
+    record {
+      tag = omega (arith, k.tag, grows);
+      top = λ is.
+          let old : 0 < occurs (head.top - 1) (list_of l seat p) = k.top (omega (arith, is, k.tag, grows)) in
+          omega (arith, old, h.still seat p (omega (arith, is, k.tag, grows)) (head.top - 1));
+    }
+
+-- what is remembered stays so
+so-restacked :
+    (g : Geometry) (s : State) (l : Lists) (who : ℕ) (e : ErrandFields) (s' : State) (l' : Lists) → Restacks g s l who e s' l' → (i : ℕ) (r : Recall) → IsTimely s r → IsSo g s l i r → IsSo g s' l' i r
+so-restacked g s l who e s' l' h i (bound_for d c) timely so =
+    (subst IsTrue (sym (bound-restacked g s l who e s' l' h d)) so.0, ap (λ x. x.class) (info-restacked g s l who e s' l' h d) ∙ so.1)
+so-restacked g s l who e s' l' h i (located d f c) timely so = located-restacked g s l who e s' l' h d f c so
+so-restacked g s l who e s' l' h i (bound_at d f c) timely so =
+    (subst IsTrue (sym (bound-restacked g s l who e s' l' h d)) so.0, located-restacked g s l who e s' l' h d f c so.1)
+so-restacked g s l who e s' l' h i (pops d a) timely so = subst (λ b. IsPopped b a) (sym (superblock-restacked g s l who e s' l' h d)) so
+so-restacked g s l who e s' l' h i (links d a prefix) timely so =
+    let b = superblock-restacked g s l who e s' l' h d in
+    λ is. ap (λ x. x.next a.avail) b ∙ so (is ∙ ap (λ x. x.tag) (anchor-restacked g s l who e s' l' h d))
+so-restacked g s l who e s' l' h i (tops seat p head) timely so = top-restacked g s l who e s' l' h seat p head so
+so-restacked g s l who e s' l' h i (nexts seat p head below) timely so =
+    λ is. next-restacked g s l who e s' l' h p (head.top - 1) ∙ so (omega (arith, is, timely, h.tag seat p))
+so-restacked g s l who e s' l' h i (tops_exist seat p head) timely so = so
+so-restacked g s l who e s' l' h i (says n w) timely so = (so.0, h.word n timely ∙ so.1)
+so-restacked g s l who e s' l' h i (made f c blocks) timely so = λ k below. h.word (prefix_name f c k) tt ∙ so k below
+so-restacked g s l who e s' l' h i (in_use a) timely so = so
+so-restacked g s l who e s' l' h i (emptied d) timely so = record {
+  state = ap (λ a. a.state) (anchor-restacked g s l who e s' l' h d) ∙ so.state;
+  unavailable = ap (occurs d) h.available ∙ so.unavailable;
+  standing = omega (arith, h.ways d, so.standing);
+}
+so-restacked g s l who e s' l' h i (noted d next) timely so = λ on. h.word (name.Next d) tt ∙ so (subst (λ x. 0 < occurs d x) h.available on)
+so-restacked g s l who e s' l' h i (owns place k) timely so = (so.0, owned-restacked g s l who e s' l' h i place so.0 so.1, so.2)
+so-restacked g s l who e s' l' h i (owns_all place n) timely so = owned-restacked g s l who e s' l' h i place n so
+so-restacked g s l who e s' l' h i (looked c) timely so = subst (λ e. EndsWith (own i e) (Looked i c)) (sym h.history) so
+
+kept-restacked : (g : Geometry) (s : State) (l : Lists) (who : ℕ) (e : ErrandFields) (s' : State) (l' : Lists) → Restacks g s l who e s' l' → IsKept g s l → IsKept g s' l'
+kept-restacked g s l who e s' l' h kept =
+    record {
+      once = λ d has. h.places d ∙ kept.once d has;
+      active_words = λ heap class has_heap has_class.
+          subst (λ w. IsSome (active_of w)) (sym (h.word (name.Active heap class) tt)) (kept.active_words heap class has_heap has_class);
+      slot_words = λ heap class has_heap has_class.
+          subst (λ w. w ≤ descriptor_count g) (sym (h.word (name.Slot heap class) tt)) (kept.slot_words heap class has_heap has_class);
+      active = λ heap class d credits has_heap has_class is.
+          let a = kept.active heap class d credits has_heap has_class (ap active_of (sym (h.word (name.Active heap class) tt)) ∙ is) in
+          (a.0, active-restacked g s l who e s' l' h d class a.1);
+      slot = λ heap class d has_heap has_class is.
+          let a = kept.slot heap class d has_heap has_class (sym (h.word (name.Slot heap class) tt) ∙ is) in
+          (a.0, partly-restacked g s l who e s' l' h d class a.1);
+      full = λ d has is.
+          ap (λ a. a.count) (anchor-restacked g s l who e s' l' h d)
+          ∙ kept.full d has (ap (λ a. a.state) (sym (anchor-restacked g s l who e s' l' h d)) ∙ is);
+      listed = λ class has k d lt. partly-restacked g s l who e s' l' h _ class (h.partly class has k d lt);
+      available = subst (All (IsWithout s')) (sym h.available) (λ k d lt. without-restacked g s l who e s' l' h _ (kept.available k d lt));
+      retired =
+          each-caller g (λ i e. All (IsWithout s') e.retired) s.errand who e s'.errand h.moves
+          (λ k d lt. without-restacked g s l who e s' l' h _ (h.may.retired k d lt)) (λ i has k d lt. without-restacked g s l who e s' l' h _ (kept.retired i has k d lt));
+      errand =
+          each-caller g (λ i e. All (λ k. IsKeptAs s' k.status k.desc k.class) (holds_of e.point).kept) s.errand who e s'.errand h.moves
+          (λ k d lt. kept_as-restacked g s l who e s' l' h _ _ _ (h.may.kept k d lt)) (λ i has k d lt. kept_as-restacked g s l who e s' l' h _ _ _ (kept.errand i has k d lt));
+    }
+
+chained-restacked : (g : Geometry) (s : State) (l : Lists) (who : ℕ) (e : ErrandFields) (s' : State) (l' : Lists) → Restacks g s l who e s' l' → AreChained g s l → AreChained g s' l'
+chained-restacked g s l who e s' l' h chained = record {
+  infos = λ d has. subst (λ w. IsSome (info_in g w)) (sym (h.word (name.Info d) tt)) (chained.infos d has);
+  chained = λ d has bound.
+      subst IsChained (sym (superblock-restacked g s l who e s' l' h d)) (chained.chained d has (subst IsTrue (bound-restacked g s l who e s' l' h d) bound));
+}
+
+framed-restacked : (g : Geometry) (s : State) (l : Lists) (who : ℕ) (e : ErrandFields) (s' : State) (l' : Lists) → Restacks g s l who e s' l' → IsFramed g s l → IsFramed g s' l'
+framed-restacked g s l who e s' l' h framed = record {
+  once = λ f has.
+      let filled : sum_below (descriptor_count g) (fills g s' l' f) ≡ sum_below (descriptor_count g) (fills g s l f) =
+      sum-same (descriptor_count g) (fills g s l f) (fills g s' l' f) (λ d lt. fills-restacked g s l who e s' l' h f d) in
+      omega (arith, filled, h.frames f, framed.once f has);
+}
+
+recalls-restacked :
+    (g : Geometry) (s : State) (l : Lists) (who : ℕ) (e : ErrandFields) (s' : State) (l' : Lists) → Restacks g s l who e s' l'
+    → (i : ℕ) (p : Point) → All (IsSo g s l i) (recalls_of p) → All (IsSo g s' l' i) (recalls_of p)
+recalls-restacked g s l who e s' l' h i p so =
+    let times = all-timely g s l i p so in
+    λ k d lt. so-restacked g s l who e s' l' h i _ (times k d lt) (so k d lt)
+
+remembered-restacked :
+    (g : Geometry) (s : State) (l : Lists) (who : ℕ) (e : ErrandFields) (s' : State) (l' : Lists) → Restacks g s l who e s' l' → IsRemembered g s l
+    → IsRemembered g s' l'
+remembered-restacked g s l who e s' l' h remembered = record {
+  so =
+      each-caller g (λ i e. All (IsSo g s' l' i) (recalls_of e.point)) s.errand who e s'.errand h.moves
+      (recalls-restacked g s l who e s' l' h who e.point h.may.so)
+      (λ i has. recalls-restacked g s l who e s' l' h i (s.errand i).point (remembered.so i has));
+}
+
+guards-restacked :
+    (g : Geometry) (s : State) (l : Lists) (who : ℕ) (e : ErrandFields) (s' : State) (l' : Lists) → Restacks g s l who e s' l' → (i d : ℕ) → i < g.callers
+    → Guards s' i d → Guards s i d
+guards-restacked g s l who e s' l' h i d has guards =
+    record {
+      word = sym (h.word (name.Hazard i) tt) ∙ guards.word;
+      guard =
+          each-caller g
+          (λ i e. s.word (name.Hazard i) ≡ d + 1 → IsGuard (holds_of e.point).hazard → IsGuard (holds_of (s.errand i).point).hazard) s.errand who e
+          s'.errand h.moves (h.may.guard d) (λ i has word no_change. no_change) i has (sym (h.word (name.Hazard i) tt) ∙ guards.word)
+          guards.guard;
+    }
+
+guarded-restacked :
+    (g : Geometry) (s : State) (l : Lists) (who : ℕ) (e : ErrandFields) (s' : State) (l' : Lists) → Restacks g s l who e s' l' → IsGuarded g s → IsGuarded g s'
+guarded-restacked g s l who e s' l' h guarded = record {
+  words = λ i has.
+      subst (λ w. IsHazard (holds_of (s'.errand i).point).hazard w) (sym (h.word (name.Hazard i) tt))
+      (each-caller g (λ i e. IsHazard (holds_of e.point).hazard (s.word (name.Hazard i))) s.errand who e s'.errand h.moves h.may.hazard
+      guarded.words i has);
+  pushed = λ i other d has has_other guards is.
+      guarded.pushed i other d has has_other (guards-restacked g s l who e s' l' h i d has guards)
+      (each-caller g (λ j e. (d : ℕ) → pushed_by e.point ≡ Some d → pushed_by (s.errand j).point ≡ Some d) s.errand who e s'.errand h.moves
+      h.may.pushed (λ j has d is. is) other has_other d is);
+  passed = λ i other d has has_other guards listed below.
+      each-caller g
+      (λ j e. Contains e.retired d → i < passed_by e.point → slice_index (held_by e.point) i ≡ d + 1) s.errand who e s'.errand h.moves
+      (λ listed below. let bad : ⊥ = omega (arith, below, h.may.passed) in absurd bad)
+      (λ j has_j listed below. guarded.passed i j d has has_j (guards-restacked g s l who e s' l' h i d has guards) listed below)
+      other has_other listed below;
+  unread = λ i k has passed below.
+      each-caller g (λ j e. passed_by e.point ≤ k → k < length (held_by e.point) → slice_index (held_by e.point) k ≡ 0) s.errand who e s'.errand h.moves
+      (λ passed below. h.may.unread k below)
+      (λ j has_j passed below. guarded.unread j k has_j passed below) i has passed below;
+  full =
+      each-caller g (λ i e. spare_of e.point ≡ 1 → length e.retired ≡ g.callers + 1) s.errand who e s'.errand h.moves h.may.full guarded.full;
+}
+
+turned-restacked :
+    (g : Geometry) (s : State) (l : Lists) (who : ℕ) (e : ErrandFields) (s' : State) (l' : Lists) → Restacks g s l who e s' l' → IsTurned g s l → IsTurned g s' l'
+turned-restacked g s l who e s' l' h turned =
+    let moved = λ (weight : ErrandFields → ℕ). callers-moved g weight s.errand who e s'.errand h.caller h.moves in
+    let emptied_less : sum_below (descriptor_count g) (emptied_out g s' l') ≤ sum_below (descriptor_count g) (emptied_out g s l) =
+    sum-least (descriptor_count g) (emptied_out g s' l') (emptied_out g s l) (λ d lt. out-restacked g s l who e s' l' h d) in
+    let frees : count_by (is_small_free g) s'.history ≡ count_by (is_small_free g) s.history = ap (count_by (is_small_free g)) h.history in
+    let allocs : count_by is_small_alloc s'.history ≡ count_by is_small_alloc s.history = ap (count_by is_small_alloc) h.history in
+    record {
+      own_turns = λ i has.
+          subst (λ e. count_by (gives_small i) e + turn_open (s'.errand i) ≤ (s'.errand i).turns) (sym h.history)
+          (each-caller g (λ i e. count_by (gives_small i) s.history + turn_open e ≤ e.turns) s.errand who e s'.errand h.moves h.may.own_turns
+          turned.own_turns i has);
+      own_lost = λ i has.
+          subst
+          (λ past. (s'.errand i).turns + errand_discards (s'.errand i)
+          ≤ count_by (gives_small i) past + count_by (refuses_small i) past + (s'.errand i).lost + turn_unanswered (s'.errand i)) (sym h.history)
+          (each-caller g
+          (λ i e. e.turns + errand_discards e
+          ≤ count_by (gives_small i) s.history + count_by (refuses_small i) s.history + e.lost + turn_unanswered e) s.errand who e s'.errand h.moves
+          h.may.own_lost turned.own_lost i has);
+      anchor_tags = λ d has. omega (arith, turned.anchor_tags d has, ap (λ a. a.tag) (anchor-restacked g s l who e s' l' h d), allocs);
+      frame_tag =
+          omega (arith, turned.frame_tag, moved turn_unframed, moved turns_of, h.frame_turns);
+      emptied = omega (arith, turned.emptied, emptied_less, moved cleared_of, h.may.cleared, frees);
+      list_tags = λ class has.
+          omega (arith, turned.list_tags class has, moved errand_pops, moved turn_unlisted, moved turns_of, moved cleared_of, h.may.cleared, h.list_turns class, frees);
+    }
+
+excepted-restacked :
+    (g : Geometry) (s : State) (l : Lists) (who : ℕ) (e : ErrandFields) (s' : State) (l' : Lists) → Restacks g s l who e s' l' → (place : ℕ)
+    → IsExcepted g s place → IsExcepted g s' place
+excepted-restacked g s l who e s' l' h place x =
+    let i = x.who.0 in
+    record {
+      who = (
+        i,
+        x.who.1,
+        each-caller g (λ j e. Excepts (s.errand j) place → Excepts e place) s.errand who e s'.errand h.moves (h.may.excepts place) (λ j has same. same) i
+            x.who.1 x.who.2,
+      );
+    }
+
+tie-restacked :
+    (g : Geometry) (s : State) (l : Lists) (who : ℕ) (e : ErrandFields) (s' : State) (l' : Lists) → Restacks g s l who e s' l' → (place w : ℕ)
+    → IsExcepted g s place ⊎ (s.word (name.Arena place) ≡ w) → IsExcepted g s' place ⊎ (s'.word (name.Arena place) ≡ w)
+tie-restacked g s l who e s' l' h place w (inl x) = inl (excepted-restacked g s l who e s' l' h place x)
+tie-restacked g s l who e s' l' h place w (inr is) = inr (h.word (name.Arena place) tt ∙ is)
+
+tied-restacked :
+    (g : Geometry) (s : State) (l : Lists) (who : ℕ) (e : ErrandFields) (s' : State) (l' : Lists) → Restacks g s l who e s' l' → IsTied g s l → IsTied g s' l'
+tied-restacked g s l who e s' l' h tied =
+    let was = λ (place : ℕ) (b : Block) (live : IsLive s' place b). ap (λ past. block_at place (pool_of past)) (sym h.history) ∙ live in
+    record {
+      small = λ place class b live is.
+          let old = tied.small place class b (was place b live) is in (
+            old.0,
+            record {
+              exists = old.1.exists;
+              bound = subst IsTrue (sym (bound-restacked g s l who e s' l' h old.0)) old.1.bound;
+              located = located-restacked g s l who e s' l' h old.0 (frame_of place) class old.1.located;
+            },
+            tie-restacked g s l who e s' l' h place (2 * old.0) old.2,
+          );
+      large = λ place units b live is. tie-restacked g s l who e s' l' h place (2 * units + 1) (tied.large place units b (was place b live) is);
+      units = λ unit has.
+          let old = tied.units unit has in (
+            λ bit. let c = old.0 (ap (λ w. bit_at w unit) (sym (h.word name.Units tt)) ∙ bit) in
+                (c.0, c.1, c.2, ap (λ past. block_at (unit_place g.frames c.1) (pool_of past)) h.history ∙ c.3, c.4, c.5, c.6),
+            λ c. ap (λ w. bit_at w unit) (h.word name.Units tt)
+                ∙ old.1 (c.0, c.1, c.2, was (unit_place g.frames c.1) c.0 c.3, c.4, c.5, c.6),
+          );
+      no_more_units = subst (λ w. w < 2 ^ g.units) (sym (h.word name.Units tt)) tied.no_more_units;
+      shelved = λ k place b has live is. h.word (name.Shelf k) tt ∙ tied.shelved k place b has (was place b live) is;
+      bare_shelf = λ k has none. h.word (name.Shelf k) tt ∙ tied.bare_shelf k has (λ place b live is. none place b (ap (λ past. block_at place (pool_of past)) h.history ∙ live) is);
+      contents = λ place i v b live is. h.word (name.Arena (place + 1 + i)) tt ∙ tied.contents place i v b (was place b live) is;
+      hands =
+          each-caller g (λ i e. All (λ x. IsOwned s' i x.place x.need) (holds_of e.point).hands) s.errand who e s'.errand h.moves
+          (λ k d lt. owned-restacked g s l who e s' l' h who _ _ (h.may.hands k d lt)) (λ i has k d lt. owned-restacked g s l who e s' l' h i _ _ (tied.hands i has k d lt));
+      frees =
+          each-caller g (λ i e. All (λ x. IsOwned s' i x.place x.need) (holds_of e.point).frees) s.errand who e s'.errand h.moves
+          (λ k d lt. owned-restacked g s l who e s' l' h who _ _ (h.may.frees k d lt)) (λ i has k d lt. owned-restacked g s l who e s' l' h i _ _ (tied.frees i has k d lt));
+    }
+
+-- so the state stays sound, with the new lists
+pub restacked-sound :
+    (g : Geometry) (s : State) (l : Lists) (who : ℕ) (e : ErrandFields) (s' : State) (l' : Lists) → Restacks g s l who e s' l'
+    → IsSoundWith g s l → IsSoundWith g s' l'
+restacked-sound g s l who e s' l' h sound = record {
+  words = h.below;
+  errands = each-caller g (IsOwnErrand g) s.errand who e s'.errand h.moves h.may.rule sound.errands;
+  listed = h.listed;
+  kept = kept-restacked g s l who e s' l' h sound.kept;
+  chained = chained-restacked g s l who e s' l' h sound.chained;
+  framed = framed-restacked g s l who e s' l' h sound.framed;
+  remembered = remembered-restacked g s l who e s' l' h sound.remembered;
+  guarded = guarded-restacked g s l who e s' l' h sound.guarded;
+  stocked = record { most = λ class has. omega (arith, sound.stocked.most class has, h.stock class) };
+  turned = turned-restacked g s l who e s' l' h sound.turned;
+  tied = tied-restacked g s l who e s' l' h sound.tied;
+}

@@ -1,0 +1,613 @@
+-- A won push onto a stack after which a descriptor is retired.
+use Rattle.std.proofs.Common.{ℕ, zero, suc, Bool, true, false, None, Some, ◌≡◌, ◌<◌, ◌≤◌, ◌+◌, ◌^◌, List, [], ◌∷◌, ◌++◌, length, refl, arith, ap, sym, subst, inl, inr, ◌∙◌}
+use Rattle.std.specs.Prelude.{◌==◌, ◌⊎◌, ◌&&◌, not, slice_index, replicate, All, Any, IsTrue, if◌then◌else◌}
+use Rattle.std.proofs.lemmas.Bool.{cases_eq, cond-false, eq-eqb, leb-true, ne_eqb}
+use Rattle.std.proofs.lemmas.List.{length-append}
+use Rattle.std.proofs.lemmas.List.Elements.{All-append, All-nil, All-cons, All-head, All-tail}
+use Rattle.std.proofs.Math.Nat.{mod-eq_of_lt}
+use Rattle.heap_geometry.specs.declared.geometry.Geometry.{Geometry}
+use Rattle.heap_geometry.specs.declared.limits.TheConstants.{CLASSES}
+use Rattle.packed_words.specs.declared.widths.TheConstants.{TOP_BITS}
+use Rattle.packed_words.specs.Head.{HeadFields, IsHead, head_of, head_word}
+use Rattle.packed_words.proofs.HeadLemmas.{head_of-head_word}
+use Rattle.word_plan.specs.declared.name.WordName.{WordName}
+use Rattle.word_plan.specs.declared.name.WordName.TheVariants as name
+use Rattle.word_plan.specs.Seats.{SeatFields}
+use Rattle.word_plan.specs.Words.{Writes}
+use Rattle.superblock_parts.specs.Chains.{occurs}
+use Rattle.superblock_parts.specs.declared.point.BlockPoint.TheVariants as block
+use Rattle.stack_parts.specs.declared.point.Pile.{Pile}
+use Rattle.stack_parts.specs.declared.point.Pile.TheVariants.{Frames, Partials}
+use Rattle.stack_parts.specs.declared.point.StackPoint.TheVariants as stack
+use Rattle.stack_parts.specs.Piles.{head_name, next_name, pile_limit, pushed_head}
+use Rattle.stack_parts.specs.Stacks.{Stacked, next_in}
+use Rattle.hazard_parts.specs.declared.point.DescPoint.TheVariants as desc
+use Rattle.errand_steps.specs.declared.next.Next.TheVariants.{Retire}
+use Rattle.errand_steps.specs.declared.onward.Onward.{Onward}
+use Rattle.errand_steps.specs.declared.onward.Onward.TheVariants as onward
+use Rattle.errand_steps.specs.declared.point.Point.{Point}
+use Rattle.errand_steps.specs.declared.point.Point.TheVariants.{Idle, Block, Stack, Desc}
+use Rattle.word_plan.specs.declared.action.Found.{Found}
+use Rattle.word_plan.specs.Actions.{name_of, after_action}
+use Rattle.word_plan.proofs.NameLemmas.{cases_name}
+use Rattle.hazard_parts.specs.declared.limits.TheConstants.{HELD_MOST}
+use Rattle.packed_words.specs.declared.anchor.State.TheVariants as phase
+use Rattle.errand_steps.specs.Errands.{ErrandFields, IsErrand, settle_of, course_of, plan_of, raised, one_more, is_full, is_spent, no_words, counts_won, counts_lost, counts_cleared}
+use Rattle.errand_steps.specs.Fits.{spare_of, pushed_by}
+use Rattle.errand_steps.proofs.ErrandLemmas.{settle_errand}
+use Rattle.errand_steps.specs.Events.{event_of}
+use Rattle.errand_steps.specs.Nexts.{next_of}
+use Rattle.errand_steps.specs.Onwards.{pushes}
+use Rattle.errand_steps.specs.Points.{plan_point_of}
+use Rattle.errand_steps.specs.Steps.{State, Step, found_at, name_at}
+use Rattle.sound_state.specs.Holdings.{Kept, Status, clear, keep, onward_holds, holds_of, waiting, partly_used, on_its_way}
+use Rattle.sound_state.specs.Guards.{IsGuard, IsHazard, passed_by, held_by}
+use Rattle.sound_state.specs.Superblocks.{anchor_for, kept_among, reserved_among}
+use Rattle.sound_state.specs.Turns.{one_if, in_turn, has_frame, has_partial, has_refused, is_discarding_at, pops_left}
+use Rattle.sound_state.specs.Keepers.{IsKeptAs, IsPartlyUsed, IsWithout}
+use Rattle.sound_state.specs.Lists.{Lists}
+use Rattle.sound_state.specs.Recalls.{IsSo, IsOwned, emptied, list_of, onward_recalls, recalls_of, tops_exist, says}
+use Rattle.sound_state.specs.Sound.{IsSoundWithoutCounts, IsSoundWith}
+use Rattle.sound_state.specs.Stock.{waits_in, stock_among}
+use Rattle.sound_state.proofs.shared.PointLemmas.{kept_places, fits-at, kept-at, so-at}
+use Rattle.sound_state.proofs.quiet.QuietStacks.{pile-stacked, pile-exists, push_top_lost-sound}
+use Rattle.sound_state.proofs.stacks.StackEffects.{MayStand}
+use Rattle.sound_state.proofs.quiet.QuietLemmas.{found_from}
+use Rattle.sound_state.proofs.stacks.StackSteps.{AreKept, limit-room, listed-with, partly-with, list-partly, keeps-less, in-hand, holds-true, keeps_list, push_going_on-sound}
+use Rattle.sound_state.proofs.stacks.StackShifts.{Exchanges, ErrandsBalanced, exchanges-sound, HoldsMore, OneMore, Balanced, with_list, more-pushed, more-balanced, balance-back, list-elsewhere}
+use Rattle.sound_state.proofs.shared.StepLemmas.{raised-least, raised-below}
+
+-- no word is read yet
+unread-none : (n i : ℕ) → slice_index (replicate n 0) i ≡ 0
+unread-none zero i = refl
+unread-none (suc n) zero = refl
+unread-none (suc n) (suc i) = unread-none n i
+
+-- the errand after a step that retires d
+abbrev retired_at : ErrandFields → Found → ℕ → Point → ℕ → ErrandFields
+retired_at e x d q t =
+    record e {
+      point = q;
+      retired = e.retired ++ d ∷ [];
+      turns = t;
+      won = raised (counts_won (plan_of e) x) e.won;
+      lost = raised (counts_lost e.point x) e.lost;
+      cleared = raised (counts_cleared e.point x) e.cleared;
+    }
+
+-- where the list is full a scan begins; else the call ends, or goes on with a turn where the caller has one left
+settle-full :
+    (e : ErrandFields) (x : Found) (seat : SeatFields) (d : ℕ) (o : Onward) → next_of e.point x ≡ Retire seat d o → is_full e ≡ true
+    → settle_of e x ≡ retired_at e x d (Desc (desc.ReadHazard seat no_words 0) o) e.turns
+unfolding settle_of course_of
+settle-full e x seat d o is full = rw (is, full) refl
+
+settle-ends :
+    (e : ErrandFields) (x : Found) (seat : SeatFields) (d : ℕ) → next_of e.point x ≡ Retire seat d onward.EndFree → is_full e ≡ false
+    → settle_of e x ≡ retired_at e x d Idle e.turns
+unfolding settle_of course_of
+settle-ends e x seat d is full = rw (is, full) refl
+
+settle-spent :
+    (e : ErrandFields) (x : Found) (seat : SeatFields) (d words : ℕ) → next_of e.point x ≡ Retire seat d (onward.Turn words)
+    → is_full e ≡ false → is_spent e ≡ true → settle_of e x ≡ retired_at e x d Idle e.turns
+unfolding settle_of course_of
+settle-spent e x seat d words is full spent = rw (is, full, spent) refl
+
+settle-turns :
+    (e : ErrandFields) (x : Found) (seat : SeatFields) (d words : ℕ) → next_of e.point x ≡ Retire seat d (onward.Turn words)
+    → is_full e ≡ false → is_spent e ≡ false
+    → settle_of e x ≡ retired_at e x d (Block (block.LoadActive seat) (onward.Alloc words)) (one_more e.turns)
+unfolding settle_of course_of
+settle-turns e x seat d words is full left = rw (is, full, left) refl
+
+-- how far a call's turn is at two points, with so many turns
+record RetireTurns (p q : Point) (n t : ℕ) : Type 0 where
+  under_way : one_if (in_turn q) + n ≤ one_if (in_turn p) + t
+  discards :
+      t + one_if (in_turn q && is_discarding_at q) + one_if (in_turn p && not (has_refused p))
+      ≤ n + one_if (in_turn p && is_discarding_at p) + one_if (in_turn q && not (has_refused q))
+  unframed : one_if (in_turn q && not (has_frame q)) + n ≤ one_if (in_turn p && not (has_frame p)) + t
+  pops :
+      pops_left q + one_if (in_turn q && not (has_partial q)) + n ≤ pops_left p + one_if (in_turn p && not (has_partial p)) + t
+
+-- a point at which a caller holds and remembers nothing, and has read no hazard word
+record StandsBare (q : Point) : Type 0 where
+  kept : (holds_of q).kept ≡ []
+  credits : (holds_of q).credits ≡ []
+  frames : (holds_of q).frames ≡ []
+  hands : (holds_of q).hands ≡ []
+  frees : (holds_of q).frees ≡ []
+  hazard : (holds_of q).hazard ≡ clear
+  recalls : recalls_of q ≡ []
+  pushed : pushed_by q ≡ None
+  passed : passed_by q ≡ 0
+  unread : (k : ℕ) → k < length (held_by q) → slice_index (held_by q) k ≡ 0
+  waits : (class : ℕ) → waits_in class q ≡ 0
+
+idle-bare : StandsBare Idle
+unfolding holds_of recalls_of
+idle-bare = record {
+  kept = refl;
+  credits = refl;
+  frames = refl;
+  hands = refl;
+  frees = refl;
+  hazard = refl;
+  recalls = refl;
+  pushed = refl;
+  passed = refl;
+  unread = λ k below. let bad : ⊥ = omega (arith, below) in absurd bad;
+  waits = λ class. refl;
+}
+
+active-bare : (seat : SeatFields) (o : Onward) → StandsBare (Block (block.LoadActive seat) o)
+unfolding holds_of recalls_of
+active-bare seat o = record {
+  kept = refl;
+  credits = refl;
+  frames = refl;
+  hands = refl;
+  frees = refl;
+  hazard = refl;
+  recalls = refl;
+  pushed = refl;
+  passed = refl;
+  unread = λ k below. let bad : ⊥ = omega (arith, below) in absurd bad;
+  waits = λ class. refl;
+}
+
+scan-bare : (seat : SeatFields) (o : Onward) → StandsBare (Desc (desc.ReadHazard seat no_words 0) o)
+unfolding holds_of recalls_of
+scan-bare seat o = record {
+  kept = refl;
+  credits = refl;
+  frames = refl;
+  hands = refl;
+  frees = refl;
+  hazard = refl;
+  recalls = refl;
+  pushed = refl;
+  passed = refl;
+  unread = λ k below. unread-none HELD_MOST k;
+  waits = λ class. refl;
+}
+
+-- one more entry of a list
+occurs-added : (x d : ℕ) (xs : List ℕ) → occurs x (xs ++ d ∷ []) ≡ occurs x xs + (if d == x then 1 else 0)
+occurs-added x d [] = omega arith
+occurs-added x d (y ∷ xs) = omega (arith, occurs-added x d xs)
+
+-- a descriptor that is retired: it was on its way there, or kept as a partly used one that is EMPTY
+abbrev MayRetire : State → Status → ℕ → Type 0
+MayRetire s status d = (status ≡ on_its_way) ⊎ ((status ≡ partly_used) × ((anchor_for s d).state ≡ phase.Empty))
+
+retire-places : (s : State) (status : Status) (d x class : ℕ) → MayRetire s status d → kept_places x (keep d class status) ≡ (if d == x then 1 else 0)
+retire-places s status d x class (inl is) = rw is (grind (arith))
+retire-places s status d x class (inr is) = rw (is.0) (grind (arith))
+
+retire-waits : (s : State) (status : Status) (d x class : ℕ) → MayRetire s status d → kept_among waiting x (keep d class status) ≡ 0
+retire-waits s status d x class (inl is) = rw is (grind (arith))
+retire-waits s status d x class (inr is) = rw (is.0) (grind (arith))
+
+way-one : (d x class : ℕ) → kept_among on_its_way x (keep d class on_its_way) ≡ (if d == x then 1 else 0)
+way-one d x class = grind (arith)
+
+way-none : (d x class : ℕ) → kept_among on_its_way x (keep d class partly_used) ≡ 0
+way-none d x class = grind (arith)
+
+-- what is away then
+retire-away :
+    (s : State) (status : Status) (d x class old new : ℕ) → MayRetire s status d
+    → new ≡ old + (if d == x then 1 else 0)
+    → (new ≡ old + kept_among on_its_way x (keep d class status))
+    ⊎ (((anchor_for s x).state ≡ phase.Empty) × (old + kept_among on_its_way x (keep d class status) ≤ new))
+retire-away s status d x class old new (inl is) added =
+    inl (rw is (omega (arith, added, way-one d x class)))
+retire-away s status d x class old new (inr is) added =
+    elim (cases_eq d x) [
+      | inl same ↦ inr (subst (λ y. (anchor_for s y).state ≡ phase.Empty) same is.1, rw (is.0) (omega (arith, added, way-none d x class)))
+      | inr differ ↦
+          inl (rw (is.0) (omega (arith, added, way-none d x class, cond-false {A = ℕ} (d == x) 1 0 (ne_eqb d x differ))))
+    ]
+
+without-retired : (s : State) (status : Status) (d class : ℕ) → MayRetire s status d → IsKeptAs s status d class → IsWithout s d
+without-retired s status d class (inl is) kept = subst (λ x. IsKeptAs s x d class) is kept
+without-retired s status d class (inr is) kept = inr is.1
+
+-- a head whose tag stays
+tag-stays :
+    (words words' : WordName → ℕ) (n m : WordName) (new : HeadFields) → IsHead new → Writes words n (head_word new) words'
+    → (head_of (words n)).tag ≡ new.tag → (head_of (words' m)).tag ≡ (head_of (words m)).tag
+tag-stays words words' n m new fits writes same =
+    elim (cases_name m n) [
+      | inl is ↦
+          subst (λ k. (head_of (words' k)).tag ≡ (head_of (words k)).tag) (sym is)
+          (ap (λ w. (head_of w).tag) writes.here ∙ ap (λ (x : HeadFields). x.tag) (head_of-head_word new fits) ∙ sym same)
+      | inr differ ↦ ap (λ w. (head_of w).tag) (writes.elsewhere m differ)
+    ]
+
+-- a won push onto a stack, after which d is retired and the caller stands bare
+record PushRetires (g : Geometry) (s : State) (l : Lists) (who : ℕ) (seat : SeatFields) (pile : Pile) (i : ℕ) (h : HeadFields) (o : Onward)
+    (d : ℕ) (status : Status) (q : Point) (t : ℕ) : Type 0 where
+  at : (s.errand who).point ≡ Stack (stack.PushTop seat pile i h) o
+  word : s.word (head_name seat pile) ≡ head_word h
+  settles : settle_of (s.errand who) (found_at s who) ≡ retired_at (s.errand who) (found_at s who) d q t
+  more : HoldsMore seat pile i (onward_holds seat o) (holds_of (Stack (stack.PushTop seat pile i h) o))
+  kept : (onward_holds seat o).kept ≡ keep d seat.class status
+  frames : (onward_holds seat o).frames ≡ []
+  credits : (holds_of (Stack (stack.PushTop seat pile i h) o)).credits ≡ []
+  hands : (holds_of (Stack (stack.PushTop seat pile i h) o)).hands ≡ []
+  frees : (holds_of (Stack (stack.PushTop seat pile i h) o)).frees ≡ []
+  hazard : (holds_of (Stack (stack.PushTop seat pile i h) o)).hazard ≡ clear
+  may : MayRetire s status d
+  bare : StandsBare q
+  full : spare_of q ≡ 1 → length (s.errand who).retired ≡ g.callers
+  turns : RetireTurns (Stack (stack.PushTop seat pile i h) o) q (s.errand who).turns t
+
+push-exchanges :
+    (g : Geometry) (s : State) (l : Lists) (who : ℕ) (seat : SeatFields) (pile : Pile) (i : ℕ) (h : HeadFields) (o : Onward)
+    (d : ℕ) (status : Status) (q : Point) (t : ℕ) → IsSoundWithoutCounts g s → IsSoundWith g s l → who < g.callers
+    → PushRetires g s l who seat pile i h o d status q t
+    → Exchanges g s l who seat pile (record { top = i + 1; tag = h.tag }) (retired_at (s.errand who) (found_at s who) d q t)
+    (with_list l seat pile (i ∷ list_of l seat pile))
+unfolding plan_point_of event_of recalls_of
+push-exchanges g s l who seat pile i h o d status q t sound old has r =
+    let p : Point = Stack (stack.PushTop seat pile i h) o in
+    let a : ErrandFields = s.errand who in
+    let x : Found = found_at s who in
+    let e : ErrandFields = retired_at a x d q t in
+    let new : HeadFields = record { top = i + 1; tag = h.tag } in
+    let won : (s.word (head_name seat pile) == head_word h) ≡ true = eq-eqb (s.word (head_name seat pile)) (head_word h) r.word in
+    let fit = fits-at g s l who p old has r.at in
+    let class : seat.class < CLASSES = fit.point.0.seat.class in
+    let before : head_of (s.word (head_name seat pile)) ≡ h = ap head_of r.word ∙ head_of-head_word h fit.point.1 in
+    let so = so-at g s l who p old has r.at in
+    let said = All-head (IsSo g s l who) (says (next_name pile i) h.top) (tops_exist seat pile h ∷ onward_recalls seat o) so in
+    let xs : List ℕ = list_of l seat pile in
+    let l' : Lists = with_list l seat pile (i ∷ xs) in
+    let stacked : Stacked (next_in s.word pile) h.top xs =
+    subst (λ y. Stacked (next_in s.word pile) y.top xs) before (pile-stacked g s l seat pile old.listed class) in
+    let longer : Stacked (next_in s.word pile) (i + 1) (i ∷ xs) =
+    (refl, subst (λ y. Stacked (next_in s.word pile) y xs) (sym said.1) stacked) in
+    let room : i + 1 < 2 ^ TOP_BITS = omega (arith, fit.point.0.index, limit-room g pile sound.checked) in
+    let fits : IsHead new = record { top = room; tag = fit.point.1.tag } in
+    let uncut : pushed_head h i ≡ new = ap (λ y. record { top = y; tag = h.tag }) (mod-eq_of_lt {n = i + 1} {m = 2 ^ TOP_BITS} room) in
+    let one : OneMore seat pile i l' l = more-pushed l seat pile i in
+    let b : Balanced l l' (holds_of p) (onward_holds seat o) =
+    balance-back l' l (onward_holds seat o) (holds_of p) (more-balanced seat pile i l' l (onward_holds seat o) (holds_of p) class one r.more) in
+    let kept = kept-at g s l who p old has r.at in
+    let keeps : IsKeptAs s status d seat.class =
+    All-head (λ k. IsKeptAs s k.status k.desc k.class) (record { desc = d; class = seat.class; status = status }) []
+    (subst (AreKept s) r.kept (keeps-less s seat pile i (onward_holds seat o) (holds_of p) r.more kept)) in
+    let own = old.errands who has in
+    let lost : a.lost ≤ e.lost = raised-least (counts_lost a.point x) a.lost own.lost in
+    let tag : (head_of (s.word (head_name seat pile))).tag ≡ h.tag = ap (λ (y : HeadFields). y.tag) before in
+    let turns : RetireTurns a.point q a.turns t = subst (λ z. RetireTurns z q a.turns t) (sym r.at) r.turns in
+    let may : MayStand g s l who a e = record {
+      rule = record {
+        caller = own.caller;
+        geometry = own.geometry;
+        rule = subst IsErrand r.settles (settle_errand a x own.rule (old.words (name_at s who)));
+        lost = raised-below (counts_lost a.point x) a.lost own.lost;
+      };
+      kept = subst (AreKept s) (sym r.bare.kept) (All-nil (λ (k : Kept). IsKeptAs s k.status k.desc k.class));
+      retired =
+          All-append (IsWithout s) a.retired (d ∷ []) (old.kept.retired who has)
+          (All-cons (IsWithout s) d [] (without-retired s status d seat.class r.may keeps) (All-nil (IsWithout s)));
+      so = subst (All (IsSo g s l who)) (sym r.bare.recalls) (All-nil (IsSo g s l who));
+      hazard =
+          subst (λ z. IsHazard z (s.word (name.Hazard who))) (r.hazard ∙ sym r.bare.hazard)
+          (subst (λ z. IsHazard (holds_of z).hazard (s.word (name.Hazard who))) r.at (old.guarded.words who has));
+      guard = λ k word guard. let bad : ⊥ = subst IsGuard r.bare.hazard guard in absurd bad;
+      pushed = λ k is. absurd (let bad : None ≡ Some k = sym r.bare.pushed ∙ is in cc);
+      passed = r.bare.passed;
+      unread = r.bare.unread;
+      full = λ spare. omega (arith, length-append a.retired (d ∷ []), r.full spare);
+      hands = subst (λ bs. All (λ y. IsOwned s who y.place y.need) bs) (sym r.bare.hands) (All-nil (λ y. IsOwned s who y.place y.need));
+      frees = subst (λ bs. All (λ y. IsOwned s who y.place y.need) bs) (sym r.bare.frees) (All-nil (λ y. IsOwned s who y.place y.need));
+      excepts = λ place excepted.
+          elim excepted [
+            | inl y ↦
+                inl
+                (subst (λ bs. Any (λ z. z.place ≡ place) bs) (ap (λ z. (holds_of z).hands) r.at ∙ r.hands ∙ sym r.bare.hands) y)
+            | inr y ↦
+                inr
+                (subst (λ bs. Any (λ z. (z.place ≡ place) × IsTrue z.overwritten) bs)
+                (ap (λ z. (holds_of z).frees) r.at ∙ r.frees ∙ sym r.bare.frees) y)
+          ];
+      own_turns = omega (arith, old.turned.own_turns who has, turns.under_way);
+      own_lost = omega (arith, old.turned.own_lost who has, turns.discards, lost);
+      cleared = ap (λ z. raised (counts_cleared z x) a.cleared) r.at;
+    } in
+    let places = λ (y : ℕ). ap (kept_places y) r.kept ∙ retire-places s status d y seat.class r.may in
+    let added = λ (y : ℕ). occurs-added y d a.retired in
+    let old_kept : (holds_of a.point).kept ≡ (holds_of p).kept = ap (λ z. (holds_of z).kept) r.at in
+    let balanced : ErrandsBalanced g s l l' a e = record {
+      available = b.available;
+      reserves = λ y. ap (reserved_among y) (r.bare.credits ∙ sym (ap (λ z. (holds_of z).credits) r.at ∙ r.credits));
+      waits = λ y.
+          ap (kept_among waiting y) r.bare.kept
+          ∙ sym (ap (kept_among waiting y) old_kept ∙ sym (b.waits y) ∙ ap (kept_among waiting y) r.kept ∙ retire-waits s status d y seat.class r.may);
+      ways = λ y. omega (arith, ap (kept_among on_its_way y) r.bare.kept);
+      away = λ y.
+          let was : kept_among on_its_way y (holds_of a.point).kept ≡ kept_among on_its_way y (keep d seat.class status) =
+          ap (kept_among on_its_way y) old_kept ∙ sym (b.ways y) ∙ ap (kept_among on_its_way y) r.kept in
+          let none = ap (kept_among on_its_way y) r.bare.kept in
+          elim (retire-away s status d y seat.class (occurs y a.retired) (occurs y (a.retired ++ d ∷ [])) r.may (added y)) [
+            | inl same ↦ inl (omega (arith, same, was, none))
+            | inr grown ↦ inr (grown.0, omega (arith, grown.1, was, none))
+          ];
+      frames = λ f.
+          omega (arith, b.frames f, ap (occurs f) r.frames, ap (occurs f) r.bare.frames, ap (λ z. occurs f (holds_of z).frames) r.at);
+      places = λ y. omega (arith, b.places y, places y, added y, ap (kept_places y) r.bare.kept, ap (kept_places y) old_kept);
+      stock = λ c.
+          omega (arith, b.stock c, ap (stock_among c) r.bare.kept, ap (stock_among c) old_kept, r.bare.waits c);
+    } in
+    record {
+      event = subst (λ z. event_of who z (found_from s z) ≡ None) (sym r.at) (rw won refl);
+      head = ap (λ z. name_of (plan_point_of z)) r.at;
+      after =
+          subst (λ z. after_action (plan_point_of z) (s.word (name_of (plan_point_of z))) ≡ head_word new) (sym r.at) (rw won (ap head_word uncut));
+      settles = r.settles;
+      may = may;
+      fits = fits;
+      listed = λ words' writes.
+          listed-with g s l seat pile new (i ∷ xs) words' old.listed fits writes longer
+          (All-cons (λ j. j < pile_limit g pile) i xs fit.point.0.index (pile-exists g s l seat pile old.listed class));
+      balanced = balanced;
+      partly =
+          partly-with s l seat pile (i ∷ xs) old.kept.listed
+          (λ is.
+          All-cons (λ j. IsPartlyUsed s j seat.class) i xs (in-hand s seat pile i (onward_holds seat o) (holds_of p) r.more kept is)
+          (list-partly g s l seat pile old class is));
+      tag = omega (arith, tag);
+      still = λ same j. omega (arith, ap (occurs j) one.here);
+      others = list-elsewhere l seat pile (i ∷ xs);
+      frame_turns = λ words' writes.
+          omega (arith, tag-stays s.word words' (head_name seat pile) name.FrameHead new fits writes tag, turns.unframed);
+      list_turns = λ c words' writes.
+          omega (arith, tag-stays s.word words' (head_name seat pile) (name.ListHead c) new fits writes tag, turns.pops);
+    }
+
+-- a test says yes or no
+says-either : (b : Bool) → (b ≡ true) ⊎ (b ≡ false)
+says-either true = inl refl
+says-either false = inr refl
+
+-- a list with no room has as many entries as the heap has callers
+full-list :
+    (g : Geometry) (s : State) (l : Lists) (who : ℕ) (p : Point) → IsSoundWith g s l → who < g.callers → (s.errand who).point ≡ p
+    → spare_of p ≡ 0 → is_full (s.errand who) ≡ true → length (s.errand who).retired ≡ g.callers
+full-list g s l who p old has at spare full =
+    let own = old.errands who has in
+    let callers : (s.errand who).geometry.callers ≡ g.callers = ap (λ (k : Geometry). k.callers) own.geometry in
+    omega (arith, callers, own.rule.room, ap spare_of at, spare, leb-true (s.errand who).geometry.callers (length (s.errand who).retired) full)
+
+-- a turn that is left can be counted
+one-more-turn :
+    (g : Geometry) (s : State) (l : Lists) (who : ℕ) → IsSoundWith g s l → who < g.callers → is_spent (s.errand who) ≡ false
+    → one_more (s.errand who).turns ≡ (s.errand who).turns + 1
+one-more-turn g s l who old has left =
+    let own = old.errands who has in
+    omega (arith, own.rule.turns, own.rule.geometry.turn_limit.1)
+
+-- a frame goes back, and the descriptor of a superblock that wasn't needed is retired
+discard-exchanges :
+    (g : Geometry) (s : State) (l : Lists) (who : ℕ) (seat : SeatFields) (i : ℕ) (h : HeadFields) (words d : ℕ) → IsSoundWithoutCounts g s
+    → IsSoundWith g s l → who < g.callers → (s.errand who).point ≡ Stack (stack.PushTop seat Frames i h) (onward.Discard words d)
+    → s.word name.FrameHead ≡ head_word h
+    → (e : ErrandFields)
+    × Exchanges g s l who seat Frames (record { top = i + 1; tag = h.tag }) e (with_list l seat Frames (i ∷ list_of l seat Frames))
+unfolding plan_point_of next_of holds_of
+discard-exchanges g s l who seat i h words d sound old has at word =
+    let p : Point = Stack (stack.PushTop seat Frames i h) (onward.Discard words d) in
+    let a : ErrandFields = s.errand who in
+    let x : Found = found_at s who in
+    let won : (s.word name.FrameHead == head_word h) ≡ true = eq-eqb (s.word name.FrameHead) (head_word h) word in
+    let next : next_of a.point x ≡ Retire seat d (onward.Turn words) =
+    subst (λ z. next_of z (found_from s z) ≡ Retire seat d (onward.Turn words)) (sym at) (rw won refl) in
+    elim (says-either (is_full a)) [
+      | inl full ↦
+          let q : Point = Desc (desc.ReadHazard seat no_words 0) (onward.Turn words) in (
+            retired_at a x d q a.turns,
+            push-exchanges g s l who seat Frames i h (onward.Discard words d) d on_its_way q a.turns sound old has
+                (record {
+                  at = at;
+                  word = word;
+                  settles = settle-full a x seat d (onward.Turn words) next full;
+                  more = (refl, refl);
+                  kept = refl;
+                  frames = refl;
+                  credits = refl;
+                  hands = refl;
+                  frees = refl;
+                  hazard = refl;
+                  may = inl refl;
+                  bare = scan-bare seat (onward.Turn words);
+                  full = λ spare. full-list g s l who p old has at refl full;
+                  turns = record { under_way = omega arith; discards = omega arith; unframed = omega arith; pops = omega arith };
+                }),
+          )
+      | inr few ↦
+          elim (says-either (is_spent a)) [
+            | inl spent ↦ (
+              retired_at a x d Idle a.turns,
+              push-exchanges g s l who seat Frames i h (onward.Discard words d) d on_its_way Idle a.turns sound old has
+                  (record {
+                    at = at;
+                    word = word;
+                    settles = settle-spent a x seat d words next few spent;
+                    more = (refl, refl);
+                    kept = refl;
+                    frames = refl;
+                    credits = refl;
+                    hands = refl;
+                    frees = refl;
+                    hazard = refl;
+                    may = inl refl;
+                    bare = idle-bare;
+                    full = λ spare. absurd (omega (arith, spare));
+                    turns = record { under_way = omega arith; discards = omega arith; unframed = omega arith; pops = omega arith };
+                  }),
+            )
+            | inr left ↦
+                let more_turns : one_more a.turns ≡ a.turns + 1 = one-more-turn g s l who old has left in
+                let q : Point = Block (block.LoadActive seat) (onward.Alloc words) in (
+                  retired_at a x d q (one_more a.turns),
+                  push-exchanges g s l who seat Frames i h (onward.Discard words d) d on_its_way q (one_more a.turns) sound old has
+                      (record {
+                        at = at;
+                        word = word;
+                        settles = settle-turns a x seat d words next few left;
+                        more = (refl, refl);
+                        kept = refl;
+                        frames = refl;
+                        credits = refl;
+                        hands = refl;
+                        frees = refl;
+                        hazard = refl;
+                        may = inl refl;
+                        bare = active-bare seat (onward.Alloc words);
+                        full = λ spare. absurd (omega (arith, spare));
+                        turns = record {
+                          under_way = omega (arith, more_turns);
+                          discards = omega (arith, more_turns);
+                          unframed = omega (arith, more_turns);
+                          pops = omega (arith, more_turns);
+                        };
+                      }),
+                )
+          ]
+    ]
+
+pub push_discard_won-sound :
+    (g : Geometry) (s : State) (who : ℕ) (s' : State) (seat : SeatFields) (i : ℕ) (h : HeadFields) (words d : ℕ) → IsSoundWithoutCounts g s
+    → who < g.callers → (s.errand who).point ≡ Stack (stack.PushTop seat Frames i h) (onward.Discard words d)
+    → s.word name.FrameHead ≡ head_word h → Step s who s' → IsSoundWithoutCounts g s'
+push_discard_won-sound g s who s' seat i h words d sound has at word step =
+    exchanges-sound g s who s' seat Frames (record { top = i + 1; tag = h.tag }) sound has
+    (λ l old.
+    let to = discard-exchanges g s l who seat i h words d sound old has at word in
+    (with_list l seat Frames (i ∷ list_of l seat Frames), to.0, to.1)) step
+
+-- a partial superblock goes back, and the one that was EMPTY is retired
+retire-exchanges :
+    (g : Geometry) (s : State) (l : Lists) (who : ℕ) (seat : SeatFields) (i : ℕ) (h : HeadFields) (d : ℕ) → IsSoundWithoutCounts g s
+    → IsSoundWith g s l → who < g.callers → (s.errand who).point ≡ Stack (stack.PushTop seat Partials i h) (onward.Retire d)
+    → s.word (name.ListHead seat.class) ≡ head_word h
+    → (e : ErrandFields)
+    × Exchanges g s l who seat Partials (record { top = i + 1; tag = h.tag }) e (with_list l seat Partials (i ∷ list_of l seat Partials))
+unfolding plan_point_of next_of holds_of recalls_of
+retire-exchanges g s l who seat i h d sound old has at word =
+    let p : Point = Stack (stack.PushTop seat Partials i h) (onward.Retire d) in
+    let a : ErrandFields = s.errand who in
+    let x : Found = found_at s who in
+    let won : (s.word (name.ListHead seat.class) == head_word h) ≡ true = eq-eqb (s.word (name.ListHead seat.class)) (head_word h) word in
+    let next : next_of a.point x ≡ Retire seat d onward.EndFree =
+    subst (λ z. next_of z (found_from s z) ≡ Retire seat d onward.EndFree) (sym at) (rw won refl) in
+    let so = so-at g s l who p old has at in
+    let is = All-head (IsSo g s l who) (emptied d) []
+    (All-tail (IsSo g s l who) (tops_exist seat Partials h) (emptied d ∷ [])
+    (All-tail (IsSo g s l who) (says (name.Next i) h.top) (tops_exist seat Partials h ∷ emptied d ∷ []) so)) in
+    elim (says-either (is_full a)) [
+      | inl full ↦
+          let q : Point = Desc (desc.ReadHazard seat no_words 0) onward.EndFree in (
+            retired_at a x d q a.turns,
+            push-exchanges g s l who seat Partials i h (onward.Retire d) d partly_used q a.turns sound old has
+                (record {
+                  at = at;
+                  word = word;
+                  settles = settle-full a x seat d onward.EndFree next full;
+                  more = (refl, refl);
+                  kept = refl;
+                  frames = refl;
+                  credits = refl;
+                  hands = refl;
+                  frees = refl;
+                  hazard = refl;
+                  may = inr (refl, is.state);
+                  bare = scan-bare seat onward.EndFree;
+                  full = λ spare. full-list g s l who p old has at refl full;
+                  turns = record { under_way = omega arith; discards = omega arith; unframed = omega arith; pops = omega arith };
+                }),
+          )
+      | inr few ↦ (
+        retired_at a x d Idle a.turns,
+        push-exchanges g s l who seat Partials i h (onward.Retire d) d partly_used Idle a.turns sound old has
+            (record {
+              at = at;
+              word = word;
+              settles = settle-ends a x seat d next few;
+              more = (refl, refl);
+              kept = refl;
+              frames = refl;
+              credits = refl;
+              hands = refl;
+              frees = refl;
+              hazard = refl;
+              may = inr (refl, is.state);
+              bare = idle-bare;
+              full = λ spare. absurd (omega (arith, spare));
+              turns = record { under_way = omega arith; discards = omega arith; unframed = omega arith; pops = omega arith };
+            }),
+      )
+    ]
+
+pub push_retire_won-sound :
+    (g : Geometry) (s : State) (who : ℕ) (s' : State) (seat : SeatFields) (i : ℕ) (h : HeadFields) (d : ℕ) → IsSoundWithoutCounts g s
+    → who < g.callers → (s.errand who).point ≡ Stack (stack.PushTop seat Partials i h) (onward.Retire d)
+    → s.word (name.ListHead seat.class) ≡ head_word h → Step s who s' → IsSoundWithoutCounts g s'
+push_retire_won-sound g s who s' seat i h d sound has at word step =
+    exchanges-sound g s who s' seat Partials (record { top = i + 1; tag = h.tag }) sound has
+    (λ l old.
+    let to = retire-exchanges g s l who seat i h d sound old has at word in
+    (with_list l seat Partials (i ∷ list_of l seat Partials), to.0, to.1)) step
+
+-- after a push nothing is retired, or a frame's descriptor is, or an EMPTY superblock's
+abbrev words_of : Onward → ℕ
+words_of (onward.Discard words d) = words
+words_of o = 0
+
+abbrev desc_of : Onward → ℕ
+desc_of (onward.Discard words d) = d
+desc_of (onward.Retire d) = d
+desc_of o = 0
+
+the-retiring :
+    (pile : Pile) (o : Onward) → pushes pile o ≡ true
+    → (keeps_list o ≡ true)
+    ⊎ (((pile ≡ Frames) × (o ≡ onward.Discard (words_of o) (desc_of o))) ⊎ ((pile ≡ Partials) × (o ≡ onward.Retire (desc_of o))))
+the-retiring pile o is = grind (arith, is)
+
+-- a won push onto a stack
+pub push_top_won-sound :
+    (g : Geometry) (s : State) (who : ℕ) (s' : State) (seat : SeatFields) (pile : Pile) (i : ℕ) (h : HeadFields) (o : Onward)
+    → IsSoundWithoutCounts g s → who < g.callers → (s.errand who).point ≡ Stack (stack.PushTop seat pile i h) o
+    → s.word (head_name seat pile) ≡ head_word h → Step s who s' → IsSoundWithoutCounts g s'
+push_top_won-sound g s who s' seat pile i h o sound has at word step =
+    let fit = fits-at g s sound.parts.0 who (Stack (stack.PushTop seat pile i h) o) sound.parts.1 has at in
+    elim (the-retiring pile o (holds-true (pushes pile o) fit.goes)) [
+      | inl goes ↦ push_going_on-sound g s who s' seat pile i h o sound has at goes word step
+      | inr (inl is) ↦
+          let point : (s.errand who).point ≡ Stack (stack.PushTop seat Frames i h) (onward.Discard (words_of o) (desc_of o)) =
+          at ∙ ap (λ z. Stack (stack.PushTop seat z i h) o) is.0 ∙ ap (λ z. Stack (stack.PushTop seat Frames i h) z) is.1 in
+          push_discard_won-sound g s who s' seat i h (words_of o) (desc_of o) sound has point
+          (subst (λ z. s.word (head_name seat z) ≡ head_word h) is.0 word) step
+      | inr (inr is) ↦
+          let point : (s.errand who).point ≡ Stack (stack.PushTop seat Partials i h) (onward.Retire (desc_of o)) =
+          at ∙ ap (λ z. Stack (stack.PushTop seat z i h) o) is.0 ∙ ap (λ z. Stack (stack.PushTop seat Partials i h) z) is.1 in
+          push_retire_won-sound g s who s' seat i h (desc_of o) sound has point
+          (subst (λ z. s.word (head_name seat z) ≡ head_word h) is.0 word) step
+    ]
+
+-- won or lost
+pub push_top-sound :
+    (g : Geometry) (s : State) (who : ℕ) (s' : State) (seat : SeatFields) (pile : Pile) (i : ℕ) (h : HeadFields) (o : Onward)
+    → IsSoundWithoutCounts g s → who < g.callers → (s.errand who).point ≡ Stack (stack.PushTop seat pile i h) o → Step s who s'
+    → IsSoundWithoutCounts g s'
+push_top-sound g s who s' seat pile i h o sound has at step =
+    elim (cases_eq (s.word (head_name seat pile)) (head_word h)) [
+      | inl won ↦ push_top_won-sound g s who s' seat pile i h o sound has at won step
+      | inr lost ↦ push_top_lost-sound g s who s' seat pile i h o sound has at lost step
+    ]

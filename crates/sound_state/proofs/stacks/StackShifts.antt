@@ -1,0 +1,547 @@
+-- The lists and what a caller holds, where an index goes from a stack to its hand or back; and the step that does it.
+use Rattle.std.proofs.Common.{ℕ, false, None, ◌≡◌, ◌≢◌, ◌<◌, ◌≤◌, ◌+◌, List, ◌∷◌, length, refl, arith, ap, sym, subst, inl, inr, ◌∙◌}
+use Rattle.std.specs.Prelude.{◌==◌, ◌&&◌, ◌⊎◌, not, All, if◌then◌else◌}
+use Rattle.std.proofs.lemmas.Bool.{cases_eq, cond-true, cond-false, eq-eqb, ne_eqb}
+use Rattle.heap_geometry.specs.declared.geometry.Geometry.{Geometry}
+use Rattle.heap_geometry.specs.declared.limits.TheConstants.{CLASSES}
+use Rattle.packed_words.specs.Anchor.{anchor_of}
+use Rattle.packed_words.specs.declared.anchor.State.TheVariants as phase
+use Rattle.packed_words.specs.Head.{HeadFields, IsHead, head_of, head_word}
+use Rattle.packed_words.specs.Info.{info_of}
+use Rattle.packed_words.proofs.HeadLemmas.{head_of-head_word, head_word-below}
+use Rattle.word_plan.specs.declared.name.WordName.{WordName}
+use Rattle.word_plan.specs.declared.name.WordName.TheVariants as name
+use Rattle.word_plan.specs.Actions.{name_of, after_action}
+use Rattle.word_plan.specs.Counts.{descriptor_count, word_count}
+use Rattle.word_plan.specs.Seats.{SeatFields}
+use Rattle.word_plan.specs.Table.{word_name}
+use Rattle.word_plan.specs.Words.{Writes}
+use Rattle.word_plan.proofs.NameLemmas.{cases_name}
+use Rattle.superblock_parts.specs.Chains.{occurs}
+use Rattle.stack_parts.specs.declared.point.Pile.{Pile}
+use Rattle.stack_parts.specs.declared.point.Pile.TheVariants.{Frames, Partials}
+use Rattle.stack_parts.specs.Piles.{head_name}
+use Rattle.pool_model.specs.Legal.{IsLegalWithoutCounts}
+use Rattle.errand_steps.specs.declared.next.Next.{Next}
+use Rattle.errand_steps.specs.declared.next.Next.TheVariants.{At, End}
+use Rattle.errand_steps.specs.declared.point.Point.{Point}
+use Rattle.errand_steps.specs.declared.point.Point.TheVariants.{Idle}
+use Rattle.errand_steps.specs.declared.reply.Reply.{Reply}
+use Rattle.errand_steps.specs.Errands.{ErrandFields, settle_of, counts_cleared, raised}
+use Rattle.errand_steps.specs.Events.{event_of}
+use Rattle.errand_steps.specs.Nexts.{next_of}
+use Rattle.errand_steps.specs.Points.{plan_point_of}
+use Rattle.errand_steps.specs.Steps.{State, Step, Moves, found_at, name_at, with_event}
+use Rattle.word_plan.specs.declared.action.Found.{Found}
+use Rattle.sound_state.specs.Frames.{errand_frames}
+use Rattle.sound_state.specs.Holdings.{Holding, Kept, holds_of, waiting, partly_used, on_its_way}
+use Rattle.sound_state.specs.Keepers.{IsPartlyUsed, word_keeps, errand_has, full_keeps}
+use Rattle.sound_state.specs.Lists.{Lists, IsListed}
+use Rattle.sound_state.specs.Recalls.{list_of}
+use Rattle.sound_state.specs.Sound.{IsSoundWithoutCounts, IsSoundWith}
+use Rattle.sound_state.specs.Stock.{word_stock, errand_stock, full_stock, stock_among, waits_in}
+use Rattle.sound_state.specs.Sums.{sum_below, words_sum}
+use Rattle.sound_state.specs.Superblocks.{anchor_for, info_or_zero, word_reserves, errand_reserves, errand_keeps, errand_away, kept_among, reserved_among}
+use Rattle.sound_state.specs.Turns.{turn_unframed, turn_unlisted, errand_pops, one_if, in_turn, has_frame, has_partial, pops_left}
+use Rattle.sound_state.proofs.shared.PointLemmas.{kept_places}
+use Rattle.sound_state.proofs.quiet.QuietLemmas.{found_from}
+use Rattle.sound_state.proofs.shared.AlikeLemmas.{MayGoOn}
+use Rattle.sound_state.proofs.stacks.StackEffects.{Restacks, MayStand, IsNoHead}
+use Rattle.sound_state.proofs.stacks.StackFacts.{restacked-sound}
+use Rattle.sound_state.proofs.shared.StepLemmas.{PointGoes, at_point, goes-stands, may-after, settle-at, settle-end, words-below}
+use Rattle.sound_state.proofs.shared.SumLemmas.{sum-same, sum-change, callers-moved}
+
+-- the lists with another one for a stack
+abbrev pub with_list : Lists → SeatFields → Pile → List ℕ → Lists
+with_list l seat Frames xs = record { frames = xs; available = l.available; partials = l.partials }
+with_list l seat Partials xs =
+    record { frames = l.frames; available = l.available; partials = λ c. if c == seat.class then xs else l.partials c }
+
+-- all stacks but one are the same lists
+abbrev pub OthersStay : SeatFields → Pile → Lists → Lists → Type 0
+OthersStay seat pile l l' =
+    (seat2 : SeatFields) (pile2 : Pile) → head_name seat2 pile2 ≢ head_name seat pile → list_of l' seat2 pile2 ≡ list_of l seat2 pile2
+
+-- the first lists are the second ones with an index in front of a stack
+pub record OneMore (seat : SeatFields) (pile : Pile) (x : ℕ) (l l' : Lists) : Type 0 where
+  pub available : l.available ≡ l'.available
+  pub here : list_of l seat pile ≡ x ∷ list_of l' seat pile
+  pub others : OthersStay seat pile l l'
+
+pub list-here : (l : Lists) (seat : SeatFields) (pile : Pile) (xs : List ℕ) → list_of (with_list l seat pile xs) seat pile ≡ xs
+list-here l seat Frames xs = refl
+list-here l seat Partials xs = cond-true {A = List ℕ} (seat.class == seat.class) xs (l.partials seat.class) (eq-eqb seat.class seat.class refl)
+
+pub list-elsewhere : (l : Lists) (seat : SeatFields) (pile : Pile) (xs : List ℕ) → OthersStay seat pile l (with_list l seat pile xs)
+list-elsewhere l seat Frames xs seat2 Frames differ = absurd (differ refl)
+list-elsewhere l seat Frames xs seat2 Partials differ = refl
+list-elsewhere l seat Partials xs seat2 Frames differ = refl
+list-elsewhere l seat Partials xs seat2 Partials differ =
+    cond-false {A = List ℕ} (seat2.class == seat.class) xs (l.partials seat2.class)
+    (ne_eqb seat2.class seat.class (λ e. differ (ap name.ListHead e)))
+
+list-available : (l : Lists) (seat : SeatFields) (pile : Pile) (xs : List ℕ) → (with_list l seat pile xs).available ≡ l.available
+list-available l seat Frames xs = refl
+list-available l seat Partials xs = refl
+
+-- a pop leaves the rest of a list, a push puts one in front
+pub more-popped :
+    (l : Lists) (seat : SeatFields) (pile : Pile) (x : ℕ) (rest : List ℕ) → list_of l seat pile ≡ x ∷ rest
+    → OneMore seat pile x l (with_list l seat pile rest)
+more-popped l seat pile x rest is = record {
+  available = sym (list-available l seat pile rest);
+  here = is ∙ ap (λ xs. x ∷ xs) (sym (list-here l seat pile rest));
+  others = list-elsewhere l seat pile rest;
+}
+
+pub more-pushed :
+    (l : Lists) (seat : SeatFields) (pile : Pile) (x : ℕ) → OneMore seat pile x (with_list l seat pile (x ∷ list_of l seat pile)) l
+more-pushed l seat pile x = record {
+  available = list-available l seat pile (x ∷ list_of l seat pile);
+  here = list-here l seat pile (x ∷ list_of l seat pile);
+  others = λ seat2 pile2 differ. sym (list-elsewhere l seat pile (x ∷ list_of l seat pile) seat2 pile2 differ);
+}
+
+-- the second holding is the first one with the index in hand
+abbrev pub HoldsMore : SeatFields → Pile → ℕ → Holding → Holding → Type 0
+HoldsMore seat Frames x h h' = (h'.kept ≡ h.kept) × (h'.frames ≡ x ∷ h.frames)
+HoldsMore seat Partials x h h' =
+    (h'.kept ≡ record { desc = x; class = seat.class; status = partly_used } ∷ h.kept) × (h'.frames ≡ h.frames)
+
+-- the lists and a holding have together what others have
+pub record Balanced (l l' : Lists) (h h' : Holding) : Type 0 where
+  pub available : l'.available ≡ l.available
+  pub frames : (f : ℕ) → occurs f l'.frames + occurs f h'.frames ≡ occurs f l.frames + occurs f h.frames
+  pub places :
+      (d : ℕ)
+      → sum_below CLASSES (λ c. occurs d (l'.partials c)) + kept_places d h'.kept
+      ≡ sum_below CLASSES (λ c. occurs d (l.partials c)) + kept_places d h.kept
+  pub stock :
+      (class : ℕ) → length (l'.partials class) + stock_among class h'.kept ≡ length (l.partials class) + stock_among class h.kept
+  pub waits : (d : ℕ) → kept_among waiting d h'.kept ≡ kept_among waiting d h.kept
+  pub ways : (d : ℕ) → kept_among on_its_way d h'.kept ≡ kept_among on_its_way d h.kept
+
+pub balance-back : (l l' : Lists) (h h' : Holding) → Balanced l l' h h' → Balanced l' l h' h
+balance-back l l' h h' b = record {
+  available = sym b.available;
+  frames = λ f. sym (b.frames f);
+  places = λ d. sym (b.places d);
+  stock = λ class. sym (b.stock class);
+  waits = λ d. sym (b.waits d);
+  ways = λ d. sym (b.ways d);
+}
+
+-- one more partly used superblock that is kept
+pub kept-more :
+    (d x class : ℕ) (ks : List Kept)
+    → kept_places d (record { desc = x; class = class; status = partly_used } ∷ ks) ≡ (if x == d then 1 else 0) + kept_places d ks
+kept-more d x class ks = grind (arith)
+
+waits-more :
+    (d x class : ℕ) (ks : List Kept)
+    → kept_among waiting d (record { desc = x; class = class; status = partly_used } ∷ ks) ≡ kept_among waiting d ks
+waits-more d x class ks = grind (arith)
+
+ways-more :
+    (d x class : ℕ) (ks : List Kept)
+    → kept_among on_its_way d (record { desc = x; class = class; status = partly_used } ∷ ks) ≡ kept_among on_its_way d ks
+ways-more d x class ks = grind (arith)
+
+-- the class of a list's head
+abbrev pub class_named : WordName → ℕ
+class_named (name.ListHead class) = class
+class_named n = 0
+
+-- a list of partial superblocks of another class
+partials-stay :
+    (seat : SeatFields) (l l' : Lists) → OthersStay seat Partials l l' → (c : ℕ) → c ≢ seat.class → l'.partials c ≡ l.partials c
+partials-stay seat l l' others c differ =
+    others (record seat { class = c }) Partials (λ same. differ (ap class_named same))
+
+-- what goes from a stack to a hand is balanced
+pub more-balanced :
+    (seat : SeatFields) (pile : Pile) (x : ℕ) (l l' : Lists) (h h' : Holding) → seat.class < CLASSES → OneMore seat pile x l l'
+    → HoldsMore seat pile x h h' → Balanced l l' h h'
+more-balanced seat Frames x l l' h h' has one more =
+    let partials : (c : ℕ) → l'.partials c ≡ l.partials c = λ c. one.others (record seat { class = c }) Partials (λ same. cc) in
+    record {
+      available = sym one.available;
+      frames = λ f. omega (arith, ap (occurs f) one.here, ap (occurs f) more.1);
+      places = λ d.
+          omega (
+            arith,
+            sum-same CLASSES (λ c. occurs d (l.partials c)) (λ c. occurs d (l'.partials c)) (λ c lt. ap (occurs d) (partials c)),
+            ap (kept_places d) more.0,
+          );
+      stock = λ class. omega (arith, ap (λ (xs : List ℕ). length xs) (partials class), ap (stock_among class) more.0);
+      waits = λ d. ap (kept_among waiting d) more.0;
+      ways = λ d. ap (kept_among on_its_way d) more.0;
+    }
+more-balanced seat Partials x l l' h h' has one more =
+    let others : (c : ℕ) → c ≢ seat.class → l'.partials c ≡ l.partials c = partials-stay seat l l' one.others in
+    let frames : l'.frames ≡ l.frames = one.others seat Frames (λ same. cc) in
+    record {
+      available = sym one.available;
+      frames = λ f. omega (arith, ap (occurs f) frames, ap (occurs f) more.1);
+      places = λ d.
+          omega (
+            arith,
+            sum-change CLASSES (λ c. occurs d (l.partials c)) (λ c. occurs d (l'.partials c)) seat.class has
+                (λ c lt differ. ap (occurs d) (others c differ)),
+            ap (occurs d) one.here,
+            ap (kept_places d) more.0,
+            kept-more d x seat.class h.kept,
+          );
+      stock = λ class.
+          elim (cases_eq class seat.class) [
+            | inl same ↦
+                let longer : length (l.partials seat.class) ≡ 1 + length (l'.partials seat.class) = omega (arith, ap (λ (xs : List ℕ). length xs) one.here) in
+                let own : length (l'.partials seat.class) + stock_among seat.class h'.kept ≡ length (l.partials seat.class) + stock_among seat.class h.kept =
+                omega (arith, longer, ap (stock_among seat.class) more.0, cond-true {A = ℕ} (seat.class == seat.class) 1 0 (eq-eqb seat.class seat.class refl)) in
+                subst (λ c. length (l'.partials c) + stock_among c h'.kept ≡ length (l.partials c) + stock_among c h.kept) (sym same) own
+            | inr differ ↦
+                omega (
+                  arith,
+                  ap (λ (xs : List ℕ). length xs) (others class differ),
+                  ap (stock_among class) more.0,
+                  cond-false {A = ℕ} (seat.class == class) 1 0 (ne_eqb seat.class class (λ e. differ (sym e))),
+                )
+          ];
+      waits = λ d. ap (kept_among waiting d) more.0 ∙ waits-more d x seat.class h.kept;
+      ways = λ d. ap (kept_among on_its_way d) more.0 ∙ ways-more d x seat.class h.kept;
+    }
+
+-- the step leads to the point, or ends the call
+abbrev pub Leads : Next → Point → Type 0
+Leads n q = (n ≡ At q) ⊎ ((r : Reply) × (n ≡ End r) × (q ≡ Idle))
+
+settle-leads : (e : ErrandFields) (x : Found) (q : Point) → Leads (next_of e.point x) q → settle_of e x ≡ at_point e x q
+settle-leads e x q (inl is) = settle-at e x q is
+settle-leads e x q (inr is) = settle-end e x is.0 is.1 ∙ ap (at_point e x) (sym is.2)
+
+-- a pop that raises a tag is paid by the turn
+abbrev pub Spends : Pile → ℕ → ℕ → Point → Point → Type 0
+Spends Frames was now p q = now + one_if (in_turn q && not (has_frame q)) ≤ was + one_if (in_turn p && not (has_frame p))
+Spends Partials was now p q =
+    now + pops_left q + one_if (in_turn q && not (has_partial q)) ≤ was + pops_left p + one_if (in_turn p && not (has_partial p))
+
+-- a step from the first point to the second, with a won exchange of a head
+pub record Shifts (g : Geometry) (s : State) (l : Lists) (who : ℕ) (p q : Point) (seat : SeatFields) (pile : Pile) (new : HeadFields)
+    (l' : Lists) : Type 0 where
+  pub leads : Leads (next_of p (found_from s p)) q
+  pub event : event_of who p (found_from s p) ≡ None
+  pub cleared : counts_cleared p (found_from s p) ≡ false
+  pub head : name_of (plan_point_of p) ≡ head_name seat pile
+  pub after : after_action (plan_point_of p) (s.word (name_of (plan_point_of p))) ≡ head_word new
+  pub goes : PointGoes g s l who p q
+  pub fits : IsHead new
+  pub listed : (words' : WordName → ℕ) → Writes s.word (head_name seat pile) (head_word new) words' → IsListed g words' l'
+  pub balanced : Balanced l l' (holds_of p) (holds_of q)
+  pub credits : (holds_of q).credits ≡ (holds_of p).credits
+  pub waits : (class : ℕ) → waits_in class q ≡ waits_in class p
+  pub partly : (class : ℕ) → class < CLASSES → All (λ d. IsPartlyUsed s d class) (l'.partials class)
+  pub tag : (head_of (s.word (head_name seat pile))).tag ≤ new.tag
+  pub still :
+      (head_of (s.word (head_name seat pile))).tag ≡ new.tag → (i : ℕ)
+      → occurs i (list_of l seat pile) ≤ occurs i (list_of l' seat pile)
+  pub others : OthersStay seat pile l l'
+  pub spends : Spends pile (head_of (s.word (head_name seat pile))).tag new.tag p q
+
+-- a head is no other word
+pub no-head-apart : (seat : SeatFields) (pile : Pile) (n : WordName) → IsNoHead n → n ≢ head_name seat pile
+no-head-apart seat Frames n is same = let bad : ⊥ = subst IsNoHead same is in bad
+no-head-apart seat Partials n is same = let bad : ⊥ = subst IsNoHead same is in bad
+
+-- words that weigh nothing at a head weigh the same
+words-stay :
+    (g : Geometry) (weight : WordName → ℕ → ℕ) (words : WordName → ℕ) (n : WordName) (new : ℕ) (words' : WordName → ℕ)
+    → Writes words n new words' → ((w : ℕ) → weight n w ≡ 0) → words_sum g weight words' ≡ words_sum g weight words
+unfolding words_sum
+words-stay g weight words n new words' writes none =
+    let same : (m : WordName) → weight m (words' m) ≡ weight m (words m) =
+    λ m.
+    elim (cases_name m n) [
+      | inl is ↦ subst (λ k. weight k (words' k) ≡ weight k (words k)) (sym is) (none (words' n) ∙ sym (none (words n)))
+      | inr differ ↦ ap (weight m) (writes.elsewhere m differ)
+    ] in
+    sum-same (word_count g) (λ k. weight (word_name g k) (words (word_name g k))) (λ k. weight (word_name g k) (words' (word_name g k)))
+    (λ k lt. same (word_name g k))
+
+reserves-none : (d : ℕ) (seat : SeatFields) (pile : Pile) (w : ℕ) → word_reserves d (head_name seat pile) w ≡ 0
+reserves-none d seat Frames w = refl
+reserves-none d seat Partials w = refl
+
+keeps-none : (d : ℕ) (seat : SeatFields) (pile : Pile) (w : ℕ) → word_keeps d (head_name seat pile) w ≡ 0
+keeps-none d seat Frames w = refl
+keeps-none d seat Partials w = refl
+
+stock-none : (class : ℕ) (seat : SeatFields) (pile : Pile) (w : ℕ) → word_stock class (head_name seat pile) w ≡ 0
+stock-none class seat Frames w = refl
+stock-none class seat Partials w = refl
+
+-- each head's tag is what it was, or more
+tag-grows :
+    (words words' : WordName → ℕ) (n m : WordName) (new : HeadFields) → IsHead new → Writes words n (head_word new) words'
+    → (head_of (words n)).tag ≤ new.tag → (head_of (words m)).tag ≤ (head_of (words' m)).tag
+tag-grows words words' n m new fits writes grows =
+    elim (cases_name m n) [
+      | inl is ↦
+          subst (λ k. (head_of (words k)).tag ≤ (head_of (words' k)).tag) (sym is)
+          (omega (arith, grows, ap (λ w. (head_of w).tag) writes.here, ap (λ (x : HeadFields). x.tag) (head_of-head_word new fits)))
+      | inr differ ↦ omega (arith, ap (λ w. (head_of w).tag) (writes.elsewhere m differ))
+    ]
+
+-- where two piles have one head they have one list
+list-named :
+    (P : List ℕ → List ℕ → Type 0) (l l' : Lists) (seat seat2 : SeatFields) (pile pile2 : Pile)
+    → head_name seat2 pile2 ≡ head_name seat pile → P (list_of l seat pile) (list_of l' seat pile)
+    → P (list_of l seat2 pile2) (list_of l' seat2 pile2)
+list-named P l l' seat seat2 Frames Frames same is = is
+list-named P l l' seat seat2 Frames Partials same is = absurd (cc)
+list-named P l l' seat seat2 Partials Frames same is = absurd (cc)
+list-named P l l' seat seat2 Partials Partials same is =
+    subst (λ c. P (l.partials c) (l'.partials c)) (sym (ap class_named same)) is
+
+still-listed :
+    (s : State) (l l' : Lists) (seat seat2 : SeatFields) (pile pile2 : Pile) (new : HeadFields) (words' : WordName → ℕ)
+    → IsHead new → Writes s.word (head_name seat pile) (head_word new) words' → OthersStay seat pile l l'
+    → ((head_of (s.word (head_name seat pile))).tag ≡ new.tag → (i : ℕ) → occurs i (list_of l seat pile) ≤ occurs i (list_of l' seat pile))
+    → (head_of (s.word (head_name seat2 pile2))).tag ≡ (head_of (words' (head_name seat2 pile2))).tag → (i : ℕ)
+    → occurs i (list_of l seat2 pile2) ≤ occurs i (list_of l' seat2 pile2)
+still-listed s l l' seat seat2 pile pile2 new words' fits writes others still same i =
+    elim (cases_name (head_name seat2 pile2) (head_name seat pile)) [
+      | inl is ↦
+          let at : (head_of (s.word (head_name seat pile))).tag ≡ (head_of (words' (head_name seat pile))).tag =
+          subst (λ n. (head_of (s.word n)).tag ≡ (head_of (words' n)).tag) is same in
+          list-named (λ xs ys. occurs i xs ≤ occurs i ys) l l' seat seat2 pile pile2 is
+          (still (at ∙ ap (λ w. (head_of w).tag) writes.here ∙ ap (λ (x : HeadFields). x.tag) (head_of-head_word new fits)) i)
+      | inr differ ↦ omega (arith, ap (occurs i) (others seat2 pile2 differ))
+    ]
+
+-- what the turn pays for the frames' tag and for a class's
+frame-spends :
+    (s : State) (seat : SeatFields) (pile : Pile) (p q : Point) (new : HeadFields) (words' : WordName → ℕ) → IsHead new
+    → Writes s.word (head_name seat pile) (head_word new) words' → Spends pile (head_of (s.word (head_name seat pile))).tag new.tag p q
+    → one_if (in_turn q && not (has_frame q)) ≤ one_if (in_turn p && not (has_frame p))
+    → (head_of (words' name.FrameHead)).tag + one_if (in_turn q && not (has_frame q))
+    ≤ (head_of (s.word name.FrameHead)).tag + one_if (in_turn p && not (has_frame p))
+frame-spends s seat Frames p q new words' fits writes spends least =
+    omega (arith, spends, ap (λ w. (head_of w).tag) writes.here, ap (λ (x : HeadFields). x.tag) (head_of-head_word new fits))
+frame-spends s seat Partials p q new words' fits writes spends least =
+    omega (arith, least, ap (λ w. (head_of w).tag) (writes.elsewhere name.FrameHead (λ same. cc)))
+
+list-spends :
+    (s : State) (seat : SeatFields) (pile : Pile) (p q : Point) (new : HeadFields) (words' : WordName → ℕ) (class : ℕ) → IsHead new
+    → Writes s.word (head_name seat pile) (head_word new) words' → Spends pile (head_of (s.word (head_name seat pile))).tag new.tag p q
+    → pops_left q + one_if (in_turn q && not (has_partial q)) ≤ pops_left p + one_if (in_turn p && not (has_partial p))
+    → (head_of (words' (name.ListHead class))).tag + pops_left q + one_if (in_turn q && not (has_partial q))
+    ≤ (head_of (s.word (name.ListHead class))).tag + pops_left p + one_if (in_turn p && not (has_partial p))
+list-spends s seat Frames p q new words' class fits writes spends least =
+    omega (arith, least, ap (λ w. (head_of w).tag) (writes.elsewhere (name.ListHead class) (λ same. cc)))
+list-spends s seat Partials p q new words' class fits writes spends least =
+    elim (cases_eq class seat.class) [
+      | inl same ↦
+          subst
+          (λ c. (head_of (words' (name.ListHead c))).tag + pops_left q + one_if (in_turn q && not (has_partial q))
+          ≤ (head_of (s.word (name.ListHead c))).tag + pops_left p + one_if (in_turn p && not (has_partial p))) (sym same)
+          (omega (arith, spends, ap (λ w. (head_of w).tag) writes.here, ap (λ (x : HeadFields). x.tag) (head_of-head_word new fits)))
+      | inr differ ↦
+          omega (arith, least, ap (λ w. (head_of w).tag) (writes.elsewhere (name.ListHead class) (λ e. differ (ap class_named e))))
+    ]
+
+-- the lists and an errand have together what others have, or less
+pub record ErrandsBalanced (g : Geometry) (s : State) (l l' : Lists) (a b : ErrandFields) : Type 0 where
+  pub available : l'.available ≡ l.available
+  pub reserves : (d : ℕ) → errand_reserves d b ≡ errand_reserves d a
+  pub waits : (d : ℕ) → errand_keeps waiting d b ≡ errand_keeps waiting d a
+  pub ways : (d : ℕ) → errand_keeps on_its_way d b ≤ errand_keeps on_its_way d a
+  pub away :
+      (d : ℕ)
+      → (errand_away d b ≡ errand_away d a) ⊎ (((anchor_for s d).state ≡ phase.Empty) × (errand_away d a ≤ errand_away d b))
+  pub frames : (f : ℕ) → occurs f l'.frames + errand_frames f b ≡ occurs f l.frames + errand_frames f a
+  pub places :
+      (d : ℕ)
+      → sum_below CLASSES (λ c. occurs d (l'.partials c)) + errand_has d b
+      ≡ sum_below CLASSES (λ c. occurs d (l.partials c)) + errand_has d a
+  pub stock :
+      (class : ℕ) → length (l'.partials class) + errand_stock class b ≤ length (l.partials class) + errand_stock class a
+
+-- a won exchange of a head, after which a caller goes on so
+pub record Exchanges (g : Geometry) (s : State) (l : Lists) (who : ℕ) (seat : SeatFields) (pile : Pile) (new : HeadFields) (e : ErrandFields)
+    (l' : Lists) : Type 0 where
+  pub event : event_of who (s.errand who).point (found_from s (s.errand who).point) ≡ None
+  pub head : name_of (plan_point_of (s.errand who).point) ≡ head_name seat pile
+  pub after :
+      after_action (plan_point_of (s.errand who).point) (s.word (name_of (plan_point_of (s.errand who).point))) ≡ head_word new
+  pub settles : settle_of (s.errand who) (found_at s who) ≡ e
+  pub may : MayStand g s l who (s.errand who) e
+  pub fits : IsHead new
+  pub listed : (words' : WordName → ℕ) → Writes s.word (head_name seat pile) (head_word new) words' → IsListed g words' l'
+  pub balanced : ErrandsBalanced g s l l' (s.errand who) e
+  pub partly : (class : ℕ) → class < CLASSES → All (λ d. IsPartlyUsed s d class) (l'.partials class)
+  pub tag : (head_of (s.word (head_name seat pile))).tag ≤ new.tag
+  pub still :
+      (head_of (s.word (head_name seat pile))).tag ≡ new.tag → (i : ℕ)
+      → occurs i (list_of l seat pile) ≤ occurs i (list_of l' seat pile)
+  pub others : OthersStay seat pile l l'
+  pub frame_turns :
+      (words' : WordName → ℕ) → Writes s.word (head_name seat pile) (head_word new) words'
+      → (head_of (words' name.FrameHead)).tag + turn_unframed e + (s.errand who).turns
+      ≤ (head_of (s.word name.FrameHead)).tag + turn_unframed (s.errand who) + e.turns
+  pub list_turns :
+      (class : ℕ) (words' : WordName → ℕ) → Writes s.word (head_name seat pile) (head_word new) words'
+      → (head_of (words' (name.ListHead class))).tag + errand_pops e + turn_unlisted e + (s.errand who).turns
+      ≤ (head_of (s.word (name.ListHead class))).tag + errand_pops (s.errand who) + turn_unlisted (s.errand who) + e.turns
+
+-- what such a step changes
+exchanges-restacks :
+    (g : Geometry) (s : State) (l : Lists) (who : ℕ) (s' : State) (seat : SeatFields) (pile : Pile) (new : HeadFields) (e : ErrandFields)
+    (l' : Lists) → IsSoundWith g s l → who < g.callers → Exchanges g s l who seat pile new e l' → Step s who s'
+    → Restacks g s l who e s' l'
+exchanges-restacks g s l who s' seat pile new e l' old has h step =
+    let moves : Moves s.errand who e s'.errand = subst (λ f. Moves s.errand who f s'.errand) h.settles step.errand in
+    let writes : Writes s.word (head_name seat pile) (head_word new) s'.word =
+    subst (λ n. Writes s.word n (head_word new) s'.word) h.head (subst (λ v. Writes s.word (name_at s who) v s'.word) h.after step.word) in
+    let plain : (n : WordName) → IsNoHead n → s'.word n ≡ s.word n = λ n is. writes.elsewhere n (no-head-apart seat pile n is) in
+    let callers = λ (weight : ErrandFields → ℕ). callers-moved g weight s.errand who e s'.errand has moves in
+    let words = λ (weight : WordName → ℕ → ℕ) (none : (w : ℕ) → weight (head_name seat pile) w ≡ 0).
+    words-stay g weight s.word (head_name seat pile) (head_word new) s'.word writes none in
+    let anchor = λ (d : ℕ). ap anchor_of (plain (name.Anchor d) tt) in
+    let b = h.balanced in
+    record {
+      caller = has;
+      moves = moves;
+      may = h.may;
+      word = plain;
+      below = words-below s.word (head_name seat pile) (head_word new) s'.word writes old.words (head_word-below new h.fits);
+      history = step.history ∙ ap (with_event s.history) h.event;
+      listed = h.listed s'.word writes;
+      available = b.available;
+      partly = h.partly;
+      reserved = λ d.
+          omega (arith, words (word_reserves d) (reserves-none d seat pile), callers (errand_reserves d), b.reserves d);
+      waits = λ d. omega (arith, callers (errand_keeps waiting d), b.waits d);
+      ways = λ d. omega (arith, callers (errand_keeps on_its_way d), b.ways d);
+      away = λ d.
+          elim (b.away d) [
+            | inl same ↦ inl (omega (arith, callers (errand_away d), same))
+            | inr more ↦ inr (more.0, omega (arith, callers (errand_away d), more.1))
+          ];
+      places = λ d.
+          omega (
+            arith,
+            words (word_keeps d) (keeps-none d seat pile),
+            callers (errand_has d),
+            b.places d,
+            ap (occurs d) b.available,
+            ap (λ a. full_keeps a.state) (anchor d),
+          );
+      frames = λ f. omega (arith, callers (errand_frames f), b.frames f);
+      stock = λ class.
+          let full : sum_below (descriptor_count g) (full_stock s' class) ≡ sum_below (descriptor_count g) (full_stock s class) =
+          sum-same (descriptor_count g) (full_stock s class) (full_stock s' class)
+          (λ d lt. rw (anchor d, ap (λ x. info_or_zero (info_of x)) (plain (name.Info d) tt)) refl) in
+          omega (arith, words (word_stock class) (stock-none class seat pile), callers (errand_stock class), b.stock class, full);
+      tag = λ seat2 pile2. tag-grows s.word s'.word (head_name seat pile) (head_name seat2 pile2) new h.fits writes h.tag;
+      still = λ seat2 pile2.
+          still-listed s l l' seat seat2 pile pile2 new s'.word h.fits writes h.others h.still;
+      frame_turns = h.frame_turns s'.word writes;
+      list_turns = λ class. h.list_turns class s'.word writes;
+    }
+
+-- it keeps the state sound, with other lists
+pub exchanges-sound :
+    (g : Geometry) (s : State) (who : ℕ) (s' : State) (seat : SeatFields) (pile : Pile) (new : HeadFields) → IsSoundWithoutCounts g s
+    → who < g.callers
+    → ((l : Lists) → IsSoundWith g s l → (l' : Lists) × (e : ErrandFields) × Exchanges g s l who seat pile new e l') → Step s who s'
+    → IsSoundWithoutCounts g s'
+exchanges-sound g s who s' seat pile new sound has h step =
+    let l = sound.parts.0 in
+    let old = sound.parts.1 in
+    let found = h l old in
+    let past : s'.history ≡ s.history = step.history ∙ ap (with_event s.history) found.2.event in
+    record {
+      checked = sound.checked;
+      legal = subst (IsLegalWithoutCounts g) (sym past) sound.legal;
+      parts = (
+        found.0,
+        restacked-sound g s l who found.1 s' found.0
+            (exchanges-restacks g s l who s' seat pile new found.1 found.0 old has found.2 step) old,
+      );
+    }
+
+-- who may go on, and scans nothing, may stand there
+may-stand :
+    (g : Geometry) (s : State) (l : Lists) (who : ℕ) (a b : ErrandFields) → MayGoOn g s l who a b → PointGoes g s l who a.point b.point
+    → b.cleared ≡ a.cleared → MayStand g s l who a b
+may-stand g s l who a b m goes cleared = record {
+  rule = m.rule;
+  kept = m.kept;
+  retired = m.retired;
+  so = m.so;
+  hazard = goes.hazard;
+  guard = goes.guard;
+  pushed = λ d at. sym goes.pushed ∙ at;
+  passed = goes.passed;
+  unread = λ k below. let bad : ⊥ = omega (arith, below, goes.unread) in absurd bad;
+  full = m.full;
+  hands = m.hands;
+  frees = m.frees;
+  excepts = goes.excepts;
+  own_turns = m.own_turns;
+  own_lost = m.own_lost;
+  cleared = cleared;
+}
+
+-- a step from a point to a point is such an exchange
+shifts-exchanges :
+    (g : Geometry) (s : State) (l : Lists) (who : ℕ) (q : Point) (seat : SeatFields) (pile : Pile) (new : HeadFields)
+    (l' : Lists) → IsSoundWith g s l → who < g.callers → Shifts g s l who (s.errand who).point q seat pile new l'
+    → Exchanges g s l who seat pile new (at_point (s.errand who) (found_at s who) q) l'
+shifts-exchanges g s l who q seat pile new l' old has h =
+    let e = at_point (s.errand who) (found_at s who) q in
+    let after : settle_of (s.errand who) (found_at s who) ≡ e = settle-leads (s.errand who) (found_at s who) q h.leads in
+    record {
+      event = h.event;
+      head = h.head;
+      after = h.after;
+      settles = after;
+      may =
+          may-stand g s l who (s.errand who) e
+          (may-after g s l who (found_at s who) q old has (old.words (name_at s who)) after h.cleared
+          (goes-stands g s l who (s.errand who).point q h.goes))
+          h.goes (ap (λ b. raised b (s.errand who).cleared) h.cleared);
+      fits = h.fits;
+      listed = h.listed;
+      balanced = record {
+        available = h.balanced.available;
+        reserves = λ d. ap (reserved_among d) h.credits;
+        waits = h.balanced.waits;
+        ways = λ d. omega (arith, h.balanced.ways d);
+        away = λ d. inl (omega (arith, h.balanced.ways d));
+        frames = h.balanced.frames;
+        places = λ d. omega (arith, h.balanced.places d);
+        stock = λ class. omega (arith, h.balanced.stock class, h.waits class);
+      };
+      partly = h.partly;
+      tag = h.tag;
+      still = h.still;
+      others = h.others;
+      frame_turns = λ words' writes.
+          omega (arith, frame-spends s seat pile (s.errand who).point q new words' h.fits writes h.spends h.goes.turn.unframed);
+      list_turns = λ class words' writes.
+          omega (arith, list-spends s seat pile (s.errand who).point q new words' class h.fits writes h.spends h.goes.turn.pops);
+    }
+
+-- it keeps the state sound, with other lists
+pub shifts-sound :
+    (g : Geometry) (s : State) (who : ℕ) (s' : State) (p q : Point) (seat : SeatFields) (pile : Pile) (new : HeadFields) → IsSoundWithoutCounts g s
+    → who < g.callers → (s.errand who).point ≡ p
+    → ((l : Lists) → IsSoundWith g s l → (l' : Lists) × Shifts g s l who p q seat pile new l') → Step s who s' → IsSoundWithoutCounts g s'
+shifts-sound g s who s' p q seat pile new sound has at h step =
+    exchanges-sound g s who s' seat pile new sound has
+    (λ l old.
+    let found = h l old in
+    let shifts : Shifts g s l who (s.errand who).point q seat pile new found.0 =
+    subst (λ r. Shifts g s l who r q seat pile new found.0) (sym at) found.1 in
+    (found.0, at_point (s.errand who) (found_at s who) q, shifts-exchanges g s l who q seat pile new found.0 old has shifts)) step

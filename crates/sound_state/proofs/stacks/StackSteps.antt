@@ -1,0 +1,683 @@
+-- The steps of a won pop from a stack and of a won push onto one.
+use Rattle.std.proofs.Common.{ℕ, Bool, true, false, ◌≡◌, ◌<◌, ◌≤◌, ◌+◌, ◌-◌, ◌^◌, List, [], ◌∷◌, refl, arith, ap, sym, subst, inl, inr, ◌∙◌}
+use Rattle.std.specs.Prelude.{◌==◌, ◌⊎◌, All, IsTrue}
+use Rattle.std.proofs.lemmas.Bool.{cases_eq, cond-true, cond-false, eq-eqb, ne_eqb}
+use Rattle.std.proofs.lemmas.List.Elements.{All-nil, All-cons, All-head, All-tail}
+use Rattle.std.proofs.Math.Nat.{mod-eq_of_lt}
+use Rattle.std.proofs.Math.Path.{fun_ext}
+use Rattle.heap_geometry.specs.declared.geometry.Geometry.{Geometry}
+use Rattle.heap_geometry.specs.declared.limits.TheConstants.{CLASSES}
+use Rattle.heap_geometry.specs.Geometry.{IsChecked}
+use Rattle.packed_words.specs.declared.widths.TheConstants.{TOP_BITS, HEAD_TAG_BITS}
+use Rattle.packed_words.specs.Head.{HeadFields, IsHead, head_of, head_word}
+use Rattle.packed_words.proofs.HeadLemmas.{head_of-head_word}
+use Rattle.word_plan.specs.declared.name.WordName.{WordName}
+use Rattle.word_plan.specs.declared.name.WordName.TheVariants as name
+use Rattle.word_plan.specs.Counts.{descriptor_count}
+use Rattle.word_plan.specs.declared.seat.Site.{Site}
+use Rattle.word_plan.specs.Seats.{SeatFields}
+use Rattle.word_plan.specs.Words.{Writes}
+use Rattle.word_plan.proofs.CountLemmas.{descriptor_count_within}
+use Rattle.superblock_parts.specs.Chains.{occurs}
+use Rattle.superblock_parts.specs.declared.point.BlockPoint.TheVariants as block
+use Rattle.stack_parts.specs.declared.point.Pile.{Pile}
+use Rattle.stack_parts.specs.declared.point.Pile.TheVariants.{Frames, Partials}
+use Rattle.stack_parts.specs.declared.point.StackPoint.TheVariants as stack
+use Rattle.stack_parts.specs.Piles.{head_name, next_name, pile_limit, popped_head, pushed_head}
+use Rattle.stack_parts.specs.Stacks.{Stacked, next_in}
+use Rattle.hazard_parts.specs.declared.point.DescPoint.TheVariants as desc
+use Rattle.partial_parts.specs.declared.point.PartialPoint.TheVariants as partial
+use Rattle.errand_steps.specs.declared.next.Next.TheVariants.{At}
+use Rattle.errand_steps.specs.declared.onward.Onward.{Onward}
+use Rattle.errand_steps.specs.declared.onward.Onward.TheVariants as onward
+use Rattle.errand_steps.specs.declared.point.Point.{Point}
+use Rattle.errand_steps.specs.declared.point.Point.TheVariants.{Idle, Block, Stack, Desc, Partial}
+use Rattle.errand_steps.specs.declared.reply.Reply.TheVariants as reply
+use Rattle.errand_steps.specs.Events.{event_of}
+use Rattle.errand_steps.specs.Nexts.{next_of, popped, put_away}
+use Rattle.errand_steps.specs.Onwards.{pops, pushes}
+use Rattle.errand_steps.specs.Points.{asked, plan_point_of}
+use Rattle.errand_steps.specs.Steps.{State, Step}
+use Rattle.sound_state.specs.Holdings.{Holding, Kept, holds_of, partly_used}
+use Rattle.sound_state.specs.Keepers.{IsKeptAs, IsPartlyUsed}
+use Rattle.sound_state.specs.Lists.{Lists, IsListed}
+use Rattle.sound_state.specs.Recalls.{IsSo, list_of, onward_recalls, recalls_of, nexts, tops, tops_exist, says, made}
+use Rattle.sound_state.specs.Sound.{IsSoundWithoutCounts, IsSoundWith}
+use Rattle.sound_state.specs.Stock.{waits_in}
+use Rattle.sound_state.proofs.shared.PointLemmas.{HoldsAlike, alike-goes, fits-at, kept-at, so-at}
+use Rattle.sound_state.proofs.quiet.QuietStacks.{pile-stacked, pile-exists, pop_top_lost-sound}
+use Rattle.sound_state.proofs.stacks.StackEffects.{IsNoHead}
+use Rattle.sound_state.proofs.stacks.StackShifts.{HoldsMore, OneMore, Leads, Spends, with_list, more-popped, more-pushed, more-balanced, balance-back, shifts-sound, class_named, no-head-apart, list-here, list-elsewhere}
+use Rattle.sound_state.proofs.shared.StepLemmas.{TurnGoes}
+use Rattle.sound_state.proofs.shared.TagLemmas.{frame-tag-below, list-tags-below}
+
+-- the tag of a stack's head has room
+pub tag-room :
+    (g : Geometry) (s : State) (seat : SeatFields) (pile : Pile) → IsSoundWithoutCounts g s → seat.class < CLASSES
+    → (head_of (s.word (head_name seat pile))).tag + 1 < 2 ^ HEAD_TAG_BITS
+tag-room g s seat Frames sound has = frame-tag-below g s sound
+tag-room g s seat Partials sound has = list-tags-below g s sound seat.class has
+
+-- an index and the number above it fit a top
+pub limit-room : (g : Geometry) (pile : Pile) → IsChecked g → pile_limit g pile < 2 ^ TOP_BITS
+limit-room g Frames checked = omega (arith, checked.frames.1)
+limit-room g Partials checked = omega (arith, descriptor_count_within g checked)
+
+-- the words with another head make the lists with another one
+pub listed-with :
+    (g : Geometry) (s : State) (l : Lists) (seat : SeatFields) (pile : Pile) (new : HeadFields) (xs : List ℕ) (words' : WordName → ℕ)
+    → IsListed g s.word l → IsHead new → Writes s.word (head_name seat pile) (head_word new) words'
+    → Stacked (next_in s.word pile) new.top xs → All (λ i. i < pile_limit g pile) xs → IsListed g words' (with_list l seat pile xs)
+listed-with g s l seat Frames new xs words' listed fits w stacked exist =
+    let plain : (n : WordName) → IsNoHead n → words' n ≡ s.word n = λ n is. w.elsewhere n (no-head-apart seat Frames n is) in
+    let frames : next_in words' Frames ≡ next_in s.word Frames = fun_ext (λ i. plain (name.FrameNext i) tt) in
+    let partials : next_in words' Partials ≡ next_in s.word Partials = fun_ext (λ i. plain (name.Next i) tt) in
+    let top : head_of (words' name.FrameHead) ≡ new = ap head_of w.here ∙ head_of-head_word new fits in
+    record {
+      nexts = λ d has. subst (λ w. w ≤ descriptor_count g) (sym (plain (name.Next d) tt)) (listed.nexts d has);
+      frame_nexts = λ f has. subst (λ w. w ≤ g.frames) (sym (plain (name.FrameNext f) tt)) (listed.frame_nexts f has);
+      frames = rw (frames, top) stacked;
+      frames_exist = exist;
+      available = rw (partials, plain name.DescHead tt) listed.available;
+      available_exist = listed.available_exist;
+      partials = λ class has. rw (partials, w.elsewhere (name.ListHead class) (λ same. cc)) (listed.partials class has);
+      partials_exist = listed.partials_exist;
+    }
+listed-with g s l seat Partials new xs words' listed fits w stacked exist =
+    let plain : (n : WordName) → IsNoHead n → words' n ≡ s.word n = λ n is. w.elsewhere n (no-head-apart seat Partials n is) in
+    let frames : next_in words' Frames ≡ next_in s.word Frames = fun_ext (λ i. plain (name.FrameNext i) tt) in
+    let partials : next_in words' Partials ≡ next_in s.word Partials = fun_ext (λ i. plain (name.Next i) tt) in
+    let top : head_of (words' (name.ListHead seat.class)) ≡ new = ap head_of w.here ∙ head_of-head_word new fits in
+    record {
+      nexts = λ d has. subst (λ w. w ≤ descriptor_count g) (sym (plain (name.Next d) tt)) (listed.nexts d has);
+      frame_nexts = λ f has. subst (λ w. w ≤ g.frames) (sym (plain (name.FrameNext f) tt)) (listed.frame_nexts f has);
+      frames = rw (frames, w.elsewhere name.FrameHead (λ same. cc)) listed.frames;
+      frames_exist = listed.frames_exist;
+      available = rw (partials, plain name.DescHead tt) listed.available;
+      available_exist = listed.available_exist;
+      partials = λ class has.
+          elim (cases_eq class seat.class) [
+            | inl same ↦
+                let here : Stacked (next_in words' Partials) (head_of (words' (name.ListHead seat.class))).top ((with_list l seat Partials xs).partials seat.class) =
+                subst (Stacked (next_in words' Partials) (head_of (words' (name.ListHead seat.class))).top) (sym (list-here l seat Partials xs))
+                (rw (partials, top) stacked) in
+                subst (λ c. Stacked (next_in words' Partials) (head_of (words' (name.ListHead c))).top ((with_list l seat Partials xs).partials c)) (sym same) here
+            | inr differ ↦
+                subst (Stacked (next_in words' Partials) (head_of (words' (name.ListHead class))).top)
+                (sym (cond-false {A = List ℕ} (class == seat.class) xs (l.partials class) (ne_eqb class seat.class differ)))
+                (rw (partials, w.elsewhere (name.ListHead class) (λ e. differ (ap class_named e))) (listed.partials class has))
+          ];
+      partials_exist = λ class has.
+          elim (cases_eq class seat.class) [
+            | inl same ↦
+                subst (All (λ d. d < descriptor_count g))
+                (sym (cond-true {A = List ℕ} (class == seat.class) xs (l.partials class) (eq-eqb class seat.class same))) exist
+            | inr differ ↦
+                subst (All (λ d. d < descriptor_count g))
+                (sym (cond-false {A = List ℕ} (class == seat.class) xs (l.partials class) (ne_eqb class seat.class differ)))
+                (listed.partials_exist class has)
+          ];
+    }
+
+-- the superblocks of all lists are partly used, where those of the new one are
+pub partly-with :
+    (s : State) (l : Lists) (seat : SeatFields) (pile : Pile) (xs : List ℕ)
+    → ((class : ℕ) → class < CLASSES → All (λ d. IsPartlyUsed s d class) (l.partials class))
+    → (pile ≡ Partials → All (λ d. IsPartlyUsed s d seat.class) xs) → (class : ℕ) → class < CLASSES
+    → All (λ d. IsPartlyUsed s d class) ((with_list l seat pile xs).partials class)
+partly-with s l seat Frames xs old these class has = old class has
+partly-with s l seat Partials xs old these class has =
+    elim (cases_eq class seat.class) [
+      | inl same ↦
+          subst (All (λ d. IsPartlyUsed s d class))
+          (sym (cond-true {A = List ℕ} (class == seat.class) xs (l.partials class) (eq-eqb class seat.class same)))
+          (subst (λ c. All (λ d. IsPartlyUsed s d c) xs) (sym same) (these refl))
+      | inr differ ↦
+          subst (All (λ d. IsPartlyUsed s d class))
+          (sym (cond-false {A = List ℕ} (class == seat.class) xs (l.partials class) (ne_eqb class seat.class differ))) (old class has)
+    ]
+
+-- a stack that has an index on top is that index and the rest
+record IsTopOf (next : ℕ → ℕ) (top : ℕ) (xs : List ℕ) : Type 0 where
+  rest : List ℕ
+  whole : xs ≡ (top - 1) ∷ rest
+  stacked : Stacked next (next (top - 1)) rest
+
+top-of : (next : ℕ → ℕ) (top : ℕ) (xs : List ℕ) → Stacked next top xs → 1 ≤ top → IsTopOf next top xs
+top-of next top [] stacked some = absurd (omega (arith, stacked, some))
+top-of next top (x ∷ xs) stacked some =
+    let here : x ≡ top - 1 = omega (arith, stacked.0) in
+    record { rest = xs; whole = ap (λ y. y ∷ xs) here; stacked = subst (λ y. Stacked next (next y) xs) here stacked.1 }
+
+-- the partial superblocks of a list are partly used
+pub list-partly :
+    (g : Geometry) (s : State) (l : Lists) (seat : SeatFields) (pile : Pile) → IsSoundWith g s l → seat.class < CLASSES → pile ≡ Partials
+    → All (λ d. IsPartlyUsed s d seat.class) (list_of l seat pile)
+list-partly g s l seat Frames old has is = absurd (cc)
+list-partly g s l seat Partials old has is = old.kept.listed seat.class has
+
+-- so what is kept with one more of them in hand is in its state, and what is kept without it
+abbrev pub AreKept : State → List Kept → Type 0
+AreKept s ks = All (λ k. IsKeptAs s k.status k.desc k.class) ks
+
+keeps-more :
+    (s : State) (seat : SeatFields) (pile : Pile) (x : ℕ) (a b : Holding) → HoldsMore seat pile x a b
+    → (pile ≡ Partials → IsPartlyUsed s x seat.class) → AreKept s a.kept → AreKept s b.kept
+keeps-more s seat Frames x a b more is kept = subst (AreKept s) (sym more.0) kept
+keeps-more s seat Partials x a b more is kept =
+    subst (AreKept s) (sym more.0)
+    (All-cons (λ k. IsKeptAs s k.status k.desc k.class) (record { desc = x; class = seat.class; status = partly_used }) a.kept (is refl) kept)
+
+pub keeps-less :
+    (s : State) (seat : SeatFields) (pile : Pile) (x : ℕ) (a b : Holding) → HoldsMore seat pile x a b → AreKept s b.kept → AreKept s a.kept
+keeps-less s seat Frames x a b more kept = subst (AreKept s) more.0 kept
+keeps-less s seat Partials x a b more kept =
+    All-tail (λ k. IsKeptAs s k.status k.desc k.class) (record { desc = x; class = seat.class; status = partly_used }) a.kept
+    (subst (AreKept s) more.0 kept)
+
+pub in-hand :
+    (s : State) (seat : SeatFields) (pile : Pile) (x : ℕ) (a b : Holding) → HoldsMore seat pile x a b → AreKept s b.kept → pile ≡ Partials
+    → IsPartlyUsed s x seat.class
+in-hand s seat Frames x a b more kept is = absurd (cc)
+in-hand s seat Partials x a b more kept is =
+    All-head (λ k. IsKeptAs s k.status k.desc k.class) (record { desc = x; class = seat.class; status = partly_used }) a.kept
+    (subst (AreKept s) more.0 kept)
+
+-- where a won pop leads, and what the caller holds and remembers there
+record PopLeads (seat : SeatFields) (pile : Pile) (h : HeadFields) (below : ℕ) (o : Onward) (q : Point) : Type 0 where
+  next : popped seat (h.top - 1) o ≡ At q
+  holds : HoldsAlike (Stack (stack.PopTop seat pile h below) o) q
+  more : HoldsMore seat pile (h.top - 1) (holds_of (Stack (stack.PopTop seat pile h below) o)) (holds_of q)
+  credits : (holds_of q).credits ≡ (holds_of (Stack (stack.PopTop seat pile h below) o)).credits
+  waits : (class : ℕ) → waits_in class q ≡ 0
+  recalls : (recalls_of q ≡ []) ⊎ ((frame : ℕ) × (class : ℕ) × (recalls_of q ≡ made frame class 0 ∷ []))
+  spends : Spends pile h.tag (h.tag + 1) (Stack (stack.PopTop seat pile h below) o) q
+
+-- what is remembered after a pop is so: no link is stored yet
+pop-recalls :
+    (g : Geometry) (s : State) (l : Lists) (who : ℕ) (q : Point)
+    → (recalls_of q ≡ []) ⊎ ((frame : ℕ) × (class : ℕ) × (recalls_of q ≡ made frame class 0 ∷ [])) → All (IsSo g s l who) (recalls_of q)
+pop-recalls g s l who q (inl none) = subst (All (IsSo g s l who)) (sym none) (All-nil (IsSo g s l who))
+pop-recalls g s l who q (inr one) =
+    subst (All (IsSo g s l who)) (sym one.2)
+    (All-cons (IsSo g s l who) (made one.0 one.1 0) [] (λ i below. let bad : ⊥ = omega (arith, below) in absurd bad) (All-nil (IsSo g s l who)))
+
+-- a won pop that leads there
+pop-leads-sound :
+    (g : Geometry) (s : State) (who : ℕ) (s' : State) (seat : SeatFields) (pile : Pile) (h : HeadFields) (below : ℕ) (o : Onward) (q : Point)
+    → PopLeads seat pile h below o q → IsSoundWithoutCounts g s → who < g.callers → (s.errand who).point ≡ Stack (stack.PopTop seat pile h below) o
+    → s.word (head_name seat pile) ≡ head_word h → Step s who s' → IsSoundWithoutCounts g s'
+unfolding plan_point_of next_of event_of recalls_of
+pop-leads-sound g s who s' seat pile h below o q to sound has at word step =
+    let p : Point = Stack (stack.PopTop seat pile h below) o in
+    let new : HeadFields = record { top = below; tag = h.tag + 1 } in
+    let won : (s.word (head_name seat pile) == head_word h) ≡ true = eq-eqb (s.word (head_name seat pile)) (head_word h) word in
+    shifts-sound g s who s' p q seat pile new sound has at
+    (λ l old.
+    let fit = fits-at g s l who p old has at in
+    let class : seat.class < CLASSES = fit.point.0.seat.class in
+    let before : head_of (s.word (head_name seat pile)) ≡ h = ap head_of word ∙ head_of-head_word h fit.point.0.head in
+    let so = so-at g s l who p old has at in
+    let next = All-head (IsSo g s l who) (nexts seat pile h below) (tops seat pile h ∷ onward_recalls seat o) so in
+    let below_is : s.word (next_name pile (h.top - 1)) ≡ below = next (sym (ap (λ x. x.tag) before)) in
+    let stacked : Stacked (next_in s.word pile) h.top (list_of l seat pile) =
+    subst (λ x. Stacked (next_in s.word pile) x.top (list_of l seat pile)) before (pile-stacked g s l seat pile old.listed class) in
+    let top : IsTopOf (next_in s.word pile) h.top (list_of l seat pile) =
+    top-of (next_in s.word pile) h.top (list_of l seat pile) stacked fit.point.0.top.0 in
+    let room : h.tag + 1 < 2 ^ HEAD_TAG_BITS = subst (λ x. x.tag + 1 < 2 ^ HEAD_TAG_BITS) before (tag-room g s seat pile sound class) in
+    let fits : IsHead new = record { top = omega (arith, fit.point.1, limit-room g pile sound.checked); tag = room } in
+    let uncut : popped_head h below ≡ new =
+    ap (λ t. record { top = below; tag = t }) (mod-eq_of_lt {n = h.tag + 1} {m = 2 ^ HEAD_TAG_BITS} room) in
+    let one : OneMore seat pile (h.top - 1) l (with_list l seat pile top.rest) = more-popped l seat pile (h.top - 1) top.rest top.whole in
+    let exist : All (λ i. i < pile_limit g pile) ((h.top - 1) ∷ top.rest) =
+    subst (All (λ i. i < pile_limit g pile)) top.whole (pile-exists g s l seat pile old.listed class) in
+    let partly : pile ≡ Partials → All (λ d. IsPartlyUsed s d seat.class) ((h.top - 1) ∷ top.rest) =
+    λ is. subst (All (λ d. IsPartlyUsed s d seat.class)) top.whole (list-partly g s l seat pile old class is) in (
+      with_list l seat pile top.rest,
+      record {
+        leads = inl (rw won to.next);
+        event = rw won refl;
+        cleared = refl;
+        head = refl;
+        after = rw won (ap head_word uncut);
+        goes =
+            alike-goes g s l who p q old has at to.holds
+            (keeps-more s seat pile (h.top - 1) (holds_of p) (holds_of q) to.more
+            (λ is. All-head (λ d. IsPartlyUsed s d seat.class) (h.top - 1) top.rest (partly is)) (kept-at g s l who p old has at))
+            (pop-recalls g s l who q to.recalls);
+        fits = fits;
+        listed = λ words' writes.
+            listed-with g s l seat pile new top.rest words' old.listed fits writes
+            (subst (λ b. Stacked (next_in s.word pile) b top.rest) below_is top.stacked)
+            (All-tail (λ i. i < pile_limit g pile) (h.top - 1) top.rest exist);
+        balanced =
+            more-balanced seat pile (h.top - 1) l (with_list l seat pile top.rest) (holds_of p) (holds_of q) class one to.more;
+        credits = to.credits;
+        waits = to.waits;
+        partly =
+            partly-with s l seat pile top.rest old.kept.listed
+            (λ is. All-tail (λ d. IsPartlyUsed s d seat.class) (h.top - 1) top.rest (partly is));
+        tag = omega (arith, ap (λ (x : HeadFields). x.tag) before);
+        still = λ same i. let bad : ⊥ = omega (arith, same, ap (λ (x : HeadFields). x.tag) before) in absurd bad;
+        others = one.others;
+        spends = subst (λ (x : HeadFields). Spends pile x.tag (h.tag + 1) p q) (sym before) to.spends;
+      },
+    )) step
+
+-- a frame is popped for a new superblock; a partial superblock is taken, or cleared from its list
+take_frame-leads :
+    (seat : SeatFields) (h : HeadFields) (below words d : ℕ)
+    → PopLeads seat Frames h below (onward.TakeFrame words d)
+    (Block (block.LinkBlock (record { seat = seat; desc = d; frame = h.top - 1 }) 0) (onward.Alloc words))
+unfolding holds_of recalls_of
+take_frame-leads seat h below words d = record {
+  next = refl;
+  holds = record {
+    hazard = refl;
+    hands = refl;
+    frees = refl;
+    pushed = refl;
+    passed = refl;
+    unread = refl;
+    spare = refl;
+    turn = record { under_way = omega arith; discards = omega arith; unanswered = omega arith; unframed = omega arith; pops = omega arith };
+  };
+  more = (refl, refl);
+  credits = refl;
+  waits = λ class. refl;
+  recalls = inr (h.top - 1, seat.class, refl);
+  spends = omega arith;
+}
+
+alloc-leads :
+    (seat : SeatFields) (h : HeadFields) (below words : ℕ)
+    → PopLeads seat Partials h below (onward.Alloc words) (Partial (partial.LoadTakenInfo seat (h.top - 1)) (onward.Alloc words))
+unfolding holds_of recalls_of
+alloc-leads seat h below words = record {
+  next = refl;
+  holds = record {
+    hazard = refl;
+    hands = refl;
+    frees = refl;
+    pushed = refl;
+    passed = refl;
+    unread = refl;
+    spare = refl;
+    turn = record { under_way = omega arith; discards = omega arith; unanswered = omega arith; unframed = omega arith; pops = omega arith };
+  };
+  more = (refl, refl);
+  credits = refl;
+  waits = λ class. refl;
+  recalls = inl refl;
+  spends = omega arith;
+}
+
+clear-leads :
+    (seat : SeatFields) (h : HeadFields) (below : ℕ)
+    → PopLeads seat Partials h below onward.Clear (Partial (partial.LoadListedAnchor seat (h.top - 1)) onward.Clear)
+unfolding holds_of recalls_of
+clear-leads seat h below = record {
+  next = refl;
+  holds = record {
+    hazard = refl;
+    hands = refl;
+    frees = refl;
+    pushed = refl;
+    passed = refl;
+    unread = refl;
+    spare = refl;
+    turn = record { under_way = omega arith; discards = omega arith; unanswered = omega arith; unframed = omega arith; pops = omega arith };
+  };
+  more = (refl, refl);
+  credits = refl;
+  waits = λ class. refl;
+  recalls = inl refl;
+  spends = omega arith;
+}
+
+clear_second-leads :
+    (seat : SeatFields) (h : HeadFields) (below first : ℕ)
+    → PopLeads seat Partials h below (onward.ClearSecond first)
+    (Partial (partial.LoadListedAnchor seat (h.top - 1)) (onward.ClearSecond first))
+unfolding holds_of recalls_of
+clear_second-leads seat h below first = record {
+  next = refl;
+  holds = record {
+    hazard = refl;
+    hands = refl;
+    frees = refl;
+    pushed = refl;
+    passed = refl;
+    unread = refl;
+    spare = refl;
+    turn = record { under_way = omega arith; discards = omega arith; unanswered = omega arith; unframed = omega arith; pops = omega arith };
+  };
+  more = (refl, refl);
+  credits = refl;
+  waits = λ class. refl;
+  recalls = inl refl;
+  spends = omega arith;
+}
+
+-- the continuations of a pop
+abbrev desc_of : Onward → ℕ
+desc_of (onward.TakeFrame words d) = d
+desc_of (onward.ClearSecond first) = first
+desc_of o = 0
+
+the-frame : (o : Onward) → IsTrue (pops Frames o) → o ≡ onward.TakeFrame (asked o) (desc_of o)
+the-frame o is = grind (arith, is)
+
+the-partial :
+    (o : Onward) → IsTrue (pops Partials o)
+    → (o ≡ onward.Alloc (asked o)) ⊎ ((o ≡ onward.Clear) ⊎ (o ≡ onward.ClearSecond (desc_of o)))
+the-partial o is = grind (arith, is)
+
+-- a won pop of a frame leads to a new superblock, that of a partial one to its word or its anchor
+pop-leads :
+    (seat : SeatFields) (pile : Pile) (h : HeadFields) (below : ℕ) (o : Onward) → IsTrue (pops pile o)
+    → (q : Point) × PopLeads seat pile h below o q
+pop-leads seat Frames h below o is =
+    let d : ℕ = desc_of o in
+    subst (λ x. (q : Point) × PopLeads seat Frames h below x q) (sym (the-frame o is))
+    (Block (block.LinkBlock (record { seat = seat; desc = d; frame = h.top - 1 }) 0) (onward.Alloc (asked o)), take_frame-leads seat h below (asked o) d)
+pop-leads seat Partials h below o is =
+    elim (the-partial o is) [
+      | inl e ↦
+          subst (λ x. (q : Point) × PopLeads seat Partials h below x q) (sym e)
+          (Partial (partial.LoadTakenInfo seat (h.top - 1)) (onward.Alloc (asked o)), alloc-leads seat h below (asked o))
+      | inr (inl e) ↦
+          subst (λ x. (q : Point) × PopLeads seat Partials h below x q) (sym e)
+          (Partial (partial.LoadListedAnchor seat (h.top - 1)) onward.Clear, clear-leads seat h below)
+      | inr (inr e) ↦
+          subst (λ x. (q : Point) × PopLeads seat Partials h below x q) (sym e)
+          (Partial (partial.LoadListedAnchor seat (h.top - 1)) (onward.ClearSecond (desc_of o)), clear_second-leads seat h below (desc_of o))
+    ]
+
+-- a won pop from a stack
+pub pop_top_won-sound :
+    (g : Geometry) (s : State) (who : ℕ) (s' : State) (seat : SeatFields) (pile : Pile) (h : HeadFields) (below : ℕ) (o : Onward)
+    → IsSoundWithoutCounts g s → who < g.callers → (s.errand who).point ≡ Stack (stack.PopTop seat pile h below) o
+    → s.word (head_name seat pile) ≡ head_word h → Step s who s' → IsSoundWithoutCounts g s'
+pop_top_won-sound g s who s' seat pile h below o sound has at word step =
+    let leads = pop-leads seat pile h below o
+    (fits-at g s sound.parts.0 who (Stack (stack.PopTop seat pile h below) o) sound.parts.1 has at).goes in
+    pop-leads-sound g s who s' seat pile h below o leads.0 leads.1 sound has at word step
+
+-- won or lost
+pub pop_top-sound :
+    (g : Geometry) (s : State) (who : ℕ) (s' : State) (seat : SeatFields) (pile : Pile) (h : HeadFields) (below : ℕ) (o : Onward)
+    → IsSoundWithoutCounts g s → who < g.callers → (s.errand who).point ≡ Stack (stack.PopTop seat pile h below) o → Step s who s'
+    → IsSoundWithoutCounts g s'
+pop_top-sound g s who s' seat pile h below o sound has at step =
+    elim (cases_eq (s.word (head_name seat pile)) (head_word h)) [
+      | inl won ↦ pop_top_won-sound g s who s' seat pile h below o sound has at won step
+      | inr lost ↦ pop_top_lost-sound g s who s' seat pile h below o sound has at lost step
+    ]
+
+-- where a won push leads, and what the caller holds and remembers there
+record PushLeads (seat : SeatFields) (pile : Pile) (i : ℕ) (h : HeadFields) (o : Onward) (q : Point) : Type 0 where
+  next : Leads (put_away seat o) q
+  holds : HoldsAlike (Stack (stack.PushTop seat pile i h) o) q
+  more : HoldsMore seat pile i (holds_of q) (holds_of (Stack (stack.PushTop seat pile i h) o))
+  credits : (holds_of q).credits ≡ (holds_of (Stack (stack.PushTop seat pile i h) o)).credits
+  waits : (class : ℕ) → waits_in class q ≡ 0
+  recalls : recalls_of q ≡ onward_recalls seat o
+
+-- a tag that stays costs nothing
+push-spends : (pile : Pile) (t : ℕ) (p q : Point) → TurnGoes p q → Spends pile t t p q
+push-spends Frames t p q goes = omega (arith, goes.unframed)
+push-spends Partials t p q goes = omega (arith, goes.pops)
+
+-- a won push that leads there
+push-leads-sound :
+    (g : Geometry) (s : State) (who : ℕ) (s' : State) (seat : SeatFields) (pile : Pile) (i : ℕ) (h : HeadFields) (o : Onward) (q : Point)
+    → PushLeads seat pile i h o q → IsSoundWithoutCounts g s → who < g.callers → (s.errand who).point ≡ Stack (stack.PushTop seat pile i h) o
+    → s.word (head_name seat pile) ≡ head_word h → Step s who s' → IsSoundWithoutCounts g s'
+unfolding plan_point_of next_of event_of recalls_of
+push-leads-sound g s who s' seat pile i h o q to sound has at word step =
+    let p : Point = Stack (stack.PushTop seat pile i h) o in
+    let new : HeadFields = record { top = i + 1; tag = h.tag } in
+    let won : (s.word (head_name seat pile) == head_word h) ≡ true = eq-eqb (s.word (head_name seat pile)) (head_word h) word in
+    shifts-sound g s who s' p q seat pile new sound has at
+    (λ l old.
+    let fit = fits-at g s l who p old has at in
+    let class : seat.class < CLASSES = fit.point.0.seat.class in
+    let before : head_of (s.word (head_name seat pile)) ≡ h = ap head_of word ∙ head_of-head_word h fit.point.1 in
+    let so = so-at g s l who p old has at in
+    let said = All-head (IsSo g s l who) (says (next_name pile i) h.top) (tops_exist seat pile h ∷ onward_recalls seat o) so in
+    let so_onward =
+    All-tail (IsSo g s l who) (tops_exist seat pile h) (onward_recalls seat o)
+    (All-tail (IsSo g s l who) (says (next_name pile i) h.top) (tops_exist seat pile h ∷ onward_recalls seat o) so) in
+    let xs : List ℕ = list_of l seat pile in
+    let stacked : Stacked (next_in s.word pile) h.top xs =
+    subst (λ x. Stacked (next_in s.word pile) x.top xs) before (pile-stacked g s l seat pile old.listed class) in
+    let longer : Stacked (next_in s.word pile) (i + 1) (i ∷ xs) =
+    (refl, subst (λ t. Stacked (next_in s.word pile) t xs) (sym said.1) stacked) in
+    let room : i + 1 < 2 ^ TOP_BITS = omega (arith, fit.point.0.index, limit-room g pile sound.checked) in
+    let fits : IsHead new = record { top = room; tag = fit.point.1.tag } in
+    let uncut : pushed_head h i ≡ new = ap (λ t. record { top = t; tag = h.tag }) (mod-eq_of_lt {n = i + 1} {m = 2 ^ TOP_BITS} room) in
+    let one : OneMore seat pile i (with_list l seat pile (i ∷ xs)) l = more-pushed l seat pile i in
+    let kept = kept-at g s l who p old has at in (
+      with_list l seat pile (i ∷ xs),
+      record {
+        leads = rw won to.next;
+        event = rw won refl;
+        cleared = refl;
+        head = refl;
+        after = rw won (ap head_word uncut);
+        goes =
+            alike-goes g s l who p q old has at to.holds (keeps-less s seat pile i (holds_of q) (holds_of p) to.more kept)
+            (subst (All (IsSo g s l who)) (sym to.recalls) so_onward);
+        fits = fits;
+        listed = λ words' writes.
+            listed-with g s l seat pile new (i ∷ xs) words' old.listed fits writes longer
+            (All-cons (λ j. j < pile_limit g pile) i xs fit.point.0.index (pile-exists g s l seat pile old.listed class));
+        balanced =
+            balance-back (with_list l seat pile (i ∷ xs)) l (holds_of q) (holds_of p)
+            (more-balanced seat pile i (with_list l seat pile (i ∷ xs)) l (holds_of q) (holds_of p) class one to.more);
+        credits = to.credits;
+        waits = to.waits;
+        partly =
+            partly-with s l seat pile (i ∷ xs) old.kept.listed
+            (λ is.
+            All-cons (λ d. IsPartlyUsed s d seat.class) i xs (in-hand s seat pile i (holds_of q) (holds_of p) to.more kept is)
+            (list-partly g s l seat pile old class is));
+        tag = omega (arith, ap (λ (x : HeadFields). x.tag) before);
+        still = λ same j. omega (arith, ap (occurs j) one.here);
+        others = list-elsewhere l seat pile (i ∷ xs);
+        spends = subst (λ (x : HeadFields). Spends pile x.tag h.tag p q) (sym before) (push-spends pile h.tag p q to.holds.turn);
+      },
+    )) step
+
+-- what a push goes on with: the block is handed out; the hazard word is cleared; the first of two goes back, too; the superblock is looked for in its slot
+give_block-leads :
+    (seat : SeatFields) (i : ℕ) (h : HeadFields) (words : ℕ) (at : Site) (k : ℕ)
+    → PushLeads seat Partials i h (onward.GiveBlock words at k) (Block (block.StorePrefix at k) (onward.Alloc words))
+unfolding holds_of recalls_of
+give_block-leads seat i h words at k = record {
+  next = inl refl;
+  holds = record {
+    hazard = refl;
+    hands = refl;
+    frees = refl;
+    pushed = refl;
+    passed = refl;
+    unread = refl;
+    spare = refl;
+    turn = record { under_way = omega arith; discards = omega arith; unanswered = omega arith; unframed = omega arith; pops = omega arith };
+  };
+  more = (refl, refl);
+  credits = refl;
+  waits = λ class. refl;
+  recalls = refl;
+}
+
+finish_stored-leads :
+    (seat : SeatFields) (i : ℕ) (h : HeadFields)
+    → PushLeads seat Partials i h (onward.Finish true) (Desc (desc.ClearHazard seat) onward.EndFree)
+unfolding holds_of recalls_of
+finish_stored-leads seat i h = record {
+  next = inl refl;
+  holds = record {
+    hazard = refl;
+    hands = refl;
+    frees = refl;
+    pushed = refl;
+    passed = refl;
+    unread = refl;
+    spare = refl;
+    turn = record { under_way = omega arith; discards = omega arith; unanswered = omega arith; unframed = omega arith; pops = omega arith };
+  };
+  more = (refl, refl);
+  credits = refl;
+  waits = λ class. refl;
+  recalls = refl;
+}
+
+push_first-leads :
+    (seat : SeatFields) (i : ℕ) (h : HeadFields) (first : ℕ)
+    → PushLeads seat Partials i h (onward.PushFirst first) (Stack (stack.LoadTopToPush seat Partials first) onward.EndFree)
+unfolding holds_of recalls_of
+push_first-leads seat i h first = record {
+  next = inl refl;
+  holds = record {
+    hazard = refl;
+    hands = refl;
+    frees = refl;
+    pushed = refl;
+    passed = refl;
+    unread = refl;
+    spare = refl;
+    turn = record { under_way = omega arith; discards = omega arith; unanswered = omega arith; unframed = omega arith; pops = omega arith };
+  };
+  more = (refl, refl);
+  credits = refl;
+  waits = λ class. refl;
+  recalls = refl;
+}
+
+remove-leads :
+    (seat : SeatFields) (i : ℕ) (h : HeadFields) (d heap : ℕ)
+    → PushLeads seat Frames i h (onward.Remove d heap) (Partial (partial.LoadHeldSlot seat d heap) onward.Free)
+unfolding holds_of recalls_of
+remove-leads seat i h d heap = record {
+  next = inl refl;
+  holds = record {
+    hazard = refl;
+    hands = refl;
+    frees = refl;
+    pushed = refl;
+    passed = refl;
+    unread = refl;
+    spare = refl;
+    turn = record { under_way = omega arith; discards = omega arith; unanswered = omega arith; unframed = omega arith; pops = omega arith };
+  };
+  more = (refl, refl);
+  credits = refl;
+  waits = λ class. refl;
+  recalls = refl;
+}
+
+-- or with nothing: the call ends
+finish-leads :
+    (seat : SeatFields) (i : ℕ) (h : HeadFields)
+    → PushLeads seat Partials i h (onward.Finish false) (Idle)
+unfolding holds_of recalls_of
+finish-leads seat i h = record {
+  next = inr (reply.Freed, refl, refl);
+  holds = record {
+    hazard = refl;
+    hands = refl;
+    frees = refl;
+    pushed = refl;
+    passed = refl;
+    unread = refl;
+    spare = refl;
+    turn = record { under_way = omega arith; discards = omega arith; unanswered = omega arith; unframed = omega arith; pops = omega arith };
+  };
+  more = (refl, refl);
+  credits = refl;
+  waits = λ class. refl;
+  recalls = refl;
+}
+
+end_free-leads :
+    (seat : SeatFields) (i : ℕ) (h : HeadFields)
+    → PushLeads seat Partials i h onward.EndFree (Idle)
+unfolding holds_of recalls_of
+end_free-leads seat i h = record {
+  next = inr (reply.Freed, refl, refl);
+  holds = record {
+    hazard = refl;
+    hands = refl;
+    frees = refl;
+    pushed = refl;
+    passed = refl;
+    unread = refl;
+    spare = refl;
+    turn = record { under_way = omega arith; discards = omega arith; unanswered = omega arith; unframed = omega arith; pops = omega arith };
+  };
+  more = (refl, refl);
+  credits = refl;
+  waits = λ class. refl;
+  recalls = refl;
+}
+
+-- the continuations of a push after which nothing is retired
+abbrev pub keeps_list : Onward → Bool
+keeps_list (onward.Discard words d) = false
+keeps_list (onward.Retire d) = false
+keeps_list o = true
+
+push-leads :
+    (seat : SeatFields) (pile : Pile) (i : ℕ) (h : HeadFields) (o : Onward) → pushes pile o ≡ true → keeps_list o ≡ true
+    → (q : Point) × PushLeads seat pile i h o q
+push-leads seat Partials i h (onward.GiveBlock words at k) is goes = (Block (block.StorePrefix at k) (onward.Alloc words), give_block-leads seat i h words at k)
+push-leads seat Partials i h (onward.Finish true) is goes = (Desc (desc.ClearHazard seat) onward.EndFree, finish_stored-leads seat i h)
+push-leads seat Partials i h (onward.Finish false) is goes = (Idle, finish-leads seat i h)
+push-leads seat Partials i h onward.EndFree is goes = (Idle, end_free-leads seat i h)
+push-leads seat Partials i h (onward.PushFirst first) is goes =
+    (Stack (stack.LoadTopToPush seat Partials first) onward.EndFree, push_first-leads seat i h first)
+push-leads seat Frames i h (onward.Remove d heap) is goes = (Partial (partial.LoadHeldSlot seat d heap) onward.Free, remove-leads seat i h d heap)
+push-leads seat Partials i h (onward.Remove d heap) is goes = absurd (cc)
+push-leads seat Partials i h (onward.Discard words d) is goes = absurd (cc)
+push-leads seat Partials i h (onward.Retire d) is goes = absurd (cc)
+push-leads seat Partials i h (onward.Alloc words) is goes = absurd (cc)
+push-leads seat Partials i h (onward.TakeFrame words d) is goes = absurd (cc)
+push-leads seat Partials i h (onward.Turn words) is goes = absurd (cc)
+push-leads seat Partials i h (onward.Look words) is goes = absurd (cc)
+push-leads seat Partials i h onward.Refuse is goes = absurd (cc)
+push-leads seat Partials i h onward.Free is goes = absurd (cc)
+push-leads seat Partials i h onward.Clear is goes = absurd (cc)
+push-leads seat Partials i h (onward.ClearSecond first) is goes = absurd (cc)
+push-leads seat Partials i h onward.Nothing is goes = absurd (cc)
+push-leads seat Frames i h (onward.GiveBlock words at k) is goes = absurd (cc)
+push-leads seat Frames i h (onward.Finish stored) is goes = absurd (cc)
+push-leads seat Frames i h onward.EndFree is goes = absurd (cc)
+push-leads seat Frames i h (onward.PushFirst first) is goes = absurd (cc)
+push-leads seat Frames i h (onward.Discard words d) is goes = absurd (cc)
+push-leads seat Frames i h (onward.Retire d) is goes = absurd (cc)
+push-leads seat Frames i h (onward.Alloc words) is goes = absurd (cc)
+push-leads seat Frames i h (onward.TakeFrame words d) is goes = absurd (cc)
+push-leads seat Frames i h (onward.Turn words) is goes = absurd (cc)
+push-leads seat Frames i h (onward.Look words) is goes = absurd (cc)
+push-leads seat Frames i h onward.Refuse is goes = absurd (cc)
+push-leads seat Frames i h onward.Free is goes = absurd (cc)
+push-leads seat Frames i h onward.Clear is goes = absurd (cc)
+push-leads seat Frames i h (onward.ClearSecond first) is goes = absurd (cc)
+push-leads seat Frames i h onward.Nothing is goes = absurd (cc)
+
+-- what holds is true
+pub holds-true : (b : Bool) → IsTrue b → b ≡ true
+holds-true b is = grind (arith, is)
+
+-- a won push onto a stack, after which nothing is retired
+pub push_going_on-sound :
+    (g : Geometry) (s : State) (who : ℕ) (s' : State) (seat : SeatFields) (pile : Pile) (i : ℕ) (h : HeadFields) (o : Onward)
+    → IsSoundWithoutCounts g s → who < g.callers → (s.errand who).point ≡ Stack (stack.PushTop seat pile i h) o → keeps_list o ≡ true
+    → s.word (head_name seat pile) ≡ head_word h → Step s who s' → IsSoundWithoutCounts g s'
+push_going_on-sound g s who s' seat pile i h o sound has at goes word step =
+    let fit = fits-at g s sound.parts.0 who (Stack (stack.PushTop seat pile i h) o) sound.parts.1 has at in
+    let leads = push-leads seat pile i h o (holds-true (pushes pile o) fit.goes) goes in
+    push-leads-sound g s who s' seat pile i h o leads.0 leads.1 sound has at word step

@@ -1,0 +1,451 @@
+-- Who alone may store a word of the arena: the owner of the live block whose prefix it is, or the maker of the superblock in which it lies.
+use Rattle.std.proofs.Common.{ℕ, zero, suc, true, Option, Some, None, ◌≡◌, ◌≢◌, ◌<◌, ◌≤◌, ◌+◌, ◌^◌, List, [], ◌∷◌, length, refl, arith, ap, sym, subst, inl, inr, ◌∙◌}
+use Rattle.std.specs.List.{AllByRecursion}
+use Rattle.std.specs.Prelude.{IsTrue, slice_index_or}
+use Rattle.std.proofs.lemmas.Bool.{cases_eq}
+use Rattle.std.proofs.lemmas.Option.{none-some}
+use Rattle.std.proofs.lemmas.List.Elements.{All-from_recursion, recursion_from_All}
+use Rattle.heap_geometry.specs.declared.geometry.Geometry.{Geometry}
+use Rattle.heap_geometry.specs.declared.need.Need.{Need}
+use Rattle.heap_geometry.specs.declared.need.Need.TheVariants.{Small, Large, TooLarge}
+use Rattle.heap_geometry.specs.Need.{block_count_of, usable_words}
+use Rattle.heap_geometry.specs.Place.{block_place, frame_of}
+use Rattle.heap_geometry.proofs.PlaceLemmas.{frame_of-block_place, block-within}
+use Rattle.word_plan.specs.declared.name.WordName.{WordName}
+use Rattle.word_plan.specs.declared.name.WordName.TheVariants as name
+use Rattle.word_plan.specs.declared.seat.Site.{Site}
+use Rattle.word_plan.specs.Counts.{descriptor_count}
+use Rattle.word_plan.specs.Seats.{SeatFields}
+use Rattle.word_plan.specs.Words.{Writes}
+use Rattle.superblock_parts.specs.Chains.{occurs}
+use Rattle.superblock_parts.specs.declared.point.BlockPoint.{BlockPoint}
+use Rattle.superblock_parts.specs.declared.point.BlockPoint.TheVariants as block
+use Rattle.superblock_parts.specs.Fits.{FitsBlock}
+use Rattle.stack_parts.specs.declared.point.Pile.{Pile}
+use Rattle.stack_parts.specs.declared.point.Pile.TheVariants.{Frames, Partials}
+use Rattle.stack_parts.specs.declared.point.StackPoint.{StackPoint}
+use Rattle.stack_parts.specs.declared.point.StackPoint.TheVariants as stack
+use Rattle.stack_parts.specs.Piles.{next_name}
+use Rattle.hazard_parts.specs.declared.point.DescPoint.{DescPoint}
+use Rattle.hazard_parts.specs.declared.point.DescPoint.TheVariants as desc
+use Rattle.partial_parts.specs.declared.point.PartialPoint.{PartialPoint}
+use Rattle.large_parts.specs.declared.point.LargePoint.{LargePoint}
+use Rattle.pool_model.specs.Pool.{Block, block_at, pool_of}
+use Rattle.pool_model.specs.WellFormed.{IsPlaceFor, IsWellFormed}
+use Rattle.pool_model.proofs.PoolLemmas.{place-found, every-found}
+use Rattle.pool_model.proofs.WellFormedLemmas.{sound-of, small-frame, large-frame, class_span}
+use Rattle.errand_steps.specs.declared.onward.Onward.{Onward}
+use Rattle.errand_steps.specs.declared.point.Point.{Point}
+use Rattle.errand_steps.specs.declared.point.Point.TheVariants as point
+use Rattle.errand_steps.specs.Fits.{FitsPoint}
+use Rattle.errand_steps.specs.Steps.{State}
+use Rattle.sound_state.specs.Frames.{errand_frames, fills}
+use Rattle.sound_state.specs.Holdings.{waiting, making, holds_of}
+use Rattle.sound_state.specs.Lists.{Lists}
+use Rattle.sound_state.specs.Recalls.{IsSo, IsOwned, recalls_of, onward_recalls, stack_recalls, desc_recalls, block_recalls, partial_recalls, large_recalls}
+use Rattle.sound_state.specs.Sound.{IsSoundWith, IsSoundWithoutCounts}
+use Rattle.sound_state.specs.Sums.{callers_sum}
+use Rattle.sound_state.specs.Superblocks.{info_for, is_bound, superblock_of, free_chain, errand_keeps, kept_among}
+use Rattle.sound_state.specs.Ties.{IsLive, IsExcepted}
+use Rattle.sound_state.proofs.shared.FrameLemmas.{held-or-filled}
+use Rattle.sound_state.proofs.shared.OverlapLemmas.{live-apart, free-unlive}
+use Rattle.sound_state.proofs.shared.PointLemmas.{fits-at, frees-at}
+use Rattle.sound_state.proofs.stores.PrefixLemmas.{with_arena, IsStillSaid, IsChainKept, ArenaKept}
+use Rattle.sound_state.proofs.quiet.QuietPushes.{owner-is}
+use Rattle.sound_state.proofs.shared.StepLemmas.{words-below}
+use Rattle.sound_state.proofs.shared.SumLemmas.{term-sum, two-terms}
+
+-- the arena of these words
+abbrev pub arena_in : (WordName → ℕ) → ℕ → ℕ
+arena_in words place = words (name.Arena place)
+
+abbrev arena_word : WordName → ℕ
+arena_word (name.Arena place) = place
+arena_word n = 0
+
+-- the words after a write into the arena are those before it with another arena
+pub arena-written :
+    (words : WordName → ℕ) (p new : ℕ) (words' : WordName → ℕ) → Writes words (name.Arena p) new words' → (m : WordName)
+    → words' m ≡ with_arena (arena_in words') words m
+arena-written words p new words' w (name.Arena place) = refl
+arena-written words p new words' w (name.Next d) = w.elsewhere (name.Next d) (λ is. cc)
+arena-written words p new words' w (name.FrameNext f) = w.elsewhere (name.FrameNext f) (λ is. cc)
+arena-written words p new words' w (name.Anchor d) = w.elsewhere (name.Anchor d) (λ is. cc)
+arena-written words p new words' w (name.Info d) = w.elsewhere (name.Info d) (λ is. cc)
+arena-written words p new words' w (name.Active heap class) = w.elsewhere (name.Active heap class) (λ is. cc)
+arena-written words p new words' w (name.Slot heap class) = w.elsewhere (name.Slot heap class) (λ is. cc)
+arena-written words p new words' w (name.ListHead class) = w.elsewhere (name.ListHead class) (λ is. cc)
+arena-written words p new words' w name.FrameHead = w.elsewhere name.FrameHead (λ is. cc)
+arena-written words p new words' w name.DescHead = w.elsewhere name.DescHead (λ is. cc)
+arena-written words p new words' w (name.Hazard who) = w.elsewhere (name.Hazard who) (λ is. cc)
+arena-written words p new words' w name.Units = w.elsewhere name.Units (λ is. cc)
+arena-written words p new words' w (name.Shelf k) = w.elsewhere (name.Shelf k) (λ is. cc)
+
+pub arena-elsewhere :
+    (words : WordName → ℕ) (p new : ℕ) (words' : WordName → ℕ) → Writes words (name.Arena p) new words' → (q : ℕ) → q ≢ p
+    → arena_in words' q ≡ words (name.Arena q)
+arena-elsewhere words p new words' w q differ = w.elsewhere (name.Arena q) (λ is. differ (ap arena_word is))
+
+-- the caller remembers nothing of what the place says: it doesn't push its block, and hasn't stored its link in a new superblock
+abbrev pub IsUnread : ℕ → Point → Type 0
+IsUnread p (point.Block (block.PushBlock at i a stored heap) o) = block_place at.frame at.seat.class i ≢ p
+IsUnread p (point.Block (block.LinkBlock at i) o) = (k : ℕ) → k < i → block_place at.frame at.seat.class k ≢ p
+IsUnread p (point.Block (block.StoreInfo at) o) = (k : ℕ) → k < block_count_of at.seat.class → block_place at.frame at.seat.class k ≢ p
+IsUnread p (point.Block (block.StoreAnchor at) o) = (k : ℕ) → k < block_count_of at.seat.class → block_place at.frame at.seat.class k ≢ p
+IsUnread p q = Unit {0}
+
+-- nobody reads the word at the place, but for a caller that hands out or frees the block there
+pub record IsLoose (g : Geometry) (s : State) (l : Lists) (p : ℕ) : Type 0 where
+  pub chains :
+      (d : ℕ) → d < descriptor_count g → IsTrue (is_bound g s l d) → (i : ℕ) → 0 < occurs i (free_chain (superblock_of g s d))
+      → block_place (info_for s d).frame (info_for s d).class i ≢ p
+  pub ties : (b : Block) → IsLive s p b → IsExcepted g s p
+  pub contents :
+      (place i v : ℕ) (b : Block) → IsLive s place b → slice_index_or b.contents i None ≡ Some v → place + 1 + i ≢ p
+  pub unread : (who : ℕ) → who < g.callers → IsUnread p (s.errand who).point
+
+-- what each caller remembers is still said
+abbrev ChainsKept : Geometry → State → Lists → (ℕ → ℕ) → Type 0
+ChainsKept g s l a = (d : ℕ) → d < descriptor_count g → IsTrue (is_bound g s l d) → IsChainKept g s a d
+
+-- the words at other places stay
+abbrev OthersStay : State → (ℕ → ℕ) → ℕ → Type 0
+OthersStay s a p = (q : ℕ) → q ≢ p → a q ≡ s.word (name.Arena q)
+
+said-block :
+    (g : Geometry) (s : State) (l : Lists) (a : ℕ → ℕ) (who place : ℕ) (p : BlockPoint) (o : Onward) → ChainsKept g s l a
+    → OthersStay s a place → FitsBlock g who p → AllByRecursion (IsSo g s l who) (block_recalls p) → IsUnread place (point.Block p o)
+    → AllByRecursion (IsStillSaid g s a) (block_recalls p)
+said-block g s l a who place (block.LoadActive seat) o kept stay fits so off = tt
+said-block g s l a who place (block.TakeCredit seat e credits) o kept stay fits so off = tt
+said-block g s l a who place (block.LoadInfo seat e share) o kept stay fits so off = (tt, tt)
+said-block g s l a who place (block.LoadAnchor at share) o kept stay fits so off = (tt, tt)
+said-block g s l a who place (block.LoadLink at share x) o kept stay fits so off =
+    (kept at.desc fits.site.desc so.1.0.0, (tt, tt))
+said-block g s l a who place (block.PopBlock at share x prefix) o kept stay fits so off =
+    let chain = kept at.desc fits.site.desc so.1.1.0.0 in
+    (λ is. chain x.avail (so.1.0.first is), (chain, (tt, tt)))
+said-block g s l a who place (block.StorePrefix at k) o kept stay fits so off = (tt, tt)
+said-block g s l a who place (block.InstallCredits at k more) o kept stay fits so off = (tt, tt)
+said-block g s l a who place (block.InstallSuperblock at) o kept stay fits so off = (refl, (tt, tt))
+said-block g s l a who place (block.LoadReturn at k more) o kept stay fits so off = (tt, tt)
+said-block g s l a who place (block.ReturnCredits at k more x) o kept stay fits so off = (tt, tt)
+said-block g s l a who place (block.LoadPrefix seat frame k) o kept stay fits so off = tt
+said-block g s l a who place (block.LoadPushAnchor at k stored) o kept stay fits so off = (tt, tt)
+said-block g s l a who place (block.StoreGuard at k x) o kept stay fits so off = (tt, tt)
+said-block g s l a who place (block.LoadOwner at k x) o kept stay fits so off = (tt, tt)
+said-block g s l a who place (block.StoreLink at k x stored heap) o kept stay fits so off = (tt, tt)
+said-block g s l a who place (block.PushBlock at k x stored heap) o kept stay fits so off =
+    (stay (block_place at.frame at.seat.class k) off, (tt, tt))
+said-block g s l a who place (block.LinkBlock at k) o kept stay fits so off =
+    (λ i lt. stay (block_place at.frame at.seat.class i) (off i lt), tt)
+said-block g s l a who place (block.StoreInfo at) o kept stay fits so off =
+    (λ i lt. stay (block_place at.frame at.seat.class i) (off i lt), tt)
+said-block g s l a who place (block.StoreAnchor at) o kept stay fits so off =
+    (refl, (λ i lt. stay (block_place at.frame at.seat.class i) (off i lt), tt))
+said-block g s l a who place (block.WantsPartial seat) o kept stay fits so off = tt
+said-block g s l a who place (block.Returned at k) o kept stay fits so off = tt
+said-block g s l a who place (block.Discarded at) o kept stay fits so off = tt
+said-block g s l a who place (block.Given at k) o kept stay fits so off = tt
+said-block g s l a who place (block.BecameEmpty at heap) o kept stay fits so off = tt
+said-block g s l a who place (block.BecamePartial at stored) o kept stay fits so off = tt
+said-block g s l a who place (block.Pushed seat stored) o kept stay fits so off = tt
+
+said-onward : (g : Geometry) (s : State) (a : ℕ → ℕ) (seat : SeatFields) (o : Onward) → AllByRecursion (IsStillSaid g s a) (onward_recalls seat o)
+said-onward g s a seat o = grind (arith)
+
+said-next : (s : State) (a : ℕ → ℕ) (pile : Pile) (i : ℕ) → with_arena a s.word (next_name pile i) ≡ s.word (next_name pile i)
+said-next s a Frames i = refl
+said-next s a Partials i = refl
+
+said-stack : (g : Geometry) (s : State) (a : ℕ → ℕ) (p : StackPoint) (o : Onward) → AllByRecursion (IsStillSaid g s a) (stack_recalls p o)
+said-stack g s a (stack.LoadTop seat pile) o = said-onward g s a seat o
+said-stack g s a (stack.LoadBelow seat pile h) o = (tt, said-onward g s a seat o)
+said-stack g s a (stack.PopTop seat pile h below) o = (tt, (tt, said-onward g s a seat o))
+said-stack g s a (stack.ConfirmEmpty seat pile h) o = said-onward g s a seat o
+said-stack g s a (stack.LoadTopToPush seat pile k) o = said-onward g s a seat o
+said-stack g s a (stack.StoreBelow seat pile k h) o = (tt, said-onward g s a seat o)
+said-stack g s a (stack.PushTop seat pile k h) o = (said-next s a pile k, (tt, said-onward g s a seat o))
+said-stack g s a (stack.Popped seat pile k) o = tt
+said-stack g s a (stack.FoundEmpty seat pile h) o = tt
+said-stack g s a (stack.ConfirmedEmpty seat pile) o = tt
+said-stack g s a (stack.Pushed seat pile) o = tt
+
+said-desc : (g : Geometry) (s : State) (a : ℕ → ℕ) (p : DescPoint) (o : Onward) → AllByRecursion (IsStillSaid g s a) (desc_recalls p o)
+said-desc g s a (desc.LoadDescHead seat) o = (tt, tt)
+said-desc g s a (desc.StoreHazard seat e) o = (tt, tt)
+said-desc g s a (desc.ReloadDescHead seat e) o = (tt, tt)
+said-desc g s a (desc.LoadNextDesc seat e) o = (tt, tt)
+said-desc g s a (desc.PopDesc seat e next) o = (tt, (tt, tt))
+said-desc g s a (desc.ClearAfterPop seat e) o = (tt, tt)
+said-desc g s a (desc.ClearHazard seat) o = said-onward g s a seat o
+said-desc g s a (desc.ReadHazard seat held k) o = tt
+said-desc g s a (desc.LoadHeadToPush seat e) o = tt
+said-desc g s a (desc.StoreNextDesc seat e top) o = tt
+said-desc g s a (desc.PushDesc seat e top) o = (refl, tt)
+said-desc g s a (desc.Got seat e) o = tt
+said-desc g s a (desc.Cleared seat) o = tt
+said-desc g s a (desc.Scanned seat held) o = tt
+said-desc g s a (desc.Pushed seat e) o = tt
+
+said-partial : (g : Geometry) (s : State) (a : ℕ → ℕ) (p : PartialPoint) (o : Onward) → AllByRecursion (IsStillSaid g s a) (partial_recalls p o)
+said-partial g s a p o = grind (arith)
+
+said-large : (g : Geometry) (s : State) (a : ℕ → ℕ) (p : LargePoint) → AllByRecursion (IsStillSaid g s a) (large_recalls p)
+said-large g s a p = grind (arith)
+
+said-point :
+    (g : Geometry) (s : State) (l : Lists) (a : ℕ → ℕ) (who place : ℕ) (p : Point) → ChainsKept g s l a → OthersStay s a place
+    → FitsPoint g who p → AllByRecursion (IsSo g s l who) (recalls_of p) → IsUnread place p
+    → AllByRecursion (IsStillSaid g s a) (recalls_of p)
+unfolding recalls_of
+said-point g s l a who place point.Idle kept stay fits so off = tt
+said-point g s l a who place (point.Block p o) kept stay fits so off = said-block g s l a who place p o kept stay fits.point so off
+said-point g s l a who place (point.Stack p o) kept stay fits so off = said-stack g s a p o
+said-point g s l a who place (point.Desc p o) kept stay fits so off = said-desc g s a p o
+said-point g s l a who place (point.Partial p o) kept stay fits so off = said-partial g s a p o
+said-point g s l a who place (point.Large p o) kept stay fits so off = said-large g s a p
+
+-- a write to a place that nobody reads keeps the arena
+pub arena-kept :
+    (g : Geometry) (s : State) (l : Lists) (p new : ℕ) (words' : WordName → ℕ) → IsSoundWith g s l → IsLoose g s l p → new < 2 ^ 64
+    → Writes s.word (name.Arena p) new words' → ArenaKept g s l (arena_in words')
+arena-kept g s l p new words' old loose below w =
+    let a = arena_in words' in
+    let same = arena-written s.word p new words' w in
+    let stay : OthersStay s a p = arena-elsewhere s.word p new words' w in
+    let chains : ChainsKept g s l a =
+    λ d has bound i on. stay (block_place (info_for s d).frame (info_for s d).class i) (loose.chains d has bound i on) in
+    record {
+      words = λ m. subst (λ v. v < 2 ^ 64) (same m) (words-below s.word (name.Arena p) new words' w old.words below m);
+      chains = chains;
+      ties = λ place b live.
+          elim (cases_eq place p) [
+            | inl is ↦ inl (subst (IsExcepted g s) (sym is) (loose.ties b (subst (λ q. IsLive s q b) is live)))
+            | inr differ ↦ inr (stay place differ)
+          ];
+      contents = λ place i v b live of. stay (place + 1 + i) (loose.contents place i v b live of);
+      recalls = λ i has.
+          let q : Point = (s.errand i).point in
+          All-from_recursion (IsStillSaid g s a) (recalls_of q)
+          (said-point g s l a i p q chains stay (fits-at g s l i q old has refl)
+          (recursion_from_All (IsSo g s l i) (recalls_of q) (old.remembered.so i has)) (loose.unread i has));
+    }
+
+-- what is written lies in the block
+pub written-within : (xs : List (Option ℕ)) (i v : ℕ) → slice_index_or xs i None ≡ Some v → i < length xs
+written-within [] i v of = absurd (none-some v of)
+written-within (x ∷ xs) zero v of = omega arith
+written-within (x ∷ xs) (suc i) v of = omega (arith, written-within xs i v of)
+
+-- a live block is well formed and lies at its place
+formed-at : (g : Geometry) (s : State) (place : ℕ) (b : Block) → IsSoundWithoutCounts g s → IsLive s place b → IsWellFormed g b
+formed-at g s place b sound live =
+    every-found (IsWellFormed g) place (pool_of s.history) b (sound-of g s.history sound.legal).each live
+
+-- no payload has a place at which a block is live
+unwritten-live :
+    (g : Geometry) (s : State) (p place i v : ℕ) (b c : Block) → IsSoundWithoutCounts g s → IsLive s p b → IsLive s place c
+    → slice_index_or c.contents i None ≡ Some v → place + 1 + i ≢ p
+unwritten-live g s p place i v b c sound live at of same =
+    let within : i < length c.contents = written-within c.contents i v of in
+    let full : length c.contents ≡ usable_words c.need = (formed-at g s place c sound at).full in
+    let here : b.place ≡ p = place-found p (pool_of s.history) b live in
+    let there : c.place ≡ place = place-found place (pool_of s.history) c at in
+    let differ : place ≢ p = λ is. let bad : ⊥ = omega (arith, is, same) in bad in
+    elim (live-apart g s sound place p c b at live differ) [
+      | inl before ↦ omega (arith, before, here, there, full, within, same)
+      | inr after ↦ omega (arith, after, here, there, same)
+    ]
+
+-- who makes a superblock has its frame in its hand, and no superblock waits with it
+pub record IsMaking (s : State) (who f : ℕ) : Type 0 where
+  pub hand : 0 < errand_frames f (s.errand who)
+  pub waits : (d : ℕ) → errand_keeps waiting d (s.errand who) ≡ 0
+
+making-frame : (at : Site) → 0 < occurs at.frame (making at).frames
+making-frame at = grind (arith)
+
+making-waits : (d : ℕ) (at : Site) → kept_among waiting d (making at).kept ≡ 0
+making-waits d at = grind (arith)
+
+pub is-making : (s : State) (who : ℕ) (p : Point) (at : Site) → (s.errand who).point ≡ p → holds_of p ≡ making at → IsMaking s who at.frame
+is-making s who p at stands holds =
+    let held : holds_of (s.errand who).point ≡ making at = ap holds_of stands ∙ holds in
+    record {
+      hand = subst (λ h. 0 < occurs at.frame h.frames) (sym held) (making-frame at);
+      waits = λ d. ap (λ h. kept_among waiting d h.kept) held ∙ making-waits d at;
+    }
+
+-- so no superblock lies there
+pub making-unbound :
+    (g : Geometry) (s : State) (l : Lists) (who f d : ℕ) → IsSoundWith g s l → who < g.callers → f < g.frames → d < descriptor_count g
+    → IsMaking s who f → IsTrue (is_bound g s l d) → (info_for s d).frame ≢ f
+unfolding callers_sum
+making-unbound g s l who f d old has in_heap exists mine bound at =
+    let once = old.framed.once f in_heap in
+    let hands = λ (i : ℕ). errand_frames f (s.errand i) in
+    elim (held-or-filled g s l f d old bound at) [
+      | inl one ↦
+          let differ : one.0 ≢ who =
+          λ is.
+          let some : 0 < errand_keeps waiting d (s.errand who) = subst (λ i. 0 < errand_keeps waiting d (s.errand i)) is one.2 in
+          let bad : ⊥ = omega (arith, some, mine.waits d) in bad in
+          omega (arith, once, one.3, mine.hand, two-terms g.callers hands one.0 who one.1 has differ)
+      | inr one ↦
+          omega
+          (arith, once, one, mine.hand, term-sum g.callers hands who has, term-sum (descriptor_count g) (fills g s l f) d exists)
+    ]
+
+-- and no other caller has the frame
+pub making-alone :
+    (g : Geometry) (s : State) (l : Lists) (who other f : ℕ) → IsSoundWith g s l → who < g.callers → other < g.callers → f < g.frames
+    → IsMaking s who f → IsMaking s other f → other ≡ who
+unfolding callers_sum
+making-alone g s l who other f old has has_other in_heap mine theirs =
+    let once = old.framed.once f in_heap in
+    elim (cases_eq other who) [
+      | inl is ↦ is
+      | inr differ ↦
+          absurd
+          (omega
+          (arith, once, mine.hand, theirs.hand, two-terms g.callers (λ i. errand_frames f (s.errand i)) other who has_other has differ))
+    ]
+
+-- the frame of a live small block is none that is in the making
+small-unmade :
+    (g : Geometry) (s : State) (l : Lists) (who f place class : ℕ) (b : Block) → IsSoundWith g s l → who < g.callers → f < g.frames
+    → IsMaking s who f → IsLive s place b → b.need ≡ Small class → frame_of place ≢ f
+small-unmade g s l who f place class b old has in_heap mine live of at =
+    let tied = old.tied.small place class b live of in
+    making-unbound g s l who f tied.0 old has in_heap tied.1.exists mine tied.1.bound (tied.1.located.frame ∙ at)
+
+-- no block is live in a frame that is in the making
+pub live-unmade :
+    (g : Geometry) (s : State) (l : Lists) (who f place : ℕ) (b : Block) (n : Need) → IsSoundWithoutCounts g s → IsSoundWith g s l
+    → who < g.callers → f < g.frames → IsMaking s who f → IsLive s place b → b.need ≡ n → frame_of place ≢ f
+live-unmade g s l who f place b (Small class) sound old has in_heap mine live of =
+    small-unmade g s l who f place class b old has in_heap mine live of
+live-unmade g s l who f place b (Large units) sound old has in_heap mine live of =
+    λ at.
+    let behind : g.frames ≤ frame_of b.place = large-frame g b.need units b.place of (formed-at g s place b sound live).place in
+    omega (arith, behind, at, in_heap, ap frame_of (place-found place (pool_of s.history) b live))
+live-unmade g s l who f place b TooLarge sound old has in_heap mine live of =
+    absurd (subst (λ n. IsPlaceFor g n b.place) of (formed-at g s place b sound live).place)
+
+-- nor does a payload lie there
+written-frame :
+    (g : Geometry) (s : State) (place i v : ℕ) (b : Block) (n : Need) → IsSoundWithoutCounts g s → IsLive s place b → b.need ≡ n
+    → slice_index_or b.contents i None ≡ Some v → frame_of (place + 1 + i) < g.frames → frame_of place ≡ frame_of (place + 1 + i)
+written-frame g s place i v b (Small class) sound live of at below =
+    let formed : IsWellFormed g b = formed-at g s place b sound live in
+    let placed : IsPlaceFor g (Small class) b.place = subst (λ n. IsPlaceFor g n b.place) of formed.place in
+    let here : b.place ≡ place = place-found place (pool_of s.history) b live in
+    let within : i < length b.contents = written-within b.contents i v at in
+    let full : length b.contents ≡ usable_words (Small class) = formed.full ∙ ap usable_words of in
+    let fits = block-within class placed.1 placed.3 in
+    omega (arith, here, placed.4, within, full, class_span class, fits)
+written-frame g s place i v b (Large units) sound live of at below =
+    let behind : g.frames ≤ frame_of b.place = large-frame g b.need units b.place of (formed-at g s place b sound live).place in
+    let here : b.place ≡ place = place-found place (pool_of s.history) b live in
+    absurd (omega (arith, behind, here, below))
+written-frame g s place i v b TooLarge sound live of at below =
+    absurd (subst (λ n. IsPlaceFor g n b.place) of (formed-at g s place b sound live).place)
+
+-- what a caller does with the frame of a place, and with a block there: it makes no superblock, and owns no block
+pub record IsElsewhere (s : State) (i p : ℕ) : Type 0 where
+  pub owns : (n : Need) → IsOwned s i p n → ⊥
+  pub makes : (f : ℕ) → IsMaking s i f → frame_of p ≢ f
+
+-- so it remembers nothing of the place
+unread-block :
+    (g : Geometry) (s : State) (l : Lists) (i p : ℕ) (q : BlockPoint) (o : Onward) → IsSoundWith g s l → i < g.callers
+    → (s.errand i).point ≡ point.Block q o → FitsBlock g i q → IsElsewhere s i p → IsUnread p (point.Block q o)
+unfolding holds_of
+unread-block g s l i p (block.PushBlock at k x stored heap) o old has stands fits away =
+    λ same.
+    away.owns (Small at.seat.class)
+    (subst (λ place. IsOwned s i place (Small at.seat.class)) same
+    (frees-at g s l i (point.Block (block.PushBlock at k x stored heap) o) old has stands 0
+    (record { place = block_place at.frame at.seat.class k; need = Small at.seat.class; overwritten = true }) (omega arith)))
+unread-block g s l i p (block.LinkBlock at k) o old has stands fits away =
+    λ j lt same.
+    let mine : IsMaking s i at.frame = is-making s i (point.Block (block.LinkBlock at k) o) at stands refl in
+    away.makes at.frame mine
+    (ap frame_of (sym same) ∙ frame_of-block_place at.frame at.seat.class j (omega (arith, lt, fits.index)))
+unread-block g s l i p (block.StoreInfo at) o old has stands fits away =
+    λ j lt same.
+    let mine : IsMaking s i at.frame = is-making s i (point.Block (block.StoreInfo at) o) at stands refl in
+    away.makes at.frame mine (ap frame_of (sym same) ∙ frame_of-block_place at.frame at.seat.class j lt)
+unread-block g s l i p (block.StoreAnchor at) o old has stands fits away =
+    λ j lt same.
+    let mine : IsMaking s i at.frame = is-making s i (point.Block (block.StoreAnchor at) o) at stands refl in
+    away.makes at.frame mine (ap frame_of (sym same) ∙ frame_of-block_place at.frame at.seat.class j lt)
+unread-block g s l i p q o old has stands fits away = tt
+
+unread-point :
+    (g : Geometry) (s : State) (l : Lists) (i p : ℕ) (q : Point) → IsSoundWith g s l → i < g.callers
+    → (s.errand i).point ≡ q → FitsPoint g i q → IsElsewhere s i p → IsUnread p q
+unread-point g s l i p (point.Block q o) old has stands fits away = unread-block g s l i p q o old has stands fits.point away
+unread-point g s l i p q old has stands fits away = tt
+
+-- the owner of a live small block, which everybody excepts, may store its prefix word
+pub live-loose :
+    (g : Geometry) (s : State) (l : Lists) (who p class : ℕ) → IsSoundWithoutCounts g s → IsSoundWith g s l → who < g.callers
+    → IsOwned s who p (Small class) → IsExcepted g s p → IsUnread p (s.errand who).point → IsLoose g s l p
+live-loose g s l who p class sound old has owned excepted off = record {
+  chains = λ d exists bound i on same.
+      none-some owned.block.0
+      (sym (free-unlive g s sound l old d i exists bound on) ∙ ap (λ q. block_at q (pool_of s.history)) same ∙ owned.block.1);
+  ties = λ b live. excepted;
+  contents = λ place i v b live of. unwritten-live g s p place i v owned.block.0 b sound owned.block.1 live of;
+  unread = λ i has_i.
+      elim (cases_eq i who) [
+        | inl is ↦ subst (λ j. IsUnread p (s.errand j).point) (sym is) off
+        | inr differ ↦
+            unread-point g s l i p (s.errand i).point old has_i refl (fits-at g s l i (s.errand i).point old has_i refl)
+            (record {
+              owns = λ n theirs. differ (sym (owner-is s i p n theirs) ∙ owner-is s who p (Small class) owned);
+              makes = λ f making at.
+                  let placed = (formed-at g s p owned.block.0 sound owned.block.1).place in
+                  let frame : frame_of owned.block.0.place < g.frames = small-frame g owned.block.0.need class owned.block.0.place owned.block.3 placed in
+                  let here : owned.block.0.place ≡ p = place-found p (pool_of s.history) owned.block.0 owned.block.1 in
+                  let in_heap : f < g.frames = omega (arith, frame, ap frame_of here, at) in
+                  small-unmade g s l i f p class owned.block.0 old has_i in_heap making owned.block.1 owned.block.3 at;
+            })
+      ];
+}
+
+-- so may the maker of a superblock store the link of one of its blocks
+pub making-loose :
+    (g : Geometry) (s : State) (l : Lists) (who f class i : ℕ) → IsSoundWithoutCounts g s → IsSoundWith g s l → who < g.callers
+    → f < g.frames → i < block_count_of class → IsMaking s who f → IsUnread (block_place f class i) (s.errand who).point
+    → IsLoose g s l (block_place f class i)
+making-loose g s l who f class i sound old has in_heap within mine off =
+    let p = block_place f class i in
+    let frame : frame_of p ≡ f = frame_of-block_place f class i within in
+    let unlive : (b : Block) → IsLive s p b → ⊥ =
+    λ b live. live-unmade g s l who f p b b.need sound old has in_heap mine live refl frame in
+    record {
+      chains = λ d exists bound j on same.
+          let inside = (old.chained.chained d exists bound).within j on in
+          making-unbound g s l who f d old has in_heap exists mine bound
+          (sym (frame_of-block_place (info_for s d).frame (info_for s d).class j inside) ∙ ap frame_of same ∙ frame);
+      ties = λ b live. absurd (unlive b live);
+      contents = λ place k v b live of same.
+          let there : frame_of (place + 1 + k) ≡ f = ap frame_of same ∙ frame in
+          live-unmade g s l who f place b b.need sound old has in_heap mine live refl
+          (written-frame g s place k v b b.need sound live refl of (omega (arith, there, in_heap)) ∙ there);
+      unread = λ j has_j.
+          elim (cases_eq j who) [
+            | inl is ↦ subst (λ k. IsUnread p (s.errand k).point) (sym is) off
+            | inr differ ↦
+                unread-point g s l j p (s.errand j).point old has_j refl (fits-at g s l j (s.errand j).point old has_j refl)
+                (record {
+                  owns = λ n theirs. unlive theirs.block.0 theirs.block.1;
+                  makes = λ e making at.
+                      differ
+                      (making-alone g s l who j f old has has_j in_heap mine (subst (IsMaking s j) (sym at ∙ frame) making));
+                })
+          ];
+    }

@@ -1,0 +1,4 @@
+pub mod ConfirmLemmas
+pub mod ConfirmSteps
+pub mod LookLemmas
+pub mod TellLemmas

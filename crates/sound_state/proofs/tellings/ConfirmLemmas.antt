@@ -1,0 +1,136 @@
+-- A step that leaves all words and tells a look or a refusal.
+use Rattle.std.proofs.Common.{ℕ, Some, ◌≡◌, ◌<◌, ◌≤◌, ◌+◌, ◌*◌, ◌^◌, [], ◌∷◌, ◌++◌, refl, arith, ap, sym, subst, ◌∙◌}
+use Rattle.heap_geometry.specs.declared.geometry.Geometry.{Geometry}
+use Rattle.heap_geometry.specs.declared.limits.TheConstants.{CLASSES}
+use Rattle.packed_words.specs.Anchor.{anchor_of}
+use Rattle.packed_words.specs.Info.{info_of}
+use Rattle.word_plan.specs.declared.name.WordName.{WordName}
+use Rattle.word_plan.specs.declared.name.WordName.TheVariants as name
+use Rattle.word_plan.specs.Counts.{descriptor_count}
+use Rattle.word_plan.specs.Actions.{after_action}
+use Rattle.pool_model.specs.declared.event.Event.{Event}
+use Rattle.pool_model.specs.Histories.{caller_of}
+use Rattle.pool_model.specs.Legal.{IsAllowed, IsLegalEventWithoutCounts, IsLegalWithoutCounts}
+use Rattle.pool_model.proofs.HistoryLemmas.{EachAfter-push}
+use Rattle.errand_steps.specs.Errands.{ErrandFields, settle_of}
+use Rattle.errand_steps.specs.Steps.{State, Step, Moves, action_at, name_at, word_at, found_at, event_at, with_event}
+use Rattle.sound_state.specs.Frames.{errand_frames}
+use Rattle.sound_state.specs.Holdings.{waiting, on_its_way}
+use Rattle.sound_state.specs.Keepers.{word_keeps, errand_has, full_keeps}
+use Rattle.sound_state.specs.Lists.{Lists}
+use Rattle.sound_state.specs.Sound.{IsSoundWith, IsSoundWithoutCounts}
+use Rattle.sound_state.specs.Stock.{word_stock, full_stock, stock_of, errand_stock}
+use Rattle.sound_state.specs.Sums.{sum_below}
+use Rattle.sound_state.specs.Superblocks.{info_or_zero, word_reserves, errand_reserves, errand_keeps, errand_away, away_of}
+use Rattle.sound_state.specs.Turns.{emptied_out}
+use Rattle.sound_state.proofs.shared.AlikeLemmas.{Alike, MayGoOn, MayGuard, IsSoundBut, sound-but}
+use Rattle.sound_state.proofs.quiet.QuietLemmas.{actives-stay, words-stay}
+use Rattle.sound_state.proofs.shared.SumLemmas.{words-same, callers-moved, sum-same}
+use Rattle.sound_state.proofs.tellings.TellLemmas.{IsTold, told_state, told-but}
+
+-- the errand after it weighs what it weighed; it may have retired what was on its way
+pub record WeighTold (a b : ErrandFields) : Type 0 where
+  pub reserves : (d : ℕ) → errand_reserves d b ≡ errand_reserves d a
+  pub waits : (d : ℕ) → errand_keeps waiting d b ≡ errand_keeps waiting d a
+  pub ways : (d : ℕ) → errand_keeps on_its_way d b ≤ errand_keeps on_its_way d a
+  pub away : (d : ℕ) → errand_away d b ≡ errand_away d a
+  pub places : (d : ℕ) → errand_has d b ≡ errand_has d a
+  pub frames : (f : ℕ) → errand_frames f b ≡ errand_frames f a
+
+-- the class has a descriptor for what the caller keeps or waits for now
+abbrev pub StockFor : Geometry → State → Lists → ErrandFields → ErrandFields → Type 0
+StockFor g s l a b =
+    (class : ℕ) → class < CLASSES
+    → stock_of g s l class + errand_stock class b ≤ g.frames + g.heaps + 2 * g.callers + errand_stock class a
+
+-- a caller tells the event and goes on with this errand
+pub record TellsOn (g : Geometry) (s : State) (l : Lists) (who : ℕ) (event : Event) (e : ErrandFields) : Type 0 where
+  pub told : IsTold g who event
+  pub weigh : WeighTold (s.errand who) e
+  pub may : MayGoOn g (told_state s event) l who (s.errand who) e
+  pub guards : MayGuard g (told_state s event) who e.point e.retired (s.word (name.Hazard who))
+  pub cleared : e.cleared ≡ (s.errand who).cleared
+  pub stock : StockFor g s l (s.errand who) e
+
+-- as many descriptors are away
+told-away :
+    (g : Geometry) (s : State) (l : Lists) (who : ℕ) (e : ErrandFields) (s' : State) → who < g.callers → Moves s.errand who e s'.errand
+    → WeighTold (s.errand who) e → (d : ℕ) → away_of g s' l d ≡ away_of g s l d
+told-away g s l who e s' has m weigh d = omega (arith, callers-moved g (errand_away d) s.errand who e s'.errand has m, weigh.away d)
+
+told-alike :
+    (g : Geometry) (s : State) (l : Lists) (who : ℕ) (event : Event) (e : ErrandFields) (s' : State) → who < g.callers
+    → ((n : WordName) → s'.word n ≡ s.word n) → Moves s.errand who e s'.errand → s'.history ≡ s.history ++ event ∷ []
+    → WeighTold (s.errand who) e → StockFor g s l (s.errand who) e → Alike g (told_state s event) l s'
+told-alike g s l who event e s' has same m past weigh room =
+    let words = λ (weight : WordName → ℕ → ℕ). words-same g weight s.word s'.word same in
+    let callers = λ (weight : ErrandFields → ℕ). callers-moved g weight s.errand who e s'.errand has m in
+    let anchor = λ (d : ℕ). ap anchor_of (same (name.Anchor d)) in
+    record {
+      word = λ n plain. same n;
+      history = past;
+      reserved = λ d. omega (arith, words (word_reserves d), callers (errand_reserves d), weigh.reserves d);
+      waits = λ d. omega (arith, callers (errand_keeps waiting d), weigh.waits d);
+      ways = λ d. omega (arith, callers (errand_keeps on_its_way d), weigh.ways d);
+      bound = λ d. rw (told-away g s l who e s' has m weigh d, anchor d) refl;
+      places = λ d. omega (arith, words (word_keeps d), callers (errand_has d), weigh.places d, ap (λ a. full_keeps a.state) (anchor d));
+      frames = λ f. omega (arith, callers (errand_frames f), weigh.frames f);
+      stock = λ stocked.
+          record {
+            most = λ class is.
+                let full : sum_below (descriptor_count g) (full_stock s' class) ≡ sum_below (descriptor_count g) (full_stock s class) =
+                sum-same (descriptor_count g) (full_stock s class) (full_stock s' class)
+                (λ d lt. rw (anchor d, ap (λ x. info_or_zero (info_of x)) (same (name.Info d))) refl) in
+                omega (arith, words (word_stock class), callers (errand_stock class), full, room class is);
+          };
+    }
+
+-- the state after it is sound
+tells-on :
+    (g : Geometry) (s : State) (l : Lists) (who : ℕ) (event : Event) (e : ErrandFields) (s' : State) → IsSoundWith g s l → who < g.callers
+    → ((n : WordName) → s'.word n ≡ s.word n) → Moves s.errand who e s'.errand → s'.history ≡ s.history ++ event ∷ []
+    → TellsOn g s l who event e → IsSoundWith g s' l
+tells-on g s l who event e s' sound has same m past tells =
+    let t = told_state s event in
+    let but : IsSoundBut g t l who = told-but g s l who event tells.told sound in
+    sound-but g t l who e s'
+    (record {
+      caller = has;
+      moves = record { here = m.here; elsewhere = m.elsewhere };
+      alike = told-alike g s l who event e s' has same m past tells.weigh tells.stock;
+      may = tells.may;
+      others = λ i differ. same (name.Hazard i);
+      guards = subst (λ w. MayGuard g t who e.point e.retired w) (sym (same (name.Hazard who))) tells.guards;
+      actives = actives-stay g t l s'.word but.kept same;
+      words = λ n. subst (λ w. w < 2 ^ 64) (sym (same n)) (sound.words n);
+      emptied =
+          let out : sum_below (descriptor_count g) (emptied_out g s' l) ≡ sum_below (descriptor_count g) (emptied_out g s l) =
+          sum-same (descriptor_count g) (emptied_out g s l) (emptied_out g s' l)
+          (λ d lt. rw (told-away g s l who e s' has m tells.weigh d, ap anchor_of (same (name.Anchor d))) refl) in
+          omega (arith, out, tells.cleared);
+    })
+    but
+
+-- so such a step keeps the state sound
+pub step-tells :
+    (g : Geometry) (s : State) (who : ℕ) (event : Event) (e : ErrandFields) (s' : State) → IsSoundWithoutCounts g s → who < g.callers
+    → settle_of (s.errand who) (found_at s who) ≡ e → event_at s who ≡ Some event
+    → after_action (action_at s who) (word_at s who) ≡ word_at s who → IsAllowed g s.history event
+    → ((l : Lists) → IsSoundWith g s l → TellsOn g s l who event e) → Step s who s' → IsSoundWithoutCounts g s'
+step-tells g s who event e s' sound has after said stays allowed tells step =
+    let l = sound.parts.0 in
+    let old = sound.parts.1 in
+    let to = tells l old in
+    let past : s'.history ≡ s.history ++ event ∷ [] = step.history ∙ ap (with_event s.history) said in
+    let moves : Moves s.errand who e s'.errand = subst (λ f. Moves s.errand who f s'.errand) after step.errand in
+    let mine : caller_of event < g.callers = subst (λ i. i < g.callers) (sym to.told.caller) has in
+    record {
+      checked = sound.checked;
+      legal =
+          subst (IsLegalWithoutCounts g) (sym past)
+          (EachAfter-push (IsLegalEventWithoutCounts g) s.history event sound.legal (mine, allowed));
+      parts = (
+        l,
+        tells-on g s l who event e s' old has (words-stay s.word (name_at s who) _ s'.word step.word stays) moves past to,
+      );
+    }

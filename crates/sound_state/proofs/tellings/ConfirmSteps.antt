@@ -1,0 +1,502 @@
+-- A look that finds no partial superblock, and a refusal for want of a frame, keep the state sound.
+use Rattle.sound_state.proofs.quiet.QuietStacks.{confirm_empty_lost-sound}
+use Rattle.std.proofs.Common.{ℕ, true, false, cond, Some, None, ◌≡◌, ◌<◌, ◌≤◌, ◌+◌, ◌^◌, List, [], ◌∷◌, ◌++◌, length, refl, arith, ap, sym, subst, inl, inr, ◌∙◌, eq-eqb, ne_eqb}
+use Rattle.std.specs.Prelude.{◌==◌, ◌&&◌, not, if◌then◌else◌, All, IsTrue, slice_index, count_by, nat_le}
+use Rattle.std.proofs.lemmas.Bool.{cases_eq, cases_Bool, cond-true, cond-false}
+use Rattle.std.proofs.lemmas.List.Elements.{All-append, All-cons, All-nil}
+use Rattle.heap_geometry.specs.declared.geometry.Geometry.{Geometry}
+use Rattle.heap_geometry.specs.declared.limits.TheConstants.{SMALL_MOST}
+use Rattle.heap_geometry.specs.declared.need.Need.TheVariants.{Small}
+use Rattle.heap_geometry.specs.Need.{need_of}
+use Rattle.packed_words.specs.Head.{HeadFields, head_of, head_word}
+use Rattle.packed_words.proofs.HeadLemmas.{head_of-head_word}
+use Rattle.word_plan.specs.declared.action.Found.{Found}
+use Rattle.word_plan.specs.declared.name.WordName.TheVariants as name
+use Rattle.word_plan.specs.Actions.{name_of, after_action}
+use Rattle.word_plan.specs.Seats.{SeatFields}
+use Rattle.stack_parts.specs.declared.point.Pile.{Pile}
+use Rattle.stack_parts.specs.declared.point.Pile.TheVariants.{Frames, Partials}
+use Rattle.stack_parts.specs.declared.point.StackPoint.TheVariants as stack
+use Rattle.stack_parts.specs.Fits.{IsBare}
+use Rattle.stack_parts.specs.Piles.{head_name}
+use Rattle.stack_parts.specs.Stacks.{Stacked, next_in}
+use Rattle.hazard_parts.specs.declared.point.DescPoint.TheVariants as desc
+use Rattle.pool_model.specs.declared.event.Event.TheVariants.{Looked, Refuse}
+use Rattle.pool_model.specs.Legal.{IsRefusable}
+use Rattle.errand_steps.specs.declared.next.Next.TheVariants.{At, Retire}
+use Rattle.errand_steps.specs.declared.onward.Onward.{Onward}
+use Rattle.errand_steps.specs.declared.onward.Onward.TheVariants as onward
+use Rattle.errand_steps.specs.declared.point.Point.{Point}
+use Rattle.errand_steps.specs.declared.point.Point.TheVariants.{Idle, Stack, Desc}
+use Rattle.errand_steps.specs.declared.reply.Reply.TheVariants as reply
+use Rattle.errand_steps.specs.Errands.{ErrandFields, IsErrand, settle_of, raised, counts_lost, counts_cleared, is_full, no_words}
+use Rattle.errand_steps.specs.Events.{event_of}
+use Rattle.errand_steps.specs.Fits.{FitsPoint, spare_of, pushed_by}
+use Rattle.errand_steps.specs.Nexts.{next_of}
+use Rattle.errand_steps.specs.Onwards.{confirms}
+use Rattle.errand_steps.specs.Points.{plan_point_of}
+use Rattle.errand_steps.specs.Steps.{State, Step, action_at, name_at, word_at, found_at, event_at}
+use Rattle.errand_steps.proofs.ErrandLemmas.{settle_errand}
+use Rattle.sound_state.specs.Guards.{IsHazard, IsGuard, passed_by, held_by}
+use Rattle.sound_state.specs.Holdings.{nothing, keep, holds_of, waiting, reserving, on_its_way, partly_used}
+use Rattle.sound_state.specs.Keepers.{IsWithout, IsKeptAs}
+use Rattle.sound_state.specs.Lists.{Lists}
+use Rattle.sound_state.specs.Recalls.{IsSo, IsOwned, recalls_of, looked}
+use Rattle.sound_state.specs.Sound.{IsSoundWithoutCounts, IsSoundWith}
+use Rattle.sound_state.specs.Stock.{waits_in, errand_stock}
+use Rattle.sound_state.specs.Superblocks.{kept_among}
+use Rattle.sound_state.specs.Turns.{one_if, in_turn, has_frame, has_partial, has_refused, is_discarding_at, pops_left, gives_small, refuses_small}
+use Rattle.sound_state.proofs.shared.AlikeLemmas.{MayGoOn, MayGuard, IsSoundBut}
+use Rattle.sound_state.proofs.tellings.ConfirmLemmas.{WeighTold, StockFor, TellsOn, step-tells}
+use Rattle.sound_state.proofs.tellings.LookLemmas.{look-stock}
+use Rattle.sound_state.proofs.shared.PointLemmas.{fits-at, so-at}
+use Rattle.sound_state.proofs.pops.PopTurns.{small-served}
+use Rattle.sound_state.proofs.quiet.QuietLemmas.{found_from}
+use Rattle.sound_state.proofs.retirements.RetireLemmas.{retired_at, occurs-push, settle-full, settle-end, raised-within, full-length, none-some, one-most, no_words-zero}
+use Rattle.sound_state.proofs.shared.StepLemmas.{HoldsException, PointStands, TurnGoes, at_point, settle-at, may-after}
+use Rattle.sound_state.proofs.tellings.TellLemmas.{IsTold, told_state, told-but, told-counts, counted-not, told-ends}
+
+-- where the caller remembers nothing, all of the state is sound
+but-whole :
+    (g : Geometry) (s : State) (l : Lists) (who : ℕ) → IsSoundBut g s l who → All (IsSo g s l who) (recalls_of (s.errand who).point)
+    → IsSoundWith g s l
+but-whole g s l who but own = record {
+  words = but.words;
+  errands = but.errands;
+  listed = but.listed;
+  kept = but.kept;
+  chained = but.chained;
+  framed = but.framed;
+  remembered = record {
+    so = λ i has.
+        elim (cases_eq i who) [
+          | inl same ↦ subst (λ j. All (IsSo g s l j) (recalls_of (s.errand j).point)) (sym same) own
+          | inr differ ↦ but.remembered i has differ
+        ];
+  };
+  guarded = but.guarded;
+  stocked = but.stocked;
+  turned = but.turned;
+  tied = but.tied;
+}
+
+-- who holds nothing excepts no block
+nothing-excepts : (place : ℕ) → HoldsException nothing place → ⊥
+nothing-excepts place (inl x) = omega (arith, x.2)
+nothing-excepts place (inr x) = omega (arith, x.2)
+
+-- the stack is empty where the head's top is 0
+stacked-none : (next : ℕ → ℕ) (top : ℕ) (xs : List ℕ) → Stacked next top xs → top ≡ 0 → xs ≡ []
+stacked-none next top [] stacked none = refl
+stacked-none next top (x ∷ xs) stacked none = absurd (let bad : ⊥ = omega (arith, stacked.0, none) in bad)
+
+-- a look and a refusal are such events
+looked-told : (g : Geometry) (who class : ℕ) → IsTold g who (Looked who class)
+looked-told g who class = record { caller = refl; pool = λ pool. refl; gives = λ i. refl; allocs = refl; frees = refl }
+
+refused-told : (g : Geometry) (who words : ℕ) → IsTold g who (Refuse who words)
+refused-told g who words = record { caller = refl; pool = λ pool. refl; gives = λ i. refl; allocs = refl; frees = refl }
+
+-- a look: the caller waits for a descriptor
+abbrev looking : SeatFields → HeadFields → ℕ → Point
+looking seat h words = Stack (stack.ConfirmEmpty seat Partials h) (onward.Alloc words)
+
+abbrev waiting_one : SeatFields → ℕ → Point
+waiting_one seat words = Desc (desc.LoadDescHead seat) (onward.Alloc words)
+
+look-turn : (seat : SeatFields) (h : HeadFields) (words : ℕ) → TurnGoes (looking seat h words) (waiting_one seat words)
+look-turn seat h words = record {
+  under_way = omega arith;
+  discards = omega arith;
+  unanswered = omega arith;
+  unframed = omega arith;
+  pops = omega arith;
+}
+
+look-stands :
+    (g : Geometry) (s : State) (l : Lists) (who : ℕ) (seat : SeatFields) (h : HeadFields) (words : ℕ)
+    → PointStands g (told_state s (Looked who seat.class)) l who (looking seat h words) (waiting_one seat words)
+unfolding holds_of recalls_of
+look-stands g s l who seat h words =
+    let t = told_state s (Looked who seat.class) in
+    record {
+      kept = All-nil (λ k. IsKeptAs t k.status k.desc k.class);
+      so =
+          All-cons (IsSo g t l who) (looked seat.class) [] (told-ends who s.history (Looked who seat.class) refl) (All-nil (IsSo g t l who));
+      spare = refl;
+      hands = All-nil (λ x. IsOwned t who x.place x.need);
+      frees = All-nil (λ x. IsOwned t who x.place x.need);
+      excepts = λ place x. absurd (nothing-excepts place x);
+      turn = look-turn seat h words;
+    }
+
+look-weigh :
+    (e : ErrandFields) (x : Found) (seat : SeatFields) (h : HeadFields) (words : ℕ) → e.point ≡ looking seat h words
+    → WeighTold e (at_point e x (waiting_one seat words))
+unfolding holds_of
+look-weigh e x seat h words at = record {
+  reserves = λ d. rw at refl;
+  waits = λ d. rw at refl;
+  ways = λ d. rw at (omega arith);
+  away = λ d. rw at refl;
+  places = λ d. rw at refl;
+  frames = λ f. rw at refl;
+}
+
+look-kept-none : (c : ℕ) (e : ErrandFields) (seat : SeatFields) (h : HeadFields) (words : ℕ) → e.point ≡ looking seat h words → errand_stock c e ≡ 0
+unfolding holds_of
+look-kept-none c e seat h words at = rw at refl
+
+waits-one : (c : ℕ) (e : ErrandFields) (x : Found) (seat : SeatFields) (words : ℕ) → errand_stock c (at_point e x (waiting_one seat words)) ≡ (if seat.class == c then 1 else 0)
+unfolding holds_of
+waits-one c e x seat words = omega arith
+
+look-room :
+    (g : Geometry) (s : State) (l : Lists) (who : ℕ) (x : Found) (seat : SeatFields) (h : HeadFields) (words : ℕ) → IsSoundWith g s l
+    → who < g.callers → (s.errand who).point ≡ looking seat h words → l.partials seat.class ≡ []
+    → StockFor g s l (s.errand who) (at_point (s.errand who) x (waiting_one seat words))
+look-room g s l who x seat h words old has at bare class is =
+    let one = waits-one class (s.errand who) x seat words in
+    let none = look-kept-none class (s.errand who) seat h words at in
+    elim (cases_eq seat.class class) [
+      | inl same ↦
+          let there : l.partials class ≡ [] = ap l.partials (sym same) ∙ bare in
+          omega (arith, one, cond-true {A = ℕ} (seat.class == class) 1 0 (eq-eqb seat.class class same), look-stock g s l who class old has there none)
+      | inr differ ↦
+          omega (arith, one, cond-false {A = ℕ} (seat.class == class) 1 0 (ne_eqb seat.class class differ), old.stocked.most class is)
+    ]
+
+look-guards :
+    (g : Geometry) (s : State) (who : ℕ) (seat : SeatFields) (words : ℕ) (retired : List ℕ) (word : ℕ)
+    → MayGuard g s who (waiting_one seat words) retired word
+unfolding holds_of
+look-guards g s who seat words retired word = record {
+  hazard = tt;
+  guard = λ d is guard. absurd guard;
+  pushed = λ i d has guards is. absurd (none-some d is);
+  passed = λ i d has guards listed below. let bad : ⊥ = omega (arith, below) in absurd bad;
+  unread = λ i passed below. let bad : ⊥ = omega (arith, below) in absurd bad;
+}
+
+-- the head's top is 0, so the class's list is empty
+bare-list :
+    (g : Geometry) (s : State) (l : Lists) (who : ℕ) (seat : SeatFields) (h : HeadFields) → IsSoundWith g s l → IsBare g who seat h
+    → s.word (name.ListHead seat.class) ≡ head_word h → l.partials seat.class ≡ []
+bare-list g s l who seat h old fits same =
+    stacked-none (next_in s.word Partials) (head_of (s.word (name.ListHead seat.class))).top (l.partials seat.class)
+    (old.listed.partials seat.class fits.seat.class)
+    (ap (λ w. (head_of w).top) same ∙ ap (λ x. x.top) (head_of-head_word h fits.head) ∙ fits.top)
+
+-- a look that finds no partial superblock
+pub confirm_no_partial-sound :
+    (g : Geometry) (s : State) (who : ℕ) (s' : State) (seat : SeatFields) (h : HeadFields) (words : ℕ) → IsSoundWithoutCounts g s
+    → who < g.callers → (s.errand who).point ≡ Stack (stack.ConfirmEmpty seat Partials h) (onward.Alloc words)
+    → s.word (name.ListHead seat.class) ≡ head_word h → Step s who s' → IsSoundWithoutCounts g s'
+unfolding plan_point_of next_of event_of holds_of recalls_of
+confirm_no_partial-sound g s who s' seat h words sound has at same step =
+    let p = looking seat h words in
+    let q = waiting_one seat words in
+    let e = s.errand who in
+    let x = found_at s who in
+    let event = Looked who seat.class in
+    let wins = eq-eqb (s.word (name.ListHead seat.class)) (head_word h) same in
+    let next : next_of p (found_from s p) ≡ At q = rw wins refl in
+    let said : event_of who p (found_from s p) ≡ Some event = rw wins refl in
+    let stays : after_action (plan_point_of p) (s.word (name_of (plan_point_of p))) ≡ s.word (name_of (plan_point_of p)) =
+    rw wins (sym same) in
+    let after : settle_of e x ≡ at_point e x q =
+    settle-at e x q (subst (λ r. next_of r (found_from s r) ≡ At q) (sym at) next) in
+    let fits : FitsPoint g who p = fits-at g s sound.parts.0 who p sound.parts.1 has at in
+    let cleared : counts_cleared e.point x ≡ false = ap (λ r. counts_cleared r x) at in
+    step-tells g s who event (at_point e x q) s' sound has after
+    (subst (λ r. event_of who r (found_from s r) ≡ Some event) (sym at) said)
+    (subst (λ r. after_action (plan_point_of r) (s.word (name_of (plan_point_of r))) ≡ s.word (name_of (plan_point_of r))) (sym at) stays)
+    fits.point.seat.class
+    (λ l old.
+    let t = told_state s event in
+    let but : IsSoundBut g t l who = told-but g s l who event (looked-told g who seat.class) old in
+    let whole : IsSoundWith g t l =
+    but-whole g t l who but (subst (λ r. All (IsSo g t l who) (recalls_of r)) (sym at) (All-nil (IsSo g t l who))) in
+    record {
+      told = looked-told g who seat.class;
+      weigh = look-weigh e x seat h words at;
+      may =
+          may-after g t l who x q whole has (old.words (name_at s who)) after cleared
+          (subst (λ r. PointStands g t l who r q) (sym at) (look-stands g s l who seat h words));
+      guards = look-guards g t who seat words e.retired (s.word (name.Hazard who));
+      cleared = ap (λ b. raised b e.cleared) cleared;
+      stock = look-room g s l who x seat h words old has at (bare-list g s l who seat h old fits.point same);
+    })
+    step
+
+-- a refusal: the caller retires the descriptor that was on its way
+abbrev refusing : SeatFields → HeadFields → ℕ → ℕ → Point
+refusing seat h words d = Stack (stack.ConfirmEmpty seat Frames h) (onward.TakeFrame words d)
+
+abbrev scanning : SeatFields → Point
+scanning seat = Desc (desc.ReadHazard seat no_words 0) onward.Refuse
+
+-- how far the caller's turn is
+record TurnRefused (p q : Point) : Type 0 where
+  under_way : one_if (in_turn q) ≤ one_if (in_turn p)
+  discards : one_if (in_turn q && is_discarding_at q) ≤ one_if (in_turn p && is_discarding_at p)
+  unframed : one_if (in_turn q && not (has_frame q)) ≤ one_if (in_turn p && not (has_frame p))
+  pops : pops_left q + one_if (in_turn q && not (has_partial q)) ≤ pops_left p + one_if (in_turn p && not (has_partial p))
+
+-- a caller that keeps one descriptor on its way, and nothing else, holds nothing at the second point
+record Refused (p q : Point) (d class : ℕ) : Type 0 where
+  before : holds_of p ≡ record nothing { kept = keep d class on_its_way }
+  after : holds_of q ≡ nothing
+  recalls : recalls_of q ≡ []
+  waits : (c : ℕ) → waits_in c q ≡ 0
+  pushed : pushed_by q ≡ None
+  passed : passed_by q ≡ 0
+  unread : (i : ℕ) → i < length (held_by q) → slice_index (held_by q) i ≡ 0
+  spare : spare_of p ≡ 0
+  turn : TurnRefused p q
+
+refused-scan : (seat : SeatFields) (h : HeadFields) (words d : ℕ) → Refused (refusing seat h words d) (scanning seat) d seat.class
+unfolding holds_of recalls_of
+refused-scan seat h words d = record {
+  before = refl;
+  after = refl;
+  recalls = refl;
+  waits = λ c. refl;
+  pushed = refl;
+  passed = refl;
+  unread = λ i lt. no_words-zero i lt;
+  spare = refl;
+  turn = record { under_way = omega arith; discards = omega arith; unframed = omega arith; pops = omega arith };
+}
+
+refused-idle : (seat : SeatFields) (h : HeadFields) (words d : ℕ) → Refused (refusing seat h words d) Idle d seat.class
+unfolding holds_of recalls_of
+refused-idle seat h words d = record {
+  before = refl;
+  after = refl;
+  recalls = refl;
+  waits = λ c. refl;
+  pushed = refl;
+  passed = refl;
+  unread = λ i lt. let bad : ⊥ = omega (arith, lt) in absurd bad;
+  spare = refl;
+  turn = record { under_way = omega arith; discards = omega arith; unframed = omega arith; pops = omega arith };
+}
+
+-- one that is on its way isn't in another state
+way-alone :
+    (k d class : ℕ)
+    → (kept_among reserving k (keep d class on_its_way) ≡ 0) × (kept_among waiting k (keep d class on_its_way) ≡ 0)
+    × (kept_among partly_used k (keep d class on_its_way) ≡ 0)
+    × (kept_among on_its_way k (keep d class on_its_way) ≡ (if d == k then 1 else 0))
+way-alone k d class = grind (arith)
+
+refused-weigh :
+    (e : ErrandFields) (x : Found) (q : Point) (d class : ℕ) → Refused e.point q d class → WeighTold e (retired_at e x d q)
+refused-weigh e x q d class to = record {
+  reserves = λ k. rw (to.before, to.after) refl;
+  waits = λ k. rw (to.before, to.after) (sym (way-alone k d class).1);
+  ways = λ k. rw (to.before, to.after) (omega arith);
+  away = λ k. rw (to.before, to.after) (omega (arith, occurs-push k d e.retired, (way-alone k d class).3));
+  places = λ k.
+      let alone = way-alone k d class in
+      rw (to.before, to.after) (omega (arith, occurs-push k d e.retired, alone.0, alone.1, alone.2, alone.3));
+  frames = λ f. rw (to.before, to.after) refl;
+}
+
+refused-room :
+    (g : Geometry) (s : State) (l : Lists) (who : ℕ) (x : Found) (q : Point) (d class : ℕ) → IsSoundWith g s l
+    → Refused (s.errand who).point q d class → StockFor g s l (s.errand who) (retired_at (s.errand who) x d q)
+refused-room g s l who x q d class old to c is =
+    let zero : errand_stock c (retired_at (s.errand who) x d q) ≡ 0 = rw (to.after, to.waits c) refl in
+    omega (arith, zero, old.stocked.most c is)
+
+-- who keeps one descriptor excepts no block
+way-excepts : (d class place : ℕ) → HoldsException (record nothing { kept = keep d class on_its_way }) place → ⊥
+way-excepts d class place (inl x) = omega (arith, x.2)
+way-excepts d class place (inr x) = omega (arith, x.2)
+
+refuses-one : (who words : ℕ) → nat_le words SMALL_MOST ≡ true → cond {A = ℕ} (refuses_small who (Refuse who words)) 1 0 ≡ 1
+refuses-one who words small = rw (eq-eqb who who refl, small) refl
+
+refused-may :
+    (g : Geometry) (s : State) (l : Lists) (who : ℕ) (x : Found) (q : Point) (words d class : ℕ) → IsSoundWith g s l → who < g.callers
+    → x.value < 2 ^ 64 → settle_of (s.errand who) x ≡ retired_at (s.errand who) x d q → counts_cleared (s.errand who).point x ≡ false
+    → nat_le words SMALL_MOST ≡ true → Refused (s.errand who).point q d class → (spare_of q ≡ 1 → is_full (s.errand who) ≡ true)
+    → MayGoOn g (told_state s (Refuse who words)) l who (s.errand who) (retired_at (s.errand who) x d q)
+refused-may g s l who x q words d class old has word after still small to full =
+    let e = s.errand who in
+    let event = Refuse who words in
+    let t = told_state s event in
+    let own = old.errands who has in
+    let lost = raised-within (counts_lost e.point x) e.lost own.lost in
+    let same : raised (counts_cleared e.point x) e.cleared ≡ e.cleared = ap (λ b. raised b e.cleared) still in
+    let gives = counted-not (gives_small who) s.history event refl in
+    let refuses : count_by (refuses_small who) (s.history ++ event ∷ []) ≡ count_by (refuses_small who) s.history + 1 =
+    omega (arith, told-counts (refuses_small who) s.history event, refuses-one who words small) in
+    let on_way : IsWithout s d =
+    subst (λ held. All (λ k. IsKeptAs s k.status k.desc k.class) held.kept) to.before (old.kept.errand who has) 0
+    (record { desc = d; class = class; status = on_its_way }) (omega arith) in
+    record {
+      rule = record {
+        caller = own.caller;
+        geometry = own.geometry;
+        rule = subst IsErrand after (settle_errand e x own.rule word);
+        lost = lost.1;
+      };
+      kept = subst (λ held. All (λ k. IsKeptAs t k.status k.desc k.class) held.kept) (sym to.after) (All-nil (λ k. IsKeptAs t k.status k.desc k.class));
+      retired =
+          All-append (IsWithout t) e.retired (d ∷ []) (old.kept.retired who has) (All-cons (IsWithout t) d [] on_way (All-nil (IsWithout t)));
+      so = subst (All (IsSo g t l who)) (sym to.recalls) (All-nil (IsSo g t l who));
+      full = λ spare.
+          let room : length e.retired ≤ e.geometry.callers = omega (arith, own.rule.room, to.spare) in
+          full-length e d (full spare) room ∙ ap (λ o. o.callers + 1) own.geometry;
+      hands = subst (λ held. All (λ b. IsOwned t who b.place b.need) held.hands) (sym to.after) (All-nil (λ b. IsOwned t who b.place b.need));
+      frees = subst (λ held. All (λ b. IsOwned t who b.place b.need) held.frees) (sym to.after) (All-nil (λ b. IsOwned t who b.place b.need));
+      excepts = λ place b. absurd (way-excepts d class place (subst (λ held. HoldsException held place) to.before b));
+      own_turns = omega (arith, old.turned.own_turns who has, to.turn.under_way, gives);
+      own_lost =
+          omega (
+            arith,
+            old.turned.own_lost who has,
+            to.turn.discards,
+            one-most (in_turn e.point && not (has_refused e.point)),
+            gives,
+            refuses,
+            lost.0,
+          );
+      frame_turns = omega (arith, to.turn.unframed);
+      list_turns = omega (arith, to.turn.pops, same);
+    }
+
+refused-guards :
+    (g : Geometry) (s : State) (who : ℕ) (p q : Point) (d class : ℕ) (retired : List ℕ) (word : ℕ) → Refused p q d class → word ≡ 0
+    → MayGuard g s who q retired word
+refused-guards g s who p q d class retired word to bare = record {
+  hazard = subst (λ held. IsHazard held.hazard word) (sym to.after) bare;
+  guard = λ d is guard. absurd (subst (λ held. IsGuard held.hazard) to.after guard);
+  pushed = λ i d has guards is. absurd (none-some d (sym to.pushed ∙ is));
+  passed = λ i d has guards listed below. let bad : ⊥ = omega (arith, below, to.passed) in absurd bad;
+  unread = λ i passed below. to.unread i below;
+}
+
+refused-tells :
+    (g : Geometry) (s : State) (l : Lists) (who : ℕ) (x : Found) (q : Point) (words d class : ℕ) → IsSoundWith g s l → who < g.callers
+    → x.value < 2 ^ 64 → settle_of (s.errand who) x ≡ retired_at (s.errand who) x d q → counts_cleared (s.errand who).point x ≡ false
+    → nat_le words SMALL_MOST ≡ true → Refused (s.errand who).point q d class → (spare_of q ≡ 1 → is_full (s.errand who) ≡ true)
+    → TellsOn g s l who (Refuse who words) (retired_at (s.errand who) x d q)
+refused-tells g s l who x q words d class old has word after still small to full =
+    let e = s.errand who in
+    let bare : s.word (name.Hazard who) ≡ 0 =
+    subst (λ held. IsHazard held.hazard (s.word (name.Hazard who))) to.before (old.guarded.words who has) in
+    record {
+      told = refused-told g who words;
+      weigh = refused-weigh e x q d class to;
+      may = refused-may g s l who x q words d class old has word after still small to full;
+      guards = refused-guards g (told_state s (Refuse who words)) who e.point q d class (retired_at e x d q).retired (s.word (name.Hazard who)) to bare;
+      cleared = ap (λ b. raised b e.cleared) still;
+      stock = refused-room g s l who x q d class old to;
+    }
+
+-- a refusal for want of a frame
+pub confirm_no_frame-sound :
+    (g : Geometry) (s : State) (who : ℕ) (s' : State) (seat : SeatFields) (h : HeadFields) (words d : ℕ) → IsSoundWithoutCounts g s
+    → who < g.callers → (s.errand who).point ≡ Stack (stack.ConfirmEmpty seat Frames h) (onward.TakeFrame words d)
+    → s.word name.FrameHead ≡ head_word h → Step s who s' → IsSoundWithoutCounts g s'
+unfolding plan_point_of next_of event_of recalls_of
+confirm_no_frame-sound g s who s' seat h words d sound has at same step =
+    let p = refusing seat h words d in
+    let e = s.errand who in
+    let x = found_at s who in
+    let event = Refuse who words in
+    let wins = eq-eqb (s.word name.FrameHead) (head_word h) same in
+    let leads : next_of p (found_from s p) ≡ Retire seat d onward.Refuse = rw wins refl in
+    let said : event_of who p (found_from s p) ≡ Some event = rw wins refl in
+    let keeps : after_action (plan_point_of p) (s.word (name_of (plan_point_of p))) ≡ s.word (name_of (plan_point_of p)) =
+    rw wins (sym same) in
+    let next : next_of e.point x ≡ Retire seat d onward.Refuse =
+    subst (λ r. next_of r (found_from s r) ≡ Retire seat d onward.Refuse) (sym at) leads in
+    let told : event_at s who ≡ Some event = subst (λ r. event_of who r (found_from s r) ≡ Some event) (sym at) said in
+    let stays : after_action (action_at s who) (word_at s who) ≡ word_at s who =
+    subst (λ r. after_action (plan_point_of r) (s.word (name_of (plan_point_of r))) ≡ s.word (name_of (plan_point_of r))) (sym at) keeps in
+    let fits : FitsPoint g who p = fits-at g s sound.parts.0 who p sound.parts.1 has at in
+    let served : need_of words ≡ Small seat.class = fits.onward.0 in
+    let small : nat_le words SMALL_MOST ≡ true = small-served words seat.class served in
+    let cleared : counts_cleared e.point x ≡ false = ap (λ r. counts_cleared r x) at in
+    let allowed : IsRefusable g s.history who (need_of words) =
+    subst (IsRefusable g s.history who) (sym served) (so-at g s sound.parts.0 who p sound.parts.1 has at 0 (looked seat.class) (omega arith)) in
+    elim (cases_Bool (is_full e)) [
+      | inl full ↦
+          let after = settle-full e x seat d onward.Refuse next full in
+          step-tells g s who event (retired_at e x d (scanning seat)) s' sound has after told stays allowed
+          (λ l old.
+          refused-tells g s l who x (scanning seat) words d seat.class old has (old.words (name_at s who)) after cleared small
+          (subst (λ r. Refused r (scanning seat) d seat.class) (sym at) (refused-scan seat h words d)) (λ spare. full))
+          step
+      | inr few ↦
+          let after = settle-end e x seat d onward.Refuse next few reply.Refused refl in
+          step-tells g s who event (retired_at e x d Idle) s' sound has after told stays allowed
+          (λ l old.
+          refused-tells g s l who x Idle words d seat.class old has (old.words (name_at s who)) after cleared small
+          (subst (λ r. Refused r Idle d seat.class) (sym at) (refused-idle seat h words d))
+          (λ spare. let bad : ⊥ = omega (arith, spare) in absurd bad))
+          step
+    ]
+
+-- so does the look whether the stack is still empty, where it is
+confirm_empty-cases :
+    (g : Geometry) (s : State) (who : ℕ) (s' : State) (seat : SeatFields) (pile : Pile) (h : HeadFields) (o : Onward) → IsTrue (confirms pile o)
+    → IsSoundWithoutCounts g s → who < g.callers → (s.errand who).point ≡ Stack (stack.ConfirmEmpty seat pile h) o
+    → s.word (head_name seat pile) ≡ head_word h → Step s who s' → IsSoundWithoutCounts g s'
+confirm_empty-cases g s who s' seat Partials h (onward.Alloc words) goes sound has at same step = confirm_no_partial-sound g s who s' seat h words sound has at same step
+confirm_empty-cases g s who s' seat Partials h (onward.TakeFrame words d) goes sound has at same step = absurd (cc)
+confirm_empty-cases g s who s' seat Partials h (onward.GiveBlock words site i) goes sound has at same step = absurd (cc)
+confirm_empty-cases g s who s' seat Partials h (onward.Discard words d) goes sound has at same step = absurd (cc)
+confirm_empty-cases g s who s' seat Partials h (onward.Turn words) goes sound has at same step = absurd (cc)
+confirm_empty-cases g s who s' seat Partials h (onward.Look words) goes sound has at same step = absurd (cc)
+confirm_empty-cases g s who s' seat Partials h onward.Refuse goes sound has at same step = absurd (cc)
+confirm_empty-cases g s who s' seat Partials h onward.Free goes sound has at same step = absurd (cc)
+confirm_empty-cases g s who s' seat Partials h (onward.Remove d heap) goes sound has at same step = absurd (cc)
+confirm_empty-cases g s who s' seat Partials h onward.Clear goes sound has at same step = absurd (cc)
+confirm_empty-cases g s who s' seat Partials h (onward.ClearSecond first) goes sound has at same step = absurd (cc)
+confirm_empty-cases g s who s' seat Partials h (onward.Retire d) goes sound has at same step = absurd (cc)
+confirm_empty-cases g s who s' seat Partials h (onward.PushFirst first) goes sound has at same step = absurd (cc)
+confirm_empty-cases g s who s' seat Partials h (onward.Finish guarded) goes sound has at same step = absurd (cc)
+confirm_empty-cases g s who s' seat Partials h onward.EndFree goes sound has at same step = absurd (cc)
+confirm_empty-cases g s who s' seat Partials h onward.Nothing goes sound has at same step = absurd (cc)
+confirm_empty-cases g s who s' seat Frames h (onward.Alloc words) goes sound has at same step = absurd (cc)
+confirm_empty-cases g s who s' seat Frames h (onward.TakeFrame words d) goes sound has at same step = confirm_no_frame-sound g s who s' seat h words d sound has at same step
+confirm_empty-cases g s who s' seat Frames h (onward.GiveBlock words site i) goes sound has at same step = absurd (cc)
+confirm_empty-cases g s who s' seat Frames h (onward.Discard words d) goes sound has at same step = absurd (cc)
+confirm_empty-cases g s who s' seat Frames h (onward.Turn words) goes sound has at same step = absurd (cc)
+confirm_empty-cases g s who s' seat Frames h (onward.Look words) goes sound has at same step = absurd (cc)
+confirm_empty-cases g s who s' seat Frames h onward.Refuse goes sound has at same step = absurd (cc)
+confirm_empty-cases g s who s' seat Frames h onward.Free goes sound has at same step = absurd (cc)
+confirm_empty-cases g s who s' seat Frames h (onward.Remove d heap) goes sound has at same step = absurd (cc)
+confirm_empty-cases g s who s' seat Frames h onward.Clear goes sound has at same step = absurd (cc)
+confirm_empty-cases g s who s' seat Frames h (onward.ClearSecond first) goes sound has at same step = absurd (cc)
+confirm_empty-cases g s who s' seat Frames h (onward.Retire d) goes sound has at same step = absurd (cc)
+confirm_empty-cases g s who s' seat Frames h (onward.PushFirst first) goes sound has at same step = absurd (cc)
+confirm_empty-cases g s who s' seat Frames h (onward.Finish guarded) goes sound has at same step = absurd (cc)
+confirm_empty-cases g s who s' seat Frames h onward.EndFree goes sound has at same step = absurd (cc)
+confirm_empty-cases g s who s' seat Frames h onward.Nothing goes sound has at same step = absurd (cc)
+
+pub confirm_empty_won-sound :
+    (g : Geometry) (s : State) (who : ℕ) (s' : State) (seat : SeatFields) (pile : Pile) (h : HeadFields) (o : Onward) → IsSoundWithoutCounts g s
+    → who < g.callers → (s.errand who).point ≡ Stack (stack.ConfirmEmpty seat pile h) o
+    → s.word (head_name seat pile) ≡ head_word h → Step s who s' → IsSoundWithoutCounts g s'
+confirm_empty_won-sound g s who s' seat pile h o sound has at same step =
+    let fits : FitsPoint g who (Stack (stack.ConfirmEmpty seat pile h) o) =
+    fits-at g s sound.parts.0 who (Stack (stack.ConfirmEmpty seat pile h) o) sound.parts.1 has at in
+    confirm_empty-cases g s who s' seat pile h o fits.goes sound has at same step
+
+-- won or lost
+pub confirm_empty-sound :
+    (g : Geometry) (s : State) (who : ℕ) (s' : State) (seat : SeatFields) (pile : Pile) (h : HeadFields) (o : Onward)
+    → IsSoundWithoutCounts g s → who < g.callers → (s.errand who).point ≡ Stack (stack.ConfirmEmpty seat pile h) o → Step s who s'
+    → IsSoundWithoutCounts g s'
+confirm_empty-sound g s who s' seat pile h o sound has at step =
+    elim (cases_eq (s.word (head_name seat pile)) (head_word h)) [
+      | inl won ↦ confirm_empty_won-sound g s who s' seat pile h o sound has at won step
+      | inr lost ↦ confirm_empty_lost-sound g s who s' seat pile h o sound has at lost step
+    ]

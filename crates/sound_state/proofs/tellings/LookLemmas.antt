@@ -1,0 +1,352 @@
+-- Where a class's list is empty, fewer descriptors are out for the class than it has.
+use Rattle.std.proofs.Common.{ℕ, Bool, true, false, Option, Some, None, ◌≡◌, ◌<◌, ◌≤◌, ◌+◌, ◌*◌, [], length, refl, sym, ◌∙◌, ap, arith, inl, inr}
+use Rattle.std.specs.Prelude.{◌==◌, ◌&&◌, not, if◌then◌else◌, IsSome}
+use Rattle.std.proofs.lemmas.Bool.{cases_eq, cases_Bool, cond-true, cond-false, eq-eqb, ne_eqb}
+use Rattle.heap_geometry.specs.declared.geometry.Geometry.{Geometry}
+use Rattle.packed_words.specs.declared.active.ActiveWord.{ActiveWord}
+use Rattle.packed_words.specs.declared.active.ActiveWord.TheVariants.{Null, Held}
+use Rattle.packed_words.specs.Active.{active_of}
+use Rattle.packed_words.specs.declared.anchor.State.{State as Phase}
+use Rattle.packed_words.specs.declared.anchor.State.TheVariants as phase
+use Rattle.packed_words.specs.Info.{InfoFields, info_of}
+use Rattle.partial_parts.specs.Grants.{is_empty}
+use Rattle.word_plan.specs.declared.name.WordName.{WordName}
+use Rattle.word_plan.specs.declared.name.WordName.TheVariants as name
+use Rattle.word_plan.specs.Counts.{descriptor_count, word_count}
+use Rattle.word_plan.specs.Seats.{SeatFields, info_within}
+use Rattle.word_plan.specs.Table.{Exists, word_name, word_index}
+use Rattle.word_plan.proofs.TableLemmas.{word_name-Exists, word_index-word_name}
+use Rattle.superblock_parts.specs.declared.point.BlockPoint.{BlockPoint}
+use Rattle.stack_parts.specs.declared.point.StackPoint.{StackPoint}
+use Rattle.hazard_parts.specs.declared.point.DescPoint.{DescPoint}
+use Rattle.partial_parts.specs.declared.point.PartialPoint.{PartialPoint}
+use Rattle.large_parts.specs.declared.point.LargePoint.{LargePoint}
+use Rattle.errand_steps.specs.declared.onward.Onward.{Onward}
+use Rattle.errand_steps.specs.declared.point.Point.{Point}
+use Rattle.errand_steps.specs.declared.point.Point.TheVariants as point
+use Rattle.errand_steps.specs.Steps.{State}
+use Rattle.sound_state.specs.Frames.{fills}
+use Rattle.sound_state.specs.Holdings.{waiting, holds_of, block_holds, stack_holds, desc_holds, partial_holds, large_holds, onward_holds}
+use Rattle.sound_state.specs.Keepers.{active_keeps, word_keeps, full_keeps, errand_has}
+use Rattle.sound_state.specs.Lists.{Lists}
+use Rattle.sound_state.specs.Stock.{word_stock, full_stock, stock_of, errand_stock, stock_among, waits_in, waits_in_desc}
+use Rattle.sound_state.specs.Sound.{IsSoundWith}
+use Rattle.sound_state.specs.Sums.{sum_below, words_sum, callers_sum}
+use Rattle.sound_state.specs.Superblocks.{anchor_for, info_for, info_or_zero, errand_keeps, errand_away, away_of, waiting_of, is_bound}
+use Rattle.sound_state.proofs.shared.SumLemmas.{sum-none, sum-plus, sum-most, sum-least, sum-swap, sum-once, sum-change, term-sum}
+
+-- terms of which one is 0, and none is more than a number
+most-but :
+    (n : ℕ) (f : ℕ → ℕ) (k i : ℕ) → i < n → f i ≡ 0 → ((j : ℕ) → j < n → f j ≤ k) → sum_below n f + k ≤ n * k
+most-but n f k i lt none most =
+    let f' = λ (j : ℕ). if j == i then k else f j in
+    let here : f' i ≡ k = cond-true {A = ℕ} (i == i) k (f i) (eq-eqb i i refl) in
+    let change = sum-change n f f' i lt (λ j jn ne. cond-false {A = ℕ} (j == i) k (f j) (ne_eqb j i ne)) in
+    let each : sum_below n f' ≤ n * k =
+    sum-most n f' k
+    (λ j jn.
+    elim (cases_eq j i) [
+      | inl e ↦ omega (arith, cond-true {A = ℕ} (j == i) k (f j) (eq-eqb j i e))
+      | inr ne ↦ omega (arith, cond-false {A = ℕ} (j == i) k (f j) (ne_eqb j i ne), most j jn)
+    ]) in
+    omega (arith, change, here, none, each)
+
+-- 1 where an active word holds d; where a word is a slot of the class
+abbrev active_part : ℕ → WordName → ℕ → ℕ
+active_part d (name.Active heap class) word = active_keeps d (active_of word)
+active_part d other word = 0
+
+abbrev slot_one : ℕ → WordName → ℕ
+slot_one class (name.Slot heap c) = if c == class then 1 else 0
+slot_one class other = 0
+
+-- an active word that isn't 0 holds a descriptor that there is
+active-zero : (word : ℕ) → active_of word ≡ Some Null → word ≡ 0
+unfolding active_of
+active-zero word is = grind (arith, is)
+
+some-one : (word : ℕ) → (if word == 0 then 0 else 1) ≤ 1
+some-one word = grind (arith)
+
+active-counted :
+    (n : ℕ) (word : ℕ) (o : Option ActiveWord) → active_of word ≡ o → IsSome o
+    → ((d credits : ℕ) → o ≡ Some (Held d credits) → d < n)
+    → (if word == 0 then 0 else 1) ≤ sum_below n (λ d. active_keeps d (active_of word))
+active-counted n word None is some below = absurd (cc)
+active-counted n word (Some Null) is some below = omega (arith, cond-true {A = ℕ} (word == 0) 0 1 (eq-eqb word 0 (active-zero word is)))
+active-counted n word (Some (Held e credits)) is some below =
+    rw is
+    (omega (
+      arith,
+      some-one word,
+      term-sum n (λ d. if e == d then 1 else 0) e (below e credits refl),
+      cond-true {A = ℕ} (e == e) 1 0 (eq-eqb e e refl),
+    ))
+
+class-word : (class c word : ℕ) → (if (c == class) && (word == 0) then 0 else (if c == class then 1 else 0)) ≤ (if word == 0 then 0 else 1)
+class-word class c word = grind (arith)
+
+class-slot : (class c word : ℕ) → (if (c == class) && (word == 0) then 0 else (if c == class then 1 else 0)) ≤ (if c == class then 1 else 0)
+class-slot class c word = grind (arith)
+
+-- a word of the class is a slot, or an active word that holds a descriptor
+word-parts :
+    (g : Geometry) (s : State) (l : Lists) → IsSoundWith g s l → (class : ℕ) (n : WordName) → Exists g n
+    → word_stock class n (s.word n) ≤ sum_below (descriptor_count g) (λ d. active_part d n (s.word n)) + slot_one class n
+word-parts g s l sound class (name.Active heap c) exists =
+    let w = s.word (name.Active heap c) in
+    omega (
+      arith,
+      class-word class c w,
+      active-counted (descriptor_count g) w (active_of w) refl (sound.kept.active_words heap c exists.0 exists.1)
+          (λ d credits is. (sound.kept.active heap c d credits exists.0 exists.1 is).0),
+    )
+word-parts g s l sound class (name.Slot heap c) exists = omega (arith, class-slot class c (s.word (name.Slot heap c)))
+word-parts g s l sound class (name.Arena k) exists = omega arith
+word-parts g s l sound class (name.Anchor k) exists = omega arith
+word-parts g s l sound class (name.Next k) exists = omega arith
+word-parts g s l sound class (name.Info k) exists = omega arith
+word-parts g s l sound class (name.ListHead k) exists = omega arith
+word-parts g s l sound class (name.FrameNext k) exists = omega arith
+word-parts g s l sound class name.FrameHead exists = omega arith
+word-parts g s l sound class name.DescHead exists = omega arith
+word-parts g s l sound class (name.Hazard k) exists = omega arith
+word-parts g s l sound class name.Units exists = omega arith
+word-parts g s l sound class (name.Shelf k) exists = omega arith
+
+-- each heap has one slot of the class
+abbrev slot_here : Geometry → ℕ → ℕ → ℕ → ℕ
+slot_here g class k heap = if word_index g (name.Slot heap class) == k then 1 else 0
+
+slot-named :
+    (g : Geometry) (class k : ℕ) (n : WordName) → Exists g n → word_index g n ≡ k
+    → slot_one class n ≤ sum_below g.heaps (slot_here g class k)
+slot-named g class k (name.Slot heap c) exists is =
+    elim (cases_eq c class) [
+      | inl e ↦
+          let here : word_index g (name.Slot heap class) ≡ k = ap (λ x. word_index g (name.Slot heap x)) (sym e) ∙ is in
+          omega (
+            arith,
+            cond-true {A = ℕ} (c == class) 1 0 (eq-eqb c class e),
+            term-sum g.heaps (slot_here g class k) heap exists.0,
+            cond-true {A = ℕ} (word_index g (name.Slot heap class) == k) 1 0 (eq-eqb (word_index g (name.Slot heap class)) k here),
+          )
+      | inr ne ↦ omega (arith, cond-false {A = ℕ} (c == class) 1 0 (ne_eqb c class ne))
+    ]
+slot-named g class k (name.Active heap c) exists is = omega arith
+slot-named g class k (name.Arena i) exists is = omega arith
+slot-named g class k (name.Anchor i) exists is = omega arith
+slot-named g class k (name.Next i) exists is = omega arith
+slot-named g class k (name.Info i) exists is = omega arith
+slot-named g class k (name.ListHead i) exists is = omega arith
+slot-named g class k (name.FrameNext i) exists is = omega arith
+slot-named g class k name.FrameHead exists is = omega arith
+slot-named g class k name.DescHead exists is = omega arith
+slot-named g class k (name.Hazard i) exists is = omega arith
+slot-named g class k name.Units exists is = omega arith
+slot-named g class k (name.Shelf i) exists is = omega arith
+
+slots-most : (g : Geometry) (class : ℕ) → sum_below (word_count g) (λ k. slot_one class (word_name g k)) ≤ g.heaps
+slots-most g class =
+    omega (
+      arith,
+      sum-least (word_count g) (λ k. slot_one class (word_name g k)) (λ k. sum_below g.heaps (slot_here g class k))
+          (λ k lt. slot-named g class k (word_name g k) (word_name-Exists g k lt) (word_index-word_name g k lt)),
+      sum-swap (word_count g) g.heaps (slot_here g class),
+      sum-most g.heaps (λ heap. sum_below (word_count g) (λ k. slot_here g class k heap)) 1
+          (λ heap lt. sum-once (word_count g) (word_index g (name.Slot heap class))),
+    )
+
+words-parts :
+    (g : Geometry) (s : State) (l : Lists) → IsSoundWith g s l → (class : ℕ)
+    → words_sum g (word_stock class) s.word ≤ sum_below (descriptor_count g) (λ d. words_sum g (active_part d) s.word) + g.heaps
+unfolding words_sum
+words-parts g s l sound class =
+    let n = word_count g in
+    let part = λ (d k : ℕ). active_part d (word_name g k) (s.word (word_name g k)) in
+    let parts = λ (k : ℕ). sum_below (descriptor_count g) (λ d. part d k) in
+    let slots = λ (k : ℕ). slot_one class (word_name g k) in
+    omega (
+      arith,
+      sum-least n (λ k. word_stock class (word_name g k) (s.word (word_name g k))) (λ k. parts k + slots k)
+          (λ k lt. word-parts g s l sound class (word_name g k) (word_name-Exists g k lt)),
+      sum-plus n parts slots,
+      sum-swap (descriptor_count g) n part,
+      slots-most g class,
+    )
+
+-- an active word keeps its descriptor; that of an EMPTY superblock it doesn't
+part-kept : (d : ℕ) (n : WordName) (word : ℕ) → active_part d n word ≤ word_keeps d n word
+part-kept d n word = grind (arith)
+
+parts-kept : (g : Geometry) (s : State) (d : ℕ) → words_sum g (active_part d) s.word ≤ words_sum g (word_keeps d) s.word
+unfolding words_sum
+parts-kept g s d =
+    sum-least (word_count g) (λ k. active_part d (word_name g k) (s.word (word_name g k))) (λ k. word_keeps d (word_name g k) (s.word (word_name g k)))
+    (λ k lt. part-kept d (word_name g k) (s.word (word_name g k)))
+
+active-not :
+    (d : ℕ) (o : Option ActiveWord) → ((credits : ℕ) → o ≡ Some (Held d credits) → ⊥) → active_keeps d o ≡ 0
+active-not d None never = refl
+active-not d (Some Null) never = refl
+active-not d (Some (Held e credits)) never =
+    cond-false {A = ℕ} (e == d) 1 0 (ne_eqb e d (λ same. never credits (ap (λ x. Some (Held x credits)) same)))
+
+part-not :
+    (g : Geometry) (s : State) (l : Lists) → IsSoundWith g s l → (d : ℕ) → (anchor_for s d).state ≡ phase.Empty → (n : WordName) → Exists g n
+    → active_part d n (s.word n) ≡ 0
+part-not g s l sound d empty (name.Active heap c) exists =
+    active-not d (active_of (s.word (name.Active heap c)))
+    (λ credits is.
+    let active : (anchor_for s d).state ≡ phase.Active = (sound.kept.active heap c d credits exists.0 exists.1 is).1.state in
+    let same : ◌≡◌ {A = Phase} phase.Active phase.Empty = sym active ∙ empty in
+    cc)
+part-not g s l sound d empty (name.Slot heap c) exists = refl
+part-not g s l sound d empty (name.Arena i) exists = refl
+part-not g s l sound d empty (name.Anchor i) exists = refl
+part-not g s l sound d empty (name.Next i) exists = refl
+part-not g s l sound d empty (name.Info i) exists = refl
+part-not g s l sound d empty (name.ListHead i) exists = refl
+part-not g s l sound d empty (name.FrameNext i) exists = refl
+part-not g s l sound d empty name.FrameHead exists = refl
+part-not g s l sound d empty name.DescHead exists = refl
+part-not g s l sound d empty (name.Hazard i) exists = refl
+part-not g s l sound d empty name.Units exists = refl
+part-not g s l sound d empty (name.Shelf i) exists = refl
+
+parts-not :
+    (g : Geometry) (s : State) (l : Lists) → IsSoundWith g s l → (d : ℕ) → (anchor_for s d).state ≡ phase.Empty
+    → words_sum g (active_part d) s.word ≡ 0
+unfolding words_sum
+parts-not g s l sound d empty =
+    sum-none (word_count g) (λ k. active_part d (word_name g k) (s.word (word_name g k)))
+    (λ k lt. part-not g s l sound d empty (word_name g k) (word_name-Exists g k lt))
+
+-- its frame is one of the heap's
+within-frame : (g : Geometry) (o : Option InfoFields) → IsSome (info_within g o) → (info_or_zero o).frame < g.frames
+within-frame g None some = absurd (cc)
+within-frame g (Some i) some = grind (arith, some)
+
+-- who has it nowhere has it neither away nor waiting
+nowhere :
+    (g : Geometry) (s : State) (d : ℕ)
+    → callers_sum g (errand_away d) s.errand + waiting_of g s d ≤ callers_sum g (errand_has d) s.errand
+unfolding callers_sum
+nowhere g s d =
+    let away = λ (i : ℕ). errand_away d (s.errand i) in
+    let waits = λ (i : ℕ). errand_keeps waiting d (s.errand i) in
+    omega (
+      arith,
+      sum-plus g.callers away waits,
+      sum-least g.callers (λ i. away i + waits i) (λ i. errand_has d (s.errand i)) (λ i lt. omega arith),
+    )
+
+fills-one : (bound : Bool) (waits frame : ℕ) → bound ≡ true → waits ≡ 0 → ◌≡◌ {A = ℕ} (if bound && (waits == 0) && (frame == frame) then 1 else 0) 1
+fills-one bound waits frame is none = grind (arith, is, none)
+
+bound-one : (away : ℕ) (p : Phase) → away ≡ 0 → is_empty p ≡ false → ((away == 0) && not (is_empty p)) ≡ true
+bound-one away p none is = grind (arith, none, is)
+
+is-empty : (p : Phase) → is_empty p ≡ true → p ≡ phase.Empty
+is-empty p is = grind (arith, is)
+
+-- a superblock that an active word holds, or that is FULL, fills a frame
+desc-fills :
+    (g : Geometry) (s : State) (l : Lists) → IsSoundWith g s l → (d : ℕ) → d < descriptor_count g
+    → words_sum g (active_part d) s.word + full_keeps (anchor_for s d).state ≤ sum_below g.frames (λ f. fills g s l f d)
+desc-fills g s l sound d has =
+    let p = (anchor_for s d).state in
+    let once = sound.kept.once d has in
+    let kept = parts-kept g s d in
+    elim (cases_Bool (is_empty p)) [
+      | inl is ↦
+          let empty : p ≡ phase.Empty = is-empty p is in
+          omega (arith, parts-not g s l sound d empty, ap full_keeps empty)
+      | inr is ↦
+          elim (cases_eq (words_sum g (active_part d) s.word + full_keeps p) 0) [
+            | inl none ↦ omega (arith, none)
+            | inr some ↦
+                let all = nowhere g s d in
+                let none_away : away_of g s l d ≡ 0 = omega (arith, once, kept, some, all) in
+                let none_waits : waiting_of g s d ≡ 0 = omega (arith, once, kept, some, all) in
+                let frame = (info_for s d).frame in
+                let below : frame < g.frames = within-frame g (info_of (s.word (name.Info d))) (sound.chained.infos d has) in
+                let bound : is_bound g s l d ≡ true = bound-one (away_of g s l d) p none_away is in
+                omega (
+                  arith,
+                  once,
+                  kept,
+                  fills-one (is_bound g s l d) (waiting_of g s d) frame bound none_waits,
+                  term-sum g.frames (λ f. fills g s l f d) frame below,
+                )
+          ]
+    ]
+
+-- there are no more of these than frames
+filled-most :
+    (g : Geometry) (s : State) (l : Lists) → IsSoundWith g s l
+    → sum_below (descriptor_count g) (λ d. words_sum g (active_part d) s.word) + sum_below (descriptor_count g) (λ d. full_keeps (anchor_for s d).state)
+    ≤ g.frames
+filled-most g s l sound =
+    let n = descriptor_count g in
+    let active = λ (d : ℕ). words_sum g (active_part d) s.word in
+    let full = λ (d : ℕ). full_keeps (anchor_for s d).state in
+    omega (
+      arith,
+      sum-plus n active full,
+      sum-least n (λ d. active d + full d) (λ d. sum_below g.frames (λ f. fills g s l f d)) (λ d lt. desc-fills g s l sound d lt),
+      sum-swap g.frames n (fills g s l),
+      sum-most g.frames (λ f. sum_below n (fills g s l f)) 1 (λ f lt. omega (arith, sound.framed.once f lt)),
+    )
+
+full-least : (s : State) (class d : ℕ) → full_stock s class d ≤ full_keeps (anchor_for s d).state
+full-least s class d = grind (arith)
+
+-- a caller keeps at most two descriptors for a class, or waits for one
+onward-one : (class : ℕ) (s : SeatFields) (o : Onward) → stock_among class (onward_holds s o).kept ≤ 1
+onward-one class s o = grind (arith)
+
+block-two : (class : ℕ) (p : BlockPoint) → stock_among class (block_holds p).kept ≤ 2
+block-two class p = grind (arith)
+
+stack-two : (class : ℕ) (p : StackPoint) (o : Onward) → stock_among class (stack_holds p o).kept ≤ 2
+stack-two class p o = grind (arith)
+
+desc-two : (class : ℕ) (p : DescPoint) (o : Onward) → stock_among class (desc_holds p o).kept + waits_in_desc class p ≤ 2
+desc-two class p o = grind (arith)
+
+partial-two : (class : ℕ) (p : PartialPoint) (o : Onward) → stock_among class (partial_holds p o).kept ≤ 2
+partial-two class p o = grind (arith)
+
+large-two : (class : ℕ) (p : LargePoint) → stock_among class (large_holds p).kept ≤ 2
+large-two class p = grind (arith)
+
+point-two : (class : ℕ) (p : Point) → stock_among class (holds_of p).kept + waits_in class p ≤ 2
+unfolding holds_of
+point-two class point.Idle = omega arith
+point-two class (point.Block p o) = omega (arith, block-two class p)
+point-two class (point.Stack p o) = omega (arith, stack-two class p o)
+point-two class (point.Desc p o) = desc-two class p o
+point-two class (point.Partial p o) = omega (arith, partial-two class p o)
+point-two class (point.Large p o) = omega (arith, large-two class p)
+
+callers-two :
+    (g : Geometry) (s : State) (who class : ℕ) → who < g.callers → errand_stock class (s.errand who) ≡ 0
+    → callers_sum g (errand_stock class) s.errand + 2 ≤ 2 * g.callers
+unfolding callers_sum
+callers-two g s who class has none =
+    omega (arith, most-but g.callers (λ i. errand_stock class (s.errand i)) 2 who has none (λ i lt. point-two class (s.errand i).point))
+
+-- so one more may be out
+pub look-stock :
+    (g : Geometry) (s : State) (l : Lists) (who class : ℕ) → IsSoundWith g s l → who < g.callers → l.partials class ≡ []
+    → errand_stock class (s.errand who) ≡ 0 → stock_of g s l class + 1 ≤ g.frames + g.heaps + 2 * g.callers
+look-stock g s l who class sound has bare none =
+    omega (
+      arith,
+      words-parts g s l sound class,
+      ap (length {A = ℕ}) bare,
+      callers-two g s who class has none,
+      sum-least (descriptor_count g) (full_stock s class) (λ d. full_keeps (anchor_for s d).state) (λ d lt. full-least s class d),
+      filled-most g s l sound,
+    )

@@ -1,0 +1,200 @@
+-- An event that leaves the pool and counts no block keeps the state sound, but for what its caller remembers.
+use Rattle.std.proofs.Common.{ℕ, Bool, false, cond, ◌≡◌, ◌≢◌, ◌≤◌, ◌+◌, ◌*◌, List, [], ◌∷◌, ◌++◌, refl, arith, ap, sym, subst, inl, inr, ◌∙◌, append-nil, eq-eqb, ne_eqb}
+use Rattle.std.proofs.lemmas.Bool.{cond-false}
+use Rattle.std.proofs.lemmas.List.Sums.{sum_by_push}
+use Rattle.std.specs.Prelude.{◌⊎◌, count_by}
+use Rattle.heap_geometry.specs.declared.geometry.Geometry.{Geometry}
+use Rattle.heap_geometry.specs.declared.need.Need.{Need}
+use Rattle.heap_geometry.specs.Place.{unit_place}
+use Rattle.word_plan.specs.declared.name.WordName.TheVariants as name
+use Rattle.pool_model.specs.declared.event.Event.{Event}
+use Rattle.pool_model.specs.declared.event.Event.TheVariants.{Looked}
+use Rattle.pool_model.specs.Histories.{own, caller_of, EndsWith}
+use Rattle.pool_model.specs.Pool.{Pool, Block, block_at, pool_of, pool_after}
+use Rattle.pool_model.proofs.HistoryLemmas.{pool_of-push, own-append}
+use Rattle.errand_steps.specs.Steps.{State}
+use Rattle.sound_state.specs.Guards.{IsGuarded}
+use Rattle.sound_state.specs.Holdings.{Status, reserving, waiting, partly_used, on_its_way}
+use Rattle.sound_state.specs.Keepers.{IsKept, IsPartlyUsed, IsActive, IsKeptAs}
+use Rattle.sound_state.specs.Lists.{Lists}
+use Rattle.sound_state.specs.Recalls.{Recall, IsOwned, IsPopped, IsSo, bound_for, located, bound_at, pops, links, tops, nexts, tops_exist, says, made, in_use, emptied, noted, owns, owns_all, looked}
+use Rattle.sound_state.specs.Sound.{IsSoundWith}
+use Rattle.sound_state.specs.Superblocks.{IsChained, superblock_of}
+use Rattle.sound_state.specs.Ties.{IsLive, IsExcepted, IsTied}
+use Rattle.sound_state.specs.Turns.{IsTurned, gives_small, refuses_small, is_small_alloc, is_small_free}
+use Rattle.sound_state.proofs.shared.AlikeLemmas.{IsSoundBut}
+
+-- an event of the caller that leaves the pool; it gives no small block and frees none
+pub record IsTold (g : Geometry) (who : ℕ) (event : Event) : Type 0 where
+  pub caller : caller_of event ≡ who
+  pub pool : (pool : Pool) → pool_after pool event ≡ pool
+  pub gives : (i : ℕ) → gives_small i event ≡ false
+  pub allocs : is_small_alloc event ≡ false
+  pub frees : is_small_free g event ≡ false
+
+-- the state after such an event alone
+abbrev pub told_state : State → Event → State
+told_state s event = record { word = s.word; errand = s.errand; history = s.history ++ event ∷ [] }
+
+-- counts of events after one more
+pub told-counts : (P : Event → Bool) (history : List Event) (event : Event) → count_by P (history ++ event ∷ []) ≡ count_by P history + cond (P event) 1 0
+told-counts P history event = sum_by_push (λ e. cond (P e) 1 0) history event
+
+pub counted-not : (P : Event → Bool) (history : List Event) (event : Event) → P event ≡ false → count_by P (history ++ event ∷ []) ≡ count_by P history
+counted-not P history event none = omega (arith, told-counts P history event, cond-false {A = ℕ} (P event) 1 0 none)
+
+counted-least : (P : Event → Bool) (history : List Event) (event : Event) → count_by P history ≤ count_by P (history ++ event ∷ [])
+counted-least P history event = omega (arith, told-counts P history event)
+
+-- the others' events stay; the caller's last one is this
+pub told-own : (i : ℕ) (history : List Event) (event : Event) → caller_of event ≢ i → own i (history ++ event ∷ []) ≡ own i history
+told-own i history event other =
+    own-append i history (event ∷ []) ∙ rw (ne_eqb (caller_of event) i other) (append-nil (own i history))
+
+pub told-ends : (who : ℕ) (history : List Event) (event : Event) → caller_of event ≡ who → EndsWith (own who (history ++ event ∷ [])) event
+told-ends who history event is =
+    (own who history, own-append who history (event ∷ []) ∙ rw (eq-eqb (caller_of event) who is) refl)
+
+-- the pool is the same
+told-pool : (g : Geometry) (s : State) (who : ℕ) (event : Event) → IsTold g who event → pool_of (told_state s event).history ≡ pool_of s.history
+told-pool g s who event h = pool_of-push s.history event ∙ h.pool (pool_of s.history)
+
+told-superblock : (g : Geometry) (s : State) (who : ℕ) (event : Event) → IsTold g who event → (d : ℕ) → superblock_of g (told_state s event) d ≡ superblock_of g s d
+told-superblock g s who event h d = rw (told-pool g s who event h) refl
+
+told-owned :
+    (g : Geometry) (s : State) (who : ℕ) (event : Event) → IsTold g who event → (i place : ℕ) (n : Need) → IsOwned s i place n
+    → IsOwned (told_state s event) i place n
+told-owned g s who event h i place n k = record {
+  block = (k.block.0, ap (block_at place) (told-pool g s who event h) ∙ k.block.1, k.block.2, k.block.3);
+}
+
+-- what another caller remembers stays so
+told-so :
+    (g : Geometry) (s : State) (l : Lists) (who : ℕ) (event : Event) → IsTold g who event → (i : ℕ) → i ≢ who → (r : Recall) → IsSo g s l i r
+    → IsSo g (told_state s event) l i r
+told-so g s l who event h i differ (bound_for d c) so = so
+told-so g s l who event h i differ (located d f c) so = record { frame = so.frame; class = so.class }
+told-so g s l who event h i differ (bound_at d f c) so = (so.0, record { frame = so.1.frame; class = so.1.class })
+told-so g s l who event h i differ (pops d a) so = subst (λ b. IsPopped b a) (sym (told-superblock g s who event h d)) so
+told-so g s l who event h i differ (links d a prefix) so = so
+told-so g s l who event h i differ (tops seat p head) so = record { tag = so.tag; top = so.top }
+told-so g s l who event h i differ (nexts seat p head below) so = so
+told-so g s l who event h i differ (tops_exist seat p head) so = so
+told-so g s l who event h i differ (says n w) so = so
+told-so g s l who event h i differ (made f c blocks) so = so
+told-so g s l who event h i differ (in_use a) so = so
+told-so g s l who event h i differ (emptied d) so = record { state = so.state; unavailable = so.unavailable; standing = so.standing }
+told-so g s l who event h i differ (noted d next) so = so
+told-so g s l who event h i differ (owns place k) so = (so.0, told-owned g s who event h i place so.0 so.1, so.2)
+told-so g s l who event h i differ (owns_all place n) so = told-owned g s who event h i place n so
+told-so g s l who event h i differ (looked c) so =
+    subst (λ e. EndsWith e (Looked i c)) (sym (told-own i s.history event (λ e. differ (sym e ∙ h.caller)))) so
+
+-- each descriptor stands where it stood
+partly-told : (s : State) (event : Event) (d c : ℕ) → IsPartlyUsed s d c → IsPartlyUsed (told_state s event) d c
+partly-told s event d c k = record { class = k.class; state = k.state }
+
+active-told : (s : State) (event : Event) (d c : ℕ) → IsActive s d c → IsActive (told_state s event) d c
+active-told s event d c k = record { class = k.class; state = k.state }
+
+kept_as-told : (s : State) (event : Event) (status : Status) (d c : ℕ) → IsKeptAs s status d c → IsKeptAs (told_state s event) status d c
+kept_as-told s event reserving d c k = active-told s event d c k
+kept_as-told s event waiting d c k = active-told s event d c k
+kept_as-told s event partly_used d c k = partly-told s event d c k
+kept_as-told s event on_its_way d c k = k
+
+kept-told : (g : Geometry) (s : State) (l : Lists) (event : Event) → IsKept g s l → IsKept g (told_state s event) l
+kept-told g s l event kept = record {
+  once = kept.once;
+  active_words = kept.active_words;
+  slot_words = kept.slot_words;
+  active = λ heap class d credits has_heap has_class is.
+      let a = kept.active heap class d credits has_heap has_class is in (a.0, active-told s event d class a.1);
+  slot = λ heap class d has_heap has_class is.
+      let a = kept.slot heap class d has_heap has_class is in (a.0, partly-told s event d class a.1);
+  full = kept.full;
+  listed = λ class has k d lt. partly-told s event _ class (kept.listed class has k d lt);
+  available = kept.available;
+  retired = kept.retired;
+  errand = λ i has k d lt. kept_as-told s event _ _ _ (kept.errand i has k d lt);
+}
+
+guarded-told : (g : Geometry) (s : State) (event : Event) → IsGuarded g s → IsGuarded g (told_state s event)
+guarded-told g s event guarded = record {
+  words = guarded.words;
+  pushed = λ i other d has has_other k. guarded.pushed i other d has has_other (record { word = k.word; guard = k.guard });
+  passed = λ i other d has has_other k. guarded.passed i other d has has_other (record { word = k.word; guard = k.guard });
+  unread = guarded.unread;
+  full = guarded.full;
+}
+
+turned-told : (g : Geometry) (s : State) (l : Lists) (who : ℕ) (event : Event) → IsTold g who event → IsTurned g s l → IsTurned g (told_state s event) l
+turned-told g s l who event h turned =
+    let frees = counted-not (is_small_free g) s.history event h.frees in
+    let allocs = counted-not is_small_alloc s.history event h.allocs in
+    record {
+      own_turns = λ i has. omega (arith, turned.own_turns i has, counted-not (gives_small i) s.history event (h.gives i));
+      own_lost = λ i has.
+          omega (arith, turned.own_lost i has, counted-not (gives_small i) s.history event (h.gives i), counted-least (refuses_small i) s.history event);
+      anchor_tags = λ d has. omega (arith, turned.anchor_tags d has, allocs);
+      frame_tag = turned.frame_tag;
+      emptied = omega (arith, turned.emptied, frees);
+      list_tags = λ class has. omega (arith, turned.list_tags class has, frees);
+    }
+
+tie-told :
+    (g : Geometry) (s : State) (event : Event) (place w : ℕ) → IsExcepted g s place ⊎ (s.word (name.Arena place) ≡ w)
+    → IsExcepted g (told_state s event) place ⊎ (s.word (name.Arena place) ≡ w)
+tie-told g s event place w (inl x) = inl (record { who = x.who })
+tie-told g s event place w (inr is) = inr is
+
+tied-told : (g : Geometry) (s : State) (l : Lists) (who : ℕ) (event : Event) → IsTold g who event → IsTied g s l → IsTied g (told_state s event) l
+tied-told g s l who event h tied =
+    let same = told-pool g s who event h in
+    let was = λ (place : ℕ) (b : Block) (live : IsLive (told_state s event) place b). ap (block_at place) (sym same) ∙ live in
+    record {
+      small = λ place class b live is.
+          let old = tied.small place class b (was place b live) is in (
+            old.0,
+            record {
+              exists = old.1.exists;
+              bound = old.1.bound;
+              located = record { frame = old.1.located.frame; class = old.1.located.class };
+            },
+            tie-told g s event place (2 * old.0) old.2,
+          );
+      large = λ place units b live is. tie-told g s event place (2 * units + 1) (tied.large place units b (was place b live) is);
+      units = λ unit has.
+          let old = tied.units unit has in (
+            λ bit. let c = old.0 bit in (c.0, c.1, c.2, ap (block_at (unit_place g.frames c.1)) same ∙ c.3, c.4, c.5, c.6),
+            λ c. old.1 (c.0, c.1, c.2, was (unit_place g.frames c.1) c.0 c.3, c.4, c.5, c.6),
+          );
+      no_more_units = tied.no_more_units;
+      shelved = λ k place b has live is. tied.shelved k place b has (was place b live) is;
+      bare_shelf = λ k has none. tied.bare_shelf k has (λ place b live is. none place b (ap (block_at place) same ∙ live) is);
+      contents = λ place i v b live is. tied.contents place i v b (was place b live) is;
+      hands = λ i has k d lt. told-owned g s who event h i _ _ (tied.hands i has k d lt);
+      frees = λ i has k d lt. told-owned g s who event h i _ _ (tied.frees i has k d lt);
+    }
+
+-- all but what the caller remembers is as it was
+pub told-but :
+    (g : Geometry) (s : State) (l : Lists) (who : ℕ) (event : Event) → IsTold g who event → IsSoundWith g s l
+    → IsSoundBut g (told_state s event) l who
+told-but g s l who event h sound = record {
+  words = sound.words;
+  errands = sound.errands;
+  listed = sound.listed;
+  kept = kept-told g s l event sound.kept;
+  chained = record {
+    infos = sound.chained.infos;
+    chained = λ d has bound. subst IsChained (sym (told-superblock g s who event h d)) (sound.chained.chained d has bound);
+  };
+  framed = record { once = sound.framed.once };
+  remembered = λ i has differ k r lt. told-so g s l who event h i differ _ (sound.remembered.so i has k r lt);
+  guarded = guarded-told g s event sound.guarded;
+  stocked = record { most = sound.stocked.most };
+  turned = turned-told g s l who event h sound.turned;
+  tied = tied-told g s l who event h sound.tied;
+}

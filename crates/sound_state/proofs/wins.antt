@@ -1,0 +1,17 @@
+pub mod BegunWins
+pub mod BlockExpects
+pub mod CarriedLemmas
+pub mod ContendLemmas
+pub mod DescExpects
+pub mod DirtyLemmas
+pub mod ExpectLemmas
+pub mod FirstWins
+pub mod LargeExpects
+pub mod NoteLemmas
+pub mod PartialExpects
+pub mod SettleExpects
+pub mod StackExpects
+pub mod StepWins
+pub mod StoreLemmas
+pub mod WinDefs
+pub mod WonSteps

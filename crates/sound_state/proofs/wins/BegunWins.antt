@@ -1,0 +1,212 @@
+-- A call that begins keeps what was won and noted.
+use Rattle.std.proofs.Common.{ℕ, false, Some, ◌≡◌, ◌≢◌, ◌<◌, ◌≤◌, ◌+◌, [], length, refl, arith, ap, sym, subst, ◌∙◌}
+use Rattle.std.specs.Prelude.{◌^◌, ◌-◌, All, IsTrue, min, drop, count_by}
+use Rattle.std.specs.Prelude as list
+use Rattle.std.proofs.lemmas.Bool.{cond_both, true≢false}
+use Rattle.std.proofs.lemmas.List.Elements.{All-nil}
+use Rattle.heap_geometry.specs.declared.geometry.Geometry.{Geometry}
+use Rattle.heap_geometry.specs.declared.need.Need.{Need}
+use Rattle.heap_geometry.specs.declared.need.Need.TheVariants.{Small, Large, TooLarge}
+use Rattle.heap_geometry.specs.Need.{need_of}
+use Rattle.packed_words.specs.declared.active.ActiveWord.TheVariants.{Null}
+use Rattle.packed_words.specs.Active.{active_word}
+use Rattle.errand_steps.specs.Begins.{IsIdle, begins_alloc, alloc_begun, free_begun, write_begun, read_begun, put_begun, take_begun}
+use Rattle.errand_steps.specs.Errands.{ErrandFields, is_spent}
+use Rattle.errand_steps.specs.Steps.{State, Moves}
+use Rattle.sound_state.specs.Contention.{is_by, IsExpected, lost_of}
+use Rattle.sound_state.specs.Expectations.{expects_of}
+use Rattle.sound_state.specs.Installs.{IsActive, installs_by, installs_against, installs_on, is_seeking, errand_offers}
+use Rattle.sound_state.specs.Runs.{Call, alloc, free, write, read, put, take, Begins, begun_by}
+use Rattle.sound_state.specs.Sound.{with_errands}
+use Rattle.sound_state.specs.Turns.{gives_small, refuses_small, turn_unanswered, errand_discards}
+use Rattle.sound_state.specs.Wins.{Wins}
+use Rattle.sound_state.specs.Won.{IsWon}
+use Rattle.sound_state.proofs.beginnings.BegunErrands.{idle-is}
+use Rattle.sound_state.proofs.shared.AlikeLemmas.{each-caller}
+use Rattle.sound_state.proofs.shared.SumLemmas.{callers-moved}
+
+-- what a caller noted when it found no superblock active bounds its errand
+abbrev UnmetAs : State → Wins → ℕ → ErrandFields → Type 0
+UnmetAs s w who e =
+    (wins : ℕ) → w.unmet who ≡ Some wins
+    → (wins ≤ length w.list)
+    × (e.turns
+    ≤ count_by (gives_small who) s.history + count_by (refuses_small who) s.history
+    + count_by (installs_against who) (list.take wins w.list) + turn_unanswered e)
+    × All (λ x. IsActive x.word → x.value ≡ active_word Null → s.word x.word ≢ x.value → 0 < count_by (installs_on who x.word) (drop wins w.list))
+    (expects_of e.point)
+    × (errand_discards e ≤ count_by (installs_against who) (drop wins w.list))
+
+-- an errand that begins counts as the idle one before it, and its turn is one that has no answer yet
+record BeginsAs (e f : ErrandFields) : Type 0 where
+  won : f.won ≡ e.won
+  lost : f.lost ≡ e.lost
+  expects : expects_of f.point ≡ []
+  offers : errand_offers f ≡ 0
+  seeks : is_seeking f.point ≡ false
+  discards : errand_discards f ≡ 0
+  turns : f.turns ≤ e.turns + turn_unanswered f
+
+idle-begins : (e : ErrandFields) → IsIdle e → BeginsAs e e
+unfolding expects_of
+idle-begins e idle = let is = idle-is e.point idle in record {
+  won = refl;
+  lost = refl;
+  expects = ap expects_of is;
+  offers = rw is refl;
+  seeks = ap is_seeking is;
+  discards = rw is refl;
+  turns = omega arith;
+}
+
+alloc-begins : (e : ErrandFields) (words : ℕ) (n : Need) → IsIdle e → BeginsAs e (begins_alloc e words n)
+unfolding expects_of
+alloc-begins e words (Small class) idle =
+    cond_both (is_spent e) e _ (BeginsAs e) (λ spent. idle-begins e idle)
+    (λ left. record {
+      won = refl;
+      lost = refl;
+      expects = refl;
+      offers = refl;
+      seeks = refl;
+      discards = refl;
+      turns = grind (arith);
+    })
+alloc-begins e words (Large units) idle = record {
+  won = refl;
+  lost = refl;
+  expects = refl;
+  offers = refl;
+  seeks = refl;
+  discards = refl;
+  turns = omega arith;
+}
+alloc-begins e words TooLarge idle = idle-begins e idle
+
+free-begins : (e : ErrandFields) (place : ℕ) (n : Need) → IsIdle e → BeginsAs e (free_begun e place n)
+unfolding free_begun expects_of
+free-begins e place (Small class) idle = record {
+  won = refl;
+  lost = refl;
+  expects = refl;
+  offers = refl;
+  seeks = refl;
+  discards = refl;
+  turns = omega arith;
+}
+free-begins e place (Large units) idle = record {
+  won = refl;
+  lost = refl;
+  expects = refl;
+  offers = refl;
+  seeks = refl;
+  discards = refl;
+  turns = omega arith;
+}
+free-begins e place TooLarge idle = idle-begins e idle
+
+call-begins : (e : ErrandFields) (call : Call) → IsIdle e → BeginsAs e (begun_by e call)
+unfolding alloc_begun write_begun read_begun put_begun take_begun expects_of
+call-begins e (alloc words) idle = alloc-begins e words (need_of words) idle
+call-begins e (free place need) idle = free-begins e place need idle
+call-begins e (write place need i value) idle = record {
+  won = refl;
+  lost = refl;
+  expects = refl;
+  offers = refl;
+  seeks = refl;
+  discards = refl;
+  turns = omega arith;
+}
+call-begins e (read place need i) idle = record {
+  won = refl;
+  lost = refl;
+  expects = refl;
+  offers = refl;
+  seeks = refl;
+  discards = refl;
+  turns = omega arith;
+}
+call-begins e (put place need shelf) idle = record {
+  won = refl;
+  lost = refl;
+  expects = refl;
+  offers = refl;
+  seeks = refl;
+  discards = refl;
+  turns = omega arith;
+}
+call-begins e (take shelf) idle = record {
+  won = refl;
+  lost = refl;
+  expects = refl;
+  offers = refl;
+  seeks = refl;
+  discards = refl;
+  turns = omega arith;
+}
+
+-- an idle caller is in no turn
+idle-answered : (e : ErrandFields) → IsIdle e → turn_unanswered e ≡ 0
+idle-answered e idle = rw (idle-is e.point idle) refl
+
+begun-won :
+    (g : Geometry) (s : State) (w : Wins) (who : ℕ) (f : ErrandFields) (errands : ℕ → ErrandFields) → IsWon g s w → who < g.callers
+    → IsIdle (s.errand who) → BeginsAs (s.errand who) f → Moves s.errand who f errands → IsWon g (with_errands s errands) w
+begun-won g s w who f errands won has idle b moves =
+    let s' = with_errands s errands in
+    let n = won.noted in
+    let i = won.installed in
+    let quiet = idle-answered (s.errand who) idle in
+    record {
+      noted = record {
+        callers = n.callers;
+        won = each-caller g (λ k e. e.won ≡ min (count_by (is_by k) w.list) (2 ^ 64 - 1)) s.errand who f errands moves (b.won ∙ n.won who has) n.won;
+        past = n.past;
+        expected =
+            each-caller g (λ k e. All (IsExpected s' w k) (expects_of e.point)) s.errand who f errands moves
+            (subst (All (IsExpected s' w who)) (sym b.expects) (All-nil (IsExpected s' w who)))
+            (λ k has_k j d lt. let x = n.expected k has_k j d lt in record { wins = x.wins; noted = x.noted; so = x.so });
+      };
+      contended = record { most = omega (arith, won.contended.most, callers-moved g lost_of s.errand who f errands has moves, b.lost) };
+      installed = record {
+        own =
+            each-caller g (λ k e. count_by (installs_by k) w.list + errand_offers e ≤ count_by (gives_small k) s.history) s.errand who f errands moves
+            (omega (arith, b.offers, i.own who has)) i.own;
+        turns =
+            each-caller g
+            (λ k e. e.turns
+            ≤ count_by (gives_small k) s.history + count_by (refuses_small k) s.history + count_by (installs_against k) w.list
+            + turn_unanswered e)
+            s.errand who f errands moves
+            (omega (arith, b.turns, i.turns who has, quiet)) i.turns;
+        seeking =
+            each-caller g (λ k e. IsTrue (is_seeking e.point) → (wins : ℕ) × (w.unmet k ≡ Some wins)) s.errand who f errands moves
+            (λ seeks. absurd (true≢false (sym seeks ∙ b.seeks))) i.seeking;
+        unmet = λ k wins has_k is.
+            let x =
+            each-caller g (UnmetAs s w) s.errand who f errands moves
+            (λ past noted.
+            let old = i.unmet who past has noted in (
+              old.past,
+              omega (arith, b.turns, old.turns, quiet),
+              subst
+                  (All
+                  (λ x. IsActive x.word → x.value ≡ active_word Null → s.word x.word ≢ x.value → 0 < count_by (installs_on who x.word) (drop past w.list)))
+                  (sym b.expects)
+                  (All-nil
+                  (λ x. IsActive x.word → x.value ≡ active_word Null → s.word x.word ≢ x.value → 0 < count_by (installs_on who x.word) (drop past w.list))),
+              omega (arith, b.discards),
+            ))
+            (λ j has_j past noted. let old = i.unmet j past has_j noted in (old.past, old.turns, old.met, old.discards))
+            k has_k wins is in
+            record { past = x.0; turns = x.1; met = x.2; discards = x.3 };
+      };
+    }
+
+pub begins-won :
+    (g : Geometry) (s : State) (w : Wins) (who : ℕ) (call : Call) (s' : State) → IsWon g s w → who < g.callers → Begins s who call s'
+    → IsWon g s' w
+begins-won g s w who call s' won has b =
+    subst (λ t. IsWon g t w) (sym b.after)
+    (begun-won g s w who (begun_by (s.errand who) call) b.errands won has b.idle (call-begins (s.errand who) call b.idle) b.moves)

@@ -1,0 +1,39 @@
+-- Before the first step nothing is won.
+use Rattle.std.proofs.Common.{ℕ, ◌≡◌, ◌<◌, refl, arith, ap, sym, subst}
+use Rattle.std.specs.Prelude.{All, IsTrue}
+use Rattle.std.proofs.lemmas.Bool.{true≢false}
+use Rattle.std.proofs.lemmas.List.Elements.{All-nil}
+use Rattle.heap_geometry.specs.declared.geometry.Geometry.{Geometry}
+use Rattle.word_plan.specs.declared.name.WordName.{WordName}
+use Rattle.word_plan.specs.Counts.{word_count}
+use Rattle.word_plan.specs.Table.{word_name}
+use Rattle.errand_steps.specs.Openings.{IsOpening}
+use Rattle.errand_steps.specs.Steps.{State}
+use Rattle.sound_state.specs.Contention.{IsExpected, dirty_on, dirty_pairs, lost_of}
+use Rattle.sound_state.specs.Expectations.{expects_of}
+use Rattle.sound_state.specs.Installs.{is_seeking}
+use Rattle.sound_state.specs.Wins.{no_wins}
+use Rattle.sound_state.specs.Won.{IsWon}
+use Rattle.sound_state.proofs.shared.SumLemmas.{sum-none, callers-none}
+
+-- no note is dirty
+none-dirty : (g : Geometry) → dirty_pairs g no_wins ≡ 0
+none-dirty g = sum-none (word_count g) (λ k. dirty_on g no_wins (word_name g k)) (λ k lt. sum-none g.callers _ (λ who has. refl))
+
+pub first-won : (g : Geometry) (first : WordName → ℕ) (s : State) → IsOpening g first s → IsWon g s no_wins
+unfolding expects_of
+first-won g first s opens = record {
+  noted = record {
+    callers = All-nil (λ x. x.caller < g.callers);
+    won = λ who has. ap (λ e. e.won) (opens.errand who has);
+    past = λ who word wins is. absurd (cc);
+    expected = λ who has. subst (λ e. All (IsExpected s no_wins who) (expects_of e.point)) (sym (opens.errand who has)) (All-nil (IsExpected s no_wins who));
+  };
+  contended = record { most = omega (arith, none-dirty g, callers-none g lost_of s.errand (λ who has. ap lost_of (opens.errand who has))) };
+  installed = record {
+    own = λ who has. rw (opens.errand who has) (omega arith);
+    turns = λ who has. rw (opens.errand who has) (omega arith);
+    seeking = λ who has seeks. absurd (true≢false (sym (subst (λ e. IsTrue (is_seeking e.point)) (opens.errand who has) seeks)));
+    unmet = λ who wins has is. absurd (cc);
+  };
+}

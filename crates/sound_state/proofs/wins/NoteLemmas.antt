@@ -1,0 +1,219 @@
+-- A step keeps what the callers have noted of each other's wins.
+use Rattle.std.proofs.Common.{ℕ, Bool, true, false, Option, ◌≡◌, ◌≢◌, ◌<◌, ◌+◌, ◌-◌, ◌^◌, List, ◌++◌, length, refl, arith, ap, sym, subst, inl, inr, ◌∙◌}
+use Rattle.std.specs.Prelude.{min, count_by, option_to_list, slice_index_or, All, Any, IsTrue}
+use Rattle.std.proofs.lemmas.Bool.{cases_Bool, cases_eq, eq-eqb, ne_eqb}
+use Rattle.std.proofs.lemmas.List.Elements.{All-append}
+use Rattle.heap_geometry.specs.declared.geometry.Geometry.{Geometry}
+use Rattle.word_plan.specs.declared.name.WordName.{WordName}
+use Rattle.word_plan.proofs.NameLemmas.{cases_name}
+use Rattle.errand_steps.specs.Errands.{ErrandFields, settle_of, raised, counts_won, is_lost_exchange}
+use Rattle.errand_steps.specs.Steps.{State, Step, action_at, name_at, word_at, found_at}
+use Rattle.sound_state.specs.Contention.{IsExpected, IsNoted, IsDirty, is_by, is_against, dirty_since}
+use Rattle.sound_state.specs.Expectations.{Expected, expects_of}
+use Rattle.sound_state.specs.Wins.{Win, Wins, win_at, list_after, note_at, confirms, wins_after}
+use Rattle.sound_state.proofs.wins.DirtyLemmas.{count-append, IsPast, dirty-stays, dirty-now}
+use Rattle.sound_state.proofs.wins.StepWins.{IsStore, word-stays, the_win, list-least, all-win, no-count, no-won, one-count, against-other, noted-others, noted-apart, noted-own, note-seen, note-lost, note-confirmed}
+use Rattle.sound_state.proofs.wins.WinDefs.{IsSeen, MayExpect}
+
+-- the step carries or sees all that its caller expects after it
+abbrev pub ExpectsAfter : State → ℕ → Type 0
+ExpectsAfter s who =
+    All (MayExpect (s.errand who).point (action_at s who) (found_at s who)) (expects_of (settle_of (s.errand who) (found_at s who)).point)
+
+-- where it stores, no other caller expects anything of its word
+abbrev pub StoresAlone : Geometry → State → ℕ → Type 0
+StoresAlone g s who =
+    (other : ℕ) → other < g.callers → other ≢ who
+    → All (λ e. IsStore (action_at s who) → e.word ≢ name_at s who) (expects_of (s.errand other).point)
+
+-- where all of a list have a property, the one that has another has both
+pub some-all : {X : Type 0} (P Q : X → Type 0) (xs : List X) → All P xs → Any Q xs → (x : X) × P x × Q x
+some-all P Q xs all some = (some.1, subst P some.3 (all some.0 some.1 some.2), some.4)
+
+-- the caller's count of its wins
+own-won :
+    (s : State) (who : ℕ) (s' : State) → Step s who s'
+    → (s'.errand who).won ≡ raised (counts_won (action_at s who) (found_at s who)) (s.errand who).won
+unfolding settle_of
+own-won s who s' step = ap (λ e. e.won) step.errand.here
+
+-- a win raises it by one, up to its end
+won-more :
+    (b : Bool) (before after list list' : ℕ) → after ≡ raised b before → before ≡ min list (2 ^ 64 - 1) → (b ≡ true → list' ≡ list + 1)
+    → (b ≡ false → list' ≡ list) → after ≡ min list' (2 ^ 64 - 1)
+won-more true before after list list' is was more same = omega (arith, is, was, more refl)
+won-more false before after list list' is was more same = omega (arith, is, was, same refl)
+
+-- the caller's win is by it
+is-own : (s : State) (who : ℕ) → is_by who (the_win s who) ≡ true
+is-own s who = eq-eqb who who refl
+
+-- each caller counts its own
+won-after :
+    (g : Geometry) (s : State) (who : ℕ) (s' : State) (w : Wins) → Step s who s' → IsNoted g s w → (i : ℕ) → i < g.callers
+    → (s'.errand i).won ≡ min (count_by (is_by i) (list_after s who w.list)) (2 ^ 64 - 1)
+won-after g s who s' w step old i has =
+    let more = option_to_list (win_at s who) in
+    let both : count_by (is_by i) (w.list ++ more) ≡ count_by (is_by i) w.list + count_by (is_by i) more =
+    count-append (is_by i) w.list more in
+    elim (cases_eq i who) [
+      | inl is ↦
+          let P : ℕ → Type 0 = λ k. (s'.errand k).won ≡ min (count_by (is_by k) (w.list ++ more)) (2 ^ 64 - 1) in
+          let own : count_by (is_by who) (w.list ++ more) ≡ count_by (is_by who) w.list + count_by (is_by who) more =
+          count-append (is_by who) w.list more in
+          let had : (s.errand who).won ≡ min (count_by (is_by who) w.list) (2 ^ 64 - 1) = old.won who (subst (λ k. k < g.callers) is has) in
+          subst P (sym is)
+          (won-more (counts_won (action_at s who) (found_at s who)) (s.errand who).won (s'.errand who).won
+          (count_by (is_by who) w.list) (count_by (is_by who) (w.list ++ more)) (own-won s who s' step) had
+          (λ won. omega (arith, own, one-count (is_by who) s who won (is-own s who)))
+          (λ none. omega (arith, own, no-won (is_by who) s who none)))
+      | inr other ↦
+          let same : (s'.errand i).won ≡ (s.errand i).won = ap (λ e. e.won) (step.errand.elsewhere i other) in
+          let none : count_by (is_by i) more ≡ 0 = no-count (is_by i) s who (ne_eqb who i (λ is. other (sym is))) in
+          let had : (s.errand i).won ≡ min (count_by (is_by i) w.list) (2 ^ 64 - 1) = old.won i has in
+          omega (arith, both, same, none, had)
+    ]
+
+-- no note is of wins to come
+note-past :
+    (s : State) (who : ℕ) (list : List Win) (old : Option ℕ) → IsPast list old
+    → IsPast (list_after s who list) (note_at s who (length (list_after s who list)) old)
+note-past s who list old past =
+    let after = list_after s who list in
+    let longer = list-least s who list in
+    elim (cases_Bool (is_lost_exchange (action_at s who) (found_at s who))) [
+      | inl lost ↦ subst (IsPast after) (sym (note-lost s who (length after) old lost)) (λ wins is. absurd (cc))
+      | inr kept ↦
+          elim (cases_Bool (confirms (action_at s who))) [
+            | inl same ↦
+                subst (IsPast after) (sym (note-confirmed s who (length after) old kept same)) (λ wins is. omega (arith, longer, past wins is))
+            | inr new ↦
+                subst (IsPast after) (sym (note-seen s who (length after) old kept new))
+                (λ wins is. let one : length after ≡ wins = cc in omega (arith, one))
+          ]
+    ]
+
+pub past-after :
+    (g : Geometry) (s : State) (who : ℕ) (w : Wins) → IsNoted g s w → (i : ℕ) (m : WordName)
+    → IsPast (list_after s who w.list) ((wins_after s who w).noted i m)
+past-after g s who w old i m =
+    let longer = list-least s who w.list in
+    let still : IsPast (list_after s who w.list) (w.noted i m) = λ wins is. omega (arith, longer, old.past i m wins is) in
+    elim (cases_eq i who) [
+      | inr other ↦ subst (IsPast (list_after s who w.list)) (sym (noted-others s who w i m other)) still
+      | inl is ↦
+          elim (cases_name m (name_at s who)) [
+            | inr differ ↦ subst (IsPast (list_after s who w.list)) (sym (noted-apart s who w i m differ)) still
+            | inl here ↦
+                let P : ℕ → Type 0 = λ k. IsPast (list_after s who w.list) ((wins_after s who w).noted k m) in
+                subst P (sym is)
+                (subst (IsPast (list_after s who w.list)) (sym (noted-own s who w m here)) (note-past s who w.list (w.noted who m) (old.past who m)))
+          ]
+    ]
+
+-- where the note stays, a win of another since stays one
+still-dirty :
+    (g : Geometry) (s : State) (who : ℕ) (w : Wins) → IsNoted g s w → (i : ℕ) (m : WordName)
+    → (wins_after s who w).noted i m ≡ w.noted i m → IsDirty w i m → IsDirty (wins_after s who w) i m
+still-dirty g s who w old i m same dirty =
+    subst (λ o. IsTrue (dirty_since (list_after s who w.list) i m o)) (sym same)
+    (dirty-stays w.list (option_to_list (win_at s who)) i m (w.noted i m) (old.past i m) dirty)
+
+-- what another caller expects
+expected-others :
+    (g : Geometry) (s : State) (who : ℕ) (s' : State) (w : Wins) → Step s who s' → IsNoted g s w → (i : ℕ) → i ≢ who → (e : Expected)
+    → (IsStore (action_at s who) → e.word ≢ name_at s who) → IsExpected s w i e → IsExpected s' (wins_after s who w) i e
+expected-others g s who s' w step old i other e store h =
+    let same = noted-others s who w i e.word other in
+    record {
+      wins = h.wins;
+      noted = same ∙ h.noted;
+      so = elim h.so [
+        | inr dirty ↦ inr (still-dirty g s who w old i e.word same dirty)
+        | inl is ↦
+            elim (cases_name e.word (name_at s who)) [
+              | inr differ ↦ inl (step.word.elsewhere e.word differ ∙ is)
+              | inl here ↦
+                  elim (cases_Bool (counts_won (action_at s who) (found_at s who))) [
+                    | inr none ↦
+                        inl
+                        (ap s'.word here ∙ (step.word.here
+                        ∙ (word-stays (action_at s who) (word_at s who) none (λ stores. store stores here) ∙ (sym (ap s.word here) ∙ is))))
+                    | inl won ↦
+                        let once = one-count (is_against i e.word) s who won (against-other s who i e.word other here) in
+                        inr
+                        (subst (λ o. IsTrue (dirty_since (list_after s who w.list) i e.word o)) (sym (same ∙ h.noted))
+                        (dirty-now w.list (option_to_list (win_at s who)) i e.word h.wins (old.past i e.word h.wins h.noted) (omega (arith, once))))
+                  ]
+            ]
+      ];
+    }
+
+-- what the caller expects, of another word than that of its step
+expected-carried :
+    (g : Geometry) (s : State) (who : ℕ) (s' : State) (w : Wins) → Step s who s' → IsNoted g s w → (e : Expected)
+    → e.word ≢ name_at s who → IsExpected s w who e → IsExpected s' (wins_after s who w) who e
+expected-carried g s who s' w step old e differ h =
+    let same = noted-apart s who w who e.word differ in
+    record {
+      wins = h.wins;
+      noted = same ∙ h.noted;
+      so = elim h.so [
+        | inl is ↦ inl (step.word.elsewhere e.word differ ∙ is)
+        | inr dirty ↦ inr (still-dirty g s who w old who e.word same dirty)
+      ];
+    }
+
+-- and of that word
+expected-seen :
+    (s : State) (who : ℕ) (s' : State) (w : Wins) → Step s who s' → (e : Expected) → IsSeen (action_at s who) (found_at s who) e
+    → IsExpected s' (wins_after s who w) who e
+expected-seen s who s' w step e seen = record {
+  wins = length (list_after s who w.list);
+  noted = noted-own s who w e.word seen.word ∙ note-seen s who (length (list_after s who w.list)) (w.noted who e.word) seen.kept seen.noted;
+  so = inl (ap s'.word seen.word ∙ (step.word.here ∙ seen.value));
+}
+
+expected-own :
+    (g : Geometry) (s : State) (who : ℕ) (s' : State) (w : Wins) → who < g.callers → Step s who s' → IsNoted g s w → (e : Expected)
+    → MayExpect (s.errand who).point (action_at s who) (found_at s who) e → IsExpected s' (wins_after s who w) who e
+expected-own g s who s' w has step old e may =
+    elim may [
+      | inl carried ↦
+          let (x, h, is) = some-all (IsExpected s w who) (λ x. x ≡ e) (expects_of (s.errand who).point) (old.expected who has) carried.0 in
+          expected-carried g s who s' w step old e carried.1 (subst (IsExpected s w who) is h)
+      | inr seen ↦ expected-seen s who s' w step e seen
+    ]
+
+expected-after :
+    (g : Geometry) (s : State) (who : ℕ) (s' : State) (w : Wins) → who < g.callers → Step s who s' → ExpectsAfter s who → StoresAlone g s who
+    → IsNoted g s w → (i : ℕ) → i < g.callers → All (IsExpected s' (wins_after s who w) i) (expects_of (s'.errand i).point)
+expected-after g s who s' w has step expects stores old i lt =
+    elim (cases_eq i who) [
+      | inl is ↦
+          let P : ℕ → Type 0 = λ k. All (IsExpected s' (wins_after s who w) k) (expects_of (s'.errand k).point) in
+          let Q : ErrandFields → Type 0 = λ f. All (IsExpected s' (wins_after s who w) who) (expects_of f.point) in
+          subst P (sym is) (subst Q (sym step.errand.here)
+          (λ k d within.
+          expected-own g s who s' w has step old (slice_index_or (expects_of (settle_of (s.errand who) (found_at s who)).point) k d)
+          (expects k d within)))
+      | inr other ↦
+          let Q : ErrandFields → Type 0 = λ f. All (IsExpected s' (wins_after s who w) i) (expects_of f.point) in
+          subst Q (sym (step.errand.elsewhere i other))
+          (λ k d within.
+          expected-others g s who s' w step old i other (slice_index_or (expects_of (s.errand i).point) k d) (stores i lt other k d within)
+          (old.expected i lt k d within))
+    ]
+
+-- a step keeps what is noted
+pub step-noted :
+    (g : Geometry) (s : State) (who : ℕ) (s' : State) (w : Wins) → who < g.callers → Step s who s' → ExpectsAfter s who → StoresAlone g s who
+    → IsNoted g s w → IsNoted g s' (wins_after s who w)
+step-noted g s who s' w has step expects stores old = record {
+  callers =
+      All-append (λ x. x.caller < g.callers) w.list (option_to_list (win_at s who)) old.callers
+      (all-win (λ x. x.caller < g.callers) s who has);
+  won = won-after g s who s' w step old;
+  past = past-after g s who w old;
+  expected = expected-after g s who s' w has step expects stores old;
+}

@@ -1,0 +1,170 @@
+-- What a caller expects after a step at a stack, and what it expects where it loses there.
+use Rattle.std.proofs.Common.{ℕ, Bool, true, false, ◌≡◌, ◌≢◌, ◌<◌, ◌^◌, ◌-◌, refl, arith, sym}
+use Rattle.std.specs.Prelude.{All, ◌==◌, if◌then◌else◌}
+use Rattle.std.proofs.lemmas.Bool.{true≢false}
+use Rattle.std.proofs.lemmas.List.Elements.{All-nil}
+use Rattle.heap_geometry.specs.declared.geometry.Geometry.{Geometry}
+use Rattle.packed_words.specs.Head.{HeadFields, head_word, head_of}
+use Rattle.packed_words.proofs.HeadLemmas.{head_word-head_of}
+use Rattle.word_plan.specs.Actions.{name_of, found_by}
+use Rattle.word_plan.specs.Seats.{SeatFields}
+use Rattle.word_plan.specs.Sites.{active_name}
+use Rattle.stack_parts.specs.declared.point.Pile.{Pile}
+use Rattle.stack_parts.specs.declared.point.Pile.TheVariants.{Frames, Partials}
+use Rattle.stack_parts.specs.declared.point.StackPoint.{StackPoint}
+use Rattle.stack_parts.specs.declared.point.StackPoint.TheVariants as stack
+use Rattle.stack_parts.specs.Piles.{head_name, next_name}
+use Rattle.stack_parts.specs.Points.{plan_stack_of, seat_of_stack, after_top, after_below}
+use Rattle.errand_steps.specs.declared.onward.Onward.{Onward}
+use Rattle.errand_steps.specs.declared.point.Point.TheVariants.{Stack}
+use Rattle.errand_steps.specs.Fits.{FitsInStack}
+use Rattle.errand_steps.specs.Nexts.{next_of, enter_stack, popped, confirmed_empty, put_away}
+use Rattle.errand_steps.specs.Onwards.{has_left_stack}
+use Rattle.errand_steps.specs.Points.{plan_point_of}
+use Rattle.sound_state.specs.Expectations.{Expected, expects_of, onward_expects, head_still}
+use Rattle.sound_state.proofs.wins.ExpectLemmas.{IsIn, all-in, all-in_rest, onward-carried, load-expects, both-carried, exchange-loses}
+use Rattle.sound_state.proofs.wins.WinDefs.{MayExpect, ExpectsOn, LosesOn, next_expects}
+
+-- an active word is no word of a stack, and a head lies below no index
+head-apart : (s : SeatFields) (pile : Pile) → active_name s ≢ head_name s pile
+head-apart s Frames = λ is. cc
+head-apart s Partials = λ is. cc
+
+next-apart : (s : SeatFields) (pile : Pile) (i : ℕ) → active_name s ≢ next_name pile i
+next-apart s Frames i = λ is. cc
+next-apart s Partials i = λ is. cc
+
+below-apart : (s : SeatFields) (pile : Pile) (i : ℕ) → head_name s pile ≢ next_name pile i
+below-apart s Frames i = λ is. cc
+below-apart s Partials i = λ is. cc
+
+-- what waits behind the part is expected in it
+stack-holds :
+    (p : StackPoint) (o : Onward) → has_left_stack p ≡ false → All (IsIn (expects_of (Stack p o))) (onward_expects (seat_of_stack p) o)
+unfolding expects_of
+stack-holds (stack.LoadTop s pile) o inside = all-in (onward_expects s o)
+stack-holds (stack.LoadBelow s pile h) o inside = all-in_rest _ (onward_expects s o)
+stack-holds (stack.PopTop s pile h below) o inside = all-in_rest _ (onward_expects s o)
+stack-holds (stack.ConfirmEmpty s pile h) o inside = all-in_rest _ (onward_expects s o)
+stack-holds (stack.LoadTopToPush s pile i) o inside = all-in (onward_expects s o)
+stack-holds (stack.StoreBelow s pile i h) o inside = all-in_rest _ (onward_expects s o)
+stack-holds (stack.PushTop s pile i h) o inside = all-in_rest _ (onward_expects s o)
+stack-holds (stack.Popped s pile i) o inside = absurd (true≢false inside)
+stack-holds (stack.FoundEmpty s pile h) o inside = absurd (true≢false inside)
+stack-holds (stack.ConfirmedEmpty s pile) o inside = absurd (true≢false inside)
+stack-holds (stack.Pushed s pile) o inside = absurd (true≢false inside)
+
+-- a head that is read for a pop
+top-leads :
+    (P : Expected → Type 0) (s : SeatFields) (pile : Pile) (h : HeadFields) (o : Onward) → All P (onward_expects s o)
+    → All P (head_still s pile h o) → All P (next_expects (enter_stack (after_top s pile h) o))
+unfolding expects_of
+top-leads P s pile h o rest all = grind (arith, rest, all)
+
+-- the next word of the index on top
+below-leads :
+    (P : Expected → Type 0) (s : SeatFields) (pile : Pile) (h : HeadFields) (below : ℕ) (o : Onward) → All P (head_still s pile h o)
+    → All P (next_expects (enter_stack (after_below s pile h below) o))
+unfolding expects_of
+below-leads P s pile h below o all = grind (arith, all)
+
+-- an index was popped
+popped-leads :
+    (P : Expected → Type 0) (s : SeatFields) (i : ℕ) (o : Onward) → All P (onward_expects s o) → All P (next_expects (popped s i o))
+unfolding expects_of
+popped-leads P s i o rest = grind (arith, rest)
+
+-- the stack is empty
+confirmed-leads :
+    (P : Expected → Type 0) (s : SeatFields) (o : Onward) → All P (onward_expects s o) → All P (next_expects (confirmed_empty s o))
+unfolding expects_of
+confirmed-leads P s o rest = grind (arith, rest, All-nil P)
+
+-- what was to be put away stands there
+pub put-leads : (P : Expected → Type 0) (s : SeatFields) (o : Onward) → All P (next_expects (put_away s o))
+unfolding expects_of
+put-leads P s o = grind (arith, All-nil P)
+
+-- an exchange that is won leads on, and one that is lost back to the head
+pop-leads :
+    (P : Expected → Type 0) (s : SeatFields) (pile : Pile) (i : ℕ) (o : Onward) (won : Bool) → All P (onward_expects s o)
+    → All P (next_expects (enter_stack (if won then stack.Popped s pile i else stack.LoadTop s pile) o))
+unfolding expects_of
+pop-leads P s pile i o true rest = popped-leads P s i o rest
+pop-leads P s pile i o false rest = rest
+
+confirm-leads :
+    (P : Expected → Type 0) (s : SeatFields) (pile : Pile) (o : Onward) (won : Bool) → All P (onward_expects s o)
+    → All P (next_expects (enter_stack (if won then stack.ConfirmedEmpty s pile else stack.LoadTop s pile) o))
+unfolding expects_of
+confirm-leads P s pile o true rest = confirmed-leads P s o rest
+confirm-leads P s pile o false rest = rest
+
+push-leads :
+    (P : Expected → Type 0) (s : SeatFields) (pile : Pile) (i : ℕ) (o : Onward) (won : Bool) → All P (onward_expects s o)
+    → All P (next_expects (enter_stack (if won then stack.Pushed s pile else stack.LoadTopToPush s pile i) o))
+unfolding expects_of
+push-leads P s pile i o true rest = put-leads P s o
+push-leads P s pile i o false rest = rest
+
+-- what its caller may expect after a step at a stack
+abbrev May : StackPoint → Onward → ℕ → Expected → Type 0
+May p o v = MayExpect (Stack p o) (plan_stack_of p) (found_by (plan_stack_of p) v)
+
+-- what waits behind the part is carried
+waits-on :
+    (p : StackPoint) (o : Onward) (v : ℕ) → has_left_stack p ≡ false → active_name (seat_of_stack p) ≢ name_of (plan_stack_of p)
+    → All (May p o v) (onward_expects (seat_of_stack p) o)
+waits-on p o v inside apart =
+    onward-carried (Stack p o) (plan_stack_of p) (found_by (plan_stack_of p) v) (seat_of_stack p) o (stack-holds p o inside) apart
+
+-- a step at a stack carries or sees all that its caller expects after it
+pub stack-expects :
+    (g : Geometry) (who : ℕ) (p : StackPoint) (o : Onward) (v : ℕ) → FitsInStack g who p o → v < 2 ^ 64 → ExpectsOn (Stack p o) v
+unfolding plan_point_of next_of expects_of
+stack-expects g who (stack.LoadTop s pile) o v fits below =
+    let p = stack.LoadTop s pile in
+    top-leads (May p o v) s pile (head_of v) o (waits-on p o v refl (head-apart s pile))
+    (load-expects (Stack p o) (head_name s pile) v (head_word (head_of v)) s o (stack-holds p o refl) (head-apart s pile)
+    (sym (head_word-head_of v below)))
+stack-expects g who (stack.LoadBelow s pile h) o v fits below =
+    let p = stack.LoadBelow s pile h in
+    below-leads (May p o v) s pile h v o
+    (both-carried (Stack p o) (plan_stack_of p) (found_by (plan_stack_of p) v) (head_name s pile) (head_word h) s o
+    (all-in (head_still s pile h o)) (below-apart s pile (h.top - 1)) (next-apart s pile (h.top - 1)))
+stack-expects g who (stack.PopTop s pile h next) o v fits below =
+    let p = stack.PopTop s pile h next in
+    pop-leads (May p o v) s pile (h.top - 1) o (v == head_word h) (waits-on p o v refl (head-apart s pile))
+stack-expects g who (stack.ConfirmEmpty s pile h) o v fits below =
+    let p = stack.ConfirmEmpty s pile h in
+    confirm-leads (May p o v) s pile o (v == head_word h) (waits-on p o v refl (head-apart s pile))
+stack-expects g who (stack.LoadTopToPush s pile i) o v fits below =
+    let p = stack.LoadTopToPush s pile i in
+    load-expects (Stack p o) (head_name s pile) v (head_word (head_of v)) s o (stack-holds p o refl) (head-apart s pile)
+    (sym (head_word-head_of v below))
+stack-expects g who (stack.StoreBelow s pile i h) o v fits below =
+    let p = stack.StoreBelow s pile i h in
+    both-carried (Stack p o) (plan_stack_of p) (found_by (plan_stack_of p) v) (head_name s pile) (head_word h) s o
+    (all-in (head_still s pile h o)) (below-apart s pile i) (next-apart s pile i)
+stack-expects g who (stack.PushTop s pile i h) o v fits below =
+    let p = stack.PushTop s pile i h in
+    push-leads (May p o v) s pile i o (v == head_word h) (waits-on p o v refl (head-apart s pile))
+stack-expects g who (stack.Popped s pile i) o v fits below = absurd (true≢false fits.inside)
+stack-expects g who (stack.FoundEmpty s pile h) o v fits below = absurd (true≢false fits.inside)
+stack-expects g who (stack.ConfirmedEmpty s pile) o v fits below = absurd (true≢false fits.inside)
+stack-expects g who (stack.Pushed s pile) o v fits below = absurd (true≢false fits.inside)
+
+-- one that is lost finds another head than its caller expects
+pub stack-loses : (p : StackPoint) (o : Onward) (v : ℕ) → LosesOn (Stack p o) v
+unfolding plan_point_of expects_of
+stack-loses (stack.LoadTop s pile) o v lost = absurd (true≢false (sym lost))
+stack-loses (stack.LoadBelow s pile h) o v lost = absurd (true≢false (sym lost))
+stack-loses (stack.PopTop s pile h below) o v lost = exchange-loses (head_name s pile) v (head_word h) (onward_expects s o) lost
+stack-loses (stack.ConfirmEmpty s pile h) o v lost = exchange-loses (head_name s pile) v (head_word h) (onward_expects s o) lost
+stack-loses (stack.LoadTopToPush s pile i) o v lost = absurd (true≢false (sym lost))
+stack-loses (stack.StoreBelow s pile i h) o v lost = absurd (true≢false (sym lost))
+stack-loses (stack.PushTop s pile i h) o v lost = exchange-loses (head_name s pile) v (head_word h) (onward_expects s o) lost
+stack-loses (stack.Popped s pile i) o v lost = absurd (true≢false (sym lost))
+stack-loses (stack.FoundEmpty s pile h) o v lost = absurd (true≢false (sym lost))
+stack-loses (stack.ConfirmedEmpty s pile) o v lost = absurd (true≢false (sym lost))
+stack-loses (stack.Pushed s pile) o v lost = absurd (true≢false (sym lost))

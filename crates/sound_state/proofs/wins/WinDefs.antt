@@ -1,0 +1,129 @@
+-- What a step does to what its caller expects, and to its turn: the statements that the points owe.
+use Rattle.std.proofs.Common.{ℕ, Bool, true, false, ◌≡◌, ◌≢◌, ◌≤◌, ◌+◌, List, []}
+use Rattle.std.specs.Prelude.{◌⊎◌, ◌&&◌, not, All, Any, Option, Some, None, IsTrue}
+use Rattle.packed_words.specs.declared.active.ActiveWord.TheVariants.{Null}
+use Rattle.packed_words.specs.Active.{active_word}
+use Rattle.word_plan.specs.declared.action.Action.{Action}
+use Rattle.word_plan.specs.declared.action.Found.{Found}
+use Rattle.word_plan.specs.declared.name.WordName.{WordName}
+use Rattle.word_plan.specs.Actions.{name_of, after_action, found_by}
+use Rattle.superblock_parts.specs.declared.point.BlockPoint.{BlockPoint}
+use Rattle.superblock_parts.specs.declared.point.BlockPoint.TheVariants as block
+use Rattle.pool_model.specs.declared.event.Event.{Event}
+use Rattle.errand_steps.specs.declared.next.Next.{Next}
+use Rattle.errand_steps.specs.declared.next.Next.TheVariants.{At, End, Turn, Retire, Pick, Unlist}
+use Rattle.errand_steps.specs.declared.point.Point.{Point}
+use Rattle.errand_steps.specs.declared.point.Point.TheVariants as point
+use Rattle.errand_steps.specs.Errands.{is_lost_exchange, counts_lost}
+use Rattle.errand_steps.specs.Events.{event_of}
+use Rattle.errand_steps.specs.Nexts.{next_of}
+use Rattle.errand_steps.specs.Points.{plan_point_of}
+use Rattle.sound_state.specs.Expectations.{Expected, expects_of, onward_expects}
+use Rattle.sound_state.specs.Installs.{is_seeking, has_offer}
+use Rattle.sound_state.specs.Turns.{one_if, in_turn, has_refused, is_discarding_at, is_onward_giving, is_refused, is_discarding, gives_small, refuses_small}
+use Rattle.sound_state.specs.Wins.{confirms, offers}
+
+-- what a caller expected before, of another word than that of the step
+abbrev pub IsCarried : Point → WordName → Expected → Type 0
+IsCarried p n e = Any (λ x. x ≡ e) (expects_of p) × (e.word ≢ n)
+
+-- what it sees or leaves in the word of the step, by a load, a store or a change that it won
+pub record IsSeen (a : Action) (x : Found) (e : Expected) : Type 0 where
+  pub word : e.word ≡ name_of a
+  pub value : after_action a x.value ≡ e.value
+  pub kept : is_lost_exchange a x ≡ false
+  pub noted : confirms a ≡ false
+
+abbrev pub MayExpect : Point → Action → Found → Expected → Type 0
+MayExpect p a x e = IsCarried p (name_of a) e ⊎ IsSeen a x e
+
+-- what a caller expects where it goes on, whatever its retired list says
+abbrev pub next_expects : Next → List Expected
+next_expects (At p) = expects_of p
+next_expects (End r) = []
+next_expects (Turn s need) = []
+next_expects (Retire s d o) = onward_expects s o
+next_expects (Pick s held o) = onward_expects s o
+next_expects (Unlist s d o) = onward_expects s o
+
+-- 1 where it has no answer yet there; where its new superblock wasn't needed; where it found none active
+abbrev pub next_unanswered : Next → ℕ
+next_unanswered (At p) = one_if (in_turn p && not (has_refused p))
+next_unanswered (End r) = 0
+next_unanswered (Turn s need) = 1
+next_unanswered (Retire s d o) = one_if (is_onward_giving o && not (is_refused o))
+next_unanswered (Pick s held o) = one_if (is_onward_giving o && not (is_refused o))
+next_unanswered (Unlist s d o) = one_if (is_onward_giving o && not (is_refused o))
+
+abbrev pub next_discards : Next → ℕ
+next_discards (At p) = one_if (in_turn p && is_discarding_at p)
+next_discards (End r) = 0
+next_discards (Turn s need) = 1
+next_discards (Retire s d o) = one_if (is_discarding o)
+next_discards (Pick s held o) = one_if (is_discarding o)
+next_discards (Unlist s d o) = one_if (is_discarding o)
+
+abbrev pub next_seeks : Next → Bool
+next_seeks (At p) = is_seeking p
+next_seeks (End r) = false
+next_seeks (Turn s need) = false
+next_seeks (Retire s d o) = is_onward_giving o
+next_seeks (Pick s held o) = is_onward_giving o
+next_seeks (Unlist s d o) = is_onward_giving o
+
+abbrev pub next_offers : Next → ℕ
+next_offers (At p) = one_if (has_offer p)
+next_offers n = 0
+
+-- the caller loads the active word
+abbrev pub looks_active : Point → Bool
+looks_active (point.Block (block.LoadActive s) o) = true
+looks_active p = false
+
+-- it offers a new superblock
+abbrev pub is_new_offer : BlockPoint → Bool
+is_new_offer (block.InstallSuperblock at) = true
+is_new_offer p = false
+
+abbrev pub offers_new : Point → Bool
+offers_new (point.Block p o) = is_new_offer p
+offers_new p = false
+
+-- what a point's step finds, where its word is v
+abbrev pub found_in : Point → ℕ → Found
+found_in p v = found_by (plan_point_of p) v
+
+-- the step carries or sees all that its caller expects after it
+abbrev pub ExpectsOn : Point → ℕ → Type 0
+ExpectsOn p v = All (MayExpect p (plan_point_of p) (found_in p v)) (next_expects (next_of p (found_in p v)))
+
+-- a step that counts as lost finds another word than its caller expects there
+abbrev pub LosesOn : Point → ℕ → Type 0
+LosesOn p v =
+    counts_lost p (found_in p v) ≡ true
+    → Any (λ e. (e.word ≡ name_of (plan_point_of p)) × (v ≢ e.value)) (expects_of p)
+
+-- 1 where the event gives this caller a small block, and where it refuses one
+abbrev pub given_by : ℕ → Option Event → ℕ
+given_by who None = 0
+given_by who (Some e) = one_if (gives_small who e)
+
+abbrev pub refused_by : ℕ → Option Event → ℕ
+refused_by who None = 0
+refused_by who (Some e) = one_if (refuses_small who e)
+
+-- what the step does to its caller's turn
+pub record TurnsOn (who : ℕ) (p : Point) (v : ℕ) : Type 0 where
+  pub unanswered :
+      one_if (in_turn p && not (has_refused p))
+      ≤ given_by who (event_of who p (found_in p v)) + refused_by who (event_of who p (found_in p v))
+      + next_unanswered (next_of p (found_in p v))
+  pub discards :
+      next_discards (next_of p (found_in p v))
+      ≤ one_if (in_turn p && is_discarding_at p) + one_if (offers_new p && not (found_in p v).won)
+  pub offers :
+      next_offers (next_of p (found_in p v)) + one_if (offers p && (found_in p v).won)
+      ≤ one_if (has_offer p) + given_by who (event_of who p (found_in p v))
+  pub seeks :
+      IsTrue (next_seeks (next_of p (found_in p v)))
+      → IsTrue (is_seeking p) ⊎ (IsTrue (looks_active p) × (v ≡ active_word Null))

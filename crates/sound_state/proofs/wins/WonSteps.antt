@@ -1,0 +1,74 @@
+-- Every step keeps what was won, noted and lost.
+use Rattle.std.proofs.Common.{ℕ, ◌<◌, ◌^◌, subst}
+use Rattle.std.proofs.lemmas.List.Elements.{All-nil}
+use Rattle.heap_geometry.specs.declared.geometry.Geometry.{Geometry}
+use Rattle.word_plan.specs.Table.{Exists}
+use Rattle.errand_steps.specs.declared.point.Point.{Point}
+use Rattle.errand_steps.specs.declared.point.Point.TheVariants.{Idle, Block, Stack, Desc, Partial, Large}
+use Rattle.errand_steps.specs.Fits.{FitsPoint}
+use Rattle.errand_steps.specs.Nexts.{next_of}
+use Rattle.errand_steps.specs.Points.{plan_point_of}
+use Rattle.errand_steps.specs.Steps.{State, Step, action_at, name_at, word_at, found_at}
+use Rattle.errand_steps.proofs.PlanLemmas.{plan-exists}
+use Rattle.sound_state.specs.Contention.{IsNoted, IsContended}
+use Rattle.sound_state.specs.Expectations.{expects_of}
+use Rattle.sound_state.specs.Sound.{IsSoundWithoutCounts}
+use Rattle.sound_state.specs.Wins.{Wins, wins_after}
+use Rattle.sound_state.proofs.wins.BlockExpects.{block-expects, block-loses}
+use Rattle.sound_state.proofs.wins.ContendLemmas.{step-contended}
+use Rattle.sound_state.proofs.wins.DescExpects.{desc-expects, desc-loses}
+use Rattle.sound_state.proofs.wins.LargeExpects.{large-expects, large-loses}
+use Rattle.sound_state.proofs.wins.NoteLemmas.{ExpectsAfter, step-noted}
+use Rattle.sound_state.proofs.wins.PartialExpects.{partial-expects, partial-loses}
+use Rattle.sound_state.proofs.wins.SettleExpects.{expects-settled}
+use Rattle.sound_state.proofs.wins.StackExpects.{stack-expects, stack-loses}
+use Rattle.sound_state.proofs.wins.StoreLemmas.{stores-unexpected}
+use Rattle.sound_state.proofs.wins.WinDefs.{ExpectsOn, LosesOn, MayExpect, found_in}
+
+-- what a caller expects after a step it carries or sees
+expects-on : (g : Geometry) (who : ℕ) (p : Point) (v : ℕ) → FitsPoint g who p → v < 2 ^ 64 → ExpectsOn p v
+unfolding next_of expects_of
+expects-on g who Idle v fits below = All-nil (MayExpect Idle (plan_point_of Idle) (found_in Idle v))
+expects-on g who (Block p o) v fits below = block-expects p o v fits.inside below
+expects-on g who (Stack p o) v fits below = stack-expects g who p o v fits below
+expects-on g who (Desc p o) v fits below = desc-expects g who p o v fits
+expects-on g who (Partial p o) v fits below = partial-expects g who p o v fits below
+expects-on g who (Large p o) v fits below = large-expects p o v below
+
+-- what it loses it expected otherwise
+loses-on : (p : Point) (v : ℕ) → LosesOn p v
+unfolding plan_point_of
+loses-on Idle v = λ lost. absurd (cc)
+loses-on (Block p o) v = block-loses p o v
+loses-on (Stack p o) v = stack-loses p o v
+loses-on (Desc p o) v = desc-loses p o v
+loses-on (Partial p o) v = partial-loses p o v
+loses-on (Large p o) v = large-loses p o v
+
+-- the errand after a step expects what its caller carries or sees
+expects-after : (g : Geometry) (s : State) (who : ℕ) → IsSoundWithoutCounts g s → who < g.callers → ExpectsAfter s who
+expects-after g s who sound has =
+    let e = s.errand who in
+    let own = sound.parts.1.errands who has in
+    expects-settled e (found_at s who) (MayExpect e.point (action_at s who) (found_at s who))
+    (expects-on e.geometry e.caller e.point (word_at s who) own.rule.point (sound.parts.1.words (name_at s who)))
+
+-- what callers noted
+pub steps-noted :
+    (g : Geometry) (s : State) (w : Wins) (who : ℕ) (s' : State) → IsSoundWithoutCounts g s → IsNoted g s w → who < g.callers → Step s who s'
+    → IsNoted g s' (wins_after s who w)
+steps-noted g s w who s' sound noted has step =
+    step-noted g s who s' w has step (expects-after g s who sound has)
+    (λ other has_other differ. stores-unexpected g s sound.parts.0 who other sound.parts.1 has has_other differ) noted
+
+-- and how often they lost
+pub steps-contended :
+    (g : Geometry) (s : State) (w : Wins) (who : ℕ) (s' : State) → IsSoundWithoutCounts g s → IsNoted g s w → IsContended g s w
+    → who < g.callers → Step s who s' → IsContended g s' (wins_after s who w)
+steps-contended g s w who s' sound noted contended has step =
+    let e = s.errand who in
+    let own = sound.parts.1.errands who has in
+    let exists : Exists g (name_at s who) =
+    subst (λ h. Exists h (name_at s who)) own.geometry
+    (plan-exists e.geometry e.caller e.point own.rule.geometry own.rule.caller own.rule.point) in
+    step-contended g s who s' w has exists step (loses-on e.point (word_at s who)) noted contended
