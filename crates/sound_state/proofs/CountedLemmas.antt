@@ -6,7 +6,10 @@ use Rattle.pool_model.specs.Legal.{IsLegal, IsLegalEvent, IsLegalEventWithoutCou
 use Rattle.pool_model.specs.Pool.{pool_of}
 use Rattle.pool_model.proofs.HistoryLemmas.{EachAfter-last, EachAfter-push, legal-weaker}
 use Rattle.errand_steps.specs.Steps.{State, Step, event_at, with_event}
-use Rattle.sound_state.specs.Sound.{IsSound, IsSoundWithoutCounts}
+use Rattle.sound_state.specs.Sound.{IsSound, IsSoundWithoutCounts, TellsCounted}
+use Rattle.sound_state.proofs.counts.BareLemmas.{refusal-counted}
+use Rattle.sound_state.proofs.counts.PartUsedLemmas.{look-counted}
+use Rattle.sound_state.proofs.counts.TellCounts.{tells-counted}
 use Rattle.sound_state.proofs.EveryStep.{steps-sound}
 
 -- a sound state is one that is sound without counts, and whose history is legal
@@ -25,12 +28,21 @@ legal-with g history (Some event) counted legal weaker =
     EachAfter-push (IsLegalEvent g) history event legal
     (EachAfter-last (IsLegalEventWithoutCounts g) history event weaker, counted event refl)
 
--- a step keeps the counts too, where its event has its own
-pub steps-counted :
-    (g : Geometry) (s : State) (who : ℕ) (s' : State) → IsSound g s → who < g.callers
-    → ((e : Event) → event_at s who ≡ Some e → IsCounted g (pool_of s.history) e) → Step s who s' → IsSound g s'
-steps-counted g s who s' sound has counted step =
-    let after : IsSoundWithoutCounts g s' = steps-sound g s who s' (without-counts g s sound) has step in
+-- what a caller tells next has its number
+pub tells-all : (g : Geometry) (s : State) (who : ℕ) → IsSoundWithoutCounts g s → who < g.callers → TellsCounted g s who
+tells-all g s who sound has =
+    let l = sound.parts.0 in
+    let old = sound.parts.1 in
+    tells-counted g s l who old has
+    (λ class is bare unkept unpaid. look-counted g s l who class old has is bare unkept unpaid)
+    (refusal-counted g s l who old has)
+
+-- so every step keeps the counts too
+pub steps-counted : (g : Geometry) (s : State) (who : ℕ) (s' : State) → IsSound g s → who < g.callers → Step s who s' → IsSound g s'
+steps-counted g s who s' sound has step =
+    let before = without-counts g s sound in
+    let after : IsSoundWithoutCounts g s' = steps-sound g s who s' before has step in
     with-counts g s' after
     (subst (IsLegal g) (sym step.history)
-    (legal-with g s.history (event_at s who) counted sound.legal (subst (IsLegalWithoutCounts g) step.history after.legal)))
+    (legal-with g s.history (event_at s who) (tells-all g s who before has) sound.legal
+    (subst (IsLegalWithoutCounts g) step.history after.legal)))

@@ -4,6 +4,7 @@ pub mod ReachLemmas
 pub mod RunLemmas
 pub mod anchors
 pub mod beginnings
+pub mod counts
 pub mod descriptors
 pub mod discards
 pub mod hazards

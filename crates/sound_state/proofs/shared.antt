@@ -1,6 +1,7 @@
 pub mod AlikeLemmas
 pub mod CreditLemmas
 pub mod FrameLemmas
+pub mod HeapNames
 pub mod HolderLemmas
 pub mod LinkLemmas
 pub mod OverlapLemmas

@@ -26,41 +26,39 @@ pub fn installed_is_sound()
         → IsOpening g (installed g class) s → IsSound g s }
 {}
 
-/// The counts are a matter of the history alone: a state is sound where it is sound without them and
-/// its history is legal.
-pub fn counts_are_of_the_history()
+/// The two numbers of a legal history, those of a look and of a refusal, follow from the rest. They are
+/// a matter of the history alone; and in a state that is sound without them whatever a caller tells
+/// next has its number: a look leaves few part-used frames of its class, and a refusal few bare ones.
+pub fn counts_follow()
     ensures dropped { (g : Geometry) (s : State) → IsSound g s → IsSoundWithoutCounts g s }
     ensures added { (g : Geometry) (s : State) → IsSoundWithoutCounts g s → IsLegal g s.history → IsSound g s }
+    ensures told { (g : Geometry) (s : State) (who : ℕ) → IsSoundWithoutCounts g s → who < g.callers
+        → TellsCounted g s who }
 {}
 
 /// A call that begins under its condition keeps the state sound.
 pub fn begun_calls_keep_sound()
     ensures { (g : Geometry) (s : State) (who : ℕ) (call : Call) (after : State)
-        → IsSoundWithoutCounts g s → who < g.callers → Begins s who call after → IsSoundWithoutCounts g after }
+        → IsSound g s → who < g.callers → Begins s who call after → IsSound g after }
 {}
 
-/// Every step of every caller keeps the state sound without counts; and with them too, where the
-/// event that it tells, if any, has its count. Only a look and a refusal of a small need have one.
+/// So does every step of every caller, wherever the others stand.
 pub fn steps_keep_sound()
-    ensures without_counts { (g : Geometry) (s : State) (who : ℕ) (after : State)
-        → IsSoundWithoutCounts g s → who < g.callers → Step s who after → IsSoundWithoutCounts g after }
-    ensures with_counts { (g : Geometry) (s : State) (who : ℕ) (after : State) → IsSound g s → who < g.callers
-        → TellsCounted g s who → Step s who after
-        → IsSound g after }
+    ensures { (g : Geometry) (s : State) (who : ℕ) (after : State)
+        → IsSound g s → who < g.callers → Step s who after → IsSound g after }
 {}
 
-/// So does every run of steps, of any callers in any order.
+/// And every run of steps, of any callers in any order.
 pub fn runs_keep_sound()
     ensures { (g : Geometry) (s : State) (callers : List ℕ) (n : ℕ) (after : State)
-        → IsSoundWithoutCounts g s → All (λ who. who < g.callers) callers → Run s callers n after
-        → IsSoundWithoutCounts g after }
+        → IsSound g s → All (λ who. who < g.callers) callers → Run s callers n after → IsSound g after }
 {}
 
 /// Every state that callers reach from the state before the first step is sound, whatever calls they
 /// begin and in whatever order they make steps.
 pub fn reached_states_are_sound()
     ensures opening { (g : Geometry) (s : State) (moves : List Move) (after : State) → IsChecked g
-        → IsOpening g (opening g) s → Reaches g s moves after → IsSoundWithoutCounts g after }
+        → IsOpening g (opening g) s → Reaches g s moves after → IsSound g after }
     ensures installed { (g : Geometry) (class : ℕ) (s : State) (moves : List Move) (after : State) → IsChecked g → class < CLASSES
-        → IsOpening g (installed g class) s → Reaches g s moves after → IsSoundWithoutCounts g after }
+        → IsOpening g (installed g class) s → Reaches g s moves after → IsSound g after }
 {}

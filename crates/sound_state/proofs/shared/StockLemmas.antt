@@ -47,7 +47,7 @@ abbrev some_word : ℕ → ℕ
 some_word word = if word == 0 then 0 else 1
 
 -- an active word names at most one descriptor, and none where it is 0
-active-one : (n : ℕ) (o : Option ActiveWord) → sum_below n (λ d. active_keeps d o) ≤ 1
+pub active-one : (n : ℕ) (o : Option ActiveWord) → sum_below n (λ d. active_keeps d o) ≤ 1
 active-one n None = omega (arith, sum-none n (λ d. 0) (λ d lt. refl))
 active-one n (Some Null) = omega (arith, sum-none n (λ d. 0) (λ d lt. refl))
 active-one n (Some (Held e credits)) = sum-once n e
@@ -90,6 +90,9 @@ slot-named n word =
                 (λ d lt. omega (arith, slot-one word d, cond-false {A = ℕ} (word == 0) 0 (if word - 1 == d then 1 else 0) (ne_eqb word 0 ne))),
           )
     ]
+
+pub slot-once : (n word : ℕ) → sum_below n (λ d. if word == d + 1 then 1 else 0) ≤ 1
+slot-once n word = grind (arith, slot-named n word)
 
 -- a word that holds a descriptor is one of its class's
 word-stocked : (class word : ℕ) → (if (class == class) && (word == 0) then 0 else (if class == class then 1 else 0)) ≡ some_word word

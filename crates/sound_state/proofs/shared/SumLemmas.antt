@@ -94,6 +94,22 @@ pub sum-most : (n : ℕ) (f : ℕ → ℕ) (k : ℕ) → ((j : ℕ) → j < n �
 sum-most zero f k h = omega arith
 sum-most (suc n) f k h = omega (arith, sum-most n f k (λ j lt. h j (omega arith)), h n (omega arith))
 
+-- nor a sum one of whose terms is 0
+pub sum-most-but :
+    (n : ℕ) (f : ℕ → ℕ) (k i : ℕ) → i < n → f i ≡ 0 → ((j : ℕ) → j < n → f j ≤ k) → sum_below n f + k ≤ n * k
+sum-most-but n f k i lt none most =
+    let f' = λ (j : ℕ). if j == i then k else f j in
+    let here : f' i ≡ k = cond-true {A = ℕ} (i == i) k (f i) (eq-eqb i i refl) in
+    let change = sum-change n f f' i lt (λ j jn ne. cond-false {A = ℕ} (j == i) k (f j) (ne_eqb j i ne)) in
+    let each : sum_below n f' ≤ n * k =
+    sum-most n f' k
+    (λ j jn.
+    elim (cases_eq j i) [
+      | inl e ↦ omega (arith, cond-true {A = ℕ} (j == i) k (f j) (eq-eqb j i e))
+      | inr ne ↦ omega (arith, cond-false {A = ℕ} (j == i) k (f j) (ne_eqb j i ne), most j jn)
+    ]) in
+    omega (arith, change, here, none, each)
+
 -- sums of sums, in the other order
 pub sum-swap :
     (n m : ℕ) (f : ℕ → ℕ → ℕ) → sum_below n (λ i. sum_below m (f i)) ≡ sum_below m (λ j. sum_below n (λ i. f i j))

@@ -86,7 +86,7 @@ nothing-excepts place (inl x) = omega (arith, x.2)
 nothing-excepts place (inr x) = omega (arith, x.2)
 
 -- the stack is empty where the head's top is 0
-stacked-none : (next : ℕ → ℕ) (top : ℕ) (xs : List ℕ) → Stacked next top xs → top ≡ 0 → xs ≡ []
+pub stacked-none : (next : ℕ → ℕ) (top : ℕ) (xs : List ℕ) → Stacked next top xs → top ≡ 0 → xs ≡ []
 stacked-none next top [] stacked none = refl
 stacked-none next top (x ∷ xs) stacked none = absurd (let bad : ⊥ = omega (arith, stacked.0, none) in bad)
 

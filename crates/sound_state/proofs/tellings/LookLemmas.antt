@@ -14,8 +14,8 @@ use Rattle.word_plan.specs.declared.name.WordName.{WordName}
 use Rattle.word_plan.specs.declared.name.WordName.TheVariants as name
 use Rattle.word_plan.specs.Counts.{descriptor_count, word_count}
 use Rattle.word_plan.specs.Seats.{SeatFields, info_within}
-use Rattle.word_plan.specs.Table.{Exists, word_name, word_index}
-use Rattle.word_plan.proofs.TableLemmas.{word_name-Exists, word_index-word_name}
+use Rattle.word_plan.specs.Table.{Exists, word_name}
+use Rattle.word_plan.proofs.TableLemmas.{word_name-Exists}
 use Rattle.superblock_parts.specs.declared.point.BlockPoint.{BlockPoint}
 use Rattle.stack_parts.specs.declared.point.StackPoint.{StackPoint}
 use Rattle.hazard_parts.specs.declared.point.DescPoint.{DescPoint}
@@ -33,32 +33,13 @@ use Rattle.sound_state.specs.Stock.{word_stock, full_stock, stock_of, errand_sto
 use Rattle.sound_state.specs.Sound.{IsSoundWith}
 use Rattle.sound_state.specs.Sums.{sum_below, words_sum, callers_sum}
 use Rattle.sound_state.specs.Superblocks.{anchor_for, info_for, info_or_zero, errand_keeps, errand_away, away_of, waiting_of, is_bound}
-use Rattle.sound_state.proofs.shared.SumLemmas.{sum-none, sum-plus, sum-most, sum-least, sum-swap, sum-once, sum-change, term-sum}
+use Rattle.sound_state.proofs.shared.HeapNames.{slot_one, slots-most}
+use Rattle.sound_state.proofs.shared.SumLemmas.{sum-none, sum-plus, sum-most, sum-most-but, sum-least, sum-swap, term-sum}
 
--- terms of which one is 0, and none is more than a number
-most-but :
-    (n : ℕ) (f : ℕ → ℕ) (k i : ℕ) → i < n → f i ≡ 0 → ((j : ℕ) → j < n → f j ≤ k) → sum_below n f + k ≤ n * k
-most-but n f k i lt none most =
-    let f' = λ (j : ℕ). if j == i then k else f j in
-    let here : f' i ≡ k = cond-true {A = ℕ} (i == i) k (f i) (eq-eqb i i refl) in
-    let change = sum-change n f f' i lt (λ j jn ne. cond-false {A = ℕ} (j == i) k (f j) (ne_eqb j i ne)) in
-    let each : sum_below n f' ≤ n * k =
-    sum-most n f' k
-    (λ j jn.
-    elim (cases_eq j i) [
-      | inl e ↦ omega (arith, cond-true {A = ℕ} (j == i) k (f j) (eq-eqb j i e))
-      | inr ne ↦ omega (arith, cond-false {A = ℕ} (j == i) k (f j) (ne_eqb j i ne), most j jn)
-    ]) in
-    omega (arith, change, here, none, each)
-
--- 1 where an active word holds d; where a word is a slot of the class
+-- 1 where an active word holds d
 abbrev active_part : ℕ → WordName → ℕ → ℕ
 active_part d (name.Active heap class) word = active_keeps d (active_of word)
 active_part d other word = 0
-
-abbrev slot_one : ℕ → WordName → ℕ
-slot_one class (name.Slot heap c) = if c == class then 1 else 0
-slot_one class other = 0
 
 -- an active word that isn't 0 holds a descriptor that there is
 active-zero : (word : ℕ) → active_of word ≡ Some Null → word ≡ 0
@@ -113,49 +94,6 @@ word-parts g s l sound class name.DescHead exists = omega arith
 word-parts g s l sound class (name.Hazard k) exists = omega arith
 word-parts g s l sound class name.Units exists = omega arith
 word-parts g s l sound class (name.Shelf k) exists = omega arith
-
--- each heap has one slot of the class
-abbrev slot_here : Geometry → ℕ → ℕ → ℕ → ℕ
-slot_here g class k heap = if word_index g (name.Slot heap class) == k then 1 else 0
-
-slot-named :
-    (g : Geometry) (class k : ℕ) (n : WordName) → Exists g n → word_index g n ≡ k
-    → slot_one class n ≤ sum_below g.heaps (slot_here g class k)
-slot-named g class k (name.Slot heap c) exists is =
-    elim (cases_eq c class) [
-      | inl e ↦
-          let here : word_index g (name.Slot heap class) ≡ k = ap (λ x. word_index g (name.Slot heap x)) (sym e) ∙ is in
-          omega (
-            arith,
-            cond-true {A = ℕ} (c == class) 1 0 (eq-eqb c class e),
-            term-sum g.heaps (slot_here g class k) heap exists.0,
-            cond-true {A = ℕ} (word_index g (name.Slot heap class) == k) 1 0 (eq-eqb (word_index g (name.Slot heap class)) k here),
-          )
-      | inr ne ↦ omega (arith, cond-false {A = ℕ} (c == class) 1 0 (ne_eqb c class ne))
-    ]
-slot-named g class k (name.Active heap c) exists is = omega arith
-slot-named g class k (name.Arena i) exists is = omega arith
-slot-named g class k (name.Anchor i) exists is = omega arith
-slot-named g class k (name.Next i) exists is = omega arith
-slot-named g class k (name.Info i) exists is = omega arith
-slot-named g class k (name.ListHead i) exists is = omega arith
-slot-named g class k (name.FrameNext i) exists is = omega arith
-slot-named g class k name.FrameHead exists is = omega arith
-slot-named g class k name.DescHead exists is = omega arith
-slot-named g class k (name.Hazard i) exists is = omega arith
-slot-named g class k name.Units exists is = omega arith
-slot-named g class k (name.Shelf i) exists is = omega arith
-
-slots-most : (g : Geometry) (class : ℕ) → sum_below (word_count g) (λ k. slot_one class (word_name g k)) ≤ g.heaps
-slots-most g class =
-    omega (
-      arith,
-      sum-least (word_count g) (λ k. slot_one class (word_name g k)) (λ k. sum_below g.heaps (slot_here g class k))
-          (λ k lt. slot-named g class k (word_name g k) (word_name-Exists g k lt) (word_index-word_name g k lt)),
-      sum-swap (word_count g) g.heaps (slot_here g class),
-      sum-most g.heaps (λ heap. sum_below (word_count g) (λ k. slot_here g class k heap)) 1
-          (λ heap lt. sum-once (word_count g) (word_index g (name.Slot heap class))),
-    )
 
 words-parts :
     (g : Geometry) (s : State) (l : Lists) → IsSoundWith g s l → (class : ℕ)
@@ -335,7 +273,7 @@ callers-two :
     → callers_sum g (errand_stock class) s.errand + 2 ≤ 2 * g.callers
 unfolding callers_sum
 callers-two g s who class has none =
-    omega (arith, most-but g.callers (λ i. errand_stock class (s.errand i)) 2 who has none (λ i lt. point-two class (s.errand i).point))
+    omega (arith, sum-most-but g.callers (λ i. errand_stock class (s.errand i)) 2 who has none (λ i lt. point-two class (s.errand i).point))
 
 -- so one more may be out
 pub look-stock :

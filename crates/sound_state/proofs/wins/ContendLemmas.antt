@@ -24,7 +24,8 @@ use Rattle.sound_state.specs.Turns.{one_if}
 use Rattle.sound_state.specs.Wins.{Wins, win_at, list_after, confirms, wins_after}
 use Rattle.sound_state.proofs.shared.SumLemmas.{sum-same, sum-change, sum-least, sum-ones, callers-moved}
 use Rattle.sound_state.proofs.wins.DirtyLemmas.{dirty-same, clean-now}
-use Rattle.sound_state.proofs.wins.NoteLemmas.{some-all}
+use Rattle.sound_state.proofs.wins.NoteLemmas.{}
+use Rattle.sound_state.proofs.wins.ExpectLemmas.{some-all}
 use Rattle.sound_state.proofs.wins.StepWins.{list-stays, list-longer, no-count, no-won, against-own, against-apart, noted-others, noted-apart, noted-own, note-seen, note-lost, note-confirmed}
 use Rattle.sound_state.proofs.wins.WinDefs.{LosesOn}
 

@@ -1,5 +1,5 @@
 -- What a caller still expects after a step: what it expected of other words, and what its load sees.
-use Rattle.std.proofs.Common.{ℕ, suc, true, ◌≡◌, ◌≢◌, ◌+◌, List, ◌∷◌, get_or, refl, arith, sym, ◌∙◌, inl, inr}
+use Rattle.std.proofs.Common.{ℕ, suc, true, ◌≡◌, ◌≢◌, ◌+◌, List, ◌∷◌, get_or, refl, arith, sym, subst, ◌∙◌, inl, inr}
 use Rattle.std.specs.Prelude.{All, Any, ◌==◌, not, Some, IsTrue}
 use Rattle.std.proofs.lemmas.List.Elements.{All-cons, All-from_recursion}
 use Rattle.std.proofs.lemmas.List.{get_or_default}
@@ -27,6 +27,14 @@ any-first P x xs p = (0, x, omega arith, refl, p)
 
 pub any-rest : {X : Type 0} (P : X → Type 0) (x : X) (xs : List X) → Any P xs → Any P (x ∷ xs)
 any-rest P x xs a = (suc a.0, a.1, omega (arith, a.2), a.3, a.4)
+
+-- where all of a list have a property, the one that has another has both
+pub some-all : {X : Type 0} (P Q : X → Type 0) (xs : List X) → All P xs → Any Q xs → (x : X) × P x × Q x
+some-all P Q xs all some = (some.1, subst P some.3 (all some.0 some.1 some.2), some.4)
+
+-- what holds of all holds of each
+pub in-all : (P : Expected → Type 0) (xs : List Expected) (e : Expected) → All P xs → IsIn xs e → P e
+in-all P xs e all has = let (x, h, is) = some-all P (λ x. x ≡ e) xs all has in subst P is h
 
 -- each element is one of the list, and of a longer one
 pub all-in : (xs : List Expected) → All (IsIn xs) xs

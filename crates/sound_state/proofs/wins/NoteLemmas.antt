@@ -1,6 +1,6 @@
 -- A step keeps what the callers have noted of each other's wins.
 use Rattle.std.proofs.Common.{ℕ, Bool, true, false, Option, ◌≡◌, ◌≢◌, ◌<◌, ◌+◌, ◌-◌, ◌^◌, List, ◌++◌, length, refl, arith, ap, sym, subst, inl, inr, ◌∙◌}
-use Rattle.std.specs.Prelude.{min, count_by, option_to_list, slice_index_or, All, Any, IsTrue}
+use Rattle.std.specs.Prelude.{min, count_by, option_to_list, slice_index_or, All, IsTrue}
 use Rattle.std.proofs.lemmas.Bool.{cases_Bool, cases_eq, eq-eqb, ne_eqb}
 use Rattle.std.proofs.lemmas.List.Elements.{All-append}
 use Rattle.heap_geometry.specs.declared.geometry.Geometry.{Geometry}
@@ -11,7 +11,9 @@ use Rattle.errand_steps.specs.Steps.{State, Step, action_at, name_at, word_at, f
 use Rattle.sound_state.specs.Contention.{IsExpected, IsNoted, IsDirty, is_by, is_against, dirty_since}
 use Rattle.sound_state.specs.Expectations.{Expected, expects_of}
 use Rattle.sound_state.specs.Wins.{Win, Wins, win_at, list_after, note_at, confirms, wins_after}
-use Rattle.sound_state.proofs.wins.DirtyLemmas.{count-append, IsPast, dirty-stays, dirty-now}
+use Rattle.sound_state.proofs.wins.CountLemmas.{count-append}
+use Rattle.sound_state.proofs.wins.DirtyLemmas.{IsPast, dirty-stays, dirty-now}
+use Rattle.sound_state.proofs.wins.ExpectLemmas.{in-all}
 use Rattle.sound_state.proofs.wins.StepWins.{IsStore, word-stays, the_win, list-least, all-win, no-count, no-won, one-count, against-other, noted-others, noted-apart, noted-own, note-seen, note-lost, note-confirmed}
 use Rattle.sound_state.proofs.wins.WinDefs.{IsSeen, MayExpect}
 
@@ -25,10 +27,6 @@ abbrev pub StoresAlone : Geometry → State → ℕ → Type 0
 StoresAlone g s who =
     (other : ℕ) → other < g.callers → other ≢ who
     → All (λ e. IsStore (action_at s who) → e.word ≢ name_at s who) (expects_of (s.errand other).point)
-
--- where all of a list have a property, the one that has another has both
-pub some-all : {X : Type 0} (P Q : X → Type 0) (xs : List X) → All P xs → Any Q xs → (x : X) × P x × Q x
-some-all P Q xs all some = (some.1, subst P some.3 (all some.0 some.1 some.2), some.4)
 
 -- the caller's count of its wins
 own-won :
@@ -180,8 +178,8 @@ expected-own :
 expected-own g s who s' w has step old e may =
     elim may [
       | inl carried ↦
-          let (x, h, is) = some-all (IsExpected s w who) (λ x. x ≡ e) (expects_of (s.errand who).point) (old.expected who has) carried.0 in
-          expected-carried g s who s' w step old e carried.1 (subst (IsExpected s w who) is h)
+          expected-carried g s who s' w step old e carried.1
+          (in-all (IsExpected s w who) (expects_of (s.errand who).point) e (old.expected who has) carried.0)
       | inr seen ↦ expected-seen s who s' w step e seen
     ]
 

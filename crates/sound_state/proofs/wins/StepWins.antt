@@ -11,7 +11,8 @@ use Rattle.errand_steps.specs.Errands.{counts_won, is_lost_exchange}
 use Rattle.errand_steps.specs.Steps.{State, action_at, name_at, found_at}
 use Rattle.sound_state.specs.Contention.{is_against}
 use Rattle.sound_state.specs.Wins.{Win, Wins, same_name, offers, win_at, list_after, note_at, confirms, wins_after}
-use Rattle.sound_state.proofs.wins.DirtyLemmas.{same-name-one, same-name-differs, count-one, count-other}
+use Rattle.sound_state.proofs.wins.CountLemmas.{count-one, count-other}
+use Rattle.sound_state.proofs.wins.SameNames.{same-name-one, same-name-differs}
 
 -- whether the action is a store
 abbrev pub IsStore : Action → Type 0

@@ -1,5 +1,5 @@
 -- Every step keeps what was won, noted and lost.
-use Rattle.std.proofs.Common.{ℕ, ◌<◌, ◌^◌, subst}
+use Rattle.std.proofs.Common.{ℕ, ◌<◌, ◌^◌, subst, refl}
 use Rattle.std.proofs.lemmas.List.Elements.{All-nil}
 use Rattle.heap_geometry.specs.declared.geometry.Geometry.{Geometry}
 use Rattle.word_plan.specs.Table.{Exists}
@@ -10,13 +10,15 @@ use Rattle.errand_steps.specs.Nexts.{next_of}
 use Rattle.errand_steps.specs.Points.{plan_point_of}
 use Rattle.errand_steps.specs.Steps.{State, Step, action_at, name_at, word_at, found_at}
 use Rattle.errand_steps.proofs.PlanLemmas.{plan-exists}
-use Rattle.sound_state.specs.Contention.{IsNoted, IsContended}
 use Rattle.sound_state.specs.Expectations.{expects_of}
 use Rattle.sound_state.specs.Sound.{IsSoundWithoutCounts}
 use Rattle.sound_state.specs.Wins.{Wins, wins_after}
+use Rattle.sound_state.specs.Won.{IsWon}
+use Rattle.sound_state.proofs.shared.PointLemmas.{fits-at}
 use Rattle.sound_state.proofs.wins.BlockExpects.{block-expects, block-loses}
 use Rattle.sound_state.proofs.wins.ContendLemmas.{step-contended}
 use Rattle.sound_state.proofs.wins.DescExpects.{desc-expects, desc-loses}
+use Rattle.sound_state.proofs.wins.InstallWins.{step-installed}
 use Rattle.sound_state.proofs.wins.LargeExpects.{large-expects, large-loses}
 use Rattle.sound_state.proofs.wins.NoteLemmas.{ExpectsAfter, step-noted}
 use Rattle.sound_state.proofs.wins.PartialExpects.{partial-expects, partial-loses}
@@ -53,22 +55,22 @@ expects-after g s who sound has =
     expects-settled e (found_at s who) (MayExpect e.point (action_at s who) (found_at s who))
     (expects-on e.geometry e.caller e.point (word_at s who) own.rule.point (sound.parts.1.words (name_at s who)))
 
--- what callers noted
-pub steps-noted :
-    (g : Geometry) (s : State) (w : Wins) (who : ℕ) (s' : State) → IsSoundWithoutCounts g s → IsNoted g s w → who < g.callers → Step s who s'
-    → IsNoted g s' (wins_after s who w)
-steps-noted g s w who s' sound noted has step =
-    step-noted g s who s' w has step (expects-after g s who sound has)
-    (λ other has_other differ. stores-unexpected g s sound.parts.0 who other sound.parts.1 has has_other differ) noted
-
--- and how often they lost
-pub steps-contended :
-    (g : Geometry) (s : State) (w : Wins) (who : ℕ) (s' : State) → IsSoundWithoutCounts g s → IsNoted g s w → IsContended g s w
-    → who < g.callers → Step s who s' → IsContended g s' (wins_after s who w)
-steps-contended g s w who s' sound noted contended has step =
+-- so a step keeps what was won and noted, and what that bounds
+pub steps-won :
+    (g : Geometry) (s : State) (w : Wins) (who : ℕ) (s' : State) → IsSoundWithoutCounts g s → IsWon g s w → who < g.callers → Step s who s'
+    → IsWon g s' (wins_after s who w)
+steps-won g s w who s' sound won has step =
+    let l = sound.parts.0 in
+    let old = sound.parts.1 in
     let e = s.errand who in
-    let own = sound.parts.1.errands who has in
+    let own = old.errands who has in
+    let expects = expects-after g s who sound has in
     let exists : Exists g (name_at s who) =
     subst (λ h. Exists h (name_at s who)) own.geometry
     (plan-exists e.geometry e.caller e.point own.rule.geometry own.rule.caller own.rule.point) in
-    step-contended g s who s' w has exists step (loses-on e.point (word_at s who)) noted contended
+    record {
+      noted =
+          step-noted g s who s' w has step expects (λ other has_other differ. stores-unexpected g s l who other old has has_other differ) won.noted;
+      contended = step-contended g s who s' w has exists step (loses-on e.point (word_at s who)) won.noted won.contended;
+      installed = step-installed g s w who s' has (fits-at g s l who e.point old has refl) step won.installed expects;
+    }

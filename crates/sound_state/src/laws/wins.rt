@@ -1,12 +1,13 @@
 //! Laws of what callers win from each other, and of what that bounds.
 
-ghost use Rattle.std.specs.Prelude.{ℕ, ◌<◌};
+ghost use Rattle.std.specs.Prelude.{ℕ, List, ◌<◌};
 ghost use Rattle.heap_geometry.specs.declared.geometry.Geometry.{Geometry};
+ghost use Rattle.heap_geometry.specs.declared.limits.TheConstants.{CLASSES};
+ghost use Rattle.heap_geometry.specs.Geometry.{IsChecked};
 ghost use Rattle.errand_steps.specs.Openings.{opening, installed, IsOpening};
 ghost use Rattle.errand_steps.specs.Steps.{State, Step};
-ghost use Rattle.sound_state.specs.Contention.{IsNoted, IsContended};
-ghost use Rattle.sound_state.specs.Runs.{Call, Begins};
-ghost use Rattle.sound_state.specs.Sound.{IsSoundWithoutCounts};
+ghost use Rattle.sound_state.specs.Runs.{Call, Begins, Move, Reaches};
+ghost use Rattle.sound_state.specs.Sound.{IsSound};
 ghost use Rattle.sound_state.specs.Wins.{Wins, no_wins, wins_after};
 ghost use Rattle.sound_state.specs.Won.{IsWon};
 
@@ -22,12 +23,18 @@ pub fn begun_calls_keep_wins()
         → IsWon g s w → who < g.callers → Begins s who call after → IsWon g after w }
 {}
 
-/// A step keeps what callers noted, and the bound on what they lost.
+/// A step keeps what was won and noted, and the bounds on what is lost, on turns and on installs.
 pub fn steps_keep_wins()
-    ensures noted { (g : Geometry) (s : State) (w : Wins) (who : ℕ) (after : State)
-        → IsSoundWithoutCounts g s → IsNoted g s w → who < g.callers → Step s who after
-        → IsNoted g after (wins_after s who w) }
-    ensures contended { (g : Geometry) (s : State) (w : Wins) (who : ℕ) (after : State)
-        → IsSoundWithoutCounts g s → IsNoted g s w → IsContended g s w → who < g.callers → Step s who after
-        → IsContended g after (wins_after s who w) }
+    ensures { (g : Geometry) (s : State) (w : Wins) (who : ℕ) (after : State)
+        → IsSound g s → IsWon g s w → who < g.callers → Step s who after
+        → IsWon g after (wins_after s who w) }
+{}
+
+/// In every state that callers reach from the state before the first step there is such a list of what
+/// was won, with such notes.
+pub fn reached_states_have_wins()
+    ensures opening { (g : Geometry) (s : State) (moves : List Move) (after : State) → IsChecked g
+        → IsOpening g (opening g) s → Reaches g s moves after → (w : Wins) × IsWon g after w }
+    ensures installed { (g : Geometry) (class : ℕ) (s : State) (moves : List Move) (after : State) → IsChecked g → class < CLASSES
+        → IsOpening g (installed g class) s → Reaches g s moves after → (w : Wins) × IsWon g after w }
 {}

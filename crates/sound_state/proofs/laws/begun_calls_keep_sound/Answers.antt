@@ -1,5 +1,5 @@
-use Rattle.sound_state.proofs.ReachLemmas.{begins-sound}
+use Rattle.sound_state.proofs.ReachLemmas.{begins-counted}
 use Rattle.sound_state.proofs.laws.begun_calls_keep_sound.Goals as goal
 
 pub returns : goal.returns
-returns c = begins-sound
+returns c = begins-counted

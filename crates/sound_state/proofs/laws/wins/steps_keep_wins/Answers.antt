@@ -1,8 +1,6 @@
-use Rattle.sound_state.proofs.wins.WonSteps.{steps-noted, steps-contended}
+use Rattle.sound_state.proofs.CountedLemmas.{without-counts}
+use Rattle.sound_state.proofs.wins.WonSteps.{steps-won}
 use Rattle.sound_state.proofs.laws.wins.steps_keep_wins.Goals as goal
 
-pub returns-clause-noted : goal.returns-clause-noted
-returns-clause-noted c = steps-noted
-
-pub returns-clause-contended : goal.returns-clause-contended
-returns-clause-contended c = steps-contended
+pub returns : goal.returns
+returns c = λ g s w who after sound won has step. steps-won g s w who after (without-counts g s sound) won has step

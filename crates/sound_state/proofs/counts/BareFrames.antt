@@ -1,0 +1,258 @@
+-- A bare frame weighs something: it is in a caller's hand, or a block of it is reserved.
+use Rattle.std.proofs.Common.{ℕ, Bool, true, Option, Some, None, ◌≡◌, ◌<◌, ◌≤◌, ◌+◌, [], refl, sym, ◌∙◌, ap, subst, arith, inl, inr}
+use Rattle.std.specs.Prelude.{◌==◌, ◌&&◌, if◌then◌else◌, All}
+use Rattle.std.proofs.lemmas.Bool.{cases_eq, cond-false, ne_eqb}
+use Rattle.std.proofs.lemmas.List.Elements.{All-head}
+use Rattle.heap_geometry.specs.declared.geometry.Geometry.{Geometry}
+use Rattle.heap_geometry.specs.declared.need.Need.{Need}
+use Rattle.heap_geometry.specs.declared.need.Need.TheVariants.{Small}
+use Rattle.heap_geometry.specs.Need.{block_count_of}
+use Rattle.heap_geometry.specs.Place.{block_place, frame_of}
+use Rattle.heap_geometry.proofs.PlaceLemmas.{frame_of-block_place}
+use Rattle.packed_words.specs.declared.active.ActiveWord.{ActiveWord}
+use Rattle.packed_words.specs.declared.active.ActiveWord.TheVariants.{Null, Held}
+use Rattle.packed_words.specs.Active.{active_of}
+use Rattle.word_plan.specs.declared.name.WordName.{WordName}
+use Rattle.word_plan.specs.declared.name.WordName.TheVariants as name
+use Rattle.word_plan.specs.declared.seat.Site.{Site}
+use Rattle.word_plan.specs.Counts.{descriptor_count, word_count}
+use Rattle.word_plan.specs.Table.{word_name}
+use Rattle.superblock_parts.specs.Anchors.{new_credits}
+use Rattle.superblock_parts.specs.Chains.{occurs}
+use Rattle.superblock_parts.specs.declared.point.BlockPoint.{BlockPoint}
+use Rattle.superblock_parts.specs.declared.point.BlockPoint.TheVariants as block
+use Rattle.superblock_parts.specs.declared.point.Share.{Share}
+use Rattle.superblock_parts.specs.Fits.{FitsBlock}
+use Rattle.superblock_parts.proofs.ChainLemmas.{chain_of-length}
+use Rattle.stack_parts.specs.declared.point.StackPoint.{StackPoint}
+use Rattle.hazard_parts.specs.declared.point.DescPoint.{DescPoint}
+use Rattle.partial_parts.specs.declared.point.PartialPoint.{PartialPoint}
+use Rattle.large_parts.specs.declared.point.LargePoint.{LargePoint}
+use Rattle.pool_model.specs.Pool.{Block, block_at, pool_of}
+use Rattle.pool_model.specs.Legal.{IsBare}
+use Rattle.pool_model.proofs.PoolLemmas.{place-found}
+use Rattle.errand_steps.specs.declared.onward.Onward.{Onward}
+use Rattle.errand_steps.specs.declared.point.Point.{Point}
+use Rattle.errand_steps.specs.declared.point.Point.TheVariants as point
+use Rattle.errand_steps.specs.Fits.{FitsPoint}
+use Rattle.errand_steps.specs.Steps.{State}
+use Rattle.sound_state.specs.Frames.{fills, errand_frames}
+use Rattle.sound_state.specs.Holdings.{waiting, keep, reserve, before_pop, block_handed, holds_of, block_holds, stack_holds, desc_holds, partial_holds, large_holds}
+use Rattle.sound_state.specs.Lists.{Lists}
+use Rattle.sound_state.specs.Recalls.{IsSo, IsOwned, IsLocated, recalls_of, block_recalls, bound_here, bound_at}
+use Rattle.sound_state.specs.Sound.{IsSoundWith}
+use Rattle.sound_state.specs.Sums.{sum_below, words_sum, callers_sum}
+use Rattle.sound_state.specs.Superblocks.{Superblock, IsChained, superblock_of, free_chain, live_at, is_there, info_for, is_bound, waiting_of, reserved_of, offered, word_reserves, reserved_among, errand_reserves, kept_among, errand_keeps}
+use Rattle.sound_state.proofs.counts.BareWeights.{popping, popping_block, popping_fills, errand_weighs, held_fills, word_weighs, frame_weighs}
+use Rattle.sound_state.proofs.shared.PointLemmas.{fits-at}
+use Rattle.sound_state.proofs.shared.SumLemmas.{sum-same, sum-ones, sum-occurs, sum-least, some-term, term-sum}
+
+-- nothing is live at a place of a bare frame
+dead-at :
+    (s : State) (f class i : ℕ) (o : Option Block) → block_at (block_place f class i) (pool_of s.history) ≡ o → IsBare (pool_of s.history) f
+    → i < block_count_of class → is_there o ≡ 0
+dead-at s f class i None is bare within = refl
+dead-at s f class i (Some b) is bare within =
+    absurd
+    (bare (block_place f class i) b is
+    (ap frame_of (place-found (block_place f class i) (pool_of s.history) b is) ∙ frame_of-block_place f class i within))
+
+dead : (s : State) (f class i : ℕ) → IsBare (pool_of s.history) f → i < block_count_of class → live_at s (block_place f class i) ≡ 0
+dead s f class i bare within = dead-at s f class i (block_at (block_place f class i) (pool_of s.history)) refl bare within
+
+-- a superblock with no live block, and none held back, has a reserved one
+none-held : (i waits : ℕ) → waits ≡ 0 → ◌≡◌ {A = ℕ} (if i == 0 then waits else 0) 0
+none-held i waits none = grind (arith, none)
+
+some-reserved : (b : Superblock) → IsChained b → b.waiting ≡ 0 → ((i : ℕ) → i < b.size → b.live i ≡ 0) → 1 ≤ b.reserved
+some-reserved b chained none unlive =
+    let each : sum_below b.size (λ i. occurs i (free_chain b)) ≡ sum_below b.size (λ i. 1) =
+    sum-same b.size (λ i. 1) (λ i. occurs i (free_chain b))
+    (λ i lt. omega (arith, chained.once i lt, unlive i lt, none-held i b.waiting none)) in
+    omega (
+      arith,
+      each,
+      sum-ones b.size,
+      sum-occurs b.size (free_chain b),
+      chain_of-length b.next (b.anchor.count + b.reserved) b.anchor.avail,
+      chained.some,
+    )
+
+-- what it is to fill a frame
+fills-is :
+    (bound : Bool) (waits there f : ℕ) → 0 < (if bound && (waits == 0) && (there == f) then 1 else 0)
+    → (bound ≡ true) × (waits ≡ 0) × (there ≡ f)
+fills-is bound waits there f fills = grind (arith, fills)
+
+-- so a superblock that fills a bare frame has a reserved block
+pub bare-reserved :
+    (g : Geometry) (s : State) (l : Lists) (f d : ℕ) → IsSoundWith g s l → IsBare (pool_of s.history) f → d < descriptor_count g
+    → 0 < fills g s l f d → 1 ≤ reserved_of g s d
+bare-reserved g s l f d sound bare has filled =
+    let is = fills-is (is_bound g s l d) (waiting_of g s d) (info_for s d).frame f filled in
+    some-reserved (superblock_of g s d) (sound.chained.chained d has is.0) is.1
+    (λ i lt. subst (λ k. live_at s (block_place k (info_for s d).class i) ≡ 0) (sym is.2) (dead s f (info_for s d).class i bare lt))
+
+-- an active word that offers blocks of it
+held-weighs :
+    (g : Geometry) (s : State) (l : Lists) (f d : ℕ) (o : Option ActiveWord) → 0 < offered d o → 0 < fills g s l f d
+    → 0 < held_fills g s l f o
+held-weighs g s l f d None some filled = absurd (omega (arith, some))
+held-weighs g s l f d (Some Null) some filled = absurd (omega (arith, some))
+held-weighs g s l f d (Some (Held e credits)) some filled =
+    elim (cases_eq e d) [
+      | inl same ↦ subst (λ k. 0 < fills g s l f k) (sym same) filled
+      | inr other ↦ absurd (omega (arith, some, cond-false {A = ℕ} (e == d) (credits + 1) 0 (ne_eqb e d other)))
+    ]
+
+word-offers :
+    (g : Geometry) (s : State) (l : Lists) (f d : ℕ) (m : WordName) (word : ℕ) → 0 < word_reserves d m word → 0 < fills g s l f d
+    → 0 < word_weighs g s l f m word
+word-offers g s l f d (name.Active heap class) word some filled = held-weighs g s l f d (active_of word) some filled
+word-offers g s l f d m word some filled = absurd (omega (arith, some))
+
+words-offer :
+    (g : Geometry) (s : State) (l : Lists) (f d : ℕ) → 0 < words_sum g (word_reserves d) s.word → 0 < fills g s l f d
+    → 0 < words_sum g (word_weighs g s l f) s.word
+unfolding words_sum
+words-offer g s l f d some filled =
+    let (k, lt, here) = some-term (word_count g) (λ k. word_reserves d (word_name g k) (s.word (word_name g k))) some in
+    omega (
+      arith,
+      word-offers g s l f d (word_name g k) (s.word (word_name g k)) here filled,
+      term-sum (word_count g) (λ k. word_weighs g s l f (word_name g k) (s.word (word_name g k))) k lt,
+    )
+
+-- a caller that has reserved blocks of it is about to pop one
+before-pop :
+    (g : Geometry) (s : State) (l : Lists) (f d e class : ℕ) (share : Share) → 0 < fills g s l f d
+    → 0 < reserved_among d (before_pop e class share).credits → 0 < fills g s l f e
+before-pop g s l f d e class share filled some =
+    let same : e ≡ d = grind (arith, some) in subst (λ k. 0 < fills g s l f k) (sym same) filled
+
+-- reserved blocks are of the one descriptor
+reserved-of : (d e blocks : ℕ) → 0 < reserved_among d (reserve e blocks) → e ≡ d
+reserved-of d e blocks some = grind (arith, some)
+
+-- after a pop it would hand out a block of the frame
+live-there :
+    (s : State) (who f i : ℕ) (at : Site) (n : Need) → IsBare (pool_of s.history) f → at.frame ≡ f → i < block_count_of at.seat.class
+    → IsOwned s who (block_place at.frame at.seat.class i) n → ⊥
+live-there s who f i at n bare there within owned =
+    let (b, is, owner, need) = owned.block in
+    bare (block_place at.frame at.seat.class i) b is
+    (ap frame_of (place-found (block_place at.frame at.seat.class i) (pool_of s.history) b is)
+    ∙ frame_of-block_place at.frame at.seat.class i within ∙ there)
+
+after-pop :
+    (g : Geometry) (s : State) (l : Lists) (who f d i more : ℕ) (at : Site) → IsBare (pool_of s.history) f → (info_for s d).frame ≡ f
+    → i < block_count_of at.seat.class → All (IsSo g s l who) (bound_here at) → All (λ x. IsOwned s who x.place x.need) (block_handed at i)
+    → 0 < reserved_among d (reserve at.desc more) → ⊥
+after-pop g s l who f d i more at bare lies within so hands some =
+    let same : at.desc ≡ d = reserved-of d at.desc more some in
+    let located : IsLocated s at.desc at.frame at.seat.class = (All-head (IsSo g s l who) (bound_at at.desc at.frame at.seat.class) [] so).1 in
+    let there : at.frame ≡ f = sym located.frame ∙ ap (λ k. (info_for s k).frame) same ∙ lies in
+    live-there s who f i at (Small at.seat.class) bare there within
+    (All-head (λ x. IsOwned s who x.place x.need) (record { place = block_place at.frame at.seat.class i; need = Small at.seat.class }) [] hands)
+
+-- and a new superblock that waits doesn't fill its frame
+installs-waits : (d e blocks class : ℕ) → 0 < reserved_among d (reserve e blocks) → kept_among waiting d (keep e class waiting) ≡ 0 → ⊥
+installs-waits d e blocks class some none = grind (arith, some, none)
+
+-- what a sound state says of a caller at a point, where the superblock of d fills the bare frame
+record Beside (g : Geometry) (s : State) (l : Lists) (who f d : ℕ) : Type 0 where
+  bare : IsBare (pool_of s.history) f
+  filled : 0 < fills g s l f d
+  lies : (info_for s d).frame ≡ f
+
+block-pops :
+    (g : Geometry) (s : State) (l : Lists) (who f d : ℕ) (p : BlockPoint) → Beside g s l who f d → FitsBlock g who p
+    → All (IsSo g s l who) (block_recalls p) → All (λ x. IsOwned s who x.place x.need) (block_holds p).hands
+    → kept_among waiting d (block_holds p).kept ≡ 0 → 0 < reserved_among d (block_holds p).credits → 0 < popping_fills g s l f (popping_block p)
+block-pops g s l who f d (block.LoadInfo seat e share) b fits so hands none some = before-pop g s l f d e seat.class share b.filled some
+block-pops g s l who f d (block.LoadAnchor at share) b fits so hands none some = before-pop g s l f d at.desc at.seat.class share b.filled some
+block-pops g s l who f d (block.LoadLink at share a) b fits so hands none some = before-pop g s l f d at.desc at.seat.class share b.filled some
+block-pops g s l who f d (block.PopBlock at share a prefix) b fits so hands none some =
+    before-pop g s l f d at.desc at.seat.class share b.filled some
+block-pops g s l who f d (block.InstallCredits at i more) b fits so hands none some =
+    absurd (after-pop g s l who f d i more at b.bare b.lies fits.0.index so hands some)
+block-pops g s l who f d (block.LoadReturn at i more) b fits so hands none some =
+    absurd (after-pop g s l who f d i more at b.bare b.lies fits.0.index so hands some)
+block-pops g s l who f d (block.ReturnCredits at i more a) b fits so hands none some =
+    absurd (after-pop g s l who f d i more at b.bare b.lies fits.0.index so hands some)
+block-pops g s l who f d (block.InstallSuperblock at) b fits so hands none some =
+    absurd (installs-waits d at.desc (new_credits at.seat.class + 1) at.seat.class some none)
+block-pops g s l who f d p b fits so hands none some = absurd (omega (arith, some))
+
+-- nothing is reserved anywhere else
+stack-free : (d : ℕ) (p : StackPoint) (o : Onward) → reserved_among d (stack_holds p o).credits ≡ 0
+stack-free d p o = grind (arith)
+
+desc-free : (d : ℕ) (p : DescPoint) (o : Onward) → reserved_among d (desc_holds p o).credits ≡ 0
+desc-free d p o = grind (arith)
+
+partial-free : (d : ℕ) (p : PartialPoint) (o : Onward) → reserved_among d (partial_holds p o).credits ≡ 0
+partial-free d p o = grind (arith)
+
+large-free : (d : ℕ) (p : LargePoint) → reserved_among d (large_holds p).credits ≡ 0
+large-free d p = grind (arith)
+
+point-pops :
+    (g : Geometry) (s : State) (l : Lists) (who f d : ℕ) (p : Point) → Beside g s l who f d → FitsPoint g who p
+    → All (IsSo g s l who) (recalls_of p) → All (λ x. IsOwned s who x.place x.need) (holds_of p).hands
+    → kept_among waiting d (holds_of p).kept ≡ 0 → 0 < reserved_among d (holds_of p).credits → 0 < popping_fills g s l f (popping p)
+unfolding holds_of recalls_of
+point-pops g s l who f d point.Idle b fits so hands none some = absurd (omega (arith, some))
+point-pops g s l who f d (point.Block p o) b fits so hands none some = block-pops g s l who f d p b fits.point so hands none some
+point-pops g s l who f d (point.Stack p o) b fits so hands none some = absurd (omega (arith, some, stack-free d p o))
+point-pops g s l who f d (point.Desc p o) b fits so hands none some = absurd (omega (arith, some, desc-free d p o))
+point-pops g s l who f d (point.Partial p o) b fits so hands none some = absurd (omega (arith, some, partial-free d p o))
+point-pops g s l who f d (point.Large p o) b fits so hands none some = absurd (omega (arith, some, large-free d p))
+
+-- so callers that have reserved blocks of it weigh something
+callers-pop :
+    (g : Geometry) (s : State) (l : Lists) (f d : ℕ) → IsSoundWith g s l → IsBare (pool_of s.history) f → 0 < fills g s l f d
+    → 0 < callers_sum g (errand_reserves d) s.errand → 0 < callers_sum g (errand_weighs g s l f) s.errand
+unfolding callers_sum
+callers-pop g s l f d sound bare filled some =
+    let (i, has, here) = some-term g.callers (λ who. errand_reserves d (s.errand who)) some in
+    let is = fills-is (is_bound g s l d) (waiting_of g s d) (info_for s d).frame f filled in
+    let none : errand_keeps waiting d (s.errand i) ≡ 0 =
+    omega (arith, is.1, term-sum g.callers (λ who. errand_keeps waiting d (s.errand who)) i has) in
+    let pops : 0 < popping_fills g s l f (popping (s.errand i).point) =
+    point-pops g s l i f d (s.errand i).point (record { bare = bare; filled = filled; lies = is.2 })
+    (fits-at g s l i (s.errand i).point sound has refl) (sound.remembered.so i has) (sound.tied.hands i has) none here in
+    omega (arith, pops, term-sum g.callers (λ who. errand_weighs g s l f (s.errand who)) i has)
+
+-- a frame that is filled, and bare
+filled-weighs :
+    (g : Geometry) (s : State) (l : Lists) (f d : ℕ) → IsSoundWith g s l → IsBare (pool_of s.history) f → d < descriptor_count g
+    → 0 < fills g s l f d → 1 ≤ frame_weighs g s l f
+filled-weighs g s l f d sound bare has filled =
+    let some : 1 ≤ reserved_of g s d = bare-reserved g s l f d sound bare has filled in
+    elim (cases_eq (words_sum g (word_reserves d) s.word) 0) [
+      | inl none ↦ omega (arith, callers-pop g s l f d sound bare filled (omega (arith, some, none)))
+      | inr offers ↦ omega (arith, words-offer g s l f d (omega (arith, offers)) filled)
+    ]
+
+-- a caller that has the frame in its hand
+held-more :
+    (g : Geometry) (s : State) (l : Lists) (f : ℕ)
+    → callers_sum g (errand_frames f) s.errand ≤ callers_sum g (errand_weighs g s l f) s.errand
+unfolding callers_sum
+held-more g s l f =
+    sum-least g.callers (λ i. errand_frames f (s.errand i)) (λ i. errand_weighs g s l f (s.errand i)) (λ i lt. omega arith)
+
+-- where no frame is on the stack, each bare frame weighs something
+pub bare-weighs :
+    (g : Geometry) (s : State) (l : Lists) (f : ℕ) → IsSoundWith g s l → l.frames ≡ [] → f < g.frames → IsBare (pool_of s.history) f
+    → 1 ≤ frame_weighs g s l f
+bare-weighs g s l f sound empty has bare =
+    let once = sound.framed.once f has in
+    let unlisted : occurs f l.frames ≡ 0 = ap (occurs f) empty in
+    elim (cases_eq (callers_sum g (errand_frames f) s.errand) 0) [
+      | inl none ↦
+          let (d, has_d, filled) = some-term (descriptor_count g) (fills g s l f) (omega (arith, once, unlisted, none)) in
+          filled-weighs g s l f d sound bare has_d filled
+      | inr some ↦ omega (arith, some, held-more g s l f)
+    ]

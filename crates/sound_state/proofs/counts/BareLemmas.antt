@@ -1,0 +1,22 @@
+-- A refusal finds few bare frames.
+use Rattle.std.proofs.Common.{ℕ, ◌≡◌, ◌<◌, ◌+◌, ◌*◌, []}
+use Rattle.std.specs.Prelude.{◌-◌}
+use Rattle.heap_geometry.specs.declared.geometry.Geometry.{Geometry}
+use Rattle.heap_geometry.specs.declared.limits.TheConstants.{CLASSES}
+use Rattle.pool_model.specs.Legal.{IsBare, IsCrowded}
+use Rattle.pool_model.specs.Pool.{pool_of}
+use Rattle.errand_steps.specs.Steps.{State}
+use Rattle.sound_state.specs.Holdings.{holds_of}
+use Rattle.sound_state.specs.Lists.{Lists}
+use Rattle.sound_state.specs.Sound.{IsSoundWith}
+use Rattle.sound_state.proofs.counts.AtMostLemmas.{at_most-sum}
+use Rattle.sound_state.proofs.counts.BareFrames.{bare-weighs}
+use Rattle.sound_state.proofs.counts.BareWeights.{frame_weighs, frames-weigh}
+
+-- where no frame is on the stack, and a caller has neither a frame nor a reserved block, few frames are bare
+pub refusal-counted :
+    (g : Geometry) (s : State) (l : Lists) (who : ℕ) → IsSoundWith g s l → who < g.callers → l.frames ≡ []
+    → (holds_of (s.errand who).point).frames ≡ [] → (holds_of (s.errand who).point).credits ≡ [] → IsCrowded g (pool_of s.history)
+refusal-counted g s l who sound has empty no_frame no_credit =
+    at_most-sum (g.heaps * CLASSES + g.callers - 1) g.frames (frame_weighs g s l) (IsBare (pool_of s.history))
+    (λ f below bare. bare-weighs g s l f sound empty below bare) (frames-weigh g s l who has no_frame no_credit)

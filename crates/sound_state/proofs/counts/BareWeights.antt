@@ -1,0 +1,223 @@
+-- What a frame weighs: the callers that have it in their hands or are about to pop a block of it, and the active words that offer blocks of it.
+use Rattle.std.proofs.Common.{ℕ, Bool, Option, Some, None, ◌≡◌, ◌<◌, ◌≤◌, ◌+◌, ◌*◌, [], length, refl, ap, arith}
+use Rattle.std.specs.Prelude.{◌==◌, ◌&&◌, ◌-◌, if◌then◌else◌}
+use Rattle.std.proofs.lemmas.Bool.{cond-true, eq-eqb}
+use Rattle.heap_geometry.specs.declared.geometry.Geometry.{Geometry}
+use Rattle.heap_geometry.specs.declared.limits.TheConstants.{CLASSES}
+use Rattle.packed_words.specs.declared.active.ActiveWord.{ActiveWord}
+use Rattle.packed_words.specs.declared.active.ActiveWord.TheVariants.{Null, Held}
+use Rattle.packed_words.specs.Active.{active_of}
+use Rattle.word_plan.specs.declared.name.WordName.{WordName}
+use Rattle.word_plan.specs.declared.name.WordName.TheVariants as name
+use Rattle.word_plan.specs.Counts.{word_count}
+use Rattle.word_plan.specs.Table.{Exists, word_name}
+use Rattle.word_plan.proofs.TableLemmas.{word_name-Exists}
+use Rattle.superblock_parts.specs.Chains.{occurs}
+use Rattle.superblock_parts.specs.declared.point.BlockPoint.{BlockPoint}
+use Rattle.superblock_parts.specs.declared.point.BlockPoint.TheVariants as block
+use Rattle.stack_parts.specs.declared.point.StackPoint.{StackPoint}
+use Rattle.hazard_parts.specs.declared.point.DescPoint.{DescPoint}
+use Rattle.partial_parts.specs.declared.point.PartialPoint.{PartialPoint}
+use Rattle.large_parts.specs.declared.point.LargePoint.{LargePoint}
+use Rattle.errand_steps.specs.declared.onward.Onward.{Onward}
+use Rattle.errand_steps.specs.declared.point.Point.{Point}
+use Rattle.errand_steps.specs.declared.point.Point.TheVariants as point
+use Rattle.errand_steps.specs.Errands.{ErrandFields}
+use Rattle.errand_steps.specs.Steps.{State}
+use Rattle.sound_state.specs.Frames.{fills, errand_frames}
+use Rattle.sound_state.specs.Holdings.{holds_of, block_holds, stack_holds, desc_holds, partial_holds, large_holds}
+use Rattle.sound_state.specs.Lists.{Lists}
+use Rattle.sound_state.specs.Sums.{sum_below, words_sum, callers_sum}
+use Rattle.sound_state.specs.Superblocks.{info_for, is_bound, waiting_of}
+use Rattle.sound_state.proofs.shared.HeapNames.{active_one, actives-most}
+use Rattle.sound_state.proofs.shared.SumLemmas.{sum-none, sum-plus, sum-most, sum-least, sum-swap, sum-once, sum-occurs, term-sum, sum-most-but}
+
+-- the descriptor of which a caller is about to pop a block
+abbrev pub popping_block : BlockPoint → Option ℕ
+popping_block (block.LoadInfo s d share) = Some d
+popping_block (block.LoadAnchor at share) = Some at.desc
+popping_block (block.LoadLink at share a) = Some at.desc
+popping_block (block.PopBlock at share a prefix) = Some at.desc
+popping_block p = None
+
+abbrev pub popping : Point → Option ℕ
+popping (point.Block p o) = popping_block p
+popping p = None
+
+-- 1 where its superblock fills the frame
+abbrev pub popping_fills : Geometry → State → Lists → ℕ → Option ℕ → ℕ
+popping_fills g s l f None = 0
+popping_fills g s l f (Some d) = fills g s l f d
+
+-- how often a caller has the frame in its hand, or is about to pop a block of it
+abbrev pub errand_weighs : Geometry → State → Lists → ℕ → ErrandFields → ℕ
+errand_weighs g s l f e = errand_frames f e + popping_fills g s l f (popping e.point)
+
+-- 1 where an active word holds the superblock that fills the frame
+abbrev pub held_fills : Geometry → State → Lists → ℕ → Option ActiveWord → ℕ
+held_fills g s l f None = 0
+held_fills g s l f (Some Null) = 0
+held_fills g s l f (Some (Held d credits)) = fills g s l f d
+
+abbrev pub word_weighs : Geometry → State → Lists → ℕ → WordName → ℕ → ℕ
+word_weighs g s l f (name.Active heap class) word = held_fills g s l f (active_of word)
+word_weighs g s l f other word = 0
+
+-- what the frame weighs
+abbrev pub frame_weighs : Geometry → State → Lists → ℕ → ℕ
+frame_weighs g s l f = callers_sum g (errand_weighs g s l f) s.errand + words_sum g (word_weighs g s l f) s.word
+
+-- a superblock fills one frame at most
+fills-there : (a b : Bool) (x f : ℕ) → (if a && b && (x == f) then 1 else 0) ≤ (if x == f then 1 else 0)
+fills-there a b x f = grind (arith)
+
+fills-once : (g : Geometry) (s : State) (l : Lists) (d n : ℕ) → sum_below n (λ f. fills g s l f d) ≤ 1
+fills-once g s l d n =
+    omega (
+      arith,
+      sum-least n (λ f. fills g s l f d) (λ f. if (info_for s d).frame == f then 1 else 0)
+          (λ f lt. fills-there (is_bound g s l d) (waiting_of g s d == 0) (info_for s d).frame f),
+      sum-once n (info_for s d).frame,
+    )
+
+-- so does an active word
+abbrev any_active : WordName → ℕ
+any_active (name.Active heap class) = 1
+any_active other = 0
+
+nothing-fills : (n : ℕ) → sum_below n (λ f. 0) ≤ 0
+nothing-fills n = omega (arith, sum-none n (λ f. 0) (λ f lt. refl))
+
+held-once : (g : Geometry) (s : State) (l : Lists) (n : ℕ) (o : Option ActiveWord) → sum_below n (λ f. held_fills g s l f o) ≤ 1
+held-once g s l n None = omega (arith, nothing-fills n)
+held-once g s l n (Some Null) = omega (arith, nothing-fills n)
+held-once g s l n (Some (Held d credits)) = fills-once g s l d n
+
+word-once :
+    (g : Geometry) (s : State) (l : Lists) (n : ℕ) (m : WordName) (word : ℕ)
+    → sum_below n (λ f. word_weighs g s l f m word) ≤ any_active m
+word-once g s l n (name.Active heap class) word = held-once g s l n (active_of word)
+word-once g s l n m word = nothing-fills n
+
+-- each heap has one active word of each class
+any-class : (g : Geometry) (m : WordName) → Exists g m → any_active m ≤ sum_below CLASSES (λ class. active_one class m)
+any-class g (name.Active heap class) exists =
+    omega (
+      arith,
+      term-sum CLASSES (λ c. active_one c (name.Active heap class)) class exists.1,
+      cond-true {A = ℕ} (class == class) 1 0 (eq-eqb class class refl),
+    )
+any-class g m exists = omega arith
+
+all-actives : (g : Geometry) → sum_below (word_count g) (λ k. any_active (word_name g k)) ≤ g.heaps * CLASSES
+all-actives g =
+    omega (
+      arith,
+      sum-least (word_count g) (λ k. any_active (word_name g k)) (λ k. sum_below CLASSES (λ class. active_one class (word_name g k)))
+          (λ k lt. any-class g (word_name g k) (word_name-Exists g k lt)),
+      sum-swap (word_count g) CLASSES (λ k class. active_one class (word_name g k)),
+      sum-most CLASSES (λ class. sum_below (word_count g) (λ k. active_one class (word_name g k))) g.heaps (λ class lt. actives-most g class),
+    )
+
+-- so all frames weigh no more than that in active words
+words-most :
+    (g : Geometry) (s : State) (l : Lists) (n : ℕ) → sum_below n (λ f. words_sum g (word_weighs g s l f) s.word) ≤ g.heaps * CLASSES
+unfolding words_sum
+words-most g s l n =
+    omega (
+      arith,
+      sum-swap n (word_count g) (λ f k. word_weighs g s l f (word_name g k) (s.word (word_name g k))),
+      sum-least (word_count g) (λ k. sum_below n (λ f. word_weighs g s l f (word_name g k) (s.word (word_name g k))))
+          (λ k. any_active (word_name g k)) (λ k lt. word-once g s l n (word_name g k) (s.word (word_name g k))),
+      all-actives g,
+    )
+
+-- a caller that is about to pop has a block reserved and no frame in its hand, and no caller has two frames
+abbrev pop_one : Option ℕ → ℕ
+pop_one None = 0
+pop_one (Some d) = 1
+
+pays-block : (p : BlockPoint) → pop_one (popping_block p) ≤ length (block_holds p).credits
+pays-block p = grind (arith)
+
+pays : (p : Point) → pop_one (popping p) ≤ length (holds_of p).credits
+unfolding holds_of
+pays point.Idle = omega arith
+pays (point.Block p o) = pays-block p
+pays (point.Stack p o) = omega arith
+pays (point.Desc p o) = omega arith
+pays (point.Partial p o) = omega arith
+pays (point.Large p o) = omega arith
+
+one-block : (p : BlockPoint) → length (block_holds p).frames + pop_one (popping_block p) ≤ 1
+one-block p = grind (arith)
+
+one-stack : (p : StackPoint) (o : Onward) → length (stack_holds p o).frames ≤ 1
+one-stack p o = grind (arith)
+
+one-desc : (p : DescPoint) (o : Onward) → length (desc_holds p o).frames ≤ 1
+one-desc p o = grind (arith)
+
+one-partial : (p : PartialPoint) (o : Onward) → length (partial_holds p o).frames ≤ 1
+one-partial p o = grind (arith)
+
+one-large : (p : LargePoint) → length (large_holds p).frames ≤ 1
+one-large p = grind (arith)
+
+one-point : (p : Point) → length (holds_of p).frames + pop_one (popping p) ≤ 1
+unfolding holds_of
+one-point point.Idle = omega arith
+one-point (point.Block p o) = one-block p
+one-point (point.Stack p o) = omega (arith, one-stack p o)
+one-point (point.Desc p o) = omega (arith, one-desc p o)
+one-point (point.Partial p o) = omega (arith, one-partial p o)
+one-point (point.Large p o) = omega (arith, one-large p)
+
+-- so all frames weigh at most one in a caller
+popping-once : (g : Geometry) (s : State) (l : Lists) (n : ℕ) (o : Option ℕ) → sum_below n (λ f. popping_fills g s l f o) ≤ pop_one o
+popping-once g s l n None = nothing-fills n
+popping-once g s l n (Some d) = fills-once g s l d n
+
+caller-weighs :
+    (g : Geometry) (s : State) (l : Lists) (n : ℕ) (e : ErrandFields)
+    → sum_below n (λ f. errand_weighs g s l f e) ≤ length (holds_of e.point).frames + pop_one (popping e.point)
+caller-weighs g s l n e =
+    omega (
+      arith,
+      sum-plus n (λ f. occurs f (holds_of e.point).frames) (λ f. popping_fills g s l f (popping e.point)),
+      sum-occurs n (holds_of e.point).frames,
+      popping-once g s l n (popping e.point),
+    )
+
+-- and none in one that has neither a frame nor a reserved block
+callers-most :
+    (g : Geometry) (s : State) (l : Lists) (n who : ℕ) → who < g.callers → (holds_of (s.errand who).point).frames ≡ []
+    → (holds_of (s.errand who).point).credits ≡ [] → sum_below n (λ f. callers_sum g (errand_weighs g s l f) s.errand) + 1 ≤ g.callers
+unfolding callers_sum
+callers-most g s l n who has no_frame no_credit =
+    let each : ℕ → ℕ = λ i. sum_below n (λ f. errand_weighs g s l f (s.errand i)) in
+    let none : each who ≡ 0 =
+    omega (
+      arith,
+      caller-weighs g s l n (s.errand who),
+      ap (length {A = ℕ}) no_frame,
+      pays (s.errand who).point,
+      ap (length {A = _}) no_credit,
+    ) in
+    omega (
+      arith,
+      sum-swap n g.callers (λ f i. errand_weighs g s l f (s.errand i)),
+      sum-most-but g.callers each 1 who has none (λ i lt. omega (arith, caller-weighs g s l n (s.errand i), one-point (s.errand i).point)),
+    )
+
+-- all frames together
+pub frames-weigh :
+    (g : Geometry) (s : State) (l : Lists) (who : ℕ) → who < g.callers → (holds_of (s.errand who).point).frames ≡ []
+    → (holds_of (s.errand who).point).credits ≡ [] → sum_below g.frames (frame_weighs g s l) ≤ g.heaps * CLASSES + g.callers - 1
+frames-weigh g s l who has no_frame no_credit =
+    omega (
+      arith,
+      sum-plus g.frames (λ f. callers_sum g (errand_weighs g s l f) s.errand) (λ f. words_sum g (word_weighs g s l f) s.word),
+      callers-most g s l g.frames who has no_frame no_credit,
+      words-most g s l g.frames,
+    )

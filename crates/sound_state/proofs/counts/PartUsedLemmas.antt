@@ -1,0 +1,270 @@
+-- A look finds few part-used frames: each is a superblock's that is near the class.
+use Rattle.std.proofs.Common.{ℕ, zero, suc, Option, Some, None, ◌≡◌, ◌<◌, ◌≤◌, ◌+◌, List, [], ◌∷◌, refl, sym, subst, ◌∙◌, ap, arith, inl, inr, ◌⊎◌}
+use Rattle.std.specs.Prelude.{◌==◌, if◌then◌else◌, All, IsTrue}
+use Rattle.std.proofs.lemmas.Bool.{cases_eq, cond-true, cond-false, eq-eqb, ne_eqb}
+use Rattle.std.proofs.lemmas.List.Elements.{All-head, All-tail}
+use Rattle.heap_geometry.specs.declared.geometry.Geometry.{Geometry}
+use Rattle.heap_geometry.specs.declared.limits.TheConstants.{CLASSES}
+use Rattle.heap_geometry.specs.Need.{block_count_of}
+use Rattle.heap_geometry.specs.Place.{block_place}
+use Rattle.packed_words.specs.declared.active.ActiveWord.{ActiveWord}
+use Rattle.packed_words.specs.declared.active.ActiveWord.TheVariants.{Null, Held}
+use Rattle.packed_words.specs.declared.anchor.State.{State as Phase}
+use Rattle.packed_words.specs.declared.anchor.State.TheVariants as phase
+use Rattle.packed_words.specs.Active.{active_of}
+use Rattle.word_plan.specs.declared.name.WordName.{WordName}
+use Rattle.word_plan.specs.declared.name.WordName.TheVariants as name
+use Rattle.word_plan.specs.Counts.{descriptor_count, word_count}
+use Rattle.word_plan.specs.Table.{Exists, word_name}
+use Rattle.word_plan.proofs.TableLemmas.{word_name-Exists}
+use Rattle.superblock_parts.specs.Chains.{occurs, chain_of}
+use Rattle.pool_model.specs.Legal.{IsPartUsed, IsWorn}
+use Rattle.pool_model.specs.Pool.{block_at, pool_of}
+use Rattle.errand_steps.specs.Errands.{ErrandFields}
+use Rattle.errand_steps.specs.Steps.{State}
+use Rattle.sound_state.specs.Holdings.{Kept, Reserved, reserving, waiting, partly_used, holds_of}
+use Rattle.sound_state.specs.Keepers.{active_keeps, word_keeps, full_keeps, errand_has, IsPartlyUsed}
+use Rattle.sound_state.specs.Lists.{Lists}
+use Rattle.sound_state.specs.Sound.{IsSoundWith}
+use Rattle.sound_state.specs.Sums.{sum_below, words_sum, callers_sum}
+use Rattle.sound_state.specs.Superblocks.{Superblock, superblock_of, held_back, is_there, anchor_for, info_for, offered, word_reserves, reserved_among, errand_reserves, reserved_of, kept_among, errand_keeps, errand_away, away_of, waiting_of, is_bound}
+use Rattle.sound_state.proofs.counts.FrameCounts.{frames-most}
+use Rattle.sound_state.proofs.counts.NearCounts.{class_keeps, named_among, credited_among, errand_nears, near_of, near-most}
+use Rattle.sound_state.proofs.shared.SumLemmas.{sum-none, sum-plus, sum-least, some-term, term-sum}
+
+-- what occurs in a list is as all of the list are
+occurring-all : (P : ℕ → Type 0) (d : ℕ) (xs : List ℕ) → All P xs → 1 ≤ occurs d xs → P d
+occurring-all P d [] all some = absurd (omega (arith, some))
+occurring-all P d (x ∷ xs) all some =
+    elim (cases_eq x d) [
+      | inl same ↦ subst P same (All-head P x xs all)
+      | inr differ ↦ occurring-all P d xs (All-tail P x xs all) (omega (arith, some, cond-false {A = ℕ} (x == d) 1 0 (ne_eqb x d differ)))
+    ]
+
+-- a superblock's active word or slot is one of its class
+active-held : (d : ℕ) (o : Option ActiveWord) → (active_keeps d o ≡ 0) ⊎ ((credits : ℕ) × (o ≡ Some (Held d credits)))
+active-held d None = inl refl
+active-held d (Some Null) = inl refl
+active-held d (Some (Held e credits)) =
+    elim (cases_eq e d) [
+      | inl same ↦ inr (credits, ap (λ x. Some (Held x credits)) same)
+      | inr differ ↦ inl (cond-false {A = ℕ} (e == d) 1 0 (ne_eqb e d differ))
+    ]
+
+word-near :
+    (g : Geometry) (s : State) (l : Lists) (class d : ℕ) → IsSoundWith g s l → (info_for s d).class ≡ class → (n : WordName) → Exists g n
+    → word_keeps d n (s.word n) ≤ class_keeps class d n (s.word n)
+word-near g s l class d sound is (name.Active heap c) exists =
+    let word = s.word (name.Active heap c) in
+    elim (active-held d (active_of word)) [
+      | inl none ↦ omega (arith, none)
+      | inr held ↦
+          let same : c ≡ class = sym (sound.kept.active heap c d held.0 exists.0 exists.1 held.1).1.class ∙ is in
+          omega (arith, cond-true {A = ℕ} (c == class) (active_keeps d (active_of word)) 0 (eq-eqb c class same))
+    ]
+word-near g s l class d sound is (name.Slot heap c) exists =
+    let word = s.word (name.Slot heap c) in
+    let keeps : ℕ = if word == d + 1 then 1 else 0 in
+    elim (cases_eq word (d + 1)) [
+      | inl held ↦
+          let same : c ≡ class = sym (sound.kept.slot heap c d exists.0 exists.1 held).1.class ∙ is in
+          omega (arith, cond-true {A = ℕ} (c == class) keeps 0 (eq-eqb c class same))
+      | inr differ ↦ omega (arith, cond-false {A = ℕ} (word == d + 1) 1 0 (ne_eqb word (d + 1) differ))
+    ]
+word-near g s l class d sound is (name.Arena i) exists = omega arith
+word-near g s l class d sound is (name.Anchor i) exists = omega arith
+word-near g s l class d sound is (name.Next i) exists = omega arith
+word-near g s l class d sound is (name.Info i) exists = omega arith
+word-near g s l class d sound is (name.ListHead i) exists = omega arith
+word-near g s l class d sound is (name.FrameNext i) exists = omega arith
+word-near g s l class d sound is name.FrameHead exists = omega arith
+word-near g s l class d sound is name.DescHead exists = omega arith
+word-near g s l class d sound is (name.Hazard i) exists = omega arith
+word-near g s l class d sound is name.Units exists = omega arith
+word-near g s l class d sound is (name.Shelf i) exists = omega arith
+
+words-near :
+    (g : Geometry) (s : State) (l : Lists) (class d : ℕ) → IsSoundWith g s l → (info_for s d).class ≡ class
+    → words_sum g (word_keeps d) s.word ≤ words_sum g (class_keeps class d) s.word
+unfolding words_sum
+words-near g s l class d sound is =
+    let keeps = λ (k : ℕ). word_keeps d (word_name g k) (s.word (word_name g k)) in
+    let nears = λ (k : ℕ). class_keeps class d (word_name g k) (s.word (word_name g k)) in
+    sum-least (word_count g) keeps nears (λ k lt. word-near g s l class d sound is (word_name g k) (word_name-Exists g k lt))
+
+-- a word that offers blocks of d holds it
+offered-held : (d : ℕ) (o : Option ActiveWord) → 1 ≤ offered d o → 1 ≤ active_keeps d o
+offered-held d o some = grind (arith, some)
+
+word-offers : (d : ℕ) (n : WordName) (word : ℕ) → 0 < word_reserves d n word → 1 ≤ word_keeps d n word
+word-offers d (name.Active heap c) word some = offered-held d (active_of word) (omega (arith, some))
+word-offers d (name.Slot heap c) word some = absurd (omega (arith, some))
+word-offers d (name.Arena i) word some = absurd (omega (arith, some))
+word-offers d (name.Anchor i) word some = absurd (omega (arith, some))
+word-offers d (name.Next i) word some = absurd (omega (arith, some))
+word-offers d (name.Info i) word some = absurd (omega (arith, some))
+word-offers d (name.ListHead i) word some = absurd (omega (arith, some))
+word-offers d (name.FrameNext i) word some = absurd (omega (arith, some))
+word-offers d name.FrameHead word some = absurd (omega (arith, some))
+word-offers d name.DescHead word some = absurd (omega (arith, some))
+word-offers d (name.Hazard i) word some = absurd (omega (arith, some))
+word-offers d name.Units word some = absurd (omega (arith, some))
+word-offers d (name.Shelf i) word some = absurd (omega (arith, some))
+
+words-offer : (g : Geometry) (d : ℕ) (words : WordName → ℕ) → 0 < words_sum g (word_reserves d) words → 1 ≤ words_sum g (word_keeps d) words
+unfolding words_sum
+words-offer g d words some =
+    let (k, lt, here) = some-term (word_count g) (λ k. word_reserves d (word_name g k) (words (word_name g k))) some in
+    omega (
+      arith,
+      word-offers d (word_name g k) (words (word_name g k)) here,
+      term-sum (word_count g) (λ k. word_keeps d (word_name g k) (words (word_name g k))) k lt,
+    )
+
+-- a caller that has reserved blocks of d is near
+credits-near : (d : ℕ) (rs : List Reserved) → 0 < reserved_among d rs → 1 ≤ credited_among d rs
+credits-near d [] some = absurd (omega (arith, some))
+credits-near d (r ∷ rs) some =
+    elim (cases_eq r.desc d) [
+      | inl same ↦ omega (arith, cond-true {A = ℕ} (r.desc == d) 1 0 (eq-eqb r.desc d same))
+      | inr differ ↦
+          omega (arith, credits-near d rs (omega (arith, some, cond-false {A = ℕ} (r.desc == d) r.blocks 0 (ne_eqb r.desc d differ))))
+    ]
+
+callers-reserve :
+    (g : Geometry) (d : ℕ) (errands : ℕ → ErrandFields) → 0 < callers_sum g (errand_reserves d) errands
+    → 1 ≤ callers_sum g (errand_nears d) errands
+unfolding callers_sum
+callers-reserve g d errands some =
+    let (i, lt, here) = some-term g.callers (λ i. errand_reserves d (errands i)) some in
+    omega (
+      arith,
+      credits-near d (holds_of (errands i).point).credits here,
+      term-sum g.callers (λ i. errand_nears d (errands i)) i lt,
+    )
+
+-- so is one that keeps d, but on its way
+kept-one :
+    (d : ℕ) (k : Kept) (ks : List Kept)
+    → kept_among reserving d (k ∷ ks) + kept_among waiting d (k ∷ ks) + kept_among partly_used d (k ∷ ks)
+    ≤ (if k.desc == d then 1 else 0) + (kept_among reserving d ks + kept_among waiting d ks + kept_among partly_used d ks)
+kept-one d k ks = grind (arith)
+
+kept-near :
+    (d : ℕ) (ks : List Kept) → kept_among reserving d ks + kept_among waiting d ks + kept_among partly_used d ks ≤ named_among d ks
+kept-near d [] = omega arith
+kept-near d (k ∷ ks) = omega (arith, kept-one d k ks, kept-near d ks)
+
+callers-wait : (g : Geometry) (s : State) (d : ℕ) → waiting_of g s d ≤ callers_sum g (errand_nears d) s.errand
+unfolding callers_sum
+callers-wait g s d =
+    sum-least g.callers (λ i. errand_keeps waiting d (s.errand i)) (λ i. errand_nears d (s.errand i))
+    (λ i lt. omega (arith, kept-near d (holds_of (s.errand i).point).kept))
+
+callers-keep :
+    (g : Geometry) (d : ℕ) (errands : ℕ → ErrandFields)
+    → callers_sum g (errand_has d) errands ≤ callers_sum g (errand_away d) errands + callers_sum g (errand_nears d) errands
+unfolding callers_sum
+callers-keep g d errands =
+    let away = λ (i : ℕ). errand_away d (errands i) in
+    let nears = λ (i : ℕ). errand_nears d (errands i) in
+    omega (
+      arith,
+      sum-plus g.callers away nears,
+      sum-least g.callers (λ i. errand_has d (errands i)) (λ i. away i + nears i)
+          (λ i lt. omega (arith, kept-near d (holds_of (errands i).point).kept)),
+    )
+
+-- where the class's list is empty, a descriptor of the class is in none
+unlisted :
+    (g : Geometry) (s : State) (l : Lists) (class d : ℕ) → IsSoundWith g s l → l.partials class ≡ [] → (info_for s d).class ≡ class
+    → sum_below CLASSES (λ c. occurs d (l.partials c)) ≡ 0
+unlisted g s l class d sound bare is =
+    sum-none CLASSES (λ c. occurs d (l.partials c))
+    (λ c lt.
+    elim (cases_eq (occurs d (l.partials c)) 0) [
+      | inl none ↦ none
+      | inr some ↦
+          let in_c : IsPartlyUsed s d c =
+          occurring-all (λ e. IsPartlyUsed s e c) d (l.partials c) (sound.kept.listed c lt) (omega (arith, some)) in
+          let same : c ≡ class = sym in_c.class ∙ is in ap (λ k. occurs d (l.partials k)) same ∙ ap (occurs d) bare
+    ])
+
+-- a FULL superblock has no free block that nobody has reserved
+full-bare : (p : Phase) (count : ℕ) → (p ≡ phase.Full → count ≡ 0) → 1 ≤ count → full_keeps p ≡ 0
+full-bare phase.Full count bare some = absurd (omega (arith, bare refl, some))
+full-bare phase.Active count bare some = refl
+full-bare phase.Partial count bare some = refl
+full-bare phase.Empty count bare some = refl
+
+-- a chain that has an index is not empty; only the superblock of a caller that installs it holds a block back
+some-chain : (next : ℕ → ℕ) (k a i : ℕ) → 0 < occurs i (chain_of next k a) → 1 ≤ k
+some-chain next zero a i some = absurd (omega (arith, some))
+some-chain next (suc k) a i some = omega arith
+
+some-held : (b : Superblock) (i : ℕ) → held_back b i ≤ b.waiting
+some-held b i = grind (arith)
+
+-- a descriptor that has a superblock isn't away
+bound-away : (g : Geometry) (s : State) (l : Lists) (d : ℕ) → IsTrue (is_bound g s l d) → away_of g s l d ≡ 0
+bound-away g s l d bound = grind (arith, bound)
+
+-- so a superblock of the class with a block that isn't live is near
+pub unlive-near :
+    (g : Geometry) (s : State) (l : Lists) (class d i : ℕ) → IsSoundWith g s l → l.partials class ≡ [] → d < descriptor_count g
+    → IsTrue (is_bound g s l d) → (info_for s d).class ≡ class → i < block_count_of class → (superblock_of g s d).live i ≡ 0
+    → 1 ≤ near_of g s class d
+unlive-near g s l class d i sound bare has bound is below unlive =
+    let b = superblock_of g s d in
+    let a = anchor_for s d in
+    let chain = sound.chained.chained d has bound in
+    let size : i < b.size = subst (λ c. i < block_count_of c) (sym is) below in
+    let once = chain.once i size in
+    let words = words-near g s l class d sound is in
+    let waits = callers-wait g s d in
+    elim (cases_eq b.waiting 0) [
+      | inr some ↦ omega (arith, some, waits)
+      | inl none ↦
+          let free : 1 ≤ a.count + reserved_of g s d =
+          some-chain b.next (a.count + reserved_of g s d) a.avail i (omega (arith, once, unlive, none, some-held b i)) in
+          elim (cases_eq a.count 0) [
+            | inl nobody ↦
+                elim (cases_eq (words_sum g (word_reserves d) s.word) 0) [
+                  | inl callers ↦ omega (arith, callers-reserve g d s.errand (omega (arith, free, nobody, callers)))
+                  | inr offers ↦ omega (arith, words, words-offer g d s.word (omega (arith, offers)))
+                ]
+            | inr some ↦
+                omega (
+                  arith,
+                  sound.kept.once d has,
+                  words,
+                  unlisted g s l class d sound bare is,
+                  bound-away g s l d bound,
+                  callers-keep g d s.errand,
+                  full-bare a.state a.count (sound.kept.full d has) (omega (arith, some)),
+                )
+          ]
+    ]
+
+-- a part-used frame is that of a superblock near the class
+part-near :
+    (g : Geometry) (s : State) (l : Lists) (class f : ℕ) → IsSoundWith g s l → l.partials class ≡ [] → IsPartUsed (pool_of s.history) class f
+    → (d : ℕ) × (d < descriptor_count g) × (1 ≤ near_of g s class d) × ((info_for s d).frame ≡ f)
+part-near g s l class f sound bare part =
+    let b = part.block in
+    let (d, of_desc, said) = sound.tied.small b.place class b part.live part.of_class in
+    let here : (info_for s d).frame ≡ f = of_desc.located.frame ∙ part.here in
+    let is : (info_for s d).class ≡ class = of_desc.located.class in
+    let place : block_place (info_for s d).frame (info_for s d).class part.index ≡ block_place f class part.index = rw (here, is) in
+    let unlive : (superblock_of g s d).live part.index ≡ 0 = ap (λ p. is_there (block_at p (pool_of s.history))) place ∙ ap is_there part.free in
+    (d, of_desc.exists, unlive-near g s l class d part.index sound bare of_desc.exists of_desc.bound is part.in_frame unlive, here)
+
+-- so a look finds few: two for each heap and each other caller
+pub look-counted :
+    (g : Geometry) (s : State) (l : Lists) (who class : ℕ) → IsSoundWith g s l → who < g.callers → class < CLASSES → l.partials class ≡ []
+    → (holds_of (s.errand who).point).kept ≡ [] → (holds_of (s.errand who).point).credits ≡ [] → IsWorn g (pool_of s.history) class
+look-counted g s l who class sound has is_class bare no_kept no_credits fs rises all =
+    let most =
+    frames-most g.frames (descriptor_count g) (λ d. (info_for s d).frame) (near_of g s class) (IsPartUsed (pool_of s.history) class)
+    (λ f lt part. part-near g s l class f sound bare part) fs rises all in
+    omega (arith, most, near-most g s who class has no_kept no_credits)

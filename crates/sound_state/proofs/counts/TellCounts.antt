@@ -1,0 +1,160 @@
+-- Which steps tell a look or a refusal; each of these has its number where what it stands on has it.
+use Rattle.std.proofs.Common.{ℕ, Bool, true, false, Option, Some, None, ◌≡◌, ◌<◌, [], refl, sym, arith, ap, subst, ◌∙◌}
+use Rattle.std.specs.Prelude.{◌==◌, if◌then◌else◌, IsTrue}
+use Rattle.std.proofs.lemmas.Bool.{eqb-true}
+use Rattle.std.proofs.lemmas.Option.{none-some}
+use Rattle.heap_geometry.specs.declared.geometry.Geometry.{Geometry}
+use Rattle.heap_geometry.specs.declared.limits.TheConstants.{CLASSES}
+use Rattle.heap_geometry.specs.declared.need.Need.{Need}
+use Rattle.heap_geometry.specs.declared.need.Need.TheVariants.{Small, Large, TooLarge}
+use Rattle.heap_geometry.specs.Need.{need_of}
+use Rattle.packed_words.specs.Head.{HeadFields, IsHead, head_of, head_word}
+use Rattle.packed_words.proofs.HeadLemmas.{head_of-head_word}
+use Rattle.word_plan.specs.declared.name.WordName.TheVariants as name
+use Rattle.word_plan.specs.Seats.{SeatFields}
+use Rattle.superblock_parts.specs.declared.point.BlockPoint.{BlockPoint}
+use Rattle.superblock_parts.specs.declared.point.BlockPoint.TheVariants as block
+use Rattle.stack_parts.specs.declared.point.Pile.{Pile}
+use Rattle.stack_parts.specs.declared.point.Pile.TheVariants.{Frames, Partials}
+use Rattle.stack_parts.specs.declared.point.StackPoint.{StackPoint}
+use Rattle.stack_parts.specs.declared.point.StackPoint.TheVariants as stack
+use Rattle.stack_parts.specs.Fits.{IsBare}
+use Rattle.stack_parts.specs.Piles.{head_name}
+use Rattle.stack_parts.specs.Stacks.{next_in}
+use Rattle.large_parts.specs.declared.point.LargePoint.{LargePoint}
+use Rattle.large_parts.specs.declared.point.LargePoint.TheVariants as large
+use Rattle.large_parts.specs.Points.{first_wanted}
+use Rattle.large_parts.specs.Runs.{WantFields}
+use Rattle.pool_model.specs.declared.event.Event.{Event}
+use Rattle.pool_model.specs.Legal.{IsCounted, IsCountedFor, IsCrowded, IsWorn}
+use Rattle.pool_model.specs.Pool.{Pool, pool_of}
+use Rattle.errand_steps.specs.declared.onward.Onward.{Onward}
+use Rattle.errand_steps.specs.declared.onward.Onward.TheVariants as onward
+use Rattle.errand_steps.specs.declared.point.Point.{Point}
+use Rattle.errand_steps.specs.declared.point.Point.TheVariants as point
+use Rattle.errand_steps.specs.Events.{event_of, won_event, block_event, stack_event, empty_event, large_event, run_event}
+use Rattle.errand_steps.specs.Fits.{FitsPoint, FitsInStack}
+use Rattle.errand_steps.specs.Onwards.{GoesLarge, IsRunFor, confirms}
+use Rattle.errand_steps.specs.Points.{asked, plan_point_of}
+use Rattle.errand_steps.specs.Steps.{State, found_at}
+use Rattle.sound_state.specs.Holdings.{Holding, holds_of, stack_holds, onward_holds}
+use Rattle.sound_state.specs.Lists.{Lists}
+use Rattle.sound_state.specs.Sound.{IsSoundWith, TellsCounted}
+use Rattle.sound_state.proofs.quiet.QuietLemmas.{found_from}
+use Rattle.sound_state.proofs.shared.PointLemmas.{fits-at}
+use Rattle.sound_state.proofs.tellings.ConfirmSteps.{stacked-none}
+
+-- an event has its number, if there is one
+abbrev HasCount : Geometry → Pool → Option Event → Type 0
+HasCount g pool None = Unit {0}
+HasCount g pool (Some e) = IsCounted g pool e
+
+-- what a look and a refusal stand on: the list or the stack is empty, and the caller holds nothing of the kind
+abbrev LooksWorn : Geometry → State → Lists → Holding → Type 0
+LooksWorn g s l h =
+    (class : ℕ) → class < CLASSES → l.partials class ≡ [] → h.kept ≡ [] → h.credits ≡ [] → IsWorn g (pool_of s.history) class
+
+abbrev RefusesCrowded : Geometry → State → Lists → Holding → Type 0
+RefusesCrowded g s l h = l.frames ≡ [] → h.frames ≡ [] → h.credits ≡ [] → IsCrowded g (pool_of s.history)
+
+-- a head that is found again has the same top
+found-top : (word : ℕ) (h : HeadFields) → IsHead h → h.top ≡ 0 → (word == head_word h) ≡ true → (head_of word).top ≡ 0
+found-top word h head none won =
+    ap (λ w. (head_of w).top) (eqb-true word (head_word h) won) ∙ ap (λ x. x.top) (head_of-head_word h head) ∙ none
+
+-- a point in a superblock tells no look and no refusal
+block-tells : (g : Geometry) (pool : Pool) (who words : ℕ) (p : BlockPoint) → HasCount g pool (block_event who words p)
+block-tells g pool who words (block.PopBlock at share a prefix) = tt
+block-tells g pool who words (block.InstallSuperblock at) = tt
+block-tells g pool who words (block.PushBlock at i a guarded heap) = tt
+block-tells g pool who words p = tt
+
+-- at a large block only a refusal of a large need does
+large-refuses : (g : Geometry) (pool : Pool) (units : ℕ) (o : Onward) → IsRunFor units o → IsCountedFor g pool (need_of (asked o))
+large-refuses g pool units (onward.Alloc words) goes = subst (IsCountedFor g pool) (sym goes) tt
+large-refuses g pool units o goes = absurd goes
+
+run-tells :
+    (g : Geometry) (pool : Pool) (who : ℕ) (w : WantFields) (o : Onward) (first : Option ℕ) → IsRunFor w.units o
+    → IsCounted g pool (run_event who (asked o) w first)
+run-tells g pool who w o None goes = large-refuses g pool w.units o goes
+run-tells g pool who w o (Some unit) goes = tt
+
+large-tells : (g : Geometry) (pool : Pool) (who : ℕ) (p : LargePoint) (o : Onward) → GoesLarge p o → HasCount g pool (large_event who (asked o) p)
+large-tells g pool who (large.TakeRun w bits) o goes = run-tells g pool who w o (first_wanted w bits) goes
+large-tells g pool who p o goes = tt
+
+-- a caller that confirms that there is no frame has neither a frame nor a reserved block; that there is no partial superblock, nothing
+no-frame : (seat : SeatFields) (o : Onward) → (onward_holds seat o).frames ≡ []
+no-frame seat o = grind (arith)
+
+no-credit : (seat : SeatFields) (o : Onward) → (onward_holds seat o).credits ≡ []
+no-credit seat o = grind (arith)
+
+no-desc : (seat : SeatFields) (o : Onward) → IsTrue (confirms Partials o) → (onward_holds seat o).kept ≡ []
+no-desc seat o goes = grind (arith, goes)
+
+-- crowded is enough for a refusal of any need
+refuses : (g : Geometry) (pool : Pool) (need : Need) → IsCrowded g pool → IsCountedFor g pool need
+refuses g pool (Small class) crowded = crowded
+refuses g pool (Large units) crowded = tt
+refuses g pool TooLarge crowded = tt
+
+-- at a stack, what confirms that it is empty
+confirms-tells :
+    (g : Geometry) (s : State) (l : Lists) (who : ℕ) (seat : SeatFields) (pile : Pile) (h : HeadFields) (o : Onward) → IsSoundWith g s l
+    → IsBare g who seat h → IsTrue (confirms pile o) → LooksWorn g s l (onward_holds seat o) → RefusesCrowded g s l (onward_holds seat o)
+    → (s.word (head_name seat pile) == head_word h) ≡ true → IsCounted g (pool_of s.history) (empty_event who (asked o) pile seat.class)
+confirms-tells g s l who seat Frames h o sound bare goes worn crowded won =
+    let empty : l.frames ≡ [] =
+    stacked-none (next_in s.word Frames) (head_of (s.word name.FrameHead)).top l.frames sound.listed.frames
+    (found-top (s.word name.FrameHead) h bare.head bare.top won) in
+    refuses g (pool_of s.history) (need_of (asked o)) (crowded empty (no-frame seat o) (no-credit seat o))
+confirms-tells g s l who seat Partials h o sound bare goes worn crowded won =
+    let word = s.word (name.ListHead seat.class) in
+    let empty : l.partials seat.class ≡ [] =
+    stacked-none (next_in s.word Partials) (head_of word).top (l.partials seat.class) (sound.listed.partials seat.class bare.seat.class)
+    (found-top word h bare.head bare.top won) in
+    worn seat.class bare.seat.class empty (no-desc seat o goes) (no-credit seat o)
+
+stack-tells :
+    (g : Geometry) (s : State) (l : Lists) (who : ℕ) (p : StackPoint) (o : Onward) → IsSoundWith g s l → FitsInStack g who p o
+    → LooksWorn g s l (stack_holds p o) → RefusesCrowded g s l (stack_holds p o) → (found_from s (point.Stack p o)).won ≡ true
+    → HasCount g (pool_of s.history) (stack_event who (asked o) p)
+unfolding plan_point_of
+stack-tells g s l who (stack.ConfirmEmpty seat pile h) o sound fits worn crowded won =
+    confirms-tells g s l who seat pile h o sound fits.point fits.goes worn crowded won
+stack-tells g s l who p o sound fits worn crowded won = tt
+
+-- at any point, where the action is not lost
+point-tells :
+    (g : Geometry) (s : State) (l : Lists) (who : ℕ) (p : Point) → IsSoundWith g s l → FitsPoint g who p
+    → LooksWorn g s l (holds_of p) → RefusesCrowded g s l (holds_of p) → (found_from s p).won ≡ true
+    → HasCount g (pool_of s.history) (won_event who p)
+unfolding holds_of
+point-tells g s l who point.Idle sound fits worn crowded won = tt
+point-tells g s l who (point.Block p o) sound fits worn crowded won = block-tells g (pool_of s.history) who (asked o) p
+point-tells g s l who (point.Stack p o) sound fits worn crowded won = stack-tells g s l who p o sound fits worn crowded won
+point-tells g s l who (point.Desc p o) sound fits worn crowded won = tt
+point-tells g s l who (point.Partial p o) sound fits worn crowded won = tt
+point-tells g s l who (point.Large p o) sound fits worn crowded won = large-tells g (pool_of s.history) who p o fits.goes
+
+-- what is lost tells nothing
+won-counts :
+    (g : Geometry) (pool : Pool) (won : Bool) (told : Option Event) (e : Event) → (won ≡ true → HasCount g pool told)
+    → (if won then told else None) ≡ Some e → IsCounted g pool e
+won-counts g pool true told e counts is = subst (HasCount g pool) is (counts refl)
+won-counts g pool false told e counts is = absurd (none-some e is)
+
+-- so what a caller tells next has its number, where the two counts hold
+pub tells-counted :
+    (g : Geometry) (s : State) (l : Lists) (who : ℕ) → IsSoundWith g s l → who < g.callers
+    → ((class : ℕ) → class < CLASSES → l.partials class ≡ [] → (holds_of (s.errand who).point).kept ≡ []
+    → (holds_of (s.errand who).point).credits ≡ [] → IsWorn g (pool_of s.history) class)
+    → (l.frames ≡ [] → (holds_of (s.errand who).point).frames ≡ [] → (holds_of (s.errand who).point).credits ≡ []
+    → IsCrowded g (pool_of s.history)) → TellsCounted g s who
+unfolding event_of
+tells-counted g s l who sound has worn crowded e is =
+    let p = (s.errand who).point in
+    won-counts g (pool_of s.history) (found_at s who).won (won_event who p) e
+    (λ won. point-tells g s l who p sound (fits-at g s l who p sound has refl) worn crowded won) is

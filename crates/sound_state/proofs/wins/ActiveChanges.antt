@@ -1,0 +1,130 @@
+-- Which steps change an active word, and what a caller's point says of its installs.
+use Rattle.std.proofs.Common.{ℕ, true, false, ◌≡◌, ◌≢◌, ◌≤◌, refl, arith, sym, inl, inr, ◌∙◌}
+use Rattle.std.specs.Prelude.{◌⊎◌, ◌-◌, ◌&&◌, IsTrue}
+use Rattle.std.proofs.lemmas.Bool.{cases_eq, eq-eqb, ne_eqb}
+use Rattle.packed_words.specs.declared.active.ActiveWord.TheVariants.{Null, Held}
+use Rattle.packed_words.specs.Active.{active_word}
+use Rattle.word_plan.specs.declared.name.WordName.{WordName}
+use Rattle.word_plan.specs.declared.name.WordName.TheVariants as name
+use Rattle.word_plan.specs.declared.action.Action.TheVariants.{Cas}
+use Rattle.word_plan.specs.declared.action.Found.{Found}
+use Rattle.word_plan.specs.Actions.{name_of, after_action, found_by}
+use Rattle.word_plan.specs.Sites.{active_name}
+use Rattle.superblock_parts.specs.declared.point.BlockPoint.{BlockPoint}
+use Rattle.superblock_parts.specs.declared.point.BlockPoint.TheVariants as block
+use Rattle.superblock_parts.specs.Anchors.{new_credits}
+use Rattle.superblock_parts.specs.Points.{plan_block_of, credit_taken}
+use Rattle.stack_parts.specs.declared.point.StackPoint.{StackPoint}
+use Rattle.stack_parts.specs.Points.{plan_stack_of}
+use Rattle.hazard_parts.specs.declared.point.DescPoint.{DescPoint}
+use Rattle.hazard_parts.specs.Points.{plan_desc_of}
+use Rattle.partial_parts.specs.declared.point.PartialPoint.{PartialPoint}
+use Rattle.partial_parts.specs.Points.{plan_partial_of}
+use Rattle.large_parts.specs.declared.point.LargePoint.{LargePoint}
+use Rattle.large_parts.specs.Points.{plan_large_of}
+use Rattle.errand_steps.specs.declared.point.Point.{Point}
+use Rattle.errand_steps.specs.declared.point.Point.TheVariants as point
+use Rattle.errand_steps.specs.Errands.{counts_won}
+use Rattle.errand_steps.specs.Points.{plan_point_of}
+use Rattle.sound_state.specs.Installs.{IsActive, is_seeking}
+use Rattle.sound_state.specs.Turns.{one_if, in_turn, is_discarding_at}
+use Rattle.sound_state.specs.Wins.{offers, is_offer, is_between}
+use Rattle.sound_state.proofs.wins.WinDefs.{found_in}
+
+-- a held active word isn't null
+held-some : (d credits : ℕ) → active_word (Held d credits) ≢ active_word Null
+unfolding active_word
+held-some d credits is = absurd (omega (arith, is))
+
+-- the change of an active word to one that isn't null: it wasn't null, or the step is an offer that was won
+abbrev pub ChangesActive : Point → ℕ → Type 0
+ChangesActive p v =
+    IsActive (name_of (plan_point_of p)) → after_action (plan_point_of p) v ≢ active_word Null
+    → (v ≢ active_word Null) ⊎ (IsTrue (offers p) × (counts_won (plan_point_of p) (found_in p v) ≡ true))
+
+-- elsewhere a step isn't on an active word
+stack-apart : (p : StackPoint) → IsActive (name_of (plan_stack_of p)) → ⊥
+stack-apart p is = grind (arith, is)
+
+desc-apart : (p : DescPoint) → IsActive (name_of (plan_desc_of p)) → ⊥
+desc-apart p is = grind (arith, is)
+
+partial-apart : (p : PartialPoint) → IsActive (name_of (plan_partial_of p)) → ⊥
+partial-apart p is = grind (arith, is)
+
+large-apart : (p : LargePoint) → IsActive (name_of (plan_large_of p)) → ⊥
+large-apart p is = grind (arith, is)
+
+-- an exchange of null for a held one
+install-changes :
+    (v new : ℕ) (n : WordName) → new ≢ active_word Null
+    → (v ≢ active_word Null) ⊎ (IsTrue true × (counts_won (Cas n (active_word Null) new) (found_by (Cas n (active_word Null) new) v) ≡ true))
+install-changes v new n held =
+    elim (cases_eq v (active_word Null)) [
+      | inl is ↦ inr (refl, rw (eq-eqb v (active_word Null) is, ne_eqb (active_word Null) new (λ same. held (sym same))) refl)
+      | inr differs ↦ inl differs
+    ]
+
+-- an exchange of a held one: it wasn't null
+take-changes :
+    (v d credits : ℕ) → after_action (Cas (name.Active 0 0) (active_word (Held d credits)) (credit_taken d credits)) v ≢ active_word Null
+    → v ≢ active_word Null
+take-changes v d credits some =
+    elim (cases_eq v (active_word (Held d credits))) [
+      | inl is ↦ λ null. held-some d credits (sym is ∙ null)
+      | inr differs ↦ λ null. some (rw (ne_eqb v (active_word (Held d credits)) differs) null)
+    ]
+
+-- in a superblock
+block-changes :
+    (p : BlockPoint) (v : ℕ) → IsActive (name_of (plan_block_of p)) → after_action (plan_block_of p) v ≢ active_word Null
+    → (v ≢ active_word Null) ⊎ (IsTrue (is_offer p) × (counts_won (plan_block_of p) (found_by (plan_block_of p) v) ≡ true))
+block-changes (block.LoadActive s) v is some = inl some
+block-changes (block.TakeCredit s d credits) v is some = inl (take-changes v d credits some)
+block-changes (block.LoadInfo s d share) v is some = absurd is
+block-changes (block.LoadAnchor at share) v is some = absurd is
+block-changes (block.LoadLink at share a) v is some = absurd is
+block-changes (block.PopBlock at share a prefix) v is some = absurd is
+block-changes (block.StorePrefix at i) v is some = absurd is
+block-changes (block.InstallCredits at i more) v is some = install-changes v _ (active_name at.seat) (held-some at.desc (more - 1))
+block-changes (block.InstallSuperblock at) v is some = install-changes v _ (active_name at.seat) (held-some at.desc (new_credits at.seat.class))
+block-changes (block.LoadReturn at i more) v is some = absurd is
+block-changes (block.ReturnCredits at i more a) v is some = absurd is
+block-changes (block.LoadPrefix s frame i) v is some = absurd is
+block-changes (block.LoadPushAnchor at i guarded) v is some = absurd is
+block-changes (block.StoreGuard at i a) v is some = absurd is
+block-changes (block.LoadOwner at i a) v is some = absurd is
+block-changes (block.StoreLink at i a guarded heap) v is some = absurd is
+block-changes (block.PushBlock at i a guarded heap) v is some = absurd is
+block-changes (block.LinkBlock at i) v is some = absurd is
+block-changes (block.StoreInfo at) v is some = absurd is
+block-changes (block.StoreAnchor at) v is some = absurd is
+block-changes (block.WantsPartial s) v is some = absurd is
+block-changes (block.Returned at i) v is some = absurd is
+block-changes (block.Discarded at) v is some = absurd is
+block-changes (block.Given at i) v is some = absurd is
+block-changes (block.BecameEmpty at heap) v is some = absurd is
+block-changes (block.BecamePartial at guarded) v is some = absurd is
+block-changes (block.Pushed s guarded) v is some = absurd is
+
+-- at each point
+pub active-change : (p : Point) (v : ℕ) → ChangesActive p v
+unfolding plan_point_of
+active-change point.Idle v is some = absurd is
+active-change (point.Block p o) v is some = block-changes p v is some
+active-change (point.Stack p o) v is some = absurd (stack-apart p is)
+active-change (point.Desc p o) v is some = absurd (desc-apart p is)
+active-change (point.Partial p o) v is some = absurd (partial-apart p is)
+active-change (point.Large p o) v is some = absurd (large-apart p is)
+
+-- what counts as won of an offer was won
+pub install-won : (p : Point) (x : Found) → one_if (offers p && counts_won (plan_point_of p) x) ≤ one_if (offers p && x.won)
+unfolding plan_point_of
+install-won p x = grind (arith)
+
+-- who discards a superblock seeks one, and who seeks one isn't between turns
+pub discards-seeks : (p : Point) → IsTrue (in_turn p && is_discarding_at p) → IsTrue (is_seeking p)
+discards-seeks p is = grind (arith)
+
+pub seeks-inside : (p : Point) → IsTrue (is_seeking p) → is_between p ≡ false
+seeks-inside p is = grind (arith)
