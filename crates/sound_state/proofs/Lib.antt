@@ -7,6 +7,7 @@ pub mod beginnings
 pub mod counts
 pub mod descriptors
 pub mod discards
+pub mod endings
 pub mod hazards
 pub mod installs
 pub mod large

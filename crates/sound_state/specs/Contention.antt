@@ -39,6 +39,9 @@ dirty_pairs g w = sum_below (word_count g) (λ k. dirty_on g w (word_name g k))
 abbrev pub lost_of : ErrandFields → ℕ
 lost_of e = e.lost
 
+abbrev pub won_of : ErrandFields → ℕ
+won_of e = e.won
+
 -- the caller has noted the word, which is as expected, or another caller has won on it since
 pub record IsExpected (s : State) (w : Wins) (who : ℕ) (e : Expected) : Type 0 where
   pub wins : ℕ

@@ -10,6 +10,7 @@ pub mod Lists
 pub mod Recalls
 pub mod Runs
 pub mod Sound
+pub mod StepsLeft
 pub mod Stock
 pub mod Sums
 pub mod Superblocks

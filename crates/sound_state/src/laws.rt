@@ -11,6 +11,7 @@ ghost use Rattle.sound_state.specs.Runs.{Call, Begins, Move, Reaches};
 ghost use Rattle.sound_state.specs.Sound.{IsSound, IsSoundWithoutCounts, TellsCounted};
 
 pub mod consequences;
+pub mod endings;
 pub mod wins;
 
 /// A state before the first step is sound: every frame is free, every descriptor available, and

@@ -1,7 +1,6 @@
 -- What the code of a step makes is the step.
-use Rattle.std.proofs.Common.{ℕ, ◌≡◌, ◌≢◌, ◌<◌, refl, arith, ap, sym, ◌∙◌, subst, List, Option, Some, length, slice_index_or, slice_set, Bool, true, false}
+use Rattle.std.proofs.Common.{ℕ, ◌≡◌, ◌≢◌, ◌<◌, refl, arith, ap, sym, ◌∙◌, subst, List, Option, length, slice_index_or, slice_set, Bool, true, false}
 use Rattle.heap_geometry.specs.declared.geometry.Geometry.{Geometry}
-use Rattle.heap_geometry.specs.Need.{need_of}
 use Rattle.word_plan.specs.declared.action.Action.{Action}
 use Rattle.word_plan.specs.declared.action.Found.{Found}
 use Rattle.word_plan.specs.declared.name.WordName.{WordName}
@@ -10,19 +9,18 @@ use Rattle.word_plan.specs.Table.{Exists, word_index}
 use Rattle.word_plan.specs.Words.{word_in}
 use Rattle.word_plan.proofs.TableLemmas.{word_index-within}
 use Rattle.pool_model.specs.declared.event.Event.{Event}
-use Rattle.pool_model.specs.declared.event.Event.TheVariants.{Alloc}
 use Rattle.errand_steps.specs.declared.next.Next.{Next}
 use Rattle.errand_steps.specs.declared.next.Next.TheVariants.{At, End, Turn, Retire, Pick, Unlist}
 use Rattle.errand_steps.specs.declared.reply.Progress.{Progress}
 use Rattle.errand_steps.specs.declared.reply.Progress.TheVariants as progress
-use Rattle.errand_steps.specs.Begins.{IsBusy, IsHeapBlock}
+use Rattle.errand_steps.specs.Begins.{IsBusy}
 use Rattle.errand_steps.specs.Errands.{ErrandFields, one_more, plan_of, settle_of, course_of, answer_of, going_on, told}
 use Rattle.errand_steps.specs.Events.{event_of}
+use Rattle.sound_state.specs.Sound.{IsOwnErrand}
 use Rattle.step_core.specs.declared.machine.NextStep.{NextStep}
-use Rattle.step_core.specs.Cores.{CoreFields, IsCore, IsErrandOf, errand_at}
-use Rattle.errand_steps.specs.Steps.{name_at, action_at, word_at, found_at, event_at, with_event, Step}
-use Rattle.step_core.specs.Steps.{state_of, stepped, IsNext, IsStepped}
-use Rattle.step_core.proofs.BlockLemmas.{Gives}
+use Rattle.step_core.specs.Cores.{CoreFields, IsCore, errand_at, state_of}
+use Rattle.errand_steps.specs.Steps.{name_at, action_at, word_at, found_at, with_event, Step}
+use Rattle.step_core.specs.Steps.{stepped, IsNext, IsStepped}
 use Rattle.step_core.proofs.CoreLemmas.{errand-own, errand-read}
 use Rattle.step_core.proofs.StepLemmas.{core-stepped, step-stepped}
 
@@ -52,11 +50,10 @@ pub next-made :
     → index ≡ word_index c.geometry name → word ≡ after_action action (word_in value.geometry value.words name)
     → found ≡ found_by action (word_in value.geometry value.words name) → answer ≡ answer_of x found
     → event ≡ event_of x.caller x.point found
-    → ((caller need place : ℕ) → event ≡ Some (Alloc caller need place) → IsHeapBlock x.geometry place (need_of need))
     → IsNext value who (record { index = index; word = word; found = found; progress = answer; event = event })
-next-made c value who x action name index word found answer event core view below read is_action is is_name is_index is_word is_found answers is_event given =
+next-made c value who x action name index word found answer event core view below read is_action is is_name is_index is_word is_found answers is_event =
     let here : x ≡ errand_at value.errands who = errand-read c value who x core view below read in
-    let own : IsErrandOf c.geometry who x = errand-own c value who x core view below read in
+    let own : IsOwnErrand c.geometry who x = errand-own c value who x core view below read in
     let geometry : x.geometry ≡ value.geometry = own.geometry ∙ ap (λ (v : CoreFields). v.geometry) view in
     let action_here : action ≡ action_at (state_of value) who = is_action ∙ ap plan_of here in
     let name_here : name ≡ name_at (state_of value) who = is_name ∙ ap name_of action_here in
@@ -65,7 +62,6 @@ next-made c value who x action name index word found answer event core view belo
     is_found ∙ (ap (λ n. found_by action (w n)) name_here ∙ ap (λ a. found_by a (word_at (state_of value) who)) action_here) in
     let G : Geometry → Type 0 = λ g. Exists g (name_of action) in
     let A : Action → Type 0 = λ a. Exists value.geometry (name_of a) in
-    let H : Geometry → ℕ → ℕ → Type 0 = λ g place need. IsHeapBlock g place (need_of need) in
     record {
       there = subst A action_here (subst G geometry is);
       index = is_index ∙ (ap (λ (v : CoreFields). word_index v.geometry name) view ∙ ap (word_index value.geometry) name_here);
@@ -75,7 +71,6 @@ next-made c value who x action name index word found answer event core view belo
           is_event
           ∙ (ap (λ k. event_of k x.point found) own.caller
           ∙ (ap (λ (z : ErrandFields). event_of who z.point found) here ∙ ap (event_of who (errand_at value.errands who).point) found_here));
-      given = λ caller need place told. let P : Geometry → Type 0 = λ g. H g place need in subst P geometry (given caller need place told);
       progress = answers ∙ (ap (λ z. answer_of z found) here ∙ ap (answer_of (errand_at value.errands who)) found_here);
     }
 
@@ -126,14 +121,12 @@ step-made c value who n x e events steps core view below busy next read is_erran
       steps = steps;
     } in
     let exact : after ≡ stepped c who = made-stepped c who n x e events steps next' here is_errand are_events are_steps in
-    let gives : (event : Event) → event_at (state_of c) who ≡ Some event → Gives c.geometry event =
-    λ event told caller need place same. next'.given caller need place (next'.event ∙ (told ∙ ap Some same)) in
     let K : CoreFields → Type 0 = IsCore in
     let S : CoreFields → Type 0 = λ v. Step (state_of c) who (state_of v) in
     let T : CoreFields → Type 0 = λ v. IsKeptStep v who n.progress after in
     subst T view
     (record {
-      core = subst K (sym exact) (core-stepped c who core below' gives);
+      core = subst K (sym exact) (core-stepped c who core below' (subst B (sym view) busy) next'.there);
       is = record {
         step = subst S (sym exact) (step-stepped c who core below' (subst B (sym view) busy) next'.there);
         exact = exact;

@@ -1,21 +1,29 @@
 -- The words and the errands of a machine that has made no step, one after the other.
-use Rattle.std.proofs.Common.{ℕ, ◌≡◌, ◌<◌, ◌+◌, refl, arith, ap, sym, ◌∙◌, subst, List, [], ◌∷◌, ◌++◌, length, slice_index_or, ⊎_elim}
+use Rattle.std.proofs.Common.{ℕ, ◌≡◌, ◌<◌, ◌+◌, refl, arith, ap, sym, ◌∙◌, subst, List, [], ◌∷◌, ◌++◌, length, slice_index_or, Option, Some, None, inl, inr, ⊎_elim}
+use Rattle.std.specs.Prelude.{IfSome, if◌then◌else◌}
+use Rattle.heap_geometry.specs.declared.limits.TheConstants.{CLASSES}
 use Rattle.std.proofs.Math.ListN.{get_or-append}
 use Rattle.std.proofs.Math.Seq.{get_or-append_seam}
-use Rattle.std.proofs.lemmas.Bool.{cases_eq}
-use Rattle.std.proofs.lemmas.List.Elements.{All-nil}
+use Rattle.std.proofs.lemmas.Bool.{cases_eq, cases_Bool, cond-true}
 use Rattle.std.proofs.Common.{length-append}
 use Rattle.heap_geometry.specs.declared.geometry.Geometry.{Geometry}
 use Rattle.heap_geometry.specs.Geometry.{IsChecked}
 use Rattle.word_plan.specs.Counts.{descriptor_count, word_count}
-use Rattle.word_plan.specs.Table.{Exists, word_index, word_name}
+use Rattle.word_plan.specs.Table.{Exists, exists, word_index, word_name}
 use Rattle.word_plan.specs.Words.{word_in}
 use Rattle.word_plan.proofs.TableLemmas.{word_index-within, word_name-word_index}
+use Rattle.word_plan.proofs.NameLemmas.{true-Exists}
 use Rattle.word_plan.proofs.WordLemmas.{word_in-there}
 use Rattle.word_plan.specs.declared.name.WordName.{WordName}
 use Rattle.errand_steps.specs.Errands.{ErrandFields, open_errand}
-use Rattle.step_core.specs.Cores.{IsCore, IsErrandOf, no_errand}
+use Rattle.errand_steps.specs.Openings.{opening, installed, IsOpening}
+use Rattle.sound_state.specs.Wins.{no_wins}
+use Rattle.sound_state.proofs.beginnings.InstalledLemmas.{installed-sound}
+use Rattle.sound_state.proofs.beginnings.OpeningLemmas.{opening-sound}
+use Rattle.sound_state.proofs.wins.FirstWins.{first-won}
+use Rattle.step_core.specs.Cores.{IsCore, no_errand, state_of}
 use Rattle.step_core.specs.Firsts.{AreErrands, IsTable}
+use Rattle.step_core.specs.Openings.{first_words}
 
 -- what holds of each element so far and of one more
 each-push :
@@ -60,20 +68,49 @@ table-words g first words table name is =
     word_in-there g words name is
     ∙ (table.each (word_index g name) (word_index-within g name is) ∙ ap first (word_name-word_index g name is))
 
+-- the words of a whole table are those at opening
+table-opening :
+    (g : Geometry) (first : WordName → ℕ) (words : List ℕ) (name : WordName) → IsTable g first (word_count g) words
+    → word_in g words name ≡ (if exists g name then first name else 0)
+unfolding word_in
+table-opening g first words name table =
+    elim (cases_Bool (exists g name)) [
+      | inl is ↦
+          table-words g first words table name (true-Exists g name is) ∙ sym (cond-true {A = ℕ} (exists g name) (first name) 0 is)
+      | inr isnt ↦ rw isnt refl
+    ]
+
+-- such a machine is one before its first step
+pub core-opening :
+    (g : Geometry) (first : WordName → ℕ) (words : List ℕ) (errands : List ErrandFields) (steps : ℕ)
+    → IsTable g first (word_count g) words → AreErrands g g.callers errands
+    → IsOpening g first (state_of (record { geometry = g; words = words; errands = errands; events = []; steps = steps }))
+core-opening g first words errands steps table are = record {
+  word = λ name. table-opening g first words name table;
+  errand = are.each;
+  history = refl;
+}
+
 -- the rule of a machine that has made no step
 pub core-opened :
-    (g : Geometry) (first : WordName → ℕ) (words : List ℕ) (errands : List ErrandFields) (steps : ℕ) → IsChecked g
-    → IsTable g first (word_count g) words → AreErrands g g.callers errands
+    (g : Geometry) (installed : Option ℕ) (words : List ℕ) (errands : List ErrandFields) (steps : ℕ) → IsChecked g
+    → IfSome installed (λ class. class < CLASSES) → IsTable g (first_words g installed) (word_count g) words → AreErrands g g.callers errands
     → IsCore (record { geometry = g; words = words; errands = errands; events = []; steps = steps })
-core-opened g first words errands steps checked table are =
+core-opened g None words errands steps checked has table are =
+    let first = core-opening g (opening g) words errands steps table are in
     record {
-      checked = checked;
       words = table.all;
       errands = are.all;
-      own = λ who below.
-          let P : ErrandFields → Type 0 = IsErrandOf g who in
-          subst P (sym (are.each who below)) (record { caller = refl; geometry = refl });
-      blocks = All-nil _;
+      sound = opening-sound g _ checked first;
+      won = (no_wins, first-won g (opening g) _ first);
+    }
+core-opened g (Some class) words errands steps checked has table are =
+    let first = core-opening g (installed g class) words errands steps table are in
+    record {
+      words = table.all;
+      errands = are.all;
+      sound = installed-sound g class _ checked has first;
+      won = (no_wins, first-won g (installed g class) _ first);
     }
 
 -- a heap has descriptors

@@ -1,4 +1,3 @@
-pub mod BlockLemmas
 pub mod CoreLemmas
 pub mod StepLemmas
 pub mod FirstLemmas

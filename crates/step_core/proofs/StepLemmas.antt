@@ -1,29 +1,20 @@
 -- A step of the lists is a step of the state; steps are determined; and runs follow one another.
-use Rattle.std.proofs.Common.{ℕ, zero, suc, take, ◌≡◌, ◌<◌, ◌+◌, refl, arith, ap, sym, ◌∙◌, subst, List, Some, [], ◌∷◌, ◌++◌, length, inl, inr, slice_index, slice_set}
+use Rattle.std.proofs.Common.{ℕ, zero, suc, take, ◌≡◌, ◌<◌, ◌+◌, refl, arith, ap, sym, ◌∙◌, subst, List, [], ◌∷◌, ◌++◌, length, inl, inr, slice_index}
 use Rattle.std.proofs.lemmas.Bool.{cases_eq}
-use Rattle.std.proofs.lemmas.List.{get_or-set_same, get_or-set_other, length-set, take_more}
+use Rattle.std.proofs.lemmas.List.{length-set, take_more}
 use Rattle.word_plan.specs.declared.name.WordName.{WordName}
 use Rattle.word_plan.specs.Table.{Exists}
 use Rattle.word_plan.proofs.NameLemmas.{cases_name}
 use Rattle.word_plan.proofs.WordLemmas.{Writes-set}
-use Rattle.pool_model.specs.declared.event.Event.{Event}
 use Rattle.errand_steps.specs.Begins.{IsBusy}
-use Rattle.errand_steps.specs.Errands.{ErrandFields, one_more, settle_of}
-use Rattle.step_core.specs.Cores.{CoreFields, IsCore, IsErrandOf, errand_at, no_errand}
-use Rattle.errand_steps.specs.Steps.{State, Moves, Step, Turn, Run, IsSame, name_at, event_at}
-use Rattle.step_core.specs.Steps.{state_of, stepped, counted}
-use Rattle.step_core.proofs.BlockLemmas.{Gives, blocks-after}
-use Rattle.step_core.proofs.CoreLemmas.{own-set}
-
--- a write to the list of errands moves one of them
-pub moves-set :
-    (errands : List ErrandFields) (who : ℕ) (e : ErrandFields) → who < length errands
-    → Moves (errand_at errands) who e (errand_at (slice_set errands who e))
-moves-set errands who e within =
-    record {
-      here = get_or-set_same errands who e no_errand within;
-      elsewhere = λ other differ. get_or-set_other errands who other e no_errand differ;
-    }
+use Rattle.errand_steps.specs.Errands.{one_more}
+use Rattle.step_core.specs.Cores.{CoreFields, IsCore, errand_at, state_of}
+use Rattle.errand_steps.specs.Steps.{State, Step, Turn, Run, IsSame, name_at}
+use Rattle.step_core.specs.Steps.{stepped, counted}
+use Rattle.sound_state.specs.Wins.{wins_after}
+use Rattle.sound_state.proofs.CountedLemmas.{without-counts, steps-counted}
+use Rattle.sound_state.proofs.wins.WonSteps.{steps-won}
+use Rattle.step_core.proofs.CoreLemmas.{moves-set}
 
 -- what a step makes of the lists is a step of the state
 pub step-stepped :
@@ -38,21 +29,30 @@ step-stepped c who core below busy is =
       history = refl;
     }
 
--- the rule is kept by a step whose event gives a block of the heap
+-- the lists stay as long
+lists-stepped :
+    (c : CoreFields) (who : ℕ) → (length (stepped c who).words ≡ length c.words) × (length (stepped c who).errands ≡ length c.errands)
+unfolding stepped
+lists-stepped c who = (length-set c.words _ _, length-set c.errands who _)
+
+-- the rule is kept by a step
 pub core-stepped :
-    (c : CoreFields) (who : ℕ) → IsCore c → who < c.geometry.callers
-    → ((event : Event) → event_at (state_of c) who ≡ Some event → Gives c.geometry event) → IsCore (stepped c who)
-unfolding stepped settle_of
-core-stepped c who core below gives =
-    let own : IsErrandOf c.geometry who (errand_at c.errands who) = core.own who below in
+    (c : CoreFields) (who : ℕ) → IsCore c → who < c.geometry.callers → IsBusy (errand_at c.errands who)
+    → Exists c.geometry (name_at (state_of c) who) → IsCore (stepped c who)
+unfolding stepped
+core-stepped c who core below busy is =
+    let before = state_of c in
+    let after = state_of (stepped c who) in
+    let step : Step before who after = step-stepped c who core below busy is in
+    let lists = lists-stepped c who in
     record {
-      checked = core.checked;
-      words = length-set c.words _ _ ∙ core.words;
-      errands = length-set c.errands who _ ∙ core.errands;
-      own =
-          own-set c.geometry c.errands who _ (omega (arith, core.errands))
-          (record { caller = own.caller; geometry = own.geometry }) core.own;
-      blocks = blocks-after c.geometry c.events _ gives core.blocks;
+      words = lists.0 ∙ core.words;
+      errands = lists.1 ∙ core.errands;
+      sound = steps-counted c.geometry before who after core.sound below step;
+      won = (
+        wins_after before who core.won.0,
+        steps-won c.geometry before core.won.0 who after (without-counts c.geometry before core.sound) core.won.1 below step,
+      );
     }
 
 -- the word after a step

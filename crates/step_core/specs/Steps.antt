@@ -1,21 +1,13 @@
--- The machine seen as words by their names, errands by their callers and events, and its steps.
-use Rattle.std.specs.Prelude.{ℕ, zero, suc, ◌≡◌, ◌≢◌, ◌<◌, List, Some, length, take, slice_set}
-use Rattle.heap_geometry.specs.Need.{need_of}
+-- The steps of the machine.
+use Rattle.std.specs.Prelude.{ℕ, zero, suc, ◌≡◌, ◌≢◌, ◌<◌, List, length, take, slice_set}
 use Rattle.word_plan.specs.Actions.{after_action}
 use Rattle.word_plan.specs.Table.{Exists, word_index}
-use Rattle.word_plan.specs.Words.{word_in}
-use Rattle.pool_model.specs.declared.event.Event.TheVariants.{Alloc}
 use Rattle.errand_steps.specs.declared.reply.Progress.{Progress}
 use Rattle.errand_steps.specs.declared.reply.Progress.TheVariants as progress
-use Rattle.errand_steps.specs.Begins.{IsHeapBlock}
 use Rattle.errand_steps.specs.Errands.{one_more, settle_of, answer_of}
 use Rattle.errand_steps.specs.Steps.{State, Step, Run, with_event, action_at, name_at, word_at, found_at, event_at}
 use Rattle.step_core.specs.declared.machine.NextStep.{NextStep}
-use Rattle.step_core.specs.Cores.{CoreFields, errand_at}
-
--- the machine seen so
-abbrev pub state_of : CoreFields → State
-state_of c = record { word = word_in c.geometry c.words; errand = errand_at c.errands; history = c.events }
+use Rattle.step_core.specs.Cores.{CoreFields, errand_at, state_of}
 
 -- the machine after a step of a caller: the same step of the lists
 unfoldable pub stepped : CoreFields → ℕ → CoreFields
@@ -43,7 +35,6 @@ pub record IsNext (c : CoreFields) (who : ℕ) (n : NextStep) : Type 0 where
   pub word : n.word ≡ after_action (action_at (state_of c) who) (word_at (state_of c) who)
   pub found : n.found ≡ found_at (state_of c) who
   pub event : n.event ≡ event_at (state_of c) who
-  pub given : (caller need place : ℕ) → n.event ≡ Some (Alloc caller need place) → IsHeapBlock c.geometry place (need_of need)
   pub progress : n.progress ≡ answer_of (errand_at c.errands who) (found_at (state_of c) who)
 
 -- a count that has risen so many times; it stands still at its end

@@ -1,18 +1,21 @@
 //! Laws of the machine: theorems about the definitions, on functions that do nothing; and a machine
 //! to begin with whose first superblock is in use.
 
-ghost use Rattle.std.specs.Prelude.{ℕ, List, ◌≡◌, ◌<◌, ◌+◌, ◌++◌, ◌↔◌, IfOk};
+ghost use Rattle.std.specs.Prelude.{ℕ, List, ◌≡◌, ◌<◌, ◌≤◌, ◌+◌, ◌-◌, ◌*◌, ◌^◌, ◌++◌, ◌↔◌, IfOk};
 ghost use Rattle.heap_geometry.specs.Geometry.{IsChecked};
 ghost use Rattle.heap_geometry.specs.declared.limits.TheConstants.{CLASSES};
 ghost use Rattle.word_plan.specs.Actions.{name_of};
 ghost use Rattle.word_plan.specs.Table.{Exists};
 ghost use Rattle.errand_steps.specs.Begins.{IsBusy};
 ghost use Rattle.errand_steps.specs.Errands.{plan_of};
-ghost use Rattle.step_core.specs.Cores.{CoreFields, IsCore, errand_at};
+ghost use Rattle.sound_state.specs.Contention.{lost_of, won_of};
+ghost use Rattle.sound_state.specs.Sound.{IsSound};
+ghost use Rattle.sound_state.specs.Sums.{callers_sum};
+ghost use Rattle.step_core.specs.Cores.{CoreFields, IsCore, errand_at, state_of};
 ghost use Rattle.errand_steps.specs.Openings.{installed};
 ghost use Rattle.step_core.specs.Openings.{IsOpened};
 ghost use Rattle.errand_steps.specs.Steps.{State, Step, Run, IsSame};
-ghost use Rattle.step_core.specs.Steps.{state_of, stepped};
+ghost use Rattle.step_core.specs.Steps.{stepped};
 
 use crate::machine::Core;
 use heap_geometry::geometry::Geometry;
@@ -27,6 +30,17 @@ pub fn open_installed(alloc: Global, geometry: Geometry, class: u8) -> Result<Co
 {
     Core::open_with(alloc, geometry, Some(class))
 }
+
+/// What the type keeps of every machine, from its opening on and whatever its callers did: its state is
+/// sound; and its callers lost no more exchanges than they won, times the other callers, as long as no
+/// count of won ones stands at its end.
+pub fn machines_are_sound()
+    ensures sound { (c : CoreFields) → IsCore c → IsSound c.geometry (state_of c) }
+    ensures contended { (c : CoreFields) → IsCore c
+        → ((who : ℕ) → who < c.geometry.callers → (errand_at c.errands who).won < 2 ^ 64 - 1)
+        → callers_sum c.geometry lost_of (errand_at c.errands)
+        ≤ (c.geometry.callers - 1) * callers_sum c.geometry won_of (errand_at c.errands) }
+{}
 
 /// A step is determined by the state before it.
 pub fn steps_are_determined()

@@ -10,11 +10,11 @@ ghost use Rattle.word_plan.specs.Table.{Exists};
 ghost use Rattle.word_plan.specs.Words.{word_in};
 ghost use Rattle.errand_steps.specs.Begins.{IsIdle, IsBusy, alloc_begun, alloc_answer, free_begun, write_begun, read_begun, put_begun, take_begun};
 ghost use Rattle.errand_steps.specs.Points.{is_idle};
-ghost use Rattle.step_core.specs.Cores.{errand_at, with_errand, IsCore, OwnsBlock};
+ghost use Rattle.step_core.specs.Cores.{errand_at, with_errand, IsCore, OwnsBlock, state_of};
 ghost use Rattle.errand_steps.specs.Openings.{opening};
 ghost use Rattle.step_core.specs.Openings.{first_words, IsOpened};
 ghost use Rattle.errand_steps.specs.Steps.{with_event, Turn, Run};
-ghost use Rattle.step_core.specs.Steps.{state_of, IsStepped, IsNext, RunsPart, counted};
+ghost use Rattle.step_core.specs.Steps.{IsStepped, IsNext, RunsPart, counted};
 
 use crate::first::{first_errands, first_table};
 use errand_steps::errand::{Errand, answer, event, plan};
@@ -33,6 +33,9 @@ mod tests;
 
 /// The whole machine: the words of a heap, the errand of each caller, the events so far, and the
 /// number of steps. A caller is named by its number, here its seat.
+///
+/// Every machine is sound, whatever its callers did: `laws::machines_are_sound` says what its type
+/// keeps.
 #[derive(Drop)]
 pub struct Core {
     layout: Layout,
@@ -43,7 +46,7 @@ pub struct Core {
 }
 
 impl Model for Core {
-    ghost use Rattle.step_core.specs.Cores.{CoreFields, IsCore};
+    ghost use Rattle.step_core.specs.Cores.{CoreFields, IsCore, state_of};
 
     ghost Value = { CoreFields };
 

@@ -260,7 +260,7 @@ alloc-sound g s who words errands' sound has idle moves =
     (alloc-errand (s.errand who) words (sound.parts.1.errands who has).rule idle) moves
 
 -- an owned block is one of the heap's
-owned-block :
+pub owned-block :
     (g : Geometry) (s : State) (who place : ℕ) (n : Need) → IsSoundWithoutCounts g s → IsOwned s who place n → IsHeapBlock g place n
 owned-block g s who place n sound owned =
     let b = owned.block.0 in

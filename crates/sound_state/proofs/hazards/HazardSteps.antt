@@ -272,7 +272,7 @@ noted-passed g s l who seat held i o old has at room k d has_k guards listed bel
           ∙ passed-at g s l who (Desc (desc.ReadHazard seat held i) o) old has at k d has_k guards listed less
     ]
 
-noted-unread :
+pub noted-unread :
     (g : Geometry) (s : State) (l : Lists) (who : ℕ) (seat : SeatFields) (held : List ℕ) (i : ℕ) (o : Onward) → IsSoundWith g s l
     → who < g.callers → (s.errand who).point ≡ Desc (desc.ReadHazard seat held i) o → (k : ℕ) → i + 1 ≤ k
     → k < length (slice_set held i (s.word (name.Hazard i))) → slice_index (slice_set held i (s.word (name.Hazard i))) k ≡ 0

@@ -270,13 +270,13 @@ small-place g class place checked at =
     omega (arith, at.2, at.4, block-within class at.1 at.3, pow_pos (class + 1), checked.frames.1, checked.units.1)
 
 -- a live block's place and need fit a shelf's word
-shelf-fits : (g : Geometry) (n : Need) (place : ℕ) → IsChecked g → IsNeed n → IsPlaceFor g n place → IsShelfWord (shelf.Block place n)
+pub shelf-fits : (g : Geometry) (n : Need) (place : ℕ) → IsChecked g → IsNeed n → IsPlaceFor g n place → IsShelfWord (shelf.Block place n)
 shelf-fits g (need.Small class) place checked is at = (small-place g class place checked at, is)
 shelf-fits g (need.Large units) place checked is at = (omega (arith, at.1, at.2, is.0, checked.frames.1, checked.units.1), is)
 shelf-fits g need.TooLarge place checked is at = absurd at
 
 -- some block is owned so, or none
-owned-or-none :
+pub owned-or-none :
     (all pool : Pool) (k : ℕ) → Every (λ b. block_at b.place all ≡ Some b) pool
     → ((b : Block) × (block_at b.place all ≡ Some b) × (b.owner ≡ Shelf k)) ⊎ Every (λ b. b.owner ≢ Shelf k) pool
 owned-or-none all [] k found = inr tt

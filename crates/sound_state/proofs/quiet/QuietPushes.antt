@@ -161,7 +161,7 @@ excepter-owns s j place h hands frees (inr a) =
     (a.1.need, subst (λ p. IsOwned s j p a.1.need) a.4.0 (subst (λ (x : Freed). IsOwned s j x.place x.need) a.3 (frees a.0 a.1 a.2)))
 
 -- so only its owner excepts a block
-only-owner :
+pub only-owner :
     (g : Geometry) (s : State) (l : Lists) (who place : ℕ) (n : Need) → IsSoundWith g s l → IsOwned s who place n → IsExcepted g s place
     → HoldsException (holds_of (s.errand who).point) place
 only-owner g s l who place n old owned x =
@@ -180,7 +180,7 @@ small-said word d below is =
     omega (arith, reads_it.1)
 
 -- who begins to free a block excepts none
-begins-free : (seat : SeatFields) (frame i : ℕ) (o : Onward) (place : ℕ) → HoldsException (holds_of (Block (block.LoadPrefix seat frame i) o)) place → ⊥
+pub begins-free : (seat : SeatFields) (frame i : ℕ) (o : Onward) (place : ℕ) → HoldsException (holds_of (Block (block.LoadPrefix seat frame i) o)) place → ⊥
 unfolding holds_of
 begins-free seat frame i o place (inl a) = any-none (λ (b : Handed). b.place ≡ place) a
 begins-free seat frame i o place (inr a) =
@@ -190,7 +190,7 @@ begins-free seat frame i o place (inr a) =
     let bad : IsTrue false = end.1 in cc
 
 -- and owns the block
-begins-owned :
+pub begins-owned :
     (g : Geometry) (s : State) (l : Lists) (who : ℕ) (seat : SeatFields) (frame i : ℕ) (o : Onward) → IsSoundWith g s l → who < g.callers
     → (s.errand who).point ≡ Block (block.LoadPrefix seat frame i) o
     → IsOwned s who (block_place frame seat.class i) (need.Small seat.class)

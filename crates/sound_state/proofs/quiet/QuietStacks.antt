@@ -54,7 +54,7 @@ top-listed next top (x ∷ xs) stack some =
     omega (arith, cond-true {A = ℕ} (x == top - 1) 1 0 (eq-eqb x (top - 1) here))
 
 -- and exists where the list's indexes do
-top-exists :
+pub top-exists :
     (next : ℕ → ℕ) (top limit : ℕ) (xs : List ℕ) → Stacked next top xs → All (λ i. i < limit) xs → top ≤ limit
 top-exists next top limit [] stack exist = omega (arith, stack)
 top-exists next top limit (x ∷ xs) stack exist = omega (arith, stack.0, All-head (λ i. i < limit) x xs exist)

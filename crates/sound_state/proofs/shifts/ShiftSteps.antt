@@ -346,7 +346,7 @@ grant-ways x class false d = grind (arith)
 grant-has : (x class : ℕ) → 1 ≤ kept_places x (keep x class partly_used)
 grant-has x class = grind (arith)
 
-grant-partly : (x class : ℕ) → 1 ≤ kept_among partly_used x (keep x class partly_used)
+pub grant-partly : (x class : ℕ) → 1 ≤ kept_among partly_used x (keep x class partly_used)
 grant-partly x class = grind (arith)
 
 grant-reserves : (x class more : ℕ) → reserved_among x (before_pop x class (Grant more)).credits ≡ more + 1
@@ -385,7 +385,7 @@ granted-full a is =
     ]
 
 -- a caller that keeps a superblock partly used has its descriptor out
-granting-away :
+pub granting-away :
     (g : Geometry) (s : State) (l : Lists) (who d : ℕ) → IsSoundWith g s l → who < g.callers → d < descriptor_count g
     → 1 ≤ errand_keeps partly_used d (s.errand who) → away_of g s l d ≡ 0
 unfolding callers_sum

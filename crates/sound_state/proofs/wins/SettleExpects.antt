@@ -28,21 +28,21 @@ use Rattle.sound_state.specs.Expectations.{Expected, expects_of, onward_expects,
 use Rattle.sound_state.proofs.wins.WinDefs.{next_expects}
 
 -- whether a scan is over
-abbrev is_pick : Next → Bool
+abbrev pub is_pick : Next → Bool
 is_pick (Pick s held o) = true
 is_pick n = false
 
 -- no part but that of the descriptors has scans
-no-pick-block : (p : BlockPoint) (o : Onward) → is_pick (enter_block p o) ≡ false
+pub no-pick-block : (p : BlockPoint) (o : Onward) → is_pick (enter_block p o) ≡ false
 no-pick-block p o = grind (arith)
 
-no-pick-stack : (p : StackPoint) (o : Onward) → is_pick (enter_stack p o) ≡ false
+pub no-pick-stack : (p : StackPoint) (o : Onward) → is_pick (enter_stack p o) ≡ false
 no-pick-stack p o = grind (arith)
 
-no-pick-partial : (p : PartialPoint) (o : Onward) → is_pick (enter_partial p o) ≡ false
+pub no-pick-partial : (p : PartialPoint) (o : Onward) → is_pick (enter_partial p o) ≡ false
 no-pick-partial p o = grind (arith)
 
-no-pick-large : (p : LargePoint) (o : Onward) → is_pick (enter_large p o) ≡ false
+pub no-pick-large : (p : LargePoint) (o : Onward) → is_pick (enter_large p o) ≡ false
 no-pick-large p o = grind (arith)
 
 -- a scan that is over leaves the point where its last hazard word was read

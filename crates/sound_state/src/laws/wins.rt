@@ -1,13 +1,15 @@
 //! Laws of what callers win from each other, and of what that bounds.
 
-ghost use Rattle.std.specs.Prelude.{ℕ, List, ◌<◌};
+ghost use Rattle.std.specs.Prelude.{ℕ, List, ◌<◌, ◌≤◌, ◌-◌, ◌*◌, ◌^◌};
 ghost use Rattle.heap_geometry.specs.declared.geometry.Geometry.{Geometry};
 ghost use Rattle.heap_geometry.specs.declared.limits.TheConstants.{CLASSES};
 ghost use Rattle.heap_geometry.specs.Geometry.{IsChecked};
 ghost use Rattle.errand_steps.specs.Openings.{opening, installed, IsOpening};
 ghost use Rattle.errand_steps.specs.Steps.{State, Step};
+ghost use Rattle.sound_state.specs.Contention.{lost_of, won_of};
 ghost use Rattle.sound_state.specs.Runs.{Call, Begins, Move, Reaches};
 ghost use Rattle.sound_state.specs.Sound.{IsSound};
+ghost use Rattle.sound_state.specs.Sums.{callers_sum};
 ghost use Rattle.sound_state.specs.Wins.{Wins, no_wins, wins_after};
 ghost use Rattle.sound_state.specs.Won.{IsWon};
 
@@ -37,4 +39,12 @@ pub fn reached_states_have_wins()
         → IsOpening g (opening g) s → Reaches g s moves after → (w : Wins) × IsWon g after w }
     ensures installed { (g : Geometry) (class : ℕ) (s : State) (moves : List Move) (after : State) → IsChecked g → class < CLASSES
         → IsOpening g (installed g class) s → Reaches g s moves after → (w : Wins) × IsWon g after w }
+{}
+
+/// The exchanges that callers lost are at most those that they won, times the other callers, as long as
+/// no count of won ones stands at its end.
+pub fn losses_are_bounded()
+    ensures { (g : Geometry) (s : State) (w : Wins) → IsWon g s w
+        → ((who : ℕ) → who < g.callers → (s.errand who).won < 2 ^ 64 - 1)
+        → callers_sum g lost_of s.errand ≤ (g.callers - 1) * callers_sum g won_of s.errand }
 {}

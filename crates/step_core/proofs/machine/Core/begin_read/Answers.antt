@@ -1,6 +1,4 @@
-use Rattle.std.proofs.Common.{ap}
-use Rattle.errand_steps.specs.Begins.{read_begun}
-use Rattle.errand_steps.specs.Errands.{ErrandFields}
+use Rattle.sound_state.specs.Runs.{read}
 use Rattle.step_core.proofs.CoreLemmas.{block-begun, core-begun}
 use Rattle.step_core.proofs.machine.Core.begin_read.Goals as goal
 
@@ -10,8 +8,6 @@ begin_read-requires-clause-block c =
     c.requires.seat c.index_mut.ensures.value c.requires.owned
 
 pub invariant_of-self : goal.invariant_of-self
-unfolding read_begun
 invariant_of-self c =
-    core-begun _ c.args.self.now c.args.seat c.index_mut.result.now c.begin_read.new.self c.self.invariant c.self.view_is c.requires.seat
-    c.index_mut.ensures.value (ap (λ (e : ErrandFields). e.caller) c.begin_read.ensures)
-    (ap (λ (e : ErrandFields). e.geometry) c.begin_read.ensures)
+    core-begun _ c.args.self.now c.args.seat (read c.args.place c.args.need c.args.i) c.index_mut.result.now c.begin_read.new.self c.self.invariant
+    c.self.view_is c.requires.seat c.index_mut.ensures.value c.requires.idle (record { block = c.requires.owned }, c.requires.word) c.begin_read.ensures

@@ -1,6 +1,5 @@
-use Rattle.std.proofs.Common.{ap}
-use Rattle.errand_steps.specs.Begins.{write_begun}
-use Rattle.errand_steps.specs.Errands.{ErrandFields}
+use Rattle.std.proofs.Common.{arith}
+use Rattle.sound_state.specs.Runs.{write}
 use Rattle.step_core.proofs.CoreLemmas.{block-begun, core-begun}
 use Rattle.step_core.proofs.machine.Core.begin_write.Goals as goal
 
@@ -10,8 +9,6 @@ begin_write-requires-clause-block c =
     c.requires.seat c.index_mut.ensures.value c.requires.owned
 
 pub invariant_of-self : goal.invariant_of-self
-unfolding write_begun
 invariant_of-self c =
-    core-begun _ c.args.self.now c.args.seat c.index_mut.result.now c.begin_write.new.self c.self.invariant c.self.view_is c.requires.seat
-    c.index_mut.ensures.value (ap (λ (e : ErrandFields). e.caller) c.begin_write.ensures)
-    (ap (λ (e : ErrandFields). e.geometry) c.begin_write.ensures)
+    core-begun _ c.args.self.now c.args.seat (write c.args.place c.args.need c.args.i c.args.v) c.index_mut.result.now c.begin_write.new.self c.self.invariant
+    c.self.view_is c.requires.seat c.index_mut.ensures.value c.requires.idle (record { block = c.requires.owned }, c.requires.word, omega (arith, c.ranges.v)) c.begin_write.ensures

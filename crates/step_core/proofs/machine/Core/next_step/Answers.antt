@@ -10,4 +10,3 @@ returns c =
     c.index-errand.ensures c.plan-action.ensures.value c.plan-action.ensures.exists c.name_of-name.ensures c.index.ensures.place
     (c.apply-word.ensures.word ∙ ap (after_action c.plan-action.result) c.word.ensures)
     (c.apply-word.ensures.found ∙ ap (found_by c.plan-action.result) c.word.ensures) c.answer.ensures c.event.ensures.value
-    c.event.ensures.given

@@ -3,7 +3,7 @@ use Rattle.heap_geometry.specs.declared.geometry.Geometry.{Geometry}
 use Rattle.word_plan.specs.Counts.{word_count}
 use Rattle.step_core.specs.Firsts.{IsTable}
 use Rattle.step_core.specs.Openings.{first_words}
-use Rattle.step_core.proofs.FirstLemmas.{table-words}
+use Rattle.step_core.proofs.FirstLemmas.{core-opened, table-words}
 use Rattle.step_core.proofs.machine.Core.open_with.Goals as goal
 
 pub returns : goal.returns
@@ -17,3 +17,11 @@ returns c =
       events = c.new.ensures.items;
       steps = refl;
     }
+
+pub invariant_of-result : goal.invariant_of-result
+invariant_of-result c =
+    let T : Geometry → Type 0 = λ g. IsTable g (first_words g c.args.installed) (word_count g) c.in_ok-words.words.items in
+    let table : T c.args.geometry = subst T c.new-layout.ensures c.in_ok-words.ensures in
+    rw (c.new-layout.ensures, c.new.ensures.items)
+    (core-opened c.args.geometry c.args.installed c.in_ok-words.words.items c.in_ok-errands.errands.items 0 c.requires.checked
+    c.requires.class table c.in_ok-errands.ensures)

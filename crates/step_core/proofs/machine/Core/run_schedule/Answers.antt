@@ -1,5 +1,6 @@
 use Rattle.std.proofs.Common.{arith, ap, ◌∙◌}
-use Rattle.step_core.specs.Steps.{state_of, counted}
+use Rattle.step_core.specs.Cores.{state_of}
+use Rattle.step_core.specs.Steps.{counted}
 use Rattle.step_core.proofs.StepLemmas.{counted-add, run-next}
 use Rattle.step_core.proofs.machine.Core.run_schedule.Goals as goal
 

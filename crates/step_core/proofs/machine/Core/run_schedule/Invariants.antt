@@ -1,6 +1,7 @@
 use Rattle.std.proofs.Common.{◌≡◌, ◌≤◌, take}
 use Rattle.errand_steps.specs.Steps.{Run}
-use Rattle.step_core.specs.Steps.{state_of, counted}
+use Rattle.step_core.specs.Cores.{state_of}
+use Rattle.step_core.specs.Steps.{counted}
 use Rattle.step_core.proofs.machine.Core.run_schedule.Given as goal
 
 abbrev pub invariant-loop-seat : goal.invariant-loop-seat

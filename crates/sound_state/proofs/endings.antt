@@ -1,0 +1,10 @@
+pub mod BlockFinds
+pub mod BlockLeft
+pub mod DescLeft
+pub mod LargeLeft
+pub mod LeftDefs
+pub mod LeftMost
+pub mod LeftSteps
+pub mod PartialLeft
+pub mod SettleLeft
+pub mod StackLeft

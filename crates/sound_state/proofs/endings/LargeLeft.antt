@@ -1,0 +1,154 @@
+-- At a large block, a usable word or a shelf each step is lost or leaves fewer steps to do.
+use Rattle.std.proofs.Common.{ℕ, false, Some, ◌≡◌, ◌≢◌, ◌<◌, ◌+◌, ◌*◌, [], refl, arith, subst, inl, inr}
+use Rattle.std.specs.Prelude.{IsTrue, IsSome}
+use Rattle.std.proofs.lemmas.Bool.{true≢false}
+use Rattle.std.proofs.lemmas.List.Elements.{All-head}
+use Rattle.heap_geometry.specs.declared.geometry.Geometry.{Geometry}
+use Rattle.heap_geometry.specs.declared.limits.TheConstants.{MAX_UNITS, SHELVES}
+use Rattle.heap_geometry.specs.declared.need.Need.{Need}
+use Rattle.heap_geometry.specs.declared.need.Need.TheVariants as need
+use Rattle.heap_geometry.specs.Geometry.{IsWithin}
+use Rattle.packed_words.specs.declared.prefix.Prefix.TheVariants as prefix
+use Rattle.packed_words.specs.declared.shelf.ShelfWord.TheVariants as shelf
+use Rattle.packed_words.specs.Prefix.{prefix_word, prefix_of}
+use Rattle.packed_words.specs.Shelf.{IsShelfWord, shelf_of}
+use Rattle.packed_words.proofs.ExactLemmas.{back}
+use Rattle.packed_words.proofs.PrefixLemmas.{prefix-exact}
+use Rattle.packed_words.proofs.ShelfLemmas.{shelf-exact}
+use Rattle.word_plan.specs.declared.name.WordName.TheVariants as name
+use Rattle.large_parts.specs.declared.point.LargePoint.{LargePoint}
+use Rattle.large_parts.specs.declared.point.LargePoint.TheVariants as large
+use Rattle.large_parts.specs.Runs.{WantFields, RunFields}
+use Rattle.pool_model.specs.declared.owner.Owner.TheVariants.{Shelf}
+use Rattle.pool_model.specs.Pool.{Block, pool_of}
+use Rattle.pool_model.specs.WellFormed.{IsWellFormed}
+use Rattle.pool_model.proofs.PoolLemmas.{every-each, every-found}
+use Rattle.pool_model.proofs.WellFormedLemmas.{sound-of, sound-differ, found-itself}
+use Rattle.errand_steps.specs.declared.onward.Onward.{Onward}
+use Rattle.errand_steps.specs.declared.point.Point.{Point}
+use Rattle.errand_steps.specs.declared.point.Point.TheVariants.{Large}
+use Rattle.errand_steps.specs.Nexts.{next_of}
+use Rattle.errand_steps.specs.Points.{plan_point_of}
+use Rattle.errand_steps.specs.Steps.{State}
+use Rattle.sound_state.specs.Holdings.{Handed, Freed, holds_of}
+use Rattle.sound_state.specs.Lists.{Lists}
+use Rattle.sound_state.specs.Recalls.{IsOwned}
+use Rattle.sound_state.specs.Sound.{IsSoundWithoutCounts, IsSoundWith}
+use Rattle.sound_state.specs.StepsLeft.{steps_left}
+use Rattle.sound_state.proofs.endings.LeftDefs.{LessAt, LeavesLess}
+use Rattle.sound_state.proofs.large.TouchShelves.{owned-or-none, shelf-fits}
+use Rattle.sound_state.proofs.quiet.QuietPushes.{any-none, any-one, only-owner}
+use Rattle.sound_state.proofs.shared.PointLemmas.{fits-at, frees-at}
+use Rattle.sound_state.proofs.shared.StepLemmas.{HoldsException}
+
+-- a free run is taken, or that is lost
+take-less : (g : Geometry) (w : WantFields) (bits : ℕ) (o : Onward) (v : ℕ) → LessAt g (Large (large.TakeRun w bits) o) v
+unfolding plan_point_of next_of steps_left
+take-less g w bits o v = grind (arith)
+
+-- the prefix word of a freed run says that it is one
+prefix-less :
+    (g : Geometry) (place : ℕ) (run : RunFields) (o : Onward) (v units : ℕ) → prefix_of v ≡ Some (prefix.Large units)
+    → LessAt g (Large (large.LoadRunPrefix place run) o) v
+unfolding plan_point_of next_of steps_left
+prefix-less g place run o v units is = grind (arith, is)
+
+-- a put ends its call, whether it finds the shelf empty or not
+put-less :
+    (g : Geometry) (k place : ℕ) (n : Need) (o : Onward) (v : ℕ) → LessAt g (Large (large.PutBlock k place n) o) v
+unfolding plan_point_of next_of steps_left
+put-less g k place n o v = grind (arith)
+
+-- a shelf's word says what lies there
+shelf-less : (g : Geometry) (k : ℕ) (o : Onward) (v : ℕ) → IsSome (shelf_of v) → LessAt g (Large (large.LoadShelf k) o) v
+unfolding plan_point_of next_of steps_left
+shelf-less g k o v is = grind (arith, is)
+
+-- a take ends its call, whether it finds the block there or not
+got-less :
+    (g : Geometry) (k place : ℕ) (n : Need) (o : Onward) (v : ℕ) → LessAt g (Large (large.TakeBlock k place n) o) v
+unfolding plan_point_of next_of steps_left
+got-less g k place n o v = grind (arith)
+
+-- so does the look at a shelf on which nothing lies
+nothing-less : (g : Geometry) (k : ℕ) (o : Onward) (v : ℕ) → LessAt g (Large (large.ConfirmNothing k) o) v
+unfolding plan_point_of next_of steps_left
+nothing-less g k o v = grind (arith)
+
+-- who begins to free a run excepts no block
+run-excepts :
+    (place : ℕ) (run : RunFields) (o : Onward) (p : ℕ) → HoldsException (holds_of (Large (large.LoadRunPrefix place run) o)) p → ⊥
+unfolding holds_of
+run-excepts place run o p (inl a) = any-none (λ (b : Handed). b.place ≡ p) a
+run-excepts place run o p (inr a) =
+    let end : (place ≡ p) × IsTrue false =
+    any-one (λ (b : Freed). (b.place ≡ p) × IsTrue b.overwritten)
+    (record { place = place; need = need.Large run.units; overwritten = false }) a in
+    let bad : IsTrue false = end.1 in absurd (cc)
+
+-- a large prefix word says how many units the run has
+run-word : (word units : ℕ) → IsWithin 1 MAX_UNITS units → word ≡ 2 * units + 1 → prefix_of word ≡ Some (prefix.Large units)
+unfolding prefix_word
+run-word word units fit is = back prefix-exact word (prefix.Large units) fit (omega (arith, is))
+
+-- so the prefix word of a run that is freed says that it is one
+run-said :
+    (g : Geometry) (s : State) (l : Lists) (who place : ℕ) (run : RunFields) (o : Onward) → IsSoundWith g s l → who < g.callers
+    → (s.errand who).point ≡ Large (large.LoadRunPrefix place run) o → prefix_of (s.word (name.Arena place)) ≡ Some (prefix.Large run.units)
+unfolding holds_of
+run-said g s l who place run o old has at =
+    let p : Point = Large (large.LoadRunPrefix place run) o in
+    let fit = fits-at g s l who p old has at in
+    let within : IsWithin 1 MAX_UNITS run.units = (fit.point.run.some, omega (arith, fit.point.run.within)) in
+    let owned : IsOwned s who place (need.Large run.units) =
+    All-head (λ x. IsOwned s who x.place x.need) (record { place = place; need = need.Large run.units; overwritten = false }) []
+    (frees-at g s l who p old has at) in
+    elim (old.tied.large place run.units owned.block.0 owned.block.1 owned.block.3) [
+      | inl x ↦
+          absurd
+          (run-excepts place run o place
+          (subst (λ q. HoldsException (holds_of q) place) at (only-owner g s l who place (need.Large run.units) old owned x)))
+      | inr is ↦ run-word (s.word (name.Arena place)) run.units within is
+    ]
+
+-- a shelf's word is that of a block, or that of none
+shelf-said :
+    (g : Geometry) (s : State) (l : Lists) (k : ℕ) → IsSoundWithoutCounts g s → IsSoundWith g s l → k < SHELVES
+    → IsSome (shelf_of (s.word (name.Shelf k)))
+shelf-said g s l k sound old has =
+    let pool = sound-of g s.history sound.legal in
+    elim (owned-or-none (pool_of s.history) (pool_of s.history) k (found-itself (pool_of s.history) (sound-differ g (pool_of s.history) pool))) [
+      | inl one ↦
+          let b : Block = one.0 in
+          let formed : IsWellFormed g b = every-found (IsWellFormed g) b.place (pool_of s.history) b pool.each one.1 in
+          let fit : IsShelfWord (shelf.Block b.place b.need) = shelf-fits g b.need b.place sound.checked formed.need formed.place in
+          let is = back shelf-exact (s.word (name.Shelf k)) (shelf.Block b.place b.need) fit (old.tied.shelved k b.place b has one.1 one.2) in
+          rw is refl
+      | inr none ↦
+          let is =
+          back shelf-exact (s.word (name.Shelf k)) shelf.Nothing tt
+          (old.tied.bare_shelf k has (λ p b live on. every-each (λ x. x.owner ≢ Shelf k) (pool_of s.history) none p b live on)) in
+          rw is refl
+    ]
+
+-- in a sound state each step at a large block, a usable word or a shelf is lost or leaves less to do
+pub large-leaves :
+    (g : Geometry) (s : State) (who : ℕ) (p : LargePoint) (o : Onward) → IsSoundWithoutCounts g s → who < g.callers
+    → (s.errand who).point ≡ Large p o → LeavesLess g s (Large p o)
+unfolding plan_point_of next_of steps_left
+large-leaves g s who (large.LoadUnits w) o sound has at = inr (inr (omega arith))
+large-leaves g s who (large.TakeRun w bits) o sound has at = take-less g w bits o (s.word name.Units)
+large-leaves g s who (large.StoreRunPrefix place run) o sound has at = inr (inr (omega arith))
+large-leaves g s who (large.LoadRunPrefix place run) o sound has at =
+    prefix-less g place run o (s.word (name.Arena place)) run.units (run-said g s sound.parts.0 who place run o sound.parts.1 has at)
+large-leaves g s who (large.FreeRun place run) o sound has at = inr (inr (omega arith))
+large-leaves g s who (large.StoreWord place i value) o sound has at = inr (inr (omega arith))
+large-leaves g s who (large.LoadWord place i) o sound has at = inr (inr (omega arith))
+large-leaves g s who (large.PutBlock k place n) o sound has at = put-less g k place n o (s.word (name.Shelf k))
+large-leaves g s who (large.LoadShelf k) o sound has at =
+    let fit = fits-at g s sound.parts.0 who (Large (large.LoadShelf k) o) sound.parts.1 has at in
+    shelf-less g k o (s.word (name.Shelf k)) (shelf-said g s sound.parts.0 k sound sound.parts.1 fit.point)
+large-leaves g s who (large.TakeBlock k place n) o sound has at = got-less g k place n o (s.word (name.Shelf k))
+large-leaves g s who (large.ConfirmNothing k) o sound has at = nothing-less g k o (s.word (name.Shelf k))
+large-leaves g s who p o sound has at =
+    let fit = fits-at g s sound.parts.0 who (Large p o) sound.parts.1 has at in absurd (true≢false fit.inside)

@@ -1,0 +1,105 @@
+-- No point leaves more steps than a call makes between two lost exchanges.
+use Rattle.std.proofs.Common.{ℕ, ◌≤◌, arith}
+use Rattle.heap_geometry.specs.declared.geometry.Geometry.{Geometry}
+use Rattle.heap_geometry.specs.declared.limits.TheConstants.{CALL_STEPS}
+use Rattle.heap_geometry.specs.Geometry.{IsChecked}
+use Rattle.word_plan.specs.Seats.{SeatFields}
+use Rattle.word_plan.proofs.SeatLemmas.{block_count_of-most}
+use Rattle.superblock_parts.specs.declared.point.BlockPoint.{BlockPoint}
+use Rattle.superblock_parts.specs.declared.point.BlockPoint.TheVariants as block
+use Rattle.stack_parts.specs.declared.point.StackPoint.{StackPoint}
+use Rattle.stack_parts.specs.declared.point.StackPoint.TheVariants as stack
+use Rattle.hazard_parts.specs.declared.point.DescPoint.{DescPoint}
+use Rattle.hazard_parts.specs.declared.point.DescPoint.TheVariants as desc
+use Rattle.partial_parts.specs.declared.point.PartialPoint.{PartialPoint}
+use Rattle.partial_parts.specs.declared.point.PartialPoint.TheVariants as partial
+use Rattle.large_parts.specs.declared.point.LargePoint.{LargePoint}
+use Rattle.errand_steps.specs.declared.onward.Onward.{Onward}
+use Rattle.errand_steps.specs.declared.point.Point.{Point}
+use Rattle.errand_steps.specs.declared.point.Point.TheVariants.{Idle, Block, Stack, Desc, Partial, Large}
+use Rattle.errand_steps.specs.Fits.{FitsPoint}
+use Rattle.sound_state.specs.StepsLeft.{steps_left, scan_left, active_left, resumed_left, put_left, top_left, cleared_left, listed_left, block_left, stack_left, desc_point_left, partial_left, large_left}
+
+-- from the active word on a call makes no more steps than in the largest heap, with the most blocks to link
+active-most : (g : Geometry) (s : SeatFields) → IsChecked g → active_left g s ≤ 1061
+active-most g s checked = omega (arith, checked, block_count_of-most s.class)
+
+-- a scan of the largest heap
+scan-most : (g : Geometry) → IsChecked g → scan_left g ≤ 19
+scan-most g checked = omega (arith, checked)
+
+-- what follows a retirement
+resumed-most : (g : Geometry) (s : SeatFields) (o : Onward) → IsChecked g → resumed_left g s o ≤ 1061
+resumed-most g s o checked = grind (arith, active-most g s checked)
+
+-- what follows when something is put away
+put-most : (g : Geometry) (s : SeatFields) (o : Onward) → IsChecked g → put_left g s o ≤ 1080
+put-most g s o checked = grind (arith, active-most g s checked, scan-most g checked)
+
+-- from the top of a stack on
+top-most : (g : Geometry) (s : SeatFields) (o : Onward) → IsChecked g → top_left g s o ≤ 1061
+top-most g s o checked = grind (arith, active-most g s checked, scan-most g checked)
+
+-- in a superblock
+block-most : (g : Geometry) (p : BlockPoint) → IsChecked g → block_left g p ≤ 1061
+block-most g (block.LoadActive s) checked = active-most g s checked
+block-most g (block.LinkBlock at i) checked = omega (arith, block_count_of-most at.seat.class)
+block-most g p checked = omega (arith, scan-most g checked)
+
+-- at a stack
+stack-most : (g : Geometry) (p : StackPoint) (o : Onward) → IsChecked g → stack_left g p o ≤ 1083
+stack-most g (stack.LoadTop s pile) o checked = omega (arith, top-most g s o checked)
+stack-most g (stack.LoadBelow s pile h) o checked = omega (arith, top-most g s o checked)
+stack-most g (stack.PopTop s pile h below) o checked = omega (arith, top-most g s o checked)
+stack-most g (stack.ConfirmEmpty s pile h) o checked = omega (arith, top-most g s o checked)
+stack-most g (stack.LoadTopToPush s pile i) o checked = omega (arith, put-most g s o checked)
+stack-most g (stack.StoreBelow s pile i h) o checked = omega (arith, put-most g s o checked)
+stack-most g (stack.PushTop s pile i h) o checked = omega (arith, put-most g s o checked)
+stack-most g p o checked = omega arith
+
+-- where a hazard word is cleared
+cleared-most : (g : Geometry) (o : Onward) → IsChecked g → cleared_left g o ≤ 33
+cleared-most g o checked = grind (arith, scan-most g checked)
+
+-- at the descriptors or the hazard words
+desc-most : (g : Geometry) (p : DescPoint) (o : Onward) → IsChecked g → desc_point_left g p o ≤ 1080
+desc-most g (desc.LoadDescHead s) o checked = omega (arith, active-most g s checked)
+desc-most g (desc.StoreHazard s d) o checked = omega (arith, active-most g s checked)
+desc-most g (desc.ReloadDescHead s d) o checked = omega (arith, active-most g s checked)
+desc-most g (desc.LoadNextDesc s d) o checked = omega (arith, active-most g s checked)
+desc-most g (desc.PopDesc s d next) o checked = omega (arith, active-most g s checked)
+desc-most g (desc.ClearAfterPop s d) o checked = omega (arith, active-most g s checked)
+desc-most g (desc.ClearHazard s) o checked = omega (arith, cleared-most g o checked)
+desc-most g (desc.ReadHazard s held at) o checked = omega (arith, scan-most g checked, resumed-most g s o checked)
+desc-most g (desc.LoadHeadToPush s d) o checked = omega (arith, resumed-most g s o checked)
+desc-most g (desc.StoreNextDesc s d top) o checked = omega (arith, resumed-most g s o checked)
+desc-most g (desc.PushDesc s d top) o checked = omega (arith, resumed-most g s o checked)
+desc-most g p o checked = omega arith
+
+-- where an anchor from the list is read
+listed-most : (g : Geometry) (o : Onward) → IsChecked g → listed_left g o ≤ 30
+listed-most g o checked = grind (arith, scan-most g checked)
+
+-- at a partial superblock
+partial-most : (g : Geometry) (p : PartialPoint) (o : Onward) → IsChecked g → partial_left g p o ≤ 1085
+partial-most g (partial.LoadSlot s) o checked = omega (arith, active-most g s checked)
+partial-most g (partial.LoadOwner s d) o checked = omega (arith, put-most g s o checked)
+partial-most g (partial.PutSlot s d heap) o checked = omega (arith, put-most g s o checked)
+partial-most g (partial.LoadHeldSlot s d heap) o checked = omega (arith, scan-most g checked)
+partial-most g (partial.RemoveFromSlot s d heap) o checked = omega (arith, scan-most g checked)
+partial-most g (partial.LoadListedAnchor s d) o checked = omega (arith, listed-most g o checked)
+partial-most g p o checked = omega arith
+
+-- at a large block, a usable word or a shelf
+large-most : (p : LargePoint) → large_left p ≤ 3
+large-most p = grind arith
+
+-- at each point
+pub left-most : (g : Geometry) (who : ℕ) (p : Point) → IsChecked g → FitsPoint g who p → steps_left g p ≤ CALL_STEPS
+unfolding steps_left
+left-most g who Idle checked fits = omega arith
+left-most g who (Block p o) checked fits = omega (arith, block-most g p checked)
+left-most g who (Stack p o) checked fits = omega (arith, stack-most g p o checked)
+left-most g who (Desc p o) checked fits = omega (arith, desc-most g p o checked)
+left-most g who (Partial p o) checked fits = omega (arith, partial-most g p o checked)
+left-most g who (Large p o) checked fits = omega (arith, large-most p)

@@ -1,0 +1,131 @@
+-- What a step at a stack leaves to do.
+use Rattle.std.proofs.Common.{ℕ, Bool, true, false, ◌≡◌, ◌<◌, ◌≤◌, ◌+◌, ◌-◌, refl, arith, sym, subst, inl, inr}
+use Rattle.std.specs.Prelude.{◌⊎◌, ◌==◌, not, IsTrue, if◌then◌else◌}
+use Rattle.std.proofs.lemmas.Bool.{true≢false}
+use Rattle.heap_geometry.specs.declared.geometry.Geometry.{Geometry}
+use Rattle.packed_words.specs.Head.{HeadFields, head_word, head_of}
+use Rattle.word_plan.specs.Seats.{SeatFields}
+use Rattle.word_plan.specs.Sites.{IsSeatOf}
+use Rattle.stack_parts.specs.declared.point.Pile.{Pile}
+use Rattle.stack_parts.specs.declared.point.Pile.TheVariants.{Frames, Partials}
+use Rattle.stack_parts.specs.declared.point.StackPoint.{StackPoint}
+use Rattle.stack_parts.specs.declared.point.StackPoint.TheVariants as stack
+use Rattle.stack_parts.specs.Piles.{head_name, next_name, pile_limit}
+use Rattle.stack_parts.specs.Points.{after_top, after_below}
+use Rattle.stack_parts.specs.Stacks.{next_in}
+use Rattle.errand_steps.specs.declared.onward.Onward.{Onward}
+use Rattle.errand_steps.specs.declared.point.Point.TheVariants.{Stack}
+use Rattle.errand_steps.specs.Fits.{FitsInStack}
+use Rattle.errand_steps.specs.Nexts.{next_of, enter_stack, found_empty, popped, confirmed_empty, put_away}
+use Rattle.errand_steps.specs.Onwards.{pops, confirms, pushes}
+use Rattle.errand_steps.specs.Points.{plan_point_of}
+use Rattle.errand_steps.specs.Steps.{State}
+use Rattle.sound_state.specs.Recalls.{list_of}
+use Rattle.sound_state.specs.Sound.{IsSoundWithoutCounts}
+use Rattle.sound_state.specs.StepsLeft.{steps_left, top_left, put_left}
+use Rattle.sound_state.proofs.endings.LeftDefs.{next_left, LeavesLess}
+use Rattle.sound_state.proofs.quiet.QuietStacks.{pile-stacked, pile-exists, top-exists}
+use Rattle.sound_state.proofs.shared.PointLemmas.{fits-at}
+
+-- a stack that is read empty
+empty-less :
+    (g : Geometry) (s : SeatFields) (pile : Pile) (h : HeadFields) (o : Onward) → IsTrue (pops pile o)
+    → next_left g (found_empty s pile h o) < top_left g s o
+unfolding steps_left
+empty-less g s pile h o goes = grind (arith, goes)
+
+-- a head that is read for a pop
+top-less :
+    (g : Geometry) (s : SeatFields) (pile : Pile) (h : HeadFields) (o : Onward) → IsTrue (pops pile o) → h.top ≤ pile_limit s.geometry pile
+    → next_left g (enter_stack (after_top s pile h) o) < top_left g s o
+unfolding steps_left
+top-less g s pile h o goes most = grind (arith, goes, most, empty-less g s pile h o goes)
+
+-- the next word of the index on top
+below-less :
+    (g : Geometry) (s : SeatFields) (pile : Pile) (h : HeadFields) (below : ℕ) (o : Onward) → IsTrue (pops pile o)
+    → below ≤ pile_limit s.geometry pile → next_left g (enter_stack (after_below s pile h below) o) < top_left g s o - 1
+unfolding steps_left
+below-less g s pile h below o goes most = grind (arith, goes, most)
+
+-- an index was popped
+popped-less :
+    (g : Geometry) (s : SeatFields) (pile : Pile) (i : ℕ) (o : Onward) → IsTrue (pops pile o)
+    → next_left g (popped s i o) < top_left g s o - 2
+unfolding steps_left
+popped-less g s pile i o goes = grind (arith, goes)
+
+-- the stack is empty still
+confirmed-less :
+    (g : Geometry) (s : SeatFields) (pile : Pile) (o : Onward) → IsTrue (confirms pile o)
+    → next_left g (confirmed_empty s o) < top_left g s o - 1
+unfolding steps_left
+confirmed-less g s pile o goes = grind (arith, goes)
+
+-- what was to be put away stands there
+put-less :
+    (g : Geometry) (s : SeatFields) (pile : Pile) (o : Onward) → IsTrue (pushes pile o)
+    → next_left g (put_away s o) < put_left g s o + 1
+unfolding steps_left
+put-less g s pile o goes = grind (arith, goes)
+
+-- an exchange is lost, or has what a won one has
+pub lost-or : (Q : Bool → Type 0) (won : Bool) → Q true → (not won ≡ true) ⊎ (false ≡ true) ⊎ Q won
+lost-or Q true q = inr (inr q)
+lost-or Q false q = inl refl
+
+-- the top of a stack is an index that the heap has, or 0
+top-most :
+    (g : Geometry) (s : State) (who : ℕ) (seat : SeatFields) (pile : Pile) → IsSoundWithoutCounts g s → IsSeatOf g who seat
+    → (head_of (s.word (head_name seat pile))).top ≤ pile_limit seat.geometry pile
+top-most g s who seat pile sound is =
+    let l = sound.parts.0 in
+    let listed = sound.parts.1.listed in
+    subst (λ k. (head_of (s.word (head_name seat pile))).top ≤ pile_limit k pile) (sym is.geometry)
+    (top-exists (next_in s.word pile) (head_of (s.word (head_name seat pile))).top (pile_limit g pile) (list_of l seat pile)
+    (pile-stacked g s l seat pile listed is.class) (pile-exists g s l seat pile listed is.class))
+
+-- so is what lies below an index
+next-most :
+    (g : Geometry) (s : State) (pile : Pile) (i : ℕ) → IsSoundWithoutCounts g s → i < pile_limit g pile
+    → s.word (next_name pile i) ≤ pile_limit g pile
+next-most g s Frames i sound has = sound.parts.1.listed.frame_nexts i has
+next-most g s Partials i sound has = sound.parts.1.listed.nexts i has
+
+-- what a caller remembers at a stack exists
+stack-fits :
+    (g : Geometry) (s : State) (who : ℕ) (p : StackPoint) (o : Onward) → IsSoundWithoutCounts g s → who < g.callers
+    → (s.errand who).point ≡ Stack p o → FitsInStack g who p o
+stack-fits g s who p o sound has at = fits-at g s sound.parts.0 who (Stack p o) sound.parts.1 has at
+
+-- a step at a stack is lost or leaves less to do
+pub stack-leaves :
+    (g : Geometry) (s : State) (who : ℕ) (p : StackPoint) (o : Onward) → IsSoundWithoutCounts g s → who < g.callers
+    → (s.errand who).point ≡ Stack p o → LeavesLess g s (Stack p o)
+unfolding plan_point_of next_of steps_left
+stack-leaves g s who (stack.LoadTop seat pile) o sound has at =
+    let fits = stack-fits g s who (stack.LoadTop seat pile) o sound has at in
+    inr (inr (top-less g seat pile (head_of (s.word (head_name seat pile))) o fits.goes (top-most g s who seat pile sound fits.point)))
+stack-leaves g s who (stack.LoadBelow seat pile h) o sound has at =
+    let fits = stack-fits g s who (stack.LoadBelow seat pile h) o sound has at in
+    let next = s.word (next_name pile (h.top - 1)) in
+    let most : next ≤ pile_limit seat.geometry pile =
+    subst (λ k. next ≤ pile_limit k pile) (sym fits.point.seat.geometry)
+    (next-most g s pile (h.top - 1) sound (omega (arith, fits.point.top.0, fits.point.top.1)))
+    in
+    inr (inr (below-less g seat pile h next o fits.goes most))
+stack-leaves g s who (stack.PopTop seat pile h below) o sound has at =
+    let fits = stack-fits g s who (stack.PopTop seat pile h below) o sound has at in
+    lost-or (λ won. next_left g (enter_stack (if won then stack.Popped seat pile (h.top - 1) else stack.LoadTop seat pile) o) < top_left g seat o - 2)
+    (s.word (head_name seat pile) == head_word h) (popped-less g seat pile (h.top - 1) o fits.goes)
+stack-leaves g s who (stack.ConfirmEmpty seat pile h) o sound has at =
+    let fits = stack-fits g s who (stack.ConfirmEmpty seat pile h) o sound has at in
+    lost-or (λ won. next_left g (enter_stack (if won then stack.ConfirmedEmpty seat pile else stack.LoadTop seat pile) o) < top_left g seat o - 1)
+    (s.word (head_name seat pile) == head_word h) (confirmed-less g seat pile o fits.goes)
+stack-leaves g s who (stack.LoadTopToPush seat pile i) o sound has at = inr (inr (omega arith))
+stack-leaves g s who (stack.StoreBelow seat pile i h) o sound has at = inr (inr (omega arith))
+stack-leaves g s who (stack.PushTop seat pile i h) o sound has at =
+    let fits = stack-fits g s who (stack.PushTop seat pile i h) o sound has at in
+    lost-or (λ won. next_left g (enter_stack (if won then stack.Pushed seat pile else stack.LoadTopToPush seat pile i) o) < put_left g seat o + 1)
+    (s.word (head_name seat pile) == head_word h) (put-less g seat pile o fits.goes)
+stack-leaves g s who p o sound has at = absurd (true≢false (stack-fits g s who p o sound has at).inside)

@@ -1,0 +1,55 @@
+-- Callers lose no more than others win.
+use Rattle.std.proofs.Common.{ℕ, ◌≡◌, ◌<◌, ◌≤◌, ◌+◌, ◌*◌, List, [], ◌∷◌, length, refl, arith}
+use Rattle.std.specs.Prelude.{◌-◌, ◌^◌, All, count_by, min}
+use Rattle.std.proofs.lemmas.Bool.{eq-eqb}
+use Rattle.std.proofs.lemmas.List.Elements.{All-head, All-tail}
+use Rattle.heap_geometry.specs.declared.geometry.Geometry.{Geometry}
+use Rattle.errand_steps.specs.Steps.{State}
+use Rattle.sound_state.specs.Contention.{is_by, lost_of, won_of}
+use Rattle.sound_state.specs.Sums.{sum_below, callers_sum}
+use Rattle.sound_state.specs.Wins.{Win, Wins}
+use Rattle.sound_state.specs.Won.{IsWon}
+use Rattle.sound_state.proofs.shared.SumLemmas.{sum-plus, sum-same, term-sum}
+use Rattle.sound_state.proofs.wins.CountLemmas.{count-append, count-one}
+
+-- each win is one of its caller's
+all-won :
+    (n : ℕ) (xs : List Win) → All (λ x. x.caller < n) xs → length xs ≤ sum_below n (λ who. count_by (is_by who) xs)
+all-won n [] all = omega arith
+all-won n (x ∷ xs) all =
+    let here : x.caller < n = All-head (λ y. y.caller < n) x xs all in
+    let one = λ (who : ℕ). count_by (is_by who) (x ∷ []) in
+    let rest = λ (who : ℕ). count_by (is_by who) xs in
+    let each : sum_below n (λ who. count_by (is_by who) (x ∷ xs)) ≡ sum_below n (λ who. one who + rest who) =
+    sum-same n (λ who. one who + rest who) (λ who. count_by (is_by who) (x ∷ xs)) (λ who lt. count-append (is_by who) (x ∷ []) xs) in
+    omega (
+      arith,
+      each,
+      sum-plus n one rest,
+      all-won n xs (All-tail (λ y. y.caller < n) x xs all),
+      term-sum n one x.caller here,
+      count-one (is_by x.caller) x (eq-eqb x.caller x.caller refl),
+    )
+
+-- what is won counts each win, where no count is at its end
+won-counted : (won count : ℕ) → won ≡ min count (2 ^ 64 - 1) → won < 2 ^ 64 - 1 → count ≡ won
+won-counted won count is below = grind (arith, is, below)
+
+more-times : (k a b c : ℕ) → a ≤ k * b → b ≤ c → a ≤ k * c
+more-times k a b c most less = grind (arith, most, less)
+
+pub losses-bounded :
+    (g : Geometry) (s : State) (w : Wins) → IsWon g s w → ((who : ℕ) → who < g.callers → (s.errand who).won < 2 ^ 64 - 1)
+    → callers_sum g lost_of s.errand ≤ (g.callers - 1) * callers_sum g won_of s.errand
+unfolding callers_sum
+losses-bounded g s w won below =
+    let noted = won.noted in
+    let wins : length w.list ≤ sum_below g.callers (λ who. (s.errand who).won) =
+    omega (
+      arith,
+      all-won g.callers w.list noted.callers,
+      sum-same g.callers (λ who. (s.errand who).won) (λ who. count_by (is_by who) w.list)
+          (λ who has. won-counted (s.errand who).won (count_by (is_by who) w.list) (noted.won who has) (below who has)),
+    ) in
+    more-times (g.callers - 1) (sum_below g.callers (λ who. (s.errand who).lost)) (length w.list) (sum_below g.callers (λ who. (s.errand who).won))
+    (omega (arith, won.contended.most)) wins
