@@ -1,5 +1,7 @@
+pub mod AloneLemmas
 pub mod BlockFinds
 pub mod BlockLeft
+pub mod ClearLemmas
 pub mod DescLeft
 pub mod LargeLeft
 pub mod LeftDefs
@@ -8,3 +10,4 @@ pub mod LeftSteps
 pub mod PartialLeft
 pub mod SettleLeft
 pub mod StackLeft
+pub mod StaleLemmas

@@ -1,3 +1,4 @@
+pub mod Alone
 pub mod Consequences
 pub mod Contention
 pub mod Expectations

@@ -38,7 +38,7 @@ expects-on g who (Partial p o) v fits below = partial-expects g who p o v fits b
 expects-on g who (Large p o) v fits below = large-expects p o v below
 
 -- what it loses it expected otherwise
-loses-on : (p : Point) (v : ℕ) → LosesOn p v
+pub loses-on : (p : Point) (v : ℕ) → LosesOn p v
 unfolding plan_point_of
 loses-on Idle v = λ lost. absurd (cc)
 loses-on (Block p o) v = block-loses p o v
@@ -48,7 +48,7 @@ loses-on (Partial p o) v = partial-loses p o v
 loses-on (Large p o) v = large-loses p o v
 
 -- the errand after a step expects what its caller carries or sees
-expects-after : (g : Geometry) (s : State) (who : ℕ) → IsSoundWithoutCounts g s → who < g.callers → ExpectsAfter s who
+pub expects-after : (g : Geometry) (s : State) (who : ℕ) → IsSoundWithoutCounts g s → who < g.callers → ExpectsAfter s who
 expects-after g s who sound has =
     let e = s.errand who in
     let own = sound.parts.1.errands who has in

@@ -1,11 +1,15 @@
 //! Laws of how calls come to their ends.
 
-ghost use Rattle.std.specs.Prelude.{ℕ, ◌<◌, ◌≤◌};
+ghost use Rattle.std.specs.Prelude.{ℕ, ◌<◌, ◌≤◌, ◌+◌, replicate};
 ghost use Rattle.heap_geometry.specs.declared.geometry.Geometry.{Geometry};
 ghost use Rattle.heap_geometry.specs.declared.limits.TheConstants.{CALL_STEPS};
-ghost use Rattle.errand_steps.specs.Steps.{State, Step};
+ghost use Rattle.errand_steps.specs.Begins.{IsIdle};
+ghost use Rattle.errand_steps.specs.Errands.{counts_lost};
+ghost use Rattle.errand_steps.specs.Steps.{State, Step, Run, found_at};
+ghost use Rattle.sound_state.specs.Alone.{alone_left, stale_words};
 ghost use Rattle.sound_state.specs.Sound.{IsSound};
 ghost use Rattle.sound_state.specs.StepsLeft.{GoesOn, steps_left};
+ghost use Rattle.sound_state.specs.Turns.{one_if};
 
 /// A step of a call loses, clears an empty superblock, or leaves fewer steps to do. So it never meets a
 /// word that it does not expect, at which it would be made again.
@@ -19,4 +23,18 @@ pub fn steps_go_on()
 pub fn calls_are_short()
     ensures { (g : Geometry) (s : State) (who : ℕ) → IsSound g s → who < g.callers
         → steps_left g (s.errand who).point ≤ CALL_STEPS }
+{}
+
+/// A caller that moves alone ends its call, wherever the others stopped: each of its steps leaves fewer
+/// to do. A step that loses meets a word that is stale for its caller, and leaves it one fewer; no step
+/// makes a word stale for its own caller.
+pub fn alone_calls_end()
+    ensures ends { (g : Geometry) (s : State) (who : ℕ) → IsSound g s → who < g.callers
+        → (n : ℕ) × (after : State) × (n ≤ alone_left g s who) × Run s (replicate n who) n after
+        × IsIdle (after.errand who) }
+    ensures falls { (g : Geometry) (s : State) (who : ℕ) (after : State) → IsSound g s → who < g.callers
+        → Step s who after → alone_left g after who < alone_left g s who }
+    ensures stale { (g : Geometry) (s : State) (who : ℕ) (after : State) → IsSound g s → who < g.callers
+        → Step s who after
+        → stale_words g after who + one_if (counts_lost (s.errand who).point (found_at s who)) ≤ stale_words g s who }
 {}

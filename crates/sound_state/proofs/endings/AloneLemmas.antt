@@ -1,0 +1,100 @@
+-- A caller that moves alone comes to the end of its call.
+use Rattle.std.proofs.Common.{ℕ, zero, suc, ◌<◌, ◌≤◌, ◌+◌, refl, arith, ap, subst, inl, inr}
+use Rattle.std.specs.Prelude.{◌==◌, if◌then◌else◌, replicate}
+use Rattle.std.proofs.lemmas.Bool.{cases_Bool, cond-true, cond-false, eq-eqb, ne_eqb}
+use Rattle.heap_geometry.specs.declared.geometry.Geometry.{Geometry}
+use Rattle.heap_geometry.specs.declared.limits.TheConstants.{CALL_STEPS}
+use Rattle.word_plan.specs.Actions.{after_action}
+use Rattle.word_plan.specs.Table.{Exists}
+use Rattle.errand_steps.specs.Begins.{IsBusy, IsIdle}
+use Rattle.errand_steps.specs.Errands.{counts_lost, settle_of}
+use Rattle.errand_steps.specs.Points.{is_idle}
+use Rattle.errand_steps.specs.Steps.{State, Step, Run, with_event, action_at, name_at, word_at, found_at, event_at}
+use Rattle.errand_steps.proofs.PlanLemmas.{plan-exists}
+use Rattle.sound_state.specs.Alone.{stale_words, alone_left}
+use Rattle.sound_state.specs.Sound.{IsSound}
+use Rattle.sound_state.specs.StepsLeft.{steps_left}
+use Rattle.sound_state.specs.Turns.{one_if}
+use Rattle.sound_state.specs.Wins.{same_name}
+use Rattle.sound_state.proofs.CountedLemmas.{without-counts, steps-counted}
+use Rattle.sound_state.proofs.endings.ClearLemmas.{clearings-fall}
+use Rattle.sound_state.proofs.endings.LeftMost.{left-most}
+use Rattle.sound_state.proofs.endings.LeftSteps.{steps-go_on}
+use Rattle.sound_state.proofs.endings.StaleLemmas.{stale-falls}
+use Rattle.sound_state.proofs.shared.PointLemmas.{fits-at}
+use Rattle.sound_state.proofs.wins.SameNames.{same-name-refl, same-name-differs}
+use Rattle.sound_state.proofs.wins.WonSteps.{expects-after, loses-on}
+
+-- its stale words grow by none, and are one fewer after a lost step
+pub alone-stale :
+    (g : Geometry) (s : State) (who : ℕ) (s' : State) → IsSound g s → who < g.callers → Step s who s'
+    → stale_words g s' who + one_if (counts_lost (s.errand who).point (found_at s who)) ≤ stale_words g s who
+alone-stale g s who s' sound has step =
+    let e = s.errand who in
+    let own = sound.parts.1.errands who has in
+    let exists : Exists g (name_at s who) =
+    subst (λ h. Exists h (name_at s who)) own.geometry
+    (plan-exists e.geometry e.caller e.point own.rule.geometry own.rule.caller own.rule.point) in
+    stale-falls g s who s' exists step (expects-after g s who (without-counts g s sound) has) (loses-on e.point (word_at s who))
+
+-- fewer steps are left
+pub alone-falls :
+    (g : Geometry) (s : State) (who : ℕ) (s' : State) → IsSound g s → who < g.callers → Step s who s'
+    → alone_left g s' who < alone_left g s who
+alone-falls g s who s' sound has step =
+    let after = steps-counted g s who s' sound has step in
+    let stale = alone-stale g s who s' sound has step in
+    let clear = clearings-fall g s who s' (without-counts g s sound) (without-counts g s' after) has step in
+    let most : steps_left g (s'.errand who).point ≤ CALL_STEPS =
+    left-most g who (s'.errand who).point after.checked (fits-at g s' after.parts.0 who (s'.errand who).point after.parts.1 has refl) in
+    elim (steps-go_on g s who s' (without-counts g s sound) has step) [
+      | inl lost ↦ omega (arith, stale, clear, most, ap one_if lost)
+      | inr rest ↦
+          elim rest [ inl clears ↦ omega (arith, stale, clear, most, ap one_if clears) | inr fewer ↦ omega (arith, stale, clear, fewer) ]
+    ]
+
+-- a caller that is in a call can make its step
+step-there : (s : State) (who : ℕ) → IsBusy (s.errand who) → (s' : State) × Step s who s'
+step-there s who busy =
+    let n = name_at s who in
+    let new = after_action (action_at s who) (word_at s who) in
+    let next = settle_of (s.errand who) (found_at s who) in (
+      record {
+        word = λ m. if same_name m n then new else s.word m;
+        errand = λ i. if i == who then next else s.errand i;
+        history = with_event s.history (event_at s who);
+      },
+      record {
+        busy = busy;
+        word = record {
+          here = cond-true (same_name n n) new (s.word n) (same-name-refl n);
+          elsewhere = λ m differ. cond-false (same_name m n) new (s.word m) (same-name-differs m n differ);
+        };
+        errand = record {
+          here = cond-true (who == who) next (s.errand who) (eq-eqb who who refl);
+          elsewhere = λ i differ. cond-false (i == who) next (s.errand i) (ne_eqb i who differ);
+        };
+        history = refl;
+      },
+    )
+
+-- so by its steps alone its call ends
+pub ends-within :
+    (g : Geometry) (k : ℕ) (s : State) (who : ℕ) → IsSound g s → who < g.callers → alone_left g s who ≤ k
+    → (n : ℕ) × (s' : State) × (n ≤ k) × Run s (replicate n who) n s' × IsIdle (s'.errand who)
+ends-within g zero s who sound has left =
+    elim (cases_Bool (is_idle (s.errand who).point)) [
+      | inl idle ↦ (0, s, omega arith, (refl, refl), idle)
+      | inr busy ↦
+          let (s', step) = step-there s who busy in
+          absurd (omega (arith, left, alone-falls g s who s' sound has step))
+    ]
+ends-within g (suc k) s who sound has left =
+    elim (cases_Bool (is_idle (s.errand who).point)) [
+      | inl idle ↦ (0, s, omega arith, (refl, refl), idle)
+      | inr busy ↦
+          let (s', step) = step-there s who busy in
+          let (n, t, few, run, idle) =
+          ends-within g k s' who (steps-counted g s who s' sound has step) has (omega (arith, left, alone-falls g s who s' sound has step)) in
+          (suc n, t, omega (arith, few), (s', 1, n, inr (step, refl), run, omega arith), idle)
+    ]

@@ -1,0 +1,122 @@
+-- A step of a caller makes no word stale for it, and one that is lost finds a stale word, which is stale no more.
+use Rattle.std.proofs.Common.{ℕ, Bool, true, false, ◌≡◌, ◌≢◌, ◌<◌, ◌≤◌, ◌+◌, refl, arith, ap, sym, subst, inl, inr, ◌∙◌}
+use Rattle.std.specs.Prelude.{◌==◌, not, if◌then◌else◌, Any}
+use Rattle.std.proofs.lemmas.Bool.{cases_eq, cases_Bool, cond-true, cond-false, eq-eqb, ne_eqb, and_parts, and_from}
+use Rattle.std.proofs.lemmas.List.Folds.{Any-from_list_any, list_any-from_Any}
+use Rattle.heap_geometry.specs.declared.geometry.Geometry.{Geometry}
+use Rattle.word_plan.specs.declared.name.WordName.{WordName}
+use Rattle.word_plan.specs.Counts.{word_count}
+use Rattle.word_plan.specs.Table.{Exists, word_index, word_name}
+use Rattle.word_plan.proofs.TableLemmas.{word_index-within, word_index-word_name, word_name-word_index}
+use Rattle.errand_steps.specs.Errands.{counts_lost, settle_of}
+use Rattle.errand_steps.specs.Steps.{State, Step, action_at, name_at, word_at, found_at}
+use Rattle.sound_state.specs.Alone.{is_stale_by, is_stale, stale_words}
+use Rattle.sound_state.specs.Expectations.{Expected, expects_of}
+use Rattle.sound_state.specs.Sums.{sum_below}
+use Rattle.sound_state.specs.Turns.{one_if}
+use Rattle.sound_state.specs.Wins.{same_name}
+use Rattle.sound_state.proofs.shared.SumLemmas.{sum-change, sum-least}
+use Rattle.sound_state.proofs.wins.ExpectLemmas.{some-all}
+use Rattle.sound_state.proofs.wins.NoteLemmas.{ExpectsAfter}
+use Rattle.sound_state.proofs.wins.SameNames.{same-name-is, same-name-one}
+use Rattle.sound_state.proofs.wins.WinDefs.{LosesOn, MayExpect}
+
+-- a word that is stale after the step: by something that the caller carries or sees
+stale-after :
+    (s : State) (who : ℕ) (s' : State) (m : WordName) → Step s who s' → ExpectsAfter s who → is_stale s' who m ≡ true
+    → (e : Expected) × MayExpect (s.errand who).point (action_at s who) (found_at s who) e × (e.word ≡ m) × (s'.word m ≢ e.value)
+stale-after s who s' m step expects stale =
+    let q = (settle_of (s.errand who) (found_at s who)).point in
+    let some : Any (λ e. is_stale_by s' m e ≡ true) (expects_of q) =
+    subst (λ f. Any (λ e. is_stale_by s' m e ≡ true) (expects_of f.point)) step.errand.here
+    (Any-from_list_any (is_stale_by s' m) (expects_of (s'.errand who).point) stale) in
+    let (e, may, is) =
+    some-all (MayExpect (s.errand who).point (action_at s who) (found_at s who)) (λ e. is_stale_by s' m e ≡ true) (expects_of q) expects some in
+    let both = and_parts (same_name e.word m) (not (s'.word m == e.value)) is in
+    (e, may, same-name-is e.word m both.0, λ same. absurd (grind (arith, both.1, same)))
+
+-- something that is expected of the word and differs makes it stale
+stale-by :
+    (s : State) (who : ℕ) (m : WordName) → Any (λ e. (e.word ≡ m) × (s.word m ≢ e.value)) (expects_of (s.errand who).point)
+    → is_stale s who m ≡ true
+stale-by s who m (k, e, lt, at, (word, differs)) =
+    list_any-from_Any (is_stale_by s m) (expects_of (s.errand who).point) (
+      k,
+      e,
+      lt,
+      at,
+      and_from (same_name e.word m) (not (s.word m == e.value)) (same-name-one e.word m word)
+          (ap not (ne_eqb (s.word m) e.value differs)),
+    )
+
+-- no other word becomes stale
+stale-apart :
+    (s : State) (who : ℕ) (s' : State) (m : WordName) → Step s who s' → ExpectsAfter s who → m ≢ name_at s who → is_stale s' who m ≡ true
+    → is_stale s who m ≡ true
+stale-apart s who s' m step expects apart stale =
+    let (e, may, word, differs) = stale-after s who s' m step expects stale in
+    elim may [
+      | inl carried ↦
+          let (k, x, lt, at, same) = carried.0 in
+          stale-by s who m
+          (k, x, lt, at, (ap (λ y. y.word) same ∙ word, λ is. differs (step.word.elsewhere m apart ∙ is ∙ ap (λ y. y.value) same)))
+      | inr seen ↦ absurd (apart (sym word ∙ seen.word))
+    ]
+
+-- the step's word is stale no more
+stale-here :
+    (s : State) (who : ℕ) (s' : State) → Step s who s' → ExpectsAfter s who → is_stale s' who (name_at s who) ≡ false
+stale-here s who s' step expects =
+    elim (cases_Bool (is_stale s' who (name_at s who))) [
+      | inl stale ↦
+          let (e, may, word, differs) = stale-after s who s' (name_at s who) step expects stale in
+          elim may [ inl carried ↦ absurd (carried.1 word) | inr seen ↦ absurd (differs (step.word.here ∙ seen.value)) ]
+      | inr isnt ↦ isnt
+    ]
+
+-- a step that counts as lost finds its word stale
+lost-stale : (s : State) (who : ℕ) → LosesOn (s.errand who).point (word_at s who) → one_if (counts_lost (s.errand who).point (found_at s who)) ≤ one_if (is_stale s who (name_at s who))
+lost-stale s who loses =
+    elim (cases_Bool (counts_lost (s.errand who).point (found_at s who))) [
+      | inl lost ↦
+          let stale : is_stale s who (name_at s who) ≡ true = stale-by s who (name_at s who) (loses lost) in
+          omega (arith, ap one_if lost, ap one_if stale)
+      | inr isnt ↦ omega (arith, ap one_if isnt)
+    ]
+
+one-least : (a b : Bool) → (a ≡ true → b ≡ true) → one_if a ≤ one_if b
+one-least true b follows = omega (arith, ap one_if (follows refl))
+one-least false b follows = omega arith
+
+-- so the stale words grow by none, and are one fewer after a lost step
+pub stale-falls :
+    (g : Geometry) (s : State) (who : ℕ) (s' : State) → Exists g (name_at s who) → Step s who s' → ExpectsAfter s who
+    → LosesOn (s.errand who).point (word_at s who)
+    → stale_words g s' who + one_if (counts_lost (s.errand who).point (found_at s who)) ≤ stale_words g s who
+stale-falls g s who s' exists step expects loses =
+    let n = name_at s who in
+    let i = word_index g n in
+    let before = λ (k : ℕ). one_if (is_stale s who (word_name g k)) in
+    let after = λ (k : ℕ). one_if (is_stale s' who (word_name g k)) in
+    let middle = λ (k : ℕ). if k == i then 0 else before k in
+    let within : i < word_count g = word_index-within g n exists in
+    let back : word_name g i ≡ n = word_name-word_index g n exists in
+    let here : before i ≡ one_if (is_stale s who n) = ap (λ m. one_if (is_stale s who m)) back in
+    let none : after i ≡ 0 = ap (λ m. one_if (is_stale s' who m)) back ∙ ap one_if (stale-here s who s' step expects) in
+    let changed : sum_below (word_count g) middle + before i ≡ sum_below (word_count g) before + middle i =
+    sum-change (word_count g) before middle i within (λ j lt ne. cond-false {A = ℕ} (j == i) 0 (before j) (ne_eqb j i ne)) in
+    let zero_here : middle i ≡ 0 = cond-true {A = ℕ} (i == i) 0 (before i) (eq-eqb i i refl) in
+    let least : sum_below (word_count g) after ≤ sum_below (word_count g) middle =
+    sum-least (word_count g) after middle
+    (λ k lt.
+    elim (cases_eq k i) [
+      | inl same ↦ omega (arith, ap after same, none)
+      | inr differ ↦
+          let apart : word_name g k ≢ n = λ is. differ (sym (word_index-word_name g k lt) ∙ ap (word_index g) is) in
+          omega (
+            arith,
+            cond-false {A = ℕ} (k == i) 0 (before k) (ne_eqb k i differ),
+            one-least (is_stale s' who (word_name g k)) (is_stale s who (word_name g k)) (stale-apart s who s' (word_name g k) step expects apart),
+          )
+    ]) in
+    omega (arith, changed, zero_here, least, here, lost-stale s who loses)
