@@ -1,6 +1,6 @@
 -- Every step of every caller keeps the state sound.
-use Rattle.std.proofs.Common.{ℕ, Bool, true, false, ◌≡◌, ◌≢◌, ◌<◌, ◌-◌, refl, arith, ap, sym, inl, inr, ◌∙◌}
-use Rattle.std.specs.Prelude.{◌==◌, not, IsTrue}
+use Rattle.std.proofs.Common.{ℕ, Bool, ◌≡◌, ◌<◌, refl, ap, sym, inl, inr, ◌∙◌}
+use Rattle.std.specs.Prelude.{IsTrue}
 use Rattle.std.proofs.lemmas.Bool.{cases_eq, cases_Bool, true≢false}
 use Rattle.heap_geometry.specs.declared.geometry.Geometry.{Geometry}
 use Rattle.packed_words.specs.Head.{head_of}
@@ -13,7 +13,6 @@ use Rattle.hazard_parts.specs.declared.point.DescPoint.TheVariants as desc
 use Rattle.partial_parts.specs.declared.point.PartialPoint.{PartialPoint}
 use Rattle.partial_parts.specs.declared.point.PartialPoint.TheVariants as partial
 use Rattle.partial_parts.specs.Grants.{is_empty}
-use Rattle.partial_parts.specs.Points.{slot_of}
 use Rattle.stack_parts.specs.declared.point.Pile.{Pile}
 use Rattle.stack_parts.specs.declared.point.StackPoint.{StackPoint}
 use Rattle.stack_parts.specs.declared.point.StackPoint.TheVariants as stack
@@ -22,7 +21,7 @@ use Rattle.errand_steps.specs.declared.onward.Onward.{Onward}
 use Rattle.errand_steps.specs.declared.onward.Onward.TheVariants as onward
 use Rattle.errand_steps.specs.declared.point.Point.{Point}
 use Rattle.errand_steps.specs.declared.point.Point.TheVariants.{Idle, Block, Stack, Desc, Partial, Large}
-use Rattle.errand_steps.specs.Onwards.{is_finish, is_clearing, clears, fills}
+use Rattle.errand_steps.specs.Onwards.{is_finish, is_clearing, clears}
 use Rattle.errand_steps.specs.Points.{asked, plan_point_of}
 use Rattle.errand_steps.specs.Points.{is_idle}
 use Rattle.errand_steps.specs.Steps.{State, Step}
@@ -35,7 +34,7 @@ use Rattle.sound_state.proofs.pushes.PushSound.{push_block-sound}
 use Rattle.sound_state.proofs.stores.InfoSteps.{store_owner-sound, store_info-sound}
 use Rattle.sound_state.proofs.stores.PrefixSteps.{store_prefix-sound, store_link-sound, link_block-sound}
 use Rattle.sound_state.proofs.hazards.HazardSteps.{store_hazard-sound, reload_desc_head-sound, clear_after_pop-sound, clear_hazard_looks-sound, clear_hazard_ends-sound, store_guard-sound, read_hazard-sound}
-use Rattle.sound_state.proofs.shared.PointLemmas.{fits-at, the-alloc, the-free}
+use Rattle.sound_state.proofs.shared.PointLemmas.{fits-now, the-alloc, the-free}
 use Rattle.sound_state.proofs.pops.PopSteps.{pop_block-sound}
 use Rattle.sound_state.proofs.shifts.ShiftSteps.{return_credits-sound, grant-sound}
 use Rattle.sound_state.proofs.stacks.StackSteps.{pop_top-sound}
@@ -54,46 +53,13 @@ use Rattle.sound_state.proofs.quiet.QuietEnds.{clear_ends-sound}
 use Rattle.sound_state.proofs.quiet.QuietLinks.{store_below-sound, store_next_desc-sound}
 use Rattle.sound_state.proofs.quiet.QuietStacks.{load_top-sound, load_below-sound, load_top_to_push-sound}
 
--- a lost exchange finds another word
-pub differs : (w e : ℕ) → not (w == e) ≡ true → w ≢ e
-differs w e lost = λ is. absurd (grind (arith, lost, is))
-
 -- an empty head: a clearing that has popped nothing ends
 empty-sound :
     (g : Geometry) (s : State) (who : ℕ) (s' : State) (seat : SeatFields) (pile : Pile) (o : Onward) → IsSoundWithoutCounts g s → who < g.callers
     → (s.errand who).point ≡ Stack (stack.LoadTop seat pile) o → (head_of (s.word (head_name seat pile))).top ≡ 0 → Step s who s'
     → IsSoundWithoutCounts g s'
 empty-sound g s who s' seat pile onward.Clear sound has at empty step = clear_ends-sound g s who s' seat pile sound has at empty step
-empty-sound g s who s' seat pile (onward.Alloc need) sound has at empty step =
-    load_top-sound g s who s' seat pile (onward.Alloc need) sound has at (λ is. absurd (cc)) step
-empty-sound g s who s' seat pile (onward.TakeFrame need d) sound has at empty step =
-    load_top-sound g s who s' seat pile (onward.TakeFrame need d) sound has at (λ is. absurd (cc)) step
-empty-sound g s who s' seat pile (onward.GiveBlock need site i) sound has at empty step =
-    load_top-sound g s who s' seat pile (onward.GiveBlock need site i) sound has at (λ is. absurd (cc)) step
-empty-sound g s who s' seat pile (onward.Discard need d) sound has at empty step =
-    load_top-sound g s who s' seat pile (onward.Discard need d) sound has at (λ is. absurd (cc)) step
-empty-sound g s who s' seat pile (onward.Turn need) sound has at empty step =
-    load_top-sound g s who s' seat pile (onward.Turn need) sound has at (λ is. absurd (cc)) step
-empty-sound g s who s' seat pile (onward.Look need) sound has at empty step =
-    load_top-sound g s who s' seat pile (onward.Look need) sound has at (λ is. absurd (cc)) step
-empty-sound g s who s' seat pile onward.Refuse sound has at empty step =
-    load_top-sound g s who s' seat pile onward.Refuse sound has at (λ is. absurd (cc)) step
-empty-sound g s who s' seat pile onward.Free sound has at empty step =
-    load_top-sound g s who s' seat pile onward.Free sound has at (λ is. absurd (cc)) step
-empty-sound g s who s' seat pile (onward.Remove d heap) sound has at empty step =
-    load_top-sound g s who s' seat pile (onward.Remove d heap) sound has at (λ is. absurd (cc)) step
-empty-sound g s who s' seat pile (onward.ClearSecond first) sound has at empty step =
-    load_top-sound g s who s' seat pile (onward.ClearSecond first) sound has at (λ is. absurd (cc)) step
-empty-sound g s who s' seat pile (onward.Retire d) sound has at empty step =
-    load_top-sound g s who s' seat pile (onward.Retire d) sound has at (λ is. absurd (cc)) step
-empty-sound g s who s' seat pile (onward.PushFirst first) sound has at empty step =
-    load_top-sound g s who s' seat pile (onward.PushFirst first) sound has at (λ is. absurd (cc)) step
-empty-sound g s who s' seat pile (onward.Finish guarded) sound has at empty step =
-    load_top-sound g s who s' seat pile (onward.Finish guarded) sound has at (λ is. absurd (cc)) step
-empty-sound g s who s' seat pile onward.EndFree sound has at empty step =
-    load_top-sound g s who s' seat pile onward.EndFree sound has at (λ is. absurd (cc)) step
-empty-sound g s who s' seat pile onward.Nothing sound has at empty step =
-    load_top-sound g s who s' seat pile onward.Nothing sound has at (λ is. absurd (cc)) step
+empty-sound g s who s' seat pile o sound has at empty step = load_top-sound g s who s' seat pile o sound has at (λ is. absurd (cc)) step
 
 -- the load of a head, which may end a clearing
 top-sound :
@@ -120,21 +86,14 @@ stack-sound g s who s' (stack.LoadTopToPush seat pile i) o sound has at step =
 stack-sound g s who s' (stack.StoreBelow seat pile i h) o sound has at step = store_below-sound g s who s' seat pile i h o sound has at step
 stack-sound g s who s' (stack.PushTop seat pile i h) o sound has at step =
     push_top-sound g s who s' seat pile i h o sound has at step
-stack-sound g s who s' (stack.Popped seat pile i) o sound has at step =
-    absurd (true≢false (fits-at g s sound.parts.0 who _ sound.parts.1 has at).inside)
-stack-sound g s who s' (stack.FoundEmpty seat pile h) o sound has at step =
-    absurd (true≢false (fits-at g s sound.parts.0 who _ sound.parts.1 has at).inside)
-stack-sound g s who s' (stack.ConfirmedEmpty seat pile) o sound has at step =
-    absurd (true≢false (fits-at g s sound.parts.0 who _ sound.parts.1 has at).inside)
-stack-sound g s who s' (stack.Pushed seat pile) o sound has at step =
-    absurd (true≢false (fits-at g s sound.parts.0 who _ sound.parts.1 has at).inside)
+stack-sound g s who s' p o sound has at step = absurd (true≢false (fits-now g s who (Stack p o) sound has at).inside)
 
 block-sound :
     (g : Geometry) (s : State) (who : ℕ) (s' : State) (p : BlockPoint) (o : Onward) → IsSoundWithoutCounts g s → who < g.callers
     → (s.errand who).point ≡ Block p o → Step s who s' → IsSoundWithoutCounts g s'
 unfolding plan_point_of
 block-sound g s who s' (block.LoadActive seat) o sound has at step =
-    let is : o ≡ onward.Alloc (asked o) = the-alloc o (fits-at g s sound.parts.0 who _ sound.parts.1 has at).goes in
+    let is : o ≡ onward.Alloc (asked o) = the-alloc o (fits-now g s who _ sound has at).goes in
     load_active-sound g s who s' seat (asked o) sound has (at ∙ ap (Block (block.LoadActive seat)) is) step
 block-sound g s who s' (block.TakeCredit seat d credits) o sound has at step =
     take_credit-sound g s who s' seat d credits o sound has at step
@@ -163,20 +122,7 @@ block-sound g s who s' (block.PushBlock site i a guarded heap) o sound has at st
 block-sound g s who s' (block.LinkBlock site i) o sound has at step = link_block-sound g s who s' site i o sound has at step
 block-sound g s who s' (block.StoreInfo site) o sound has at step = store_info-sound g s who s' site o sound has at step
 block-sound g s who s' (block.StoreAnchor site) o sound has at step = store_anchor-sound g s who s' site o sound has at step
-block-sound g s who s' (block.WantsPartial seat) o sound has at step =
-    absurd (true≢false (fits-at g s sound.parts.0 who _ sound.parts.1 has at).inside)
-block-sound g s who s' (block.Returned site i) o sound has at step =
-    absurd (true≢false (fits-at g s sound.parts.0 who _ sound.parts.1 has at).inside)
-block-sound g s who s' (block.Discarded site) o sound has at step =
-    absurd (true≢false (fits-at g s sound.parts.0 who _ sound.parts.1 has at).inside)
-block-sound g s who s' (block.Given site i) o sound has at step =
-    absurd (true≢false (fits-at g s sound.parts.0 who _ sound.parts.1 has at).inside)
-block-sound g s who s' (block.BecameEmpty site heap) o sound has at step =
-    absurd (true≢false (fits-at g s sound.parts.0 who _ sound.parts.1 has at).inside)
-block-sound g s who s' (block.BecamePartial site guarded) o sound has at step =
-    absurd (true≢false (fits-at g s sound.parts.0 who _ sound.parts.1 has at).inside)
-block-sound g s who s' (block.Pushed seat guarded) o sound has at step =
-    absurd (true≢false (fits-at g s sound.parts.0 who _ sound.parts.1 has at).inside)
+block-sound g s who s' p o sound has at step = absurd (true≢false (fits-now g s who (Block p o) sound has at).inside)
 
 -- a free clears its hazard word to look through the list, to retire what it removed, or to end
 clears-cases :
@@ -184,19 +130,7 @@ clears-cases :
 clears-cases P looks ends retires onward.Clear is = looks
 clears-cases P looks ends retires onward.EndFree is = ends
 clears-cases P looks ends retires (onward.Retire d) is = retires d
-clears-cases P looks ends retires (onward.Alloc need) is = absurd (true≢false (sym is))
-clears-cases P looks ends retires (onward.TakeFrame need d) is = absurd (true≢false (sym is))
-clears-cases P looks ends retires (onward.GiveBlock need site i) is = absurd (true≢false (sym is))
-clears-cases P looks ends retires (onward.Discard need d) is = absurd (true≢false (sym is))
-clears-cases P looks ends retires (onward.Turn need) is = absurd (true≢false (sym is))
-clears-cases P looks ends retires (onward.Look need) is = absurd (true≢false (sym is))
-clears-cases P looks ends retires onward.Refuse is = absurd (true≢false (sym is))
-clears-cases P looks ends retires onward.Free is = absurd (true≢false (sym is))
-clears-cases P looks ends retires (onward.Remove d heap) is = absurd (true≢false (sym is))
-clears-cases P looks ends retires (onward.ClearSecond first) is = absurd (true≢false (sym is))
-clears-cases P looks ends retires (onward.PushFirst first) is = absurd (true≢false (sym is))
-clears-cases P looks ends retires (onward.Finish guarded) is = absurd (true≢false (sym is))
-clears-cases P looks ends retires onward.Nothing is = absurd (true≢false (sym is))
+clears-cases P looks ends retires o is = absurd (true≢false (sym is))
 
 desc-sound :
     (g : Geometry) (s : State) (who : ℕ) (s' : State) (p : DescPoint) (o : Onward) → IsSoundWithoutCounts g s → who < g.callers
@@ -214,103 +148,26 @@ desc-sound g s who s' (desc.ClearHazard seat) o sound has at step =
     clears-cases (λ o. (s.errand who).point ≡ Desc (desc.ClearHazard seat) o → IsSoundWithoutCounts g s')
     (λ at. clear_hazard_looks-sound g s who s' seat sound has at step) (λ at. clear_hazard_ends-sound g s who s' seat sound has at step)
     (λ d at. retired.clear_hazard_retires-sound g s who s' seat d sound has at step) o
-    (fits-at g s sound.parts.0 who _ sound.parts.1 has at).goes at
+    (fits-now g s who _ sound has at).goes at
 desc-sound g s who s' (desc.ReadHazard seat held i) o sound has at step = read_hazard-sound g s who s' seat held i o sound has at step
 desc-sound g s who s' (desc.LoadHeadToPush seat d) o sound has at step = load_head_to_push-sound g s who s' seat d o sound has at step
 desc-sound g s who s' (desc.StoreNextDesc seat d top) o sound has at step = store_next_desc-sound g s who s' seat d top o sound has at step
 desc-sound g s who s' (desc.PushDesc seat d top) o sound has at step =
     push_desc-sound g s who s' seat d top o sound has at step
-desc-sound g s who s' (desc.Got seat d) o sound has at step =
-    absurd (true≢false (fits-at g s sound.parts.0 who _ sound.parts.1 has at).inside)
-desc-sound g s who s' (desc.Cleared seat) o sound has at step =
-    absurd (true≢false (fits-at g s sound.parts.0 who _ sound.parts.1 has at).inside)
-desc-sound g s who s' (desc.Scanned seat held) o sound has at step =
-    absurd (true≢false (fits-at g s sound.parts.0 who _ sound.parts.1 has at).inside)
-desc-sound g s who s' (desc.Pushed seat d) o sound has at step =
-    absurd (true≢false (fits-at g s sound.parts.0 who _ sound.parts.1 has at).inside)
-
--- a superblock is put into a slot for a block that is given, or to finish a free
-fills-cases :
-    (P : Onward → Type 0) → ((need : ℕ) (site : Site) (i : ℕ) → P (onward.GiveBlock need site i)) → ((guarded : Bool) → P (onward.Finish guarded))
-    → (o : Onward) → IsTrue (fills o) → P o
-fills-cases P gives finishes (onward.Alloc need) is = absurd (true≢false (sym is))
-fills-cases P gives finishes (onward.TakeFrame need d) is = absurd (true≢false (sym is))
-fills-cases P gives finishes (onward.GiveBlock need site i) is = gives need site i
-fills-cases P gives finishes (onward.Discard need d) is = absurd (true≢false (sym is))
-fills-cases P gives finishes (onward.Turn need) is = absurd (true≢false (sym is))
-fills-cases P gives finishes (onward.Look need) is = absurd (true≢false (sym is))
-fills-cases P gives finishes onward.Refuse is = absurd (true≢false (sym is))
-fills-cases P gives finishes onward.Free is = absurd (true≢false (sym is))
-fills-cases P gives finishes (onward.Remove d heap) is = absurd (true≢false (sym is))
-fills-cases P gives finishes onward.Clear is = absurd (true≢false (sym is))
-fills-cases P gives finishes (onward.ClearSecond first) is = absurd (true≢false (sym is))
-fills-cases P gives finishes (onward.Retire d) is = absurd (true≢false (sym is))
-fills-cases P gives finishes (onward.PushFirst first) is = absurd (true≢false (sym is))
-fills-cases P gives finishes (onward.Finish guarded) is = finishes guarded
-fills-cases P gives finishes onward.EndFree is = absurd (true≢false (sym is))
-fills-cases P gives finishes onward.Nothing is = absurd (true≢false (sym is))
+desc-sound g s who s' p o sound has at step = absurd (true≢false (fits-now g s who (Desc p o) sound has at).inside)
 
 -- a clearing has popped none yet, or one
 clearing-cases :
     (P : Onward → Type 0) → P onward.Clear → ((first : ℕ) → P (onward.ClearSecond first)) → (o : Onward) → IsTrue (is_clearing o) → P o
-clearing-cases P none one (onward.Alloc need) is = absurd (true≢false (sym is))
-clearing-cases P none one (onward.TakeFrame need d) is = absurd (true≢false (sym is))
-clearing-cases P none one (onward.GiveBlock need site i) is = absurd (true≢false (sym is))
-clearing-cases P none one (onward.Discard need d) is = absurd (true≢false (sym is))
-clearing-cases P none one (onward.Turn need) is = absurd (true≢false (sym is))
-clearing-cases P none one (onward.Look need) is = absurd (true≢false (sym is))
-clearing-cases P none one onward.Refuse is = absurd (true≢false (sym is))
-clearing-cases P none one onward.Free is = absurd (true≢false (sym is))
-clearing-cases P none one (onward.Remove d heap) is = absurd (true≢false (sym is))
 clearing-cases P none one onward.Clear is = none
 clearing-cases P none one (onward.ClearSecond first) is = one first
-clearing-cases P none one (onward.Retire d) is = absurd (true≢false (sym is))
-clearing-cases P none one (onward.PushFirst first) is = absurd (true≢false (sym is))
-clearing-cases P none one (onward.Finish guarded) is = absurd (true≢false (sym is))
-clearing-cases P none one onward.EndFree is = absurd (true≢false (sym is))
-clearing-cases P none one onward.Nothing is = absurd (true≢false (sym is))
+clearing-cases P none one o is = absurd (true≢false (sym is))
 
 -- a free finishes
 finish-cases :
     (P : Onward → Type 0) → ((guarded : Bool) → P (onward.Finish guarded)) → (o : Onward) → IsTrue (is_finish o) → P o
-finish-cases P finishes (onward.Alloc need) is = absurd (true≢false (sym is))
-finish-cases P finishes (onward.TakeFrame need d) is = absurd (true≢false (sym is))
-finish-cases P finishes (onward.GiveBlock need site i) is = absurd (true≢false (sym is))
-finish-cases P finishes (onward.Discard need d) is = absurd (true≢false (sym is))
-finish-cases P finishes (onward.Turn need) is = absurd (true≢false (sym is))
-finish-cases P finishes (onward.Look need) is = absurd (true≢false (sym is))
-finish-cases P finishes onward.Refuse is = absurd (true≢false (sym is))
-finish-cases P finishes onward.Free is = absurd (true≢false (sym is))
-finish-cases P finishes (onward.Remove d heap) is = absurd (true≢false (sym is))
-finish-cases P finishes onward.Clear is = absurd (true≢false (sym is))
-finish-cases P finishes (onward.ClearSecond first) is = absurd (true≢false (sym is))
-finish-cases P finishes (onward.Retire d) is = absurd (true≢false (sym is))
-finish-cases P finishes (onward.PushFirst first) is = absurd (true≢false (sym is))
 finish-cases P finishes (onward.Finish guarded) is = finishes guarded
-finish-cases P finishes onward.EndFree is = absurd (true≢false (sym is))
-finish-cases P finishes onward.Nothing is = absurd (true≢false (sym is))
-
--- a superblock is put into a slot to finish a free
-put_finishes-sound :
-    (g : Geometry) (s : State) (who : ℕ) (s' : State) (seat : SeatFields) (d heap : ℕ) (guarded : Bool) → IsSoundWithoutCounts g s → who < g.callers
-    → (s.errand who).point ≡ Partial (partial.PutSlot seat d heap) (onward.Finish guarded) → Step s who s' → IsSoundWithoutCounts g s'
-put_finishes-sound g s who s' seat d heap true sound has at step = partials.put_slot_clears-sound g s who s' seat d heap sound has at step
-put_finishes-sound g s who s' seat d heap false sound has at step =
-    elim (cases_eq (s.word (slot_of seat heap)) 0) [
-      | inl bare ↦ partials.put_slot_filled_ends-sound g s who s' seat d heap sound has at bare step
-      | inr held ↦
-          partials.put_slot_displaced-sound g s who s' seat d heap (s.word (slot_of seat heap) - 1) (onward.Finish false) sound has at
-          (omega (arith, held)) step
-    ]
-
-put-sound :
-    (g : Geometry) (s : State) (who : ℕ) (s' : State) (seat : SeatFields) (d heap : ℕ) (o : Onward) → IsSoundWithoutCounts g s → who < g.callers
-    → (s.errand who).point ≡ Partial (partial.PutSlot seat d heap) o → Step s who s' → IsSoundWithoutCounts g s'
-put-sound g s who s' seat d heap o sound has at step =
-    fills-cases (λ o. (s.errand who).point ≡ Partial (partial.PutSlot seat d heap) o → IsSoundWithoutCounts g s')
-    (λ need site i at. partials.put_slot_gives-sound g s who s' seat d heap need site i sound has at step)
-    (λ guarded at. put_finishes-sound g s who s' seat d heap guarded sound has at step) o
-    (fits-at g s sound.parts.0 who _ sound.parts.1 has at).goes at
+finish-cases P finishes o is = absurd (true≢false (sym is))
 
 -- the look at a superblock that was taken
 taken-sound :
@@ -340,58 +197,41 @@ listed-sound g s who s' seat d o sound has at step =
     clearing-cases (λ o. (s.errand who).point ≡ Partial (partial.LoadListedAnchor seat d) o → IsSoundWithoutCounts g s')
     (λ at. first-sound g s who s' seat d sound has at step)
     (λ first at. partials.load_second-sound g s who s' seat d first sound has at step) o
-    (fits-at g s sound.parts.0 who _ sound.parts.1 has at).goes at
+    (fits-now g s who _ sound has at).goes at
 
 partial-sound :
     (g : Geometry) (s : State) (who : ℕ) (s' : State) (p : PartialPoint) (o : Onward) → IsSoundWithoutCounts g s → who < g.callers
     → (s.errand who).point ≡ Partial p o → Step s who s' → IsSoundWithoutCounts g s'
 unfolding plan_point_of
 partial-sound g s who s' (partial.LoadSlot seat) o sound has at step =
-    let is : o ≡ onward.Alloc (asked o) = the-alloc o (fits-at g s sound.parts.0 who _ sound.parts.1 has at).goes in
+    let is : o ≡ onward.Alloc (asked o) = the-alloc o (fits-now g s who _ sound has at).goes in
     partials.load_slot-sound g s who s' seat (asked o) sound has (at ∙ ap (Partial (partial.LoadSlot seat)) is) step
 partial-sound g s who s' (partial.TakeSlot seat d) o sound has at step =
-    let is : o ≡ onward.Alloc (asked o) = the-alloc o (fits-at g s sound.parts.0 who _ sound.parts.1 has at).goes in
+    let is : o ≡ onward.Alloc (asked o) = the-alloc o (fits-now g s who _ sound has at).goes in
     partials.take_slot-sound g s who s' seat d (asked o) sound has (at ∙ ap (Partial (partial.TakeSlot seat d)) is) step
 partial-sound g s who s' (partial.LoadTakenInfo seat d) o sound has at step =
-    let is : o ≡ onward.Alloc (asked o) = the-alloc o (fits-at g s sound.parts.0 who _ sound.parts.1 has at).goes in
+    let is : o ≡ onward.Alloc (asked o) = the-alloc o (fits-now g s who _ sound has at).goes in
     partials.load_taken_info-sound g s who s' seat d (asked o) sound has (at ∙ ap (Partial (partial.LoadTakenInfo seat d)) is) step
 partial-sound g s who s' (partial.StoreOwner site) o sound has at step = store_owner-sound g s who s' site o sound has at step
 partial-sound g s who s' (partial.LoadGrantAnchor site) o sound has at step =
-    let is : o ≡ onward.Alloc (asked o) = the-alloc o (fits-at g s sound.parts.0 who _ sound.parts.1 has at).goes in
+    let is : o ≡ onward.Alloc (asked o) = the-alloc o (fits-now g s who _ sound has at).goes in
     taken-sound g s who s' site (asked o) sound has (at ∙ ap (Partial (partial.LoadGrantAnchor site)) is) step
 partial-sound g s who s' (partial.Grant site a) o sound has at step =
-    let is : o ≡ onward.Alloc (asked o) = the-alloc o (fits-at g s sound.parts.0 who _ sound.parts.1 has at).goes in
+    let is : o ≡ onward.Alloc (asked o) = the-alloc o (fits-now g s who _ sound has at).goes in
     grant-sound g s who s' site a (asked o) sound has (at ∙ ap (Partial (partial.Grant site a)) is) step
 partial-sound g s who s' (partial.LoadOwner seat d) o sound has at step =
     finish-cases (λ o. (s.errand who).point ≡ Partial (partial.LoadOwner seat d) o → IsSoundWithoutCounts g s')
     (λ guarded at. partials.load_owner-sound g s who s' seat d guarded sound has at step) o
-    (fits-at g s sound.parts.0 who _ sound.parts.1 has at).goes at
-partial-sound g s who s' (partial.PutSlot seat d heap) o sound has at step = put-sound g s who s' seat d heap o sound has at step
+    (fits-now g s who _ sound has at).goes at
+partial-sound g s who s' (partial.PutSlot seat d heap) o sound has at step = partials.put_slot-sound g s who s' seat d heap o sound has at step
 partial-sound g s who s' (partial.LoadHeldSlot seat d heap) o sound has at step =
-    let is : o ≡ onward.Free = the-free o (fits-at g s sound.parts.0 who _ sound.parts.1 has at).goes in
+    let is : o ≡ onward.Free = the-free o (fits-now g s who _ sound has at).goes in
     partials.load_held_slot-sound g s who s' seat d heap sound has (at ∙ ap (Partial (partial.LoadHeldSlot seat d heap)) is) step
 partial-sound g s who s' (partial.RemoveFromSlot seat d heap) o sound has at step =
-    let is : o ≡ onward.Free = the-free o (fits-at g s sound.parts.0 who _ sound.parts.1 has at).goes in
+    let is : o ≡ onward.Free = the-free o (fits-now g s who _ sound has at).goes in
     partials.remove_from_slot-sound g s who s' seat d heap sound has (at ∙ ap (Partial (partial.RemoveFromSlot seat d heap)) is) step
 partial-sound g s who s' (partial.LoadListedAnchor seat d) o sound has at step = listed-sound g s who s' seat d o sound has at step
-partial-sound g s who s' (partial.SlotEmpty seat) o sound has at step =
-    absurd (true≢false (fits-at g s sound.parts.0 who _ sound.parts.1 has at).inside)
-partial-sound g s who s' (partial.Granted site more) o sound has at step =
-    absurd (true≢false (fits-at g s sound.parts.0 who _ sound.parts.1 has at).inside)
-partial-sound g s who s' (partial.TookEmpty site) o sound has at step =
-    absurd (true≢false (fits-at g s sound.parts.0 who _ sound.parts.1 has at).inside)
-partial-sound g s who s' (partial.SlotFilled seat) o sound has at step =
-    absurd (true≢false (fits-at g s sound.parts.0 who _ sound.parts.1 has at).inside)
-partial-sound g s who s' (partial.Displaced seat d) o sound has at step =
-    absurd (true≢false (fits-at g s sound.parts.0 who _ sound.parts.1 has at).inside)
-partial-sound g s who s' (partial.NotInSlot seat) o sound has at step =
-    absurd (true≢false (fits-at g s sound.parts.0 who _ sound.parts.1 has at).inside)
-partial-sound g s who s' (partial.Removed seat d) o sound has at step =
-    absurd (true≢false (fits-at g s sound.parts.0 who _ sound.parts.1 has at).inside)
-partial-sound g s who s' (partial.ListedEmpty seat d) o sound has at step =
-    absurd (true≢false (fits-at g s sound.parts.0 who _ sound.parts.1 has at).inside)
-partial-sound g s who s' (partial.ListedPartial seat d) o sound has at step =
-    absurd (true≢false (fits-at g s sound.parts.0 who _ sound.parts.1 has at).inside)
+partial-sound g s who s' p o sound has at step = absurd (true≢false (fits-now g s who (Partial p o) sound has at).inside)
 
 -- a step from any point keeps the state sound
 step-at :

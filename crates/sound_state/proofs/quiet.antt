@@ -10,3 +10,4 @@ pub mod QuietPartials
 pub mod QuietPops
 pub mod QuietPushes
 pub mod QuietStacks
+pub mod QuietSteps

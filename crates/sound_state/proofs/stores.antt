@@ -1,6 +1,7 @@
-pub mod InfoLemmas
 pub mod InfoPlaces
 pub mod InfoSteps
 pub mod LoosePlaces
-pub mod PrefixLemmas
 pub mod PrefixSteps
+pub mod StoreFields
+pub mod StoreReads
+pub mod StoreSteps

@@ -13,8 +13,6 @@ use Rattle.word_plan.specs.Counts.{descriptor_count}
 use Rattle.word_plan.specs.Seats.{info_in}
 use Rattle.superblock_parts.specs.Anchors.{new_credits}
 use Rattle.superblock_parts.specs.Chains.{occurs, prefix_name, link_in}
-use Rattle.stack_parts.specs.declared.point.Pile.TheVariants.{Frames, Partials}
-use Rattle.stack_parts.specs.Stacks.{next_in}
 use Rattle.pool_model.specs.Pool.{block_at, pool_of}
 use Rattle.errand_steps.specs.Errands.{ErrandFields}
 use Rattle.errand_steps.specs.Steps.{State}
@@ -28,7 +26,19 @@ use Rattle.sound_state.proofs.discards.DiscardFacts.{is_it}
 use Rattle.sound_state.proofs.shared.AlikeLemmas.{same-superblock}
 use Rattle.sound_state.proofs.anchors.AnchorFacts.{Anchors, it-here, it-elsewhere, anchored-anchor, anchored-here, anchored-info, anchored-waits, anchored-bound, anchored-reserved, anchored-none, anchored-free}
 use Rattle.sound_state.proofs.anchors.NewSuperblocks.{new_superblock, new-chained}
+use Rattle.sound_state.proofs.shared.ListEffects.{IsListWord, listed-kept}
 use Rattle.sound_state.proofs.shared.SumLemmas.{sum-same, callers-moved}
+
+-- the links and the live blocks of each frame stay
+anchored-links :
+    (g : Geometry) (s : State) (l : Lists) (who : ℕ) (at : Site) (e : ErrandFields) (s' : State) → Anchors g s l who at e s'
+    → (f c : ℕ) → link_in s'.word f c ≡ link_in s.word f c
+anchored-links g s l who at e s' h f c = fun_ext (λ k. ap link_of (h.writes.elsewhere (prefix_name f c k) (λ is. cc)))
+
+anchored-live :
+    (g : Geometry) (s : State) (l : Lists) (who : ℕ) (at : Site) (e : ErrandFields) (s' : State) → Anchors g s l who at e s'
+    → (f c : ℕ) → ◌≡◌ {A = ℕ → ℕ} (λ k. live_at s' (block_place f c k)) (λ k. live_at s (block_place f c k))
+anchored-live g s l who at e s' h f c = fun_ext (λ k. ap (λ past. is_there (block_at (block_place f c k) (pool_of past))) h.history)
 
 -- the other superblocks stay
 pub anchored-superblock :
@@ -36,17 +46,9 @@ pub anchored-superblock :
     → (d : ℕ) → d ≢ at.desc → superblock_of g s' d ≡ superblock_of g s d
 anchored-superblock g s l who at e s' h d differ =
     let i = anchored-info g s l who at e s' h d in
-    let next : link_in s'.word (info_for s' d).frame (info_for s' d).class ≡ link_in s.word (info_for s d).frame (info_for s d).class =
-    fun_ext
-    (λ k.
-    ap link_of
-    (h.writes.elsewhere (prefix_name (info_for s' d).frame (info_for s' d).class k) (λ is. cc)
-    ∙ ap (λ x. s.word (prefix_name x.frame x.class k)) i)) in
-    let live : ◌≡◌ {A = ℕ → ℕ} (λ k. live_at s' (block_place (info_for s' d).frame (info_for s' d).class k)) (λ k. live_at s (block_place (info_for s d).frame (info_for s d).class k)) =
-    fun_ext
-    (λ k.
-    ap (λ past. is_there (block_at (block_place (info_for s' d).frame (info_for s' d).class k) (pool_of past))) h.history
-    ∙ ap (λ x. live_at s (block_place x.frame x.class k)) i) in
+    let next = anchored-links g s l who at e s' h (info_for s' d).frame (info_for s' d).class ∙ ap (λ x. link_in s.word x.frame x.class) i in
+    let live =
+    anchored-live g s l who at e s' h (info_for s' d).frame (info_for s' d).class ∙ ap (λ x k. live_at s (block_place x.frame x.class k)) i in
     let it : is_it at d ≡ 0 = it-elsewhere at d differ in
     let credits : ◌≡◌ {A = ℕ} (if at.desc == d then new_credits at.seat.class + 1 else 0) 0 =
     cond-false {A = ℕ} (at.desc == d) (new_credits at.seat.class + 1) 0 (ne_eqb at.desc d (λ is. differ (sym is))) in
@@ -65,19 +67,12 @@ anchored-new g s l who at e s' h old lies =
     let f : (info_for s' d).frame ≡ at.frame = ap (λ x. x.frame) info ∙ lies.frame in
     let c : (info_for s' d).class ≡ at.seat.class = ap (λ x. x.class) info ∙ lies.class in
     let none = anchored-none g s l who at e s' h old in
-    let next : link_in s'.word (info_for s' d).frame (info_for s' d).class ≡ link_in s.word at.frame at.seat.class =
-    fun_ext
-    (λ k.
-    ap link_of
-    (h.writes.elsewhere (prefix_name (info_for s' d).frame (info_for s' d).class k) (λ is. cc)
-    ∙ ap (λ x. s.word (prefix_name x (info_for s' d).class k)) f
-    ∙ ap (λ x. s.word (prefix_name at.frame x k)) c)) in
-    let live : ◌≡◌ {A = ℕ → ℕ} (λ k. live_at s' (block_place (info_for s' d).frame (info_for s' d).class k)) (λ k. live_at s (block_place at.frame at.seat.class k)) =
-    fun_ext
-    (λ k.
-    ap (λ past. is_there (block_at (block_place (info_for s' d).frame (info_for s' d).class k) (pool_of past))) h.history
-    ∙ ap (λ x. live_at s (block_place x (info_for s' d).class k)) f
-    ∙ ap (λ x. live_at s (block_place at.frame x k)) c) in
+    let next =
+    anchored-links g s l who at e s' h (info_for s' d).frame (info_for s' d).class
+    ∙ ap (λ x. link_in s.word x (info_for s' d).class) f ∙ ap (λ x. link_in s.word at.frame x) c in
+    let live =
+    anchored-live g s l who at e s' h (info_for s' d).frame (info_for s' d).class
+    ∙ ap (λ x k. live_at s (block_place x (info_for s' d).class k)) f ∙ ap (λ x k. live_at s (block_place at.frame x k)) c in
     let credits : ◌≡◌ {A = ℕ} (if d == d then new_credits at.seat.class + 1 else 0) (new_credits at.seat.class + 1) =
     cond-true {A = ℕ} (d == d) (new_credits at.seat.class + 1) 0 (eq-eqb d d refl) in
     same-superblock _ _ _ _ _ _ _ _ _ _ _ _ (anchored-here g s l who at e s' h)
@@ -146,17 +141,4 @@ pub anchored-listed :
     (g : Geometry) (s : State) (l : Lists) (who : ℕ) (at : Site) (e : ErrandFields) (s' : State) → Anchors g s l who at e s'
     → IsSoundWith g s l → IsListed g s'.word l
 anchored-listed g s l who at e s' h old =
-    let w = h.writes in
-    let listed = old.listed in
-    let frames : next_in s'.word Frames ≡ next_in s.word Frames = fun_ext (λ i. w.elsewhere (name.FrameNext i) (λ is. cc)) in
-    let partials : next_in s'.word Partials ≡ next_in s.word Partials = fun_ext (λ i. w.elsewhere (name.Next i) (λ is. cc)) in
-    record {
-      nexts = λ d has. subst (λ v. v ≤ descriptor_count g) (sym (w.elsewhere (name.Next d) (λ is. cc))) (listed.nexts d has);
-      frame_nexts = λ f has. subst (λ v. v ≤ g.frames) (sym (w.elsewhere (name.FrameNext f) (λ is. cc))) (listed.frame_nexts f has);
-      frames = rw (frames, w.elsewhere name.FrameHead (λ is. cc)) listed.frames;
-      frames_exist = listed.frames_exist;
-      available = rw (partials, w.elsewhere name.DescHead (λ is. cc)) listed.available;
-      available_exist = listed.available_exist;
-      partials = λ class has. rw (partials, w.elsewhere (name.ListHead class) (λ is. cc)) (listed.partials class has);
-      partials_exist = listed.partials_exist;
-    }
+    listed-kept g s.word s'.word l (λ n is. h.writes.elsewhere n (λ same. subst IsListWord same is)) old.listed

@@ -1,9 +1,8 @@
 -- The store of a new superblock's anchor keeps the stock of descriptors, the hazard words and the ties to the events.
-use Rattle.std.proofs.Common.{ℕ, Some, ◌≡◌, ◌≢◌, ◌<◌, ◌≤◌, ◌+◌, ◌^◌, ◌*◌, length, refl, arith, ap, sym, subst, inl, inr, ◌∙◌}
-use Rattle.std.specs.Prelude.{◌⊎◌, ◌==◌, if◌then◌else◌, All, Any, IsTrue, Contains, slice_index}
+use Rattle.std.proofs.Common.{ℕ, ◌≡◌, ◌≢◌, ◌<◌, ◌+◌, ◌^◌, ◌*◌, length, refl, arith, ap, sym, subst, inl, inr, ◌∙◌}
+use Rattle.std.specs.Prelude.{◌⊎◌, ◌==◌, if◌then◌else◌, All, Any, IsTrue}
 use Rattle.std.specs.Int.{bit_at}
 use Rattle.std.proofs.lemmas.Bool.{cases_eq}
-use Rattle.std.proofs.lemmas.Option.{none-some}
 use Rattle.std.proofs.lemmas.List.Elements.{All-nil}
 use Rattle.heap_geometry.specs.declared.geometry.Geometry.{Geometry}
 use Rattle.heap_geometry.specs.declared.need.Need.{Need}
@@ -18,8 +17,8 @@ use Rattle.errand_steps.specs.declared.point.Point.TheVariants as point
 use Rattle.errand_steps.specs.Errands.{ErrandFields}
 use Rattle.errand_steps.specs.Fits.{spare_of, pushed_by}
 use Rattle.errand_steps.specs.Steps.{State}
-use Rattle.sound_state.specs.Guards.{IsGuarded, Guards, IsGuard, IsHazard, passed_by, held_by}
-use Rattle.sound_state.specs.Holdings.{clear, making, holds_of}
+use Rattle.sound_state.specs.Guards.{IsGuarded, passed_by, held_by}
+use Rattle.sound_state.specs.Holdings.{making, holds_of}
 use Rattle.sound_state.specs.Keepers.{full_keeps}
 use Rattle.sound_state.specs.Lists.{Lists}
 use Rattle.sound_state.specs.Recalls.{IsOwned}
@@ -30,6 +29,7 @@ use Rattle.sound_state.specs.Superblocks.{anchor_for, info_for, is_bound}
 use Rattle.sound_state.specs.Ties.{IsTied, IsLive, IsExcepted}
 use Rattle.sound_state.proofs.shared.AlikeLemmas.{each-caller, Excepts}
 use Rattle.sound_state.proofs.anchors.AnchorFacts.{Anchors, installing, anchored-anchor, anchored-here, anchored-info, anchored-bound, anchored-free, anchored-words}
+use Rattle.sound_state.proofs.shared.GuardEffects.{guarded-clear}
 use Rattle.sound_state.proofs.shared.SumLemmas.{sum-same, callers-moved}
 
 -- how many descriptors are out
@@ -70,47 +70,12 @@ anchored-stocked g s l who at e s' o h before after old =
           );
     }
 
--- the hazard words
-anchored-guards :
-    (g : Geometry) (s : State) (l : Lists) (who : ℕ) (at : Site) (e : ErrandFields) (s' : State) → Anchors g s l who at e s'
-    → (i d : ℕ) → i < g.callers → Guards s' i d → Guards s i d
-anchored-guards g s l who at e s' h i d has guards = record {
-  word = sym (h.writes.elsewhere (name.Hazard i) (λ is. cc)) ∙ guards.word;
-  guard =
-      each-caller g (λ i f. IsGuard (holds_of f.point).hazard → IsGuard (holds_of (s.errand i).point).hazard) s.errand who e s'.errand h.moves
-      (λ guard. absurd (subst IsGuard (ap (λ x. x.hazard) h.holds_after) guard)) (λ i has same. same) i has guards.guard;
-}
-
 pub anchored-guarded :
     (g : Geometry) (s : State) (l : Lists) (who : ℕ) (at : Site) (e : ErrandFields) (s' : State) (o : Onward) → Anchors g s l who at e s'
     → e.point ≡ point.Block (block.InstallSuperblock at) o → IsSoundWith g s l → IsGuarded g s'
 anchored-guarded g s l who at e s' o h after old =
-    let guarded = old.guarded in
-    let none : IsHazard clear (s.word (name.Hazard who)) =
-    subst (λ x. IsHazard x.hazard (s.word (name.Hazard who))) h.holds_before (guarded.words who h.caller) in
-    record {
-      words = λ i has.
-          subst (λ v. IsHazard (holds_of (s'.errand i).point).hazard v) (sym (h.writes.elsewhere (name.Hazard i) (λ is. cc)))
-          (each-caller g (λ i f. IsHazard (holds_of f.point).hazard (s.word (name.Hazard i))) s.errand who e s'.errand h.moves
-          (subst (λ x. IsHazard x.hazard (s.word (name.Hazard who))) (sym h.holds_after) none) guarded.words i has);
-      pushed = λ i other d has has_other guards is.
-          guarded.pushed i other d has has_other (anchored-guards g s l who at e s' h i d has guards)
-          (each-caller g (λ j f. (d : ℕ) → pushed_by f.point ≡ Some d → pushed_by (s.errand j).point ≡ Some d) s.errand who e s'.errand h.moves
-          (λ d is. absurd (none-some d (sym (ap pushed_by after) ∙ is))) (λ j has d is. is) other has_other d is);
-      passed = λ i other d has has_other guards.
-          each-caller g
-          (λ j f. Contains f.retired d → i < passed_by f.point → slice_index (held_by f.point) i ≡ d + 1) s.errand who e s'.errand h.moves
-          (λ listed below. let bad : ⊥ = omega (arith, below, ap passed_by after) in absurd bad)
-          (λ j has_j. guarded.passed i j d has has_j (anchored-guards g s l who at e s' h i d has guards))
-          other has_other;
-      unread = λ i k has.
-          each-caller g (λ j f. passed_by f.point ≤ k → k < length (held_by f.point) → slice_index (held_by f.point) k ≡ 0) s.errand who e s'.errand h.moves
-          (λ passed below. let bad : ⊥ = omega (arith, below, ap (λ p. length (held_by p)) after) in absurd bad)
-          (λ j has_j. guarded.unread j k has_j) i has;
-      full =
-          each-caller g (λ i f. spare_of f.point ≡ 1 → length f.retired ≡ g.callers + 1) s.errand who e s'.errand h.moves
-          (λ is. let bad : ⊥ = omega (arith, is, ap spare_of after) in absurd bad) guarded.full;
-    }
+    guarded-clear g s who e s' h.caller h.moves (λ i. h.writes.elsewhere (name.Hazard i) (λ is. cc)) (ap (λ x. x.hazard) h.holds_before)
+    (ap (λ x. x.hazard) h.holds_after) (ap pushed_by after) (ap passed_by after) (ap (λ p. length (held_by p)) after) (ap spare_of after) old.guarded
 
 -- who makes a superblock excepts no block
 making-excepts : (at : Site) (place : ℕ) → Any (λ b. b.place ≡ place) (making at).hands ⊎ Any (λ b. (b.place ≡ place) × IsTrue b.overwritten) (making at).frees → ⊥

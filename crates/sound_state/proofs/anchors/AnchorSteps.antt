@@ -1,6 +1,6 @@
 -- The store of a new superblock's anchor keeps the state sound.
-use Rattle.std.proofs.Common.{ℕ, Option, Some, None, false, ◌≡◌, ◌<◌, ◌≤◌, ◌+◌, [], ◌∷◌, refl, arith, ap, sym, subst, inl, inr, ◌∙◌}
-use Rattle.std.specs.Prelude.{◌&&◌, not, count_by}
+use Rattle.std.proofs.Common.{ℕ, Option, Some, None, true, false, ◌≡◌, ◌<◌, ◌≤◌, ◌+◌, [], ◌∷◌, refl, arith, ap, sym, subst, inl, inr, ◌∙◌}
+use Rattle.std.specs.Prelude.{◌&&◌, not}
 use Rattle.std.proofs.lemmas.Bool.{cases_eq}
 use Rattle.std.proofs.lemmas.List.Elements.{All-head}
 use Rattle.heap_geometry.specs.declared.geometry.Geometry.{Geometry}
@@ -8,17 +8,16 @@ use Rattle.heap_geometry.specs.Need.{block_count_of}
 use Rattle.heap_geometry.specs.Place.{block_place}
 use Rattle.heap_geometry.proofs.PlaceLemmas.{frame_of-block_place}
 use Rattle.packed_words.specs.Anchor.{anchor_word}
-use Rattle.packed_words.specs.Head.{head_of}
 use Rattle.packed_words.specs.Info.{info_word, info_of}
 use Rattle.packed_words.proofs.AnchorLemmas.{anchor_word-below}
 use Rattle.packed_words.proofs.InfoLemmas.{info-exact}
 use Rattle.sound_state.proofs.pops.PopRecalls.{new_anchor-fits}
 use Rattle.word_plan.specs.declared.name.WordName.TheVariants as name
 use Rattle.word_plan.specs.declared.seat.Site.{Site}
-use Rattle.word_plan.specs.Counts.{descriptor_count}
 use Rattle.word_plan.specs.Sites.{info_at, IsSiteOf}
 use Rattle.word_plan.specs.Words.{Writes}
 use Rattle.superblock_parts.specs.Anchors.{new_anchor}
+use Rattle.superblock_parts.specs.declared.point.BlockPoint.{BlockPoint}
 use Rattle.superblock_parts.specs.declared.point.BlockPoint.TheVariants as block
 use Rattle.pool_model.specs.Legal.{IsLegalWithoutCounts}
 use Rattle.pool_model.specs.Pool.{Block as Live, block_at, pool_of}
@@ -35,9 +34,8 @@ use Rattle.sound_state.specs.Holdings.{holds_of}
 use Rattle.sound_state.specs.Lists.{Lists}
 use Rattle.sound_state.specs.Recalls.{IsSo, IsLocated, AreMade, recalls_of, says, made}
 use Rattle.sound_state.specs.Sound.{IsSoundWithoutCounts, IsSoundWith, IsOwnErrand}
-use Rattle.sound_state.specs.Sums.{sum_below}
 use Rattle.sound_state.specs.Superblocks.{info_or_zero, anchor_for, away_of, is_there, live_at}
-use Rattle.sound_state.specs.Turns.{IsTurned, gives_small, refuses_small, is_small_alloc, is_small_free, one_if, in_turn, has_frame, has_partial, has_refused, is_discarding_at, pops_left, turn_open, turn_unframed, turn_unlisted, turn_unanswered, errand_discards, errand_pops, turns_of, cleared_of, emptied_out}
+use Rattle.sound_state.specs.Turns.{IsTurned, one_if, in_turn, is_giving, has_frame, has_frame_block, has_partial, has_refused, is_discarding_at, pops_left, turn_unlisted, errand_pops, emptied_out}
 use Rattle.sound_state.proofs.shared.AlikeLemmas.{each-caller}
 use Rattle.sound_state.proofs.anchors.AnchorFacts.{Anchors, it-here, it-elsewhere, anchored-anchor, anchored-here, anchored-away, anchored-home}
 use Rattle.sound_state.proofs.anchors.AnchorFields.{anchored-chained, anchored-framed, anchored-listed}
@@ -50,7 +48,14 @@ use Rattle.sound_state.proofs.shared.PointLemmas.{fits-at, so-at, All-rest}
 use Rattle.sound_state.proofs.quiet.QuietLemmas.{found_from}
 use Rattle.sound_state.proofs.quiet.QuietLinks.{written-at}
 use Rattle.sound_state.proofs.shared.StepLemmas.{at_point, settle-at, words-below, raised-least, raised-below}
-use Rattle.sound_state.proofs.shared.SumLemmas.{sum-same, callers-moved}
+use Rattle.sound_state.proofs.shared.TurnEffects.{TurnWeighs, emptied-kept, head-tag, no-event, turn-weighs, turned-after}
+
+-- a caller that makes a superblock is in a turn
+making-weighs :
+    (e : ErrandFields) (b : BlockPoint) (o : Onward) → e.point ≡ Block b o → is_giving b ≡ true → has_frame_block b ≡ true
+    → TurnWeighs e 1 0 0
+making-weighs e b o at gives frame =
+    turn-weighs true false e (ap in_turn at ∙ gives) (ap has_frame at ∙ frame) (ap has_refused at) (ap is_discarding_at at)
 
 -- the tags and the turns
 anchored-turned :
@@ -60,85 +65,45 @@ anchored-turned :
     → IsSoundWith g s l → IsTurned g s' l
 anchored-turned g s l who at e s' o h before after turns lost cleared old =
     let turned = old.turned in
-    let p = (s.errand who).point in
-    let moved = λ (weight : ErrandFields → ℕ). callers-moved g weight s.errand who e s'.errand h.caller h.moves in
-    let open_0 : turn_open (s.errand who) ≡ 1 = ap (λ p. one_if (in_turn p)) before in
-    let open_1 : turn_open e ≡ 1 = ap (λ p. one_if (in_turn p)) after in
-    let discards_0 : errand_discards (s.errand who) ≡ 0 = ap (λ p. one_if (in_turn p && is_discarding_at p)) before in
-    let discards_1 : errand_discards e ≡ 0 = ap (λ p. one_if (in_turn p && is_discarding_at p)) after in
-    let unanswered_0 : turn_unanswered (s.errand who) ≡ 1 = ap (λ p. one_if (in_turn p && not (has_refused p))) before in
-    let unanswered_1 : turn_unanswered e ≡ 1 = ap (λ p. one_if (in_turn p && not (has_refused p))) after in
-    let unframed_0 : turn_unframed (s.errand who) ≡ 0 = ap (λ p. one_if (in_turn p && not (has_frame p))) before in
-    let unframed_1 : turn_unframed e ≡ 0 = ap (λ p. one_if (in_turn p && not (has_frame p))) after in
-    let unlisted_0 : turn_unlisted (s.errand who) ≡ 1 = ap (λ p. one_if (in_turn p && not (has_partial p))) before in
-    let unlisted_1 : turn_unlisted e ≡ 1 = ap (λ p. one_if (in_turn p && not (has_partial p))) after in
-    let pops_0 : errand_pops (s.errand who) ≡ 0 = ap pops_left before in
-    let pops_1 : errand_pops e ≡ 0 = ap pops_left after in
-    let frees : count_by (is_small_free g) s'.history ≡ count_by (is_small_free g) s.history = ap (count_by (is_small_free g)) h.history in
-    let allocs : count_by is_small_alloc s'.history ≡ count_by is_small_alloc s.history = ap (count_by is_small_alloc) h.history in
+    let p = making-weighs (s.errand who) (block.StoreAnchor at) o before refl refl in
+    let q = making-weighs e (block.InstallSuperblock at) o after refl refl in
+    let unlisted : turn_unlisted (s.errand who) ≡ 1 = ap (λ p. one_if (in_turn p && not (has_partial p))) before in
+    let pops : errand_pops e ≡ 0 = ap pops_left after in
+    let events = no-event g who s.history s'.history h.history in
     let home = anchored-home g s l who at e s' h old in
     let one : away_of g s l at.desc ≡ 1 = omega (arith, anchored-away g s l who at e s' h at.desc, home, it-here at) in
     let out_0 : emptied_out g s l at.desc ≡ 0 = rw one refl in
     let out_1 : emptied_out g s' l at.desc ≡ 0 = rw (home, anchored-here g s l who at e s' h) refl in
-    let emptied_same : sum_below (descriptor_count g) (emptied_out g s' l) ≡ sum_below (descriptor_count g) (emptied_out g s l) =
-    sum-same (descriptor_count g) (emptied_out g s l) (emptied_out g s' l)
-    (λ d lt.
+    let emptied_same =
+    emptied-kept g s l s' l
+    (λ d.
     elim (cases_eq d at.desc) [
       | inl is ↦ subst (λ k. emptied_out g s' l k ≡ emptied_out g s l k) (sym is) (out_1 ∙ sym out_0)
       | inr differ ↦
           let away : away_of g s' l d ≡ away_of g s l d = omega (arith, anchored-away g s l who at e s' h d, it-elsewhere at d differ) in
           rw (away, anchored-anchor g s l who at e s' h d differ) refl
     ]) in
-    record {
-      own_turns = λ i has.
-          subst (λ past. count_by (gives_small i) past + turn_open (s'.errand i) ≤ (s'.errand i).turns) (sym h.history)
-          (each-caller g (λ i f. count_by (gives_small i) s.history + turn_open f ≤ f.turns) s.errand who e s'.errand h.moves
-          (omega (arith, turned.own_turns who h.caller, open_0, open_1, turns)) turned.own_turns i has);
-      own_lost = λ i has.
-          subst
-          (λ past. (s'.errand i).turns + errand_discards (s'.errand i)
-          ≤ count_by (gives_small i) past + count_by (refuses_small i) past + (s'.errand i).lost + turn_unanswered (s'.errand i)) (sym h.history)
-          (each-caller g
-          (λ i f. f.turns + errand_discards f
-          ≤ count_by (gives_small i) s.history + count_by (refuses_small i) s.history + f.lost + turn_unanswered f) s.errand who e s'.errand h.moves
-          (omega (arith, turned.own_lost who h.caller, discards_0, discards_1, unanswered_0, unanswered_1, turns, lost)) turned.own_lost i has);
+    turned-after g s l who e s' l 0 0
+    (record {
+      caller = h.caller;
+      moves = h.moves;
+      events = events;
+      own_turns = omega (arith, turned.own_turns who h.caller, events.gives, p.under_way, q.under_way, turns);
+      own_lost =
+          omega (arith, turned.own_lost who h.caller, events.gives, events.refuses who, p.unanswered, q.discards, q.unanswered, turns, lost);
       anchor_tags = λ d has.
           elim (cases_eq d at.desc) [
             | inl is ↦
-                subst (λ k. (anchor_for s' k).tag ≤ count_by is_small_alloc s'.history) (sym is)
+                subst (λ k. (anchor_for s' k).tag ≤ (anchor_for s k).tag + 0) (sym is)
                 (omega (arith, ap (λ a. a.tag) (anchored-here g s l who at e s' h)))
-            | inr differ ↦ omega (arith, turned.anchor_tags d has, ap (λ a. a.tag) (anchored-anchor g s l who at e s' h d differ), allocs)
+            | inr differ ↦ omega (arith, ap (λ a. a.tag) (anchored-anchor g s l who at e s' h d differ))
           ];
-      frame_tag =
-          omega (
-            arith,
-            turned.frame_tag,
-            ap (λ w. (head_of w).tag) (h.writes.elsewhere name.FrameHead (λ is. cc)),
-            moved turn_unframed,
-            moved turns_of,
-            unframed_0,
-            unframed_1,
-            turns,
-          );
-      emptied = omega (arith, turned.emptied, emptied_same, moved cleared_of, cleared, frees);
-      list_tags = λ class has.
-          omega (
-            arith,
-            turned.list_tags class has,
-            ap (λ w. (head_of w).tag) (h.writes.elsewhere (name.ListHead class) (λ is. cc)),
-            moved errand_pops,
-            moved turn_unlisted,
-            moved turns_of,
-            moved cleared_of,
-            cleared,
-            turns,
-            unlisted_0,
-            unlisted_1,
-            pops_0,
-            pops_1,
-            frees,
-          );
-    }
+      frame_turns = omega (arith, head-tag (h.writes.elsewhere name.FrameHead (λ is. cc)), q.unframed, turns);
+      emptied = omega (arith, emptied_same, cleared);
+      list_turns = λ class has.
+          omega (arith, head-tag (h.writes.elsewhere (name.ListHead class) (λ is. cc)), unlisted, q.unlisted, pops, turns, cleared);
+    })
+    turned
 
 none-live : (o : Option Live) → ((b : Live) → o ≡ Some b → ⊥) → is_there o ≡ 0
 none-live None none = refl

@@ -23,14 +23,14 @@ use Rattle.superblock_parts.specs.declared.point.BlockPoint.{BlockPoint}
 use Rattle.superblock_parts.specs.declared.point.BlockPoint.TheVariants as block
 use Rattle.superblock_parts.specs.declared.point.Share.{Share}
 use Rattle.superblock_parts.specs.declared.point.Share.TheVariants.{Credit, LastCredit, Grant}
-use Rattle.errand_steps.specs.declared.onward.Onward.{Onward}
-use Rattle.errand_steps.specs.declared.point.Point.{Point}
-use Rattle.errand_steps.specs.declared.point.Point.TheVariants as point
-use Rattle.errand_steps.specs.Steps.{State}
 use Rattle.stack_parts.specs.declared.point.StackPoint.{StackPoint}
 use Rattle.hazard_parts.specs.declared.point.DescPoint.{DescPoint}
 use Rattle.partial_parts.specs.declared.point.PartialPoint.{PartialPoint}
 use Rattle.large_parts.specs.declared.point.LargePoint.{LargePoint}
+use Rattle.errand_steps.specs.declared.onward.Onward.{Onward}
+use Rattle.errand_steps.specs.declared.point.Point.{Point}
+use Rattle.errand_steps.specs.declared.point.Point.TheVariants as point
+use Rattle.errand_steps.specs.Steps.{State}
 use Rattle.sound_state.specs.Holdings.{before_pop, block_holds, stack_holds, desc_holds, partial_holds, large_holds, holds_of}
 use Rattle.sound_state.specs.Keepers.{word_keeps, active_keeps}
 use Rattle.sound_state.specs.Lists.{Lists}
@@ -40,6 +40,7 @@ use Rattle.sound_state.specs.Sums.{words_sum, callers_sum}
 use Rattle.sound_state.specs.Superblocks.{Superblock, IsChained, is_bound, free_chain, live_at, offered, word_reserves, reserved_among, errand_reserves, reserved_of}
 use Rattle.sound_state.proofs.beginnings.OpeningLists.{indexes, indexes-before, indexes-once, indexes-end, indexes-chained}
 use Rattle.sound_state.proofs.shared.SumLemmas.{sum-none, term-sum, callers-none}
+use Rattle.sound_state.proofs.shared.RecallTables.{bound-differs}
 
 -- blocks of another descriptor
 before-other : (e d class : ℕ) (share : Share) → e ≢ d → reserved_among d (before_pop e class share).credits ≡ 0
@@ -51,67 +52,39 @@ one-other : (e d blocks : ℕ) → e ≢ d → (if e == d then blocks else 0) + 
 one-other e d blocks differ = grind (arith, ne_eqb e d differ)
 
 -- nobody has reserved blocks of a descriptor that isn't bound
-unbound-block :
-    (g : Geometry) (s : State) (l : Lists) (i d : ℕ) (p : BlockPoint) → (IsTrue (is_bound g s l d) → ⊥)
-    → AllByRecursion (IsSo g s l i) (block_recalls p) → reserved_among d (block_holds p).credits ≡ 0
-unbound-block g s l i d (block.LoadInfo seat e share) free so =
-    before-other e d seat.class share (λ is. free (subst (λ k. IsTrue (is_bound g s l k)) is so.0.0))
-unbound-block g s l i d (block.LoadAnchor at share) free so =
-    before-other at.desc d at.seat.class share (λ is. free (subst (λ k. IsTrue (is_bound g s l k)) is so.0.0))
-unbound-block g s l i d (block.LoadLink at share x) free so =
-    before-other at.desc d at.seat.class share (λ is. free (subst (λ k. IsTrue (is_bound g s l k)) is so.1.0.0))
-unbound-block g s l i d (block.PopBlock at share x prefix) free so =
-    before-other at.desc d at.seat.class share (λ is. free (subst (λ k. IsTrue (is_bound g s l k)) is so.1.1.0.0))
-unbound-block g s l i d (block.InstallCredits at k more) free so =
-    one-other at.desc d more (λ is. free (subst (λ k. IsTrue (is_bound g s l k)) is so.0.0))
-unbound-block g s l i d (block.InstallSuperblock at) free so =
-    one-other at.desc d (new_credits at.seat.class + 1) (λ is. free (subst (λ k. IsTrue (is_bound g s l k)) is so.1.0.0))
-unbound-block g s l i d (block.LoadReturn at k more) free so =
-    one-other at.desc d more (λ is. free (subst (λ k. IsTrue (is_bound g s l k)) is so.0.0))
-unbound-block g s l i d (block.ReturnCredits at k more x) free so =
-    one-other at.desc d more (λ is. free (subst (λ k. IsTrue (is_bound g s l k)) is so.0.0))
-unbound-block g s l i d (block.LoadActive seat) free so = refl
-unbound-block g s l i d (block.TakeCredit seat e credits) free so = refl
-unbound-block g s l i d (block.StorePrefix at k) free so = refl
-unbound-block g s l i d (block.LoadPrefix seat frame k) free so = refl
-unbound-block g s l i d (block.LoadPushAnchor at k stored) free so = refl
-unbound-block g s l i d (block.StoreGuard at k x) free so = refl
-unbound-block g s l i d (block.LoadOwner at k x) free so = refl
-unbound-block g s l i d (block.StoreLink at k x stored heap) free so = refl
-unbound-block g s l i d (block.PushBlock at k x stored heap) free so = refl
-unbound-block g s l i d (block.LinkBlock at k) free so = refl
-unbound-block g s l i d (block.StoreInfo at) free so = refl
-unbound-block g s l i d (block.StoreAnchor at) free so = refl
-unbound-block g s l i d (block.WantsPartial seat) free so = refl
-unbound-block g s l i d (block.Returned at k) free so = refl
-unbound-block g s l i d (block.Discarded at) free so = refl
-unbound-block g s l i d (block.Given at k) free so = refl
-unbound-block g s l i d (block.BecameEmpty at heap) free so = refl
-unbound-block g s l i d (block.BecamePartial at stored) free so = refl
-unbound-block g s l i d (block.Pushed seat stored) free so = refl
+module _ (g : Geometry) (s : State) (l : Lists) (i d : ℕ) (free : IsTrue (is_bound g s l d) → ⊥) where
+  unbound-block : (p : BlockPoint) → AllByRecursion (IsSo g s l i) (block_recalls p) → reserved_among d (block_holds p).credits ≡ 0
+  unbound-block (block.LoadInfo seat e share) so = before-other e d seat.class share (bound-differs g s l d free _ so.0.0)
+  unbound-block (block.LoadAnchor at share) so = before-other at.desc d at.seat.class share (bound-differs g s l d free _ so.0.0)
+  unbound-block (block.LoadLink at share x) so = before-other at.desc d at.seat.class share (bound-differs g s l d free _ so.1.0.0)
+  unbound-block (block.PopBlock at share x prefix) so = before-other at.desc d at.seat.class share (bound-differs g s l d free _ so.1.1.0.0)
+  unbound-block (block.InstallCredits at k more) so = one-other at.desc d more (bound-differs g s l d free _ so.0.0)
+  unbound-block (block.InstallSuperblock at) so = one-other at.desc d (new_credits at.seat.class + 1) (bound-differs g s l d free _ so.1.0.0)
+  unbound-block (block.LoadReturn at k more) so = one-other at.desc d more (bound-differs g s l d free _ so.0.0)
+  unbound-block (block.ReturnCredits at k more x) so = one-other at.desc d more (bound-differs g s l d free _ so.0.0)
+  unbound-block p so = grind (arith)
 
-none-stack : (d : ℕ) (p : StackPoint) (o : Onward) → reserved_among d (stack_holds p o).credits ≡ 0
-none-stack d p o = grind (arith)
+  -- outside of a superblock nothing is reserved
+  none-stack : (p : StackPoint) (o : Onward) → reserved_among d (stack_holds p o).credits ≡ 0
+  none-stack p o = grind (arith)
 
-none-desc : (d : ℕ) (p : DescPoint) (o : Onward) → reserved_among d (desc_holds p o).credits ≡ 0
-none-desc d p o = grind (arith)
+  none-desc : (p : DescPoint) (o : Onward) → reserved_among d (desc_holds p o).credits ≡ 0
+  none-desc p o = grind (arith)
 
-none-partial : (d : ℕ) (p : PartialPoint) (o : Onward) → reserved_among d (partial_holds p o).credits ≡ 0
-none-partial d p o = grind (arith)
+  none-partial : (p : PartialPoint) (o : Onward) → reserved_among d (partial_holds p o).credits ≡ 0
+  none-partial p o = grind (arith)
 
-none-large : (d : ℕ) (p : LargePoint) → reserved_among d (large_holds p).credits ≡ 0
-none-large d p = grind (arith)
+  none-large : (p : LargePoint) → reserved_among d (large_holds p).credits ≡ 0
+  none-large p = grind (arith)
 
-unbound-point :
-    (g : Geometry) (s : State) (l : Lists) (i d : ℕ) (p : Point) → (IsTrue (is_bound g s l d) → ⊥)
-    → AllByRecursion (IsSo g s l i) (recalls_of p) → reserved_among d (holds_of p).credits ≡ 0
-unfolding holds_of recalls_of
-unbound-point g s l i d point.Idle free so = refl
-unbound-point g s l i d (point.Block p o) free so = unbound-block g s l i d p free so
-unbound-point g s l i d (point.Stack p o) free so = none-stack d p o
-unbound-point g s l i d (point.Desc p o) free so = none-desc d p o
-unbound-point g s l i d (point.Partial p o) free so = none-partial d p o
-unbound-point g s l i d (point.Large p o) free so = none-large d p
+  unbound-point : (p : Point) → AllByRecursion (IsSo g s l i) (recalls_of p) → reserved_among d (holds_of p).credits ≡ 0
+  unfolding holds_of recalls_of
+  unbound-point point.Idle so = refl
+  unbound-point (point.Block p o) so = unbound-block p so
+  unbound-point (point.Stack p o) so = none-stack p o
+  unbound-point (point.Desc p o) so = none-desc p o
+  unbound-point (point.Partial p o) so = none-partial p o
+  unbound-point (point.Large p o) so = none-large p
 
 -- a word that doesn't hold it offers none
 held-none : (d : ℕ) (o : Option ActiveWord) → active_keeps d o ≡ 0 → offered d o ≡ 0
@@ -121,18 +94,7 @@ held-none d (Some (Held e credits)) none = grind (arith, none)
 
 word-none : (d : ℕ) (n : WordName) (w : ℕ) → word_keeps d n w ≡ 0 → word_reserves d n w ≡ 0
 word-none d (name.Active heap class) w none = held-none d (active_of w) none
-word-none d (name.Slot heap class) w none = refl
-word-none d (name.Arena place) w none = refl
-word-none d (name.Anchor e) w none = refl
-word-none d (name.Next e) w none = refl
-word-none d (name.Info e) w none = refl
-word-none d (name.ListHead class) w none = refl
-word-none d (name.FrameNext f) w none = refl
-word-none d name.FrameHead w none = refl
-word-none d name.DescHead w none = refl
-word-none d (name.Hazard who) w none = refl
-word-none d name.Units w none = refl
-word-none d (name.Shelf k) w none = refl
+word-none d n w none = refl
 
 -- so a descriptor that isn't bound, and that no processor heap holds, has no reserved blocks
 pub unbound-reserves :
@@ -148,7 +110,7 @@ unbound-reserves g s l d old free none =
     let callers : callers_sum g (errand_reserves d) s.errand ≡ 0 =
     callers-none g (errand_reserves d) s.errand
     (λ i has.
-    unbound-point g s l i d (s.errand i).point free
+    unbound-point g s l i d free (s.errand i).point
     (recursion_from_All (IsSo g s l i) (recalls_of (s.errand i).point) (old.remembered.so i has))) in
     omega (arith, words, callers)
 

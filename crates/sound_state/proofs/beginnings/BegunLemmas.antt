@@ -1,7 +1,7 @@
 -- A call that begins keeps the state sound.
-use Rattle.std.proofs.Common.{ℕ, false, None, ◌≡◌, ◌<◌, ◌≤◌, ◌+◌, List, [], refl, arith, sym, subst, inl, inr, ◌∙◌, ◌^◌}
+use Rattle.std.proofs.Common.{ℕ, false, None, ◌≡◌, ◌<◌, ◌≤◌, ◌+◌, List, [], ◌∷◌, refl, arith, sym, subst, inl, inr, ◌∙◌, ◌^◌}
 use Rattle.std.proofs.Math.Path.{fun_ext}
-use Rattle.std.specs.Prelude.{◌⊎◌, ◌&&◌, not, All, Any, IsTrue, length, count_by}
+use Rattle.std.specs.Prelude.{◌&&◌, not, All, length, count_by}
 use Rattle.std.proofs.lemmas.Bool.{cases_eq, cases_Bool, cond-true, cond-false}
 use Rattle.std.proofs.lemmas.List.Elements.{All-nil, All-cons}
 use Rattle.std.proofs.lemmas.Option.{none-some}
@@ -18,6 +18,7 @@ use Rattle.pool_model.proofs.PoolLemmas.{every-each, place-found}
 use Rattle.pool_model.proofs.WellFormedLemmas.{sound-of}
 use Rattle.word_plan.specs.declared.name.WordName.{WordName}
 use Rattle.word_plan.specs.declared.name.WordName.TheVariants as name
+use Rattle.word_plan.specs.Words.{Writes}
 use Rattle.errand_steps.specs.declared.point.Point.{Point}
 use Rattle.errand_steps.specs.declared.point.Point.TheVariants.{Idle}
 use Rattle.errand_steps.specs.Begins.{IsIdle, IsHeapBlock, begins_alloc, alloc_begun, free_begun, write_begun, read_begun, put_begun, take_begun}
@@ -34,24 +35,28 @@ use Rattle.sound_state.specs.Stock.{waits_in}
 use Rattle.sound_state.specs.Turns.{gives_small, refuses_small, turn_open, turn_unanswered, errand_discards, one_if, in_turn, has_frame, has_partial, has_refused, is_discarding_at, pops_left}
 use Rattle.sound_state.proofs.beginnings.BegunErrands.{idle-is, alloc-errand, free-errand, write-errand, read-errand, put-errand, take-errand}
 use Rattle.sound_state.proofs.shared.AlikeLemmas.{MayGoOn, MayGuard, sound-alike}
-use Rattle.sound_state.proofs.quiet.QuietLemmas.{actives-stay}
-use Rattle.sound_state.proofs.shared.WeighLemmas.{WeighAlike, alike-most, weigh-alike, weigh-emptied}
+use Rattle.sound_state.proofs.shared.StepLemmas.{HoldsException, actives-stay}
+use Rattle.sound_state.proofs.shared.WeighLemmas.{WeighAlike, WeighMost, alike-most, weigh-alike, weigh-emptied}
 
 -- a caller that holds nothing but a block that it frees
 abbrev pub freeing : List Freed → Holding
 freeing blocks = record nothing { frees = blocks }
 
--- the point at which a call begins
-pub record Begins (g : Geometry) (s : State) (l : Lists) (who : ℕ) (p : Point) (blocks : List Freed) : Type 0 where
+-- a point at which a caller holds nothing but these blocks that it frees, and has not looked, pushed or scanned
+pub record IsFresh (p : Point) (blocks : List Freed) : Type 0 where
   pub holds : holds_of p ≡ freeing blocks
-  pub frees : All (λ x. IsOwned s who x.place x.need) blocks
-  pub so : All (IsSo g s l who) (recalls_of p)
   pub waits : (class : ℕ) → waits_in class p ≡ 0
   pub pushed : pushed_by p ≡ None
   pub passed : passed_by p ≡ 0
   pub unread : length (held_by p) ≡ 0
   pub spare : spare_of p ≡ 0
   pub pops : pops_left p ≡ 0
+
+-- the point at which a call begins
+pub record Begins (g : Geometry) (s : State) (l : Lists) (who : ℕ) (p : Point) (blocks : List Freed) : Type 0 where
+  pub fresh : IsFresh p blocks
+  pub frees : All (λ x. IsOwned s who x.place x.need) blocks
+  pub so : All (IsSo g s l who) (recalls_of p)
 
 -- it takes so many turns, none or one, and is in as many
 pub record Takes (p : Point) (t before after : ℕ) : Type 0 where
@@ -74,20 +79,17 @@ begun-weighs g s l who a p turns blocks idle b n w =
     let was = idle-is a.point idle in
     record {
       still = λ plain. refl;
-      reserves = λ d. rw (was, b.holds) refl;
-      waits = λ d. rw (was, b.holds) refl;
-      ways = λ d. rw (was, b.holds) refl;
-      away = λ d. rw (was, b.holds) refl;
-      places = λ d. rw (was, b.holds) refl;
-      frames = λ f. rw (was, b.holds) refl;
-      stock = λ class. rw (was, b.holds, b.waits class) refl;
+      reserves = λ d. rw (was, b.fresh.holds) refl;
+      waits = λ d. rw (was, b.fresh.holds) refl;
+      ways = λ d. rw (was, b.fresh.holds) refl;
+      away = λ d. rw (was, b.fresh.holds) refl;
+      places = λ d. rw (was, b.fresh.holds) refl;
+      frames = λ f. rw (was, b.fresh.holds) refl;
+      stock = λ class. rw (was, b.fresh.holds, b.fresh.waits class) refl;
     }
 
 -- who holds nothing excepts no block
-abbrev ExceptsAt : Holding → ℕ → Type 0
-ExceptsAt h place = Any (λ b. b.place ≡ place) h.hands ⊎ Any (λ b. (b.place ≡ place) × IsTrue b.overwritten) h.frees
-
-not-excepts : (place : ℕ) → ExceptsAt nothing place → ⊥
+not-excepts : (place : ℕ) → HoldsException nothing place → ⊥
 not-excepts place (inl x) = omega (arith, x.2)
 not-excepts place (inr x) = omega (arith, x.2)
 
@@ -106,12 +108,13 @@ begun-may g s l who a p t turns blocks sound has at idle b rule takes =
     record {
       rule = record { caller = own.caller; geometry = own.geometry; rule = rule; lost = own.lost };
       retired = subst (λ e. All (IsWithout s) e.retired) at (sound.kept.retired who has);
-      kept = subst (λ h. All (λ k. IsKeptAs s k.status k.desc k.class) h.kept) (sym b.holds) (All-nil (λ k. IsKeptAs s k.status k.desc k.class));
+      kept = subst (λ h. All (λ k. IsKeptAs s k.status k.desc k.class) h.kept) (sym b.fresh.holds)
+          (All-nil (λ k. IsKeptAs s k.status k.desc k.class));
       so = b.so;
-      full = λ is. let bad : ⊥ = omega (arith, is, b.spare) in absurd bad;
-      hands = subst (λ h. All (λ x. IsOwned s who x.place x.need) h.hands) (sym b.holds) (All-nil (λ x. IsOwned s who x.place x.need));
-      frees = subst (λ h. All (λ x. IsOwned s who x.place x.need) h.frees) (sym b.holds) b.frees;
-      excepts = λ place x. absurd (not-excepts place (subst (λ q. ExceptsAt (holds_of q) place) was x));
+      full = λ is. let bad : ⊥ = omega (arith, is, b.fresh.spare) in absurd bad;
+      hands = subst (λ h. All (λ x. IsOwned s who x.place x.need) h.hands) (sym b.fresh.holds) (All-nil (λ x. IsOwned s who x.place x.need));
+      frees = subst (λ h. All (λ x. IsOwned s who x.place x.need) h.frees) (sym b.fresh.holds) b.frees;
+      excepts = λ place x. absurd (not-excepts place (subst (λ q. HoldsException (holds_of q) place) was x));
       own_turns = omega (arith, turned, takes.turns, takes.under_way);
       own_lost =
           let lost : a.turns + errand_discards a ≤ count_by (gives_small who) s.history + count_by (refuses_small who) s.history + a.lost + turn_unanswered a =
@@ -121,7 +124,7 @@ begun-may g s l who a p t turns blocks sound has at idle b rule takes =
           (sound.turned.own_lost who has) in
           omega (arith, lost, takes.turns, takes.discards, takes.unanswered, idle_takes.unanswered);
       frame_turns = omega (arith, takes.turns, takes.unframed);
-      list_turns = omega (arith, takes.turns, takes.unlisted, b.pops);
+      list_turns = omega (arith, takes.turns, takes.unlisted, b.fresh.pops);
     }
 
 -- it guards nothing, nor does it push or scan
@@ -133,12 +136,12 @@ begun-guards g s l who p retired blocks sound has idle b =
     let was = idle-is (s.errand who).point idle in
     record {
       hazard =
-          subst (λ h. IsHazard h.hazard (s.word (name.Hazard who))) (sym b.holds)
+          subst (λ h. IsHazard h.hazard (s.word (name.Hazard who))) (sym b.fresh.holds)
           (subst (λ e. IsHazard (holds_of e).hazard (s.word (name.Hazard who))) was (sound.guarded.words who has));
-      guard = λ d word guard. absurd (subst (λ h. IsGuard h.hazard) b.holds guard);
-      pushed = λ i d has_i guards is. absurd (none-some d (sym b.pushed ∙ is));
-      passed = λ i d has_i guards listed below. let bad : ⊥ = omega (arith, below, b.passed) in absurd bad;
-      unread = λ i passed below. let bad : ⊥ = omega (arith, below, b.unread) in absurd bad;
+      guard = λ d word guard. absurd (subst (λ h. IsGuard h.hazard) b.fresh.holds guard);
+      pushed = λ i d has_i guards is. absurd (none-some d (sym b.fresh.pushed ∙ is));
+      passed = λ i d has_i guards listed below. let bad : ⊥ = omega (arith, below, b.fresh.passed) in absurd bad;
+      unread = λ i passed below. let bad : ⊥ = omega (arith, below, b.fresh.unread) in absurd bad;
     }
 
 -- a caller that begins a call keeps the state sound
@@ -153,6 +156,10 @@ begun-sound g s who p t turns blocks errands' sound has idle begins rule takes m
     let old = sound.parts.1 in
     let e = record (s.errand who) { point = p; turns = turns } in
     let word = s.word name.FrameHead in
+    let stays : Writes s.word name.FrameHead word s.word = record { here = refl; elsewhere = λ other differ. refl } in
+    let weigh : WeighMost name.FrameHead word word (s.errand who) e =
+    alike-most name.FrameHead word word (s.errand who) e
+    (begun-weighs g s l who (s.errand who) p turns blocks idle (begins l) name.FrameHead word) in
     record {
       checked = sound.checked;
       legal = sound.legal;
@@ -162,28 +169,43 @@ begun-sound g s who p t turns blocks errands' sound has idle begins rule takes m
             (record {
               caller = has;
               moves = moves;
-              alike =
-                  weigh-alike g s l who name.FrameHead word e (with_errands s errands') tt has
-                  (record { here = refl; elsewhere = λ other differ. refl }) moves refl
-                  (alike-most name.FrameHead word word (s.errand who) e
-                  (begun-weighs g s l who (s.errand who) p turns blocks idle (begins l) name.FrameHead word));
+              alike = weigh-alike g s l who name.FrameHead word e (with_errands s errands') tt has stays moves refl weigh;
               may = begun-may g s l who (s.errand who) p t turns blocks old has refl idle (begins l) rule takes;
               others = λ i differ. refl;
               guards = begun-guards g s l who p (s.errand who).retired blocks old has idle (begins l);
               actives = actives-stay g s l s.word old.kept (λ n. refl);
               words = old.words;
-              emptied =
-                  omega (
-                    arith,
-                    weigh-emptied g s l who name.FrameHead word e (with_errands s errands') has
-                        (record { here = refl; elsewhere = λ other differ. refl }) moves
-                        (alike-most name.FrameHead word word (s.errand who) e
-                        (begun-weighs g s l who (s.errand who) p turns blocks idle (begins l) name.FrameHead word)),
-                  );
+              emptied = omega (arith, weigh-emptied g s l who name.FrameHead word e (with_errands s errands') has stays moves weigh);
             })
             old,
       );
     }
+
+-- a call that begins at a point without a turn
+no-turn-sound :
+    (g : Geometry) (s : State) (who : ℕ) (p : Point) (blocks : List Freed) (errands' : ℕ → ErrandFields) → IsSoundWithoutCounts g s
+    → who < g.callers → IsIdle (s.errand who) → ((l : Lists) → Begins g s l who p blocks) → IsErrand (record (s.errand who) { point = p })
+    → in_turn p ≡ false → Moves s.errand who (record (s.errand who) { point = p }) errands' → IsSoundWithoutCounts g (with_errands s errands')
+no-turn-sound g s who p blocks errands' sound has idle begins rule no_turn moves =
+    begun-sound g s who p 0 (s.errand who).turns blocks errands' sound has idle begins rule
+    (record {
+      turns = omega arith;
+      under_way = rw no_turn refl;
+      discards = rw no_turn refl;
+      unanswered = rw no_turn refl;
+      unframed = rw no_turn refl;
+      unlisted = rw no_turn refl;
+    })
+    moves
+
+-- one that frees no block
+bare-sound :
+    (g : Geometry) (s : State) (who : ℕ) (p : Point) (errands' : ℕ → ErrandFields) → IsSoundWithoutCounts g s → who < g.callers
+    → IsIdle (s.errand who) → IsFresh p [] → ((l : Lists) → All (IsSo g s l who) (recalls_of p)) → IsErrand (record (s.errand who) { point = p })
+    → in_turn p ≡ false → Moves s.errand who (record (s.errand who) { point = p }) errands' → IsSoundWithoutCounts g (with_errands s errands')
+bare-sound g s who p errands' sound has idle fresh so rule no_turn moves =
+    no-turn-sound g s who p [] errands' sound has idle
+    (λ l. record { fresh = fresh; frees = All-nil (λ x. IsOwned s who x.place x.need); so = so l }) rule no_turn moves
 
 -- an errand that stays as it is keeps the state sound
 stays-sound :
@@ -213,15 +235,9 @@ alloc-from g s who words (Small class) errands' is sound has idle rule moves =
           let more = cond-false (is_spent e) e _ left in
           begun-sound g s who _ 1 (one_more e.turns) [] errands' sound has idle
           (λ l. record {
-            holds = refl;
+            fresh = grind (arith);
             frees = All-nil (λ x. IsOwned s who x.place x.need);
             so = All-nil (IsSo g s l who);
-            waits = λ class. refl;
-            pushed = refl;
-            passed = refl;
-            unread = refl;
-            spare = refl;
-            pops = refl;
           })
           (subst IsErrand more rule)
           (record {
@@ -235,19 +251,7 @@ alloc-from g s who words (Small class) errands' is sound has idle rule moves =
           (subst (λ f. Moves s.errand who f errands') more moves)
     ]
 alloc-from g s who words (Large units) errands' is sound has idle rule moves =
-    begun-sound g s who _ 0 (s.errand who).turns [] errands' sound has idle
-    (λ l. record {
-      holds = refl;
-      frees = All-nil (λ x. IsOwned s who x.place x.need);
-      so = All-nil (IsSo g s l who);
-      waits = λ class. refl;
-      pushed = refl;
-      passed = refl;
-      unread = refl;
-      spare = refl;
-      pops = refl;
-    })
-    rule (record { turns = omega arith; under_way = refl; discards = refl; unanswered = refl; unframed = refl; unlisted = refl }) moves
+    bare-sound g s who _ errands' sound has idle (grind (arith)) (λ l. All-nil (IsSo g s l who)) rule refl moves
 alloc-from g s who words TooLarge errands' is sound has idle rule moves = stays-sound g s who errands' sound moves
 
 -- an allocation that begins
@@ -270,22 +274,12 @@ owned-block g s who place n sound owned =
     let at : b.place ≡ place = place-found place (pool_of s.history) b live in
     subst (λ m. IsHeapBlock g place m) owned.block.3 (subst (λ p. IsHeapBlock g p b.need) at (formed.need, formed.place))
 
--- a call that begins at a point without a turn
-no-turn-sound :
-    (g : Geometry) (s : State) (who : ℕ) (p : Point) (blocks : List Freed) (errands' : ℕ → ErrandFields) → IsSoundWithoutCounts g s
-    → who < g.callers → IsIdle (s.errand who) → ((l : Lists) → Begins g s l who p blocks) → IsErrand (record (s.errand who) { point = p })
-    → in_turn p ≡ false → Moves s.errand who (record (s.errand who) { point = p }) errands' → IsSoundWithoutCounts g (with_errands s errands')
-no-turn-sound g s who p blocks errands' sound has idle begins rule no_turn moves =
-    begun-sound g s who p 0 (s.errand who).turns blocks errands' sound has idle begins rule
-    (record {
-      turns = omega arith;
-      under_way = rw no_turn refl;
-      discards = rw no_turn refl;
-      unanswered = rw no_turn refl;
-      unframed = rw no_turn refl;
-      unlisted = rw no_turn refl;
-    })
-    moves
+-- so it is one of the heap that the caller's errand is in
+errand-block :
+    (g : Geometry) (s : State) (who place : ℕ) (n : Need) → IsSoundWithoutCounts g s → who < g.callers → IsOwned s who place n
+    → IsHeapBlock (s.errand who).geometry place n
+errand-block g s who place n sound has owned =
+    subst (λ h. IsHeapBlock h place n) (sym (sound.parts.1.errands who has).geometry) (owned-block g s who place n sound owned)
 
 -- a free
 pub free-sound :
@@ -299,38 +293,27 @@ free-sound g s who place (Small class) errands' sound has idle owned moves =
     let at : block_place (frame_of place) class (index_of class place) ≡ place =
     block_place-split class place
     (block.1.0, block.1.1, omega (arith, block.1.2, sound.checked.frames.1), block.1.3, block.1.4) in
-    no-turn-sound g s who _ _ errands' sound has idle
+    let freed : Freed = record { place = block_place (frame_of place) class (index_of class place); need = Small class; overwritten = false } in
+    no-turn-sound g s who _ (freed ∷ []) errands' sound has idle
     (λ l. record {
-      holds = refl;
+      fresh = grind (arith);
       frees =
-          All-cons (λ x. IsOwned s who x.place x.need) _ [] (subst (λ p. IsOwned s who p (Small class)) (sym at) owned)
+          All-cons (λ x. IsOwned s who x.place x.need) freed [] (subst (λ p. IsOwned s who p (Small class)) (sym at) owned)
           (All-nil (λ x. IsOwned s who x.place x.need));
       so = All-nil (IsSo g s l who);
-      waits = λ class. refl;
-      pushed = refl;
-      passed = refl;
-      unread = refl;
-      spare = refl;
-      pops = refl;
     })
-    (free-errand (s.errand who) place (Small class) (subst (λ h. IsHeapBlock h place (Small class)) (sym own.geometry) block) own.rule idle)
+    (free-errand (s.errand who) place (Small class) (errand-block g s who place (Small class) sound has owned) own.rule idle)
     refl moves
 free-sound g s who place (Large units) errands' sound has idle owned moves =
-    let block = owned-block g s who place (Large units) sound owned in
     let own = sound.parts.1.errands who has in
-    no-turn-sound g s who _ _ errands' sound has idle
+    let freed : Freed = record { place = place; need = Large units; overwritten = false } in
+    no-turn-sound g s who _ (freed ∷ []) errands' sound has idle
     (λ l. record {
-      holds = refl;
-      frees = All-cons (λ x. IsOwned s who x.place x.need) _ [] owned (All-nil (λ x. IsOwned s who x.place x.need));
+      fresh = grind (arith);
+      frees = All-cons (λ x. IsOwned s who x.place x.need) freed [] owned (All-nil (λ x. IsOwned s who x.place x.need));
       so = All-nil (IsSo g s l who);
-      waits = λ class. refl;
-      pushed = refl;
-      passed = refl;
-      unread = refl;
-      spare = refl;
-      pops = refl;
     })
-    (free-errand (s.errand who) place (Large units) (subst (λ h. IsHeapBlock h place (Large units)) (sym own.geometry) block) own.rule idle)
+    (free-errand (s.errand who) place (Large units) (errand-block g s who place (Large units) sound has owned) own.rule idle)
     refl moves
 free-sound g s who place TooLarge errands' sound has idle owned moves = absurd (owned-block g s who place TooLarge sound owned).1
 
@@ -341,21 +324,9 @@ pub write-sound :
     → Moves s.errand who (write_begun (s.errand who) place i v) errands' → IsSoundWithoutCounts g (with_errands s errands')
 unfolding write_begun holds_of recalls_of
 write-sound g s who place n i v errands' sound has idle owned below word moves =
-    let block = owned-block g s who place n sound owned in
     let own = sound.parts.1.errands who has in
-    no-turn-sound g s who _ [] errands' sound has idle
-    (λ l. record {
-      holds = refl;
-      frees = All-nil (λ x. IsOwned s who x.place x.need);
-      so = All-cons (IsSo g s l who) _ [] (n, owned, below) (All-nil (IsSo g s l who));
-      waits = λ class. refl;
-      pushed = refl;
-      passed = refl;
-      unread = refl;
-      spare = refl;
-      pops = refl;
-    })
-    (write-errand (s.errand who) place n i v (subst (λ h. IsHeapBlock h place n) (sym own.geometry) block) below word own.rule idle) refl moves
+    bare-sound g s who _ errands' sound has idle (grind (arith)) (λ l. All-cons (IsSo g s l who) _ [] (n, owned, below) (All-nil (IsSo g s l who)))
+    (write-errand (s.errand who) place n i v (errand-block g s who place n sound has owned) below word own.rule idle) refl moves
 
 pub read-sound :
     (g : Geometry) (s : State) (who place : ℕ) (n : Need) (i : ℕ) (errands' : ℕ → ErrandFields) → IsSoundWithoutCounts g s → who < g.callers
@@ -363,21 +334,9 @@ pub read-sound :
     → Moves s.errand who (read_begun (s.errand who) place i) errands' → IsSoundWithoutCounts g (with_errands s errands')
 unfolding read_begun holds_of recalls_of
 read-sound g s who place n i errands' sound has idle owned below moves =
-    let block = owned-block g s who place n sound owned in
     let own = sound.parts.1.errands who has in
-    no-turn-sound g s who _ [] errands' sound has idle
-    (λ l. record {
-      holds = refl;
-      frees = All-nil (λ x. IsOwned s who x.place x.need);
-      so = All-cons (IsSo g s l who) _ [] (n, owned, below) (All-nil (IsSo g s l who));
-      waits = λ class. refl;
-      pushed = refl;
-      passed = refl;
-      unread = refl;
-      spare = refl;
-      pops = refl;
-    })
-    (read-errand (s.errand who) place n i (subst (λ h. IsHeapBlock h place n) (sym own.geometry) block) below own.rule idle) refl moves
+    bare-sound g s who _ errands' sound has idle (grind (arith)) (λ l. All-cons (IsSo g s l who) _ [] (n, owned, below) (All-nil (IsSo g s l who)))
+    (read-errand (s.errand who) place n i (errand-block g s who place n sound has owned) below own.rule idle) refl moves
 
 pub put-sound :
     (g : Geometry) (s : State) (who place : ℕ) (n : Need) (k : ℕ) (errands' : ℕ → ErrandFields) → IsSoundWithoutCounts g s → who < g.callers
@@ -385,21 +344,9 @@ pub put-sound :
     → Moves s.errand who (put_begun (s.errand who) place n k) errands' → IsSoundWithoutCounts g (with_errands s errands')
 unfolding put_begun holds_of recalls_of
 put-sound g s who place n k errands' sound has idle owned shelf moves =
-    let block = owned-block g s who place n sound owned in
     let own = sound.parts.1.errands who has in
-    no-turn-sound g s who _ [] errands' sound has idle
-    (λ l. record {
-      holds = refl;
-      frees = All-nil (λ x. IsOwned s who x.place x.need);
-      so = All-cons (IsSo g s l who) _ [] owned (All-nil (IsSo g s l who));
-      waits = λ class. refl;
-      pushed = refl;
-      passed = refl;
-      unread = refl;
-      spare = refl;
-      pops = refl;
-    })
-    (put-errand (s.errand who) place n k (subst (λ h. IsHeapBlock h place n) (sym own.geometry) block) shelf own.rule idle) refl moves
+    bare-sound g s who _ errands' sound has idle (grind (arith)) (λ l. All-cons (IsSo g s l who) _ [] owned (All-nil (IsSo g s l who)))
+    (put-errand (s.errand who) place n k (errand-block g s who place n sound has owned) shelf own.rule idle) refl moves
 
 pub take-sound :
     (g : Geometry) (s : State) (who k : ℕ) (errands' : ℕ → ErrandFields) → IsSoundWithoutCounts g s → who < g.callers → IsIdle (s.errand who)
@@ -407,16 +354,5 @@ pub take-sound :
 unfolding take_begun holds_of recalls_of
 take-sound g s who k errands' sound has idle shelf moves =
     let own = sound.parts.1.errands who has in
-    no-turn-sound g s who _ [] errands' sound has idle
-    (λ l. record {
-      holds = refl;
-      frees = All-nil (λ x. IsOwned s who x.place x.need);
-      so = All-nil (IsSo g s l who);
-      waits = λ class. refl;
-      pushed = refl;
-      passed = refl;
-      unread = refl;
-      spare = refl;
-      pops = refl;
-    })
+    bare-sound g s who _ errands' sound has idle (grind (arith)) (λ l. All-nil (IsSo g s l who))
     (take-errand (s.errand who) k shelf own.rule idle) refl moves

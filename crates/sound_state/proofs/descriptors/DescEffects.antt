@@ -1,7 +1,7 @@
 -- A step that takes the first of the available descriptors, or puts one in front: what it changes, and that all else stays.
-use Rattle.std.proofs.Common.{ℕ, Some, ◌≡◌, ◌<◌, ◌≤◌, ◌+◌, ◌^◌, ◌-◌, ◌*◌, length, refl, arith, ap, sym, subst, inl, inr, ◌∙◌, List}
+use Rattle.std.proofs.Common.{ℕ, Some, ◌≡◌, ◌≢◌, ◌<◌, ◌≤◌, ◌+◌, ◌^◌, ◌-◌, ◌*◌, length, refl, arith, ap, sym, subst, inl, inr, ◌∙◌, List}
 use Rattle.std.proofs.Math.Path.{fun_ext}
-use Rattle.std.specs.Prelude.{◌⊎◌, slice_index, All, Contains, IsTrue, IsSome, count_by}
+use Rattle.std.specs.Prelude.{◌⊎◌, slice_index, All, Contains, IsTrue, IsSome}
 use Rattle.std.specs.Int.{bit_at}
 use Rattle.std.proofs.lemmas.Bool.{cases_eq}
 use Rattle.heap_geometry.specs.declared.geometry.Geometry.{Geometry}
@@ -41,9 +41,11 @@ use Rattle.sound_state.specs.Stock.{stock_of}
 use Rattle.sound_state.specs.Sums.{sum_below, callers_sum}
 use Rattle.sound_state.specs.Superblocks.{AreChained, IsChained, info_or_zero, live_at, is_there, anchor_for, info_for, superblock_of, reserved_of, waiting_of, away_of, is_bound, errand_keeps}
 use Rattle.sound_state.specs.Ties.{IsTied, IsLive, IsExcepted}
-use Rattle.sound_state.specs.Turns.{IsTurned, gives_small, refuses_small, turn_open, turn_unframed, turn_unlisted, turn_unanswered, errand_discards, errand_pops, turns_of, cleared_of, emptied_out, is_small_alloc, is_small_free}
+use Rattle.sound_state.specs.Turns.{IsTurned}
 use Rattle.sound_state.proofs.shared.AlikeLemmas.{MayGoOn, MayGuard, GuardsAnew, ActivesKept, Excepts, each-caller, same-superblock}
-use Rattle.sound_state.proofs.shared.SumLemmas.{callers-moved, sum-same}
+use Rattle.sound_state.proofs.shared.ListEffects.{listed-anew}
+use Rattle.sound_state.proofs.shared.SumLemmas.{sum-same}
+use Rattle.sound_state.proofs.shared.TurnEffects.{emptied-kept, head-tag, no-event, turned-after}
 
 -- the word is not the head of the available descriptors
 abbrev pub IsNoDescHead : WordName → Type 0
@@ -360,33 +362,21 @@ guarded-restocked g s l who e s' ys go guarded = record {
 pub turned-restocked :
     (g : Geometry) (s : State) (l : Lists) (who : ℕ) (e : ErrandFields) (s' : State) (ys : List ℕ) → Restocks g s l who e s' ys → IsTurned g s l → IsTurned g s' (with_available l ys)
 turned-restocked g s l who e s' ys go turned =
-    let h = go in
-    let moved = λ (weight : ErrandFields → ℕ). callers-moved g weight s.errand who e s'.errand go.caller go.moves in
-    let emptied_same : sum_below (descriptor_count g) (emptied_out g s' (with_available l ys)) ≡ sum_below (descriptor_count g) (emptied_out g s l) =
-    sum-same (descriptor_count g) (emptied_out g s l) (emptied_out g s' (with_available l ys)) (λ d lt. rw (h.away d, anchor-restocked g s l who e s' ys h d) refl) in
-    let heads = λ (class : ℕ). ap (λ w. (head_of w).tag) (h.word (name.ListHead class) tt) in
-    let frees : count_by (is_small_free g) s'.history ≡ count_by (is_small_free g) s.history = ap (count_by (is_small_free g)) h.history in
-    let allocs : count_by is_small_alloc s'.history ≡ count_by is_small_alloc s.history = ap (count_by is_small_alloc) h.history in
-    record {
-      own_turns = λ i has.
-          subst (λ e. count_by (gives_small i) e + turn_open (s'.errand i) ≤ (s'.errand i).turns) (sym h.history)
-          (each-caller g (λ i e. count_by (gives_small i) s.history + turn_open e ≤ e.turns) s.errand who e s'.errand go.moves go.may.own_turns
-          turned.own_turns i has);
-      own_lost = λ i has.
-          subst
-          (λ past. (s'.errand i).turns + errand_discards (s'.errand i)
-          ≤ count_by (gives_small i) past + count_by (refuses_small i) past + (s'.errand i).lost + turn_unanswered (s'.errand i)) (sym h.history)
-          (each-caller g
-          (λ i e. e.turns + errand_discards e
-          ≤ count_by (gives_small i) s.history + count_by (refuses_small i) s.history + e.lost + turn_unanswered e) s.errand who e s'.errand go.moves
-          go.may.own_lost turned.own_lost i has);
-      anchor_tags = λ d has. omega (arith, turned.anchor_tags d has, ap (λ a. a.tag) (anchor-restocked g s l who e s' ys h d), allocs);
-      frame_tag =
-          omega (arith, turned.frame_tag, ap (λ w. (head_of w).tag) (h.word name.FrameHead tt), moved turn_unframed, moved turns_of, go.may.frame_turns);
-      emptied = omega (arith, turned.emptied, emptied_same, moved cleared_of, go.cleared, frees);
-      list_tags = λ class has.
-          omega (arith, turned.list_tags class has, heads class, moved errand_pops, moved turn_unlisted, moved turns_of, moved cleared_of, go.cleared, go.may.list_turns, frees);
-    }
+    let emptied_same = emptied-kept g s l s' (with_available l ys) (λ d. rw (go.away d, anchor-restocked g s l who e s' ys go d) refl) in
+    let events = no-event g who s.history s'.history go.history in
+    turned-after g s l who e s' (with_available l ys) 0 0
+    (record {
+      caller = go.caller;
+      moves = go.moves;
+      events = events;
+      own_turns = omega (arith, go.may.own_turns, events.gives);
+      own_lost = omega (arith, go.may.own_lost, events.gives, events.refuses who);
+      anchor_tags = λ d has. omega (arith, ap (λ a. a.tag) (anchor-restocked g s l who e s' ys go d));
+      frame_turns = omega (arith, head-tag (go.word name.FrameHead tt), go.may.frame_turns);
+      emptied = omega (arith, emptied_same, go.cleared);
+      list_turns = λ class has. omega (arith, head-tag (go.word (name.ListHead class) tt), go.may.list_turns);
+    })
+    turned
 
 excepted-restocked :
     (g : Geometry) (s : State) (l : Lists) (who : ℕ) (e : ErrandFields) (s' : State) (ys : List ℕ) → Restocks g s l who e s' ys → (place : ℕ)
@@ -444,22 +434,16 @@ tied-restocked g s l who e s' ys go tied =
           (λ k d lt. owned-restocked g s l who e s' ys h who _ _ (go.may.frees k d lt)) (λ i has k d lt. owned-restocked g s l who e s' ys h i _ _ (tied.frees i has k d lt));
     }
 
+-- of the heads and the next words only the head of the available descriptors changes
+no-desc-head : (n : WordName) → n ≢ name.DescHead → IsNoDescHead n
+no-desc-head name.DescHead differ = differ refl
+no-desc-head n differ = tt
+
 pub listed-restocked :
     (g : Geometry) (s : State) (l : Lists) (who : ℕ) (e : ErrandFields) (s' : State) (ys : List ℕ) → Restocks g s l who e s' ys
     → IsListed g s.word l → IsListed g s'.word (with_available l ys)
-listed-restocked g s l who e s' ys h listed =
-    let frames : next_in s'.word Frames ≡ next_in s.word Frames = fun_ext (λ i. h.word (name.FrameNext i) tt) in
-    let partials : next_in s'.word Partials ≡ next_in s.word Partials = fun_ext (λ i. h.word (name.Next i) tt) in
-    record {
-      nexts = λ d has. subst (λ w. w ≤ descriptor_count g) (sym (h.word (name.Next d) tt)) (listed.nexts d has);
-      frame_nexts = λ f has. subst (λ w. w ≤ g.frames) (sym (h.word (name.FrameNext f) tt)) (listed.frame_nexts f has);
-      frames = rw (frames, h.word name.FrameHead tt) listed.frames;
-      frames_exist = listed.frames_exist;
-      available = rw partials h.stack;
-      available_exist = h.exist;
-      partials = λ class has. rw (partials, h.word (name.ListHead class) tt) (listed.partials class has);
-      partials_exist = listed.partials_exist;
-    }
+listed-restocked g s l who e s' ys h =
+    listed-anew g s.word s'.word l ys (λ n is differ. h.word n (no-desc-head n differ)) h.stack h.exist
 
 -- such a step keeps the state sound
 pub sound-restocked :

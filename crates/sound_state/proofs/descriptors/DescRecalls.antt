@@ -2,7 +2,7 @@
 use Rattle.std.proofs.Common.{ℕ, Some, ◌≡◌, ◌<◌, ◌≤◌, ◌+◌, List, [], ◌∷◌, refl, arith, sym, subst, inl, inr}
 use Rattle.std.specs.Prelude.{◌⊎◌, ◌==◌, All, IsTrue, Contains}
 use Rattle.std.proofs.lemmas.Bool.{cases_eq, cond-false, ne_eqb}
-use Rattle.std.proofs.lemmas.List.Elements.{All-nil, All-cons}
+use Rattle.std.specs.List.{AllByRecursion}
 use Rattle.heap_geometry.specs.declared.geometry.Geometry.{Geometry}
 use Rattle.word_plan.specs.declared.name.WordName.TheVariants as name
 use Rattle.word_plan.specs.Counts.{descriptor_count}
@@ -36,6 +36,7 @@ use Rattle.sound_state.proofs.descriptors.DescEffects.{IsNoDescHead, IsOfListed}
 use Rattle.sound_state.proofs.hazards.HazardLemmas.{contains-occurs}
 use Rattle.sound_state.proofs.shared.PointLemmas.{fits-at}
 use Rattle.sound_state.proofs.shared.SumLemmas.{sum-plus, sum-least, term-sum}
+use Rattle.sound_state.proofs.shared.RecallTables.{for-each}
 
 -- the descriptor is guarded, or kept partly used
 abbrev pub Has : Holding → ℕ → Type 0
@@ -48,124 +49,60 @@ IsHeld h (noted d next) = Has h d
 IsHeld h (says n w) = IsNoDescHead n
 IsHeld h r = Unit {0}
 
-abbrev pub EachHeld : Holding → List Recall → Type 0
-EachHeld h [] = Unit {0}
-EachHeld h (r ∷ rest) = IsHeld h r × EachHeld h rest
-
 -- what is kept alone is kept once
 keeps-it : (d class : ℕ) → 1 ≤ kept_among partly_used d (record { desc = d; class = class; status = partly_used } ∷ [])
 keeps-it d class = grind (arith)
 
-with-more : (i class : ℕ) (h : Holding) (d : ℕ) → Has h d → Has (with_partial i class h) d
-with-more i class h d (inl is) = inl is
-with-more i class h d (inr is) = inr (omega (arith, is))
+-- what waits behind a part; and with one more partly used descriptor at hand
+held-onward : (seat : SeatFields) (o : Onward) → AllByRecursion (IsHeld (onward_holds seat o)) (onward_recalls seat o)
+held-onward seat (onward.Remove d heap) = (inl refl, tt)
+held-onward seat (onward.Retire d) = (inr (keeps-it d seat.class), tt)
+held-onward seat o = grind (arith)
 
--- what waits behind a part
-held-onward :
-    (h : Holding) (seat : SeatFields) (o : Onward) → ((d : ℕ) → Has (onward_holds seat o) d → Has h d) → EachHeld h (onward_recalls seat o)
-held-onward h seat (onward.Remove d heap) up = (up d (inl refl), tt)
-held-onward h seat (onward.Retire d) up = (up d (inr (keeps-it d seat.class)), tt)
-held-onward h seat (onward.TakeFrame words d) up = (tt, tt)
-held-onward h seat (onward.GiveBlock words at i) up = (tt, tt)
-held-onward h seat (onward.Alloc words) up = tt
-held-onward h seat (onward.Discard words d) up = tt
-held-onward h seat (onward.Turn words) up = tt
-held-onward h seat (onward.Look words) up = tt
-held-onward h seat onward.Refuse up = tt
-held-onward h seat onward.Free up = tt
-held-onward h seat onward.Clear up = tt
-held-onward h seat (onward.ClearSecond first) up = tt
-held-onward h seat (onward.PushFirst first) up = tt
-held-onward h seat (onward.Finish stored) up = tt
-held-onward h seat onward.EndFree up = tt
-held-onward h seat onward.Nothing up = tt
+held-more : (i : ℕ) (seat : SeatFields) (o : Onward) → AllByRecursion (IsHeld (with_partial i seat.class (onward_holds seat o))) (onward_recalls seat o)
+held-more i seat (onward.Remove d heap) = (inl refl, tt)
+held-more i seat (onward.Retire d) = (inr (omega (arith, keeps-it d seat.class)), tt)
+held-more i seat o = grind (arith)
 
-held-stack : (p : StackPoint) (o : Onward) → EachHeld (stack_holds p o) (stack_recalls p o)
-held-stack (stack.LoadTop seat pile) o = held-onward (onward_holds seat o) seat o (λ d is. is)
-held-stack (stack.LoadBelow seat pile h) o = (tt, held-onward (onward_holds seat o) seat o (λ d is. is))
-held-stack (stack.PopTop seat pile h below) o = (tt, (tt, held-onward (onward_holds seat o) seat o (λ d is. is)))
-held-stack (stack.ConfirmEmpty seat pile h) o = held-onward (onward_holds seat o) seat o (λ d is. is)
-held-stack (stack.LoadTopToPush seat Frames i) o = held-onward (stack_holds (stack.LoadTopToPush seat Frames i) o) seat o (λ d is. is)
-held-stack (stack.LoadTopToPush seat Partials i) o =
-    held-onward (stack_holds (stack.LoadTopToPush seat Partials i) o) seat o (λ d is. with-more i seat.class (onward_holds seat o) d is)
-held-stack (stack.StoreBelow seat Frames i h) o = (tt, held-onward (stack_holds (stack.StoreBelow seat Frames i h) o) seat o (λ d is. is))
-held-stack (stack.StoreBelow seat Partials i h) o =
-    (tt, held-onward (stack_holds (stack.StoreBelow seat Partials i h) o) seat o (λ d is. with-more i seat.class (onward_holds seat o) d is))
-held-stack (stack.PushTop seat Frames i h) o =
-    (tt, (tt, held-onward (stack_holds (stack.PushTop seat Frames i h) o) seat o (λ d is. is)))
-held-stack (stack.PushTop seat Partials i h) o =
-    (tt, (tt, held-onward (stack_holds (stack.PushTop seat Partials i h) o) seat o (λ d is. with-more i seat.class (onward_holds seat o) d is)))
-held-stack (stack.Popped seat pile i) o = tt
-held-stack (stack.FoundEmpty seat pile h) o = tt
-held-stack (stack.ConfirmedEmpty seat pile) o = tt
-held-stack (stack.Pushed seat pile) o = tt
+held-stack : (p : StackPoint) (o : Onward) → AllByRecursion (IsHeld (stack_holds p o)) (stack_recalls p o)
+held-stack (stack.LoadTop seat pile) o = held-onward seat o
+held-stack (stack.LoadBelow seat pile h) o = (tt, held-onward seat o)
+held-stack (stack.PopTop seat pile h below) o = (tt, (tt, held-onward seat o))
+held-stack (stack.ConfirmEmpty seat pile h) o = held-onward seat o
+held-stack (stack.LoadTopToPush seat Frames i) o = held-onward seat o
+held-stack (stack.LoadTopToPush seat Partials i) o = held-more i seat o
+held-stack (stack.StoreBelow seat Frames i h) o = (tt, held-onward seat o)
+held-stack (stack.StoreBelow seat Partials i h) o = (tt, held-more i seat o)
+held-stack (stack.PushTop seat Frames i h) o = (tt, (tt, held-onward seat o))
+held-stack (stack.PushTop seat Partials i h) o = (tt, (tt, held-more i seat o))
+held-stack p o = tt
 
 -- a free that clears its hazard word
-held-clear : (seat : SeatFields) (o : Onward) → IsTrue (goes_desc (desc.ClearHazard seat) o) → EachHeld (cleared_holds seat o) (onward_recalls seat o)
+held-clear :
+    (seat : SeatFields) (o : Onward) → IsTrue (goes_desc (desc.ClearHazard seat) o)
+    → AllByRecursion (IsHeld (cleared_holds seat o)) (onward_recalls seat o)
 held-clear seat (onward.Retire d) goes = (inl refl, tt)
-held-clear seat (onward.TakeFrame words d) goes = (tt, tt)
-held-clear seat (onward.GiveBlock words at i) goes = (tt, tt)
 held-clear seat (onward.Remove d heap) goes = absurd (cc)
-held-clear seat (onward.Alloc words) goes = tt
-held-clear seat (onward.Discard words d) goes = tt
-held-clear seat (onward.Turn words) goes = tt
-held-clear seat (onward.Look words) goes = tt
-held-clear seat onward.Refuse goes = tt
-held-clear seat onward.Free goes = tt
-held-clear seat onward.Clear goes = tt
-held-clear seat (onward.ClearSecond first) goes = tt
-held-clear seat (onward.PushFirst first) goes = tt
-held-clear seat (onward.Finish stored) goes = tt
-held-clear seat onward.EndFree goes = tt
-held-clear seat onward.Nothing goes = tt
+held-clear seat o goes = grind (arith)
 
-held-desc : (p : DescPoint) (o : Onward) → IsTrue (goes_desc p o) → EachHeld (desc_holds p o) (desc_recalls p o)
-held-desc (desc.LoadDescHead seat) o goes = (tt, tt)
-held-desc (desc.StoreHazard seat d) o goes = (tt, tt)
-held-desc (desc.ReloadDescHead seat d) o goes = (tt, tt)
-held-desc (desc.LoadNextDesc seat d) o goes = (tt, tt)
+held-desc : (p : DescPoint) (o : Onward) → IsTrue (goes_desc p o) → AllByRecursion (IsHeld (desc_holds p o)) (desc_recalls p o)
 held-desc (desc.PopDesc seat d next) o goes = (inl refl, (tt, tt))
-held-desc (desc.ClearAfterPop seat d) o goes = (tt, tt)
 held-desc (desc.ClearHazard seat) o goes = held-clear seat o goes
-held-desc (desc.ReadHazard seat held i) o goes = tt
-held-desc (desc.LoadHeadToPush seat d) o goes = tt
-held-desc (desc.StoreNextDesc seat d top) o goes = tt
-held-desc (desc.PushDesc seat d top) o goes = (tt, tt)
-held-desc (desc.Got seat d) o goes = tt
-held-desc (desc.Cleared seat) o goes = tt
-held-desc (desc.Scanned seat held) o goes = tt
-held-desc (desc.Pushed seat d) o goes = tt
+held-desc p o goes = grind (arith)
 
-held-partial : (p : PartialPoint) (o : Onward) → EachHeld (partial_holds p o) (partial_recalls p o)
-held-partial (partial.StoreOwner at) o = (tt, tt)
-held-partial (partial.LoadGrantAnchor at) o = (tt, tt)
-held-partial (partial.Grant at a) o = (tt, (tt, tt))
-held-partial (partial.PutSlot seat i heap) o =
-    held-onward (with_partial i seat.class (onward_holds seat o)) seat o (λ d is. with-more i seat.class (onward_holds seat o) d is)
+held-partial : (p : PartialPoint) (o : Onward) → AllByRecursion (IsHeld (partial_holds p o)) (partial_recalls p o)
+held-partial (partial.PutSlot seat i heap) o = held-more i seat o
 held-partial (partial.LoadHeldSlot seat d heap) o = (inl refl, tt)
 held-partial (partial.RemoveFromSlot seat d heap) o = (inl refl, tt)
-held-partial (partial.LoadSlot seat) o = tt
-held-partial (partial.TakeSlot seat d) o = tt
-held-partial (partial.LoadTakenInfo seat d) o = tt
-held-partial (partial.LoadOwner seat d) o = tt
-held-partial (partial.LoadListedAnchor seat d) o = tt
-held-partial (partial.SlotEmpty seat) o = tt
-held-partial (partial.Granted at more) o = tt
-held-partial (partial.TookEmpty at) o = tt
-held-partial (partial.SlotFilled seat) o = tt
-held-partial (partial.Displaced seat d) o = tt
-held-partial (partial.NotInSlot seat) o = tt
-held-partial (partial.Removed seat d) o = tt
-held-partial (partial.ListedEmpty seat d) o = tt
-held-partial (partial.ListedPartial seat d) o = tt
+held-partial p o = grind (arith)
 
-held-block : (h : Holding) (p : BlockPoint) → EachHeld h (block_recalls p)
+held-block : (h : Holding) (p : BlockPoint) → AllByRecursion (IsHeld h) (block_recalls p)
 held-block h p = grind (arith)
 
-held-large : (h : Holding) (p : LargePoint) → EachHeld h (large_recalls p)
+held-large : (h : Holding) (p : LargePoint) → AllByRecursion (IsHeld h) (large_recalls p)
 held-large h p = grind (arith)
 
-pub held-at : (g : Geometry) (who : ℕ) (p : Point) → FitsPoint g who p → EachHeld (holds_of p) (recalls_of p)
+held-at : (g : Geometry) (who : ℕ) (p : Point) → FitsPoint g who p → AllByRecursion (IsHeld (holds_of p)) (recalls_of p)
 unfolding holds_of recalls_of
 held-at g who Idle fits = tt
 held-at g who (Block p o) fits = held-block (holds_of (Block p o)) p
@@ -174,80 +111,68 @@ held-at g who (Desc p o) fits = held-desc p o fits.goes
 held-at g who (Partial p o) fits = held-partial p o
 held-at g who (Large p o) fits = held-large (holds_of (Large p o)) p
 
--- what is retired isn't kept partly used by anybody
-pub retired-unkept :
-    (g : Geometry) (s : State) (l : Lists) (who i d : ℕ) → IsSoundWith g s l → who < g.callers → i < g.callers → d < descriptor_count g
-    → Contains (s.errand who).retired d → 1 ≤ errand_keeps partly_used d (s.errand i) → ⊥
-unfolding callers_sum
-retired-unkept g s l who i d old has has_i exists listed keeps =
-    let lists = λ (j : ℕ). occurs d (s.errand j).retired in
-    let partly = λ (j : ℕ). errand_keeps partly_used d (s.errand j) in
-    let both : sum_below g.callers (λ j. lists j + partly j) ≡ sum_below g.callers lists + sum_below g.callers partly = sum-plus g.callers lists partly in
-    let least : sum_below g.callers (λ j. lists j + partly j) ≤ sum_below g.callers (λ j. errand_has d (s.errand j)) =
-    sum-least g.callers (λ j. lists j + partly j) (λ j. errand_has d (s.errand j)) (λ j lt. omega arith) in
-    let once = old.kept.once d exists in
-    let mine : lists who ≤ sum_below g.callers lists = term-sum g.callers lists who has in
-    let its : partly i ≤ sum_below g.callers partly = term-sum g.callers partly i has_i in
-    omega (arith, once, both, least, mine, its, keeps, contains-occurs (s.errand who).retired d listed)
+-- a caller has retired a descriptor
+module _
+    (g : Geometry) (s : State) (l : Lists) (who i d : ℕ) (old : IsSoundWith g s l) (has : who < g.callers) (has_i : i < g.callers)
+    (exists : d < descriptor_count g) (listed : Contains (s.errand who).retired d) where
+  -- nobody keeps it partly used
+  retired-unkept : 1 ≤ errand_keeps partly_used d (s.errand i) → ⊥
+  unfolding callers_sum
+  retired-unkept keeps =
+      let lists = λ (j : ℕ). occurs d (s.errand j).retired in
+      let partly = λ (j : ℕ). errand_keeps partly_used d (s.errand j) in
+      let both : sum_below g.callers (λ j. lists j + partly j) ≡ sum_below g.callers lists + sum_below g.callers partly = sum-plus g.callers lists partly in
+      let least : sum_below g.callers (λ j. lists j + partly j) ≤ sum_below g.callers (λ j. errand_has d (s.errand j)) =
+      sum-least g.callers (λ j. lists j + partly j) (λ j. errand_has d (s.errand j)) (λ j lt. omega arith) in
+      let once = old.kept.once d exists in
+      let mine : lists who ≤ sum_below g.callers lists = term-sum g.callers lists who has in
+      let its : partly i ≤ sum_below g.callers partly = term-sum g.callers partly i has_i in
+      omega (arith, once, both, least, mine, its, keeps, contains-occurs (s.errand who).retired d listed)
 
--- a descriptor that a caller pushes isn't remembered so
-pub pushed-forgotten :
-    (g : Geometry) (s : State) (l : Lists) (who i d : ℕ) → IsSoundWith g s l → who < g.callers → i < g.callers → d < descriptor_count g
-    → Contains (s.errand who).retired d → pushed_by (s.errand who).point ≡ Some d → Has (holds_of (s.errand i).point) d → ⊥
-pushed-forgotten g s l who i d old has has_i exists listed pushes (inl is) =
-    old.guarded.pushed i who d has_i has
-    (record {
-      word = subst (λ x. IsHazard x (s.word (name.Hazard i))) is (old.guarded.words i has_i);
-      guard = subst IsGuard (sym is) tt;
-    })
-    pushes
-pushed-forgotten g s l who i d old has has_i exists listed pushes (inr is) = retired-unkept g s l who i d old has has_i exists listed is
+  -- so when it pushes it nobody remembers it
+  pushed-forgotten : pushed_by (s.errand who).point ≡ Some d → Has (holds_of (s.errand i).point) d → ⊥
+  pushed-forgotten pushes (inl is) =
+      old.guarded.pushed i who d has_i has
+      (record {
+        word = subst (λ x. IsHazard x (s.word (name.Hazard i))) is (old.guarded.words i has_i);
+        guard = subst IsGuard (sym is) tt;
+      })
+      pushes
+  pushed-forgotten pushes (inr is) = retired-unkept is
 
--- so what others remember stays so when it is put in front of the available ones
-pushed-listed :
-    (g : Geometry) (s : State) (l : Lists) (who i d : ℕ) → IsSoundWith g s l → who < g.callers → i < g.callers → d < descriptor_count g
-    → Contains (s.errand who).retired d → pushed_by (s.errand who).point ≡ Some d → (k : ℕ) → Has (holds_of (s.errand i).point) k
-    → occurs k (d ∷ l.available) ≤ occurs k l.available
-pushed-listed g s l who i d old has has_i exists listed pushes k keeps =
-    elim (cases_eq d k) [
-      | inl same ↦
-          absurd (pushed-forgotten g s l who i d old has has_i exists listed pushes (subst (Has (holds_of (s.errand i).point)) (sym same) keeps))
-      | inr differ ↦ omega (arith, cond-false {A = ℕ} (d == k) 1 0 (ne_eqb d k differ))
-    ]
+  -- and what others remember stays so when it is put in front of the available ones
+  pushed-listed :
+      pushed_by (s.errand who).point ≡ Some d → (k : ℕ) → Has (holds_of (s.errand i).point) k → occurs k (d ∷ l.available) ≤ occurs k l.available
+  pushed-listed pushes k keeps =
+      elim (cases_eq d k) [
+        | inl same ↦ absurd (pushed-forgotten pushes (subst (Has (holds_of (s.errand i).point)) (sym same) keeps))
+        | inr differ ↦ omega (arith, cond-false {A = ℕ} (d == k) 1 0 (ne_eqb d k differ))
+      ]
 
-one-pushed :
-    (g : Geometry) (s : State) (l : Lists) (who i d : ℕ) → IsSoundWith g s l → who < g.callers → i < g.callers → d < descriptor_count g
-    → Contains (s.errand who).retired d → pushed_by (s.errand who).point ≡ Some d → (r : Recall) → IsHeld (holds_of (s.errand i).point) r
-    → IsOfListed l (d ∷ l.available) r
-one-pushed g s l who i d old has has_i exists listed pushes (emptied k) h = pushed-listed g s l who i d old has has_i exists listed pushes k h
-one-pushed g s l who i d old has has_i exists listed pushes (noted k next) h = pushed-listed g s l who i d old has has_i exists listed pushes k h
-one-pushed g s l who i d old has has_i exists listed pushes (says n w) h = h
-one-pushed g s l who i d old has has_i exists listed pushes r h = grind (arith)
-
-each-listed :
-    (l : Lists) (ys : List ℕ) (h : Holding) (rs : List Recall) → ((r : Recall) → IsHeld h r → IsOfListed l ys r) → EachHeld h rs
-    → All (IsOfListed l ys) rs
-each-listed l ys h [] one each = All-nil (IsOfListed l ys)
-each-listed l ys h (r ∷ rest) one each = All-cons (IsOfListed l ys) r rest (one r each.0) (each-listed l ys h rest one each.1)
+  one-pushed : pushed_by (s.errand who).point ≡ Some d → (r : Recall) → IsHeld (holds_of (s.errand i).point) r → IsOfListed l (d ∷ l.available) r
+  one-pushed pushes (emptied k) h = pushed-listed pushes k h
+  one-pushed pushes (noted k next) h = pushed-listed pushes k h
+  one-pushed pushes (says n w) h = h
+  one-pushed pushes r h = tt
 
 pub recalls-pushed :
     (g : Geometry) (s : State) (l : Lists) (who d : ℕ) → IsSoundWith g s l → who < g.callers → d < descriptor_count g
     → Contains (s.errand who).retired d → pushed_by (s.errand who).point ≡ Some d → (i : ℕ) → i < g.callers
     → All (IsOfListed l (d ∷ l.available)) (recalls_of (s.errand i).point)
 recalls-pushed g s l who d old has exists listed pushes i has_i =
-    each-listed l (d ∷ l.available) (holds_of (s.errand i).point) (recalls_of (s.errand i).point)
-    (one-pushed g s l who i d old has has_i exists listed pushes) (held-at g i (s.errand i).point (fits-at g s l i (s.errand i).point old has_i refl))
+    for-each (IsHeld (holds_of (s.errand i).point)) (IsOfListed l (d ∷ l.available)) (one-pushed g s l who i d old has has_i exists listed pushes)
+    (recalls_of (s.errand i).point) (held-at g i (s.errand i).point (fits-at g s l i (s.errand i).point old has_i refl))
 
 -- and when the first is taken off
 one-popped : (l : Lists) (d : ℕ) (ys : List ℕ) → l.available ≡ d ∷ ys → (h : Holding) (r : Recall) → IsHeld h r → IsOfListed l ys r
 one-popped l d ys is h (emptied k) held = rw is (omega arith)
 one-popped l d ys is h (noted k next) held = rw is (omega arith)
 one-popped l d ys is h (says n w) held = held
-one-popped l d ys is h r held = grind (arith)
+one-popped l d ys is h r held = tt
 
 pub recalls-popped :
     (g : Geometry) (s : State) (l : Lists) (d : ℕ) (ys : List ℕ) → IsSoundWith g s l → l.available ≡ d ∷ ys → (i : ℕ) → i < g.callers
     → All (IsOfListed l ys) (recalls_of (s.errand i).point)
 recalls-popped g s l d ys old is i has_i =
-    each-listed l ys (holds_of (s.errand i).point) (recalls_of (s.errand i).point) (one-popped l d ys is (holds_of (s.errand i).point))
-    (held-at g i (s.errand i).point (fits-at g s l i (s.errand i).point old has_i refl))
+    for-each (IsHeld (holds_of (s.errand i).point)) (IsOfListed l ys) (one-popped l d ys is (holds_of (s.errand i).point))
+    (recalls_of (s.errand i).point) (held-at g i (s.errand i).point (fits-at g s l i (s.errand i).point old has_i refl))

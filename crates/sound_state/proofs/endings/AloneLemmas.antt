@@ -1,16 +1,14 @@
 -- A caller that moves alone comes to the end of its call.
-use Rattle.std.proofs.Common.{ℕ, zero, suc, ◌<◌, ◌≤◌, ◌+◌, refl, arith, ap, subst, inl, inr}
+use Rattle.std.proofs.Common.{ℕ, zero, suc, ◌<◌, ◌≤◌, ◌+◌, refl, arith, ap, inl, inr}
 use Rattle.std.specs.Prelude.{◌==◌, if◌then◌else◌, replicate}
 use Rattle.std.proofs.lemmas.Bool.{cases_Bool, cond-true, cond-false, eq-eqb, ne_eqb}
 use Rattle.heap_geometry.specs.declared.geometry.Geometry.{Geometry}
 use Rattle.heap_geometry.specs.declared.limits.TheConstants.{CALL_STEPS}
 use Rattle.word_plan.specs.Actions.{after_action}
-use Rattle.word_plan.specs.Table.{Exists}
 use Rattle.errand_steps.specs.Begins.{IsBusy, IsIdle}
 use Rattle.errand_steps.specs.Errands.{counts_lost, settle_of}
 use Rattle.errand_steps.specs.Points.{is_idle}
 use Rattle.errand_steps.specs.Steps.{State, Step, Run, with_event, action_at, name_at, word_at, found_at, event_at}
-use Rattle.errand_steps.proofs.PlanLemmas.{plan-exists}
 use Rattle.sound_state.specs.Alone.{stale_words, alone_left}
 use Rattle.sound_state.specs.Sound.{IsSound}
 use Rattle.sound_state.specs.StepsLeft.{steps_left}
@@ -21,7 +19,7 @@ use Rattle.sound_state.proofs.endings.ClearLemmas.{clearings-fall}
 use Rattle.sound_state.proofs.endings.LeftMost.{left-most}
 use Rattle.sound_state.proofs.endings.LeftSteps.{steps-go_on}
 use Rattle.sound_state.proofs.endings.StaleLemmas.{stale-falls}
-use Rattle.sound_state.proofs.shared.PointLemmas.{fits-at}
+use Rattle.sound_state.proofs.shared.PointLemmas.{exists-at, fits-at}
 use Rattle.sound_state.proofs.wins.SameNames.{same-name-refl, same-name-differs}
 use Rattle.sound_state.proofs.wins.WonSteps.{expects-after, loses-on}
 
@@ -30,12 +28,9 @@ pub alone-stale :
     (g : Geometry) (s : State) (who : ℕ) (s' : State) → IsSound g s → who < g.callers → Step s who s'
     → stale_words g s' who + one_if (counts_lost (s.errand who).point (found_at s who)) ≤ stale_words g s who
 alone-stale g s who s' sound has step =
-    let e = s.errand who in
-    let own = sound.parts.1.errands who has in
-    let exists : Exists g (name_at s who) =
-    subst (λ h. Exists h (name_at s who)) own.geometry
-    (plan-exists e.geometry e.caller e.point own.rule.geometry own.rule.caller own.rule.point) in
-    stale-falls g s who s' exists step (expects-after g s who (without-counts g s sound) has) (loses-on e.point (word_at s who))
+    let plain = without-counts g s sound in
+    let p = (s.errand who).point in
+    stale-falls g s who s' (exists-at g s who p plain has refl) step (expects-after g s who plain has) (loses-on p (word_at s who))
 
 -- fewer steps are left
 pub alone-falls :

@@ -1,9 +1,8 @@
 -- What the loads in a superblock find in a sound state.
-use Rattle.std.proofs.Common.{ℕ, Option, Some, None, ◌≡◌, ◌<◌, refl, arith, sym, subst, inl, inr}
+use Rattle.std.proofs.Common.{ℕ, Option, Some, None, ◌≡◌, ◌<◌, refl, arith, sym, subst}
 use Rattle.std.specs.Prelude.{nat_lt, IsSome, IsTrue}
 use Rattle.std.proofs.lemmas.Bool.{cond-true, lt-ltb, true≢false}
 use Rattle.heap_geometry.specs.declared.geometry.Geometry.{Geometry}
-use Rattle.heap_geometry.specs.declared.need.Need.TheVariants as need
 use Rattle.heap_geometry.specs.Geometry.{IsChecked}
 use Rattle.heap_geometry.specs.Need.{block_count_of}
 use Rattle.heap_geometry.specs.Place.{block_place}
@@ -24,15 +23,12 @@ use Rattle.superblock_parts.specs.declared.point.BlockPoint.TheVariants as block
 use Rattle.errand_steps.specs.declared.onward.Onward.{Onward}
 use Rattle.errand_steps.specs.declared.point.Point.TheVariants.{Block}
 use Rattle.errand_steps.specs.Steps.{State}
-use Rattle.sound_state.specs.Holdings.{holds_of}
 use Rattle.sound_state.specs.Lists.{Lists}
-use Rattle.sound_state.specs.Recalls.{IsLocated, IsOwned}
+use Rattle.sound_state.specs.Recalls.{IsLocated}
 use Rattle.sound_state.specs.Sound.{IsSoundWith}
 use Rattle.sound_state.specs.Superblocks.{anchor_for, is_bound}
-use Rattle.sound_state.specs.Ties.{IsBlockOfDesc}
 use Rattle.sound_state.proofs.quiet.QuietCredits.{seat-active}
-use Rattle.sound_state.proofs.quiet.QuietPushes.{begins-free, begins-owned, only-owner}
-use Rattle.sound_state.proofs.shared.StepLemmas.{HoldsException}
+use Rattle.sound_state.proofs.quiet.QuietPushes.{prefix-ties}
 
 -- an active word is one, and names a descriptor of the heap if it names any
 abbrev pub NamesDesc : Geometry → Option ActiveWord → Type 0
@@ -81,17 +77,8 @@ pub prefix-finds :
 unfolding prefix_word
 prefix-finds g s l who seat frame i o checked old has at =
     let place : ℕ = block_place frame seat.class i in
-    let owned : IsOwned s who place (need.Small seat.class) = begins-owned g s l who seat frame i o old has at in
-    let tie = old.tied.small place seat.class owned.block.0 owned.block.1 owned.block.3 in
-    let of : IsBlockOfDesc g s l place seat.class tie.0 = tie.1 in
-    elim tie.2 [
-      | inl x ↦
-          absurd (begins-free seat frame i o place
-          (subst (λ p. HoldsException (holds_of p) place) at (only-owner g s l who place (need.Small seat.class) old owned x)))
-      | inr says ↦ (
-        tie.0,
-        of.exists,
-        back prefix-exact (s.word (name.Arena place)) (Small tie.0) (omega (arith, of.exists, descriptor_count_within g checked))
-            (omega (arith, says)),
-      )
-    ]
+    let (d, of, says) = prefix-ties g s l who seat frame i o old has at in (
+      d,
+      of.exists,
+      back prefix-exact (s.word (name.Arena place)) (Small d) (omega (arith, of.exists, descriptor_count_within g checked)) (omega (arith, says)),
+    )

@@ -1,6 +1,6 @@
 -- In a superblock every step is lost or leaves fewer steps to do.
-use Rattle.std.proofs.Common.{ℕ, Bool, true, false, Option, Some, None, ◌≡◌, ◌<◌, ◌+◌, ◌-◌, [], refl, arith, sym, subst, inl, inr}
-use Rattle.std.specs.Prelude.{◌⊎◌, ◌==◌, not, if◌then◌else◌, All, IsSome}
+use Rattle.std.proofs.Common.{ℕ, Bool, Option, Some, None, ◌≡◌, ◌<◌, ◌+◌, ◌-◌, [], refl, arith, sym, subst, inr}
+use Rattle.std.specs.Prelude.{◌==◌, if◌then◌else◌, All, IsSome}
 use Rattle.std.proofs.lemmas.Bool.{lt-ltb, true≢false}
 use Rattle.std.proofs.lemmas.List.Elements.{All-head}
 use Rattle.heap_geometry.specs.declared.geometry.Geometry.{Geometry}
@@ -10,7 +10,6 @@ use Rattle.packed_words.specs.declared.active.ActiveWord.TheVariants.{Null, Held
 use Rattle.packed_words.specs.declared.prefix.Prefix.TheVariants.{Small}
 use Rattle.packed_words.specs.Active.{active_word, active_of}
 use Rattle.packed_words.specs.Anchor.{AnchorFields, anchor_word}
-use Rattle.packed_words.specs.Info.{InfoFields}
 use Rattle.word_plan.specs.declared.name.WordName.TheVariants as name
 use Rattle.word_plan.specs.declared.seat.Site.{Site}
 use Rattle.word_plan.specs.Counts.{descriptor_count}
@@ -18,7 +17,6 @@ use Rattle.word_plan.specs.Seats.{SeatFields, info_in, anchor_in}
 use Rattle.word_plan.specs.Sites.{IsSiteOf, active_name}
 use Rattle.superblock_parts.specs.declared.point.BlockPoint.{BlockPoint}
 use Rattle.superblock_parts.specs.declared.point.BlockPoint.TheVariants as block
-use Rattle.superblock_parts.specs.declared.point.Share.{Share}
 use Rattle.superblock_parts.specs.declared.point.Share.TheVariants.{Credit, LastCredit}
 use Rattle.superblock_parts.specs.Anchors.{more_of}
 use Rattle.superblock_parts.specs.Points.{after_active, after_info, after_anchor, after_pop, after_return_anchor, after_prefix, after_push_anchor, after_owner, after_push, after_link}
@@ -30,22 +28,15 @@ use Rattle.errand_steps.specs.Points.{plan_point_of}
 use Rattle.errand_steps.specs.Steps.{State}
 use Rattle.sound_state.specs.Lists.{Lists}
 use Rattle.sound_state.specs.Recalls.{IsSo, recalls_of, bound_at, bound_here}
-use Rattle.sound_state.specs.Sound.{IsSoundWithoutCounts, IsSoundWith}
+use Rattle.sound_state.specs.Sound.{IsSoundWithoutCounts}
 use Rattle.sound_state.specs.StepsLeft.{steps_left, active_left, held_left}
 use Rattle.sound_state.proofs.endings.BlockFinds.{NamesDesc, active-finds, info-finds, anchor-finds, prefix-finds}
-use Rattle.sound_state.proofs.endings.LeftDefs.{LeavesLess, next_left}
-use Rattle.sound_state.proofs.shared.PointLemmas.{fits-at, so-at}
+use Rattle.sound_state.proofs.endings.LeftDefs.{LeavesLess, exchanged, next_left}
+use Rattle.sound_state.proofs.shared.PointLemmas.{fits-now, so-at}
 
 -- where it goes on from there, a call has fewer steps left than so many
 abbrev LeadsBelow : Geometry → Onward → ℕ → BlockPoint → Type 0
 LeadsBelow g o left q = next_left g (enter_block q o) < left
-
--- an exchange is lost, or leads where it is won
-exchanged :
-    (g : Geometry) (o : Onward) (left : ℕ) (cleared won : Bool) (q r : BlockPoint) → LeadsBelow g o left q
-    → (not won ≡ true) ⊎ (cleared ≡ true) ⊎ LeadsBelow g o left (if won then q else r)
-exchanged g o left cleared true q r less = inr (inr less)
-exchanged g o left cleared false q r less = inl refl
 
 -- where an active word leads
 active-below :
@@ -58,33 +49,10 @@ active-below g s o (Some (Held d credits)) same names =
     let within : d < descriptor_count s.geometry = subst (λ h. d < descriptor_count h) (sym same) names in
     rw (lt-ltb d (descriptor_count s.geometry) within) (omega arith)
 
--- where a descriptor's word leads that is read for a pop
-info-below :
-    (g : Geometry) (s : SeatFields) (d : ℕ) (share : Share) (o : Onward) (i : Option InfoFields) → IsSome i
-    → LeadsBelow g o 6 (after_info s d share i)
-unfolding steps_left
-info-below g s d share o None some = absurd (true≢false (sym some))
-info-below g s d share o (Some i) some = omega arith
-
--- where an anchor leads that is read for a pop
-anchor-below :
-    (g : Geometry) (at : Site) (share : Share) (o : Onward) (a : Option AnchorFields) → IsSome a → LeadsBelow g o 5 (after_anchor at share a)
-unfolding steps_left
-anchor-below g at share o None some = absurd (true≢false (sym some))
-anchor-below g at share o (Some a) some = omega arith
-
 -- where a pop leads
 pop-below : (g : Geometry) (at : Site) (i more : ℕ) (o : Onward) → LeadsBelow g o 3 (after_pop at i more)
 unfolding steps_left
 pop-below g at i more o = grind arith
-
--- where an anchor leads that is read for a return
-return-below :
-    (g : Geometry) (at : Site) (i more : ℕ) (o : Onward) (a : Option AnchorFields) → IsSome a
-    → LeadsBelow g o 7 (after_return_anchor at i more a)
-unfolding steps_left
-return-below g at i more o None some = absurd (true≢false (sym some))
-return-below g at i more o (Some a) some = omega arith
 
 -- where the prefix word of a freed block leads
 prefix-below :
@@ -94,22 +62,6 @@ unfolding steps_left
 prefix-below g s frame i d o same names =
     let within : d < descriptor_count s.geometry = subst (λ h. d < descriptor_count h) (sym same) names in
     rw (lt-ltb d (descriptor_count s.geometry) within) (omega arith)
-
--- where an anchor leads that is read for a push
-push_anchor-below :
-    (g : Geometry) (at : Site) (i : ℕ) (stored : Bool) (o : Onward) (a : Option AnchorFields) → IsSome a
-    → LeadsBelow g o (held_left g + 8) (after_push_anchor at i stored a)
-unfolding steps_left
-push_anchor-below g at i stored o None some = absurd (true≢false (sym some))
-push_anchor-below g at i stored o (Some a) some = grind arith
-
--- where the word of a guarded descriptor leads
-owner-below :
-    (g : Geometry) (at : Site) (i : ℕ) (a : AnchorFields) (o : Onward) (w : Option InfoFields) → IsSome w
-    → LeadsBelow g o (held_left g + 6) (after_owner at i a w)
-unfolding steps_left
-owner-below g at i a o None some = absurd (true≢false (sym some))
-owner-below g at i a o (Some w) some = omega arith
 
 -- where a push leads
 push-below :
@@ -125,13 +77,20 @@ link-below :
 unfolding steps_left
 link-below g at i o within = grind arith
 
+-- where a load finds what is expected, it leads on
+some-leads : {X : Type 0} (Q : Option X → Type 0) (found : Option X) → IsSome found → ((x : X) → Q (Some x)) → Q found
+some-leads Q None some leads = absurd (true≢false (sym some))
+some-leads Q (Some x) some leads = leads x
+
 -- the anchor of a superblock at hand, where its caller remembers what it is
 here-finds :
-    (g : Geometry) (s : State) (l : Lists) (who : ℕ) (at : Site) → IsSoundWith g s l → IsSiteOf g who at → All (IsSo g s l who) (bound_here at)
-    → IsSome (anchor_in at.seat.class (s.word (name.Anchor at.desc)))
-here-finds g s l who at old site so =
+    (g : Geometry) (s : State) (who : ℕ) (p : Point) (at : Site) → IsSoundWithoutCounts g s → who < g.callers → (s.errand who).point ≡ p
+    → IsSiteOf g who at → recalls_of p ≡ bound_here at → IsSome (anchor_in at.seat.class (s.word (name.Anchor at.desc)))
+here-finds g s who p at sound has is site same =
+    let l : Lists = sound.parts.0 in
+    let so : All (IsSo g s l who) (bound_here at) = subst (All (IsSo g s l who)) same (so-at g s l who p sound.parts.1 has is) in
     let bound = All-head (IsSo g s l who) (bound_at at.desc at.frame at.seat.class) [] so in
-    anchor-finds g s l who at old site bound.0 bound.1
+    anchor-finds g s l who at sound.parts.1 site bound.0 bound.1
 
 -- in a superblock
 pub block-leaves :
@@ -139,80 +98,79 @@ pub block-leaves :
     → (s.errand who).point ≡ Block p o → LeavesLess g s (Block p o)
 unfolding plan_point_of next_of steps_left recalls_of
 block-leaves g s who (block.LoadActive seat) o sound has at =
-    let l : Lists = sound.parts.0 in
-    let fit = (fits-at g s l who (Block (block.LoadActive seat) o) sound.parts.1 has at).point in
+    let fit = (fits-now g s who (Block (block.LoadActive seat) o) sound has at).point in
     inr
     (inr
-    (active-below g seat o (active_of (s.word (active_name seat))) fit.geometry (active-finds g s l who seat sound.checked sound.parts.1 fit)))
+    (active-below g seat o (active_of (s.word (active_name seat))) fit.geometry
+    (active-finds g s sound.parts.0 who seat sound.checked sound.parts.1 fit)))
 block-leaves g s who (block.TakeCredit seat d credits) o sound has at =
-    exchanged g o 7 false (s.word (active_name seat) == active_word (Held d credits))
+    exchanged g (λ q. enter_block q o) 7 (s.word (active_name seat) == active_word (Held d credits))
     (block.LoadInfo seat d (if credits == 0 then LastCredit else Credit)) (block.LoadActive seat) (omega arith)
 block-leaves g s who (block.LoadInfo seat d share) o sound has at =
-    let l : Lists = sound.parts.0 in
-    let fit = (fits-at g s l who (Block (block.LoadInfo seat d share) o) sound.parts.1 has at).point in
+    let fit = (fits-now g s who (Block (block.LoadInfo seat d share) o) sound has at).point in
     inr
     (inr
-    (info-below g seat d share o (info_in seat.geometry (s.word (name.Info d))) (info-finds g s l who seat d sound.parts.1 fit.0.seat fit.0.desc)))
+    (some-leads (λ x. LeadsBelow g o 6 (after_info seat d share x)) (info_in seat.geometry (s.word (name.Info d)))
+    (info-finds g s sound.parts.0 who seat d sound.parts.1 fit.0.seat fit.0.desc) (λ x. omega arith)))
 block-leaves g s who (block.LoadAnchor site share) o sound has at =
-    let l : Lists = sound.parts.0 in
     let p : Point = Block (block.LoadAnchor site share) o in
-    let fit = (fits-at g s l who p sound.parts.1 has at).point in
+    let fit = (fits-now g s who p sound has at).point in
     inr
     (inr
-    (anchor-below g site share o (anchor_in site.seat.class (s.word (name.Anchor site.desc)))
-    (here-finds g s l who site sound.parts.1 fit.0 (so-at g s l who p sound.parts.1 has at))))
+    (some-leads (λ x. LeadsBelow g o 5 (after_anchor site share x)) (anchor_in site.seat.class (s.word (name.Anchor site.desc)))
+    (here-finds g s who p site sound has at fit.0 refl) (λ x. omega arith)))
 block-leaves g s who (block.LoadLink site share a) o sound has at = inr (inr (omega arith))
 block-leaves g s who (block.PopBlock site share a prefix) o sound has at =
-    exchanged g o 3 false (s.word (name.Anchor site.desc) == anchor_word a) (after_pop site a.avail (more_of share a)) (block.LoadAnchor site share)
+    exchanged g (λ q. enter_block q o) 3 (s.word (name.Anchor site.desc) == anchor_word a) (after_pop site a.avail (more_of share a))
+    (block.LoadAnchor site share)
     (pop-below g site a.avail (more_of share a) o)
 block-leaves g s who (block.StorePrefix site i) o sound has at = inr (inr (omega arith))
 block-leaves g s who (block.InstallCredits site i more) o sound has at =
-    exchanged g o 2 false (s.word (active_name site.seat) == active_word Null) (block.StorePrefix site i) (block.LoadReturn site i more)
+    exchanged g (λ q. enter_block q o) 2 (s.word (active_name site.seat) == active_word Null) (block.StorePrefix site i)
+    (block.LoadReturn site i more)
     (omega arith)
 block-leaves g s who (block.InstallSuperblock site) o sound has at =
-    exchanged g o 2 false (s.word (active_name site.seat) == active_word Null) (block.StorePrefix site 0) (block.Discarded site) (omega arith)
+    exchanged g (λ q. enter_block q o) 2 (s.word (active_name site.seat) == active_word Null) (block.StorePrefix site 0) (block.Discarded site)
+    (omega arith)
 block-leaves g s who (block.LoadReturn site i more) o sound has at =
-    let l : Lists = sound.parts.0 in
     let p : Point = Block (block.LoadReturn site i more) o in
-    let fit = (fits-at g s l who p sound.parts.1 has at).point in
+    let fit = (fits-now g s who p sound has at).point in
     inr
     (inr
-    (return-below g site i more o (anchor_in site.seat.class (s.word (name.Anchor site.desc)))
-    (here-finds g s l who site sound.parts.1 fit.0.site (so-at g s l who p sound.parts.1 has at))))
+    (some-leads (λ x. LeadsBelow g o 7 (after_return_anchor site i more x)) (anchor_in site.seat.class (s.word (name.Anchor site.desc)))
+    (here-finds g s who p site sound has at fit.0.site refl) (λ x. omega arith)))
 block-leaves g s who (block.ReturnCredits site i more a) o sound has at =
-    exchanged g o 6 false (s.word (name.Anchor site.desc) == anchor_word a) (block.Returned site i) (block.LoadReturn site i more) (omega arith)
+    exchanged g (λ q. enter_block q o) 6 (s.word (name.Anchor site.desc) == anchor_word a) (block.Returned site i) (block.LoadReturn site i more)
+    (omega arith)
 block-leaves g s who (block.LoadPrefix seat frame i) o sound has at =
-    let l : Lists = sound.parts.0 in
-    let fit = (fits-at g s l who (Block (block.LoadPrefix seat frame i) o) sound.parts.1 has at).point in
-    let finds = prefix-finds g s l who seat frame i o sound.checked sound.parts.1 has at in
+    let fit = (fits-now g s who (Block (block.LoadPrefix seat frame i) o) sound has at).point in
+    let finds = prefix-finds g s sound.parts.0 who seat frame i o sound.checked sound.parts.1 has at in
     inr
     (inr
     (subst (λ w. LeadsBelow g o (held_left g + 9) (after_prefix seat frame i w)) (sym finds.2)
     (prefix-below g seat frame i finds.0 o fit.0.geometry finds.1)))
 block-leaves g s who (block.LoadPushAnchor site i stored) o sound has at =
-    let l : Lists = sound.parts.0 in
     let p : Point = Block (block.LoadPushAnchor site i stored) o in
-    let fit = (fits-at g s l who p sound.parts.1 has at).point in
+    let fit = (fits-now g s who p sound has at).point in
     inr
     (inr
-    (push_anchor-below g site i stored o (anchor_in site.seat.class (s.word (name.Anchor site.desc)))
-    (here-finds g s l who site sound.parts.1 fit.site (so-at g s l who p sound.parts.1 has at))))
+    (some-leads (λ x. LeadsBelow g o (held_left g + 8) (after_push_anchor site i stored x))
+    (anchor_in site.seat.class (s.word (name.Anchor site.desc)))
+    (here-finds g s who p site sound has at fit.site refl) (λ x. grind arith)))
 block-leaves g s who (block.StoreGuard site i a) o sound has at = inr (inr (omega arith))
 block-leaves g s who (block.LoadOwner site i a) o sound has at =
-    let l : Lists = sound.parts.0 in
-    let fit = (fits-at g s l who (Block (block.LoadOwner site i a) o) sound.parts.1 has at).point in
+    let fit = (fits-now g s who (Block (block.LoadOwner site i a) o) sound has at).point in
     inr
     (inr
-    (owner-below g site i a o (info_in site.seat.geometry (s.word (name.Info site.desc)))
-    (info-finds g s l who site.seat site.desc sound.parts.1 fit.block.site.seat fit.block.site.desc)))
+    (some-leads (λ x. LeadsBelow g o (held_left g + 6) (after_owner site i a x)) (info_in site.seat.geometry (s.word (name.Info site.desc)))
+    (info-finds g s sound.parts.0 who site.seat site.desc sound.parts.1 fit.block.site.seat fit.block.site.desc) (λ x. omega arith)))
 block-leaves g s who (block.StoreLink site i a stored heap) o sound has at = inr (inr (omega arith))
 block-leaves g s who (block.PushBlock site i a stored heap) o sound has at =
-    exchanged g o (held_left g + 4) false (s.word (name.Anchor site.desc) == anchor_word a) (after_push site a stored heap)
+    exchanged g (λ q. enter_block q o) (held_left g + 4) (s.word (name.Anchor site.desc) == anchor_word a) (after_push site a stored heap)
     (block.LoadPushAnchor site i stored) (push-below g site a stored heap o)
 block-leaves g s who (block.LinkBlock site i) o sound has at =
-    let l : Lists = sound.parts.0 in
-    let fit = (fits-at g s l who (Block (block.LinkBlock site i) o) sound.parts.1 has at).point in
+    let fit = (fits-now g s who (Block (block.LinkBlock site i) o) sound has at).point in
     inr (inr (link-below g site i o fit.index))
 block-leaves g s who (block.StoreInfo site) o sound has at = inr (inr (omega arith))
 block-leaves g s who (block.StoreAnchor site) o sound has at = inr (inr (omega arith))
-block-leaves g s who p o sound has at = absurd (true≢false (fits-at g s sound.parts.0 who (Block p o) sound.parts.1 has at).inside)
+block-leaves g s who p o sound has at = absurd (true≢false (fits-now g s who (Block p o) sound has at).inside)

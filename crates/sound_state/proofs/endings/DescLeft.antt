@@ -1,6 +1,6 @@
 -- What a step at the descriptors or the hazard words leaves to do.
 use Rattle.std.proofs.Common.{ℕ, ◌≡◌, ◌<◌, ◌≤◌, ◌+◌, ◌-◌, List, arith, sym, subst, inr}
-use Rattle.std.specs.Prelude.{◌==◌, IsTrue, if◌then◌else◌}
+use Rattle.std.specs.Prelude.{◌==◌, IsTrue}
 use Rattle.std.proofs.lemmas.Bool.{true≢false}
 use Rattle.heap_geometry.specs.declared.geometry.Geometry.{Geometry}
 use Rattle.word_plan.specs.declared.name.WordName.TheVariants as name
@@ -13,17 +13,15 @@ use Rattle.hazard_parts.specs.declared.point.DescPoint.TheVariants as desc
 use Rattle.hazard_parts.specs.Points.{link_in, after_head, after_next, after_hazard, after_top}
 use Rattle.errand_steps.specs.declared.onward.Onward.{Onward}
 use Rattle.errand_steps.specs.declared.point.Point.TheVariants.{Desc}
-use Rattle.errand_steps.specs.Fits.{FitsInDesc}
 use Rattle.errand_steps.specs.Nexts.{next_of, enter_desc, cleared}
 use Rattle.errand_steps.specs.Onwards.{clears}
 use Rattle.errand_steps.specs.Points.{plan_point_of}
 use Rattle.errand_steps.specs.Steps.{State}
 use Rattle.sound_state.specs.Sound.{IsSoundWithoutCounts}
 use Rattle.sound_state.specs.StepsLeft.{steps_left, frame_left, cleared_left, resumed_left}
-use Rattle.sound_state.proofs.endings.LeftDefs.{next_left, LeavesLess}
-use Rattle.sound_state.proofs.endings.StackLeft.{lost-or}
+use Rattle.sound_state.proofs.endings.LeftDefs.{LeavesLess, exchanged, next_left}
 use Rattle.sound_state.proofs.quiet.QuietStacks.{top-exists}
-use Rattle.sound_state.proofs.shared.PointLemmas.{fits-at}
+use Rattle.sound_state.proofs.shared.PointLemmas.{fits-now}
 use Rattle.sound_state.proofs.shared.StockLemmas.{looking-has}
 
 -- the head names a descriptor
@@ -70,45 +68,39 @@ head-most g s sound =
     top-exists (next_in s.word Partials) (s.word name.DescHead) (descriptor_count g) sound.parts.0.available listed.available
     listed.available_exist
 
--- what a caller remembers there exists
-pub desc-fits :
-    (g : Geometry) (s : State) (who : ℕ) (p : DescPoint) (o : Onward) → IsSoundWithoutCounts g s → who < g.callers
-    → (s.errand who).point ≡ Desc p o → FitsInDesc g who p o
-desc-fits g s who p o sound has at = fits-at g s sound.parts.0 who (Desc p o) sound.parts.1 has at
-
 -- a step at the descriptors or the hazard words is lost or leaves less to do
 pub desc-leaves :
     (g : Geometry) (s : State) (who : ℕ) (p : DescPoint) (o : Onward) → IsSoundWithoutCounts g s → who < g.callers
     → (s.errand who).point ≡ Desc p o → LeavesLess g s (Desc p o)
 unfolding plan_point_of next_of steps_left
 desc-leaves g s who (desc.LoadDescHead seat) o sound has at =
-    let fits = desc-fits g s who (desc.LoadDescHead seat) o sound has at in
+    let fits = fits-now g s who (Desc (desc.LoadDescHead seat) o) sound has at in
     let (d, within, is) = looking-has g s sound who seat o has at in
     inr (inr (head-less g seat (s.word name.DescHead) d o (subst (λ k. d < descriptor_count k) (sym fits.point.geometry) within) is))
 desc-leaves g s who (desc.StoreHazard seat d) o sound has at = inr (inr (omega arith))
 desc-leaves g s who (desc.ReloadDescHead seat d) o sound has at =
-    lost-or (λ won. next_left g (enter_desc (if won then desc.LoadNextDesc seat d else desc.LoadDescHead seat) o) < frame_left g seat + 4)
-    (s.word name.DescHead == d + 1) (omega arith)
+    exchanged g (λ q. enter_desc q o) (frame_left g seat + 4) (s.word name.DescHead == d + 1) (desc.LoadNextDesc seat d) (desc.LoadDescHead seat)
+    (omega arith)
 desc-leaves g s who (desc.LoadNextDesc seat d) o sound has at =
-    let fits = desc-fits g s who (desc.LoadNextDesc seat d) o sound has at in
+    let fits = fits-now g s who (Desc (desc.LoadNextDesc seat d) o) sound has at in
     inr (inr (next-less g seat d (s.word (name.Next d)) o
     (seat-most g seat.geometry (s.word (name.Next d)) fits.point.seat.geometry (sound.parts.1.listed.nexts d fits.point.desc))))
 desc-leaves g s who (desc.PopDesc seat d next) o sound has at =
-    lost-or (λ won. next_left g (enter_desc (if won then desc.ClearAfterPop seat d else desc.LoadDescHead seat) o) < frame_left g seat + 2)
-    (s.word name.DescHead == d + 1) (omega arith)
+    exchanged g (λ q. enter_desc q o) (frame_left g seat + 2) (s.word name.DescHead == d + 1) (desc.ClearAfterPop seat d) (desc.LoadDescHead seat)
+    (omega arith)
 desc-leaves g s who (desc.ClearAfterPop seat d) o sound has at = inr (inr (omega arith))
 desc-leaves g s who (desc.ClearHazard seat) o sound has at =
-    let fits = desc-fits g s who (desc.ClearHazard seat) o sound has at in
+    let fits = fits-now g s who (Desc (desc.ClearHazard seat) o) sound has at in
     inr (inr (cleared-less g seat o fits.goes))
 desc-leaves g s who (desc.ReadHazard seat held i) o sound has at =
-    let fits = desc-fits g s who (desc.ReadHazard seat held i) o sound has at in
+    let fits = fits-now g s who (Desc (desc.ReadHazard seat held i) o) sound has at in
     inr (inr (hazard-less g seat held i (s.word (name.Hazard i)) o fits.point.0.seat.geometry fits.point.1))
 desc-leaves g s who (desc.LoadHeadToPush seat d) o sound has at =
-    let fits = desc-fits g s who (desc.LoadHeadToPush seat d) o sound has at in
+    let fits = fits-now g s who (Desc (desc.LoadHeadToPush seat d) o) sound has at in
     inr (inr (link-less g seat d (s.word name.DescHead) o
     (seat-most g seat.geometry (s.word name.DescHead) fits.point.seat.geometry (head-most g s sound))))
 desc-leaves g s who (desc.StoreNextDesc seat d top) o sound has at = inr (inr (omega arith))
 desc-leaves g s who (desc.PushDesc seat d top) o sound has at =
-    lost-or (λ won. next_left g (enter_desc (if won then desc.Pushed seat d else desc.LoadHeadToPush seat d) o) < resumed_left g seat o + 1)
-    (s.word name.DescHead == top) (omega arith)
-desc-leaves g s who p o sound has at = absurd (true≢false (desc-fits g s who p o sound has at).inside)
+    exchanged g (λ q. enter_desc q o) (resumed_left g seat o + 1) (s.word name.DescHead == top) (desc.Pushed seat d) (desc.LoadHeadToPush seat d)
+    (omega arith)
+desc-leaves g s who p o sound has at = absurd (true≢false (fits-now g s who (Desc p o) sound has at).inside)

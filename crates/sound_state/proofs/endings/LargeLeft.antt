@@ -38,7 +38,7 @@ use Rattle.sound_state.specs.StepsLeft.{steps_left}
 use Rattle.sound_state.proofs.endings.LeftDefs.{LessAt, LeavesLess}
 use Rattle.sound_state.proofs.large.TouchShelves.{owned-or-none, shelf-fits}
 use Rattle.sound_state.proofs.quiet.QuietPushes.{any-none, any-one, only-owner}
-use Rattle.sound_state.proofs.shared.PointLemmas.{fits-at, frees-at}
+use Rattle.sound_state.proofs.shared.PointLemmas.{fits-at, fits-now, frees-at}
 use Rattle.sound_state.proofs.shared.StepLemmas.{HoldsException}
 
 -- a free run is taken, or that is lost
@@ -146,9 +146,9 @@ large-leaves g s who (large.StoreWord place i value) o sound has at = inr (inr (
 large-leaves g s who (large.LoadWord place i) o sound has at = inr (inr (omega arith))
 large-leaves g s who (large.PutBlock k place n) o sound has at = put-less g k place n o (s.word (name.Shelf k))
 large-leaves g s who (large.LoadShelf k) o sound has at =
-    let fit = fits-at g s sound.parts.0 who (Large (large.LoadShelf k) o) sound.parts.1 has at in
+    let fit = fits-now g s who (Large (large.LoadShelf k) o) sound has at in
     shelf-less g k o (s.word (name.Shelf k)) (shelf-said g s sound.parts.0 k sound sound.parts.1 fit.point)
 large-leaves g s who (large.TakeBlock k place n) o sound has at = got-less g k place n o (s.word (name.Shelf k))
 large-leaves g s who (large.ConfirmNothing k) o sound has at = nothing-less g k o (s.word (name.Shelf k))
 large-leaves g s who p o sound has at =
-    let fit = fits-at g s sound.parts.0 who (Large p o) sound.parts.1 has at in absurd (true≢false fit.inside)
+    let fit = fits-now g s who (Large p o) sound has at in absurd (true≢false fit.inside)

@@ -1,6 +1,6 @@
 -- What a step leaves to do: the statements that the points owe.
-use Rattle.std.proofs.Common.{ℕ, true, ◌≡◌, ◌<◌, ◌+◌}
-use Rattle.std.specs.Prelude.{◌⊎◌}
+use Rattle.std.proofs.Common.{ℕ, Bool, true, false, ◌≡◌, ◌<◌, ◌+◌, refl, inl, inr}
+use Rattle.std.specs.Prelude.{◌⊎◌, not, if◌then◌else◌}
 use Rattle.heap_geometry.specs.declared.geometry.Geometry.{Geometry}
 use Rattle.word_plan.specs.Actions.{name_of}
 use Rattle.errand_steps.specs.declared.next.Next.{Next}
@@ -34,3 +34,10 @@ LessAt g p v =
 
 abbrev pub LeavesLess : Geometry → State → Point → Type 0
 LeavesLess g s p = LessAt g p (word_under s p)
+
+-- an exchange is lost, or leaves less to do where it leads when it is won
+pub exchanged :
+    {X : Type 0} (g : Geometry) (enter : X → Next) (left : ℕ) (won : Bool) (q r : X) → next_left g (enter q) < left
+    → (not won ≡ true) ⊎ (false ≡ true) ⊎ (next_left g (enter (if won then q else r)) < left)
+exchanged g enter left true q r less = inr (inr less)
+exchanged g enter left false q r less = inl refl

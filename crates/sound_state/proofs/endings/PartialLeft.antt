@@ -31,7 +31,7 @@ use Rattle.sound_state.specs.Sound.{IsSoundWithoutCounts, IsSoundWith}
 use Rattle.sound_state.specs.StepsLeft.{steps_left}
 use Rattle.sound_state.specs.Superblocks.{IsChained, superblock_of, anchor_for, is_bound, away_of, errand_keeps, kept_among}
 use Rattle.sound_state.proofs.endings.LeftDefs.{LessAt, LeavesLess}
-use Rattle.sound_state.proofs.shared.PointLemmas.{fits-at, so-at, exists-at}
+use Rattle.sound_state.proofs.shared.PointLemmas.{fits-at, fits-now, so-at, exists-at}
 use Rattle.sound_state.proofs.shifts.ShiftSteps.{granting-away, grant-partly}
 
 -- the caller's slot names a descriptor of the heap, or none
@@ -120,13 +120,13 @@ pub partial-leaves :
     → (s.errand who).point ≡ Partial p o → LeavesLess g s (Partial p o)
 unfolding plan_point_of next_of steps_left
 partial-leaves g s who (partial.LoadSlot seat) o sound has at =
-    let fit = fits-at g s sound.parts.0 who (Partial (partial.LoadSlot seat) o) sound.parts.1 has at in
+    let fit = fits-now g s who (Partial (partial.LoadSlot seat) o) sound has at in
     let exists : (heap_of seat < g.heaps) × (seat.class < CLASSES) = exists-at g s who (Partial (partial.LoadSlot seat) o) sound has at in
     slot-less g seat o (s.word (slot_name seat)) fit.point.geometry
     (sound.parts.1.kept.slot_words (heap_of seat) seat.class exists.0 exists.1) fit.goes
 partial-leaves g s who (partial.TakeSlot seat d) o sound has at = take-less g seat d o (s.word (slot_name seat))
 partial-leaves g s who (partial.LoadTakenInfo seat d) o sound has at =
-    let fit = fits-at g s sound.parts.0 who (Partial (partial.LoadTakenInfo seat d) o) sound.parts.1 has at in
+    let fit = fits-now g s who (Partial (partial.LoadTakenInfo seat d) o) sound has at in
     info-less g seat d o (s.word (name.Info d)) fit.point.seat.geometry (sound.parts.1.chained.infos d fit.point.desc)
 partial-leaves g s who (partial.StoreOwner site) o sound has at = inr (inr (omega arith))
 partial-leaves g s who (partial.LoadGrantAnchor site) o sound has at =
@@ -134,16 +134,16 @@ partial-leaves g s who (partial.LoadGrantAnchor site) o sound has at =
     (taken-within g s sound.parts.0 who site o sound.parts.1 has at)
 partial-leaves g s who (partial.Grant site a) o sound has at = grant-less g site a o (s.word (name.Anchor site.desc))
 partial-leaves g s who (partial.LoadOwner seat d) o sound has at =
-    let fit = fits-at g s sound.parts.0 who (Partial (partial.LoadOwner seat d) o) sound.parts.1 has at in
+    let fit = fits-now g s who (Partial (partial.LoadOwner seat d) o) sound has at in
     owner-less g seat d o (s.word (name.Info d)) fit.point.seat.geometry (sound.parts.1.chained.infos d fit.point.desc)
 partial-leaves g s who (partial.PutSlot seat d heap) o sound has at =
-    let fit = fits-at g s sound.parts.0 who (Partial (partial.PutSlot seat d heap) o) sound.parts.1 has at in
+    let fit = fits-now g s who (Partial (partial.PutSlot seat d heap) o) sound has at in
     put-less g seat d heap o (s.word (slot_of seat heap)) fit.point.seat.geometry
     (sound.parts.1.kept.slot_words heap seat.class fit.point.owner fit.point.seat.class) fit.goes
 partial-leaves g s who (partial.LoadHeldSlot seat d heap) o sound has at = held-less g seat d heap o (s.word (slot_of seat heap))
 partial-leaves g s who (partial.RemoveFromSlot seat d heap) o sound has at = remove-less g seat d heap o (s.word (slot_of seat heap))
 partial-leaves g s who (partial.LoadListedAnchor seat d) o sound has at =
-    let fit = fits-at g s sound.parts.0 who (Partial (partial.LoadListedAnchor seat d) o) sound.parts.1 has at in
+    let fit = fits-now g s who (Partial (partial.LoadListedAnchor seat d) o) sound has at in
     listed-less g seat d o (s.word (name.Anchor d)) fit.goes
 partial-leaves g s who p o sound has at =
-    let fit = fits-at g s sound.parts.0 who (Partial p o) sound.parts.1 has at in absurd (true≢false fit.inside)
+    let fit = fits-now g s who (Partial p o) sound has at in absurd (true≢false fit.inside)

@@ -3,7 +3,7 @@ use Rattle.std.proofs.Common.{ℕ, Bool, zero, suc, true, false, Option, Some, N
 use Rattle.std.specs.Prelude.{◌==◌, All, AllPairs, IsSome, count_by, nat_lt, slice_set, if◌then◌else◌}
 use Rattle.std.proofs.lemmas.Bool.{true≢false, cond_both, cond-true, eq-eqb}
 use Rattle.std.proofs.lemmas.List.{get_or_default}
-use Rattle.std.proofs.lemmas.List.Elements.{All-head}
+use Rattle.std.proofs.lemmas.List.Elements.{All-head, All-tail}
 use Rattle.std.proofs.lemmas.List.Kept.{AllPairs-cons}
 use Rattle.std.proofs.lemmas.List.Sums.{sum_by-cons}
 use Rattle.heap_geometry.specs.declared.geometry.Geometry.{Geometry}
@@ -35,11 +35,10 @@ use Rattle.sound_state.specs.Keepers.{errand_has}
 use Rattle.sound_state.specs.Sound.{IsSoundWithoutCounts}
 use Rattle.sound_state.specs.StepsLeft.{steps_left, scan_left, active_left, resumed_left}
 use Rattle.sound_state.specs.Sums.{callers_sum}
-use Rattle.sound_state.proofs.endings.DescLeft.{desc-fits}
 use Rattle.sound_state.proofs.endings.LeftDefs.{next_left, word_under}
 use Rattle.sound_state.proofs.hazards.HazardLemmas.{contains-occurs}
 use Rattle.sound_state.proofs.hazards.HazardSteps.{noted-unread}
-use Rattle.sound_state.proofs.shared.PointLemmas.{All-rest}
+use Rattle.sound_state.proofs.shared.PointLemmas.{fits-now}
 use Rattle.sound_state.proofs.shared.SumLemmas.{term-sum}
 use Rattle.sound_state.proofs.wins.SettleExpects.{is_pick, no-pick-block, no-pick-stack, no-pick-partial, no-pick-large}
 use Rattle.sound_state.proofs.wins.WinDefs.{found_in}
@@ -53,7 +52,7 @@ occurs-apart (x ∷ xs) once =
     AllPairs-cons (λ a b. a ≢ b) x xs
     (λ k d within same.
     let bad : ⊥ = omega (arith, first, here, contains-occurs xs x (k, within, get_or_default xs k x d within ∙ sym same)) in bad)
-    (occurs-apart xs (λ k d within. omega (arith, All-rest (λ d. occurs d (x ∷ xs) ≤ 1) x xs once k d within)))
+    (occurs-apart xs (λ k d within. omega (arith, All-tail (λ d. occurs d (x ∷ xs) ≤ 1) x xs once k d within)))
 
 -- 1 where a word names something
 abbrev used : ℕ → ℕ
@@ -96,7 +95,7 @@ picks-some :
     → (s.errand who).point ≡ point.Desc (desc.ReadHazard seat held i) o
     → IsSome (first_unheld (slice_set held i (s.word (name.Hazard i))) (s.errand who).retired)
 picks-some g s who seat held i o sound has at =
-    let fits = (desc-fits g s who (desc.ReadHazard seat held i) o sound has at).point in
+    let fits = (fits-now g s who (point.Desc (desc.ReadHazard seat held i) o) sound has at).point in
     let words = slice_set held i (s.word (name.Hazard i)) in
     let few = few-used words (i + 1) (noted-unread g s sound.parts.0 who seat held i o sound.parts.1 has at) in
     let full = sound.parts.1.guarded.full who has (ap spare_of at) in
@@ -181,7 +180,7 @@ unfolding plan_point_of next_of
 desc-settles g s who (desc.ReadHazard seat held i) o sound has at =
     hazard-left g (s.errand who) seat held i (s.word (name.Hazard i)) o (picks-some g s who seat held i o sound has at)
 desc-settles g s who (desc.Scanned seat held) o sound has at =
-    absurd (true≢false (desc-fits g s who (desc.Scanned seat held) o sound has at).inside)
+    absurd (true≢false (fits-now g s who (point.Desc (desc.Scanned seat held) o) sound has at).inside)
 desc-settles g s who p o sound has at =
     let x = found_in (point.Desc p o) (word_under s (point.Desc p o)) in
     listed-left g (s.errand who) (enter_desc (settle_desc_of p x) o) (no-pick-desc p x o refl)

@@ -1,6 +1,6 @@
 -- What a step at a stack leaves to do.
-use Rattle.std.proofs.Common.{ℕ, Bool, true, false, ◌≡◌, ◌<◌, ◌≤◌, ◌+◌, ◌-◌, refl, arith, sym, subst, inl, inr}
-use Rattle.std.specs.Prelude.{◌⊎◌, ◌==◌, not, IsTrue, if◌then◌else◌}
+use Rattle.std.proofs.Common.{ℕ, ◌≡◌, ◌<◌, ◌≤◌, ◌+◌, ◌-◌, arith, sym, subst, inr}
+use Rattle.std.specs.Prelude.{◌==◌, IsTrue}
 use Rattle.std.proofs.lemmas.Bool.{true≢false}
 use Rattle.heap_geometry.specs.declared.geometry.Geometry.{Geometry}
 use Rattle.packed_words.specs.Head.{HeadFields, head_word, head_of}
@@ -15,7 +15,6 @@ use Rattle.stack_parts.specs.Points.{after_top, after_below}
 use Rattle.stack_parts.specs.Stacks.{next_in}
 use Rattle.errand_steps.specs.declared.onward.Onward.{Onward}
 use Rattle.errand_steps.specs.declared.point.Point.TheVariants.{Stack}
-use Rattle.errand_steps.specs.Fits.{FitsInStack}
 use Rattle.errand_steps.specs.Nexts.{next_of, enter_stack, found_empty, popped, confirmed_empty, put_away}
 use Rattle.errand_steps.specs.Onwards.{pops, confirms, pushes}
 use Rattle.errand_steps.specs.Points.{plan_point_of}
@@ -23,9 +22,9 @@ use Rattle.errand_steps.specs.Steps.{State}
 use Rattle.sound_state.specs.Recalls.{list_of}
 use Rattle.sound_state.specs.Sound.{IsSoundWithoutCounts}
 use Rattle.sound_state.specs.StepsLeft.{steps_left, top_left, put_left}
-use Rattle.sound_state.proofs.endings.LeftDefs.{next_left, LeavesLess}
+use Rattle.sound_state.proofs.endings.LeftDefs.{LeavesLess, exchanged, next_left}
 use Rattle.sound_state.proofs.quiet.QuietStacks.{pile-stacked, pile-exists, top-exists}
-use Rattle.sound_state.proofs.shared.PointLemmas.{fits-at}
+use Rattle.sound_state.proofs.shared.PointLemmas.{fits-now}
 
 -- a stack that is read empty
 empty-less :
@@ -69,11 +68,6 @@ put-less :
 unfolding steps_left
 put-less g s pile o goes = grind (arith, goes)
 
--- an exchange is lost, or has what a won one has
-pub lost-or : (Q : Bool → Type 0) (won : Bool) → Q true → (not won ≡ true) ⊎ (false ≡ true) ⊎ Q won
-lost-or Q true q = inr (inr q)
-lost-or Q false q = inl refl
-
 -- the top of a stack is an index that the heap has, or 0
 top-most :
     (g : Geometry) (s : State) (who : ℕ) (seat : SeatFields) (pile : Pile) → IsSoundWithoutCounts g s → IsSeatOf g who seat
@@ -92,22 +86,16 @@ next-most :
 next-most g s Frames i sound has = sound.parts.1.listed.frame_nexts i has
 next-most g s Partials i sound has = sound.parts.1.listed.nexts i has
 
--- what a caller remembers at a stack exists
-stack-fits :
-    (g : Geometry) (s : State) (who : ℕ) (p : StackPoint) (o : Onward) → IsSoundWithoutCounts g s → who < g.callers
-    → (s.errand who).point ≡ Stack p o → FitsInStack g who p o
-stack-fits g s who p o sound has at = fits-at g s sound.parts.0 who (Stack p o) sound.parts.1 has at
-
 -- a step at a stack is lost or leaves less to do
 pub stack-leaves :
     (g : Geometry) (s : State) (who : ℕ) (p : StackPoint) (o : Onward) → IsSoundWithoutCounts g s → who < g.callers
     → (s.errand who).point ≡ Stack p o → LeavesLess g s (Stack p o)
 unfolding plan_point_of next_of steps_left
 stack-leaves g s who (stack.LoadTop seat pile) o sound has at =
-    let fits = stack-fits g s who (stack.LoadTop seat pile) o sound has at in
+    let fits = fits-now g s who (Stack (stack.LoadTop seat pile) o) sound has at in
     inr (inr (top-less g seat pile (head_of (s.word (head_name seat pile))) o fits.goes (top-most g s who seat pile sound fits.point)))
 stack-leaves g s who (stack.LoadBelow seat pile h) o sound has at =
-    let fits = stack-fits g s who (stack.LoadBelow seat pile h) o sound has at in
+    let fits = fits-now g s who (Stack (stack.LoadBelow seat pile h) o) sound has at in
     let next = s.word (next_name pile (h.top - 1)) in
     let most : next ≤ pile_limit seat.geometry pile =
     subst (λ k. next ≤ pile_limit k pile) (sym fits.point.seat.geometry)
@@ -115,17 +103,20 @@ stack-leaves g s who (stack.LoadBelow seat pile h) o sound has at =
     in
     inr (inr (below-less g seat pile h next o fits.goes most))
 stack-leaves g s who (stack.PopTop seat pile h below) o sound has at =
-    let fits = stack-fits g s who (stack.PopTop seat pile h below) o sound has at in
-    lost-or (λ won. next_left g (enter_stack (if won then stack.Popped seat pile (h.top - 1) else stack.LoadTop seat pile) o) < top_left g seat o - 2)
-    (s.word (head_name seat pile) == head_word h) (popped-less g seat pile (h.top - 1) o fits.goes)
+    let fits = fits-now g s who (Stack (stack.PopTop seat pile h below) o) sound has at in
+    exchanged g (λ q. enter_stack q o) (top_left g seat o - 2) (s.word (head_name seat pile) == head_word h) (stack.Popped seat pile (h.top - 1))
+    (stack.LoadTop seat pile)
+    (popped-less g seat pile (h.top - 1) o fits.goes)
 stack-leaves g s who (stack.ConfirmEmpty seat pile h) o sound has at =
-    let fits = stack-fits g s who (stack.ConfirmEmpty seat pile h) o sound has at in
-    lost-or (λ won. next_left g (enter_stack (if won then stack.ConfirmedEmpty seat pile else stack.LoadTop seat pile) o) < top_left g seat o - 1)
-    (s.word (head_name seat pile) == head_word h) (confirmed-less g seat pile o fits.goes)
+    let fits = fits-now g s who (Stack (stack.ConfirmEmpty seat pile h) o) sound has at in
+    exchanged g (λ q. enter_stack q o) (top_left g seat o - 1) (s.word (head_name seat pile) == head_word h) (stack.ConfirmedEmpty seat pile)
+    (stack.LoadTop seat pile)
+    (confirmed-less g seat pile o fits.goes)
 stack-leaves g s who (stack.LoadTopToPush seat pile i) o sound has at = inr (inr (omega arith))
 stack-leaves g s who (stack.StoreBelow seat pile i h) o sound has at = inr (inr (omega arith))
 stack-leaves g s who (stack.PushTop seat pile i h) o sound has at =
-    let fits = stack-fits g s who (stack.PushTop seat pile i h) o sound has at in
-    lost-or (λ won. next_left g (enter_stack (if won then stack.Pushed seat pile else stack.LoadTopToPush seat pile i) o) < put_left g seat o + 1)
-    (s.word (head_name seat pile) == head_word h) (put-less g seat pile o fits.goes)
-stack-leaves g s who p o sound has at = absurd (true≢false (stack-fits g s who p o sound has at).inside)
+    let fits = fits-now g s who (Stack (stack.PushTop seat pile i h) o) sound has at in
+    exchanged g (λ q. enter_stack q o) (put_left g seat o + 1) (s.word (head_name seat pile) == head_word h) (stack.Pushed seat pile)
+    (stack.LoadTopToPush seat pile i)
+    (put-less g seat pile o fits.goes)
+stack-leaves g s who p o sound has at = absurd (true≢false (fits-now g s who (Stack p o) sound has at).inside)

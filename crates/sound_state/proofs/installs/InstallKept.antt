@@ -1,11 +1,10 @@
 -- A won install leaves each descriptor in one place, as many out for each class, and each frame in one place.
-use Rattle.std.proofs.Common.{ℕ, Some, ◌≡◌, ◌≢◌, ◌<◌, ◌≤◌, ◌+◌, [], refl, arith, ap, sym, subst, inl, inr, ◌∙◌}
-use Rattle.std.specs.Prelude.{◌⊎◌, ◌==◌, All, IsTrue, if◌then◌else◌}
+use Rattle.std.proofs.Common.{ℕ, Some, ◌≡◌, ◌≢◌, ◌<◌, ◌+◌, [], refl, arith, ap, sym, subst, inl, inr, ◌∙◌}
+use Rattle.std.specs.Prelude.{◌==◌, All, IsTrue, if◌then◌else◌}
 use Rattle.std.proofs.lemmas.Bool.{cases_eq, cond-true, eq-eqb, ne_eqb}
 use Rattle.std.proofs.lemmas.List.Elements.{All-nil, All-head}
 use Rattle.heap_geometry.specs.declared.geometry.Geometry.{Geometry}
 use Rattle.packed_words.specs.declared.active.ActiveWord.TheVariants.{Null, Held}
-use Rattle.packed_words.specs.declared.anchor.State.TheVariants as phase
 use Rattle.packed_words.specs.Active.{IsActiveWord, active_word}
 use Rattle.word_plan.specs.Counts.{descriptor_count}
 use Rattle.word_plan.specs.declared.seat.Site.{Site}
@@ -16,7 +15,7 @@ use Rattle.superblock_parts.specs.Chains.{occurs}
 use Rattle.errand_steps.specs.Errands.{ErrandFields}
 use Rattle.errand_steps.specs.Steps.{State}
 use Rattle.sound_state.specs.Frames.{IsFramed, errand_frames, fills}
-use Rattle.sound_state.specs.Holdings.{Kept, Status, reserving, waiting, partly_used, on_its_way, holds_of}
+use Rattle.sound_state.specs.Holdings.{Kept, Status, waiting}
 use Rattle.sound_state.specs.Keepers.{IsKept, IsPartlyUsed, IsActive, IsWithout, IsKeptAs, places_of, errand_has, full_keeps, word_keeps}
 use Rattle.sound_state.specs.Lists.{Lists}
 use Rattle.sound_state.specs.Sound.{IsSoundWith}
@@ -25,7 +24,8 @@ use Rattle.sound_state.specs.Sums.{sum_below}
 use Rattle.sound_state.specs.Superblocks.{anchor_for, info_for, is_bound, waiting_of}
 use Rattle.sound_state.proofs.quiet.QuietCredits.{null-said, null-none, held-said, held-some}
 use Rattle.sound_state.proofs.shared.FrameLemmas.{bound-fills}
-use Rattle.sound_state.proofs.shared.AlikeLemmas.{ActivesKept, each-caller}
+use Rattle.sound_state.proofs.shared.AlikeLemmas.{ActivesKept}
+use Rattle.sound_state.proofs.shared.KeptLemmas.{Goes, kept-goes, places-kept, same-goes}
 use Rattle.sound_state.proofs.shared.CreditLemmas.{actives-written}
 use Rattle.sound_state.proofs.installs.InstallEffects.{Installs, installing_holds, installed_holds, installed_word}
 use Rattle.sound_state.proofs.installs.InstallFacts.{installed-info, installed-anchor, installed-bound, installed-others, installed-one, installed-back}
@@ -37,27 +37,21 @@ pub record SameDescs (s s' : State) : Type 0 where
   pub info : (d : ℕ) → info_for s' d ≡ info_for s d
   pub anchor : (d : ℕ) → anchor_for s' d ≡ anchor_for s d
 
+pub descs-go : (s s' : State) → SameDescs s s' → (d : ℕ) → Goes s s' d
+descs-go s s' h d = same-goes s s' d (h.info d) (h.anchor d)
+
 -- so each descriptor is in the same state
 pub active-shown : (s s' : State) → SameDescs s s' → (d c : ℕ) → IsActive s d c → IsActive s' d c
-active-shown s s' h d c k = record {
-  class = ap (λ x. x.class) (h.info d) ∙ k.class;
-  state = ap (λ a. a.state) (h.anchor d) ∙ k.state;
-}
+active-shown s s' h d = (descs-go s s' h d).active
 
 pub partly-shown : (s s' : State) → SameDescs s s' → (d c : ℕ) → IsPartlyUsed s d c → IsPartlyUsed s' d c
-partly-shown s s' h d c k = record {
-  class = ap (λ x. x.class) (h.info d) ∙ k.class;
-  state = subst (λ a. ((a.state ≡ phase.Partial) × (1 ≤ a.count)) ⊎ (a.state ≡ phase.Empty)) (sym (h.anchor d)) k.state;
-}
+partly-shown s s' h d = (descs-go s s' h d).partly
 
 pub without-shown : (s s' : State) → SameDescs s s' → (d : ℕ) → IsWithout s d → IsWithout s' d
-without-shown s s' h d k = subst (λ a. (a.state ≡ phase.Active) ⊎ (a.state ≡ phase.Empty)) (sym (h.anchor d)) k
+without-shown s s' h d = (descs-go s s' h d).without
 
 pub kept_as-shown : (s s' : State) → SameDescs s s' → (status : Status) (d c : ℕ) → IsKeptAs s status d c → IsKeptAs s' status d c
-kept_as-shown s s' h reserving d c k = active-shown s s' h d c k
-kept_as-shown s s' h waiting d c k = active-shown s s' h d c k
-kept_as-shown s s' h partly_used d c k = partly-shown s s' h d c k
-kept_as-shown s s' h on_its_way d c k = without-shown s s' h d k
+kept_as-shown s s' h status d c = kept-goes s s' status d c (descs-go s s' h d)
 
 pub installed-descs :
     (g : Geometry) (s : State) (l : Lists) (who : ℕ) (at : Site) (words : ℕ) (e : ErrandFields) (s' : State)
@@ -127,30 +121,18 @@ pub installed-kept :
     (g : Geometry) (s : State) (l : Lists) (who : ℕ) (at : Site) (words : ℕ) (e : ErrandFields) (s' : State)
     → Installs g s l who at words e s' → IsSoundWith g s l → IsKept g s' l
 installed-kept g s l who at words e s' h sound =
-    let kept : IsKept g s l = sound.kept in
-    let same = installed-descs g s l who at words e s' h in
-    let actives = installed-actives g s l who at words e s' h kept in
-    record {
-      once = λ d has. installed-places g s l who at words e s' h d ∙ kept.once d has;
-      active_words = actives.active_words;
-      slot_words = actives.slot_words;
-      active = λ heap class d credits has_heap has_class is.
-          let a = actives.active heap class d credits has_heap has_class is in (a.0, active-shown s s' same d class a.1);
-      slot = λ heap class d has_heap has_class is.
-          let a = actives.slot heap class d has_heap has_class is in (a.0, partly-shown s s' same d class a.1);
-      full = λ d has is. ap (λ a. a.count) (same.anchor d) ∙ kept.full d has (ap (λ a. a.state) (sym (same.anchor d)) ∙ is);
-      listed = λ class has k d lt. partly-shown s s' same _ class (kept.listed class has k d lt);
-      available = λ k d lt. without-shown s s' same _ (kept.available k d lt);
-      retired =
-          each-caller g (λ i e. All (IsWithout s') e.retired) s.errand who e s'.errand h.moves
-          (subst (All (IsWithout s')) (sym h.retired) (λ k d lt. without-shown s s' same _ (kept.retired who h.caller k d lt)))
-          (λ i has k d lt. without-shown s s' same _ (kept.retired i has k d lt));
-      errand =
-          each-caller g (λ i e. All (λ k. IsKeptAs s' k.status k.desc k.class) (holds_of e.point).kept) s.errand who e s'.errand h.moves
-          (subst (λ x. All (λ (k : Kept). IsKeptAs s' k.status k.desc k.class) x.kept) (sym h.holds_after)
-          (All-nil (λ (k : Kept). IsKeptAs s' k.status k.desc k.class)))
-          (λ i has k d lt. kept_as-shown s s' same _ _ _ (kept.errand i has k d lt));
-    }
+    places-kept g s l who e s'
+    (record {
+      caller = h.caller;
+      moves = h.moves;
+      places = installed-places g s l who at words e s' h;
+      actives = installed-actives g s l who at words e s' h sound.kept;
+      goes = λ d. inl (descs-go s s' (installed-descs g s l who at words e s' h) d);
+      retired = h.retired;
+      own =
+          subst (λ x. All (λ (k : Kept). IsKeptAs s' k.status k.desc k.class) x.kept) (sym h.holds_after)
+          (All-nil (λ (k : Kept). IsKeptAs s' k.status k.desc k.class));
+    }) sound.kept
 
 -- so much is out for each class as before
 installed-stock :

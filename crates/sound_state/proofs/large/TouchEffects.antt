@@ -1,7 +1,6 @@
 -- A step at a large block, a usable word or a shelf: no superblock, list or descriptor changes, and what is said of them stays.
 use Rattle.std.proofs.Common.{ℕ, false, None, Some, ◌≡◌, ◌≢◌, ◌<◌, ◌≤◌, ◌+◌, ◌-◌, ◌^◌, [], length, refl, arith, ap, sym, subst, ◌∙◌}
-use Rattle.std.proofs.Math.Path.{fun_ext}
-use Rattle.std.specs.Prelude.{◌⊎◌, slice_index, All, Contains, IsTrue, IsSome, count_by}
+use Rattle.std.specs.Prelude.{◌⊎◌, All, IsTrue, IsSome, count_by}
 use Rattle.std.proofs.lemmas.List.Elements.{All-nil}
 use Rattle.heap_geometry.specs.declared.geometry.Geometry.{Geometry}
 use Rattle.heap_geometry.specs.declared.need.Need.{Need}
@@ -23,7 +22,6 @@ use Rattle.superblock_parts.proofs.ChainLemmas.{chain_of-same}
 use Rattle.stack_parts.specs.declared.point.Pile.{Pile}
 use Rattle.stack_parts.specs.declared.point.Pile.TheVariants.{Frames, Partials}
 use Rattle.stack_parts.specs.Piles.{head_name, next_name}
-use Rattle.stack_parts.specs.Stacks.{next_in}
 use Rattle.pool_model.specs.declared.event.Event.TheVariants.{Looked}
 use Rattle.pool_model.specs.declared.owner.Owner.TheVariants.{Caller}
 use Rattle.pool_model.specs.Histories.{own, EndsWith}
@@ -33,7 +31,7 @@ use Rattle.errand_steps.specs.Fits.{spare_of, pushed_by}
 use Rattle.errand_steps.specs.declared.point.Point.{Point}
 use Rattle.errand_steps.specs.Steps.{State, Moves}
 use Rattle.sound_state.specs.Frames.{IsFramed, errand_frames, fills}
-use Rattle.sound_state.specs.Guards.{IsGuarded, Guards, IsGuard, IsHazard, passed_by, held_by}
+use Rattle.sound_state.specs.Guards.{IsGuarded, passed_by, held_by}
 use Rattle.sound_state.specs.Holdings.{Status, clear, reserving, waiting, partly_used, on_its_way, holds_of}
 use Rattle.sound_state.specs.Keepers.{IsKept, IsPartlyUsed, IsActive, IsWithout, IsKeptAs, places_of, word_keeps, errand_has, full_keeps}
 use Rattle.sound_state.specs.Lists.{Lists, IsListed}
@@ -43,9 +41,12 @@ use Rattle.sound_state.specs.Stock.{stock_of, word_stock, errand_stock, full_sto
 use Rattle.sound_state.specs.Ties.{IsTied}
 use Rattle.sound_state.specs.Sums.{sum_below, words_sum, callers_sum}
 use Rattle.sound_state.specs.Superblocks.{AreChained, IsChained, info_or_zero, live_at, anchor_for, info_for, superblock_of, free_chain, reserved_of, word_reserves, errand_reserves, reserved_among, waiting_of, away_of, errand_away, is_bound, errand_keeps, kept_among}
-use Rattle.sound_state.specs.Turns.{IsTurned, gives_small, refuses_small, turn_open, turn_unframed, turn_unlisted, turn_unanswered, errand_discards, errand_pops, turns_of, cleared_of, emptied_out, is_small_alloc, is_small_free, in_turn, pops_left}
-use Rattle.sound_state.proofs.pops.PopTurns.{each-other}
+use Rattle.sound_state.specs.Turns.{IsTurned, gives_small, refuses_small, is_small_alloc, is_small_free, in_turn, pops_left}
+use Rattle.sound_state.proofs.shared.CallerLemmas.{each-other}
+use Rattle.sound_state.proofs.shared.GuardEffects.{guarded-clear}
+use Rattle.sound_state.proofs.shared.ListEffects.{IsListWord, listed-kept}
 use Rattle.sound_state.proofs.shared.SumLemmas.{callers-moved, sum-same}
+use Rattle.sound_state.proofs.shared.TurnEffects.{emptied-kept, head-tag, no-turn-weighs, turned-after}
 
 -- the word is none of the arena's, of the units and of the shelves
 abbrev pub IsAwayWord : WordName → Type 0
@@ -292,21 +293,15 @@ chained-touched g s l who e s' h chained = record {
       (chained.chained d has bound);
 }
 
--- the lists stay
+-- heads and next words are none of the words that change, so the lists stay
+list-away : (n : WordName) → IsListWord n → IsAwayWord n
+list-away (name.Arena place) is = is
+list-away name.Units is = is
+list-away (name.Shelf k) is = is
+list-away n is = tt
+
 listed-touched : (g : Geometry) (s : State) (l : Lists) (who : ℕ) (e : ErrandFields) (s' : State) → Touches g s l who e s' → IsListed g s.word l → IsListed g s'.word l
-listed-touched g s l who e s' h listed =
-    let frames : next_in s'.word Frames ≡ next_in s.word Frames = fun_ext (λ i. h.word (name.FrameNext i) tt) in
-    let partials : next_in s'.word Partials ≡ next_in s.word Partials = fun_ext (λ i. h.word (name.Next i) tt) in
-    record {
-      nexts = λ d has. subst (λ w. w ≤ descriptor_count g) (sym (h.word (name.Next d) tt)) (listed.nexts d has);
-      frame_nexts = λ f has. subst (λ w. w ≤ g.frames) (sym (h.word (name.FrameNext f) tt)) (listed.frame_nexts f has);
-      frames = rw (frames, h.word name.FrameHead tt) listed.frames;
-      frames_exist = listed.frames_exist;
-      available = rw (partials, h.word name.DescHead tt) listed.available;
-      available_exist = listed.available_exist;
-      partials = λ class has. rw (partials, h.word (name.ListHead class) tt) (listed.partials class has);
-      partials_exist = listed.partials_exist;
-    }
+listed-touched g s l who e s' h = listed-kept g s.word s'.word l (λ n is. h.word n (list-away n is))
 
 -- each descriptor stays where it is
 kept-touched : (g : Geometry) (s : State) (l : Lists) (who : ℕ) (e : ErrandFields) (s' : State) → Touches g s l who e s' → IsKept g s l → IsKept g s' l
@@ -421,89 +416,38 @@ remembered-touched g s l who e s' h remembered = record {
 }
 
 -- the guards stay
-guards-touched :
-    (g : Geometry) (s : State) (l : Lists) (who : ℕ) (e : ErrandFields) (s' : State) → Touches g s l who e s' → (i d : ℕ) → i < g.callers
-    → Guards s' i d → Guards s i d
-guards-touched g s l who e s' h i d has guards = record {
-  word = sym (h.word (name.Hazard i) tt) ∙ guards.word;
-  guard =
-      each-other g (λ i e. IsGuard (holds_of e.point).hazard → IsGuard (holds_of (s.errand i).point).hazard) s.errand who e s'.errand h.moves
-      (λ guard. let bad : ⊥ = subst IsGuard h.after.hazard guard in absurd bad) (λ i has other guard. guard) i has guards.guard;
-}
-
 guarded-touched : (g : Geometry) (s : State) (l : Lists) (who : ℕ) (e : ErrandFields) (s' : State) → Touches g s l who e s' → IsGuarded g s → IsGuarded g s'
-guarded-touched g s l who e s' h guarded = record {
-  words = λ i has.
-      subst (λ w. IsHazard (holds_of (s'.errand i).point).hazard w) (sym (h.word (name.Hazard i) tt))
-      (each-other g (λ i e. IsHazard (holds_of e.point).hazard (s.word (name.Hazard i))) s.errand who e s'.errand h.moves
-      (subst (λ x. IsHazard x (s.word (name.Hazard who))) (h.before.hazard ∙ sym h.after.hazard) (guarded.words who h.caller))
-      (λ i has other. guarded.words i has) i has);
-  pushed = λ i other d has has_other guards is.
-      guarded.pushed i other d has has_other (guards-touched g s l who e s' h i d has guards)
-      (each-other g (λ j e. (d : ℕ) → pushed_by e.point ≡ Some d → pushed_by (s.errand j).point ≡ Some d) s.errand who e s'.errand h.moves
-      (λ d is. let bad : None ≡ Some d = sym h.after.pushed ∙ is in absurd (cc)) (λ j has differ d is. is) other has_other d is);
-  passed = λ i other d has has_other guards listed below.
-      each-other g (λ j e. Contains e.retired d → i < passed_by e.point → slice_index (held_by e.point) i ≡ d + 1) s.errand who e s'.errand h.moves
-      (λ listed below. let bad : ⊥ = omega (arith, below, h.after.passed) in absurd bad)
-      (λ j has_j differ listed below. guarded.passed i j d has has_j (guards-touched g s l who e s' h i d has guards) listed below)
-      other has_other listed below;
-  unread = λ i k has passed below.
-      each-other g (λ j e. passed_by e.point ≤ k → k < length (held_by e.point) → slice_index (held_by e.point) k ≡ 0) s.errand who e s'.errand h.moves
-      (λ passed below. let bad : ⊥ = omega (arith, below, h.after.unread) in absurd bad)
-      (λ j has_j differ passed below. guarded.unread j k has_j passed below) i has passed below;
-  full =
-      each-other g (λ i e. spare_of e.point ≡ 1 → length e.retired ≡ g.callers + 1) s.errand who e s'.errand h.moves
-      (λ spare. let bad : ⊥ = omega (arith, spare, h.after.spare) in absurd bad) (λ i has differ. guarded.full i has);
-}
-
--- who is in no turn
-aside-open : (e : ErrandFields) → in_turn e.point ≡ false → turn_open e ≡ 0
-aside-open e is = rw is refl
-
-aside-unframed : (e : ErrandFields) → in_turn e.point ≡ false → turn_unframed e ≡ 0
-aside-unframed e is = rw is refl
-
-aside-unlisted : (e : ErrandFields) → in_turn e.point ≡ false → turn_unlisted e ≡ 0
-aside-unlisted e is = rw is refl
-
-aside-unanswered : (e : ErrandFields) → in_turn e.point ≡ false → turn_unanswered e ≡ 0
-aside-unanswered e is = rw is refl
-
-aside-discards : (e : ErrandFields) → in_turn e.point ≡ false → errand_discards e ≡ 0
-aside-discards e is = rw is refl
+guarded-touched g s l who e s' h =
+    guarded-clear g s who e s' h.caller h.moves (λ i. h.word (name.Hazard i) tt) h.before.hazard h.after.hazard h.after.pushed h.after.passed
+    h.after.unread h.after.spare
 
 -- the turns stay
 turned-touched : (g : Geometry) (s : State) (l : Lists) (who : ℕ) (e : ErrandFields) (s' : State) → Touches g s l who e s' → IsTurned g s l → IsTurned g s' l
 turned-touched g s l who e s' h turned =
-    let same = λ (weight : ErrandFields → ℕ) (is : weight e ≡ weight (s.errand who)). touched-callers g s l who e s' h weight is in
-    let old = s.errand who in
-    let emptied_same : sum_below (descriptor_count g) (emptied_out g s' l) ≡ sum_below (descriptor_count g) (emptied_out g s l) =
-    sum-same (descriptor_count g) (emptied_out g s l) (emptied_out g s' l)
-    (λ d lt. rw (touched-away g s l who e s' h d, touched-anchor g s l who e s' h d) refl) in
-    let unframed = same turn_unframed (aside-unframed e h.after.turn ∙ sym (aside-unframed old h.before.turn)) in
-    let unlisted = same turn_unlisted (aside-unlisted e h.after.turn ∙ sym (aside-unlisted old h.before.turn)) in
-    let pops = same errand_pops (h.after.pops ∙ sym h.before.pops) in
-    let turns = same turns_of h.turns in
-    let cleared = same cleared_of h.cleared in
-    record {
-      own_turns = λ i has.
-          subst (λ n. n + turn_open (s'.errand i) ≤ (s'.errand i).turns) (sym (h.gives i))
-          (each-other g (λ i e. count_by (gives_small i) s.history + turn_open e ≤ e.turns) s.errand who e s'.errand h.moves
-          (omega (arith, turned.own_turns who h.caller, h.turns, aside-open e h.after.turn)) (λ i has differ. turned.own_turns i has) i has);
-      own_lost = λ i has.
-          subst (λ n. (s'.errand i).turns + errand_discards (s'.errand i) ≤ n + (s'.errand i).lost + turn_unanswered (s'.errand i))
-          (sym (omega (arith, h.gives i, h.refuses i)))
-          (each-other g
-          (λ i e. e.turns + errand_discards e
-          ≤ count_by (gives_small i) s.history + count_by (refuses_small i) s.history + e.lost + turn_unanswered e) s.errand who e s'.errand h.moves
-          (omega (arith, turned.own_lost who h.caller, h.turns, h.lost, aside-discards e h.after.turn, aside-unanswered old h.before.turn))
-          (λ i has differ. turned.own_lost i has) i has);
-      anchor_tags = λ d has. omega (arith, turned.anchor_tags d has, ap (λ a. a.tag) (touched-anchor g s l who e s' h d), h.allocs);
-      frame_tag = omega (arith, turned.frame_tag, ap (λ w. (head_of w).tag) (h.word name.FrameHead tt), unframed, turns);
-      emptied = omega (arith, turned.emptied, emptied_same, cleared, h.freed);
-      list_tags = λ class has.
-          omega (arith, turned.list_tags class has, ap (λ w. (head_of w).tag) (h.word (name.ListHead class) tt), pops, unlisted, turns, cleared, h.freed);
-    }
+    let before = no-turn-weighs (s.errand who) h.before.turn in
+    let after = no-turn-weighs e h.after.turn in
+    let emptied_same = emptied-kept g s l s' l (λ d. rw (touched-away g s l who e s' h d, touched-anchor g s l who e s' h d) refl) in
+    turned-after g s l who e s' l 0 0
+    (record {
+      caller = h.caller;
+      moves = h.moves;
+      events = record {
+        elsewhere = λ i differ. h.gives i;
+        gives = omega (arith, h.gives who);
+        refuses = h.refuses;
+        allocs = omega (arith, h.allocs);
+        frees = omega (arith, h.freed);
+      };
+      own_turns = omega (arith, turned.own_turns who h.caller, h.gives who, after.under_way, h.turns);
+      own_lost =
+          omega (arith, turned.own_lost who h.caller, h.gives who, h.refuses who, before.unanswered, after.discards, h.turns, h.lost);
+      anchor_tags = λ d has. omega (arith, ap (λ a. a.tag) (touched-anchor g s l who e s' h d));
+      frame_turns = omega (arith, head-tag (h.word name.FrameHead tt), after.unframed, h.turns);
+      emptied = omega (arith, emptied_same, h.cleared);
+      list_turns = λ class has.
+          omega (arith, head-tag (h.word (name.ListHead class) tt), h.after.pops, after.unlisted, h.turns, h.cleared);
+    })
+    turned
 
 -- the state is sound after it, where the words show the pool
 pub sound-touched :

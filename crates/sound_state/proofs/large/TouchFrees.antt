@@ -1,10 +1,10 @@
 -- A run that is freed.
-use Rattle.std.proofs.Common.{ℕ, false, None, Some, ◌≡◌, ◌≢◌, ◌<◌, ◌≤◌, ◌+◌, ◌*◌, ◌^◌, [], ◌∷◌, ◌++◌, refl, arith, ap, sym, subst, inl, inr, ◌∙◌}
-use Rattle.std.specs.Prelude.{◌⊎◌, All, Any, IsTrue}
+use Rattle.std.proofs.Common.{ℕ, false, None, ◌≡◌, ◌≢◌, ◌<◌, ◌≤◌, ◌+◌, ◌^◌, [], ◌∷◌, ◌++◌, refl, arith, ap, sym, subst, inl, inr, ◌∙◌}
+use Rattle.std.specs.Prelude.{◌⊎◌, Any, IsTrue}
 use Rattle.std.specs.Int.{bit_at}
 use Rattle.std.proofs.lemmas.Bool.{cases_eq, cases_lt, lt-leb}
 use Rattle.std.proofs.lemmas.Nat.{and_le_l}
-use Rattle.std.proofs.lemmas.List.Elements.{All-nil, All-head}
+use Rattle.std.proofs.lemmas.List.Elements.{All-head}
 use Rattle.heap_geometry.specs.declared.geometry.Geometry.{Geometry}
 use Rattle.heap_geometry.specs.declared.need.Need.TheVariants as need
 use Rattle.heap_geometry.specs.Need.{usable_words}
@@ -17,10 +17,10 @@ use Rattle.large_parts.specs.Runs.{RunFields}
 use Rattle.large_parts.specs.Units.{IsInRun, other_bits, without_run}
 use Rattle.large_parts.proofs.UnitLemmas.{without_run-inside, without_run-outside, without_run-below}
 use Rattle.pool_model.specs.declared.event.Event.TheVariants.{Free}
-use Rattle.pool_model.specs.declared.owner.Owner.TheVariants.{Caller, Shelf}
-use Rattle.pool_model.specs.Legal.{IsAllowed, IsLegalEventWithoutCounts, IsLegalWithoutCounts}
+use Rattle.pool_model.specs.declared.owner.Owner.TheVariants.{Caller}
+use Rattle.pool_model.specs.Legal.{IsAllowed}
 use Rattle.pool_model.specs.Pool.{Block, block_at, without, pool_of}
-use Rattle.pool_model.proofs.HistoryLemmas.{EachAfter-push, pool_of-push}
+use Rattle.pool_model.proofs.HistoryLemmas.{pool_of-push}
 use Rattle.pool_model.proofs.PoolLemmas.{place-found, block_at-without_other, block_at-without_same}
 use Rattle.pool_model.proofs.WellFormedLemmas.{sound-of, sound-differ}
 use Rattle.errand_steps.specs.declared.onward.Onward.{Onward}
@@ -37,17 +37,18 @@ use Rattle.sound_state.specs.Lists.{Lists}
 use Rattle.sound_state.specs.Recalls.{IsOwned}
 use Rattle.sound_state.specs.Sound.{IsSoundWithoutCounts, IsSoundWith}
 use Rattle.sound_state.specs.Superblocks.{is_there}
-use Rattle.sound_state.specs.Ties.{IsLive, IsTied, IsExcepted, IsCovered}
-use Rattle.sound_state.proofs.pops.PopTurns.{each-other}
+use Rattle.sound_state.specs.Ties.{IsLive, IsTied, IsCovered}
 use Rattle.sound_state.proofs.shared.AlikeLemmas.{Excepts}
 use Rattle.sound_state.proofs.shared.OverlapLemmas.{live-apart}
 use Rattle.sound_state.proofs.shared.PointLemmas.{fits-at, frees-at}
-use Rattle.sound_state.proofs.large.TouchEffects.{IsAside, Touches, sound-touched, touched-bound, located-touched, owned-touched}
-use Rattle.sound_state.proofs.large.TouchPrefix.{any-one, frame-before}
+use Rattle.sound_state.proofs.large.TouchEffects.{Touches}
+use Rattle.sound_state.proofs.large.TouchPrefix.{frame-before}
 use Rattle.sound_state.proofs.large.TouchPrefixes.{info-frame}
 use Rattle.sound_state.proofs.large.TouchShelves.{idle-aside, idle-bare, idle-recalls}
 use Rattle.sound_state.proofs.large.TouchSteps.{IsAsideEvent, TouchesAt, leaves-event, stays-still, touched-step}
-use Rattle.sound_state.proofs.large.TouchTies.{IsBareHanded, excepted-touched, tie-stays}
+use Rattle.sound_state.proofs.shared.TieLemmas.{IsBareHanded, bare-owns, not-live, one-live, ties-but}
+use Rattle.sound_state.proofs.quiet.QuietPushes.{any-one}
+use Rattle.sound_state.proofs.large.TouchTies.{large-aside, touched-desc, touched-sound}
 
 -- a unit is one of a run's, or none
 pub cases_run : (first units i : ℕ) → IsInRun first units i ⊎ (IsInRun first units i → ⊥)
@@ -76,10 +77,6 @@ runs-apart g s sound first other units more unit a b at_a at_b of_a of_b ne from
       | inr after ↦ omega (arith, after, here_a, here_b, words_a, words_b, from, below, from_b, below_b)
     ]
 
-free-aside : (place : ℕ) (run : RunFields) (o : Onward) → IsAside (Large (large.FreeRun place run) o)
-unfolding holds_of
-free-aside place run o = grind (arith)
-
 -- who frees a run excepts nothing
 free-excepts : (e : ErrandFields) (place : ℕ) (run : RunFields) (o : Onward) (p : ℕ) → e.point ≡ Large (large.FreeRun place run) o → Excepts e p → ⊥
 unfolding holds_of
@@ -88,7 +85,7 @@ free-excepts e place run o p at (inl x) =
 free-excepts e place run o p at (inr x) =
     let one : Any (λ b. (b.place ≡ p) × IsTrue b.overwritten) (freed place (need.Large run.units) false) =
     subst (λ q. Any (λ b. (b.place ≡ p) × IsTrue b.overwritten) (holds_of q).frees) at x in
-    let is = any-one _ (λ b. (b.place ≡ p) × IsTrue b.overwritten) _ one in
+    let is = any-one (λ b. (b.place ≡ p) × IsTrue b.overwritten) _ one in
     let bad : IsTrue false = is.1 in absurd (cc)
 
 -- a run lies behind the frames
@@ -125,7 +122,7 @@ free-touches g s l who place run o old fit allowed = record {
       ap is_there
       (block_at-without_other place _ (pool_of s.history)
       (λ same. frame-before g.frames _ _ i run.first (info-frame g s l d old has) lt (same ∙ fit.place))));
-  before = free-aside place run o;
+  before = large-aside _ _;
   after = idle-aside;
   recalls = idle-recalls;
   prefixes = λ words' w d i has bound lt. w.elsewhere _ (λ same. cc);
@@ -137,9 +134,6 @@ pub record Goes (s s' : State) (at : ℕ) (a : Block) : Type 0 where
   pub was : IsLive s at a
   pub gone : block_at at (pool_of s'.history) ≡ None
   pub elsewhere : (p : ℕ) → p ≢ at → block_at p (pool_of s'.history) ≡ block_at p (pool_of s.history)
-
-ne-some : (b : Block) → None ≡ Some b → ⊥
-ne-some b bad = cc
 
 -- the freed units are clear and uncovered, and the others as they were
 free-uncovers :
@@ -156,8 +150,7 @@ free-uncovers g s s' place run unit l sound old fit w a of c was bit =
           let ne : unit_place g.frames k.1 ≢ place =
           λ same.
           let firsts : k.1 ≡ run.first = omega (arith, same, fit.place) in
-          let one : Some a ≡ Some k.0 = sym c.was ∙ ap (λ q. block_at q (pool_of s.history)) (sym same) ∙ k.3 in
-          let blocks : a ≡ k.0 = cc in
+          let blocks : a ≡ k.0 = one-live s place (unit_place g.frames k.1) a k.0 c.was same k.3 in
           let needs : need.Large run.units ≡ need.Large k.2 = sym of ∙ ap (λ (x : Block). x.need) blocks ∙ k.4 in
           let units : run.units ≡ k.2 = cc in
           outside (record { from = omega (arith, firsts, k.5); below = omega (arith, firsts, units, k.6) }) in
@@ -170,7 +163,7 @@ free-covers :
     → Goes s s' place a → (IsCovered g s unit → bit_at (s.word name.Units) unit ≡ 1) → IsCovered g s' unit → bit_at (s'.word name.Units) unit ≡ 1
 free-covers g s s' place run unit l sound old fit w a of c was k =
     let ne : unit_place g.frames k.1 ≢ place =
-    λ same. ne-some k.0 (sym c.gone ∙ ap (λ q. block_at q (pool_of s'.history)) (sym same) ∙ k.3) in
+    λ same. not-live s' place (unit_place g.frames k.1) k.0 c.gone same k.3 in
     let live : IsLive s (unit_place g.frames k.1) k.0 = sym (c.elsewhere (unit_place g.frames k.1) ne) ∙ k.3 in
     elim (cases_run run.first run.units unit) [
       | inl inside ↦
@@ -190,24 +183,22 @@ free-tied :
     → (a : Block) → a.owner ≡ Caller who → a.need ≡ need.Large run.units → Goes s s' place a → IsTied g s' l
 free-tied g s l who place run o s' e h sound old at fit w bare_after a owned of c =
     let tied = old.tied in
-    let differs = λ (p : ℕ) (b : Block) (live : IsLive s' p b) (same : p ≡ place).
-    let bad : None ≡ Some b = sym c.gone ∙ ap (λ q. block_at q (pool_of s'.history)) (sym same) ∙ live in ne-some b bad in
-    let was = λ (p : ℕ) (b : Block) (live : IsLive s' p b). sym (c.elsewhere p (differs p b live)) ∙ live in
-    let arena = λ (p : ℕ). w.elsewhere (name.Arena p) (λ same. cc) in
-    let tie = λ (p v : ℕ) (x : IsExcepted g s p ⊎ (s.word (name.Arena p) ≡ v)).
-    tie-stays g s s' p v (excepted-touched g s l who e s' h p (λ excepts. absurd (free-excepts (s.errand who) place run o p at excepts))) (arena p) x in
-    record {
-      small = λ p class b live is.
-          let t = tied.small p class b (was p b live) is in (
-            t.0,
-            record {
-              exists = t.1.exists;
-              bound = subst IsTrue (sym (touched-bound g s l who e s' h t.0)) t.1.bound;
-              located = located-touched g s l who e s' h t.0 (frame_of p) class t.1.located;
-            },
-            tie p (2 * t.0) t.2,
-          );
-      large = λ p n b live is. tie p (2 * n + 1) (tied.large p n b (was p b live) is);
+    let gone = λ (p : ℕ) (b : Block) (here : p ≡ place) (live : IsLive s' p b).
+    not-live s' place p b c.gone here live in
+    let owns = bare-owns s' who e.point bare_after in
+    ties-but g s l l who (λ p. p ≡ place) e s'
+    (record {
+      moves = h.moves;
+      either = λ p. cases_eq p place;
+      there = c.elsewhere;
+      before = λ p b here live.
+          ap (λ (y : Block). y.owner) (sym (one-live s place p a b c.was here live)) ∙ owned;
+      after = λ p b here live. absurd (gone p b here live);
+      arena = λ p ne. w.elsewhere (name.Arena p) (λ same. cc);
+      shelf = λ k. w.elsewhere (name.Shelf k) (λ same. cc);
+      small = λ p class b here live is. absurd (gone p b here live);
+      large = λ p n b here live is. absurd (gone p b here live);
+      bound = λ p class b d ne live is its. touched-desc g s l who e s' h p class d its;
       units = λ unit has.
           let t = tied.units unit has in (
             free-uncovers g s s' place run unit l sound old fit w a of c t.0,
@@ -216,29 +207,13 @@ free-tied g s l who place run o s' e h sound old at fit w bare_after a owned of 
       no_more_units =
           subst (λ x. x < 2 ^ g.units) (sym w.here)
           (omega (arith, tied.no_more_units, and_le_l (s.word name.Units) (other_bits run.first run.units)));
-      shelved = λ k p b has live on. w.elsewhere (name.Shelf k) (λ same. cc) ∙ tied.shelved k p b has (was p b live) on;
-      bare_shelf = λ k has none.
-          w.elsewhere (name.Shelf k) (λ same. cc)
-          ∙ tied.bare_shelf k has
-          (λ p b live on.
-          elim (cases_eq p place) [
-            | inl here ↦
-                let one : Some a ≡ Some b = sym c.was ∙ ap (λ q. block_at q (pool_of s.history)) (sym here) ∙ live in
-                let same : a ≡ b = cc in
-                let owners : Caller who ≡ Shelf k = sym owned ∙ ap (λ (y : Block). y.owner) same ∙ on in
-                absurd (cc)
-            | inr ne ↦ none p b (c.elsewhere p ne ∙ live) on
-          ]);
-      contents = λ p i v b live written. arena (p + 1 + i) ∙ tied.contents p i v b (was p b live) written;
-      hands =
-          each-other g (λ i e. All (λ x. IsOwned s' i x.place x.need) (holds_of e.point).hands) s.errand who e s'.errand h.moves
-          (subst (All (λ x. IsOwned s' who x.place x.need)) (sym bare_after.hands) (All-nil (λ x. IsOwned s' who x.place x.need)))
-          (λ i has differ k d lt. owned-touched g s l who e s' h i _ _ differ (tied.hands i has k d lt));
-      frees =
-          each-other g (λ i e. All (λ x. IsOwned s' i x.place x.need) (holds_of e.point).frees) s.errand who e s'.errand h.moves
-          (subst (All (λ x. IsOwned s' who x.place x.need)) (sym bare_after.frees) (All-nil (λ x. IsOwned s' who x.place x.need)))
-          (λ i has differ k d lt. owned-touched g s l who e s' h i _ _ differ (tied.frees i has k d lt));
-    }
+      contents = λ p i v b live written.
+          w.elsewhere (name.Arena (p + 1 + i)) (λ same. cc)
+          ∙ tied.contents p i v b (sym (c.elsewhere p (λ here. gone p b here live)) ∙ live) written;
+      excepts = λ p ne excepts. absurd (free-excepts (s.errand who) place run o p at excepts);
+      hands = owns.0;
+      frees = owns.1;
+    }) tied
 
 pub free_run-sound :
     (g : Geometry) (s : State) (who : ℕ) (s' : State) (place : ℕ) (run : RunFields) (o : Onward) → IsSoundWithoutCounts g s → who < g.callers
@@ -265,12 +240,5 @@ free_run-sound g s who s' place run o sound has at step =
           (sound-differ g (pool_of s.history) (sound-of g s.history sound.legal));
       elsewhere = λ q ne. ap (block_at q) pool ∙ block_at-without_other place q (pool_of s.history) ne;
     } in
-    record {
-      checked = sound.checked;
-      legal = subst (IsLegalWithoutCounts g) (sym t.history) (EachAfter-push (IsLegalEventWithoutCounts g) s.history (Free who place) sound.legal (has, allowed));
-      parts = (
-        l,
-        sound-touched g s l who _ s' t.touches old
-            (free-tied g s l who place run o s' _ t.touches sound old at fit.point t.word idle-bare a owned.block.2 owned.block.3 c),
-      );
-    }
+    touched-sound g s l who _ _ _ (Free who place) s' sound old (has, allowed) t
+    (free-tied g s l who place run o s' _ t.touches sound old at fit.point t.word idle-bare a owned.block.2 owned.block.3 c)

@@ -1,14 +1,14 @@
 -- The prefix word of a run that is handed out.
 use Rattle.std.proofs.Common.{ℕ, zero, suc, Option, None, Some, ◌≡◌, ◌≢◌, ◌<◌, ◌≤◌, ◌+◌, ◌*◌, ◌^◌, List, [], ◌∷◌, length, refl, arith, ap, sym, subst, inl, inr, ◌∙◌}
-use Rattle.std.specs.Prelude.{◌⊎◌, All, Any, IsTrue, slice_index_or}
+use Rattle.std.specs.Prelude.{Any, IsTrue, slice_index_or}
 use Rattle.std.specs.Int.{bit_at}
 use Rattle.std.proofs.lemmas.Bool.{cases_eq}
 use Rattle.std.proofs.lemmas.Nat.{pow_pos}
-use Rattle.std.proofs.lemmas.List.Elements.{All-nil, All-head}
+use Rattle.std.proofs.lemmas.List.Elements.{All-head}
 use Rattle.heap_geometry.specs.declared.geometry.Geometry.{Geometry}
 use Rattle.heap_geometry.specs.declared.need.Need.TheVariants as need
 use Rattle.heap_geometry.specs.Need.{block_count_of, usable_words}
-use Rattle.heap_geometry.specs.Place.{block_place, frame_of, unit_place}
+use Rattle.heap_geometry.specs.Place.{block_place, unit_place}
 use Rattle.heap_geometry.proofs.PlaceLemmas.{block-within}
 use Rattle.packed_words.specs.declared.prefix.Prefix.TheVariants as prefix
 use Rattle.packed_words.specs.Prefix.{prefix_word}
@@ -36,16 +36,17 @@ use Rattle.sound_state.specs.Holdings.{holds_of, run_handed}
 use Rattle.sound_state.specs.Lists.{Lists}
 use Rattle.sound_state.specs.Recalls.{IsOwned}
 use Rattle.sound_state.specs.Sound.{IsSoundWithoutCounts, IsSoundWith}
-use Rattle.sound_state.specs.Ties.{IsLive, IsTied, IsExcepted}
-use Rattle.sound_state.proofs.pops.PopTurns.{each-other}
+use Rattle.sound_state.specs.Ties.{IsLive, IsTied}
 use Rattle.sound_state.proofs.shared.AlikeLemmas.{Excepts}
 use Rattle.sound_state.proofs.shared.OverlapLemmas.{live-apart}
 use Rattle.sound_state.proofs.shared.PointLemmas.{fits-at, hands-at}
-use Rattle.sound_state.proofs.large.TouchEffects.{IsAwayWord, IsAside, Touches, sound-touched, touched-bound, located-touched, owned-touched}
+use Rattle.sound_state.proofs.large.TouchEffects.{IsAwayWord, Touches, sound-touched}
 use Rattle.sound_state.proofs.large.TouchPrefixes.{KeepsPrefixes, prefixes-stay, info-frame}
 use Rattle.sound_state.proofs.large.TouchShelves.{idle-aside, idle-bare, idle-recalls}
 use Rattle.sound_state.proofs.large.TouchSteps.{TouchesAt, leaves-same, touched-step}
-use Rattle.sound_state.proofs.large.TouchTies.{IsBareHanded, excepted-touched, tie-stays}
+use Rattle.sound_state.proofs.shared.TieLemmas.{IsBareHanded, bare-owns, one-live, ties-but}
+use Rattle.sound_state.proofs.quiet.QuietPushes.{any-one}
+use Rattle.sound_state.proofs.large.TouchTies.{large-aside, touched-desc}
 
 -- the place of a word of the arena
 abbrev pub arena_place : WordName → ℕ
@@ -95,10 +96,6 @@ run-word : (units : ℕ) → prefix_word (prefix.Large units) ≡ 2 * units + 1
 unfolding prefix_word
 run-word units = omega arith
 
-pub prefix-aside : (place : ℕ) (run : RunFields) (o : Onward) → IsAside (Large (large.StoreRunPrefix place run) o)
-unfolding holds_of
-prefix-aside place run o = grind (arith)
-
 prefix-touches :
     (g : Geometry) (s : State) (l : Lists) (who place : ℕ) (run : RunFields) (o : Onward) → IsSoundWith g s l → IsRunAt g place run
     → TouchesAt g s l who (Large (large.StoreRunPrefix place run) o) Idle (name.Arena place) (prefix_word (prefix.Large run.units)) s.history
@@ -113,7 +110,7 @@ prefix-touches g s l who place run o old fit = record {
   cleared = refl;
   told = refl;
   leaves = leaves-same g s l who;
-  before = prefix-aside place run o;
+  before = large-aside _ _;
   after = idle-aside;
   recalls = idle-recalls;
   prefixes = λ words' w d i has bound lt.
@@ -126,17 +123,12 @@ prefix-touches g s l who place run o old fit = record {
       prefixes-stay g s l who words' (behind-keeps g s l who run.first (prefix_word (prefix.Large run.units)) words' old at) old i has differ;
 }
 
--- a list of one has that one
-pub any-one : (X : Type 0) (P : X → Type 0) (x : X) → Any P (x ∷ []) → P x
-any-one X P x (zero, y, lt, at, is) = subst P (sym at) is
-any-one X P x (suc i, y, lt, at, is) = absurd (omega (arith, lt))
-
 -- the caller excepts the run alone
 excepts-run : (e : ErrandFields) (place : ℕ) (run : RunFields) (o : Onward) (p : ℕ) → e.point ≡ Large (large.StoreRunPrefix place run) o → Excepts e p → place ≡ p
 unfolding holds_of
 excepts-run e place run o p at (inl x) =
     let one : Any (λ b. b.place ≡ p) (run_handed place run.units) = subst (λ q. Any (λ b. b.place ≡ p) (holds_of q).hands) at x in
-    any-one _ (λ b. b.place ≡ p) _ one
+    any-one (λ b. b.place ≡ p) _ one
 excepts-run e place run o p at (inr x) =
     let none : Any (λ b. (b.place ≡ p) × IsTrue b.overwritten) [] = subst (λ q. Any (λ b. (b.place ≡ p) × IsTrue b.overwritten) (holds_of q).frees) at x in
     omega (arith, none.2)
@@ -152,49 +144,36 @@ prefix-tied g s l who place run o s' e h sound old at owned w past bare_after =
     let pool = λ (p : ℕ). ap (λ xs. block_at p (pool_of xs)) past in
     let was = λ (p : ℕ) (b : Block) (live : IsLive s' p b). sym (pool p) ∙ live in
     let run_is = λ (p : ℕ) (b : Block) (here : p ≡ place) (live : IsLive s p b).
-    let one : Some owned.block.0 ≡ Some b = sym owned.block.1 ∙ ap (λ q. block_at q (pool_of s.history)) (sym here) ∙ live in
-    let same : owned.block.0 ≡ b = cc in
-    ap (λ (x : Block). x.need) (sym same) ∙ owned.block.3 in
-    let tie = λ (p v : ℕ) (ne : p ≢ place) (x : IsExcepted g s p ⊎ (s.word (name.Arena p) ≡ v)).
-    tie-stays g s s' p v
-    (excepted-touched g s l who e s' h p (λ excepts. absurd (ne (sym (excepts-run (s.errand who) place run o p at excepts)))))
-    (w.elsewhere (name.Arena p) (λ same. ne (ap arena_place same))) x in
-    record {
-      small = λ p class b live is.
-          let t = tied.small p class b (was p b live) is in
-          elim (cases_eq p place) [
-            | inl here ↦ let bad : need.Small class ≡ need.Large run.units = sym is ∙ run_is p b here (was p b live) in absurd (cc)
-            | inr ne ↦ (
-              t.0,
-              record {
-                exists = t.1.exists;
-                bound = subst IsTrue (sym (touched-bound g s l who e s' h t.0)) t.1.bound;
-                located = located-touched g s l who e s' h t.0 (frame_of p) class t.1.located;
-              },
-              tie p (2 * t.0) ne t.2,
-            )
-          ];
-      large = λ p n b live is.
-          elim (cases_eq p place) [
-            | inl here ↦
-                let needs : need.Large n ≡ need.Large run.units = sym is ∙ run_is p b here (was p b live) in
-                let units : run.units ≡ n = cc in
-                inr (ap (λ q. s'.word (name.Arena q)) here ∙ w.here ∙ run-word run.units ∙ ap (λ m. 2 * m + 1) units)
-            | inr ne ↦ tie p (2 * n + 1) ne (tied.large p n b (was p b live) is)
-          ];
+    one-live s place p owned.block.0 b owned.block.1 here live in
+    let needs = λ (p : ℕ) (b : Block) (here : p ≡ place) (live : IsLive s p b).
+    ap (λ (x : Block). x.need) (sym (run_is p b here live)) ∙ owned.block.3 in
+    let owns = bare-owns s' who e.point bare_after in
+    let units : s'.word name.Units ≡ s.word name.Units = w.elsewhere name.Units (λ same. cc) in
+    ties-but g s l l who (λ p. p ≡ place) e s'
+    (record {
+      moves = h.moves;
+      either = λ p. cases_eq p place;
+      there = λ p ne. pool p;
+      before = λ p b here live. ap (λ (x : Block). x.owner) (sym (run_is p b here live)) ∙ owned.block.2;
+      after = λ p b here live. ap (λ (x : Block). x.owner) (sym (run_is p b here (was p b live))) ∙ owned.block.2;
+      arena = λ p ne. w.elsewhere (name.Arena p) (λ same. ne (ap arena_place same));
+      shelf = λ k. w.elsewhere (name.Shelf k) (λ same. cc);
+      small = λ p class b here live is.
+          let bad : need.Small class ≡ need.Large run.units = sym is ∙ needs p b here (was p b live) in absurd (cc);
+      large = λ p n b here live is.
+          let same : need.Large n ≡ need.Large run.units = sym is ∙ needs p b here (was p b live) in
+          let units : run.units ≡ n = cc in
+          inr (ap (λ q. s'.word (name.Arena q)) here ∙ w.here ∙ run-word run.units ∙ ap (λ m. 2 * m + 1) units);
+      bound = λ p class b d ne live is its. touched-desc g s l who e s' h p class d its;
       units = λ unit has.
-          let t = tied.units unit has in
-          let units : s'.word name.Units ≡ s.word name.Units = w.elsewhere name.Units (λ same. cc) in (
+          let t = tied.units unit has in (
             λ bit.
                 let c = t.0 (ap (λ x. bit_at x unit) (sym units) ∙ bit) in
                 (c.0, c.1, c.2, pool (unit_place g.frames c.1) ∙ c.3, c.4, c.5, c.6),
             λ c.
                 ap (λ x. bit_at x unit) units ∙ t.1 (c.0, c.1, c.2, was (unit_place g.frames c.1) c.0 c.3, c.4, c.5, c.6),
           );
-      no_more_units = subst (λ x. x < 2 ^ g.units) (sym (w.elsewhere name.Units (λ same. cc))) tied.no_more_units;
-      shelved = λ k p b has live on. w.elsewhere (name.Shelf k) (λ same. cc) ∙ tied.shelved k p b has (was p b live) on;
-      bare_shelf = λ k has none.
-          w.elsewhere (name.Shelf k) (λ same. cc) ∙ tied.bare_shelf k has (λ p b live on. none p b (pool p ∙ live) on);
+      no_more_units = subst (λ x. x < 2 ^ g.units) (sym units) tied.no_more_units;
       contents = λ p i v b live written.
           let old_live : IsLive s p b = was p b live in
           let apart : p + 1 + i ≢ place =
@@ -205,15 +184,10 @@ prefix-tied g s l who place run o s' e h sound old at owned w past bare_after =
                 (omega (arith, written-usable g s sound p i v b old_live written)) (omega arith) (omega (arith, same))
           ] in
           w.elsewhere (name.Arena (p + 1 + i)) (λ same. apart (ap arena_place same)) ∙ tied.contents p i v b old_live written;
-      hands =
-          each-other g (λ i e. All (λ x. IsOwned s' i x.place x.need) (holds_of e.point).hands) s.errand who e s'.errand h.moves
-          (subst (All (λ x. IsOwned s' who x.place x.need)) (sym bare_after.hands) (All-nil (λ x. IsOwned s' who x.place x.need)))
-          (λ i has differ k d lt. owned-touched g s l who e s' h i _ _ differ (tied.hands i has k d lt));
-      frees =
-          each-other g (λ i e. All (λ x. IsOwned s' i x.place x.need) (holds_of e.point).frees) s.errand who e s'.errand h.moves
-          (subst (All (λ x. IsOwned s' who x.place x.need)) (sym bare_after.frees) (All-nil (λ x. IsOwned s' who x.place x.need)))
-          (λ i has differ k d lt. owned-touched g s l who e s' h i _ _ differ (tied.frees i has k d lt));
-    }
+      excepts = λ p ne excepts. absurd (ne (sym (excepts-run (s.errand who) place run o p at excepts)));
+      hands = owns.0;
+      frees = owns.1;
+    }) tied
 
 pub store_run_prefix-sound :
     (g : Geometry) (s : State) (who : ℕ) (s' : State) (place : ℕ) (run : RunFields) (o : Onward) → IsSoundWithoutCounts g s → who < g.callers

@@ -1,5 +1,5 @@
 -- A word of the arena that is no block's prefix word in a frame at work: what is remembered of superblocks stays where it changes.
-use Rattle.std.proofs.Common.{ℕ, ◌≡◌, ◌≢◌, ◌<◌, ◌+◌, [], ◌∷◌, Option, Some, None, arith, ap, sym, subst}
+use Rattle.std.proofs.Common.{ℕ, ◌≡◌, ◌≢◌, ◌<◌, ◌+◌, [], ◌∷◌, Option, Some, None, arith, ap, sym, subst, refl, ◌∙◌}
 use Rattle.std.specs.List.{All, AllByRecursion}
 use Rattle.std.specs.Prelude.{IsTrue, IsSome}
 use Rattle.std.proofs.lemmas.List.Elements.{All-from_recursion, recursion_from_All}
@@ -18,11 +18,12 @@ use Rattle.superblock_parts.proofs.ChainLemmas.{chain_of-same}
 use Rattle.superblock_parts.specs.declared.point.BlockPoint.{BlockPoint}
 use Rattle.superblock_parts.specs.declared.point.BlockPoint.TheVariants as block
 use Rattle.errand_steps.specs.declared.onward.Onward.{Onward}
+use Rattle.errand_steps.specs.declared.point.Point.{Point}
 use Rattle.errand_steps.specs.declared.point.Point.TheVariants as point
 use Rattle.errand_steps.specs.Steps.{State}
 use Rattle.sound_state.specs.Frames.{errand_frames}
 use Rattle.sound_state.specs.Holdings as holding
-use Rattle.sound_state.specs.Holdings.{waiting, holds_of, block_holds}
+use Rattle.sound_state.specs.Holdings.{waiting, holds_of}
 use Rattle.sound_state.specs.Lists.{Lists}
 use Rattle.sound_state.specs.Recalls.{IsSo, IsLocated, recalls_of, block_recalls}
 use Rattle.sound_state.specs.Sound.{IsSoundWith}
@@ -77,15 +78,21 @@ frame-in-hand f = grind (arith)
 making-waits : (d : ℕ) (at : Site) → kept_among waiting d (holding.making at).kept ≡ 0
 making-waits d at = grind (arith)
 
+-- nor do the prefix words of its frame change
+at-making :
+    (g : Geometry) (s : State) (l : Lists) (who : ℕ) (words : WordName → ℕ) → KeepsPrefixes g s l who words → (i : ℕ) → i < g.callers → i ≢ who
+    → (p : Point) → (s.errand i).point ≡ p → (at : Site) → holds_of p ≡ holding.making at → at.frame < g.frames → (k : ℕ)
+    → k < block_count_of at.seat.class → words (prefix_name at.frame at.seat.class k) ≡ s.word (prefix_name at.frame at.seat.class k)
+at-making g s l who words h i has other p stands at making within k lt =
+    let holds : holds_of (s.errand i).point ≡ holding.making at = ap holds_of stands ∙ making in
+    h.making i at.frame at.seat.class k has other within (subst (λ x. 0 < occurs at.frame x.frames) (sym holds) (frame-in-hand at.frame))
+    (λ d. subst (λ x. kept_among waiting d x.kept ≡ 0) (sym holds) (making-waits d at)) lt
+
 block-stays :
     (g : Geometry) (s : State) (l : Lists) (who : ℕ) (words : WordName → ℕ) → KeepsPrefixes g s l who words → IsSoundWith g s l → (i : ℕ)
     → i < g.callers → i ≢ who → (p : BlockPoint) (o : Onward) → (s.errand i).point ≡ point.Block p o → FitsBlock g i p
     → AllByRecursion (IsSo g s l i) (block_recalls p) → AllByRecursion (Stays g s words) (block_recalls p)
 unfolding holds_of
-block-stays g s l who words h old i has other (block.LoadActive seat) o stands fit so = tt
-block-stays g s l who words h old i has other (block.TakeCredit seat e credits) o stands fit so = tt
-block-stays g s l who words h old i has other (block.LoadInfo seat e share) o stands fit so = (tt, tt)
-block-stays g s l who words h old i has other (block.LoadAnchor at share) o stands fit so = (tt, tt)
 block-stays g s l who words h old i has other (block.LoadLink at share a) o stands fit so =
     (at-chain g s l who words h old at.desc fit.site.desc so.1.0.0, (tt, tt))
 block-stays g s l who words h old i has other (block.PopBlock at share a prefix) o stands fit so = (
@@ -93,40 +100,16 @@ block-stays g s l who words h old i has other (block.PopBlock at share a prefix)
       (subst (λ c. a.avail < block_count_of c) (sym so.1.1.0.1.class) fit.anchor.avail),
   (at-chain g s l who words h old at.desc fit.site.desc so.1.1.0.0, (tt, tt)),
 )
-block-stays g s l who words h old i has other (block.StorePrefix at k) o stands fit so = (tt, tt)
-block-stays g s l who words h old i has other (block.InstallCredits at k more) o stands fit so = (tt, tt)
 block-stays g s l who words h old i has other (block.InstallSuperblock at) o stands fit so = (h.away (name.Anchor at.desc) tt, (tt, tt))
-block-stays g s l who words h old i has other (block.LoadReturn at k more) o stands fit so = (tt, tt)
-block-stays g s l who words h old i has other (block.ReturnCredits at k more a) o stands fit so = (tt, tt)
-block-stays g s l who words h old i has other (block.LoadPrefix seat frame k) o stands fit so = tt
-block-stays g s l who words h old i has other (block.LoadPushAnchor at k stored) o stands fit so = (tt, tt)
-block-stays g s l who words h old i has other (block.StoreGuard at k a) o stands fit so = (tt, tt)
-block-stays g s l who words h old i has other (block.LoadOwner at k a) o stands fit so = (tt, tt)
-block-stays g s l who words h old i has other (block.StoreLink at k a stored heap) o stands fit so = (tt, tt)
 block-stays g s l who words h old i has other (block.PushBlock at k a stored heap) o stands fit so =
     (at-hand g s l who words h at fit.block.site.desc so.1.0 k fit.block.index, (tt, tt))
 block-stays g s l who words h old i has other (block.LinkBlock at n) o stands fit so =
-    let hand : 0 < errand_frames at.frame (s.errand i) = subst (λ q. 0 < occurs at.frame (holds_of q).frames) (sym stands) (frame-in-hand at.frame) in
-    let none : (d : ℕ) → errand_keeps waiting d (s.errand i) ≡ 0 =
-    λ d. subst (λ q. kept_among waiting d (holds_of q).kept ≡ 0) (sym stands) (making-waits d at) in
-    (λ k lt. h.making i at.frame at.seat.class k has other fit.site.frame hand none (omega (arith, lt, fit.index)), tt)
+    (λ k lt. at-making g s l who words h i has other _ stands at refl fit.site.frame k (omega (arith, lt, fit.index)), tt)
 block-stays g s l who words h old i has other (block.StoreInfo at) o stands fit so =
-    let hand : 0 < errand_frames at.frame (s.errand i) = subst (λ q. 0 < occurs at.frame (holds_of q).frames) (sym stands) (frame-in-hand at.frame) in
-    let none : (d : ℕ) → errand_keeps waiting d (s.errand i) ≡ 0 =
-    λ d. subst (λ q. kept_among waiting d (holds_of q).kept ≡ 0) (sym stands) (making-waits d at) in
-    (λ k lt. h.making i at.frame at.seat.class k has other fit.frame hand none lt, tt)
+    (λ k lt. at-making g s l who words h i has other _ stands at refl fit.frame k lt, tt)
 block-stays g s l who words h old i has other (block.StoreAnchor at) o stands fit so =
-    let hand : 0 < errand_frames at.frame (s.errand i) = subst (λ q. 0 < occurs at.frame (holds_of q).frames) (sym stands) (frame-in-hand at.frame) in
-    let none : (d : ℕ) → errand_keeps waiting d (s.errand i) ≡ 0 =
-    λ d. subst (λ q. kept_among waiting d (holds_of q).kept ≡ 0) (sym stands) (making-waits d at) in
-    (h.away (name.Info at.desc) tt, (λ k lt. h.making i at.frame at.seat.class k has other fit.frame hand none lt, tt))
-block-stays g s l who words h old i has other (block.WantsPartial seat) o stands fit so = tt
-block-stays g s l who words h old i has other (block.Returned at k) o stands fit so = tt
-block-stays g s l who words h old i has other (block.Discarded at) o stands fit so = tt
-block-stays g s l who words h old i has other (block.Given at k) o stands fit so = tt
-block-stays g s l who words h old i has other (block.BecameEmpty at heap) o stands fit so = tt
-block-stays g s l who words h old i has other (block.BecamePartial at stored) o stands fit so = tt
-block-stays g s l who words h old i has other (block.Pushed seat stored) o stands fit so = tt
+    (h.away (name.Info at.desc) tt, (λ k lt. at-making g s l who words h i has other _ stands at refl fit.frame k lt, tt))
+block-stays g s l who words h old i has other p o stands fit so = grind (arith)
 
 -- so all that the others remember stays
 pub prefixes-stay :

@@ -23,10 +23,10 @@ use Rattle.pool_model.specs.declared.event.Event.{Event}
 use Rattle.pool_model.specs.declared.event.Event.TheVariants.{Put, Take, TakeNone}
 use Rattle.pool_model.specs.declared.owner.Owner.{Owner}
 use Rattle.pool_model.specs.declared.owner.Owner.TheVariants.{Caller, Shelf}
-use Rattle.pool_model.specs.Legal.{IsAllowed, IsEmptyShelf, IsLegalEventWithoutCounts, IsLegalWithoutCounts}
+use Rattle.pool_model.specs.Legal.{IsAllowed, IsEmptyShelf}
 use Rattle.pool_model.specs.Pool.{Block, Pool, block_at, handed_to, with_changed, pool_after, pool_of}
 use Rattle.pool_model.specs.WellFormed.{IsWellFormed, IsPlaceFor}
-use Rattle.pool_model.proofs.HistoryLemmas.{EachAfter-push, pool_of-push}
+use Rattle.pool_model.proofs.HistoryLemmas.{pool_of-push}
 use Rattle.pool_model.proofs.PoolLemmas.{Every, every-each, every-found, block_at-changed_other, block_at-changed_same}
 use Rattle.pool_model.proofs.WellFormedLemmas.{sound-of, sound-differ, separate-found, found-itself}
 use Rattle.errand_steps.specs.declared.onward.Onward.{Onward}
@@ -46,9 +46,10 @@ use Rattle.sound_state.specs.Superblocks.{is_there}
 use Rattle.sound_state.specs.Ties.{IsLive, IsTied}
 use Rattle.sound_state.proofs.shared.PointLemmas.{fits-at, so-at}
 use Rattle.sound_state.proofs.quiet.QuietLemmas.{words-stay}
-use Rattle.sound_state.proofs.large.TouchEffects.{IsAside, Touches, sound-touched}
-use Rattle.sound_state.proofs.large.TouchSteps.{IsAsideEvent, TouchesAt, leaves-event, stays-still, touched-step}
-use Rattle.sound_state.proofs.large.TouchTies.{SamePlaces, IsBareHanded, tied-touched}
+use Rattle.sound_state.proofs.large.TouchEffects.{IsAside, Touches}
+use Rattle.sound_state.proofs.large.TouchSteps.{TouchesAt, leaves-event, stays-still, touched-step}
+use Rattle.sound_state.proofs.large.TouchTies.{SamePlaces, large-aside, tied-touched, touched-sound}
+use Rattle.sound_state.proofs.shared.TieLemmas.{IsBareHanded, one-live}
 
 -- a shelf's word with a block isn't that of an empty one
 shelf-some : (place : ℕ) (n : Need) → shelf_word (shelf.Block place n) ≡ shelf_word shelf.Nothing → ⊥
@@ -72,30 +73,25 @@ pub record Changes (s s' : State) (at : ℕ) (a b : Block) : Type 0 where
   pub need : b.need ≡ a.need
   pub elsewhere : (p : ℕ) → p ≢ at → block_at p (pool_of s'.history) ≡ block_at p (pool_of s.history)
 
+-- the block that is live at the changed place
+pub changed-is : (s s' : State) (at : ℕ) (a b : Block) → Changes s s' at a b → (p : ℕ) (x : Block) → p ≡ at → IsLive s' p x → b ≡ x
+changed-is s s' at a b h p x here live = one-live s' at p b x h.now here live
+
 pub changes-places : (s s' : State) (at : ℕ) (a b : Block) → Changes s s' at a b → SamePlaces s s'
 changes-places s s' at a b h = record {
   was = λ p x live.
       elim (cases_eq p at) [
         | inl here ↦
-            let one : Some b ≡ Some x = sym h.now ∙ ap (λ q. block_at q (pool_of s'.history)) (sym here) ∙ live in
-            let same : b ≡ x = cc in
-            (a, subst (λ q. IsLive s q a) (sym here) h.was, ap (λ (y : Block). y.need) (sym same) ∙ h.need)
+            (a, subst (λ q. IsLive s q a) (sym here) h.was, ap (λ (y : Block). y.need) (sym (changed-is s s' at a b h p x here live)) ∙ h.need)
         | inr ne ↦ (x, sym (h.elsewhere p ne) ∙ live, refl)
       ];
   still = λ p x live.
       elim (cases_eq p at) [
         | inl here ↦
-            let one : Some a ≡ Some x = sym h.was ∙ ap (λ q. block_at q (pool_of s.history)) (sym here) ∙ live in
-            let same : a ≡ x = cc in
-            (b, subst (λ q. IsLive s' q b) (sym here) h.now, h.need ∙ ap (λ (y : Block). y.need) same)
+            (b, subst (λ q. IsLive s' q b) (sym here) h.now, h.need ∙ ap (λ (y : Block). y.need) (one-live s at p a x h.was here live))
         | inr ne ↦ (x, h.elsewhere p ne ∙ live, refl)
       ];
 }
-
--- the block that is live at the changed place
-pub changed-is : (s s' : State) (at : ℕ) (a b : Block) → Changes s s' at a b → (p : ℕ) (x : Block) → p ≡ at → IsLive s' p x → b ≡ x
-changed-is s s' at a b h p x here live =
-    let one : Some b ≡ Some x = sym h.now ∙ ap (λ q. block_at q (pool_of s'.history)) (sym here) ∙ live in cc
 
 -- a change leaves each place live or not
 pub changed-there :
@@ -127,11 +123,56 @@ abbrev shelf_number : WordName → ℕ
 shelf_number (name.Shelf k) = k
 shelf_number n = 0
 
--- a block is put on a shelf
-put-aside : (k place : ℕ) (n : Need) (o : Onward) → IsAside (Large (large.PutBlock k place n) o)
-unfolding holds_of
-put-aside k place n o = grind (arith)
+-- a block changes hands, and the word of a shelf says what lies there then: the block, which lay on no other shelf, or nothing
+handed-tied :
+    (g : Geometry) (s : State) (l : Lists) (who k place word : ℕ) (to : Owner) (s' : State) (e : ErrandFields) → Touches g s l who e s'
+    → IsSoundWith g s l → Writes s.word (name.Shelf k) word s'.word → IsBareHanded (s.errand who).point → IsBareHanded e.point
+    → (b : Block) → Changes s s' place b (handed_to to b) → ((j : ℕ) → b.owner ≡ Shelf j → j ≡ k)
+    → ((p : ℕ) (x : Block) → p ≢ place → IsLive s p x → x.owner ≡ Shelf k → ⊥)
+    → ((j : ℕ) → to ≡ Shelf j → (j ≡ k) × (word ≡ shelf_word (shelf.Block place b.need)))
+    → ((to ≡ Shelf k → ⊥) → word ≡ shelf_word shelf.Nothing) → IsTied g s' l
+handed-tied g s l who k place word to s' e h old w bare_before bare_after b c from alone onto nothing =
+    let others = λ (j : ℕ) (differ : j ≢ k). w.elsewhere (name.Shelf j) (λ same. differ (ap shelf_number same)) in
+    tied-touched g s l who e s' h old (changes-places s s' place b (handed_to to b) c) bare_before bare_after
+    (λ p x live. w.elsewhere (name.Arena p) (λ same. cc)) (w.elsewhere name.Units (λ same. cc))
+    (λ j p x has_j live on.
+    elim (cases_eq p place) [
+      | inl here ↦
+          let same : handed_to to b ≡ x = changed-is s s' place b (handed_to to b) c p x here live in
+          let lies = onto j (ap (λ (y : Block). y.owner) same ∙ on) in
+          ap (λ m. s'.word (name.Shelf m)) lies.0 ∙ w.here ∙ lies.1 ∙ ap (λ q. shelf_word (shelf.Block q b.need)) (sym here)
+          ∙ ap (λ (y : Block). shelf_word (shelf.Block p y.need)) same
+      | inr ne ↦
+          let was : IsLive s p x = sym (c.elsewhere p ne) ∙ live in
+          elim (cases_eq j k) [
+            | inl is ↦ absurd (alone p x ne was (on ∙ ap Shelf is))
+            | inr differ ↦ others j differ ∙ old.tied.shelved j p x has_j was on
+          ]
+    ])
+    (λ j has_j none.
+    elim (cases_eq j k) [
+      | inl is ↦
+          ap (λ m. s'.word (name.Shelf m)) is ∙ w.here ∙ nothing (λ on. none place (handed_to to b) c.now (on ∙ ap Shelf (sym is)))
+      | inr differ ↦
+          others j differ
+          ∙ old.tied.bare_shelf j has_j
+          (λ p x was on.
+          elim (cases_eq p place) [
+            | inl here ↦
+                differ (from j (ap (λ (y : Block). y.owner) (one-live s place p b x c.was here was) ∙ on))
+            | inr ne ↦ none p x (c.elsewhere p ne ∙ was) on
+          ])
+    ])
+    (λ p i v x live written.
+    w.elsewhere (name.Arena (p + 1 + i)) (λ same. cc)
+    ∙ elim (cases_eq p place) [
+      | inl here ↦
+          let same : handed_to to b ≡ x = changed-is s s' place b (handed_to to b) c p x here live in
+          old.tied.contents p i v b (subst (λ q. IsLive s q b) (sym here) c.was) (ap (λ (y : Block). slice_index_or y.contents i None) same ∙ written)
+      | inr ne ↦ old.tied.contents p i v x (sym (c.elsewhere p ne) ∙ live) written
+    ])
 
+-- a block is put on a shelf
 put-bare : (k place : ℕ) (n : Need) (o : Onward) → IsBareHanded (Large (large.PutBlock k place n) o)
 unfolding holds_of
 put-bare k place n o = grind (arith)
@@ -147,9 +188,6 @@ idle-bare = grind (arith)
 pub idle-recalls : recalls_of Idle ≡ []
 unfolding recalls_of
 idle-recalls = refl
-
-put-event : (g : Geometry) (who k place : ℕ) → IsAsideEvent g who (Put who place k)
-put-event g who k place = record { caller = refl; gives = λ i. refl; refuses = λ i. refl; allocs = refl; freed = refl }
 
 put-touches :
     (g : Geometry) (s : State) (l : Lists) (who k place : ℕ) (n : Need) (o : Onward) → IsSoundWith g s l → k < SHELVES
@@ -169,9 +207,10 @@ put-touches g s l who k place n o old has fit word b live allowed =
       cleared = refl;
       told = rw won refl;
       leaves =
-          leaves-event g s l who (Put who place k) (put-event g who k place) allowed
+          leaves-event g s l who (Put who place k)
+          (record { caller = refl; gives = λ i. refl; refuses = λ i. refl; allocs = refl; freed = refl }) allowed
           (λ d i has_d bound lt. changed-there place _ (handed_to (Shelf k)) (pool_of s.history) b (λ x. refl) live);
-      before = put-aside k place n o;
+      before = large-aside _ _;
       after = idle-aside;
       recalls = idle-recalls;
       prefixes = λ words' w d i has_d bound lt. w.elsewhere _ (λ same. cc);
@@ -184,47 +223,9 @@ put-tied :
     → IsEmptyShelf (pool_of s.history) k → (b : Block) → b.owner ≡ Caller who → b.need ≡ n → Changes s s' place b (handed_to (Shelf k) b)
     → IsTied g s' l
 put-tied g s l who k place n s' e h old has w bare_before bare_after empty b owned of c =
-    tied-touched g s l who e s' h old (changes-places s s' place b (handed_to (Shelf k) b) c) bare_before bare_after
-    (λ p x live. w.elsewhere (name.Arena p) (λ same. cc)) (w.elsewhere name.Units (λ same. cc))
-    (λ j p x has_j live on.
-    elim (cases_eq p place) [
-      | inl here ↦
-          let same : handed_to (Shelf k) b ≡ x = changed-is s s' place b (handed_to (Shelf k) b) c p x here live in
-          let shelves : Shelf k ≡ Shelf j = ap (λ (y : Block). y.owner) same ∙ on in
-          let is : k ≡ j = cc in
-          subst (λ m. s'.word (name.Shelf m) ≡ shelf_word (shelf.Block p x.need)) is
-          (w.here ∙ ap (λ q. shelf_word (shelf.Block q n)) (sym here) ∙ ap (λ m. shelf_word (shelf.Block p m)) (sym of ∙ ap (λ (y : Block). y.need) same))
-      | inr ne ↦
-          let was : IsLive s p x = sym (c.elsewhere p ne) ∙ live in
-          elim (cases_eq j k) [
-            | inl is ↦ absurd (empty p x was (on ∙ ap Shelf is))
-            | inr differ ↦ w.elsewhere (name.Shelf j) (λ same. differ (ap shelf_number same)) ∙ old.tied.shelved j p x has_j was on
-          ]
-    ])
-    (λ j has_j none.
-    elim (cases_eq j k) [
-      | inl is ↦ absurd (none place (handed_to (Shelf k) b) c.now (ap Shelf (sym is)))
-      | inr differ ↦
-          w.elsewhere (name.Shelf j) (λ same. differ (ap shelf_number same))
-          ∙ old.tied.bare_shelf j has_j
-          (λ p x was on.
-          elim (cases_eq p place) [
-            | inl here ↦
-                let one : Some b ≡ Some x = sym c.was ∙ ap (λ q. block_at q (pool_of s.history)) (sym here) ∙ was in
-                let same : b ≡ x = cc in
-                let owners : Caller who ≡ Shelf j = sym owned ∙ ap (λ (y : Block). y.owner) same ∙ on in
-                absurd (cc)
-            | inr ne ↦ none p x (c.elsewhere p ne ∙ was) on
-          ])
-    ])
-    (λ p i v x live written.
-    w.elsewhere (name.Arena (p + 1 + i)) (λ same. cc)
-    ∙ elim (cases_eq p place) [
-      | inl here ↦
-          let same : handed_to (Shelf k) b ≡ x = changed-is s s' place b (handed_to (Shelf k) b) c p x here live in
-          old.tied.contents p i v b (subst (λ q. IsLive s q b) (sym here) c.was) (ap (λ (y : Block). slice_index_or y.contents i None) same ∙ written)
-      | inr ne ↦ old.tied.contents p i v x (sym (c.elsewhere p ne) ∙ live) written
-    ])
+    handed-tied g s l who k place (shelf_word (shelf.Block place n)) (Shelf k) s' e h old w bare_before bare_after b c
+    (λ j on. let bad : Caller who ≡ Shelf j = sym owned ∙ on in absurd (cc)) (λ p x ne was on. empty p x was on)
+    (λ j is. let same : j ≡ k = cc in (same, ap (λ m. shelf_word (shelf.Block place m)) (sym of))) (λ differ. absurd (differ refl))
 
 pub put_block-sound :
     (g : Geometry) (s : State) (who : ℕ) (s' : State) (k place : ℕ) (n : Need) (o : Onward) → IsSoundWithoutCounts g s → who < g.callers
@@ -244,16 +245,9 @@ put_block-sound g s who s' k place n o sound has at word step =
     (put-touches g s l who k place n o old fit.point.shelf fit.point.block word b owned.block.1 allowed) step in
     let c : Changes s s' place b (handed_to (Shelf k) b) =
     changes-from s s' (Put who place k) place (handed_to (Shelf k)) b t.history refl (λ x. refl) (λ x. refl) owned.block.1 in
-    record {
-      checked = sound.checked;
-      legal = subst (IsLegalWithoutCounts g) (sym t.history) (EachAfter-push (IsLegalEventWithoutCounts g) s.history (Put who place k) sound.legal (has, allowed));
-      parts = (
-        l,
-        sound-touched g s l who _ s' t.touches old
-            (put-tied g s l who k place n s' _ t.touches old fit.point.shelf t.word (subst IsBareHanded (sym at) (put-bare k place n o)) idle-bare empty b
-            owned.block.2 owned.block.3 c),
-      );
-    }
+    touched-sound g s l who _ _ _ (Put who place k) s' sound old (has, allowed) t
+    (put-tied g s l who k place n s' _ t.touches old fit.point.shelf t.word (subst IsBareHanded (sym at) (put-bare k place n o)) idle-bare empty b
+    owned.block.2 owned.block.3 c)
 
 -- the number of an owner
 abbrev owner_number : Owner → ℕ
@@ -314,16 +308,9 @@ shelved-block g s l k place n sound old has fit word =
     ]
 
 -- a block is taken from a shelf
-take-aside : (k place : ℕ) (n : Need) (o : Onward) → IsAside (Large (large.TakeBlock k place n) o)
-unfolding holds_of
-take-aside k place n o = grind (arith)
-
 take-bare : (k place : ℕ) (n : Need) (o : Onward) → IsBareHanded (Large (large.TakeBlock k place n) o)
 unfolding holds_of
 take-bare k place n o = grind (arith)
-
-take-event : (g : Geometry) (who k place : ℕ) → IsAsideEvent g who (Take who k place)
-take-event g who k place = record { caller = refl; gives = λ i. refl; refuses = λ i. refl; allocs = refl; freed = refl }
 
 take-touches :
     (g : Geometry) (s : State) (l : Lists) (who k place : ℕ) (n : Need) (o : Onward) → IsSoundWith g s l → k < SHELVES
@@ -342,9 +329,10 @@ take-touches g s l who k place n o old has word b live allowed =
       cleared = refl;
       told = rw won refl;
       leaves =
-          leaves-event g s l who (Take who k place) (take-event g who k place) allowed
+          leaves-event g s l who (Take who k place)
+          (record { caller = refl; gives = λ i. refl; refuses = λ i. refl; allocs = refl; freed = refl }) allowed
           (λ d i has_d bound lt. changed-there place _ (handed_to (Caller who)) (pool_of s.history) b (λ x. refl) live);
-      before = take-aside k place n o;
+      before = large-aside _ _;
       after = idle-aside;
       recalls = idle-recalls;
       prefixes = λ words' w d i has_d bound lt. w.elsewhere _ (λ same. cc);
@@ -356,49 +344,11 @@ take-tied :
     → IsSoundWith g s l → Writes s.word (name.Shelf k) (shelf_word shelf.Nothing) s'.word → IsBareHanded (s.errand who).point
     → IsBareHanded e.point → (b : Block) → b.owner ≡ Shelf k → Changes s s' place b (handed_to (Caller who) b) → IsTied g s' l
 take-tied g s l who k place s' e h sound old w bare_before bare_after b owned c =
-    tied-touched g s l who e s' h old (changes-places s s' place b (handed_to (Caller who) b) c) bare_before bare_after
-    (λ p x live. w.elsewhere (name.Arena p) (λ same. cc)) (w.elsewhere name.Units (λ same. cc))
-    (λ j p x has_j live on.
-    elim (cases_eq p place) [
-      | inl here ↦
-          let same : handed_to (Caller who) b ≡ x = changed-is s s' place b (handed_to (Caller who) b) c p x here live in
-          let owners : Caller who ≡ Shelf j = ap (λ (y : Block). y.owner) same ∙ on in
-          absurd (cc)
-      | inr ne ↦
-          let was : IsLive s p x = sym (c.elsewhere p ne) ∙ live in
-          elim (cases_eq j k) [
-            | inl is ↦
-                absurd
-                ((separate-found g (pool_of s.history) (sound-of g s.history sound.legal) p place x b was c.was ne).shelves k
-                (on ∙ ap Shelf is) owned)
-            | inr differ ↦ w.elsewhere (name.Shelf j) (λ same. differ (ap shelf_number same)) ∙ old.tied.shelved j p x has_j was on
-          ]
-    ])
-    (λ j has_j none.
-    elim (cases_eq j k) [
-      | inl is ↦ ap (λ m. s'.word (name.Shelf m)) is ∙ w.here
-      | inr differ ↦
-          w.elsewhere (name.Shelf j) (λ same. differ (ap shelf_number same))
-          ∙ old.tied.bare_shelf j has_j
-          (λ p x was on.
-          elim (cases_eq p place) [
-            | inl here ↦
-                let one : Some b ≡ Some x = sym c.was ∙ ap (λ q. block_at q (pool_of s.history)) (sym here) ∙ was in
-                let same : b ≡ x = cc in
-                let owners : Shelf k ≡ Shelf j = sym owned ∙ ap (λ (y : Block). y.owner) same ∙ on in
-                let is : k ≡ j = cc in
-                absurd (differ (sym is))
-            | inr ne ↦ none p x (c.elsewhere p ne ∙ was) on
-          ])
-    ])
-    (λ p i v x live written.
-    w.elsewhere (name.Arena (p + 1 + i)) (λ same. cc)
-    ∙ elim (cases_eq p place) [
-      | inl here ↦
-          let same : handed_to (Caller who) b ≡ x = changed-is s s' place b (handed_to (Caller who) b) c p x here live in
-          old.tied.contents p i v b (subst (λ q. IsLive s q b) (sym here) c.was) (ap (λ (y : Block). slice_index_or y.contents i None) same ∙ written)
-      | inr ne ↦ old.tied.contents p i v x (sym (c.elsewhere p ne) ∙ live) written
-    ])
+    handed-tied g s l who k place (shelf_word shelf.Nothing) (Caller who) s' e h old w bare_before bare_after b c
+    (λ j on. let same : Shelf k ≡ Shelf j = sym owned ∙ on in cc)
+    (λ p x ne was on.
+    (separate-found g (pool_of s.history) (sound-of g s.history sound.legal) p place x b was c.was ne).shelves k on owned)
+    (λ j is. absurd (cc)) (λ differ. refl)
 
 pub take_block-sound :
     (g : Geometry) (s : State) (who : ℕ) (s' : State) (k place : ℕ) (n : Need) (o : Onward) → IsSoundWithoutCounts g s → who < g.callers
@@ -416,27 +366,13 @@ take_block-sound g s who s' k place n o sound has at word step =
     (take-touches g s l who k place n o old fit.point.shelf word b there.1 allowed) step in
     let c : Changes s s' place b (handed_to (Caller who) b) =
     changes-from s s' (Take who k place) place (handed_to (Caller who)) b t.history refl (λ x. refl) (λ x. refl) there.1 in
-    record {
-      checked = sound.checked;
-      legal = subst (IsLegalWithoutCounts g) (sym t.history) (EachAfter-push (IsLegalEventWithoutCounts g) s.history (Take who k place) sound.legal (has, allowed));
-      parts = (
-        l,
-        sound-touched g s l who _ s' t.touches old
-            (take-tied g s l who k place s' _ t.touches sound old t.word (subst IsBareHanded (sym at) (take-bare k place n o)) idle-bare b there.2 c),
-      );
-    }
+    touched-sound g s l who _ _ _ (Take who k place) s' sound old (has, allowed) t
+    (take-tied g s l who k place s' _ t.touches sound old t.word (subst IsBareHanded (sym at) (take-bare k place n o)) idle-bare b there.2 c)
 
 -- a shelf is still empty
-none-aside : (k : ℕ) (o : Onward) → IsAside (Large (large.ConfirmNothing k) o)
-unfolding holds_of
-none-aside k o = grind (arith)
-
 none-bare : (k : ℕ) (o : Onward) → IsBareHanded (Large (large.ConfirmNothing k) o)
 unfolding holds_of
 none-bare k o = grind (arith)
-
-none-event : (g : Geometry) (who k : ℕ) → IsAsideEvent g who (TakeNone who k)
-none-event g who k = record { caller = refl; gives = λ i. refl; refuses = λ i. refl; allocs = refl; freed = refl }
 
 none-touches :
     (g : Geometry) (s : State) (l : Lists) (who k : ℕ) (o : Onward) → IsSoundWith g s l → k < SHELVES
@@ -454,8 +390,11 @@ none-touches g s l who k o old has word allowed =
       lost = rw won refl;
       cleared = refl;
       told = rw won refl;
-      leaves = leaves-event g s l who (TakeNone who k) (none-event g who k) allowed (λ d i has_d bound lt. refl);
-      before = none-aside k o;
+      leaves =
+          leaves-event g s l who (TakeNone who k)
+          (record { caller = refl; gives = λ i. refl; refuses = λ i. refl; allocs = refl; freed = refl }) allowed
+          (λ d i has_d bound lt. refl);
+      before = large-aside _ _;
       after = idle-aside;
       recalls = idle-recalls;
       prefixes = λ words' w d i has_d bound lt. w.elsewhere _ (λ same. cc);
@@ -488,13 +427,6 @@ confirm_nothing-sound g s who s' k o sound has at word step =
     let t =
     touched-step g s l who s' p Idle (name.Shelf k) (shelf_word shelf.Nothing) (s.history ++ TakeNone who k ∷ []) old has at
     (none-touches g s l who k o old shelf_there word allowed) step in
-    record {
-      checked = sound.checked;
-      legal = subst (IsLegalWithoutCounts g) (sym t.history) (EachAfter-push (IsLegalEventWithoutCounts g) s.history (TakeNone who k) sound.legal (has, allowed));
-      parts = (
-        l,
-        sound-touched g s l who _ s' t.touches old
-            (same-tied g s l who s' _ t.touches old (words-stay s.word (name.Shelf k) _ s'.word t.word (sym word)) (subst IsBareHanded (sym at) (none-bare k o))
-            idle-bare (λ q. ap (block_at q) (ap pool_of t.history ∙ pool_of-push s.history (TakeNone who k)))),
-      );
-    }
+    touched-sound g s l who _ _ _ (TakeNone who k) s' sound old (has, allowed) t
+    (same-tied g s l who s' _ t.touches old (words-stay s.word (name.Shelf k) _ s'.word t.word (sym word)) (subst IsBareHanded (sym at) (none-bare k o))
+    idle-bare (λ q. ap (block_at q) (ap pool_of t.history ∙ pool_of-push s.history (TakeNone who k))))

@@ -1,6 +1,6 @@
 -- A run that is taken, or refused.
-use Rattle.std.proofs.Common.{ℕ, Bool, true, false, zero, suc, Option, None, Some, ◌≡◌, ◌≢◌, ◌<◌, ◌≤◌, ◌+◌, ◌*◌, ◌^◌, [], ◌∷◌, ◌++◌, refl, arith, ap, sym, subst, inl, inr, ◌∙◌}
-use Rattle.std.specs.Prelude.{◌⊎◌, ◌==◌, ◌&&◌, nat_le, All, Any, IsTrue, slice_index_or, replicate}
+use Rattle.std.proofs.Common.{ℕ, Bool, true, false, Option, None, Some, ◌≡◌, ◌≢◌, ◌<◌, ◌≤◌, ◌+◌, ◌^◌, [], ◌∷◌, ◌++◌, refl, arith, ap, sym, subst, inl, inr, ◌∙◌}
+use Rattle.std.specs.Prelude.{◌==◌, ◌&&◌, nat_le, All, Any, slice_index_or}
 use Rattle.std.specs.Int.{bit_at}
 use Rattle.std.proofs.Math.Pow.{pow_mono}
 use Rattle.std.proofs.lemmas.Bool.{cases_eq, cases_lt, lt-leb, le-leb, eq-eqb}
@@ -12,7 +12,7 @@ use Rattle.heap_geometry.specs.declared.limits.TheConstants.{SMALL_MOST}
 use Rattle.heap_geometry.specs.declared.need.Need.{Need}
 use Rattle.heap_geometry.specs.declared.need.Need.TheVariants as need
 use Rattle.heap_geometry.specs.Need.{IsNeed, need_of, usable_words}
-use Rattle.heap_geometry.specs.Place.{IsApart, frame_of, unit_place, run_span}
+use Rattle.heap_geometry.specs.Place.{IsApart, unit_place, run_span}
 use Rattle.heap_geometry.proofs.PlaceLemmas.{block-within}
 use Rattle.word_plan.specs.declared.name.WordName.TheVariants as name
 use Rattle.word_plan.specs.Words.{Writes}
@@ -24,11 +24,10 @@ use Rattle.large_parts.specs.Units as units
 use Rattle.large_parts.proofs.LowestLemmas.{first_run-exact}
 use Rattle.large_parts.proofs.UnitLemmas.{run_bits-mask, with_run-inside, with_run-outside, with_run-below}
 use Rattle.pool_model.specs.declared.event.Event.TheVariants.{Alloc, Refuse}
-use Rattle.pool_model.specs.declared.owner.Owner.TheVariants.{Caller, Shelf}
-use Rattle.pool_model.specs.Legal.{IsAllowed, IsClear, IsFree, IsLegalEventWithoutCounts, IsLegalWithoutCounts, IsRefusable}
+use Rattle.pool_model.specs.Legal.{IsAllowed, IsClear, IsFree, IsRefusable}
 use Rattle.pool_model.specs.Pool.{Block, block_at, fresh_block, pool_of, span_of}
 use Rattle.pool_model.specs.WellFormed.{IsPlaceFor, IsWellFormed}
-use Rattle.pool_model.proofs.HistoryLemmas.{EachAfter-push, pool_of-push}
+use Rattle.pool_model.proofs.HistoryLemmas.{pool_of-push}
 use Rattle.pool_model.proofs.OwnerLemmas.{free-elsewhere}
 use Rattle.pool_model.proofs.PoolLemmas.{every-found, place-found, block_at-here, block_at-past}
 use Rattle.pool_model.proofs.WellFormedLemmas.{class_span, sound-of}
@@ -47,18 +46,18 @@ use Rattle.sound_state.specs.Lists.{Lists}
 use Rattle.sound_state.specs.Recalls.{IsOwned, recalls_of}
 use Rattle.sound_state.specs.Sound.{IsSoundWithoutCounts, IsSoundWith}
 use Rattle.sound_state.specs.Superblocks.{is_there}
-use Rattle.sound_state.specs.Ties.{IsLive, IsTied, IsExcepted, IsCovered}
-use Rattle.sound_state.proofs.pops.PopTurns.{each-other}
+use Rattle.sound_state.specs.Ties.{IsLive, IsTied, IsCovered}
 use Rattle.sound_state.proofs.shared.AlikeLemmas.{Excepts}
 use Rattle.sound_state.proofs.shared.PointLemmas.{fits-at}
 use Rattle.sound_state.proofs.quiet.QuietLemmas.{words-stay}
-use Rattle.sound_state.proofs.large.TouchEffects.{IsAside, Touches, sound-touched, touched-bound, located-touched, owned-touched}
+use Rattle.sound_state.proofs.large.TouchEffects.{Touches}
 use Rattle.sound_state.proofs.large.TouchFrees.{cases_run}
-use Rattle.sound_state.proofs.large.TouchPrefix.{frame-before, prefix-aside}
+use Rattle.sound_state.proofs.large.TouchPrefix.{frame-before}
 use Rattle.sound_state.proofs.large.TouchPrefixes.{info-frame}
 use Rattle.sound_state.proofs.large.TouchShelves.{idle-aside, idle-bare, idle-recalls, same-tied}
 use Rattle.sound_state.proofs.large.TouchSteps.{TouchesAt, leaves-event, stays-still, touched-step}
-use Rattle.sound_state.proofs.large.TouchTies.{IsBareHanded, excepts-none, excepted-touched, tie-stays}
+use Rattle.sound_state.proofs.shared.TieLemmas.{IsBareHanded, excepts-none, none-written, one-live, ties-but}
+use Rattle.sound_state.proofs.large.TouchTies.{large-aside, touched-desc, touched-sound}
 
 -- an allocation of units serves its words by as many
 run-asked : (n : ℕ) (o : Onward) → IsRunFor n o → need_of (asked o) ≡ need.Large n
@@ -134,10 +133,6 @@ clear-run g s l first n sound old within some free q b live =
     let formed : IsWellFormed g b = every-found (IsWellFormed g) q (pool_of s.history) b (sound-of g s.history sound.legal).each live in
     clear-need g s l first n old within some free q b live b.need refl formed.need formed.place
 
-take-aside : (w : WantFields) (bits : ℕ) (o : Onward) → IsAside (Large (large.TakeRun w bits) o)
-unfolding holds_of
-take-aside w bits o = grind (arith)
-
 take-bare : (w : WantFields) (bits : ℕ) (o : Onward) → IsBareHanded (Large (large.TakeRun w bits) o)
 unfolding holds_of
 take-bare w bits o = grind (arith)
@@ -163,7 +158,7 @@ refuse-touches g s l who w bits o old word none above allowed =
           leaves-event g s l who (Refuse who (asked o))
           (record { caller = refl; gives = λ i. refl; refuses = λ i. and-false (who == i) (nat_le (asked o) SMALL_MOST) above; allocs = refl; freed = refl })
           allowed (λ d i has bound lt. refl);
-      before = take-aside w bits o;
+      before = large-aside _ _;
       after = idle-aside;
       recalls = idle-recalls;
       prefixes = λ words' x d i has bound lt. x.elsewhere _ (λ same. cc);
@@ -190,18 +185,9 @@ refused-sound g s who s' w bits o sound has at word none step =
     let t =
     touched-step g s l who s' p Idle name.Units bits (s.history ++ Refuse who (asked o) ∷ []) old has at
     (refuse-touches g s l who w bits o old word none (large-served (asked o) w.units served) allowed) step in
-    record {
-      checked = sound.checked;
-      legal =
-          subst (IsLegalWithoutCounts g) (sym t.history)
-          (EachAfter-push (IsLegalEventWithoutCounts g) s.history (Refuse who (asked o)) sound.legal (has, allowed));
-      parts = (
-        l,
-        sound-touched g s l who _ s' t.touches old
-            (same-tied g s l who s' _ t.touches old (words-stay s.word name.Units _ s'.word t.word (sym word)) (subst IsBareHanded (sym at) (take-bare w bits o))
-            idle-bare (λ q. ap (block_at q) (ap pool_of t.history ∙ pool_of-push s.history (Refuse who (asked o))))),
-      );
-    }
+    touched-sound g s l who _ _ _ (Refuse who (asked o)) s' sound old (has, allowed) t
+    (same-tied g s l who s' _ t.touches old (words-stay s.word name.Units _ s'.word t.word (sym word)) (subst IsBareHanded (sym at) (take-bare w bits o))
+    idle-bare (λ q. ap (block_at q) (ap pool_of t.history ∙ pool_of-push s.history (Refuse who (asked o)))))
 
 -- where a run is found, it is the first of these units
 abbrev run_at : ℕ → WantFields → RunFields
@@ -236,8 +222,8 @@ given-touches g s l who w bits o first old word some heap below above allowed =
           (block_at-past _ (fresh_block who (asked o) place) (pool_of s.history)
           (λ same.
           frame-before g.frames _ _ i first (info-frame g s l d old has) lt (sym same ∙ ap (λ (h : Geometry). unit_place h.frames first) heap))));
-      before = take-aside w bits o;
-      after = prefix-aside place (run_at first w) o;
+      before = large-aside _ _;
+      after = large-aside _ _;
       recalls = refl;
       prefixes = λ words' x d i has bound lt. x.elsewhere _ (λ same. cc);
       stays = λ words' x i has differ. stays-still g s name.Units _ words' x (λ p same. cc) (λ away. away) (s.errand i).point;
@@ -248,12 +234,6 @@ pub record Comes (s s' : State) (at : ℕ) (a : Block) : Type 0 where
   pub unlive : (p : ℕ) (b : Block) → IsLive s p b → p ≢ at
   pub now : IsLive s' at a
   pub elsewhere : (p : ℕ) → p ≢ at → block_at p (pool_of s'.history) ≡ block_at p (pool_of s.history)
-
--- nothing is written in a fresh block
-none-written : (n i v : ℕ) → slice_index_or (replicate n None) i None ≡ Some v → ⊥
-none-written zero i v is = let bad : ◌≡◌ {A = Option ℕ} None (Some v) = is in cc
-none-written (suc n) zero v is = let bad : ◌≡◌ {A = Option ℕ} None (Some v) = is in cc
-none-written (suc n) (suc i) v is = none-written n i v is
 
 run-excepted : (place n : ℕ) → Any (λ b. b.place ≡ place) (run_handed place n)
 run-excepted place n = (0, record { place = place; need = need.Large n }, omega arith, refl, refl)
@@ -280,8 +260,7 @@ given-units g s s' l first n unit a old w of c has =
             let ne : unit_place g.frames k.1 ≢ unit_place g.frames first =
             λ same.
             let firsts : k.1 ≡ first = omega (arith, same) in
-            let one : Some a ≡ Some k.0 = sym c.now ∙ ap (λ q. block_at q (pool_of s'.history)) (sym same) ∙ k.3 in
-            let blocks : a ≡ k.0 = cc in
+            let blocks : a ≡ k.0 = one-live s' (unit_place g.frames first) (unit_place g.frames k.1) a k.0 c.now same k.3 in
             let needs : need.Large n ≡ need.Large k.2 = sym of ∙ ap (λ (x : Block). x.need) blocks ∙ k.4 in
             let as_many : n ≡ k.2 = cc in
             outside (record { from = omega (arith, firsts, k.5); below = omega (arith, firsts, as_many, k.6) }) in
@@ -289,9 +268,6 @@ given-units g s s' l first n unit a old w of c has =
             ∙ t.1 (k.0, k.1, k.2, sym (c.elsewhere (unit_place g.frames k.1) ne) ∙ k.3, k.4, k.5, k.6),
       )
     ]
-
-some-same : (a b : Block) → Some a ≡ Some b → a ≡ b
-some-same a b one = cc
 
 given-tied :
     (g : Geometry) (s : State) (l : Lists) (who words first n : ℕ) (s' : State) (e : ErrandFields) → Touches g s l who e s' → IsSoundWith g s l
@@ -302,72 +278,45 @@ given-tied g s l who words first n s' e h old bare hands frees w served within c
     let tied = old.tied in
     let at : ℕ = unit_place g.frames first in
     let a : Block = fresh_block who words at in
-    let arena = λ (p : ℕ). w.elsewhere (name.Arena p) (λ same. cc) in
     let is_fresh = λ (p : ℕ) (b : Block) (here : p ≡ at) (live : IsLive s' p b).
-    let one : Some a ≡ Some b = sym c.now ∙ ap (λ q. block_at q (pool_of s'.history)) (sym here) ∙ live in
-    some-same a b one in
-    let was = λ (p : ℕ) (b : Block) (ne : p ≢ at) (live : IsLive s' p b). sym (c.elsewhere p ne) ∙ live in
-    let still = λ (p : ℕ) (b : Block) (live : IsLive s p b). c.elsewhere p (c.unlive p b live) ∙ live in
-    let tie = λ (p v : ℕ) (x : IsExcepted g s p ⊎ (s.word (name.Arena p) ≡ v)).
-    tie-stays g s s' p v (excepted-touched g s l who e s' h p (λ excepts. absurd (excepts-none (s.errand who) p bare excepts))) (arena p) x in
+    one-live s' at p a b c.now here live in
     let mine : IsOwned s' who at (need.Large n) = record { block = (a, c.now, refl, served) } in
-    record {
-      small = λ p class b live is.
-          elim (cases_eq p at) [
-            | inl here ↦
-                let bad : need.Large n ≡ need.Small class = sym served ∙ ap (λ (x : Block). x.need) (is_fresh p b here live) ∙ is in absurd (cc)
-            | inr ne ↦
-                let t = tied.small p class b (was p b ne live) is in (
-                  t.0,
-                  record {
-                    exists = t.1.exists;
-                    bound = subst IsTrue (sym (touched-bound g s l who e s' h t.0)) t.1.bound;
-                    located = located-touched g s l who e s' h t.0 (frame_of p) class t.1.located;
-                  },
-                  tie p (2 * t.0) t.2,
-                )
-          ];
-      large = λ p m b live is.
-          elim (cases_eq p at) [
-            | inl here ↦
-                let excepts : Excepts e at = inl (subst (Any (λ x. x.place ≡ at)) (sym hands) (run-excepted at n)) in
-                inl
-                (record {
-                  who = (who, h.caller, subst (λ q. Excepts (s'.errand who) q) (sym here) (subst (λ f. Excepts f at) (sym h.moves.here) excepts));
-                })
-            | inr ne ↦ tie p (2 * m + 1) (tied.large p m b (was p b ne live) is)
-          ];
-      units = λ unit has.
-          let u = given-units g s s' l first n unit a old w served c has in (u.0, u.1);
+    ties-but g s l l who (λ p. p ≡ at) e s'
+    (record {
+      moves = h.moves;
+      either = λ p. cases_eq p at;
+      there = c.elsewhere;
+      before = λ p b here live. absurd (c.unlive p b live here);
+      after = λ p b here live. ap (λ (x : Block). x.owner) (sym (is_fresh p b here live));
+      arena = λ p ne. w.elsewhere (name.Arena p) (λ same. cc);
+      shelf = λ k. w.elsewhere (name.Shelf k) (λ same. cc);
+      small = λ p class b here live is.
+          let bad : need.Large n ≡ need.Small class = sym served ∙ ap (λ (x : Block). x.need) (is_fresh p b here live) ∙ is in absurd (cc);
+      large = λ p m b here live is.
+          let excepts : Excepts e at = inl (subst (Any (λ x. x.place ≡ at)) (sym hands) (run-excepted at n)) in
+          inl
+          (record {
+            who = (who, h.caller, subst (λ q. Excepts (s'.errand who) q) (sym here) (subst (λ f. Excepts f at) (sym h.moves.here) excepts));
+          });
+      bound = λ p class b d ne live is its. touched-desc g s l who e s' h p class d its;
+      units = λ unit has. let u = given-units g s s' l first n unit a old w served c has in (u.0, u.1);
       no_more_units =
           let most : 2 ^ (first + n) ≤ 2 ^ g.units = pow_mono within in
           let run : run_bits first n < 2 ^ g.units = omega (arith, run_bits-mask first n, pow_pos first, most) in
           subst (λ x. x < 2 ^ g.units) (sym w.here) (or_lt g.units (s.word name.Units) (run_bits first n) tied.no_more_units run);
-      shelved = λ k p b has live on.
-          elim (cases_eq p at) [
-            | inl here ↦
-                let owners : Caller who ≡ Shelf k = ap (λ (x : Block). x.owner) (is_fresh p b here live) ∙ on in absurd (cc)
-            | inr ne ↦ w.elsewhere (name.Shelf k) (λ same. cc) ∙ tied.shelved k p b has (was p b ne live) on
-          ];
-      bare_shelf = λ k has none. w.elsewhere (name.Shelf k) (λ same. cc) ∙ tied.bare_shelf k has (λ p b live on. none p b (still p b live) on);
       contents = λ p i v b live written.
-          elim (cases_eq p at) [
-            | inl here ↦
-                absurd
-                (none-written (usable_words (need_of words)) i v
-                (ap (λ (x : Block). slice_index_or x.contents i None) (is_fresh p b here live) ∙ written))
-            | inr ne ↦ arena (p + 1 + i) ∙ tied.contents p i v b (was p b ne live) written
-          ];
+          let differs : p ≢ at =
+          λ here.
+          none-written (usable_words (need_of words)) i v
+          (ap (λ (x : Block). slice_index_or x.contents i None) (is_fresh p b here live) ∙ written) in
+          w.elsewhere (name.Arena (p + 1 + i)) (λ same. cc) ∙ tied.contents p i v b (sym (c.elsewhere p differs) ∙ live) written;
+      excepts = λ p ne excepts. absurd (excepts-none (s.errand who) p bare excepts);
       hands =
-          each-other g (λ i e. All (λ x. IsOwned s' i x.place x.need) (holds_of e.point).hands) s.errand who e s'.errand h.moves
-          (subst (All (λ x. IsOwned s' who x.place x.need)) (sym hands)
-          (All-cons (λ x. IsOwned s' who x.place x.need) (record { place = at; need = need.Large n }) [] mine (All-nil (λ x. IsOwned s' who x.place x.need))))
-          (λ i has differ k d lt. owned-touched g s l who e s' h i _ _ differ (tied.hands i has k d lt));
-      frees =
-          each-other g (λ i e. All (λ x. IsOwned s' i x.place x.need) (holds_of e.point).frees) s.errand who e s'.errand h.moves
-          (subst (All (λ x. IsOwned s' who x.place x.need)) (sym frees) (All-nil (λ x. IsOwned s' who x.place x.need)))
-          (λ i has differ k d lt. owned-touched g s l who e s' h i _ _ differ (tied.frees i has k d lt));
-    }
+          subst (All (λ x. IsOwned s' who x.place x.need)) (sym hands)
+          (All-cons (λ x. IsOwned s' who x.place x.need) (record { place = at; need = need.Large n }) [] mine
+          (All-nil (λ x. IsOwned s' who x.place x.need)));
+      frees = subst (All (λ x. IsOwned s' who x.place x.need)) (sym frees) (All-nil (λ x. IsOwned s' who x.place x.need));
+    }) tied
 
 run-held : (place : ℕ) (run : RunFields) (o : Onward) → (holds_of (Large (large.StoreRunPrefix place run) o)).hands ≡ run_handed place run.units
 unfolding holds_of
@@ -416,18 +365,11 @@ given-sound g s who s' w bits o first sound has at word some step =
       now = ap (block_at place) pool ∙ block_at-here place (fresh_block who words place) (pool_of s.history) refl;
       elsewhere = λ x ne. ap (block_at x) pool ∙ block_at-past x (fresh_block who words place) (pool_of s.history) (λ same. ne (sym same));
     } in
-    record {
-      checked = sound.checked;
-      legal = subst (IsLegalWithoutCounts g) (sym t.history) (EachAfter-push (IsLegalEventWithoutCounts g) s.history (Alloc who words place) sound.legal (has, allowed));
-      parts = (
-        l,
-        sound-touched g s l who _ s' t.touches old
-            (given-tied g s l who words first n s' _ t.touches old (subst IsBareHanded (sym at) (take-bare w bits o))
-            (run-held place (run_at first w) o ∙ ap (λ x. run_handed x n) here) (run-frees place (run_at first w) o)
-            (subst (λ v. Writes s.word name.Units (with_run v first n) s'.word) (sym word) t.word) served within
-            (subst (λ x. Comes s s' x (fresh_block who words x)) here came)),
-      );
-    }
+    touched-sound g s l who _ _ _ (Alloc who words place) s' sound old (has, allowed) t
+    (given-tied g s l who words first n s' _ t.touches old (subst IsBareHanded (sym at) (take-bare w bits o))
+    (run-held place (run_at first w) o ∙ ap (λ x. run_handed x n) here) (run-frees place (run_at first w) o)
+    (subst (λ v. Writes s.word name.Units (with_run v first n) s'.word) (sym word) t.word) served within
+    (subst (λ x. Comes s s' x (fresh_block who words x)) here came))
 
 take-found :
     (g : Geometry) (s : State) (who : ℕ) (s' : State) (w : WantFields) (bits : ℕ) (o : Onward) (found : Option ℕ) → IsSoundWithoutCounts g s → who < g.callers

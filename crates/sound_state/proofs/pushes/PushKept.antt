@@ -1,7 +1,7 @@
 -- A won push leaves each descriptor in one place, and as many out for each class.
-use Rattle.std.proofs.Common.{ℕ, Bool, false, Option, Some, None, ◌≡◌, ◌≢◌, ◌<◌, ◌≤◌, ◌+◌, List, [], ◌∷◌, refl, arith, ap, sym, subst, inl, inr, ◌∙◌}
-use Rattle.std.specs.Prelude.{◌⊎◌, ◌==◌, ◌&&◌, not, All, IsSome, IsTrue, if◌then◌else◌}
-use Rattle.std.proofs.lemmas.Bool.{cases_eq, cond-true, cond-false, eq-eqb, ne_eqb}
+use Rattle.std.proofs.Common.{ℕ, Bool, Option, Some, None, ◌≡◌, ◌≢◌, ◌<◌, ◌≤◌, ◌+◌, List, [], ◌∷◌, refl, arith, ap, sym, subst, inl, inr, ◌∙◌}
+use Rattle.std.specs.Prelude.{◌==◌, ◌&&◌, not, All, IsTrue, if◌then◌else◌}
+use Rattle.std.proofs.lemmas.Bool.{cases_eq, cond-false, ne_eqb}
 use Rattle.std.proofs.lemmas.List.Elements.{All-nil, All-cons, All-head, All-tail}
 use Rattle.heap_geometry.specs.declared.geometry.Geometry.{Geometry}
 use Rattle.heap_geometry.specs.declared.limits.TheConstants.{CLASSES}
@@ -36,17 +36,17 @@ use Rattle.errand_steps.specs.Errands.{ErrandFields}
 use Rattle.errand_steps.specs.Fits.{FitsPoint}
 use Rattle.errand_steps.specs.Steps.{State}
 use Rattle.sound_state.specs.Holdings.{Holding, Kept, Status, reserving, waiting, partly_used, on_its_way, before_pop, after_pop, holds_of, block_holds, stack_holds, desc_holds, partial_holds, large_holds}
-use Rattle.sound_state.specs.Keepers.{IsKept, IsPartlyUsed, IsActive, IsWithout, IsKeptAs, places_of, errand_has, full_keeps, active_keeps, word_keeps}
+use Rattle.sound_state.specs.Keepers.{IsKept, IsPartlyUsed, IsKeptAs, errand_has, full_keeps, active_keeps, word_keeps}
 use Rattle.sound_state.specs.Lists.{Lists}
 use Rattle.sound_state.specs.Sound.{IsSoundWith}
-use Rattle.sound_state.specs.Stock.{IsStocked, stock_of, stock_among, errand_stock, full_stock, word_stock}
+use Rattle.sound_state.specs.Stock.{IsStocked, stock_among}
 use Rattle.sound_state.specs.Sums.{sum_below, words_sum, callers_sum}
-use Rattle.sound_state.specs.Superblocks.{anchor_for, info_for, is_bound, away_of, errand_away, errand_reserves, word_reserves, offered, reserved_of, reserved_among, kept_among, same_status}
-use Rattle.sound_state.proofs.shared.AlikeLemmas.{each-caller}
+use Rattle.sound_state.specs.Superblocks.{anchor_for, is_bound, away_of, errand_away, errand_reserves, word_reserves, offered, reserved_of, reserved_among, kept_among, same_status}
+use Rattle.sound_state.proofs.shared.KeptLemmas.{Goes, MovesAt, moved-kept, moved-stocked, state-goes}
 use Rattle.sound_state.proofs.shared.PointLemmas.{kept_places, fits-at}
 use Rattle.sound_state.proofs.pushes.PushEffects.{Outcome, stays, unfills, empties, IsOutcome, Pushes, pushed_anchor, pushed_holds}
-use Rattle.sound_state.proofs.pushes.PushFacts.{pushed-info, pushed-anchor, pushed-words, pushed-bare}
-use Rattle.sound_state.proofs.shared.SumLemmas.{callers-moved, sum-change, sum-none, term-sum}
+use Rattle.sound_state.proofs.pushes.PushFacts.{pushed-info, pushed-bare}
+use Rattle.sound_state.proofs.shared.SumLemmas.{sum-none, term-sum}
 
 -- who keeps an ACTIVE superblock has a block of it reserved: in a superblock
 before-keeps :
@@ -66,33 +66,15 @@ KeepsNone d h = kept_among reserving d h.kept + kept_among waiting d h.kept ≡ 
 
 block-keeps :
     (g : Geometry) (who d : ℕ) (p : BlockPoint) → FitsBlock g who p → reserved_among d (block_holds p).credits ≡ 0 → KeepsNone d (block_holds p)
-block-keeps g who d (block.LoadActive s) fits none = refl
-block-keeps g who d (block.TakeCredit s x credits) fits none = refl
 block-keeps g who d (block.LoadInfo s x share) fits none = before-keeps d x s.class share none
 block-keeps g who d (block.LoadAnchor at share) fits none = before-keeps d at.desc at.seat.class share none
 block-keeps g who d (block.LoadLink at share a) fits none = before-keeps d at.desc at.seat.class share none
 block-keeps g who d (block.PopBlock at share a prefix) fits none = before-keeps d at.desc at.seat.class share none
-block-keeps g who d (block.StorePrefix at k) fits none = refl
 block-keeps g who d (block.InstallCredits at k more) fits none = after-keeps d at k more fits.1.0 none
 block-keeps g who d (block.InstallSuperblock at) fits none = grind (arith, none)
 block-keeps g who d (block.LoadReturn at k more) fits none = after-keeps d at k more fits.1.0 none
 block-keeps g who d (block.ReturnCredits at k more a) fits none = after-keeps d at k more fits.1.0 none
-block-keeps g who d (block.LoadPrefix s frame k) fits none = refl
-block-keeps g who d (block.LoadPushAnchor at k stored) fits none = refl
-block-keeps g who d (block.StoreGuard at k a) fits none = refl
-block-keeps g who d (block.LoadOwner at k a) fits none = refl
-block-keeps g who d (block.StoreLink at k a stored heap) fits none = refl
-block-keeps g who d (block.PushBlock at k a stored heap) fits none = refl
-block-keeps g who d (block.LinkBlock at k) fits none = grind (arith)
-block-keeps g who d (block.StoreInfo at) fits none = grind (arith)
-block-keeps g who d (block.StoreAnchor at) fits none = grind (arith)
-block-keeps g who d (block.WantsPartial s) fits none = refl
-block-keeps g who d (block.Returned at k) fits none = refl
-block-keeps g who d (block.Discarded at) fits none = refl
-block-keeps g who d (block.Given at k) fits none = refl
-block-keeps g who d (block.BecameEmpty at heap) fits none = refl
-block-keeps g who d (block.BecamePartial at stored) fits none = refl
-block-keeps g who d (block.Pushed s stored) fits none = refl
+block-keeps g who d p fits none = grind (arith)
 
 stack-keeps : (d : ℕ) (p : StackPoint) (o : Onward) → KeepsNone d (stack_holds p o)
 stack-keeps d p o = grind (arith)
@@ -117,7 +99,14 @@ point-keeps g who d (point.Desc p o) fits none = desc-keeps d p o
 point-keeps g who d (point.Partial p o) fits none = partial-keeps d p o
 point-keeps g who d (point.Large p o) fits none = large-keeps d p
 
--- none is kept as partly used
+-- an ACTIVE one isn't partly used, so none is kept so
+not-partly : (s : State) (d c : ℕ) → (anchor_for s d).state ≡ phase.Active → IsPartlyUsed s d c → ⊥
+not-partly s d c active is =
+    elim is.state [
+      | inl some ↦ let bad : phase.Active ≡ phase.Partial = sym active ∙ some.0 in cc
+      | inr empty ↦ let bad : phase.Active ≡ phase.Empty = sym active ∙ empty in cc
+    ]
+
 one-partly :
     (s : State) (d x class : ℕ) (status : Status) → (anchor_for s d).state ≡ phase.Active → IsKeptAs s status x class
     → ◌≡◌ {A = ℕ} (if (x == d) && same_status status partly_used then 1 else 0) 0
@@ -126,12 +115,7 @@ one-partly s d x class waiting active is = grind (arith)
 one-partly s d x class on_its_way active is = grind (arith)
 one-partly s d x class partly_used active is =
     elim (cases_eq x d) [
-      | inl same ↦
-          let its : (anchor_for s x).state ≡ phase.Active = subst (λ k. (anchor_for s k).state ≡ phase.Active) (sym same) active in
-          elim is.state [
-            | inl some ↦ let bad : phase.Active ≡ phase.Partial = sym its ∙ some.0 in cc
-            | inr empty ↦ let bad : phase.Active ≡ phase.Empty = sym its ∙ empty in cc
-          ]
+      | inl same ↦ absurd (not-partly s d class active (subst (λ k. IsPartlyUsed s k class) same is))
       | inr differ ↦ rw (ne_eqb x d differ) refl
     ]
 
@@ -153,13 +137,6 @@ occurs-none P d (x ∷ xs) bad all =
     let differ : x ≢ d = λ same. bad (subst P same (All-head P x xs all)) in
     omega (arith, cond-false {A = ℕ} (x == d) 1 0 (ne_eqb x d differ), occurs-none P d xs bad (All-tail P x xs all))
 
-not-partly : (s : State) (d c : ℕ) → (anchor_for s d).state ≡ phase.Active → IsPartlyUsed s d c → ⊥
-not-partly s d c active is =
-    elim is.state [
-      | inl some ↦ let bad : phase.Active ≡ phase.Partial = sym active ∙ some.0 in cc
-      | inr empty ↦ let bad : phase.Active ≡ phase.Empty = sym active ∙ empty in cc
-    ]
-
 -- nor does a word hold it
 none-offered : (d : ℕ) (o : Option ActiveWord) → offered d o ≡ 0 → active_keeps d o ≡ 0
 none-offered d None none = refl
@@ -173,17 +150,7 @@ word-none g s l d (name.Active heap class) kept has active none = none-offered d
 word-none g s l d (name.Slot heap class) kept has active none =
     cond-false {A = ℕ} (s.word (name.Slot heap class) == d + 1) 1 0
     (ne_eqb (s.word (name.Slot heap class)) (d + 1) (λ is. not-partly s d class active (kept.slot heap class d has.0 has.1 is).1))
-word-none g s l d (name.Arena k) kept has active none = refl
-word-none g s l d (name.Anchor k) kept has active none = refl
-word-none g s l d (name.Next k) kept has active none = refl
-word-none g s l d (name.Info k) kept has active none = refl
-word-none g s l d (name.ListHead k) kept has active none = refl
-word-none g s l d (name.FrameNext k) kept has active none = refl
-word-none g s l d name.FrameHead kept has active none = refl
-word-none g s l d name.DescHead kept has active none = refl
-word-none g s l d (name.Hazard k) kept has active none = refl
-word-none g s l d name.Units kept has active none = refl
-word-none g s l d (name.Shelf k) kept has active none = refl
+word-none g s l d n kept has active none = refl
 
 -- a bound superblock isn't away
 pub is-out : (n : ℕ) (c : Bool) → IsTrue ((n == 0) && not c) → n ≡ 0
@@ -233,49 +200,19 @@ emptied-unfull g s l who at i stored a e s' h old full =
     omega (arith, count, ap (λ x. x.count) h.before, h.goes.0, block_count_of-least at.seat.class h.site.seat.class) in bad
 
 -- a superblock is after the push where it belongs
-record Goes (s s' : State) (d : ℕ) : Type 0 where
-  partly : (c : ℕ) → IsPartlyUsed s d c → IsPartlyUsed s' d c
-  active : (c : ℕ) → IsActive s d c → IsActive s' d c
-  without : IsWithout s d → IsWithout s' d
-  full : (anchor_for s' d).state ≡ phase.Full → ((anchor_for s d).state ≡ phase.Full) × ((anchor_for s' d).count ≡ (anchor_for s d).count)
-
-other-goes : (s s' : State) (d : ℕ) → info_for s' d ≡ info_for s d → anchor_for s' d ≡ anchor_for s d → Goes s s' d
-other-goes s s' d info anchor = record {
-  partly = λ c k. record {
-    class = ap (λ x. x.class) info ∙ k.class;
-    state =
-        subst (λ x. ((x.state ≡ phase.Partial) × (1 ≤ x.count)) ⊎ (x.state ≡ phase.Empty)) (sym anchor) k.state;
-  };
-  active = λ c k. record { class = ap (λ x. x.class) info ∙ k.class; state = ap (λ x. x.state) anchor ∙ k.state };
-  without = λ k. subst (λ x. (x.state ≡ phase.Active) ⊎ (x.state ≡ phase.Empty)) (sym anchor) k;
-  full = λ is. (sym (ap (λ x. x.state) anchor) ∙ is, ap (λ x. x.count) anchor);
-}
-
--- the state before isn't EMPTY
-not-empty : (p : Phase) → is_empty p ≡ false → p ≢ phase.Empty
-not-empty p stood is = let bad : is_empty phase.Empty ≡ false = ap is_empty (sym is) ∙ stood in cc
-
 here-goes :
     (g : Geometry) (s : State) (l : Lists) (who : ℕ) (at : Site) (i : ℕ) (stored : Bool) (a : AnchorFields) (out : Outcome) (e : ErrandFields)
     (s' : State) → Pushes g s l who at i stored a out e s' → IsSoundWith g s l → Goes s s' at.desc
 here-goes g s l who at i stored a stays e s' h old =
-    let info = pushed-info g s l who at i stored a stays e s' h at.desc in
     let state : (anchor_for s' at.desc).state ≡ (anchor_for s at.desc).state = ap (λ x. x.state) h.after ∙ sym (ap (λ x. x.state) h.before) in
     let count : (anchor_for s' at.desc).count ≡ a.count + 1 = ap (λ x. x.count) h.after in
-    record {
-      partly = λ c k. record {
-        class = ap (λ x. x.class) info ∙ k.class;
-        state = elim k.state [ inl some ↦ inl (state ∙ some.0, omega (arith, count)) | inr empty ↦ inr (state ∙ empty) ];
-      };
-      active = λ c k. record { class = ap (λ x. x.class) info ∙ k.class; state = state ∙ k.state };
-      without = λ k. elim k [ inl active ↦ inl (state ∙ active) | inr empty ↦ inr (state ∙ empty) ];
-      full = λ is.
-          let full : a.state ≡ phase.Full = sym (ap (λ x. x.state) h.after) ∙ is in
-          elim h.goes.1 [
-            | inl active ↦ let bad : phase.Active ≡ phase.Full = sym active ∙ full in cc
-            | inr partial ↦ let bad : phase.Partial ≡ phase.Full = sym partial ∙ full in cc
-          ];
-    }
+    state-goes s s' at.desc (pushed-info g s l who at i stored a stays e s' h at.desc) state (λ partial some. omega (arith, count))
+    (λ is.
+    let full : a.state ≡ phase.Full = sym (ap (λ x. x.state) h.before) ∙ is in
+    elim h.goes.1 [
+      | inl active ↦ let bad : phase.Active ≡ phase.Full = sym active ∙ full in absurd (cc)
+      | inr partial ↦ let bad : phase.Partial ≡ phase.Full = sym partial ∙ full in absurd (cc)
+    ])
 here-goes g s l who at i stored a unfills e s' h old =
     let was : (anchor_for s at.desc).state ≡ phase.Full = ap (λ x. x.state) h.before ∙ h.goes.1 in
     record {
@@ -301,22 +238,6 @@ here-goes g s l who at i stored a empties e s' h old =
       without = λ k. inr now;
       full = λ is. let bad : phase.Empty ≡ phase.Full = sym now ∙ is in cc;
     }
-
-pushed-goes :
-    (g : Geometry) (s : State) (l : Lists) (who : ℕ) (at : Site) (i : ℕ) (stored : Bool) (a : AnchorFields) (out : Outcome) (e : ErrandFields)
-    (s' : State) → Pushes g s l who at i stored a out e s' → IsSoundWith g s l → (d : ℕ) → Goes s s' d
-pushed-goes g s l who at i stored a out e s' h old d =
-    elim (cases_eq d at.desc) [
-      | inl same ↦ subst (Goes s s') (sym same) (here-goes g s l who at i stored a out e s' h old)
-      | inr ne ↦
-          other-goes s s' d (pushed-info g s l who at i stored a out e s' h d) (pushed-anchor g s l who at i stored a out e s' h d ne)
-    ]
-
-as-goes : (s s' : State) (status : Status) (d c : ℕ) → Goes s s' d → IsKeptAs s status d c → IsKeptAs s' status d c
-as-goes s s' reserving d c h k = h.active c k
-as-goes s s' waiting d c h k = h.active c k
-as-goes s s' partly_used d c h k = h.partly c k
-as-goes s s' on_its_way d c h k = h.without k
 
 -- in as many places, and out for a class, with what is FULL
 unfull-none : (p : Phase) → p ≢ phase.Full → full_keeps p ≡ 0
@@ -351,54 +272,6 @@ bare-full g s l who at i stored a unfills e s' h old is = absurd (cc)
 bare-full g s l who at i stored a empties e s' h old is =
     ap (λ x. full_keeps x.state) (sym h.before) ∙ unfull-none (anchor_for s at.desc).state (emptied-unfull g s l who at i stored a e s' h old)
 
--- what is FULL changes at the pushed superblock alone
-pushed-full :
-    (g : Geometry) (s : State) (l : Lists) (who : ℕ) (at : Site) (i : ℕ) (stored : Bool) (a : AnchorFields) (out : Outcome) (e : ErrandFields)
-    (s' : State) → Pushes g s l who at i stored a out e s' → (d : ℕ)
-    → full_keeps (anchor_for s' d).state + (if at.desc == d then full_keeps a.state else 0)
-    ≡ full_keeps (anchor_for s d).state + (if at.desc == d then full_keeps (pushed_anchor out i a).state else 0)
-pushed-full g s l who at i stored a out e s' h d =
-    elim (cases_eq at.desc d) [
-      | inl here ↦
-          let after : full_keeps (anchor_for s' d).state ≡ full_keeps (pushed_anchor out i a).state =
-          ap (λ k. full_keeps (anchor_for s' k).state) (sym here) ∙ ap (λ x. full_keeps x.state) h.after in
-          let before : full_keeps (anchor_for s d).state ≡ full_keeps a.state =
-          ap (λ k. full_keeps (anchor_for s k).state) (sym here) ∙ ap (λ x. full_keeps x.state) h.before in
-          omega (
-            arith,
-            after,
-            before,
-            cond-true {A = ℕ} (at.desc == d) (full_keeps a.state) 0 (eq-eqb at.desc d here),
-            cond-true {A = ℕ} (at.desc == d) (full_keeps (pushed_anchor out i a).state) 0 (eq-eqb at.desc d here),
-          )
-      | inr other ↦
-          omega (
-            arith,
-            ap (λ x. full_keeps x.state) (pushed-anchor g s l who at i stored a out e s' h d (λ same. other (sym same))),
-            cond-false {A = ℕ} (at.desc == d) (full_keeps a.state) 0 (ne_eqb at.desc d other),
-            cond-false {A = ℕ} (at.desc == d) (full_keeps (pushed_anchor out i a).state) 0 (ne_eqb at.desc d other),
-          )
-    ]
-
--- each descriptor stands in as many places
-pushed-places :
-    (g : Geometry) (s : State) (l : Lists) (who : ℕ) (at : Site) (i : ℕ) (stored : Bool) (a : AnchorFields) (out : Outcome) (e : ErrandFields)
-    (s' : State) → Pushes g s l who at i stored a out e s' → IsSoundWith g s l → (d : ℕ) → places_of g s' l d ≡ places_of g s l d
-pushed-places g s l who at i stored a out e s' h old d =
-    let now : errand_has d e ≡ occurs d (s.errand who).retired + kept_places d (pushed_holds out at stored).kept =
-    omega (arith, ap (occurs d) h.retired, ap (λ x. kept_places d x.kept) h.holds_after) in
-    let was : errand_has d (s.errand who) ≡ occurs d (s.errand who).retired =
-    omega (arith, ap (λ x. kept_places d x.kept) h.holds_before) in
-    omega (
-      arith,
-      now,
-      was,
-      callers-moved g (errand_has d) s.errand who e s'.errand h.caller h.moves,
-      pushed-words g s l who at i stored a out e s' h (word_keeps d) (λ w. refl),
-      kept-weighs out at i stored a d h.goes (bare-full g s l who at i stored a out e s' h old),
-      pushed-full g s l who at i stored a out e s' h d,
-    )
-
 -- what the caller keeps after the push is partly used
 holds-kept :
     (s : State) (out : Outcome) (at : Site) (stored : Bool) → (out ≡ unfills → IsPartlyUsed s at.desc at.seat.class)
@@ -419,69 +292,40 @@ now-partly g s l who at i stored a unfills e s' h is = record {
   state = inl (ap (λ x. x.state) h.after, let count : (anchor_for s' at.desc).count ≡ a.count + 1 = ap (λ x. x.count) h.after in omega (arith, count));
 }
 
--- each descriptor still stands in one place, in the state that belongs there
+-- each descriptor still stands in one place, and as many are out for each class
+pushes-move :
+    (g : Geometry) (s : State) (l : Lists) (who : ℕ) (at : Site) (i : ℕ) (stored : Bool) (a : AnchorFields) (out : Outcome) (e : ErrandFields)
+    (s' : State) → Pushes g s l who at i stored a out e s' → IsSoundWith g s l
+    → MovesAt g s l who at.desc at.seat.class a (pushed_anchor out i a) e s'
+pushes-move g s l who at i stored a out e s' h old =
+    let bare = bare-full g s l who at i stored a out e s' h old in
+    record {
+      caller = h.caller;
+      moves = h.moves;
+      exists = h.site.desc;
+      class = h.located.class;
+      before = h.before;
+      after = h.after;
+      elsewhere = h.elsewhere;
+      retired = h.retired;
+      places = λ d. rw (h.holds_before, h.holds_after) (omega (arith, kept-weighs out at i stored a d h.goes bare));
+      stock = λ class.
+          rw (h.holds_before, h.holds_after)
+          (omega (arith, stock-weighs out at i stored a class h.goes bare, h.stands_before.waits class, h.stands_after.waits class));
+      goes = inl (here-goes g s l who at i stored a out e s' h old);
+      own =
+          subst (λ x. All (λ k. IsKeptAs s' k.status k.desc k.class) x.kept) (sym h.holds_after)
+          (holds-kept s' out at stored (now-partly g s l who at i stored a out e s' h));
+    }
+
 pub pushed-kept :
     (g : Geometry) (s : State) (l : Lists) (who : ℕ) (at : Site) (i : ℕ) (stored : Bool) (a : AnchorFields) (out : Outcome) (e : ErrandFields)
     (s' : State) → Pushes g s l who at i stored a out e s' → IsSoundWith g s l → IsKept g s' l
 pushed-kept g s l who at i stored a out e s' h old =
-    let kept : IsKept g s l = old.kept in
-    let goes = pushed-goes g s l who at i stored a out e s' h old in
-    record {
-      once = λ d has. pushed-places g s l who at i stored a out e s' h old d ∙ kept.once d has;
-      active_words = λ heap class has_heap has_class.
-          subst (λ w. IsSome (active_of w)) (sym (h.elsewhere (name.Active heap class) (λ same. cc))) (kept.active_words heap class has_heap has_class);
-      slot_words = λ heap class has_heap has_class.
-          subst (λ w. w ≤ descriptor_count g) (sym (h.elsewhere (name.Slot heap class) (λ same. cc))) (kept.slot_words heap class has_heap has_class);
-      active = λ heap class d credits has_heap has_class is.
-          let was = kept.active heap class d credits has_heap has_class (ap active_of (sym (h.elsewhere (name.Active heap class) (λ same. cc))) ∙ is) in
-          (was.0, (goes d).active class was.1);
-      slot = λ heap class d has_heap has_class is.
-          let was = kept.slot heap class d has_heap has_class (sym (h.elsewhere (name.Slot heap class) (λ same. cc)) ∙ is) in
-          (was.0, (goes d).partly class was.1);
-      full = λ d has is. let f = (goes d).full is in f.1 ∙ kept.full d has f.0;
-      listed = λ class has k d lt. (goes _).partly class (kept.listed class has k d lt);
-      available = λ k d lt. (goes _).without (kept.available k d lt);
-      retired =
-          each-caller g (λ j e. All (IsWithout s') e.retired) s.errand who e s'.errand h.moves
-          (subst (All (IsWithout s')) (sym h.retired) (λ k d lt. (goes _).without (kept.retired who h.caller k d lt)))
-          (λ j has k d lt. (goes _).without (kept.retired j has k d lt));
-      errand =
-          each-caller g (λ j e. All (λ k. IsKeptAs s' k.status k.desc k.class) (holds_of e.point).kept) s.errand who e s'.errand h.moves
-          (subst (λ x. All (λ k. IsKeptAs s' k.status k.desc k.class) x.kept) (sym h.holds_after)
-          (holds-kept s' out at stored (now-partly g s l who at i stored a out e s' h)))
-          (λ j has k d lt. as-goes s s' _ _ _ (goes _) (kept.errand j has k d lt));
-    }
-
--- so much is out for each class as before
-pushed-stock :
-    (g : Geometry) (s : State) (l : Lists) (who : ℕ) (at : Site) (i : ℕ) (stored : Bool) (a : AnchorFields) (out : Outcome) (e : ErrandFields)
-    (s' : State) → Pushes g s l who at i stored a out e s' → IsSoundWith g s l → (class : ℕ) → stock_of g s' l class ≡ stock_of g s l class
-pushed-stock g s l who at i stored a out e s' h old class =
-    let now : errand_stock class e ≡ stock_among class (pushed_holds out at stored).kept =
-    omega (arith, ap (λ x. stock_among class x.kept) h.holds_after, h.stands_after.waits class) in
-    let was : errand_stock class (s.errand who) ≡ 0 =
-    omega (arith, ap (λ x. stock_among class x.kept) h.holds_before, h.stands_before.waits class) in
-    let elsewhere : (d : ℕ) → d < descriptor_count g → d ≢ at.desc → full_stock s' class d ≡ full_stock s class d =
-    λ d has other. rw (pushed-info g s l who at i stored a out e s' h d, pushed-anchor g s l who at i stored a out e s' h d other) refl in
-    let after : full_stock s' class at.desc ≡ (if at.seat.class == class then full_keeps (pushed_anchor out i a).state else 0) =
-    rw (pushed-info g s l who at i stored a out e s' h at.desc, h.located.class, h.after) refl in
-    let before : full_stock s class at.desc ≡ (if at.seat.class == class then full_keeps a.state else 0) =
-    rw (h.located.class, h.before) refl in
-    omega (
-      arith,
-      now,
-      was,
-      after,
-      before,
-      callers-moved g (errand_stock class) s.errand who e s'.errand h.caller h.moves,
-      pushed-words g s l who at i stored a out e s' h (word_stock class) (λ w. refl),
-      sum-change (descriptor_count g) (full_stock s class) (full_stock s' class) at.desc h.site.desc elsewhere,
-      stock-weighs out at i stored a class h.goes (bare-full g s l who at i stored a out e s' h old),
-    )
+    moved-kept g s l who at.desc at.seat.class a (pushed_anchor out i a) e s' (pushes-move g s l who at i stored a out e s' h old) old.kept
 
 pub pushed-stocked :
     (g : Geometry) (s : State) (l : Lists) (who : ℕ) (at : Site) (i : ℕ) (stored : Bool) (a : AnchorFields) (out : Outcome) (e : ErrandFields)
     (s' : State) → Pushes g s l who at i stored a out e s' → IsSoundWith g s l → IsStocked g s' l
-pushed-stocked g s l who at i stored a out e s' h old = record {
-  most = λ class has. omega (arith, old.stocked.most class has, pushed-stock g s l who at i stored a out e s' h old class);
-}
+pushed-stocked g s l who at i stored a out e s' h old =
+    moved-stocked g s l who at.desc at.seat.class a (pushed_anchor out i a) e s' (pushes-move g s l who at i stored a out e s' h old) old.stocked

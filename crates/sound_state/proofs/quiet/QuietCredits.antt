@@ -11,7 +11,6 @@ use Rattle.packed_words.specs.declared.widths.TheConstants.{CREDIT_BITS}
 use Rattle.packed_words.specs.Active.{IsActiveWord, active_word, active_of}
 use Rattle.packed_words.proofs.ActiveLemmas.{active-exact}
 use Rattle.word_plan.specs.declared.action.Action.TheVariants.{Cas}
-use Rattle.word_plan.specs.declared.name.WordName.TheVariants as name
 use Rattle.word_plan.specs.declared.seat.Site.{Site}
 use Rattle.word_plan.specs.Counts.{descriptor_count}
 use Rattle.word_plan.specs.Seats.{SeatFields, heap_of}
@@ -29,15 +28,15 @@ use Rattle.errand_steps.specs.Events.{event_of}
 use Rattle.errand_steps.specs.Nexts.{next_of}
 use Rattle.errand_steps.specs.Points.{plan_point_of}
 use Rattle.errand_steps.specs.Steps.{State, Step}
-use Rattle.sound_state.specs.Guards.{IsHazard}
 use Rattle.sound_state.specs.Holdings.{Kept, holds_of, reserving}
 use Rattle.sound_state.specs.Keepers.{IsKeptAs, IsActive, word_keeps}
 use Rattle.sound_state.specs.Lists.{Lists}
-use Rattle.sound_state.specs.Recalls.{IsSo, IsOwned, recalls_of, bound_for}
+use Rattle.sound_state.specs.Recalls.{IsSo, recalls_of, bound_for}
 use Rattle.sound_state.specs.Sound.{IsSoundWithoutCounts, IsSoundWith}
 use Rattle.sound_state.specs.Superblocks.{is_bound}
-use Rattle.sound_state.proofs.shared.PointLemmas.{so-at, fits-at}
-use Rattle.sound_state.proofs.quiet.QuietExchanges.{take_credit-lost, install_credits-lost}
+use Rattle.sound_state.proofs.shared.PointLemmas.{alike-goes, fits-at, fits-now, so-at}
+use Rattle.sound_state.proofs.quiet.QuietExchanges.{lost-at}
+use Rattle.sound_state.proofs.quiet.QuietSteps.{leads-on}
 use Rattle.sound_state.proofs.shared.CreditLemmas.{actives-written, active-bound, word-keeps-away, won-at}
 
 -- the numbers of an active word fit, and it says them
@@ -120,27 +119,15 @@ take_credit-last g s who s' seat d o sound has at is step =
         waits = λ e. grind (arith);
         ways = λ e. grind (arith);
         places = λ e. rw (null, held) (grind (arith));
-        frames = refl;
+        frames = λ f. refl;
         stock = λ class. rw (null-none, some) (grind (arith));
       };
       goes = λ l old.
           let old_fit = credit-held g s l who seat d 0 o sound.checked old has at is in
-          record {
-            kept =
-                All-cons (λ (k : Kept). IsKeptAs s k.status k.desc k.class) (record { desc = d; class = seat.class; status = reserving }) []
-                old_fit.3 (All-nil _);
-            so = All-cons (IsSo g s l who) (bound_for d seat.class) [] (old_fit.4, old_fit.3.class) (All-nil (IsSo g s l who));
-            hazard = subst (λ r. IsHazard (holds_of r).hazard (s.word (name.Hazard who))) at (old.guarded.words who has);
-            guard = λ d word guard. guard;
-            pushed = refl;
-            passed = refl;
-            unread = refl;
-            spare = refl;
-            hands = All-nil _;
-            frees = All-nil _;
-            excepts = λ place x. x;
-            turn = grind (arith);
-          };
+          alike-goes g s l who p _ old has at (grind (arith))
+          (All-cons (λ (k : Kept). IsKeptAs s k.status k.desc k.class) (record { desc = d; class = seat.class; status = reserving }) []
+          old_fit.3 (All-nil _))
+          (All-cons (IsSo g s l who) (bound_for d seat.class) [] (old_fit.4, old_fit.3.class) (All-nil (IsSo g s l who)));
       actives = λ l old words' w.
           actives-written g s l (heap_of seat) seat.class (active_word Null) words' old.kept w (rw null refl)
           (λ e credits says. absurd (let bad : Some Null ≡ Some (Held e credits) = sym null ∙ says in cc));
@@ -178,25 +165,13 @@ take_credit-more g s who s' seat d credits o sound has at is some_left step =
         waits = λ e. refl;
         ways = λ e. refl;
         places = λ e. rw (less, held) (grind (arith, one));
-        frames = refl;
+        frames = λ f. refl;
         stock = λ class. rw (some_less, some) (grind (arith));
       };
       goes = λ l old.
           let old_fit = credit-held g s l who seat d credits o sound.checked old has at is in
-          record {
-            kept = All-nil _;
-            so = All-cons (IsSo g s l who) (bound_for d seat.class) [] (old_fit.4, old_fit.3.class) (All-nil (IsSo g s l who));
-            hazard = subst (λ r. IsHazard (holds_of r).hazard (s.word (name.Hazard who))) at (old.guarded.words who has);
-            guard = λ d word guard. guard;
-            pushed = refl;
-            passed = refl;
-            unread = refl;
-            spare = refl;
-            hands = All-nil _;
-            frees = All-nil _;
-            excepts = λ place x. x;
-            turn = grind (arith);
-          };
+          alike-goes g s l who p _ old has at (grind (arith)) (All-nil _)
+          (All-cons (IsSo g s l who) (bound_for d seat.class) [] (old_fit.4, old_fit.3.class) (All-nil (IsSo g s l who)));
       actives = λ l old words' w.
           let old_fit = credit-held g s l who seat d credits o sound.checked old has at is in
           actives-written g s l (heap_of seat) seat.class (active_word (Held d left)) words' old.kept w (rw less refl)
@@ -207,7 +182,7 @@ take_credit-more g s who s' seat d credits o sound has at is some_left step =
     is step
 
 -- a credit is taken
-pub take_credit-won :
+take_credit-won :
     (g : Geometry) (s : State) (who : ℕ) (s' : State) (seat : SeatFields) (d credits : ℕ) (o : Onward) → IsSoundWithoutCounts g s → who < g.callers
     → (s.errand who).point ≡ Block (block.TakeCredit seat d credits) o → s.word (active_name seat) ≡ active_word (Held d credits)
     → Step s who s' → IsSoundWithoutCounts g s'
@@ -217,14 +192,17 @@ take_credit-won g s who s' seat d (suc left) o sound has at is step = take_credi
 pub take_credit-sound :
     (g : Geometry) (s : State) (who : ℕ) (s' : State) (seat : SeatFields) (d credits : ℕ) (o : Onward) → IsSoundWithoutCounts g s → who < g.callers
     → (s.errand who).point ≡ Block (block.TakeCredit seat d credits) o → Step s who s' → IsSoundWithoutCounts g s'
+unfolding plan_point_of next_of event_of holds_of recalls_of
 take_credit-sound g s who s' seat d credits o sound has at step =
     elim (cases_eq (s.word (active_name seat)) (active_word (Held d credits))) [
       | inl is ↦ take_credit-won g s who s' seat d credits o sound has at is step
-      | inr other ↦ take_credit-lost g s who s' seat d credits o sound has at other step
+      | inr other ↦
+          lost-at g s who s' (Block (block.TakeCredit seat d credits) o) (active_name seat) _ _ sound has at refl refl
+          (leads-on g s who _ _ 0 has at (grind (arith))) other step
     ]
 
 -- reserved blocks are offered: they and the descriptor go into the word
-pub install_credits-won :
+install_credits-won :
     (g : Geometry) (s : State) (who : ℕ) (s' : State) (site : Site) (i more : ℕ) (o : Onward) → IsSoundWithoutCounts g s → who < g.callers
     → (s.errand who).point ≡ Block (block.InstallCredits site i more) o → s.word (active_name site.seat) ≡ active_word Null → Step s who s'
     → IsSoundWithoutCounts g s'
@@ -232,7 +210,7 @@ unfolding plan_point_of next_of event_of holds_of recalls_of
 install_credits-won g s who s' site i more o sound has at is step =
     let p : Point = Block (block.InstallCredits site i more) o in
     let d : ℕ = site.desc in
-    let fit = (fits-at g s sound.parts.0 who p sound.parts.1 has at).point in
+    let fit = (fits-now g s who p sound has at).point in
     let word : IsActiveWord (Held d (more - 1)) = held-fits g d (more - 1) sound.checked fit.0.site.desc (omega (arith, fit.1.0, fit.1.1)) in
     let some_more : more ≡ more - 1 + 1 = omega (arith, fit.1.0) in
     let null = null-said in
@@ -251,23 +229,10 @@ install_credits-won g s who s' site i more o sound has at is step =
         waits = λ e. grind (arith);
         ways = λ e. grind (arith);
         places = λ e. rw (null, held) (grind (arith));
-        frames = refl;
+        frames = λ f. refl;
         stock = λ class. rw (null-none, some) (grind (arith));
       };
-      goes = λ l old. record {
-        kept = All-nil _;
-        so = so-at g s l who p old has at;
-        hazard = subst (λ r. IsHazard (holds_of r).hazard (s.word (name.Hazard who))) at (old.guarded.words who has);
-        guard = λ d word guard. guard;
-        pushed = refl;
-        passed = refl;
-        unread = refl;
-        spare = refl;
-        hands = subst (λ r. All (λ b. IsOwned s who b.place b.need) (holds_of r).hands) at (old.tied.hands who has);
-        frees = All-nil _;
-        excepts = λ place x. x;
-        turn = grind (arith);
-      };
+      goes = λ l old. alike-goes g s l who p _ old has at (grind (arith)) (All-nil _) (so-at g s l who p old has at);
       actives = λ l old words' w.
           let kept : IsActive s d site.seat.class =
           All-head (λ (k : Kept). IsKeptAs s k.status k.desc k.class) (record { desc = d; class = site.seat.class; status = reserving }) []
@@ -282,8 +247,11 @@ install_credits-won g s who s' site i more o sound has at is step =
 pub install_credits-sound :
     (g : Geometry) (s : State) (who : ℕ) (s' : State) (site : Site) (i more : ℕ) (o : Onward) → IsSoundWithoutCounts g s → who < g.callers
     → (s.errand who).point ≡ Block (block.InstallCredits site i more) o → Step s who s' → IsSoundWithoutCounts g s'
+unfolding plan_point_of next_of event_of holds_of recalls_of
 install_credits-sound g s who s' site i more o sound has at step =
     elim (cases_eq (s.word (active_name site.seat)) (active_word Null)) [
       | inl is ↦ install_credits-won g s who s' site i more o sound has at is step
-      | inr other ↦ install_credits-lost g s who s' site i more o sound has at other step
+      | inr other ↦
+          lost-at g s who s' (Block (block.InstallCredits site i more) o) (active_name site.seat) _ _ sound has at refl refl
+          (leads-on g s who _ _ 0 has at (grind (arith))) other step
     ]

@@ -1,6 +1,5 @@
 -- Quiet steps that end a call: a read, and exchanges on a shelf that are lost.
-use Rattle.std.proofs.Common.{ℕ, ◌≡◌, ◌≢◌, ◌<◌, refl, arith}
-use Rattle.std.proofs.lemmas.Bool.{ne_eqb}
+use Rattle.std.proofs.Common.{ℕ, ◌≡◌, ◌≢◌, ◌<◌, refl, arith, sym, subst}
 use Rattle.heap_geometry.specs.declared.geometry.Geometry.{Geometry}
 use Rattle.heap_geometry.specs.declared.need.Need.{Need}
 use Rattle.packed_words.specs.Head.{HeadFields, head_of}
@@ -15,7 +14,7 @@ use Rattle.stack_parts.specs.Points.{after_top}
 use Rattle.large_parts.specs.declared.point.LargePoint.TheVariants as large
 use Rattle.errand_steps.specs.declared.onward.Onward.{Onward}
 use Rattle.errand_steps.specs.declared.onward.Onward.TheVariants as onward
-use Rattle.errand_steps.specs.declared.point.Point.TheVariants.{Stack, Large, Idle}
+use Rattle.errand_steps.specs.declared.point.Point.TheVariants.{Stack, Large}
 use Rattle.errand_steps.specs.declared.reply.Reply.TheVariants as reply
 use Rattle.errand_steps.specs.Events.{event_of}
 use Rattle.errand_steps.specs.declared.next.Next.TheVariants.{End}
@@ -24,69 +23,45 @@ use Rattle.errand_steps.specs.Points.{plan_point_of}
 use Rattle.errand_steps.specs.Steps.{State, Step}
 use Rattle.sound_state.specs.Holdings.{holds_of}
 use Rattle.sound_state.specs.Sound.{IsSoundWithoutCounts}
-use Rattle.sound_state.proofs.quiet.QuietLemmas.{HoldsSame, quiet-end}
-
--- at the read of a usable word, and at a shelf, a caller holds nothing
-read-holds : (place i : ℕ) (o : Onward) → HoldsSame (Large (large.LoadWord place i) o) Idle
-unfolding holds_of
-read-holds place i o = grind (arith)
-
-put-holds : (k place : ℕ) (n : Need) (o : Onward) → HoldsSame (Large (large.PutBlock k place n) o) Idle
-unfolding holds_of
-put-holds k place n o = grind (arith)
-
-take-holds : (k place : ℕ) (n : Need) (o : Onward) → HoldsSame (Large (large.TakeBlock k place n) o) Idle
-unfolding holds_of
-take-holds k place n o = grind (arith)
-
-none-holds : (k : ℕ) (o : Onward) → HoldsSame (Large (large.ConfirmNothing k) o) Idle
-unfolding holds_of
-none-holds k o = grind (arith)
+use Rattle.sound_state.proofs.quiet.QuietExchanges.{lost-at}
+use Rattle.sound_state.proofs.quiet.QuietSteps.{LeadsQuietly, ends-quietly, quiet-at}
 
 -- a read
 pub load_word-sound :
     (g : Geometry) (s : State) (who : ℕ) (s' : State) (place i : ℕ) (o : Onward) → IsSoundWithoutCounts g s → who < g.callers
     → (s.errand who).point ≡ Large (large.LoadWord place i) o → Step s who s' → IsSoundWithoutCounts g s'
-unfolding plan_point_of next_of event_of
+unfolding plan_point_of next_of event_of holds_of
 load_word-sound g s who s' place i o sound has at step =
-    quiet-end g s who s' (Large (large.LoadWord place i) o) _ sound has at
-    (record { next = refl; event = refl; cleared = refl; word = refl; holds = read-holds place i o }) step
+    quiet-at g s who s' (Large (large.LoadWord place i) o) sound has at (record { event = refl; cleared = refl; word = refl })
+    (ends-quietly g s who _ _ (grind (arith))) step
 
 -- a put that finds a block
 pub put_block_lost-sound :
     (g : Geometry) (s : State) (who : ℕ) (s' : State) (k place : ℕ) (n : Need) (o : Onward) → IsSoundWithoutCounts g s → who < g.callers
     → (s.errand who).point ≡ Large (large.PutBlock k place n) o → s.word (name.Shelf k) ≢ shelf_word Nothing → Step s who s' → IsSoundWithoutCounts g s'
-unfolding plan_point_of next_of event_of
+unfolding plan_point_of next_of event_of holds_of
 put_block_lost-sound g s who s' k place n o sound has at lost step =
-    let differs = ne_eqb (s.word (name.Shelf k)) (shelf_word Nothing) lost in
-    quiet-end g s who s' (Large (large.PutBlock k place n) o) (reply.Full (s.word (name.Shelf k))) sound has at
-    (record { next = rw differs refl; event = rw differs refl; cleared = refl; word = rw differs refl; holds = put-holds k place n o }) step
+    lost-at g s who s' (Large (large.PutBlock k place n) o) (name.Shelf k) _ _ sound has at refl refl
+    (ends-quietly g s who _ _ (grind (arith))) lost step
 
 -- a take whose block is gone
 pub take_block_lost-sound :
     (g : Geometry) (s : State) (who : ℕ) (s' : State) (k place : ℕ) (n : Need) (o : Onward) → IsSoundWithoutCounts g s → who < g.callers
     → (s.errand who).point ≡ Large (large.TakeBlock k place n) o → s.word (name.Shelf k) ≢ shelf_word (Block place n) → Step s who s'
     → IsSoundWithoutCounts g s'
-unfolding plan_point_of next_of event_of
+unfolding plan_point_of next_of event_of holds_of
 take_block_lost-sound g s who s' k place n o sound has at lost step =
-    let differs = ne_eqb (s.word (name.Shelf k)) (shelf_word (Block place n)) lost in
-    quiet-end g s who s' (Large (large.TakeBlock k place n) o) (reply.Missed (shelf_word (Block place n)) (s.word (name.Shelf k))) sound has at
-    (record { next = rw differs refl; event = rw differs refl; cleared = refl; word = rw differs refl; holds = take-holds k place n o }) step
+    lost-at g s who s' (Large (large.TakeBlock k place n) o) (name.Shelf k) _ _ sound has at refl refl
+    (ends-quietly g s who _ _ (grind (arith))) lost step
 
 -- a take that found nothing, where a block lies now
 pub confirm_nothing_lost-sound :
     (g : Geometry) (s : State) (who : ℕ) (s' : State) (k : ℕ) (o : Onward) → IsSoundWithoutCounts g s → who < g.callers
     → (s.errand who).point ≡ Large (large.ConfirmNothing k) o → s.word (name.Shelf k) ≢ shelf_word Nothing → Step s who s' → IsSoundWithoutCounts g s'
-unfolding plan_point_of next_of event_of
+unfolding plan_point_of next_of event_of holds_of
 confirm_nothing_lost-sound g s who s' k o sound has at lost step =
-    let differs = ne_eqb (s.word (name.Shelf k)) (shelf_word Nothing) lost in
-    quiet-end g s who s' (Large (large.ConfirmNothing k) o) (reply.Missed (shelf_word Nothing) (s.word (name.Shelf k))) sound has at
-    (record { next = rw differs refl; event = rw differs refl; cleared = refl; word = rw differs refl; holds = none-holds k o }) step
-
--- a free that clears the list finds it empty
-clear-holds : (seat : SeatFields) (pile : Pile) → HoldsSame (Stack (stack.LoadTop seat pile) onward.Clear) Idle
-unfolding holds_of
-clear-holds seat pile = grind (arith)
+    lost-at g s who s' (Large (large.ConfirmNothing k) o) (name.Shelf k) _ _ sound has at refl refl
+    (ends-quietly g s who _ _ (grind (arith))) lost step
 
 clear-ends :
     (seat : SeatFields) (pile : Pile) (h : HeadFields) → h.top ≡ 0 → enter_stack (after_top seat pile h) onward.Clear ≡ End reply.Freed
@@ -96,14 +71,9 @@ pub clear_ends-sound :
     (g : Geometry) (s : State) (who : ℕ) (s' : State) (seat : SeatFields) (pile : Pile) → IsSoundWithoutCounts g s → who < g.callers
     → (s.errand who).point ≡ Stack (stack.LoadTop seat pile) onward.Clear → (head_of (s.word (head_name seat pile))).top ≡ 0 → Step s who s'
     → IsSoundWithoutCounts g s'
-unfolding plan_point_of next_of event_of
+unfolding plan_point_of next_of event_of holds_of
 clear_ends-sound g s who s' seat pile sound has at empty step =
-    quiet-end g s who s' (Stack (stack.LoadTop seat pile) onward.Clear) reply.Freed sound has at
-    (record {
-      next = clear-ends seat pile (head_of (s.word (head_name seat pile))) empty;
-      event = refl;
-      cleared = refl;
-      word = refl;
-      holds = clear-holds seat pile;
-    })
-    step
+    let h = head_of (s.word (head_name seat pile)) in
+    quiet-at g s who s' (Stack (stack.LoadTop seat pile) onward.Clear) sound has at (record { event = refl; cleared = refl; word = refl })
+    (subst (LeadsQuietly g s who (Stack (stack.LoadTop seat pile) onward.Clear)) (sym (clear-ends seat pile h empty))
+    (ends-quietly g s who _ reply.Freed (grind (arith)))) step

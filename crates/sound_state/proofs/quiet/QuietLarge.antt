@@ -1,8 +1,5 @@
 -- Quiet steps at a large block or a shelf: loads, and an exchange that is lost.
-use Rattle.std.proofs.Common.{ℕ, Option, Some, None, ◌≡◌, ◌≢◌, ◌<◌, [], refl, arith, sym, subst}
-use Rattle.std.specs.Prelude.{All}
-use Rattle.std.proofs.lemmas.Bool.{ne_eqb}
-use Rattle.std.proofs.lemmas.List.Elements.{All-nil}
+use Rattle.std.proofs.Common.{ℕ, Option, Some, None, ◌≡◌, ◌≢◌, ◌<◌, refl, arith}
 use Rattle.heap_geometry.specs.declared.geometry.Geometry.{Geometry}
 use Rattle.packed_words.specs.declared.prefix.Prefix.{Prefix}
 use Rattle.packed_words.specs.declared.prefix.Prefix.TheVariants as prefix
@@ -15,76 +12,39 @@ use Rattle.large_parts.specs.declared.point.LargePoint.TheVariants as large
 use Rattle.large_parts.specs.Points.{after_run_prefix, after_shelf}
 use Rattle.large_parts.specs.Runs.{WantFields, RunFields}
 use Rattle.errand_steps.specs.declared.onward.Onward.{Onward}
-use Rattle.errand_steps.specs.declared.next.Next.{Next}
-use Rattle.errand_steps.specs.declared.next.Next.TheVariants.{At}
-use Rattle.errand_steps.specs.declared.point.Point.{Point}
 use Rattle.errand_steps.specs.declared.point.Point.TheVariants.{Large}
-use Rattle.errand_steps.specs.Errands.{point_after}
 use Rattle.errand_steps.specs.Events.{event_of}
 use Rattle.errand_steps.specs.Nexts.{next_of, enter_large}
 use Rattle.errand_steps.specs.Points.{plan_point_of}
 use Rattle.errand_steps.specs.Steps.{State, Step}
 use Rattle.sound_state.specs.Holdings.{holds_of}
-use Rattle.sound_state.specs.Recalls.{IsSo, recalls_of}
+use Rattle.sound_state.specs.Recalls.{recalls_of}
 use Rattle.sound_state.specs.Sound.{IsSoundWithoutCounts}
-use Rattle.sound_state.proofs.quiet.QuietLemmas.{HoldsSame, quiet-at}
-
--- a step that leads to a point at which nothing is remembered
-record LeadsOn (p : Point) (n : Next) : Type 0 where
-  next : n ≡ At (point_after n)
-  holds : HoldsSame p (point_after n)
-  recalls : recalls_of (point_after n) ≡ []
+use Rattle.sound_state.proofs.quiet.QuietExchanges.{lost-at}
+use Rattle.sound_state.proofs.quiet.QuietSteps.{LeadsOn, leads-on, quiet-at}
 
 -- the units are read
-units-lead : (w : WantFields) (bits : ℕ) (o : Onward) → LeadsOn (Large (large.LoadUnits w) o) (At (Large (large.TakeRun w bits) o))
-unfolding holds_of recalls_of
-units-lead w bits o = grind (arith)
-
 pub load_units-sound :
     (g : Geometry) (s : State) (who : ℕ) (s' : State) (w : WantFields) (o : Onward) → IsSoundWithoutCounts g s → who < g.callers
     → (s.errand who).point ≡ Large (large.LoadUnits w) o → Step s who s' → IsSoundWithoutCounts g s'
-unfolding plan_point_of next_of event_of
+unfolding plan_point_of next_of event_of holds_of recalls_of
 load_units-sound g s who s' w o sound has at step =
-    let leads = units-lead w (s.word name.Units) o in
-    quiet-at g s who s' (Large (large.LoadUnits w) o) (Large (large.TakeRun w (s.word name.Units)) o) sound has at
-    (record {
-      next = leads.next;
-      event = refl;
-      cleared = refl;
-      word = refl;
-      holds = leads.holds;
-      so = λ l old. subst (All (IsSo g s l who)) (sym leads.recalls) (All-nil (IsSo g s l who));
-    })
-    step
+    quiet-at g s who s' (Large (large.LoadUnits w) o) sound has at (record { event = refl; cleared = refl; word = refl })
+    (leads-on g s who _ _ 0 has at (grind (arith))) step
 
 -- a run that isn't free any more: the units are read again
-lost-leads :
-    (w : WantFields) (bits : ℕ) (o : Onward) → LeadsOn (Large (large.TakeRun w bits) o) (At (Large (large.LoadUnits w) o))
-unfolding holds_of recalls_of
-lost-leads w bits o = grind (arith)
-
 pub take_run_lost-sound :
     (g : Geometry) (s : State) (who : ℕ) (s' : State) (w : WantFields) (bits : ℕ) (o : Onward) → IsSoundWithoutCounts g s → who < g.callers
     → (s.errand who).point ≡ Large (large.TakeRun w bits) o → s.word name.Units ≢ bits → Step s who s' → IsSoundWithoutCounts g s'
-unfolding plan_point_of next_of event_of
+unfolding plan_point_of next_of event_of holds_of recalls_of
 take_run_lost-sound g s who s' w bits o sound has at lost step =
-    let leads = lost-leads w bits o in
-    let differs = ne_eqb (s.word name.Units) bits lost in
-    quiet-at g s who s' (Large (large.TakeRun w bits) o) (Large (large.LoadUnits w) o) sound has at
-    (record {
-      next = rw differs refl;
-      event = rw differs refl;
-      cleared = refl;
-      word = rw differs refl;
-      holds = leads.holds;
-      so = λ l old. subst (All (IsSo g s l who)) (sym leads.recalls) (All-nil (IsSo g s l who));
-    })
-    step
+    lost-at g s who s' (Large (large.TakeRun w bits) o) name.Units bits _ sound has at refl refl
+    (leads-on g s who _ _ 0 has at (grind (arith))) lost step
 
 -- the prefix word of a freed run is read
 prefix-leads :
     (place : ℕ) (run : RunFields) (o : Onward) (found : Option Prefix)
-    → LeadsOn (Large (large.LoadRunPrefix place run) o) (enter_large (after_run_prefix place run found) o)
+    → LeadsOn (Large (large.LoadRunPrefix place run) o) (enter_large (after_run_prefix place run found) o) 0
 unfolding holds_of recalls_of
 prefix-leads place run o None = grind (arith)
 prefix-leads place run o (Some (prefix.Small d)) = grind (arith)
@@ -95,22 +55,13 @@ pub load_run_prefix-sound :
     → (s.errand who).point ≡ Large (large.LoadRunPrefix place run) o → Step s who s' → IsSoundWithoutCounts g s'
 unfolding plan_point_of next_of event_of
 load_run_prefix-sound g s who s' place run o sound has at step =
-    let leads = prefix-leads place run o (prefix_of (s.word (name.Arena place))) in
-    quiet-at g s who s' (Large (large.LoadRunPrefix place run) o) _ sound has at
-    (record {
-      next = leads.next;
-      event = refl;
-      cleared = refl;
-      word = refl;
-      holds = leads.holds;
-      so = λ l old. subst (All (IsSo g s l who)) (sym leads.recalls) (All-nil (IsSo g s l who));
-    })
-    step
+    quiet-at g s who s' (Large (large.LoadRunPrefix place run) o) sound has at (record { event = refl; cleared = refl; word = refl })
+    (leads-on g s who _ _ 0 has at (prefix-leads place run o (prefix_of (s.word (name.Arena place))))) step
 
 -- a shelf is looked at
 shelf-leads :
     (k : ℕ) (o : Onward) (found : Option ShelfWord)
-    → LeadsOn (Large (large.LoadShelf k) o) (enter_large (after_shelf k found) o)
+    → LeadsOn (Large (large.LoadShelf k) o) (enter_large (after_shelf k found) o) 0
 unfolding holds_of recalls_of
 shelf-leads k o None = grind (arith)
 shelf-leads k o (Some shelf.Nothing) = grind (arith)
@@ -121,14 +72,5 @@ pub load_shelf-sound :
     → (s.errand who).point ≡ Large (large.LoadShelf k) o → Step s who s' → IsSoundWithoutCounts g s'
 unfolding plan_point_of next_of event_of
 load_shelf-sound g s who s' k o sound has at step =
-    let leads = shelf-leads k o (shelf_of (s.word (name.Shelf k))) in
-    quiet-at g s who s' (Large (large.LoadShelf k) o) _ sound has at
-    (record {
-      next = leads.next;
-      event = refl;
-      cleared = refl;
-      word = refl;
-      holds = leads.holds;
-      so = λ l old. subst (All (IsSo g s l who)) (sym leads.recalls) (All-nil (IsSo g s l who));
-    })
-    step
+    quiet-at g s who s' (Large (large.LoadShelf k) o) sound has at (record { event = refl; cleared = refl; word = refl })
+    (leads-on g s who _ _ 0 has at (shelf-leads k o (shelf_of (s.word (name.Shelf k))))) step

@@ -11,12 +11,13 @@ use Rattle.superblock_parts.specs.Chains.{occurs, chain_of, prefix_name}
 use Rattle.superblock_parts.specs.declared.point.BlockPoint.TheVariants as block
 use Rattle.superblock_parts.specs.declared.point.Share.{Share}
 use Rattle.superblock_parts.specs.declared.point.Share.TheVariants.{Credit, LastCredit, Grant}
+use Rattle.superblock_parts.specs.Points.{after_info, after_anchor, after_return_anchor}
 use Rattle.superblock_parts.proofs.ChainLemmas.{chain_of-first, occurs-here}
 use Rattle.errand_steps.specs.declared.onward.Onward.{Onward}
 use Rattle.errand_steps.specs.declared.point.Point.{Point}
 use Rattle.errand_steps.specs.declared.point.Point.TheVariants.{Block}
 use Rattle.errand_steps.specs.Events.{event_of}
-use Rattle.errand_steps.specs.Nexts.{next_of}
+use Rattle.errand_steps.specs.Nexts.{next_of, enter_block}
 use Rattle.errand_steps.specs.Points.{plan_point_of}
 use Rattle.errand_steps.specs.Steps.{State, Step}
 use Rattle.sound_state.specs.Holdings.{holds_of, before_pop}
@@ -25,53 +26,39 @@ use Rattle.sound_state.specs.Sound.{IsSoundWithoutCounts}
 use Rattle.sound_state.specs.Sums.{callers_sum}
 use Rattle.sound_state.specs.Superblocks.{info_for, info_or_zero, anchor_for, superblock_of, free_chain, reserved_of, reserved_among, errand_reserves}
 use Rattle.sound_state.proofs.shared.PointLemmas.{so-at}
-use Rattle.sound_state.proofs.quiet.QuietLemmas.{quiet-at}
+use Rattle.sound_state.proofs.quiet.QuietSteps.{LeadsOn, LeadsQuietly, leads-on, quiet-at}
 use Rattle.sound_state.proofs.shared.SumLemmas.{term-sum}
 
--- an info that the heap has is what its word says
-info-said : (g : Geometry) (o : Option InfoFields) (info : InfoFields) → info_within g o ≡ Some info → o ≡ Some info
-info-said g None info is = is
-info-said g (Some i) info is = grind (arith, is)
+-- a descriptor's word that the heap has is what it says
+pub info-said : (g : Geometry) (o : Option InfoFields) (info : InfoFields) → info_within g o ≡ Some info → info_or_zero o ≡ info
+info-said g None info is = grind (arith)
+info-said g (Some i) info is = grind (arith)
 
--- the load of a descriptor's word, by what it says
+-- where a descriptor's word leads, by what it says
 info-leads :
-    (g : Geometry) (s : State) (who : ℕ) (s' : State) (seat : SeatFields) (d : ℕ) (share : Share) (o : Onward) (said : Option InfoFields)
-    → IsSoundWithoutCounts g s → who < g.callers → (s.errand who).point ≡ Block (block.LoadInfo seat d share) o
-    → info_in seat.geometry (s.word (name.Info d)) ≡ said → Step s who s' → IsSoundWithoutCounts g s'
-unfolding plan_point_of next_of event_of holds_of recalls_of
-info-leads g s who s' seat d share o None sound has at is step =
-    quiet-at g s who s' (Block (block.LoadInfo seat d share) o) (Block (block.LoadInfo seat d share) o) sound has at
-    (record {
-      next = rw is refl;
-      event = refl;
-      cleared = refl;
-      word = refl;
-      holds = grind (arith);
-      so = λ l old. so-at g s l who (Block (block.LoadInfo seat d share) o) old has at;
-    })
-    step
-info-leads g s who s' seat d share o (Some info) sound has at is step =
-    let says : info_for s d ≡ info = ap info_or_zero (info-said seat.geometry (info_of (s.word (name.Info d))) info is) in
-    quiet-at g s who s' (Block (block.LoadInfo seat d share) o)
-    (Block (block.LoadAnchor (record { seat = seat; desc = d; frame = info.frame }) share) o) sound has at
-    (record {
-      next = rw is refl;
-      event = refl;
-      cleared = refl;
-      word = refl;
-      holds = grind (arith);
-      so = λ l old.
-          let bound = All-head (IsSo g s l who) (bound_for d seat.class) [] (so-at g s l who (Block (block.LoadInfo seat d share) o) old has at) in
-          All-cons (IsSo g s l who) (bound_at d info.frame seat.class) []
-          (bound.0, record { frame = ap (λ (x : InfoFields). x.frame) says; class = bound.1 }) (All-nil (IsSo g s l who));
-    })
-    step
+    (g : Geometry) (s : State) (who : ℕ) (seat : SeatFields) (d : ℕ) (share : Share) (o : Onward) (said : Option InfoFields) → who < g.callers
+    → (s.errand who).point ≡ Block (block.LoadInfo seat d share) o → info_in seat.geometry (s.word (name.Info d)) ≡ said
+    → LeadsQuietly g s who (Block (block.LoadInfo seat d share) o) (enter_block (after_info seat d share said) o)
+unfolding holds_of recalls_of
+info-leads g s who seat d share o None has at is = leads-on g s who _ _ 0 has at (grind (arith))
+info-leads g s who seat d share o (Some info) has at is = record {
+  plain = tt;
+  holds = grind (arith);
+  so = λ l old.
+      let says : info_for s d ≡ info = info-said seat.geometry (info_of (s.word (name.Info d))) info is in
+      let bound = All-head (IsSo g s l who) (bound_for d seat.class) [] (so-at g s l who (Block (block.LoadInfo seat d share) o) old has at) in
+      All-cons (IsSo g s l who) (bound_at d info.frame seat.class) []
+      (bound.0, record { frame = ap (λ (x : InfoFields). x.frame) says; class = bound.1 }) (All-nil (IsSo g s l who));
+}
 
+-- the load of a descriptor's word
 pub load_info-sound :
     (g : Geometry) (s : State) (who : ℕ) (s' : State) (seat : SeatFields) (d : ℕ) (share : Share) (o : Onward) → IsSoundWithoutCounts g s
     → who < g.callers → (s.errand who).point ≡ Block (block.LoadInfo seat d share) o → Step s who s' → IsSoundWithoutCounts g s'
+unfolding plan_point_of next_of event_of
 load_info-sound g s who s' seat d share o sound has at step =
-    info-leads g s who s' seat d share o (info_in seat.geometry (s.word (name.Info d))) sound has at refl step
+    quiet-at g s who s' (Block (block.LoadInfo seat d share) o) sound has at (record { event = refl; cleared = refl; word = refl })
+    (info-leads g s who seat d share o (info_in seat.geometry (s.word (name.Info d))) has at refl) step
 
 -- who is about to pop has reserved a block
 before-reserves : (d class : ℕ) (share : Share) → 0 < reserved_among d (before_pop d class share).credits
@@ -101,46 +88,33 @@ chain-first g s d some =
 pub anchor-said : (class word : ℕ) (a : AnchorFields) → anchor_in class word ≡ Some a → a ≡ anchor_of word
 anchor-said class word a is = grind (arith, is)
 
--- the load of an anchor for a pop, by what it says
+-- where an anchor leads that is read for a pop, by what it says
 anchor-leads :
-    (g : Geometry) (s : State) (who : ℕ) (s' : State) (site : Site) (share : Share) (o : Onward) (said : Option AnchorFields) → IsSoundWithoutCounts g s
-    → who < g.callers → (s.errand who).point ≡ Block (block.LoadAnchor site share) o
-    → anchor_in site.seat.class (s.word (name.Anchor site.desc)) ≡ said → Step s who s' → IsSoundWithoutCounts g s'
-unfolding plan_point_of next_of event_of holds_of recalls_of
-anchor-leads g s who s' site share o None sound has at is step =
-    quiet-at g s who s' (Block (block.LoadAnchor site share) o) (Block (block.LoadAnchor site share) o) sound has at
-    (record {
-      next = rw is refl;
-      event = refl;
-      cleared = refl;
-      word = refl;
-      holds = grind (arith);
-      so = λ l old. so-at g s l who (Block (block.LoadAnchor site share) o) old has at;
-    })
-    step
-anchor-leads g s who s' site share o (Some a) sound has at is step =
-    let says : a ≡ anchor_for s site.desc = anchor-said site.seat.class (s.word (name.Anchor site.desc)) a is in
-    quiet-at g s who s' (Block (block.LoadAnchor site share) o) (Block (block.LoadLink site share a) o) sound has at
-    (record {
-      next = rw is refl;
-      event = refl;
-      cleared = refl;
-      word = refl;
-      holds = grind (arith);
-      so = λ l old.
-          let some : 0 < reserved_of g s site.desc =
-          caller-reserves g s who site.desc (Block (block.LoadAnchor site share) o) has at (before-reserves site.desc site.seat.class share) in
-          All-cons (IsSo g s l who) (pops site.desc a) (bound_here site)
-          (subst (IsPopped (superblock_of g s site.desc)) (sym says) (record { tag = omega arith; first = λ same. chain-first g s site.desc some }))
-          (so-at g s l who (Block (block.LoadAnchor site share) o) old has at);
-    })
-    step
+    (g : Geometry) (s : State) (who : ℕ) (site : Site) (share : Share) (o : Onward) (said : Option AnchorFields) → who < g.callers
+    → (s.errand who).point ≡ Block (block.LoadAnchor site share) o → anchor_in site.seat.class (s.word (name.Anchor site.desc)) ≡ said
+    → LeadsQuietly g s who (Block (block.LoadAnchor site share) o) (enter_block (after_anchor site share said) o)
+unfolding holds_of recalls_of
+anchor-leads g s who site share o None has at is = leads-on g s who _ _ 0 has at (grind (arith))
+anchor-leads g s who site share o (Some a) has at is = record {
+  plain = tt;
+  holds = grind (arith);
+  so = λ l old.
+      let says : a ≡ anchor_for s site.desc = anchor-said site.seat.class (s.word (name.Anchor site.desc)) a is in
+      let some : 0 < reserved_of g s site.desc =
+      caller-reserves g s who site.desc (Block (block.LoadAnchor site share) o) has at (before-reserves site.desc site.seat.class share) in
+      All-cons (IsSo g s l who) (pops site.desc a) (bound_here site)
+      (subst (IsPopped (superblock_of g s site.desc)) (sym says) (record { tag = omega arith; first = λ same. chain-first g s site.desc some }))
+      (so-at g s l who (Block (block.LoadAnchor site share) o) old has at);
+}
 
+-- the load of an anchor for a pop
 pub load_anchor-sound :
     (g : Geometry) (s : State) (who : ℕ) (s' : State) (site : Site) (share : Share) (o : Onward) → IsSoundWithoutCounts g s → who < g.callers
     → (s.errand who).point ≡ Block (block.LoadAnchor site share) o → Step s who s' → IsSoundWithoutCounts g s'
+unfolding plan_point_of next_of event_of
 load_anchor-sound g s who s' site share o sound has at step =
-    anchor-leads g s who s' site share o (anchor_in site.seat.class (s.word (name.Anchor site.desc))) sound has at refl step
+    quiet-at g s who s' (Block (block.LoadAnchor site share) o) sound has at (record { event = refl; cleared = refl; word = refl })
+    (anchor-leads g s who site share o (anchor_in site.seat.class (s.word (name.Anchor site.desc))) has at refl) step
 
 -- the load of a link
 pub load_link-sound :
@@ -149,12 +123,9 @@ pub load_link-sound :
 unfolding plan_point_of next_of event_of holds_of recalls_of
 load_link-sound g s who s' site share a o sound has at step =
     let prefix : ℕ = s.word (prefix_name site.frame site.seat.class a.avail) in
-    quiet-at g s who s' (Block (block.LoadLink site share a) o) (Block (block.PopBlock site share a prefix) o) sound has at
+    quiet-at g s who s' (Block (block.LoadLink site share a) o) sound has at (record { event = refl; cleared = refl; word = refl })
     (record {
-      next = refl;
-      event = refl;
-      cleared = refl;
-      word = refl;
+      plain = tt;
       holds = grind (arith);
       so = λ l old.
           let all = so-at g s l who (Block (block.LoadLink site share a) o) old has at in
@@ -165,37 +136,19 @@ load_link-sound g s who s' site share a o sound has at step =
     })
     step
 
--- the load of an anchor for a return, by what it says
+-- where an anchor leads that is read for a return
 return_anchor-leads :
-    (g : Geometry) (s : State) (who : ℕ) (s' : State) (site : Site) (i more : ℕ) (o : Onward) (said : Option AnchorFields) → IsSoundWithoutCounts g s
-    → who < g.callers → (s.errand who).point ≡ Block (block.LoadReturn site i more) o
-    → anchor_in site.seat.class (s.word (name.Anchor site.desc)) ≡ said → Step s who s' → IsSoundWithoutCounts g s'
-unfolding plan_point_of next_of event_of holds_of recalls_of
-return_anchor-leads g s who s' site i more o None sound has at is step =
-    quiet-at g s who s' (Block (block.LoadReturn site i more) o) (Block (block.LoadReturn site i more) o) sound has at
-    (record {
-      next = rw is refl;
-      event = refl;
-      cleared = refl;
-      word = refl;
-      holds = grind (arith);
-      so = λ l old. so-at g s l who (Block (block.LoadReturn site i more) o) old has at;
-    })
-    step
-return_anchor-leads g s who s' site i more o (Some a) sound has at is step =
-    quiet-at g s who s' (Block (block.LoadReturn site i more) o) (Block (block.ReturnCredits site i more a) o) sound has at
-    (record {
-      next = rw is refl;
-      event = refl;
-      cleared = refl;
-      word = refl;
-      holds = grind (arith);
-      so = λ l old. so-at g s l who (Block (block.LoadReturn site i more) o) old has at;
-    })
-    step
+    (site : Site) (i more : ℕ) (o : Onward) (said : Option AnchorFields)
+    → LeadsOn (Block (block.LoadReturn site i more) o) (enter_block (after_return_anchor site i more said) o) 0
+unfolding holds_of recalls_of
+return_anchor-leads site i more o None = grind (arith)
+return_anchor-leads site i more o (Some a) = grind (arith)
 
+-- the load of an anchor for a return
 pub load_return-sound :
     (g : Geometry) (s : State) (who : ℕ) (s' : State) (site : Site) (i more : ℕ) (o : Onward) → IsSoundWithoutCounts g s → who < g.callers
     → (s.errand who).point ≡ Block (block.LoadReturn site i more) o → Step s who s' → IsSoundWithoutCounts g s'
+unfolding plan_point_of next_of event_of
 load_return-sound g s who s' site i more o sound has at step =
-    return_anchor-leads g s who s' site i more o (anchor_in site.seat.class (s.word (name.Anchor site.desc))) sound has at refl step
+    quiet-at g s who s' (Block (block.LoadReturn site i more) o) sound has at (record { event = refl; cleared = refl; word = refl })
+    (leads-on g s who _ _ 0 has at (return_anchor-leads site i more o (anchor_in site.seat.class (s.word (name.Anchor site.desc))))) step

@@ -1,7 +1,7 @@
 -- Loads on the way to a push: the prefix word, the anchor and the owner.
 use Rattle.std.proofs.Common.{ℕ, Bool, true, false, Option, Some, None, ◌≡◌, ◌<◌, ◌+◌, ◌*◌, ◌^◌, [], ◌∷◌, refl, arith, ap, sym, subst, inl, inr, ◌∙◌}
 use Rattle.std.specs.Prelude.{nat_lt, All, Any, IsTrue}
-use Rattle.std.proofs.lemmas.Bool.{cond-false, cases_Bool}
+use Rattle.std.proofs.lemmas.Bool.{cond_both}
 use Rattle.std.proofs.lemmas.List.Elements.{All-nil, All-cons, All-head}
 use Rattle.heap_geometry.specs.declared.geometry.Geometry.{Geometry}
 use Rattle.heap_geometry.specs.declared.need.Need.{Need}
@@ -18,7 +18,6 @@ use Rattle.packed_words.proofs.ExactLemmas.{reads}
 use Rattle.packed_words.proofs.PrefixLemmas.{prefix-exact}
 use Rattle.word_plan.specs.declared.name.WordName.TheVariants as name
 use Rattle.word_plan.specs.declared.seat.Site.{Site}
-use Rattle.word_plan.specs.Actions.{name_of, after_action}
 use Rattle.word_plan.specs.Counts.{descriptor_count}
 use Rattle.word_plan.specs.Seats.{SeatFields, info_in, anchor_in}
 use Rattle.pool_model.specs.declared.owner.Owner.{Owner}
@@ -26,110 +25,42 @@ use Rattle.pool_model.specs.declared.owner.Owner.TheVariants.{Caller, Shelf}
 use Rattle.pool_model.specs.Pool.{Block as Live, block_at, pool_of}
 use Rattle.superblock_parts.specs.Anchors.{is_last}
 use Rattle.superblock_parts.specs.declared.point.BlockPoint.TheVariants as block
-use Rattle.superblock_parts.specs.Points.{after_prefix}
+use Rattle.superblock_parts.specs.Points.{after_prefix, after_push_anchor, after_owner}
 use Rattle.errand_steps.specs.declared.onward.Onward.{Onward}
 use Rattle.errand_steps.specs.declared.point.Point.{Point}
 use Rattle.errand_steps.specs.declared.point.Point.TheVariants.{Block}
 use Rattle.errand_steps.specs.declared.next.Next.TheVariants.{At}
-use Rattle.errand_steps.specs.Errands.{counts_cleared}
 use Rattle.errand_steps.specs.Events.{event_of}
-use Rattle.errand_steps.specs.Nexts.{next_of}
+use Rattle.errand_steps.specs.Nexts.{next_of, enter_block}
 use Rattle.errand_steps.specs.Points.{plan_point_of}
 use Rattle.errand_steps.specs.Steps.{State, Step}
 use Rattle.sound_state.specs.Guards.{IsHazard, IsGuard}
-use Rattle.sound_state.specs.Holdings.{if_stored, Handed, Freed, Holding, holds_of, waiting, on_its_way}
+use Rattle.sound_state.specs.Holdings.{if_stored, Handed, Freed, Holding, holds_of}
 use Rattle.sound_state.specs.Lists.{Lists}
 use Rattle.sound_state.specs.Recalls.{IsSo, IsLocated, IsOwned, recalls_of, bound_at}
 use Rattle.sound_state.specs.Sound.{IsSoundWithoutCounts, IsSoundWith}
-use Rattle.sound_state.specs.Stock.{waits_in}
-use Rattle.sound_state.specs.Superblocks.{is_bound, kept_among}
+use Rattle.sound_state.specs.Superblocks.{is_bound}
 use Rattle.sound_state.specs.Ties.{IsExcepted, IsBlockOfDesc}
-use Rattle.superblock_parts.specs.Chains.{occurs}
-use Rattle.sound_state.proofs.shared.PointLemmas.{so-at, fits-at}
-use Rattle.sound_state.proofs.quiet.QuietLemmas.{actives-stay, words-stay, found_from, quiet-at}
-use Rattle.sound_state.proofs.shared.StepLemmas.{PointGoes, HoldsException, step-sound}
+use Rattle.sound_state.proofs.quiet.QuietSteps.{IsSteady, LeadsOn, leads-on, quiet-at, quiet-steady, steady-at}
+use Rattle.sound_state.proofs.shared.PointLemmas.{blocks-go, fits-at, hazard-at, so-at, weigh-stays}
+use Rattle.sound_state.proofs.shared.StepLemmas.{HoldsException}
 
--- the load of the owner, by what the descriptor's word says
+-- where the word of a guarded descriptor leads
 owner-leads :
-    (g : Geometry) (s : State) (who : ℕ) (s' : State) (site : Site) (i : ℕ) (a : AnchorFields) (o : Onward) (said : Option InfoFields)
-    → IsSoundWithoutCounts g s → who < g.callers → (s.errand who).point ≡ Block (block.LoadOwner site i a) o
-    → info_in site.seat.geometry (s.word (name.Info site.desc)) ≡ said → Step s who s' → IsSoundWithoutCounts g s'
-unfolding plan_point_of next_of event_of holds_of recalls_of
-owner-leads g s who s' site i a o None sound has at is step =
-    quiet-at g s who s' (Block (block.LoadOwner site i a) o) (Block (block.LoadOwner site i a) o) sound has at
-    (record {
-      next = rw is refl;
-      event = refl;
-      cleared = refl;
-      word = refl;
-      holds = grind (arith);
-      so = λ l old. so-at g s l who (Block (block.LoadOwner site i a) o) old has at;
-    })
-    step
-owner-leads g s who s' site i a o (Some info) sound has at is step =
-    quiet-at g s who s' (Block (block.LoadOwner site i a) o) (Block (block.StoreLink site i a true info.heap) o) sound has at
-    (record {
-      next = rw is refl;
-      event = refl;
-      cleared = refl;
-      word = refl;
-      holds = grind (arith);
-      so = λ l old. so-at g s l who (Block (block.LoadOwner site i a) o) old has at;
-    })
-    step
+    (site : Site) (i : ℕ) (a : AnchorFields) (o : Onward) (said : Option InfoFields)
+    → LeadsOn (Block (block.LoadOwner site i a) o) (enter_block (after_owner site i a said) o) 0
+unfolding holds_of recalls_of
+owner-leads site i a o None = grind (arith)
+owner-leads site i a o (Some info) = grind (arith)
 
+-- the load of the owner
 pub load_owner-sound :
     (g : Geometry) (s : State) (who : ℕ) (s' : State) (site : Site) (i : ℕ) (a : AnchorFields) (o : Onward) → IsSoundWithoutCounts g s
     → who < g.callers → (s.errand who).point ≡ Block (block.LoadOwner site i a) o → Step s who s' → IsSoundWithoutCounts g s'
+unfolding plan_point_of next_of event_of
 load_owner-sound g s who s' site i a o sound has at step =
-    owner-leads g s who s' site i a o (info_in site.seat.geometry (s.word (name.Info site.desc))) sound has at refl step
-
--- at the second point a caller weighs what it weighs at the first
-pub record WeighsSame (p q : Point) : Type 0 where
-  pub credits : (holds_of q).credits ≡ (holds_of p).credits
-  pub kept : (holds_of q).kept ≡ (holds_of p).kept
-  pub frames : (holds_of q).frames ≡ (holds_of p).frames
-  pub waits : (class : ℕ) → waits_in class q ≡ waits_in class p
-
--- a step that leaves its word and leads on, while what is weighed stays
-pub record IsSteadyAt (g : Geometry) (s : State) (who : ℕ) (p q : Point) : Type 0 where
-  pub next : next_of p (found_from s p) ≡ At q
-  pub event : event_of who p (found_from s p) ≡ None
-  pub cleared : counts_cleared p (found_from s p) ≡ false
-  pub word : after_action (plan_point_of p) (s.word (name_of (plan_point_of p))) ≡ s.word (name_of (plan_point_of p))
-  pub weighs : WeighsSame p q
-  pub goes : (l : Lists) → IsSoundWith g s l → PointGoes g s l who p q
-
-steady-sound :
-    (g : Geometry) (s : State) (who : ℕ) (s' : State) (q : Point) → IsSoundWithoutCounts g s → who < g.callers
-    → IsSteadyAt g s who (s.errand who).point q → Step s who s' → IsSoundWithoutCounts g s'
-steady-sound g s who s' q sound has h step =
-    let n = name_of (plan_point_of (s.errand who).point) in
-    let w = h.weighs in
-    step-sound g s who s' q sound has
-    (λ l old. record {
-      next = h.next;
-      event = h.event;
-      cleared = h.cleared;
-      goes = h.goes l old;
-      weigh = record {
-        still = λ plain. h.word;
-        reserves = λ d. rw (h.word, w.credits) refl;
-        waits = λ d. ap (kept_among waiting d) w.kept;
-        ways = λ d. ap (kept_among on_its_way d) w.kept;
-        away = λ d. ap (λ k. occurs d (s.errand who).retired + kept_among on_its_way d k) w.kept;
-        places = λ d. rw (h.word, w.kept) refl;
-        frames = λ f. ap (occurs f) w.frames;
-        stock = λ class. rw (h.word, w.kept, w.waits class) refl;
-      };
-      below = subst (λ v. v < 2 ^ 64) (sym h.word) (old.words n);
-    })
-    (λ l old. actives-stay g s l s'.word old.kept (words-stay s.word n _ s'.word step.word h.word)) step
-
-pub steady-at :
-    (g : Geometry) (s : State) (who : ℕ) (s' : State) (p q : Point) → IsSoundWithoutCounts g s → who < g.callers → (s.errand who).point ≡ p
-    → IsSteadyAt g s who p q → Step s who s' → IsSoundWithoutCounts g s'
-steady-at g s who s' p q sound has at h step = steady-sound g s who s' q sound has (subst (λ r. IsSteadyAt g s who r q) (sym at) h) step
+    quiet-at g s who s' (Block (block.LoadOwner site i a) o) sound has at (record { event = refl; cleared = refl; word = refl })
+    (leads-on g s who _ _ 0 has at (owner-leads site i a o (info_in site.seat.geometry (s.word (name.Info site.desc))))) step
 
 -- what some element of a list of one has
 pub any-none : {X : Type 0} (P : X → Type 0) → Any P [] → ⊥
@@ -200,189 +131,137 @@ begins-owned g s l who seat frame i o old has at =
     (record { place = block_place frame seat.class i; need = need.Small seat.class; overwritten = false }) []
     (subst (λ p. All (λ b. IsOwned s who b.place b.need) (holds_of p).frees) at (old.tied.frees who has))
 
+-- the prefix word of a block that is freed says whose superblock's it is
+pub prefix-ties :
+    (g : Geometry) (s : State) (l : Lists) (who : ℕ) (seat : SeatFields) (frame i : ℕ) (o : Onward) → IsSoundWith g s l → who < g.callers
+    → (s.errand who).point ≡ Block (block.LoadPrefix seat frame i) o
+    → (d : ℕ) × IsBlockOfDesc g s l (block_place frame seat.class i) seat.class d × (s.word (name.Arena (block_place frame seat.class i)) ≡ 2 * d)
+prefix-ties g s l who seat frame i o old has at =
+    let place : ℕ = block_place frame seat.class i in
+    let owned : IsOwned s who place (need.Small seat.class) = begins-owned g s l who seat frame i o old has at in
+    let (d, of, excepted) = old.tied.small place seat.class owned.block.0 owned.block.1 owned.block.3 in
+    elim excepted [
+      | inl x ↦
+          absurd (begins-free seat frame i o place
+          (subst (λ p. HoldsException (holds_of p) place) at (only-owner g s l who place (need.Small seat.class) old owned x)))
+      | inr says ↦ (d, of, says)
+    ]
+
 -- the block that is freed is one of the superblock that its prefix word names
 prefix-names :
     (g : Geometry) (s : State) (l : Lists) (who : ℕ) (seat : SeatFields) (frame i : ℕ) (o : Onward) (d : ℕ) → IsSoundWith g s l
     → who < g.callers → (s.errand who).point ≡ Block (block.LoadPrefix seat frame i) o
     → prefix_of (s.word (name.Arena (block_place frame seat.class i))) ≡ Some (Small d)
     → IsTrue (is_bound g s l d) × IsLocated s d frame seat.class
-unfolding holds_of
 prefix-names g s l who seat frame i o d old has at is =
     let place : ℕ = block_place frame seat.class i in
     let fit = (fits-at g s l who (Block (block.LoadPrefix seat frame i) o) old has at).point in
-    let owned : IsOwned s who place (need.Small seat.class) = begins-owned g s l who seat frame i o old has at in
-    let tie = old.tied.small place seat.class owned.block.0 owned.block.1 owned.block.3 in
-    let of : IsBlockOfDesc g s l place seat.class tie.0 = tie.1 in
-    elim tie.2 [
-      | inl x ↦
-          absurd (begins-free seat frame i o place
-          (subst (λ p. HoldsException (holds_of p) place) at (only-owner g s l who place (need.Small seat.class) old owned x)))
-      | inr says ↦
-          let same : tie.0 ≡ d = omega (arith, says, small-said (s.word (name.Arena place)) d (old.words (name.Arena place)) is) in
-          let located : IsLocated s d (frame_of place) seat.class = subst (λ e. IsLocated s e (frame_of place) seat.class) same of.located in (
-            subst (λ e. IsTrue (is_bound g s l e)) same of.bound,
-            subst (λ f. IsLocated s d f seat.class) (frame_of-block_place frame seat.class i fit.2) located,
-          )
-    ]
+    let (e, of, says) = prefix-ties g s l who seat frame i o old has at in
+    let same : e ≡ d = omega (arith, says, small-said (s.word (name.Arena place)) d (old.words (name.Arena place)) is) in
+    let located : IsLocated s d (frame_of place) seat.class = subst (λ e. IsLocated s e (frame_of place) seat.class) same of.located in (
+      subst (λ e. IsTrue (is_bound g s l e)) same of.bound,
+      subst (λ f. IsLocated s d f seat.class) (frame_of-block_place frame seat.class i fit.2) located,
+    )
 
--- the load of a prefix word, by what it says; a word that is not expected
-prefix-stays :
-    (g : Geometry) (s : State) (who : ℕ) (s' : State) (seat : SeatFields) (frame i : ℕ) (o : Onward) → IsSoundWithoutCounts g s → who < g.callers
-    → (s.errand who).point ≡ Block (block.LoadPrefix seat frame i) o
-    → after_prefix seat frame i (prefix_of (s.word (name.Arena (block_place frame seat.class i)))) ≡ block.LoadPrefix seat frame i → Step s who s'
-    → IsSoundWithoutCounts g s'
-unfolding plan_point_of next_of event_of holds_of recalls_of
-prefix-stays g s who s' seat frame i o sound has at is step =
-    quiet-at g s who s' (Block (block.LoadPrefix seat frame i) o) (Block (block.LoadPrefix seat frame i) o) sound has at
-    (record {
-      next = rw is refl;
-      event = refl;
-      cleared = refl;
-      word = refl;
-      holds = grind (arith);
-      so = λ l old. All-nil (IsSo g s l who);
-    })
-    step
-
--- a small prefix of one of the heap's descriptors
+-- where a small prefix of one of the heap's descriptors leads
 prefix-leads :
-    (g : Geometry) (s : State) (who : ℕ) (s' : State) (seat : SeatFields) (frame i : ℕ) (o : Onward) (d : ℕ) → IsSoundWithoutCounts g s → who < g.callers
-    → (s.errand who).point ≡ Block (block.LoadPrefix seat frame i) o
-    → prefix_of (s.word (name.Arena (block_place frame seat.class i))) ≡ Some (Small d) → nat_lt d (descriptor_count seat.geometry) ≡ true
-    → Step s who s' → IsSoundWithoutCounts g s'
-unfolding plan_point_of next_of event_of holds_of recalls_of
-prefix-leads g s who s' seat frame i o d sound has at is exists step =
-    let q : Point = Block (block.LoadPushAnchor (record { seat = seat; desc = d; frame = frame }) i false) o in
-    steady-at g s who s' (Block (block.LoadPrefix seat frame i) o) q sound has at
-    (record {
-      next = rw (is, exists) refl;
-      event = refl;
-      cleared = refl;
-      word = refl;
-      weighs = grind (arith);
-      goes = λ l old. record {
-        kept = All-nil _;
-        so = All-cons (IsSo g s l who) (bound_at d frame seat.class) [] (prefix-names g s l who seat frame i o d old has at is) (All-nil (IsSo g s l who));
-        hazard = subst (λ p. IsHazard (holds_of p).hazard (s.word (name.Hazard who))) at (old.guarded.words who has);
-        guard = λ d word guard. guard;
-        pushed = refl;
-        passed = refl;
-        unread = refl;
-        spare = refl;
-        hands = All-nil _;
-        frees =
-            All-cons (λ (b : Freed). IsOwned s who b.place b.need)
-            (record { place = block_place frame seat.class i; need = need.Small seat.class; overwritten = true }) []
-            (begins-owned g s l who seat frame i o old has at) (All-nil _);
-        excepts = λ place x. absurd (begins-free seat frame i o place x);
-        turn = grind (arith);
-      };
-    })
-    step
+    (g : Geometry) (s : State) (who : ℕ) (seat : SeatFields) (frame i : ℕ) (o : Onward) (d : ℕ) → who < g.callers
+    → (s.errand who).point ≡ Block (block.LoadPrefix seat frame i) o → prefix_of (s.word (name.Arena (block_place frame seat.class i))) ≡ Some
+    (Small d)
+    → IsSteady g s who (Block (block.LoadPrefix seat frame i) o)
+    (At (Block (block.LoadPushAnchor (record { seat = seat; desc = d; frame = frame }) i false) o))
+unfolding holds_of recalls_of
+prefix-leads g s who seat frame i o d has at is = record {
+  plain = tt;
+  weighs = λ w. weigh-stays _ w _ _ refl refl refl (λ class. refl);
+  goes = λ l old. record {
+    kept = All-nil _;
+    so = All-cons (IsSo g s l who) (bound_at d frame seat.class) [] (prefix-names g s l who seat frame i o d old has at is)
+        (All-nil (IsSo g s l who));
+    hazard = hazard-at g s l who (Block (block.LoadPrefix seat frame i) o) old has at;
+    guard = λ d word guard. guard;
+    pushed = refl;
+    passed = refl;
+    unread = refl;
+    spare = refl;
+    hands = All-nil _;
+    frees =
+        All-cons (λ (b : Freed). IsOwned s who b.place b.need)
+        (record { place = block_place frame seat.class i; need = need.Small seat.class; overwritten = true }) []
+        (begins-owned g s l who seat frame i o old has at) (All-nil _);
+    excepts = λ place x. absurd (begins-free seat frame i o place x);
+    turn = grind (arith);
+  };
+}
+
+-- one that isn't expected leaves the caller where it is
+prefix-stays :
+    (g : Geometry) (s : State) (who : ℕ) (seat : SeatFields) (frame i : ℕ) (o : Onward) → who < g.callers → (s.errand who).point ≡ Block
+    (block.LoadPrefix seat frame i) o
+    → IsSteady g s who (Block (block.LoadPrefix seat frame i) o) (At (Block (block.LoadPrefix seat frame i) o))
+unfolding holds_of recalls_of
+prefix-stays g s who seat frame i o has at = quiet-steady g s who _ _ has at (leads-on g s who _ _ 0 has at (grind (arith)))
 
 prefix-said :
-    (g : Geometry) (s : State) (who : ℕ) (s' : State) (seat : SeatFields) (frame i : ℕ) (o : Onward) (said : Option Prefix) → IsSoundWithoutCounts g s
-    → who < g.callers → (s.errand who).point ≡ Block (block.LoadPrefix seat frame i) o
-    → prefix_of (s.word (name.Arena (block_place frame seat.class i))) ≡ said → Step s who s' → IsSoundWithoutCounts g s'
-prefix-said g s who s' seat frame i o None sound has at is step =
-    prefix-stays g s who s' seat frame i o sound has at (ap (after_prefix seat frame i) is) step
-prefix-said g s who s' seat frame i o (Some (Large units)) sound has at is step =
-    prefix-stays g s who s' seat frame i o sound has at (ap (after_prefix seat frame i) is) step
-prefix-said g s who s' seat frame i o (Some (Small d)) sound has at is step =
-    elim (cases_Bool (nat_lt d (descriptor_count seat.geometry))) [
-      | inl exists ↦ prefix-leads g s who s' seat frame i o d sound has at is exists step
-      | inr none ↦
-          prefix-stays g s who s' seat frame i o sound has at
-          (ap (after_prefix seat frame i) is ∙ cond-false (nat_lt d (descriptor_count seat.geometry)) _ (block.LoadPrefix seat frame i) none)
-          step
-    ]
+    (g : Geometry) (s : State) (who : ℕ) (seat : SeatFields) (frame i : ℕ) (o : Onward) (said : Option Prefix) → who < g.callers
+    → (s.errand who).point ≡ Block (block.LoadPrefix seat frame i) o → prefix_of (s.word (name.Arena (block_place frame seat.class i))) ≡ said
+    → IsSteady g s who (Block (block.LoadPrefix seat frame i) o) (enter_block (after_prefix seat frame i said) o)
+prefix-said g s who seat frame i o None has at is = prefix-stays g s who seat frame i o has at
+prefix-said g s who seat frame i o (Some (Large units)) has at is = prefix-stays g s who seat frame i o has at
+prefix-said g s who seat frame i o (Some (Small d)) has at is =
+    cond_both (nat_lt d (descriptor_count seat.geometry)) (block.LoadPushAnchor (record { seat = seat; desc = d; frame = frame }) i false)
+    (block.LoadPrefix seat frame i) (λ q. IsSteady g s who (Block (block.LoadPrefix seat frame i) o) (enter_block q o))
+    (λ exists. prefix-leads g s who seat frame i o d has at is) (λ none. prefix-stays g s who seat frame i o has at)
 
+-- the load of a prefix word
 pub load_prefix-sound :
     (g : Geometry) (s : State) (who : ℕ) (s' : State) (seat : SeatFields) (frame i : ℕ) (o : Onward) → IsSoundWithoutCounts g s → who < g.callers
     → (s.errand who).point ≡ Block (block.LoadPrefix seat frame i) o → Step s who s' → IsSoundWithoutCounts g s'
+unfolding plan_point_of next_of event_of
 load_prefix-sound g s who s' seat frame i o sound has at step =
-    prefix-said g s who s' seat frame i o (prefix_of (s.word (name.Arena (block_place frame seat.class i)))) sound has at refl step
-
--- the load of an anchor for a push that leaves a free block behind, or isn't expected
-push_anchor-quiet :
-    (g : Geometry) (s : State) (who : ℕ) (s' : State) (site : Site) (i : ℕ) (stored : Bool) (o : Onward) (a : AnchorFields) → IsSoundWithoutCounts g s
-    → who < g.callers → (s.errand who).point ≡ Block (block.LoadPushAnchor site i stored) o
-    → anchor_in site.seat.class (s.word (name.Anchor site.desc)) ≡ Some a → is_last site.seat.class a ≡ false → Step s who s' → IsSoundWithoutCounts g s'
-unfolding plan_point_of next_of event_of holds_of recalls_of
-push_anchor-quiet g s who s' site i stored o a sound has at is more step =
-    quiet-at g s who s' (Block (block.LoadPushAnchor site i stored) o) (Block (block.StoreLink site i a stored 0) o) sound has at
-    (record {
-      next = rw (is, more) refl;
-      event = refl;
-      cleared = refl;
-      word = refl;
-      holds = grind (arith);
-      so = λ l old. so-at g s l who (Block (block.LoadPushAnchor site i stored) o) old has at;
-    })
-    step
+    steady-at g s who s' (Block (block.LoadPrefix seat frame i) o) sound has at (record { event = refl; cleared = refl; word = refl })
+    (prefix-said g s who seat frame i o (prefix_of (s.word (name.Arena (block_place frame seat.class i)))) has at refl) step
 
 -- a hazard word that names a descriptor was stored
 stored-guards : (stored : Bool) (e d word : ℕ) → IsHazard (if_stored stored e) word → word ≡ d + 1 → IsGuard (if_stored stored e)
 stored-guards true e d word hazard names = tt
 stored-guards false e d word hazard names = omega (arith, hazard, names)
 
--- for a push that makes the superblock empty
+-- where an anchor leads that is read for a push: of one that makes the superblock empty
 push_anchor-last :
-    (g : Geometry) (s : State) (who : ℕ) (s' : State) (site : Site) (i : ℕ) (stored : Bool) (o : Onward) (a : AnchorFields) → IsSoundWithoutCounts g s
-    → who < g.callers → (s.errand who).point ≡ Block (block.LoadPushAnchor site i stored) o
-    → anchor_in site.seat.class (s.word (name.Anchor site.desc)) ≡ Some a → is_last site.seat.class a ≡ true → Step s who s' → IsSoundWithoutCounts g s'
-unfolding plan_point_of next_of event_of holds_of recalls_of
-push_anchor-last g s who s' site i stored o a sound has at is last step =
+    (g : Geometry) (s : State) (who : ℕ) (site : Site) (i : ℕ) (stored : Bool) (o : Onward) (a : AnchorFields) → who < g.callers
+    → (s.errand who).point ≡ Block (block.LoadPushAnchor site i stored) o → IsSteady g s who (Block (block.LoadPushAnchor site i stored) o)
+    (At (Block (block.StoreGuard site i a) o))
+unfolding holds_of recalls_of
+push_anchor-last g s who site i stored o a has at =
     let p : Point = Block (block.LoadPushAnchor site i stored) o in
-    steady-at g s who s' p (Block (block.StoreGuard site i a) o) sound has at
-    (record {
-      next = rw (is, last) refl;
-      event = refl;
-      cleared = refl;
-      word = refl;
-      weighs = grind (arith);
-      goes = λ l old. record {
-        kept = All-nil _;
-        so = so-at g s l who p old has at;
-        hazard = tt;
-        guard = λ d word guard. stored-guards stored site.desc d (s.word (name.Hazard who)) (subst (λ r. IsHazard (holds_of r).hazard (s.word (name.Hazard who))) at (old.guarded.words who has)) word;
-        pushed = refl;
-        passed = refl;
-        unread = refl;
-        spare = refl;
-        hands = All-nil _;
-        frees = subst (λ p. All (λ b. IsOwned s who b.place b.need) (holds_of p).frees) at (old.tied.frees who has);
-        excepts = λ place x. x;
-        turn = grind (arith);
-      };
-    })
-    step
+    record {
+      plain = tt;
+      weighs = λ w. weigh-stays _ w _ _ refl refl refl (λ class. refl);
+      goes = λ l old.
+          blocks-go g s l who p (Block (block.StoreGuard site i a) o) old has at (grind (arith)) tt
+          (λ d word guard. stored-guards stored site.desc d (s.word (name.Hazard who)) (hazard-at g s l who p old has at) word) (All-nil _)
+          (so-at g s l who p old has at);
+    }
 
+-- and of any
 push_anchor-said :
-    (g : Geometry) (s : State) (who : ℕ) (s' : State) (site : Site) (i : ℕ) (stored : Bool) (o : Onward) (said : Option AnchorFields) → IsSoundWithoutCounts g s
-    → who < g.callers → (s.errand who).point ≡ Block (block.LoadPushAnchor site i stored) o
-    → anchor_in site.seat.class (s.word (name.Anchor site.desc)) ≡ said → Step s who s' → IsSoundWithoutCounts g s'
-unfolding plan_point_of next_of event_of holds_of recalls_of
-push_anchor-said g s who s' site i stored o None sound has at is step =
-    quiet-at g s who s' (Block (block.LoadPushAnchor site i stored) o) (Block (block.LoadPushAnchor site i stored) o) sound has at
-    (record {
-      next = rw is refl;
-      event = refl;
-      cleared = refl;
-      word = refl;
-      holds = grind (arith);
-      so = λ l old. so-at g s l who (Block (block.LoadPushAnchor site i stored) o) old has at;
-    })
-    step
-push_anchor-said g s who s' site i stored o (Some a) sound has at is step =
-    elim (cases_Bool (is_last site.seat.class a)) [
-      | inr more ↦ push_anchor-quiet g s who s' site i stored o a sound has at is more step
-      | inl last ↦ push_anchor-last g s who s' site i stored o a sound has at is last step
-    ]
+    (g : Geometry) (s : State) (who : ℕ) (site : Site) (i : ℕ) (stored : Bool) (o : Onward) (said : Option AnchorFields) → who < g.callers
+    → (s.errand who).point ≡ Block (block.LoadPushAnchor site i stored) o → IsSteady g s who (Block (block.LoadPushAnchor site i stored) o)
+    (enter_block (after_push_anchor site i stored said) o)
+unfolding holds_of recalls_of
+push_anchor-said g s who site i stored o None has at = quiet-steady g s who _ _ has at (leads-on g s who _ _ 0 has at (grind (arith)))
+push_anchor-said g s who site i stored o (Some a) has at =
+    cond_both (is_last site.seat.class a) (block.StoreGuard site i a) (block.StoreLink site i a stored 0)
+    (λ q. IsSteady g s who (Block (block.LoadPushAnchor site i stored) o) (enter_block q o))
+    (λ last. push_anchor-last g s who site i stored o a has at)
+    (λ more. quiet-steady g s who _ _ has at (leads-on g s who _ _ 0 has at (grind (arith))))
 
 -- the load of an anchor for a push
 pub load_push_anchor-sound :
     (g : Geometry) (s : State) (who : ℕ) (s' : State) (site : Site) (i : ℕ) (stored : Bool) (o : Onward) → IsSoundWithoutCounts g s → who < g.callers
     → (s.errand who).point ≡ Block (block.LoadPushAnchor site i stored) o → Step s who s' → IsSoundWithoutCounts g s'
+unfolding plan_point_of next_of event_of
 load_push_anchor-sound g s who s' site i stored o sound has at step =
-    push_anchor-said g s who s' site i stored o (anchor_in site.seat.class (s.word (name.Anchor site.desc))) sound has at refl step
+    steady-at g s who s' (Block (block.LoadPushAnchor site i stored) o) sound has at (record { event = refl; cleared = refl; word = refl })
+    (push_anchor-said g s who site i stored o (anchor_in site.seat.class (s.word (name.Anchor site.desc))) has at) step

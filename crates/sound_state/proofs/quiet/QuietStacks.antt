@@ -1,8 +1,8 @@
 -- Quiet steps at a stack: loads, and exchanges that are lost.
-use Rattle.std.proofs.Common.{ℕ, ◌≡◌, ◌≢◌, ◌<◌, ◌≤◌, ◌-◌, List, [], ◌∷◌, refl, arith, sym, subst}
+use Rattle.std.proofs.Common.{ℕ, ◌≡◌, ◌≢◌, ◌<◌, ◌≤◌, ◌-◌, List, [], ◌∷◌, refl, arith}
 use Rattle.std.specs.Prelude.{◌==◌, All, nat_le, if◌then◌else◌}
-use Rattle.std.proofs.lemmas.Bool.{cond_both, cond-true, eq-eqb, eqb-true, eqb-false, ne_eqb}
-use Rattle.std.proofs.lemmas.List.Elements.{All-cons, All-head, All-tail}
+use Rattle.std.proofs.lemmas.Bool.{cond_both, cond-true, eq-eqb, eqb-true, eqb-false}
+use Rattle.std.proofs.lemmas.List.Elements.{All-cons, All-head}
 use Rattle.heap_geometry.specs.declared.geometry.Geometry.{Geometry}
 use Rattle.heap_geometry.specs.declared.limits.TheConstants.{CLASSES}
 use Rattle.packed_words.specs.Head.{HeadFields, head_word, head_of}
@@ -17,34 +17,19 @@ use Rattle.stack_parts.specs.Points.{after_top, after_below}
 use Rattle.stack_parts.specs.Stacks.{Stacked, next_in}
 use Rattle.errand_steps.specs.declared.onward.Onward.{Onward}
 use Rattle.errand_steps.specs.declared.onward.Onward.TheVariants.{Clear}
-use Rattle.errand_steps.specs.declared.next.Next.{Next}
-use Rattle.errand_steps.specs.declared.next.Next.TheVariants.{At}
-use Rattle.errand_steps.specs.declared.point.Point.{Point}
 use Rattle.errand_steps.specs.declared.point.Point.TheVariants.{Stack}
-use Rattle.errand_steps.specs.Errands.{point_after}
 use Rattle.errand_steps.specs.Events.{event_of}
-use Rattle.errand_steps.specs.Fits.{FitsPoint, FitsInStack}
 use Rattle.errand_steps.specs.Nexts.{next_of, enter_stack, found_empty}
 use Rattle.errand_steps.specs.Points.{plan_point_of}
 use Rattle.errand_steps.specs.Steps.{State, Step}
 use Rattle.sound_state.specs.Holdings.{holds_of}
 use Rattle.sound_state.specs.Lists.{Lists, IsListed}
-use Rattle.sound_state.specs.Recalls.{IsSo, list_of, onward_recalls, recalls_of, tops, nexts, tops_exist, says}
-use Rattle.sound_state.specs.Sound.{IsSoundWithoutCounts, IsSoundWith}
-use Rattle.sound_state.proofs.quiet.QuietLemmas.{HoldsSame, quiet-at}
-
--- what a caller remembers at its point is so
-so-at :
-    (g : Geometry) (s : State) (l : Lists) (who : ℕ) (p : Point) → IsSoundWith g s l → who < g.callers → (s.errand who).point ≡ p
-    → All (IsSo g s l who) (recalls_of p)
-so-at g s l who p sound has at = subst (λ r. All (IsSo g s l who) (recalls_of r)) at (sound.remembered.so who has)
-
--- what it remembers at a stack fits there
-fits-at :
-    (g : Geometry) (s : State) (l : Lists) (who : ℕ) (p : StackPoint) (o : Onward) → IsSoundWith g s l → who < g.callers
-    → (s.errand who).point ≡ Stack p o → FitsInStack (s.errand who).geometry (s.errand who).caller p o
-fits-at g s l who p o sound has at =
-    subst (λ r. FitsPoint (s.errand who).geometry (s.errand who).caller r) at (sound.errands who has).rule.point
+use Rattle.sound_state.specs.Recalls.{IsSo, list_of, onward_recalls, recalls_of, tops, nexts, tops_exist}
+use Rattle.sound_state.specs.Sound.{IsSoundWithoutCounts}
+use Rattle.sound_state.proofs.quiet.QuietExchanges.{lost-at}
+use Rattle.sound_state.proofs.quiet.QuietLemmas.{HoldsSame}
+use Rattle.sound_state.proofs.quiet.QuietSteps.{LeadsOn, LeadsQuietly, leads-on, quiet-at}
+use Rattle.sound_state.proofs.shared.PointLemmas.{fits-at, so-at}
 
 -- an index on top of a stack is in its list
 top-listed : (next : ℕ → ℕ) (top : ℕ) (xs : List ℕ) → Stacked next top xs → top ≢ 0 → 0 < occurs (top - 1) xs
@@ -85,12 +70,6 @@ pops-same p q o same = record {
   turn = record { under_way = omega arith; discards = omega arith; unanswered = omega arith; unframed = omega arith; pops = omega arith };
 }
 
--- a step that goes on quietly to where this leads
-record LeadsQuietly (g : Geometry) (s : State) (who : ℕ) (p : Point) (n : Next) : Type 0 where
-  next : n ≡ At (point_after n)
-  holds : HoldsSame p (point_after n)
-  so : (l : Lists) → IsSoundWith g s l → All (IsSo g s l who) (recalls_of (point_after n))
-
 -- a head that is read for a push: its top exists
 pub load_top_to_push-sound :
     (g : Geometry) (s : State) (who : ℕ) (s' : State) (seat : SeatFields) (pile : Pile) (i : ℕ) (o : Onward) → IsSoundWithoutCounts g s
@@ -99,15 +78,12 @@ unfolding plan_point_of next_of event_of holds_of recalls_of
 load_top_to_push-sound g s who s' seat pile i o sound has at step =
     let p = stack.LoadTopToPush seat pile i in
     let h = head_of (s.word (head_name seat pile)) in
-    quiet-at g s who s' (Stack p o) (Stack (stack.StoreBelow seat pile i h) o) sound has at
+    quiet-at g s who s' (Stack p o) sound has at (record { event = refl; cleared = refl; word = refl })
     (record {
-      next = refl;
-      event = refl;
-      cleared = refl;
-      word = refl;
+      plain = tt;
       holds = pops-same p (stack.StoreBelow seat pile i h) o refl;
       so = λ l old.
-          let class = (fits-at g s l who p o old has at).point.seat.class in
+          let class = (fits-at g s l who (Stack p o) old has at).point.seat.class in
           All-cons (IsSo g s l who) (tops_exist seat pile h) (onward_recalls seat o)
           (top-exists (next_in s.word pile) h.top (pile_limit g pile) (list_of l seat pile) (pile-stacked g s l seat pile old.listed class)
           (pile-exists g s l seat pile old.listed class))
@@ -128,22 +104,21 @@ below-leads g s who seat pile h o has at =
     let q = stack.PopTop seat pile h below in
     cond_both (nat_le below (pile_limit seat.geometry pile)) q p (λ r. LeadsQuietly g s who (Stack p o) (enter_stack r o))
     (λ within. record {
-      next = refl;
+      plain = tt;
       holds = pops-same p q o refl;
       so = λ l old.
           All-cons (IsSo g s l who) (nexts seat pile h below) (tops seat pile h ∷ onward_recalls seat o) (λ same. refl)
           (so-at g s l who (Stack p o) old has at);
     })
-    (λ beyond. record { next = refl; holds = pops-same p p o refl; so = λ l old. so-at g s l who (Stack p o) old has at })
+    (λ beyond. leads-on g s who (Stack p o) _ 0 has at (record { plain = tt; holds = pops-same p p o refl; recalls = refl }))
 
 pub load_below-sound :
     (g : Geometry) (s : State) (who : ℕ) (s' : State) (seat : SeatFields) (pile : Pile) (h : HeadFields) (o : Onward) → IsSoundWithoutCounts g s
     → who < g.callers → (s.errand who).point ≡ Stack (stack.LoadBelow seat pile h) o → Step s who s' → IsSoundWithoutCounts g s'
 unfolding plan_point_of next_of event_of
 load_below-sound g s who s' seat pile h o sound has at step =
-    let leads = below-leads g s who seat pile h o has at in
-    quiet-at g s who s' (Stack (stack.LoadBelow seat pile h) o) _ sound has at
-    (record { next = leads.next; event = refl; cleared = refl; word = refl; holds = leads.holds; so = leads.so }) step
+    quiet-at g s who s' (Stack (stack.LoadBelow seat pile h) o) sound has at (record { event = refl; cleared = refl; word = refl })
+    (below-leads g s who seat pile h o has at) step
 
 -- a pop that is lost begins again
 pub pop_top_lost-sound :
@@ -153,21 +128,8 @@ pub pop_top_lost-sound :
 unfolding plan_point_of next_of event_of holds_of recalls_of
 pop_top_lost-sound g s who s' seat pile h below o sound has at lost step =
     let p = stack.PopTop seat pile h below in
-    let q = stack.LoadTop seat pile in
-    let differs = ne_eqb (s.word (head_name seat pile)) (head_word h) lost in
-    quiet-at g s who s' (Stack p o) (Stack q o) sound has at
-    (record {
-      next = rw differs refl;
-      event = rw differs refl;
-      cleared = refl;
-      word = rw differs refl;
-      holds = pops-same p q o refl;
-      so = λ l old.
-          All-tail (IsSo g s l who) (tops seat pile h) (onward_recalls seat o)
-          (All-tail (IsSo g s l who) (nexts seat pile h below) (tops seat pile h ∷ onward_recalls seat o)
-          (so-at g s l who (Stack p o) old has at));
-    })
-    step
+    lost-at g s who s' (Stack p o) (head_name seat pile) (head_word h) _ sound has at refl refl
+    (leads-on g s who (Stack p o) _ 2 has at (record { plain = tt; holds = pops-same p (stack.LoadTop seat pile) o refl; recalls = refl })) lost step
 
 -- so does the look whether the stack is still empty
 pub confirm_empty_lost-sound :
@@ -177,18 +139,8 @@ pub confirm_empty_lost-sound :
 unfolding plan_point_of next_of event_of holds_of recalls_of
 confirm_empty_lost-sound g s who s' seat pile h o sound has at lost step =
     let p = stack.ConfirmEmpty seat pile h in
-    let q = stack.LoadTop seat pile in
-    let differs = ne_eqb (s.word (head_name seat pile)) (head_word h) lost in
-    quiet-at g s who s' (Stack p o) (Stack q o) sound has at
-    (record {
-      next = rw differs refl;
-      event = rw differs refl;
-      cleared = refl;
-      word = rw differs refl;
-      holds = pops-same p q o refl;
-      so = λ l old. so-at g s l who (Stack p o) old has at;
-    })
-    step
+    lost-at g s who s' (Stack p o) (head_name seat pile) (head_word h) _ sound has at refl refl
+    (leads-on g s who (Stack p o) _ 0 has at (record { plain = tt; holds = pops-same p (stack.LoadTop seat pile) o refl; recalls = refl })) lost step
 
 -- and a push that is lost
 pub push_top_lost-sound :
@@ -198,31 +150,14 @@ pub push_top_lost-sound :
 unfolding plan_point_of next_of event_of holds_of recalls_of
 push_top_lost-sound g s who s' seat pile i h o sound has at lost step =
     let p = stack.PushTop seat pile i h in
-    let q = stack.LoadTopToPush seat pile i in
-    let differs = ne_eqb (s.word (head_name seat pile)) (head_word h) lost in
-    quiet-at g s who s' (Stack p o) (Stack q o) sound has at
-    (record {
-      next = rw differs refl;
-      event = rw differs refl;
-      cleared = refl;
-      word = rw differs refl;
-      holds = pops-same p q o refl;
-      so = λ l old.
-          All-tail (IsSo g s l who) (tops_exist seat pile h) (onward_recalls seat o)
-          (All-tail (IsSo g s l who) (says (next_name pile i) h.top) (tops_exist seat pile h ∷ onward_recalls seat o)
-          (so-at g s l who (Stack p o) old has at));
-    })
-    step
+    lost-at g s who s' (Stack p o) (head_name seat pile) (head_word h) _ sound has at refl refl
+    (leads-on g s who (Stack p o) _ 2 has at
+    (record { plain = tt; holds = pops-same p (stack.LoadTopToPush seat pile i) o refl; recalls = refl })) lost step
 
 -- a stack that is read empty: an allocation looks again, and a clearing that has popped one puts it back
-record LeadsOn (p : Point) (n : Next) : Type 0 where
-  next : n ≡ At (point_after n)
-  holds : HoldsSame p (point_after n)
-  recalls : recalls_of (point_after n) ≡ recalls_of p
-
 empty-leads :
     (seat : SeatFields) (pile : Pile) (h : HeadFields) (o : Onward) → o ≢ Clear
-    → LeadsOn (Stack (stack.LoadTop seat pile) o) (found_empty seat pile h o)
+    → LeadsOn (Stack (stack.LoadTop seat pile) o) (found_empty seat pile h o) 0
 unfolding holds_of recalls_of
 empty-leads seat pile h o goes = grind (arith)
 
@@ -239,20 +174,14 @@ top-leads g s who seat pile o has at goes =
     let q = stack.LoadBelow seat pile h in
     cond_both (h.top == 0) (stack.FoundEmpty seat pile h) (if nat_le h.top (pile_limit seat.geometry pile) then q else p)
     (λ r. LeadsQuietly g s who (Stack p o) (enter_stack r o))
-    (λ empty.
-    let leads = empty-leads seat pile h o (λ is. goes is (eqb-true h.top 0 empty)) in
-    record {
-      next = leads.next;
-      holds = leads.holds;
-      so = λ l old. subst (All (IsSo g s l who)) (sym leads.recalls) (so-at g s l who (Stack p o) old has at);
-    })
+    (λ empty. leads-on g s who (Stack p o) _ 0 has at (empty-leads seat pile h o (λ is. goes is (eqb-true h.top 0 empty))))
     (λ some.
     cond_both (nat_le h.top (pile_limit seat.geometry pile)) q p (λ r. LeadsQuietly g s who (Stack p o) (enter_stack r o))
     (λ within. record {
-      next = refl;
+      plain = tt;
       holds = pops-same p q o refl;
       so = λ l old.
-          let class = (fits-at g s l who p o old has at).point.class in
+          let class = (fits-at g s l who (Stack p o) old has at).point.class in
           All-cons (IsSo g s l who) (tops seat pile h) (onward_recalls seat o)
           (record {
             tag = omega arith;
@@ -262,7 +191,7 @@ top-leads g s who seat pile o has at goes =
           })
           (so-at g s l who (Stack p o) old has at);
     })
-    (λ beyond. record { next = refl; holds = pops-same p p o refl; so = λ l old. so-at g s l who (Stack p o) old has at }))
+    (λ beyond. leads-on g s who (Stack p o) _ 0 has at (record { plain = tt; holds = pops-same p p o refl; recalls = refl })))
 
 pub load_top-sound :
     (g : Geometry) (s : State) (who : ℕ) (s' : State) (seat : SeatFields) (pile : Pile) (o : Onward) → IsSoundWithoutCounts g s
@@ -270,6 +199,5 @@ pub load_top-sound :
     → (o ≡ Clear → (head_of (s.word (head_name seat pile))).top ≢ 0) → Step s who s' → IsSoundWithoutCounts g s'
 unfolding plan_point_of next_of event_of
 load_top-sound g s who s' seat pile o sound has at goes step =
-    let leads = top-leads g s who seat pile o has at goes in
-    quiet-at g s who s' (Stack (stack.LoadTop seat pile) o) _ sound has at
-    (record { next = leads.next; event = refl; cleared = refl; word = refl; holds = leads.holds; so = leads.so }) step
+    quiet-at g s who s' (Stack (stack.LoadTop seat pile) o) sound has at (record { event = refl; cleared = refl; word = refl })
+    (top-leads g s who seat pile o has at goes) step

@@ -1,8 +1,7 @@
 -- A step that retires the descriptor of an EMPTY superblock, and leaves its word or clears a hazard word, keeps the state sound.
-use Rattle.std.proofs.Common.{ℕ, Bool, true, false, Option, Some, None, ◌≡◌, ◌≢◌, ◌<◌, ◌≤◌, ◌+◌, ◌^◌, List, [], ◌∷◌, ◌++◌, length, refl, arith, ap, sym, subst, inl, inr, ◌∙◌, length-append, ne_eqb, eq-eqb}
-use Rattle.std.specs.Prelude.{◌==◌, ◌&&◌, ◌⊎◌, not, All, if◌then◌else◌, slice_index}
+use Rattle.std.proofs.Common.{ℕ, Bool, true, false, None, ◌≡◌, ◌≢◌, ◌<◌, ◌≤◌, ◌+◌, ◌^◌, List, [], ◌∷◌, ◌++◌, length, refl, arith, ap, sym, subst, inl, inr, ◌∙◌, length-append, ne_eqb, eq-eqb}
+use Rattle.std.specs.Prelude.{◌==◌, ◌&&◌, ◌⊎◌, not, if◌then◌else◌}
 use Rattle.std.proofs.lemmas.Bool.{cases_eq, cases_Bool, cond-true, cond-false, leb-true}
-use Rattle.std.proofs.lemmas.Grind.{common_steps}
 use Rattle.std.proofs.lemmas.List.Elements.{All-append, All-cons, All-nil}
 use Rattle.heap_geometry.specs.declared.geometry.Geometry.{Geometry}
 use Rattle.packed_words.specs.declared.anchor.State.TheVariants as phase
@@ -18,6 +17,7 @@ use Rattle.word_plan.specs.Seats.{SeatFields}
 use Rattle.word_plan.specs.Table.{Exists}
 use Rattle.word_plan.specs.Words.{Writes}
 use Rattle.word_plan.proofs.NameLemmas.{cases_name}
+use Rattle.pool_model.specs.declared.event.Event.{Event}
 use Rattle.pool_model.specs.Legal.{IsLegalWithoutCounts}
 use Rattle.hazard_parts.specs.declared.point.DescPoint.TheVariants as desc
 use Rattle.errand_steps.specs.declared.next.Next.TheVariants.{At, End, Retire}
@@ -25,29 +25,30 @@ use Rattle.errand_steps.specs.declared.onward.Onward.{Onward}
 use Rattle.errand_steps.specs.declared.point.Point.{Point}
 use Rattle.errand_steps.specs.declared.reply.Reply.{Reply}
 use Rattle.errand_steps.specs.declared.point.Point.TheVariants.{Idle, Desc}
-use Rattle.errand_steps.specs.Errands.{ErrandFields, IsErrand, settle_of, course_of, plan_of, raised, counts_won, counts_lost, counts_cleared, is_full, no_words}
+use Rattle.errand_steps.specs.Errands.{ErrandFields, settle_of, course_of, plan_of, raised, counts_won, counts_lost, counts_cleared, is_full, no_words}
 use Rattle.errand_steps.specs.Events.{event_of}
-use Rattle.errand_steps.specs.Fits.{spare_of, pushed_by}
+use Rattle.errand_steps.specs.Fits.{spare_of}
 use Rattle.errand_steps.specs.Nexts.{next_of, resumed}
 use Rattle.errand_steps.specs.Points.{plan_point_of}
 use Rattle.errand_steps.specs.Steps.{State, Step, Moves, action_at, name_at, word_at, found_at, event_at, with_event}
-use Rattle.errand_steps.proofs.ErrandLemmas.{settle_errand}
 use Rattle.errand_steps.proofs.PlanLemmas.{plan-exists}
-use Rattle.sound_state.specs.Guards.{IsHazard, IsGuard, passed_by, held_by}
-use Rattle.sound_state.specs.Holdings.{Hazard, clear, nothing, keep, holds_of, waiting, reserving, on_its_way, partly_used}
-use Rattle.sound_state.specs.Keepers.{errand_has, word_keeps, IsWithout, IsKeptAs}
+use Rattle.sound_state.specs.Guards.{IsHazard}
+use Rattle.sound_state.specs.Holdings.{Hazard, Status, clear, nothing, keep, holds_of, waiting, reserving, on_its_way, partly_used}
+use Rattle.sound_state.specs.Keepers.{word_keeps, IsWithout}
 use Rattle.sound_state.specs.Lists.{Lists}
-use Rattle.sound_state.specs.Recalls.{IsSo, IsOwned, IsPlain, recalls_of}
+use Rattle.sound_state.specs.Recalls.{IsPlain}
 use Rattle.sound_state.specs.Sound.{IsSoundWithoutCounts, IsSoundWith}
 use Rattle.sound_state.specs.Stock.{waits_in, word_stock}
-use Rattle.sound_state.specs.Sums.{sum_below, callers_sum}
-use Rattle.sound_state.specs.Superblocks.{anchor_for, errand_keeps, errand_away, away_of, is_bound, kept_among, word_reserves}
+use Rattle.sound_state.specs.Sums.{sum_below}
+use Rattle.sound_state.specs.Superblocks.{anchor_for, errand_keeps, errand_away, away_of, is_bound, word_reserves}
 use Rattle.sound_state.specs.Turns.{emptied_out, one_if, in_turn, has_frame, has_partial, has_refused, is_discarding_at, pops_left}
-use Rattle.sound_state.proofs.shared.AlikeLemmas.{MayGoOn, MayGuard, ActivesKept, sound-alike}
+use Rattle.sound_state.proofs.shared.AlikeLemmas.{MayGoOn, ActivesKept, sound-alike}
 use Rattle.sound_state.proofs.hazards.HazardLemmas.{hazard_caller, hazard-actives}
 use Rattle.sound_state.proofs.quiet.QuietLemmas.{found_from, actives-stay, words-stay}
-use Rattle.sound_state.proofs.shared.StepLemmas.{HoldsException}
-use Rattle.sound_state.proofs.shared.SumLemmas.{sum-plus, sum-least, sum-change, term-sum, callers-moved}
+use Rattle.sound_state.proofs.shared.StepLemmas.{HoldsException, raised-least}
+use Rattle.sound_state.proofs.shared.HasLemmas.{kept-one, kept-itself, keeps-near}
+use Rattle.sound_state.proofs.shared.NothingLemmas.{HoldsNothing, scan-nothing, keeps-excepts, nothing-guards, settled-own, CountsGo, nothing-may}
+use Rattle.sound_state.proofs.shared.SumLemmas.{sum-change, callers-moved}
 use Rattle.sound_state.proofs.shared.TagLemmas.{cleared-below}
 use Rattle.sound_state.proofs.shared.WeighLemmas.{WeighClose, weigh-close}
 
@@ -55,21 +56,6 @@ use Rattle.sound_state.proofs.shared.WeighLemmas.{WeighClose, weigh-close}
 pub occurs-push : (k d : ℕ) (xs : List ℕ) → occurs k (xs ++ d ∷ []) ≡ occurs k xs + (if d == k then 1 else 0)
 occurs-push k d [] = omega arith
 occurs-push k d (x ∷ xs) = omega (arith, occurs-push k d xs)
-
--- a partly used superblock that a caller keeps isn't away
-keeps-near :
-    (g : Geometry) (s : State) (l : Lists) (who d : ℕ) → IsSoundWith g s l → who < g.callers → d < descriptor_count g
-    → 1 ≤ errand_keeps partly_used d (s.errand who) → away_of g s l d ≡ 0
-unfolding callers_sum
-keeps-near g s l who d old has exists keeps =
-    let partly = λ (i : ℕ). errand_keeps partly_used d (s.errand i) in
-    let away = λ (i : ℕ). errand_away d (s.errand i) in
-    let both : sum_below g.callers (λ i. partly i + away i) ≡ sum_below g.callers partly + sum_below g.callers away = sum-plus g.callers partly away in
-    let least : sum_below g.callers (λ i. partly i + away i) ≤ sum_below g.callers (λ i. errand_has d (s.errand i)) =
-    sum-least g.callers (λ i. partly i + away i) (λ i. errand_has d (s.errand i)) (λ i lt. omega arith) in
-    let once = old.kept.once d exists in
-    let mine : partly who ≤ sum_below g.callers partly = term-sum g.callers partly who has in
-    omega (arith, once, both, least, mine, keeps)
 
 -- the descriptor goes away with this errand, and no other one does
 pub record GoesAway (d : ℕ) (a b : ErrandFields) : Type 0 where
@@ -160,17 +146,12 @@ pub record TurnRetires (p q : Point) (x : Found) : Type 0 where
       pops_left q + one_if (in_turn q && not (has_partial q))
       ≤ pops_left p + one_if (in_turn p && not (has_partial p)) + one_if (counts_cleared p x)
 
--- a caller that keeps one partly used superblock, and nothing else but a hazard word, holds nothing at the second point
-pub record Lets (p q : Point) (d class : ℕ) (word : Hazard) (x : Found) : Type 0 where
-  pub before : holds_of p ≡ record nothing { kept = keep d class partly_used; hazard = word }
-  pub after : holds_of q ≡ nothing
-  pub recalls : recalls_of q ≡ []
-  pub waits : (c : ℕ) → waits_in c q ≡ waits_in c p
-  pub pushed : pushed_by q ≡ None
-  pub passed : passed_by q ≡ 0
-  pub unread : (i : ℕ) → i < length (held_by q) → slice_index (held_by q) i ≡ 0
+-- a caller that keeps one descriptor, and nothing else but a hazard word, holds nothing at the second point
+pub record Lets (p q : Point) (d class : ℕ) (status : Status) (word : Hazard) : Type 0 where
+  pub before : holds_of p ≡ record nothing { kept = keep d class status; hazard = word }
+  pub bare : HoldsNothing q
+  pub waits : (c : ℕ) → waits_in c p ≡ 0
   pub spare : spare_of p ≡ 0
-  pub turn : TurnRetires p q x
 
 occurs-here : (d : ℕ) (xs : List ℕ) → occurs d (xs ++ d ∷ []) ≡ occurs d xs + 1
 occurs-here d xs = omega (arith, occurs-push d d xs, cond-true {A = ℕ} (d == d) 1 0 (eq-eqb d d refl))
@@ -178,36 +159,32 @@ occurs-here d xs = omega (arith, occurs-push d d xs, cond-true {A = ℕ} (d == d
 occurs-other : (k d : ℕ) (xs : List ℕ) → k ≢ d → occurs k (xs ++ d ∷ []) ≡ occurs k xs
 occurs-other k d xs differ = omega (arith, occurs-push k d xs, cond-false {A = ℕ} (d == k) 1 0 (ne_eqb d k (λ e. differ (sym e))))
 
--- one that is partly used isn't in another state
-partly-alone :
-    (k d class : ℕ)
-    → (kept_among reserving k (keep d class partly_used) ≡ 0) × (kept_among waiting k (keep d class partly_used) ≡ 0)
-    × (kept_among on_its_way k (keep d class partly_used) ≡ 0)
-    × (kept_among partly_used k (keep d class partly_used) ≡ (if d == k then 1 else 0))
-partly-alone k d class = grind (arith)
-
-lets-away : (d class : ℕ) (h : Hazard) (x : Found) (q : Point) (e : ErrandFields) → Lets e.point q d class h x → GoesAway d e (retired_at e x d q)
+lets-away :
+    (d class : ℕ) (h : Hazard) (x : Found) (q : Point) (e : ErrandFields) → Lets e.point q d class partly_used h → GoesAway d e (retired_at e x d q)
 lets-away d class h x q e lets = record {
-  here = rw (lets.before, lets.after) (omega (arith, occurs-here d e.retired, (partly-alone d d class).2));
-  elsewhere = λ k differ. rw (lets.before, lets.after) (omega (arith, occurs-other k d e.retired differ, (partly-alone k d class).2));
+  here = rw (lets.before, lets.bare.holds) (omega (arith, occurs-here d e.retired, kept-one on_its_way partly_used d d class));
+  elsewhere = λ k differ.
+      rw (lets.before, lets.bare.holds) (omega (arith, occurs-other k d e.retired differ, kept-one on_its_way partly_used k d class));
 }
 
 lets-weigh :
-    (n : WordName) (before after d class : ℕ) (h : Hazard) (x : Found) (q : Point) (e : ErrandFields) → Lets e.point q d class h x
+    (n : WordName) (before after d class : ℕ) (h : Hazard) (x : Found) (q : Point) (e : ErrandFields) → Lets e.point q d class partly_used h
     → (IsPlain n → after ≡ before) → ((k : ℕ) → word_reserves k n after ≡ word_reserves k n before)
     → ((k : ℕ) → word_keeps k n after ≡ word_keeps k n before) → ((c : ℕ) → word_stock c n after ≡ word_stock c n before)
     → WeighClose n before after e (retired_at e x d q)
-lets-weigh n before after d class h x q e lets plain reserves keeps stock = record {
-  plain = plain;
-  reserves = λ k. rw (lets.before, lets.after) (omega (arith, reserves k));
-  waits = λ k. rw (lets.before, lets.after) (sym (partly-alone k d class).1);
-  ways = λ k. rw (lets.before, lets.after) (sym (partly-alone k d class).2);
-  places = λ k.
-      let alone = partly-alone k d class in
-      rw (lets.before, lets.after) (omega (arith, keeps k, occurs-push k d e.retired, alone.0, alone.1, alone.2, alone.3));
-  frames = λ f. rw (lets.before, lets.after) refl;
-  stock = λ c. rw (lets.before, lets.after, lets.waits c) (omega (arith, stock c));
-}
+lets-weigh n before after d class h x q e lets plain reserves keeps stock =
+    let one = λ (as_kept : Status) (k : ℕ). kept-one as_kept partly_used k d class in
+    record {
+      plain = plain;
+      reserves = λ k. rw (lets.before, lets.bare.holds) (omega (arith, reserves k));
+      waits = λ k. rw (lets.before, lets.bare.holds) (sym (one waiting k));
+      ways = λ k. rw (lets.before, lets.bare.holds) (sym (one on_its_way k));
+      places = λ k.
+          rw (lets.before, lets.bare.holds)
+          (omega (arith, keeps k, occurs-push k d e.retired, one reserving k, one waiting k, one on_its_way k, one partly_used k));
+      frames = λ f. rw (lets.before, lets.bare.holds) refl;
+      stock = λ c. rw (lets.before, lets.bare.holds, lets.bare.waits c, lets.waits c) (omega (arith, stock c));
+    }
 
 -- a step after which the caller stands at another point and has one more descriptor retired
 pub record RetiresTo (g : Geometry) (s : State) (who : ℕ) (d class : ℕ) (h : Hazard) (q : Point) : Type 0 where
@@ -215,7 +192,8 @@ pub record RetiresTo (g : Geometry) (s : State) (who : ℕ) (d class : ℕ) (h :
   pub event : event_at s who ≡ None
   pub exists : d < descriptor_count g
   pub empty : (anchor_for s d).state ≡ phase.Empty
-  pub lets : Lets (s.errand who).point q d class h (found_at s who)
+  pub lets : Lets (s.errand who).point q d class partly_used h
+  pub turn : TurnRetires (s.errand who).point q (found_at s who)
   pub full : spare_of q ≡ 1 → is_full (s.errand who) ≡ true
 
 -- what the words are after it: the caller's hazard word is 0
@@ -231,73 +209,31 @@ record WordsLeft (g : Geometry) (s : State) (who : ℕ) (e : ErrandFields) (word
 raised-by : (b : Bool) (n : ℕ) → n + 1 < 2 ^ 64 → raised b n ≡ n + one_if b
 raised-by b n most = grind (arith)
 
-pub raised-within : (b : Bool) (n : ℕ) → n < 2 ^ 64 → (n ≤ raised b n) × (raised b n < 2 ^ 64)
-raised-within b n most = grind (arith)
-
 pub one-most : (b : Bool) → one_if b ≤ 1
 one-most b = grind (arith)
 
--- who keeps a descriptor, and nothing else, excepts no block
-keeps-excepts :
-    (d class : ℕ) (h : Hazard) (place : ℕ) → HoldsException (record nothing { kept = keep d class partly_used; hazard = h }) place → ⊥
-keeps-excepts d class h place (inl x) = omega (arith, x.2)
-keeps-excepts d class h place (inr x) = omega (arith, x.2)
-
-pub none-some : (d : ℕ) → ◌≡◌ {A = Option ℕ} None (Some d) → ⊥
-none-some d e = cc
-
 -- the list has one more entry than the heap has callers
-pub full-length : (e : ErrandFields) (d : ℕ) → is_full e ≡ true → length e.retired ≤ e.geometry.callers → length (e.retired ++ d ∷ []) ≡ e.geometry.callers + 1
+full-length : (e : ErrandFields) (d : ℕ) → is_full e ≡ true → length e.retired ≤ e.geometry.callers → length (e.retired ++ d ∷ []) ≡ e.geometry.callers + 1
 full-length e d full room =
     omega (arith, leb-true e.geometry.callers (length e.retired) full, room, length-append e.retired (d ∷ []))
 
--- so the caller may go on
-retired-may :
-    (g : Geometry) (s : State) (l : Lists) (who d class : ℕ) (h : Hazard) (q : Point) → IsSoundWithoutCounts g s → IsSoundWith g s l → who < g.callers
-    → RetiresTo g s who d class h q → MayGoOn g s l who (s.errand who) (retired_at (s.errand who) (found_at s who) d q)
-retired-may g s l who d class h q sound old has to =
+-- so the caller may go on, with these events
+pub retired-may :
+    (g : Geometry) (s : State) (past : List Event) (l : Lists) (who : ℕ) (x : Found) (d class : ℕ) (status : Status) (h : Hazard) (q : Point)
+    → IsSoundWith g s l → who < g.callers → x.value < 2 ^ 64 → settle_of (s.errand who) x ≡ retired_at (s.errand who) x d q
+    → Lets (s.errand who).point q d class status h → (spare_of q ≡ 1 → is_full (s.errand who) ≡ true) → IsWithout s d
+    → CountsGo g (record s { history = past }) who (s.errand who) (retired_at (s.errand who) x d q)
+    → MayGoOn g (record s { history = past }) l who (s.errand who) (retired_at (s.errand who) x d q)
+retired-may g s past l who x d class status h q old has word after lets full without counts =
     let e = s.errand who in
-    let x = found_at s who in
-    let lets = to.lets in
     let own = old.errands who has in
-    let lost = raised-within (counts_lost e.point x) e.lost own.lost in
-    let cleared = raised-by (counts_cleared e.point x) e.cleared
-    (cleared-below g s (record { checked = sound.checked; legal = sound.legal; parts = (l, old) }) who has) in
-    let keeps : holds_of q ≡ nothing = lets.after in
-    record {
-      rule = record {
-        caller = own.caller;
-        geometry = own.geometry;
-        rule = subst IsErrand to.after (settle_errand e x own.rule (old.words (name_at s who)));
-        lost = lost.1;
-      };
-      kept = subst (λ held. All (λ k. IsKeptAs s k.status k.desc k.class) held.kept) (sym keeps) (All-nil (λ k. IsKeptAs s k.status k.desc k.class));
-      retired =
-          All-append (IsWithout s) e.retired (d ∷ []) (old.kept.retired who has) (All-cons (IsWithout s) d [] (inr to.empty) (All-nil (IsWithout s)));
-      so = subst (All (IsSo g s l who)) (sym lets.recalls) (All-nil (IsSo g s l who));
-      full = λ spare.
-          let room : length e.retired ≤ e.geometry.callers = omega (arith, own.rule.room, lets.spare) in
-          full-length e d (to.full spare) room ∙ ap (λ o. o.callers + 1) own.geometry;
-      hands = subst (λ held. All (λ b. IsOwned s who b.place b.need) held.hands) (sym keeps) (All-nil (λ b. IsOwned s who b.place b.need));
-      frees = subst (λ held. All (λ b. IsOwned s who b.place b.need) held.frees) (sym keeps) (All-nil (λ b. IsOwned s who b.place b.need));
-      excepts = λ place b. absurd (keeps-excepts d class h place (subst (λ held. HoldsException held place) lets.before b));
-      own_turns = omega (arith, old.turned.own_turns who has, lets.turn.under_way);
-      own_lost = omega (arith, old.turned.own_lost who has, lets.turn.discards, lets.turn.unanswered, lost.0);
-      frame_turns = omega (arith, lets.turn.unframed);
-      list_turns = omega (arith, lets.turn.pops, cleared);
-    }
-
--- and guards nothing; where a scan begins it has passed no hazard word
-retired-guards :
-    (g : Geometry) (s : State) (who d class : ℕ) (h : Hazard) (q : Point) (x : Found) (retired : List ℕ) (word : ℕ)
-    → Lets (s.errand who).point q d class h x → word ≡ 0 → MayGuard g s who q retired word
-retired-guards g s who d class h q x retired word lets bare = record {
-  hazard = subst (λ held. IsHazard held.hazard word) (sym lets.after) bare;
-  guard = λ d is guard. absurd (subst (λ held. IsGuard held.hazard) lets.after guard);
-  pushed = λ i d has guards is. absurd (none-some d (sym lets.pushed ∙ is));
-  passed = λ i d has guards listed below. let bad : ⊥ = omega (arith, below, lets.passed) in absurd bad;
-  unread = λ i passed below. lets.unread i below;
-}
+    nothing-may g (record s { history = past }) l who e (retired_at e x d q) lets.bare (settled-own g who e x (retired_at e x d q) own word after)
+    (All-append (IsWithout s) e.retired (d ∷ []) (old.kept.retired who has) (All-cons (IsWithout s) d [] without (All-nil (IsWithout s))))
+    (λ spare.
+    let room : length e.retired ≤ e.geometry.callers = omega (arith, own.rule.room, lets.spare) in
+    full-length e d (full spare) room ∙ ap (λ o. o.callers + 1) own.geometry)
+    (λ place b. absurd (keeps-excepts (keep d class status) h place (subst (λ held. HoldsException held place) lets.before b)))
+    counts
 
 -- the step keeps the state sound
 retire-sound :
@@ -309,7 +245,8 @@ retire-sound g s who s' d class h q sound has to left step =
     let l = sound.parts.0 in
     let old = sound.parts.1 in
     let words = left l old in
-    let e = retired_at (s.errand who) (found_at s who) d q in
+    let x = found_at s who in
+    let e = retired_at (s.errand who) x d q in
     let own = old.errands who has in
     let exists : Exists g (name_at s who) =
     subst (λ o. Exists o (name_at s who)) own.geometry
@@ -319,9 +256,10 @@ retire-sound g s who s' d class h q sound has to left step =
     let anchors = λ (k : ℕ). ap anchor_of (words.anchors k) in
     let away = lets-away d class h (found_at s who) q (s.errand who) to.lets in
     let keeps : 1 ≤ errand_keeps partly_used d (s.errand who) =
-    let alone = (partly-alone d d class).3 in
-    rw to.lets.before (omega (arith, alone, cond-true {A = ℕ} (d == d) 1 0 (eq-eqb d d refl))) in
+    rw to.lets.before (kept-itself partly_used d class) in
     let near = keeps-near g s l who d old has to.exists keeps in
+    let cleared = raised-by (counts_cleared (s.errand who).point x) (s.errand who).cleared
+    (cleared-below g s (record { checked = sound.checked; legal = sound.legal; parts = (l, old) }) who has) in
     record {
       checked = sound.checked;
       legal = subst (IsLegalWithoutCounts g) (sym past) sound.legal;
@@ -334,18 +272,29 @@ retire-sound g s who s' d class h q sound has to left step =
               alike =
                   weigh-close g s l who (name_at s who) _ e s' exists has step.word moves past
                   (away-bound g s l who d e s' has moves away anchors to.empty) words.weigh;
-              may = retired-may g s l who d class h q sound old has to;
+              may =
+                  retired-may g s s.history l who x d class partly_used h q old has (old.words (name_at s who)) to.after to.lets to.full
+                  (inr to.empty)
+                  (record {
+                    own_turns = omega (arith, old.turned.own_turns who has, to.turn.under_way);
+                    own_lost =
+                        omega (
+                          arith,
+                          old.turned.own_lost who has,
+                          to.turn.discards,
+                          to.turn.unanswered,
+                          raised-least (counts_lost (s.errand who).point x) (s.errand who).lost own.lost,
+                        );
+                    frame_turns = omega (arith, to.turn.unframed);
+                    list_turns = omega (arith, to.turn.pops, cleared);
+                  });
               others = words.others;
-              guards = retired-guards g s who d class h q (found_at s who) e.retired (s'.word (name.Hazard who)) to.lets words.own;
+              guards = nothing-guards g s who q e.retired (s'.word (name.Hazard who)) to.lets.bare words.own;
               actives = words.actives;
               words = words.below;
               emptied =
                   let one = away-emptied g s l who d e s' has moves away anchors to.empty to.exists near in
-                  let cleared = raised-by (counts_cleared (s.errand who).point (found_at s who)) (s.errand who).cleared
-                  (cleared-below g s (record { checked = sound.checked; legal = sound.legal; parts = (l, old) }) who has) in
-                  let most : one_if (counts_cleared (s.errand who).point (found_at s who)) ≤ 1 =
-                  one-most (counts_cleared (s.errand who).point (found_at s who)) in
-                  omega (arith, one, cleared, most);
+                  omega (arith, one, cleared, one-most (counts_cleared (s.errand who).point x));
             })
             old,
       );
@@ -374,7 +323,7 @@ retire-reads g s who s' d class q sound has to same step =
 -- and where it clears the caller's hazard word
 hazard-close :
     (n : WordName) (i before after d class : ℕ) (h : Hazard) (x : Found) (q : Point) (e : ErrandFields) → n ≡ name.Hazard i
-    → Lets e.point q d class h x → WeighClose n before after e (retired_at e x d q)
+    → Lets e.point q d class partly_used h → WeighClose n before after e (retired_at e x d q)
 hazard-close n i before after d class h x q e is lets =
     let here : WeighClose (name.Hazard i) before after e (retired_at e x d q) =
     lets-weigh (name.Hazard i) before after d class h x q e lets (λ plain. absurd plain) (λ k. refl) (λ k. refl) (λ c. refl) in
@@ -422,9 +371,13 @@ pub record Retires (g : Geometry) (s : State) (who : ℕ) (p : Point) (seat : Se
   pub event : event_of who p (found_from s p) ≡ None
   pub exists : d < descriptor_count g
   pub empty : (anchor_for s d).state ≡ phase.Empty
-  pub lets : Lets p q d seat.class h (found_from s p)
+  pub before : holds_of p ≡ record nothing { kept = keep d seat.class partly_used; hazard = h }
+  pub waits : (c : ℕ) → waits_in c p ≡ 0
+  pub spare : spare_of p ≡ 0
+  pub bare : HoldsNothing q
   pub unspared : spare_of q ≡ 0
-  pub scans : Lets p (Desc (desc.ReadHazard seat no_words 0) o) d seat.class h (found_from s p)
+  pub turn : TurnRetires p q (found_from s p)
+  pub scans : TurnRetires p (Desc (desc.ReadHazard seat no_words 0) o) (found_from s p)
 
 -- it leads to one or the other
 retires-to :
@@ -440,7 +393,8 @@ retires-to g s who seat d h o q P r leads =
             event = r.event;
             exists = r.exists;
             empty = r.empty;
-            lets = r.scans;
+            lets = record { before = r.before; bare = scan-nothing seat o; waits = r.waits; spare = r.spare };
+            turn = r.scans;
             full = λ spare. full;
           })
       | inr few ↦
@@ -450,7 +404,8 @@ retires-to g s who seat d h o q P r leads =
             event = r.event;
             exists = r.exists;
             empty = r.empty;
-            lets = r.lets;
+            lets = record { before = r.before; bare = r.bare; waits = r.waits; spare = r.spare };
+            turn = r.turn;
             full = λ spare. let bad : ⊥ = omega (arith, spare, r.unspared) in absurd bad;
           })
     ]
@@ -478,7 +433,3 @@ retire-clearing g s who s' p seat d h o q sound has at k named bare step =
     let clears : after_action (action_at s who) (word_at s who) ≡ 0 =
     subst (λ z. after_action (plan_point_of z) (s.word (name_of (plan_point_of z))) ≡ 0) (sym at) bare in
     retires-to g s who seat d h o q (IsSoundWithoutCounts g s') r (λ z to. retire-clears g s who s' d seat.class h z sound has to own clears step)
-
--- no hazard word is noted yet
-pub no_words-zero : (i : ℕ) → i < length no_words → slice_index no_words i ≡ 0
-no_words-zero i lt = grind (arith, common_steps)

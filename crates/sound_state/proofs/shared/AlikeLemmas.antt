@@ -25,7 +25,6 @@ use Rattle.superblock_parts.specs.Chains.{prefix_name, link_in}
 use Rattle.stack_parts.specs.declared.point.Pile.{Pile}
 use Rattle.stack_parts.specs.declared.point.Pile.TheVariants.{Frames, Partials}
 use Rattle.stack_parts.specs.Piles.{head_name, next_name}
-use Rattle.stack_parts.specs.Stacks.{next_in}
 use Rattle.word_plan.specs.Seats.{SeatFields}
 use Rattle.pool_model.specs.declared.event.Event.TheVariants.{Looked}
 use Rattle.pool_model.specs.Histories.{own, EndsWith}
@@ -45,8 +44,10 @@ use Rattle.sound_state.specs.Stock.{IsStocked}
 use Rattle.sound_state.specs.Sums.{sum_below, callers_sum}
 use Rattle.sound_state.specs.Superblocks.{Superblock, AreChained, IsChained, info_or_zero, live_at, is_there, anchor_for, info_for, superblock_of, reserved_of, waiting_of, is_bound, errand_keeps}
 use Rattle.sound_state.specs.Ties.{IsTied, IsLive, IsExcepted, IsBlockOfDesc}
-use Rattle.sound_state.specs.Turns.{IsTurned, gives_small, refuses_small, turn_open, turn_unframed, turn_unlisted, turn_unanswered, errand_discards, errand_pops, turns_of, cleared_of, emptied_out, is_small_alloc, is_small_free}
-use Rattle.sound_state.proofs.shared.SumLemmas.{callers-moved, sum-same}
+use Rattle.sound_state.specs.Turns.{IsTurned, gives_small, refuses_small, turn_open, turn_unframed, turn_unlisted, turn_unanswered, errand_discards, errand_pops, emptied_out}
+use Rattle.sound_state.proofs.shared.ListEffects.{IsListWord, listed-kept}
+use Rattle.sound_state.proofs.shared.SumLemmas.{sum-same}
+use Rattle.sound_state.proofs.shared.TurnEffects.{head-tag, no-event, turned-after}
 
 -- the second state shows the same superblocks, lists and events as the first
 pub record Alike (g : Geometry) (s : State) (l : Lists) (s' : State) : Type 0 where
@@ -266,20 +267,15 @@ pub record GoesOn (g : Geometry) (s : State) (l : Lists) (who : ℕ) (e : Errand
       sum_below (descriptor_count g) (emptied_out g s' l) + e.cleared
       ≤ sum_below (descriptor_count g) (emptied_out g s l) + (s.errand who).cleared
 
+-- the heads and the next words are plain words
+list-plain : (n : WordName) → IsListWord n → IsPlain n
+list-plain (name.Active heap class) is = is
+list-plain (name.Slot heap class) is = is
+list-plain (name.Hazard caller) is = is
+list-plain n is = tt
+
 listed-alike : (g : Geometry) (s : State) (l : Lists) (s' : State) → Alike g s l s' → IsListed g s.word l → IsListed g s'.word l
-listed-alike g s l s' h listed =
-    let frames : next_in s'.word Frames ≡ next_in s.word Frames = fun_ext (λ i. h.word (name.FrameNext i) tt) in
-    let partials : next_in s'.word Partials ≡ next_in s.word Partials = fun_ext (λ i. h.word (name.Next i) tt) in
-    record {
-      nexts = λ d has. subst (λ w. w ≤ descriptor_count g) (sym (h.word (name.Next d) tt)) (listed.nexts d has);
-      frame_nexts = λ f has. subst (λ w. w ≤ g.frames) (sym (h.word (name.FrameNext f) tt)) (listed.frame_nexts f has);
-      frames = rw (frames, h.word name.FrameHead tt) listed.frames;
-      frames_exist = listed.frames_exist;
-      available = rw (partials, h.word name.DescHead tt) listed.available;
-      available_exist = listed.available_exist;
-      partials = λ class has. rw (partials, h.word (name.ListHead class) tt) (listed.partials class has);
-      partials_exist = listed.partials_exist;
-    }
+listed-alike g s l s' h = listed-kept g s.word s'.word l (λ n is. h.word n (list-plain n is))
 
 kept-alike : (g : Geometry) (s : State) (l : Lists) (who : ℕ) (e : ErrandFields) (s' : State) → GoesOn g s l who e s' → IsKept g s l → IsKept g s' l
 kept-alike g s l who e s' go kept =
@@ -403,30 +399,20 @@ turned-alike :
     (g : Geometry) (s : State) (l : Lists) (who : ℕ) (e : ErrandFields) (s' : State) → GoesOn g s l who e s' → IsTurned g s l → IsTurned g s' l
 turned-alike g s l who e s' go turned =
     let h = go.alike in
-    let moved = λ (weight : ErrandFields → ℕ). callers-moved g weight s.errand who e s'.errand go.caller go.moves in
-    let heads = λ (class : ℕ). ap (λ w. (head_of w).tag) (h.word (name.ListHead class) tt) in
-    let frees : count_by (is_small_free g) s'.history ≡ count_by (is_small_free g) s.history = ap (count_by (is_small_free g)) h.history in
-    let allocs : count_by is_small_alloc s'.history ≡ count_by is_small_alloc s.history = ap (count_by is_small_alloc) h.history in
-    record {
-      own_turns = λ i has.
-          subst (λ e. count_by (gives_small i) e + turn_open (s'.errand i) ≤ (s'.errand i).turns) (sym h.history)
-          (each-caller g (λ i e. count_by (gives_small i) s.history + turn_open e ≤ e.turns) s.errand who e s'.errand go.moves go.may.own_turns
-          turned.own_turns i has);
-      own_lost = λ i has.
-          subst
-          (λ past. (s'.errand i).turns + errand_discards (s'.errand i)
-          ≤ count_by (gives_small i) past + count_by (refuses_small i) past + (s'.errand i).lost + turn_unanswered (s'.errand i)) (sym h.history)
-          (each-caller g
-          (λ i e. e.turns + errand_discards e
-          ≤ count_by (gives_small i) s.history + count_by (refuses_small i) s.history + e.lost + turn_unanswered e) s.errand who e s'.errand go.moves
-          go.may.own_lost turned.own_lost i has);
-      anchor_tags = λ d has. omega (arith, turned.anchor_tags d has, ap (λ a. a.tag) (anchor-alike g s l s' h d), allocs);
-      frame_tag =
-          omega (arith, turned.frame_tag, ap (λ w. (head_of w).tag) (h.word name.FrameHead tt), moved turn_unframed, moved turns_of, go.may.frame_turns);
-      emptied = omega (arith, turned.emptied, go.emptied, moved cleared_of, frees);
-      list_tags = λ class has.
-          omega (arith, turned.list_tags class has, heads class, moved errand_pops, moved turn_unlisted, moved turns_of, moved cleared_of, go.may.list_turns, frees);
-    }
+    let events = no-event g who s.history s'.history h.history in
+    turned-after g s l who e s' l 0 0
+    (record {
+      caller = go.caller;
+      moves = go.moves;
+      events = events;
+      own_turns = omega (arith, go.may.own_turns, events.gives);
+      own_lost = omega (arith, go.may.own_lost, events.gives, events.refuses who);
+      anchor_tags = λ d has. omega (arith, ap (λ a. a.tag) (anchor-alike g s l s' h d));
+      frame_turns = omega (arith, head-tag (h.word name.FrameHead tt), go.may.frame_turns);
+      emptied = omega (arith, go.emptied);
+      list_turns = λ class has. omega (arith, head-tag (h.word (name.ListHead class) tt), go.may.list_turns);
+    })
+    turned
 
 excepted-alike :
     (g : Geometry) (s : State) (l : Lists) (who : ℕ) (e : ErrandFields) (s' : State) → GoesOn g s l who e s' → (place : ℕ)

@@ -1,5 +1,5 @@
--- Exchanges of an active word that are won: a credit is taken, or reserved blocks are offered.
-use Rattle.std.proofs.Common.{ℕ, true, false, Some, None, ◌≡◌, ◌<◌, ◌≤◌, ◌+◌, ◌^◌, refl, arith, ap, sym, subst, inl, inr, ◌∙◌, eq-eqb}
+-- Exchanges that are won and lead on, and what the active words hold after a write of one.
+use Rattle.std.proofs.Common.{ℕ, true, false, Some, None, ◌≡◌, ◌<◌, ◌≤◌, ◌^◌, refl, arith, ap, sym, subst, inl, inr, ◌∙◌, eq-eqb}
 use Rattle.std.specs.Prelude.{◌==◌, IsTrue, IsSome}
 use Rattle.std.proofs.lemmas.Bool.{cond-true}
 use Rattle.heap_geometry.specs.declared.geometry.Geometry.{Geometry}
@@ -16,26 +16,22 @@ use Rattle.word_plan.specs.Counts.{word_count}
 use Rattle.word_plan.specs.Words.{Writes}
 use Rattle.word_plan.proofs.NameLemmas.{cases_name}
 use Rattle.word_plan.proofs.TableLemmas.{word_index-within, word_name-word_index}
-use Rattle.superblock_parts.specs.Chains.{occurs}
 use Rattle.errand_steps.specs.declared.point.Point.{Point}
 use Rattle.errand_steps.specs.declared.next.Next.TheVariants.{At}
 use Rattle.errand_steps.specs.Errands.{ErrandFields, counts_cleared}
 use Rattle.errand_steps.specs.Events.{event_of}
 use Rattle.errand_steps.specs.Nexts.{next_of}
 use Rattle.errand_steps.specs.Points.{plan_point_of}
-use Rattle.errand_steps.specs.Steps.{State, Step, found_at}
-use Rattle.sound_state.specs.Holdings.{holds_of, waiting, on_its_way, reserving, partly_used}
+use Rattle.errand_steps.specs.Steps.{State, Step}
 use Rattle.sound_state.specs.Keepers.{IsKept, IsActive, word_keeps, errand_has}
 use Rattle.sound_state.specs.Lists.{Lists}
 use Rattle.sound_state.specs.Sound.{IsSoundWithoutCounts, IsSoundWith}
-use Rattle.sound_state.specs.Stock.{waits_in, word_stock, stock_among}
 use Rattle.sound_state.specs.Sums.{sum_below, words_sum, callers_sum}
-use Rattle.sound_state.specs.Superblocks.{is_bound, away_of, errand_away, word_reserves, reserved_among, kept_among}
+use Rattle.sound_state.specs.Superblocks.{is_bound, away_of, errand_away}
 use Rattle.sound_state.proofs.shared.AlikeLemmas.{ActivesKept}
-use Rattle.sound_state.proofs.quiet.QuietLemmas.{found_from}
-use Rattle.sound_state.proofs.shared.StepLemmas.{PointGoes, at_point, step-sound}
+use Rattle.sound_state.proofs.shared.PointLemmas.{WeighFrom, step-from}
+use Rattle.sound_state.proofs.shared.StepLemmas.{PointGoes, found_from}
 use Rattle.sound_state.proofs.shared.SumLemmas.{term-sum, sum-least}
-use Rattle.sound_state.proofs.shared.WeighLemmas.{IsStill, WeighAlike}
 
 -- a word is no more than all words weigh together
 pub word-sum :
@@ -103,37 +99,6 @@ actives-written g s l heap class new words' kept w some held = record {
       kept.slot h c d has_heap has_class (sym (w.elsewhere (name.Slot h c) (λ e. slot-apart h c heap class e)) ∙ says);
 }
 
--- a word and a point weigh together what they weighed
-pub record WeighsOver (n : WordName) (before after : ℕ) (p q : Point) : Type 0 where
-  pub still : IsStill n → after ≡ before
-  pub reserves :
-      (d : ℕ) → word_reserves d n after + reserved_among d (holds_of q).credits ≡ word_reserves d n before + reserved_among d (holds_of p).credits
-  pub waits : (d : ℕ) → kept_among waiting d (holds_of q).kept ≡ kept_among waiting d (holds_of p).kept
-  pub ways : (d : ℕ) → kept_among on_its_way d (holds_of q).kept ≡ kept_among on_its_way d (holds_of p).kept
-  pub places :
-      (d : ℕ)
-      → word_keeps d n after + (kept_among reserving d (holds_of q).kept + kept_among partly_used d (holds_of q).kept)
-      ≡ word_keeps d n before + (kept_among reserving d (holds_of p).kept + kept_among partly_used d (holds_of p).kept)
-  pub frames : (holds_of q).frames ≡ (holds_of p).frames
-  pub stock :
-      (class : ℕ)
-      → word_stock class n after + (stock_among class (holds_of q).kept + waits_in class q)
-      ≡ word_stock class n before + (stock_among class (holds_of p).kept + waits_in class p)
-
-over-alike :
-    (n : WordName) (before after : ℕ) (e : ErrandFields) (x : Found) (q : Point) → WeighsOver n before after e.point q
-    → WeighAlike n before after e (at_point e x q)
-over-alike n before after e x q w = record {
-  still = w.still;
-  reserves = w.reserves;
-  waits = w.waits;
-  ways = w.ways;
-  away = λ d. ap (λ k. occurs d e.retired + k) (w.ways d);
-  places = λ d. omega (arith, w.places d, w.waits d, w.ways d);
-  frames = λ f. ap (occurs f) w.frames;
-  stock = w.stock;
-}
-
 -- what an exchange finds that is won
 abbrev pub won_with : ℕ → Found
 won_with word = record { value = word; won = true }
@@ -145,39 +110,30 @@ pub record WinsTo (g : Geometry) (s : State) (who : ℕ) (p q : Point) (n : Word
   pub event : event_of who p (won_with (s.word n)) ≡ None
   pub cleared : counts_cleared p (won_with (s.word n)) ≡ false
   pub below : new < 2 ^ 64
-  pub weighs : WeighsOver n expected new p q
+  pub weighs : WeighFrom n expected new p q
   pub goes : (l : Lists) → IsSoundWith g s l → PointGoes g s l who p q
   pub actives : (l : Lists) → IsSoundWith g s l → (words' : WordName → ℕ) → Writes s.word n new words' → ActivesKept g s words'
 
-won-sound :
-    (g : Geometry) (s : State) (who : ℕ) (s' : State) (q : Point) (n : WordName) (expected new : ℕ) → IsSoundWithoutCounts g s → who < g.callers
-    → WinsTo g s who (s.errand who).point q n expected new → s.word n ≡ expected → Step s who s' → IsSoundWithoutCounts g s'
-won-sound g s who s' q n expected new sound has h is step =
-    let p = (s.errand who).point in
-    let e = s.errand who in
+-- keeps the state sound
+pub won-at :
+    (g : Geometry) (s : State) (who : ℕ) (s' : State) (p q : Point) (n : WordName) (expected new : ℕ) → IsSoundWithoutCounts g s → who < g.callers
+    → (s.errand who).point ≡ p → WinsTo g s who p q n expected new → s.word n ≡ expected → Step s who s' → IsSoundWithoutCounts g s'
+won-at g s who s' p q n expected new sound has at h is step =
     let won : (s.word n == expected) ≡ true = eq-eqb (s.word n) expected is in
     let found : found_from s p ≡ won_with (s.word n) =
     ap (λ a. found_by a (s.word (name_of a))) h.plan ∙ ap (λ b. record { value = s.word n; won = b }) won in
     let after : after_action (Cas n expected new) (s.word n) ≡ new = cond-true {A = ℕ} (s.word n == expected) new (s.word n) won in
-    let weigh : WeighAlike n (s.word n) (after_action (Cas n expected new) (s.word n)) e (at_point e (found_at s who) q) =
-    subst (λ v. WeighAlike n (s.word n) v e (at_point e (found_at s who) q)) (sym after)
-    (subst (λ v. WeighAlike n v new e (at_point e (found_at s who) q)) (sym is) (over-alike n expected new e (found_at s who) q h.weighs)) in
-    let writes : Writes s.word n (after_action (Cas n expected new) (s.word n)) s'.word =
-    subst (λ a. Writes s.word (name_of a) (after_action a (s.word (name_of a))) s'.word) h.plan step.word in
-    step-sound g s who s' q sound has
+    step-from g s who s' p (At q) tt sound has at
     (λ l old. record {
       next = ap (next_of p) found ∙ h.next;
       event = ap (event_of who p) found ∙ h.event;
       cleared = ap (counts_cleared p) found ∙ h.cleared;
       goes = h.goes l old;
-      weigh = subst (λ a. WeighAlike (name_of a) (s.word (name_of a)) (after_action a (s.word (name_of a))) e (at_point e (found_at s who) q)) (sym h.plan) weigh;
-      below =
-          subst (λ a. after_action a (s.word (name_of a)) < 2 ^ 64) (sym h.plan) (subst (λ v. v < 2 ^ 64) (sym after) h.below);
+      weigh = rw (h.plan, after, is) h.weighs;
+      below = rw (h.plan, after) h.below;
+      actives = λ words' w.
+          h.actives l old words'
+          (subst (λ v. Writes s.word n v words') after
+          (subst (λ a. Writes s.word (name_of a) (after_action a (s.word (name_of a))) words') h.plan w));
     })
-    (λ l old. h.actives l old s'.word (subst (λ v. Writes s.word n v s'.word) after writes)) step
-
-pub won-at :
-    (g : Geometry) (s : State) (who : ℕ) (s' : State) (p q : Point) (n : WordName) (expected new : ℕ) → IsSoundWithoutCounts g s → who < g.callers
-    → (s.errand who).point ≡ p → WinsTo g s who p q n expected new → s.word n ≡ expected → Step s who s' → IsSoundWithoutCounts g s'
-won-at g s who s' p q n expected new sound has at h is step =
-    won-sound g s who s' q n expected new sound has (subst (λ r. WinsTo g s who r q n expected new) (sym at) h) is step
+    step

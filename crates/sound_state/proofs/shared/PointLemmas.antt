@@ -1,7 +1,7 @@
 -- Steps from a point that is known: what a sound state says of the caller there, and what its word and errand weigh.
-use Rattle.std.proofs.Common.{ℕ, false, None, ◌≡◌, ◌<◌, ◌≤◌, ◌+◌, ◌^◌, List, [], ◌∷◌, suc, refl, arith, ap, sym, subst, inl, inr, ◌∙◌}
+use Rattle.std.proofs.Common.{ℕ, false, None, ◌≡◌, ◌<◌, ◌≤◌, ◌+◌, ◌^◌, List, [], ◌∷◌, refl, arith, ap, sym, subst, inl, inr, ◌∙◌}
 use Rattle.std.specs.Prelude.{All, Any, IsSome, IsTrue, length}
-use Rattle.std.proofs.lemmas.List.Elements.{All-nil, All-cons}
+use Rattle.std.proofs.lemmas.List.Elements.{All-nil, All-cons, All-tail}
 use Rattle.heap_geometry.specs.declared.geometry.Geometry.{Geometry}
 use Rattle.packed_words.specs.Active.{active_of}
 use Rattle.word_plan.specs.declared.action.Found.{Found}
@@ -15,17 +15,15 @@ use Rattle.word_plan.proofs.NameLemmas.{cases_name}
 use Rattle.superblock_parts.specs.Chains.{occurs}
 use Rattle.errand_steps.specs.declared.onward.Onward.{Onward}
 use Rattle.errand_steps.specs.declared.onward.Onward.TheVariants as onward
-use Rattle.errand_steps.specs.declared.next.Next.TheVariants.{At, End}
+use Rattle.errand_steps.specs.declared.next.Next.{Next}
 use Rattle.errand_steps.specs.declared.point.Point.{Point}
-use Rattle.errand_steps.specs.declared.point.Point.TheVariants.{Idle}
-use Rattle.errand_steps.specs.declared.reply.Reply.{Reply}
-use Rattle.errand_steps.specs.Errands.{ErrandFields, counts_cleared}
+use Rattle.errand_steps.specs.Errands.{ErrandFields, point_after, counts_cleared}
 use Rattle.errand_steps.specs.Events.{event_of}
 use Rattle.errand_steps.specs.Fits.{FitsPoint, spare_of, pushed_by}
 use Rattle.errand_steps.specs.Nexts.{next_of}
 use Rattle.errand_steps.specs.Onwards.{is_alloc, is_free}
 use Rattle.errand_steps.specs.Points.{asked, plan_point_of}
-use Rattle.errand_steps.specs.Steps.{State, Step, found_at}
+use Rattle.errand_steps.specs.Steps.{State, Step, action_at, name_at, word_at, found_at}
 use Rattle.errand_steps.proofs.PlanLemmas.{plan-exists}
 use Rattle.sound_state.specs.Guards.{IsHazard, IsGuard, passed_by, held_by}
 use Rattle.sound_state.specs.Holdings.{Kept, holds_of, on_its_way, waiting, reserving, partly_used}
@@ -37,10 +35,9 @@ use Rattle.sound_state.specs.Stock.{waits_in, word_stock, stock_among}
 use Rattle.sound_state.specs.Sums.{sum_below, callers_sum}
 use Rattle.sound_state.specs.Superblocks.{errand_keeps, word_reserves, reserved_among, kept_among}
 use Rattle.sound_state.proofs.shared.AlikeLemmas.{ActivesKept}
-use Rattle.sound_state.proofs.quiet.QuietLemmas.{found_from, actives-stay, words-stay}
-use Rattle.sound_state.proofs.shared.StepLemmas.{PointGoes, TurnGoes, at_point, settle-end, step-after, step-sound}
+use Rattle.sound_state.proofs.shared.StepLemmas.{IsPlain, PointGoes, TurnGoes, actives-stay, at_point, found_from, goes-guards, goes-stands, settle-next, step-most, words-stay}
 use Rattle.sound_state.proofs.shared.SumLemmas.{sum-plus, sum-least, term-sum}
-use Rattle.sound_state.proofs.shared.WeighLemmas.{IsStill, WeighAlike}
+use Rattle.sound_state.proofs.shared.WeighLemmas.{IsStill, WeighAlike, alike-most, hazards-stay}
 
 -- what a sound state says of a caller at this point
 pub fits-at :
@@ -51,6 +48,10 @@ fits-at g s l who p old has at =
     subst (FitsPoint g who) at
     (subst (λ h. FitsPoint h who (s.errand who).point) own.geometry
     (subst (λ i. FitsPoint (s.errand who).geometry i (s.errand who).point) own.caller own.rule.point))
+
+pub fits-now :
+    (g : Geometry) (s : State) (who : ℕ) (p : Point) → IsSoundWithoutCounts g s → who < g.callers → (s.errand who).point ≡ p → FitsPoint g who p
+fits-now g s who p sound has at = fits-at g s sound.parts.0 who p sound.parts.1 has at
 
 pub kept-at :
     (g : Geometry) (s : State) (l : Lists) (who : ℕ) (p : Point) → IsSoundWith g s l → who < g.callers → (s.errand who).point ≡ p
@@ -86,17 +87,16 @@ the-free o is = grind (arith, is)
 
 -- all but the first
 pub All-rest : {X : Type 0} (P : X → Type 0) (x : X) (xs : List X) → All P (x ∷ xs) → All P xs
-All-rest P x xs h = λ k d within. h (suc k) d (omega arith)
+All-rest P x xs h = All-tail P x xs h
 
 -- the word of the point is one of the heap's
 pub exists-at :
     (g : Geometry) (s : State) (who : ℕ) (p : Point) → IsSoundWithoutCounts g s → who < g.callers → (s.errand who).point ≡ p
     → Exists g (name_of (plan_point_of p))
-exists-at g s who p sound has at = plan-exists g who p sound.checked has (fits-at g s sound.parts.0 who p sound.parts.1 has at)
+exists-at g s who p sound has at = plan-exists g who p sound.checked has (fits-now g s who p sound has at)
 
--- at the second point a caller has the hazard word, the blocks and the push that it has at the first, and is no further back in its turn
-pub record HoldsAlike (p q : Point) : Type 0 where
-  pub hazard : (holds_of q).hazard ≡ (holds_of p).hazard
+-- at the second point a caller has the blocks and the push that it has at the first, and is no further back in its turn
+pub record HoldsBlocks (p q : Point) : Type 0 where
   pub hands : (holds_of q).hands ≡ (holds_of p).hands
   pub frees : (holds_of q).frees ≡ (holds_of p).frees
   pub pushed : pushed_by q ≡ pushed_by p
@@ -105,16 +105,17 @@ pub record HoldsAlike (p q : Point) : Type 0 where
   pub spare : spare_of q ≡ spare_of p
   pub turn : TurnGoes p q
 
--- it may stand there, where what it keeps is in its state and what it remembers is so
-pub alike-goes :
+-- it may stand there, where its hazard word is as the point asks, what it keeps is in its state and what it remembers is so
+pub blocks-go :
     (g : Geometry) (s : State) (l : Lists) (who : ℕ) (p q : Point) → IsSoundWith g s l → who < g.callers → (s.errand who).point ≡ p
-    → HoldsAlike p q → All (λ k. IsKeptAs s k.status k.desc k.class) (holds_of q).kept → All (IsSo g s l who) (recalls_of q)
-    → PointGoes g s l who p q
-alike-goes g s l who p q old has at h kept so = record {
+    → HoldsBlocks p q → IsHazard (holds_of q).hazard (s.word (name.Hazard who))
+    → ((d : ℕ) → s.word (name.Hazard who) ≡ d + 1 → IsGuard (holds_of q).hazard → IsGuard (holds_of p).hazard)
+    → All (λ k. IsKeptAs s k.status k.desc k.class) (holds_of q).kept → All (IsSo g s l who) (recalls_of q) → PointGoes g s l who p q
+blocks-go g s l who p q old has at h hazard guard kept so = record {
   kept = kept;
   so = so;
-  hazard = subst (λ x. IsHazard x (s.word (name.Hazard who))) (sym h.hazard) (hazard-at g s l who p old has at);
-  guard = λ d word guard. subst IsGuard h.hazard guard;
+  hazard = hazard;
+  guard = guard;
   pushed = h.pushed;
   passed = h.passed;
   unread = h.unread;
@@ -128,6 +129,35 @@ alike-goes g s l who p q old has at h kept so = record {
       ];
   turn = h.turn;
 }
+
+-- the same, where its hazard word is what it was
+pub record HoldsAlike (p q : Point) : Type 0 where
+  pub hazard : (holds_of q).hazard ≡ (holds_of p).hazard
+  pub hands : (holds_of q).hands ≡ (holds_of p).hands
+  pub frees : (holds_of q).frees ≡ (holds_of p).frees
+  pub pushed : pushed_by q ≡ pushed_by p
+  pub passed : passed_by q ≡ 0
+  pub unread : length (held_by q) ≡ 0
+  pub spare : spare_of q ≡ spare_of p
+  pub turn : TurnGoes p q
+
+pub alike-goes :
+    (g : Geometry) (s : State) (l : Lists) (who : ℕ) (p q : Point) → IsSoundWith g s l → who < g.callers → (s.errand who).point ≡ p
+    → HoldsAlike p q → All (λ k. IsKeptAs s k.status k.desc k.class) (holds_of q).kept → All (IsSo g s l who) (recalls_of q)
+    → PointGoes g s l who p q
+alike-goes g s l who p q old has at h kept so =
+    blocks-go g s l who p q old has at
+    (record {
+      hands = h.hands;
+      frees = h.frees;
+      pushed = h.pushed;
+      passed = h.passed;
+      unread = h.unread;
+      spare = h.spare;
+      turn = h.turn;
+    })
+    (subst (λ x. IsHazard x (s.word (name.Hazard who))) (sym h.hazard) (hazard-at g s l who p old has at))
+    (λ d word guard. subst IsGuard h.hazard guard) kept so
 
 -- in how many places a caller keeps d
 abbrev pub kept_places : ℕ → List Kept → ℕ
@@ -176,15 +206,15 @@ from-weighs n before after e x q h = record {
   stock = h.stock;
 }
 
--- a step from the first point to the second, and what the active words and the slots hold after it
-pub record StepsFrom (g : Geometry) (s : State) (l : Lists) (who : ℕ) (p q : Point) : Type 0 where
-  pub next : next_of p (found_from s p) ≡ At q
+-- a step from a point that leads there, and what the active words and the slots hold after it
+pub record StepsFrom (g : Geometry) (s : State) (l : Lists) (who : ℕ) (p : Point) (n : Next) : Type 0 where
+  pub next : next_of p (found_from s p) ≡ n
   pub event : event_of who p (found_from s p) ≡ None
   pub cleared : counts_cleared p (found_from s p) ≡ false
-  pub goes : PointGoes g s l who p q
+  pub goes : PointGoes g s l who p (point_after n)
   pub weigh :
       WeighFrom (name_of (plan_point_of p)) (s.word (name_of (plan_point_of p)))
-      (after_action (plan_point_of p) (s.word (name_of (plan_point_of p)))) p q
+      (after_action (plan_point_of p) (s.word (name_of (plan_point_of p)))) p (point_after n)
   pub below : after_action (plan_point_of p) (s.word (name_of (plan_point_of p))) < 2 ^ 64
   pub actives :
       (words' : WordName → ℕ)
@@ -193,56 +223,35 @@ pub record StepsFrom (g : Geometry) (s : State) (l : Lists) (who : ℕ) (p q : P
 
 -- it keeps the state sound
 pub step-from :
-    (g : Geometry) (s : State) (who : ℕ) (s' : State) (p q : Point) → IsSoundWithoutCounts g s → who < g.callers → (s.errand who).point ≡ p
-    → ((l : Lists) → IsSoundWith g s l → StepsFrom g s l who p q) → Step s who s' → IsSoundWithoutCounts g s'
-step-from g s who s' p q sound has at h step =
-    let moved = λ (l : Lists) (old : IsSoundWith g s l). subst (λ r. StepsFrom g s l who r q) (sym at) (h l old) in
-    step-sound g s who s' q sound has
+    (g : Geometry) (s : State) (who : ℕ) (s' : State) (p : Point) (n : Next) → IsPlain n → IsSoundWithoutCounts g s → who < g.callers
+    → (s.errand who).point ≡ p → ((l : Lists) → IsSoundWith g s l → StepsFrom g s l who p n) → Step s who s' → IsSoundWithoutCounts g s'
+step-from g s who s' p n plain sound has at h step =
+    let e = s.errand who in
+    let q = point_after n in
+    let moved = λ (l : Lists) (old : IsSoundWith g s l). subst (λ r. StepsFrom g s l who r n) (sym at) (h l old) in
+    let weighs : (l : Lists) (old : IsSoundWith g s l)
+    → WeighAlike (name_at s who) (word_at s who) (after_action (action_at s who) (word_at s who)) e (at_point e (found_at s who) q) =
+    λ l old. let m : StepsFrom g s l who e.point n = moved l old in from-weighs _ _ _ e (found_at s who) q m.weigh in
+    step-most g s who s' q sound has
     (λ l old.
-    let m : StepsFrom g s l who (s.errand who).point q = moved l old in
+    let m : StepsFrom g s l who e.point n = moved l old in
     record {
-      next = m.next;
+      after = settle-next e (found_at s who) n plain m.next;
       event = m.event;
       cleared = m.cleared;
-      goes = m.goes;
-      weigh = from-weighs _ _ _ (s.errand who) (found_at s who) q m.weigh;
+      stands = goes-stands g s l who e.point q m.goes;
+      weigh = alike-most (name_at s who) _ _ e (at_point e (found_at s who) q) (weighs l old);
       below = m.below;
     })
-    (λ l old. let m : StepsFrom g s l who (s.errand who).point q = moved l old in m.actives s'.word step.word) step
-
--- a step from the first point that ends the call, and what the active words and the slots hold after it
-pub record EndsFrom (g : Geometry) (s : State) (l : Lists) (who : ℕ) (p : Point) (r : Reply) : Type 0 where
-  pub next : next_of p (found_from s p) ≡ End r
-  pub event : event_of who p (found_from s p) ≡ None
-  pub cleared : counts_cleared p (found_from s p) ≡ false
-  pub goes : PointGoes g s l who p Idle
-  pub weigh :
-      WeighFrom (name_of (plan_point_of p)) (s.word (name_of (plan_point_of p)))
-      (after_action (plan_point_of p) (s.word (name_of (plan_point_of p)))) p Idle
-  pub below : after_action (plan_point_of p) (s.word (name_of (plan_point_of p))) < 2 ^ 64
-  pub actives :
-      (words' : WordName → ℕ)
-      → Writes s.word (name_of (plan_point_of p)) (after_action (plan_point_of p) (s.word (name_of (plan_point_of p)))) words'
-      → ActivesKept g s words'
-
--- it keeps the state sound
-pub end-from :
-    (g : Geometry) (s : State) (who : ℕ) (s' : State) (p : Point) (r : Reply) → IsSoundWithoutCounts g s → who < g.callers → (s.errand who).point ≡ p
-    → ((l : Lists) → IsSoundWith g s l → EndsFrom g s l who p r) → Step s who s' → IsSoundWithoutCounts g s'
-end-from g s who s' p r sound has at h step =
-    let moved = λ (l : Lists) (old : IsSoundWith g s l). subst (λ z. EndsFrom g s l who z r) (sym at) (h l old) in
-    step-after g s who s' Idle sound has
+    (λ l old. let m : StepsFrom g s l who e.point n = moved l old in m.actives s'.word step.word)
     (λ l old.
-    let m : EndsFrom g s l who (s.errand who).point r = moved l old in
+    let m : StepsFrom g s l who e.point n = moved l old in
+    let stay = hazards-stay s.word (name_at s who) _ s'.word step.word (weighs l old).still in
     record {
-      after = settle-end (s.errand who) (found_at s who) r m.next;
-      event = m.event;
-      cleared = m.cleared;
-      goes = m.goes;
-      weigh = from-weighs _ _ _ (s.errand who) (found_at s who) Idle m.weigh;
-      below = m.below;
+      others = λ i differ. stay i;
+      guards = goes-guards g s l who q e.retired (s'.word (name.Hazard who)) old.guarded has (stay who) m.goes;
     })
-    (λ l old. let m : EndsFrom g s l who (s.errand who).point r = moved l old in m.actives s'.word step.word) step
+    step
 
 -- where the word stays, the active words and the slots do
 pub stays-actives :

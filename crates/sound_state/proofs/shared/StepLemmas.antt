@@ -1,34 +1,38 @@
 -- A step that leads from one point to another, and changes nothing that is shown, keeps the state sound.
 use Rattle.std.proofs.Common.{ℕ, Bool, false, None, ◌≡◌, ◌≢◌, ◌<◌, ◌≤◌, ◌+◌, ◌^◌, List, length, refl, arith, ap, sym, subst, inl, inr, ◌∙◌}
-use Rattle.std.specs.Prelude.{◌⊎◌, ◌&&◌, not, All, Any, IsTrue}
+use Rattle.std.specs.Prelude.{◌⊎◌, ◌&&◌, not, All, Any, IsSome, IsTrue}
 use Rattle.heap_geometry.specs.declared.geometry.Geometry.{Geometry}
 use Rattle.word_plan.specs.declared.action.Found.{Found}
 use Rattle.word_plan.specs.declared.name.WordName.{WordName}
 use Rattle.word_plan.specs.declared.name.WordName.TheVariants as name
-use Rattle.word_plan.specs.Actions.{after_action}
+use Rattle.packed_words.specs.Active.{active_of}
+use Rattle.word_plan.specs.Actions.{name_of, after_action, found_by}
+use Rattle.word_plan.specs.Counts.{descriptor_count}
 use Rattle.word_plan.specs.Table.{Exists}
 use Rattle.word_plan.specs.Words.{Writes}
 use Rattle.word_plan.proofs.NameLemmas.{cases_name}
 use Rattle.pool_model.specs.Legal.{IsLegalWithoutCounts}
+use Rattle.errand_steps.specs.declared.next.Next.{Next}
 use Rattle.errand_steps.specs.declared.next.Next.TheVariants.{At, End}
 use Rattle.errand_steps.specs.declared.point.Point.{Point}
 use Rattle.errand_steps.specs.declared.point.Point.TheVariants.{Idle}
 use Rattle.errand_steps.specs.declared.reply.Reply.{Reply}
-use Rattle.errand_steps.specs.Errands.{ErrandFields, IsErrand, settle_of, course_of, plan_of, raised, counts_won, counts_lost, counts_cleared}
+use Rattle.errand_steps.specs.Errands.{ErrandFields, IsErrand, point_after, settle_of, course_of, plan_of, raised, counts_won, counts_lost, counts_cleared}
 use Rattle.errand_steps.specs.Fits.{spare_of, pushed_by}
 use Rattle.errand_steps.specs.Nexts.{next_of}
+use Rattle.errand_steps.specs.Points.{plan_point_of}
 use Rattle.errand_steps.specs.Steps.{State, Step, Moves, action_at, name_at, word_at, found_at, event_at, with_event}
 use Rattle.errand_steps.proofs.ErrandLemmas.{settle_errand}
 use Rattle.errand_steps.proofs.PlanLemmas.{plan-exists}
 use Rattle.sound_state.specs.Guards.{IsGuarded, IsGuard, IsHazard, passed_by, held_by}
 use Rattle.sound_state.specs.Holdings.{Holding, holds_of}
-use Rattle.sound_state.specs.Keepers.{IsKeptAs}
+use Rattle.sound_state.specs.Keepers.{IsKept, IsKeptAs}
 use Rattle.sound_state.specs.Lists.{Lists}
 use Rattle.sound_state.specs.Recalls.{IsSo, IsOwned, recalls_of}
 use Rattle.sound_state.specs.Sound.{IsSoundWithoutCounts, IsSoundWith}
 use Rattle.sound_state.specs.Turns.{one_if, in_turn, has_frame, has_partial, has_refused, is_discarding_at, pops_left}
 use Rattle.sound_state.proofs.shared.AlikeLemmas.{MayGoOn, MayGuard, ActivesKept, sound-alike}
-use Rattle.sound_state.proofs.shared.WeighLemmas.{WeighAlike, WeighMost, alike-most, hazards-stay, weigh-alike, weigh-emptied}
+use Rattle.sound_state.proofs.shared.WeighLemmas.{WeighMost, weigh-alike, weigh-emptied}
 
 -- the block at the place is excepted by what is held
 abbrev pub HoldsException : Holding → ℕ → Type 0
@@ -118,6 +122,17 @@ pub settle-end : (e : ErrandFields) (x : Found) (r : Reply) → next_of e.point 
 unfolding settle_of course_of
 settle-end e x r is = rw is refl
 
+-- a step after which the retired list and the turn stay as they are: it leads to a point, or ends the call
+abbrev pub IsPlain : Next → Type 0
+IsPlain (At q) = Unit {0}
+IsPlain (End r) = Unit {0}
+IsPlain n = ⊥
+
+pub settle-next : (e : ErrandFields) (x : Found) (n : Next) → IsPlain n → next_of e.point x ≡ n → settle_of e x ≡ at_point e x (point_after n)
+settle-next e x (At q) plain is = settle-at e x q is
+settle-next e x (End r) plain is = settle-end e x r is
+settle-next e x n plain is = absurd plain
+
 -- so the caller may go on
 pub may-after :
     (g : Geometry) (s : State) (l : Lists) (who : ℕ) (x : Found) (q : Point) → IsSoundWith g s l → who < g.callers → x.value < 2 ^ 64
@@ -150,31 +165,33 @@ may-after g s l who x q sound has word after still goes =
       list_turns = omega (arith, goes.turn.pops, same);
     }
 
--- a step after which the caller stands at another point, whose word and errand weigh together what they did
-pub record StepsAfter (g : Geometry) (s : State) (l : Lists) (who : ℕ) (q : Point) : Type 0 where
-  pub after : settle_of (s.errand who) (found_at s who) ≡ at_point (s.errand who) (found_at s who) q
-  pub event : event_at s who ≡ None
-  pub cleared : counts_cleared (s.errand who).point (found_at s who) ≡ false
-  pub goes : PointGoes g s l who (s.errand who).point q
-  pub weigh :
-      WeighAlike (name_at s who) (word_at s who) (after_action (action_at s who) (word_at s who)) (s.errand who)
-      (at_point (s.errand who) (found_at s who) q)
-  pub below : after_action (action_at s who) (word_at s who) < 2 ^ 64
+-- what the action of a point finds in a state
+abbrev pub found_from : State → Point → Found
+found_from s p = found_by (plan_point_of p) (s.word (name_of (plan_point_of p)))
 
--- the same, where the step leads to the point
-pub record StepsTo (g : Geometry) (s : State) (l : Lists) (who : ℕ) (q : Point) : Type 0 where
-  pub next : next_of (s.errand who).point (found_at s who) ≡ At q
-  pub event : event_at s who ≡ None
-  pub cleared : counts_cleared (s.errand who).point (found_at s who) ≡ false
-  pub goes : PointGoes g s l who (s.errand who).point q
-  pub weigh :
-      WeighAlike (name_at s who) (word_at s who) (after_action (action_at s who) (word_at s who)) (s.errand who)
-      (at_point (s.errand who) (found_at s who) q)
-  pub below : after_action (action_at s who) (word_at s who) < 2 ^ 64
+-- a write of what was there leaves all words
+pub words-stay :
+    (words : WordName → ℕ) (n : WordName) (new : ℕ) (words' : WordName → ℕ) → Writes words n new words' → new ≡ words n
+    → (m : WordName) → words' m ≡ words m
+words-stay words n new words' w same m =
+    elim (cases_name m n) [
+      | inl is ↦ subst (λ x. words' x ≡ words x) (sym is) (w.here ∙ same)
+      | inr differ ↦ w.elsewhere m differ
+    ]
 
--- what the active words and the slots hold after it
-abbrev pub ActivesAfter : Geometry → State → ℕ → State → Type 0
-ActivesAfter g s who s' = ActivesKept g s s'.word
+-- words that all stay hold in active words and slots what they held
+pub actives-stay :
+    (g : Geometry) (s : State) (l : Lists) (words' : WordName → ℕ) → IsKept g s l → ((n : WordName) → words' n ≡ s.word n)
+    → ActivesKept g s words'
+actives-stay g s l words' kept same = record {
+  active_words = λ heap class has_heap has_class.
+      subst (λ w. IsSome (active_of w)) (sym (same (name.Active heap class))) (kept.active_words heap class has_heap has_class);
+  slot_words = λ heap class has_heap has_class.
+      subst (λ w. w ≤ descriptor_count g) (sym (same (name.Slot heap class))) (kept.slot_words heap class has_heap has_class);
+  active = λ heap class d credits has_heap has_class is.
+      kept.active heap class d credits has_heap has_class (ap active_of (sym (same (name.Active heap class))) ∙ is);
+  slot = λ heap class d has_heap has_class is. kept.slot heap class d has_heap has_class (sym (same (name.Slot heap class)) ∙ is);
+}
 
 -- each word is a word after a write of one
 pub words-below :
@@ -205,7 +222,7 @@ pub record HazardsAfter (g : Geometry) (s : State) (who : ℕ) (q : Point) (word
 -- the step keeps the state sound
 pub step-most :
     (g : Geometry) (s : State) (who : ℕ) (s' : State) (q : Point) → IsSoundWithoutCounts g s → who < g.callers
-    → ((l : Lists) → IsSoundWith g s l → StepsMost g s l who q) → ((l : Lists) → IsSoundWith g s l → ActivesAfter g s who s')
+    → ((l : Lists) → IsSoundWith g s l → StepsMost g s l who q) → ((l : Lists) → IsSoundWith g s l → ActivesKept g s s'.word)
     → ((l : Lists) → IsSoundWith g s l → HazardsAfter g s who q s'.word) → Step s who s' → IsSoundWithoutCounts g s'
 step-most g s who s' q sound has steps actives hazards step =
     let l = sound.parts.0 in
@@ -243,45 +260,3 @@ step-most g s who s' q sound has steps actives hazards step =
             old,
       );
     }
-
--- so does one that writes no hazard word
-pub step-after :
-    (g : Geometry) (s : State) (who : ℕ) (s' : State) (q : Point) → IsSoundWithoutCounts g s → who < g.callers
-    → ((l : Lists) → IsSoundWith g s l → StepsAfter g s l who q) → ((l : Lists) → IsSoundWith g s l → ActivesAfter g s who s')
-    → Step s who s' → IsSoundWithoutCounts g s'
-step-after g s who s' q sound has steps actives step =
-    step-most g s who s' q sound has
-    (λ l old. let to = steps l old in record {
-      after = to.after;
-      event = to.event;
-      cleared = to.cleared;
-      stands = goes-stands g s l who (s.errand who).point q to.goes;
-      weigh = alike-most (name_at s who) _ _ (s.errand who) (at_point (s.errand who) (found_at s who) q) to.weigh;
-      below = to.below;
-    })
-    actives
-    (λ l old.
-    let to = steps l old in
-    let stay = hazards-stay s.word (name_at s who) _ s'.word step.word to.weigh.still in
-    record {
-      others = λ i differ. stay i;
-      guards = goes-guards g s l who q (s.errand who).retired (s'.word (name.Hazard who)) old.guarded has (stay who) to.goes;
-    })
-    step
-
--- so does one that leads to a point
-pub step-sound :
-    (g : Geometry) (s : State) (who : ℕ) (s' : State) (q : Point) → IsSoundWithoutCounts g s → who < g.callers
-    → ((l : Lists) → IsSoundWith g s l → StepsTo g s l who q) → ((l : Lists) → IsSoundWith g s l → ActivesAfter g s who s')
-    → Step s who s' → IsSoundWithoutCounts g s'
-step-sound g s who s' q sound has steps actives step =
-    step-after g s who s' q sound has
-    (λ l old. let to = steps l old in record {
-      after = settle-at (s.errand who) (found_at s who) q to.next;
-      event = to.event;
-      cleared = to.cleared;
-      goes = to.goes;
-      weigh = to.weigh;
-      below = to.below;
-    })
-    actives step

@@ -1,13 +1,12 @@
 -- A step that takes the first index off a stack, or puts one in front, keeps the state sound, with the list that is left.
-use Rattle.std.proofs.Common.{ℕ, Some, ◌≡◌, ◌<◌, ◌≤◌, ◌+◌, ◌^◌, ◌-◌, ◌*◌, length, refl, arith, ap, sym, subst, inl, inr, ◌∙◌}
+use Rattle.std.proofs.Common.{ℕ, Some, ◌≡◌, ◌<◌, ◌≤◌, ◌+◌, ◌-◌, length, refl, arith, ap, sym, subst, inl, inr, ◌∙◌}
 use Rattle.std.proofs.Math.Path.{fun_ext}
-use Rattle.std.specs.Prelude.{Bool, true, false, List, [], ◌∷◌, ◌==◌, ◌&&◌, not, ◌⊎◌, slice_index, All, Contains, IsTrue, IsSome, count_by}
-use Rattle.std.specs.Int.{bit_at}
+use Rattle.std.specs.Prelude.{Bool, true, false, List, [], ◌∷◌, ◌==◌, ◌&&◌, not, slice_index, All, Contains, IsTrue, IsSome}
 use Rattle.std.proofs.lemmas.List.Elements.{All-nil, All-cons, All-head, All-tail}
 use Rattle.heap_geometry.specs.declared.geometry.Geometry.{Geometry}
 use Rattle.heap_geometry.specs.declared.need.Need.{Need}
 use Rattle.heap_geometry.specs.Need.{block_count_of}
-use Rattle.heap_geometry.specs.Place.{block_place, frame_of, unit_place}
+use Rattle.heap_geometry.specs.Place.{block_place, frame_of}
 use Rattle.packed_words.specs.Anchor.{anchor_of}
 use Rattle.packed_words.specs.Active.{active_of}
 use Rattle.packed_words.specs.declared.anchor.State.{State as Phase}
@@ -35,24 +34,27 @@ use Rattle.stack_parts.specs.Piles.{head_name, next_name}
 use Rattle.word_plan.specs.Seats.{SeatFields, info_in}
 use Rattle.pool_model.specs.declared.event.Event.TheVariants.{Looked}
 use Rattle.pool_model.specs.Histories.{own, EndsWith}
-use Rattle.pool_model.specs.Pool.{Block, block_at, pool_of}
+use Rattle.pool_model.specs.Pool.{block_at, pool_of}
 use Rattle.errand_steps.specs.Errands.{ErrandFields}
 use Rattle.errand_steps.specs.Fits.{spare_of, pushed_by}
 use Rattle.errand_steps.specs.Steps.{State}
 use Rattle.sound_state.specs.Frames.{IsFramed, fills}
 use Rattle.sound_state.specs.Guards.{IsGuarded, Guards, IsGuard, IsHazard, passed_by, held_by}
-use Rattle.sound_state.specs.Holdings.{Status, reserving, waiting, partly_used, on_its_way, holds_of}
-use Rattle.sound_state.specs.Keepers.{IsKept, IsPartlyUsed, IsActive, IsWithout, IsKeptAs}
+use Rattle.sound_state.specs.Holdings.{holds_of}
+use Rattle.sound_state.specs.Keepers.{IsKept, IsWithout, IsKeptAs}
 use Rattle.sound_state.specs.Lists.{Lists}
 use Rattle.sound_state.specs.Recalls.{Recall, IsPopped, IsLocated, IsTopStill, IsRemembered, IsSo, IsOwned, recalls_of, list_of, block_recalls, onward_recalls, stack_recalls, desc_recalls, partial_recalls, large_recalls, bound_for, located, bound_at, pops, links, tops, nexts, tops_exist, says, made, in_use, emptied, noted, owns, owns_all, looked}
 use Rattle.sound_state.specs.Sound.{IsSoundWith, IsOwnErrand}
 use Rattle.sound_state.specs.Sums.{sum_below}
 use Rattle.sound_state.specs.Superblocks.{AreChained, IsChained, info_or_zero, live_at, is_there, anchor_for, info_for, superblock_of, away_of, is_bound}
-use Rattle.sound_state.specs.Ties.{IsTied, IsLive, IsExcepted}
-use Rattle.sound_state.specs.Turns.{IsTurned, one_if, gives_small, refuses_small, turn_open, turn_unframed, turn_unlisted, turn_unanswered, errand_discards, errand_pops, turns_of, cleared_of, emptied_out, is_small_alloc, is_small_free}
-use Rattle.sound_state.proofs.shared.AlikeLemmas.{Excepts, each-caller, same-superblock}
+use Rattle.sound_state.specs.Ties.{IsTied}
+use Rattle.sound_state.specs.Turns.{IsTurned, one_if, emptied_out}
+use Rattle.sound_state.proofs.shared.AlikeLemmas.{each-caller, same-superblock}
+use Rattle.sound_state.proofs.shared.KeptLemmas.{Goes, kept-goes, same-goes}
+use Rattle.sound_state.proofs.shared.TieLemmas.{blocks-stay, located-stays, owned-stays}
 use Rattle.sound_state.proofs.stacks.StackEffects.{Restacks, IsNoHead}
-use Rattle.sound_state.proofs.shared.SumLemmas.{callers-moved, sum-same, sum-least}
+use Rattle.sound_state.proofs.shared.SumLemmas.{sum-same, sum-least}
+use Rattle.sound_state.proofs.shared.TurnEffects.{no-event, turned-after}
 
 -- what is remembered of a word is of no head, and a next word is remembered with a tag that its head has or had
 abbrev IsTimely : State → Recall → Type 0
@@ -78,35 +80,12 @@ are_timely (r ∷ rest) = is_timely r && are_timely rest
 no_head : (n : WordName) → is_no_head n ≡ true → IsNoHead n
 no_head name.FrameHead is = absurd (cc)
 no_head (name.ListHead class) is = absurd (cc)
-no_head (name.Arena i) is = tt
-no_head (name.Anchor i) is = tt
-no_head (name.Next i) is = tt
-no_head (name.Info i) is = tt
-no_head (name.Active i j) is = tt
-no_head (name.Slot i j) is = tt
-no_head (name.FrameNext i) is = tt
-no_head name.DescHead is = tt
-no_head (name.Hazard i) is = tt
-no_head name.Units is = tt
-no_head (name.Shelf i) is = tt
+no_head n is = tt
 
 timely-one : (s : State) (r : Recall) → is_timely r ≡ true → IsTimely s r
-timely-one s (bound_for d c) is = tt
-timely-one s (located d f c) is = tt
-timely-one s (bound_at d f c) is = tt
-timely-one s (pops d a) is = tt
-timely-one s (links d a prefix) is = tt
-timely-one s (tops seat p head) is = tt
 timely-one s (nexts seat p head below) is = absurd (cc)
-timely-one s (tops_exist seat p head) is = tt
 timely-one s (says n w) is = no_head n is
-timely-one s (made f c blocks) is = tt
-timely-one s (in_use a) is = tt
-timely-one s (emptied d) is = tt
-timely-one s (noted d next) is = tt
-timely-one s (owns place k) is = tt
-timely-one s (owns_all place n) is = tt
-timely-one s (looked c) is = tt
+timely-one s r is = tt
 
 both-timely : (a b : Bool) → (a && b) ≡ true → (a ≡ true) × (b ≡ true)
 both-timely true b is = (refl, is)
@@ -140,23 +119,15 @@ push-timely pile i = grind (arith)
 stack-timely :
     (g : Geometry) (s : State) (l : Lists) (i : ℕ) (p : StackPoint) (o : Onward) → All (IsSo g s l i) (stack_recalls p o)
     → All (IsTimely s) (stack_recalls p o)
-stack-timely g s l i (stack.LoadTop seat pile) o so = timely-all s (onward_recalls seat o) (onward-timely seat o)
-stack-timely g s l i (stack.LoadBelow seat pile h) o so = timely-all s (tops seat pile h ∷ onward_recalls seat o) (onward-timely seat o)
 stack-timely g s l i (stack.PopTop seat pile h below) o so =
     let rest = All-tail (IsSo g s l i) (nexts seat pile h below) (tops seat pile h ∷ onward_recalls seat o) so in
     let top = All-head (IsSo g s l i) (tops seat pile h) (onward_recalls seat o) rest in
     All-cons (IsTimely s) (nexts seat pile h below) (tops seat pile h ∷ onward_recalls seat o) top.tag
     (timely-all s (tops seat pile h ∷ onward_recalls seat o) (onward-timely seat o))
-stack-timely g s l i (stack.ConfirmEmpty seat pile h) o so = timely-all s (onward_recalls seat o) (onward-timely seat o)
-stack-timely g s l i (stack.LoadTopToPush seat pile j) o so = timely-all s (onward_recalls seat o) (onward-timely seat o)
-stack-timely g s l i (stack.StoreBelow seat pile j h) o so = timely-all s (tops_exist seat pile h ∷ onward_recalls seat o) (onward-timely seat o)
 stack-timely g s l i (stack.PushTop seat pile j h) o so =
     timely-all s (says (next_name pile j) h.top ∷ tops_exist seat pile h ∷ onward_recalls seat o)
     (rw (push-timely pile j, onward-timely seat o) refl)
-stack-timely g s l i (stack.Popped seat pile j) o so = All-nil (IsTimely s)
-stack-timely g s l i (stack.FoundEmpty seat pile h) o so = All-nil (IsTimely s)
-stack-timely g s l i (stack.ConfirmedEmpty seat pile) o so = All-nil (IsTimely s)
-stack-timely g s l i (stack.Pushed seat pile) o so = All-nil (IsTimely s)
+stack-timely g s l i p o so = timely-all s (stack_recalls p o) (grind (arith, onward-timely))
 
 all-timely :
     (g : Geometry) (s : State) (l : Lists) (i : ℕ) (p : Point) → All (IsSo g s l i) (recalls_of p) → All (IsTimely s) (recalls_of p)
@@ -168,10 +139,14 @@ all-timely g s l i (point.Desc p o) so = timely-all s (desc_recalls p o) (desc-t
 all-timely g s l i (point.Partial p o) so = timely-all s (partial_recalls p o) (partial-timely p o)
 all-timely g s l i (point.Large p o) so = timely-all s (large_recalls p) (large-timely p)
 
-anchor-restacked : (g : Geometry) (s : State) (l : Lists) (who : ℕ) (e : ErrandFields) (s' : State) (l' : Lists) → Restacks g s l who e s' l' → (d : ℕ) → anchor_for s' d ≡ anchor_for s d
+anchor-restacked :
+    (g : Geometry) (s : State) (l : Lists) (who : ℕ) (e : ErrandFields) (s' : State) (l' : Lists) → Restacks g s l who e s' l'
+    → (d : ℕ) → anchor_for s' d ≡ anchor_for s d
 anchor-restacked g s l who e s' l' h d = ap anchor_of (h.word (name.Anchor d) tt)
 
-info-restacked : (g : Geometry) (s : State) (l : Lists) (who : ℕ) (e : ErrandFields) (s' : State) (l' : Lists) → Restacks g s l who e s' l' → (d : ℕ) → info_for s' d ≡ info_for s d
+info-restacked :
+    (g : Geometry) (s : State) (l : Lists) (who : ℕ) (e : ErrandFields) (s' : State) (l' : Lists) → Restacks g s l who e s' l'
+    → (d : ℕ) → info_for s' d ≡ info_for s d
 info-restacked g s l who e s' l' h d = ap (λ w. info_or_zero (info_of w)) (h.word (name.Info d) tt)
 
 -- what is away, and EMPTY is bound to nothing
@@ -179,7 +154,9 @@ empty-unbound : (b : Bool) (p : Phase) → p ≡ phase.Empty → (b && not (is_e
 empty-unbound true p is = rw is refl
 empty-unbound false p is = refl
 
-bound-restacked : (g : Geometry) (s : State) (l : Lists) (who : ℕ) (e : ErrandFields) (s' : State) (l' : Lists) → Restacks g s l who e s' l' → (d : ℕ) → is_bound g s' l' d ≡ is_bound g s l d
+bound-restacked :
+    (g : Geometry) (s : State) (l : Lists) (who : ℕ) (e : ErrandFields) (s' : State) (l' : Lists) → Restacks g s l who e s' l'
+    → (d : ℕ) → is_bound g s' l' d ≡ is_bound g s l d
 bound-restacked g s l who e s' l' h d =
     elim (h.away d) [
       | inl same ↦ rw (h.available, same, anchor-restacked g s l who e s' l' h d) refl
@@ -192,7 +169,9 @@ bound-restacked g s l who e s' l' h d =
 out-least : (m n : ℕ) (b : Bool) → m ≤ n → one_if ((n == 0) && b) ≤ one_if ((m == 0) && b)
 out-least m n b most = grind (arith, most)
 
-out-restacked : (g : Geometry) (s : State) (l : Lists) (who : ℕ) (e : ErrandFields) (s' : State) (l' : Lists) → Restacks g s l who e s' l' → (d : ℕ) → emptied_out g s' l' d ≤ emptied_out g s l d
+out-restacked :
+    (g : Geometry) (s : State) (l : Lists) (who : ℕ) (e : ErrandFields) (s' : State) (l' : Lists) → Restacks g s l who e s' l'
+    → (d : ℕ) → emptied_out g s' l' d ≤ emptied_out g s l d
 out-restacked g s l who e s' l' h d =
     let grows : away_of g s l d ≤ away_of g s' l' d =
     elim (h.away d) [
@@ -202,10 +181,14 @@ out-restacked g s l who e s' l' h d =
     subst (λ a. one_if ((away_of g s' l' d == 0) && is_empty a.state) ≤ emptied_out g s l d) (sym (anchor-restacked g s l who e s' l' h d))
     (out-least (away_of g s l d) (away_of g s' l' d) (is_empty (anchor_for s d).state) grows)
 
-live-restacked : (g : Geometry) (s : State) (l : Lists) (who : ℕ) (e : ErrandFields) (s' : State) (l' : Lists) → Restacks g s l who e s' l' → (place : ℕ) → live_at s' place ≡ live_at s place
+live-restacked :
+    (g : Geometry) (s : State) (l : Lists) (who : ℕ) (e : ErrandFields) (s' : State) (l' : Lists) → Restacks g s l who e s' l'
+    → (place : ℕ) → live_at s' place ≡ live_at s place
 live-restacked g s l who e s' l' h place = ap (λ e. is_there (block_at place (pool_of e))) h.history
 
-superblock-restacked : (g : Geometry) (s : State) (l : Lists) (who : ℕ) (e : ErrandFields) (s' : State) (l' : Lists) → Restacks g s l who e s' l' → (d : ℕ) → superblock_of g s' d ≡ superblock_of g s d
+superblock-restacked :
+    (g : Geometry) (s : State) (l : Lists) (who : ℕ) (e : ErrandFields) (s' : State) (l' : Lists) → Restacks g s l who e s' l'
+    → (d : ℕ) → superblock_of g s' d ≡ superblock_of g s d
 superblock-restacked g s l who e s' l' h d =
     let i = info-restacked g s l who e s' l' h d in
     let next : link_in s'.word (info_for s' d).frame (info_for s' d).class ≡ link_in s.word (info_for s d).frame (info_for s d).class =
@@ -214,48 +197,27 @@ superblock-restacked g s l who e s' l' h d =
     fun_ext (λ k. live-restacked g s l who e s' l' h (block_place (info_for s' d).frame (info_for s' d).class k) ∙ ap (λ x. live_at s (block_place x.frame x.class k)) i) in
     same-superblock _ _ _ _ _ _ _ _ _ _ _ _ (anchor-restacked g s l who e s' l' h d) (h.reserved d) (h.waits d) next live (ap (λ x. block_count_of x.class) i)
 
-fills-restacked : (g : Geometry) (s : State) (l : Lists) (who : ℕ) (e : ErrandFields) (s' : State) (l' : Lists) → Restacks g s l who e s' l' → (f d : ℕ) → fills g s' l' f d ≡ fills g s l f d
+fills-restacked :
+    (g : Geometry) (s : State) (l : Lists) (who : ℕ) (e : ErrandFields) (s' : State) (l' : Lists) → Restacks g s l who e s' l'
+    → (f d : ℕ) → fills g s' l' f d ≡ fills g s l f d
 fills-restacked g s l who e s' l' h f d = rw (bound-restacked g s l who e s' l' h d, h.waits d, info-restacked g s l who e s' l' h d) refl
 
 -- what is said of a descriptor's word or anchor stays so
-partly-restacked : (g : Geometry) (s : State) (l : Lists) (who : ℕ) (e : ErrandFields) (s' : State) (l' : Lists) → Restacks g s l who e s' l' → (d c : ℕ) → IsPartlyUsed s d c → IsPartlyUsed s' d c
-partly-restacked g s l who e s' l' h d c k = record {
-  class = ap (λ x. x.class) (info-restacked g s l who e s' l' h d) ∙ k.class;
-  state = subst (λ a. ((a.state ≡ phase.Partial) × (1 ≤ a.count)) ⊎ (a.state ≡ phase.Empty)) (sym (anchor-restacked g s l who e s' l' h d)) k.state;
-}
+restacked-goes :
+    (g : Geometry) (s : State) (l : Lists) (who : ℕ) (e : ErrandFields) (s' : State) (l' : Lists) → Restacks g s l who e s' l'
+    → (d : ℕ) → Goes s s' d
+restacked-goes g s l who e s' l' h d = same-goes s s' d (info-restacked g s l who e s' l' h d) (anchor-restacked g s l who e s' l' h d)
 
-active-restacked : (g : Geometry) (s : State) (l : Lists) (who : ℕ) (e : ErrandFields) (s' : State) (l' : Lists) → Restacks g s l who e s' l' → (d c : ℕ) → IsActive s d c → IsActive s' d c
-active-restacked g s l who e s' l' h d c k = record {
-  class = ap (λ x. x.class) (info-restacked g s l who e s' l' h d) ∙ k.class;
-  state = ap (λ a. a.state) (anchor-restacked g s l who e s' l' h d) ∙ k.state;
-}
+located-restacked :
+    (g : Geometry) (s : State) (l : Lists) (who : ℕ) (e : ErrandFields) (s' : State) (l' : Lists) → Restacks g s l who e s' l'
+    → (d f c : ℕ) → IsLocated s d f c → IsLocated s' d f c
+located-restacked g s l who e s' l' h d f c = located-stays s s' d f c (info-restacked g s l who e s' l' h d)
 
-without-restacked : (g : Geometry) (s : State) (l : Lists) (who : ℕ) (e : ErrandFields) (s' : State) (l' : Lists) → Restacks g s l who e s' l' → (d : ℕ) → IsWithout s d → IsWithout s' d
-without-restacked g s l who e s' l' h d k = subst (λ a. (a.state ≡ phase.Active) ⊎ (a.state ≡ phase.Empty)) (sym (anchor-restacked g s l who e s' l' h d)) k
-
-kept_as-restacked :
-    (g : Geometry) (s : State) (l : Lists) (who : ℕ) (e : ErrandFields) (s' : State) (l' : Lists) → Restacks g s l who e s' l' → (status : Status) (d c : ℕ) → IsKeptAs s status d c
-    → IsKeptAs s' status d c
-kept_as-restacked g s l who e s' l' h reserving d c k = active-restacked g s l who e s' l' h d c k
-kept_as-restacked g s l who e s' l' h waiting d c k = active-restacked g s l who e s' l' h d c k
-kept_as-restacked g s l who e s' l' h partly_used d c k = partly-restacked g s l who e s' l' h d c k
-kept_as-restacked g s l who e s' l' h on_its_way d c k = without-restacked g s l who e s' l' h d k
-
-located-restacked : (g : Geometry) (s : State) (l : Lists) (who : ℕ) (e : ErrandFields) (s' : State) (l' : Lists) → Restacks g s l who e s' l' → (d f c : ℕ) → IsLocated s d f c → IsLocated s' d f c
-located-restacked g s l who e s' l' h d f c k = record {
-  frame = ap (λ x. x.frame) (info-restacked g s l who e s' l' h d) ∙ k.frame;
-  class = ap (λ x. x.class) (info-restacked g s l who e s' l' h d) ∙ k.class;
-}
-
-owned-restacked : (g : Geometry) (s : State) (l : Lists) (who : ℕ) (e : ErrandFields) (s' : State) (l' : Lists) → Restacks g s l who e s' l' → (i place : ℕ) (n : Need) → IsOwned s i place n → IsOwned s' i place n
-owned-restacked g s l who e s' l' h i place n k = record {
-  block = (
-    k.block.0,
-    ap (λ e. block_at place (pool_of e)) h.history ∙ k.block.1,
-    k.block.2,
-    k.block.3,
-  );
-}
+owned-restacked :
+    (g : Geometry) (s : State) (l : Lists) (who : ℕ) (e : ErrandFields) (s' : State) (l' : Lists) → Restacks g s l who e s' l'
+    → (i place : ℕ) (n : Need) → IsOwned s i place n → IsOwned s' i place n
+owned-restacked g s l who e s' l' h i place n =
+    owned-stays s s' i place n (λ b live. ap (λ e. block_at place (pool_of e)) h.history ∙ live)
 
 next-restacked :
     (g : Geometry) (s : State) (l : Lists) (who : ℕ) (e : ErrandFields) (s' : State) (l' : Lists) → Restacks g s l who e s' l' → (p : Pile) (i : ℕ)
@@ -264,7 +226,8 @@ next-restacked g s l who e s' l' h Frames i = h.word (name.FrameNext i) tt
 next-restacked g s l who e s' l' h Partials i = h.word (name.Next i) tt
 
 top-restacked :
-    (g : Geometry) (s : State) (l : Lists) (who : ℕ) (e : ErrandFields) (s' : State) (l' : Lists) → Restacks g s l who e s' l' → (seat : SeatFields) (p : Pile) (head : HeadFields)
+    (g : Geometry) (s : State) (l : Lists) (who : ℕ) (e : ErrandFields) (s' : State) (l' : Lists) → Restacks g s l who e s' l'
+    → (seat : SeatFields) (p : Pile) (head : HeadFields)
     → IsTopStill s l seat p head → IsTopStill s' l' seat p head
 top-restacked g s l who e s' l' h seat p head k =
     let grows = h.tag seat p in
@@ -277,7 +240,8 @@ top-restacked g s l who e s' l' h seat p head k =
 
 -- what is remembered stays so
 so-restacked :
-    (g : Geometry) (s : State) (l : Lists) (who : ℕ) (e : ErrandFields) (s' : State) (l' : Lists) → Restacks g s l who e s' l' → (i : ℕ) (r : Recall) → IsTimely s r → IsSo g s l i r → IsSo g s' l' i r
+    (g : Geometry) (s : State) (l : Lists) (who : ℕ) (e : ErrandFields) (s' : State) (l' : Lists) → Restacks g s l who e s' l'
+    → (i : ℕ) (r : Recall) → IsTimely s r → IsSo g s l i r → IsSo g s' l' i r
 so-restacked g s l who e s' l' h i (bound_for d c) timely so =
     (subst IsTrue (sym (bound-restacked g s l who e s' l' h d)) so.0, ap (λ x. x.class) (info-restacked g s l who e s' l' h d) ∙ so.1)
 so-restacked g s l who e s' l' h i (located d f c) timely so = located-restacked g s l who e s' l' h d f c so
@@ -304,7 +268,9 @@ so-restacked g s l who e s' l' h i (owns place k) timely so = (so.0, owned-resta
 so-restacked g s l who e s' l' h i (owns_all place n) timely so = owned-restacked g s l who e s' l' h i place n so
 so-restacked g s l who e s' l' h i (looked c) timely so = subst (λ e. EndsWith (own i e) (Looked i c)) (sym h.history) so
 
-kept-restacked : (g : Geometry) (s : State) (l : Lists) (who : ℕ) (e : ErrandFields) (s' : State) (l' : Lists) → Restacks g s l who e s' l' → IsKept g s l → IsKept g s' l'
+kept-restacked :
+    (g : Geometry) (s : State) (l : Lists) (who : ℕ) (e : ErrandFields) (s' : State) (l' : Lists) → Restacks g s l who e s' l'
+    → IsKept g s l → IsKept g s' l'
 kept-restacked g s l who e s' l' h kept =
     record {
       once = λ d has. h.places d ∙ kept.once d has;
@@ -314,31 +280,35 @@ kept-restacked g s l who e s' l' h kept =
           subst (λ w. w ≤ descriptor_count g) (sym (h.word (name.Slot heap class) tt)) (kept.slot_words heap class has_heap has_class);
       active = λ heap class d credits has_heap has_class is.
           let a = kept.active heap class d credits has_heap has_class (ap active_of (sym (h.word (name.Active heap class) tt)) ∙ is) in
-          (a.0, active-restacked g s l who e s' l' h d class a.1);
+          (a.0, (restacked-goes g s l who e s' l' h d).active class a.1);
       slot = λ heap class d has_heap has_class is.
           let a = kept.slot heap class d has_heap has_class (sym (h.word (name.Slot heap class) tt) ∙ is) in
-          (a.0, partly-restacked g s l who e s' l' h d class a.1);
+          (a.0, (restacked-goes g s l who e s' l' h d).partly class a.1);
       full = λ d has is.
           ap (λ a. a.count) (anchor-restacked g s l who e s' l' h d)
           ∙ kept.full d has (ap (λ a. a.state) (sym (anchor-restacked g s l who e s' l' h d)) ∙ is);
-      listed = λ class has k d lt. partly-restacked g s l who e s' l' h _ class (h.partly class has k d lt);
-      available = subst (All (IsWithout s')) (sym h.available) (λ k d lt. without-restacked g s l who e s' l' h _ (kept.available k d lt));
+      listed = λ class has k d lt. (restacked-goes g s l who e s' l' h _).partly class (h.partly class has k d lt);
+      available = subst (All (IsWithout s')) (sym h.available) (λ k d lt. (restacked-goes g s l who e s' l' h _).without (kept.available k d lt));
       retired =
           each-caller g (λ i e. All (IsWithout s') e.retired) s.errand who e s'.errand h.moves
-          (λ k d lt. without-restacked g s l who e s' l' h _ (h.may.retired k d lt)) (λ i has k d lt. without-restacked g s l who e s' l' h _ (kept.retired i has k d lt));
+          (λ k d lt. (restacked-goes g s l who e s' l' h _).without (h.may.retired k d lt)) (λ i has k d lt. (restacked-goes g s l who e s' l' h _).without (kept.retired i has k d lt));
       errand =
           each-caller g (λ i e. All (λ k. IsKeptAs s' k.status k.desc k.class) (holds_of e.point).kept) s.errand who e s'.errand h.moves
-          (λ k d lt. kept_as-restacked g s l who e s' l' h _ _ _ (h.may.kept k d lt)) (λ i has k d lt. kept_as-restacked g s l who e s' l' h _ _ _ (kept.errand i has k d lt));
+          (λ k d lt. kept-goes s s' _ _ _ (restacked-goes g s l who e s' l' h _) (h.may.kept k d lt)) (λ i has k d lt. kept-goes s s' _ _ _ (restacked-goes g s l who e s' l' h _) (kept.errand i has k d lt));
     }
 
-chained-restacked : (g : Geometry) (s : State) (l : Lists) (who : ℕ) (e : ErrandFields) (s' : State) (l' : Lists) → Restacks g s l who e s' l' → AreChained g s l → AreChained g s' l'
+chained-restacked :
+    (g : Geometry) (s : State) (l : Lists) (who : ℕ) (e : ErrandFields) (s' : State) (l' : Lists) → Restacks g s l who e s' l'
+    → AreChained g s l → AreChained g s' l'
 chained-restacked g s l who e s' l' h chained = record {
   infos = λ d has. subst (λ w. IsSome (info_in g w)) (sym (h.word (name.Info d) tt)) (chained.infos d has);
   chained = λ d has bound.
       subst IsChained (sym (superblock-restacked g s l who e s' l' h d)) (chained.chained d has (subst IsTrue (bound-restacked g s l who e s' l' h d) bound));
 }
 
-framed-restacked : (g : Geometry) (s : State) (l : Lists) (who : ℕ) (e : ErrandFields) (s' : State) (l' : Lists) → Restacks g s l who e s' l' → IsFramed g s l → IsFramed g s' l'
+framed-restacked :
+    (g : Geometry) (s : State) (l : Lists) (who : ℕ) (e : ErrandFields) (s' : State) (l' : Lists) → Restacks g s l who e s' l'
+    → IsFramed g s l → IsFramed g s' l'
 framed-restacked g s l who e s' l' h framed = record {
   once = λ f has.
       let filled : sum_below (descriptor_count g) (fills g s' l' f) ≡ sum_below (descriptor_count g) (fills g s l f) =
@@ -364,7 +334,8 @@ remembered-restacked g s l who e s' l' h remembered = record {
 }
 
 guards-restacked :
-    (g : Geometry) (s : State) (l : Lists) (who : ℕ) (e : ErrandFields) (s' : State) (l' : Lists) → Restacks g s l who e s' l' → (i d : ℕ) → i < g.callers
+    (g : Geometry) (s : State) (l : Lists) (who : ℕ) (e : ErrandFields) (s' : State) (l' : Lists) → Restacks g s l who e s' l'
+    → (i d : ℕ) → i < g.callers
     → Guards s' i d → Guards s i d
 guards-restacked g s l who e s' l' h i d has guards =
     record {
@@ -377,7 +348,8 @@ guards-restacked g s l who e s' l' h i d has guards =
     }
 
 guarded-restacked :
-    (g : Geometry) (s : State) (l : Lists) (who : ℕ) (e : ErrandFields) (s' : State) (l' : Lists) → Restacks g s l who e s' l' → IsGuarded g s → IsGuarded g s'
+    (g : Geometry) (s : State) (l : Lists) (who : ℕ) (e : ErrandFields) (s' : State) (l' : Lists) → Restacks g s l who e s' l'
+    → IsGuarded g s → IsGuarded g s'
 guarded-restacked g s l who e s' l' h guarded = record {
   words = λ i has.
       subst (λ w. IsHazard (holds_of (s'.errand i).point).hazard w) (sym (h.word (name.Hazard i) tt))
@@ -402,88 +374,39 @@ guarded-restacked g s l who e s' l' h guarded = record {
 }
 
 turned-restacked :
-    (g : Geometry) (s : State) (l : Lists) (who : ℕ) (e : ErrandFields) (s' : State) (l' : Lists) → Restacks g s l who e s' l' → IsTurned g s l → IsTurned g s' l'
+    (g : Geometry) (s : State) (l : Lists) (who : ℕ) (e : ErrandFields) (s' : State) (l' : Lists) → Restacks g s l who e s' l'
+    → IsTurned g s l → IsTurned g s' l'
 turned-restacked g s l who e s' l' h turned =
-    let moved = λ (weight : ErrandFields → ℕ). callers-moved g weight s.errand who e s'.errand h.caller h.moves in
     let emptied_less : sum_below (descriptor_count g) (emptied_out g s' l') ≤ sum_below (descriptor_count g) (emptied_out g s l) =
     sum-least (descriptor_count g) (emptied_out g s' l') (emptied_out g s l) (λ d lt. out-restacked g s l who e s' l' h d) in
-    let frees : count_by (is_small_free g) s'.history ≡ count_by (is_small_free g) s.history = ap (count_by (is_small_free g)) h.history in
-    let allocs : count_by is_small_alloc s'.history ≡ count_by is_small_alloc s.history = ap (count_by is_small_alloc) h.history in
-    record {
-      own_turns = λ i has.
-          subst (λ e. count_by (gives_small i) e + turn_open (s'.errand i) ≤ (s'.errand i).turns) (sym h.history)
-          (each-caller g (λ i e. count_by (gives_small i) s.history + turn_open e ≤ e.turns) s.errand who e s'.errand h.moves h.may.own_turns
-          turned.own_turns i has);
-      own_lost = λ i has.
-          subst
-          (λ past. (s'.errand i).turns + errand_discards (s'.errand i)
-          ≤ count_by (gives_small i) past + count_by (refuses_small i) past + (s'.errand i).lost + turn_unanswered (s'.errand i)) (sym h.history)
-          (each-caller g
-          (λ i e. e.turns + errand_discards e
-          ≤ count_by (gives_small i) s.history + count_by (refuses_small i) s.history + e.lost + turn_unanswered e) s.errand who e s'.errand h.moves
-          h.may.own_lost turned.own_lost i has);
-      anchor_tags = λ d has. omega (arith, turned.anchor_tags d has, ap (λ a. a.tag) (anchor-restacked g s l who e s' l' h d), allocs);
-      frame_tag =
-          omega (arith, turned.frame_tag, moved turn_unframed, moved turns_of, h.frame_turns);
-      emptied = omega (arith, turned.emptied, emptied_less, moved cleared_of, h.may.cleared, frees);
-      list_tags = λ class has.
-          omega (arith, turned.list_tags class has, moved errand_pops, moved turn_unlisted, moved turns_of, moved cleared_of, h.may.cleared, h.list_turns class, frees);
-    }
-
-excepted-restacked :
-    (g : Geometry) (s : State) (l : Lists) (who : ℕ) (e : ErrandFields) (s' : State) (l' : Lists) → Restacks g s l who e s' l' → (place : ℕ)
-    → IsExcepted g s place → IsExcepted g s' place
-excepted-restacked g s l who e s' l' h place x =
-    let i = x.who.0 in
-    record {
-      who = (
-        i,
-        x.who.1,
-        each-caller g (λ j e. Excepts (s.errand j) place → Excepts e place) s.errand who e s'.errand h.moves (h.may.excepts place) (λ j has same. same) i
-            x.who.1 x.who.2,
-      );
-    }
-
-tie-restacked :
-    (g : Geometry) (s : State) (l : Lists) (who : ℕ) (e : ErrandFields) (s' : State) (l' : Lists) → Restacks g s l who e s' l' → (place w : ℕ)
-    → IsExcepted g s place ⊎ (s.word (name.Arena place) ≡ w) → IsExcepted g s' place ⊎ (s'.word (name.Arena place) ≡ w)
-tie-restacked g s l who e s' l' h place w (inl x) = inl (excepted-restacked g s l who e s' l' h place x)
-tie-restacked g s l who e s' l' h place w (inr is) = inr (h.word (name.Arena place) tt ∙ is)
+    let events = no-event g who s.history s'.history h.history in
+    turned-after g s l who e s' l' 0 0
+    (record {
+      caller = h.caller;
+      moves = h.moves;
+      events = events;
+      own_turns = omega (arith, h.may.own_turns, events.gives);
+      own_lost = omega (arith, h.may.own_lost, events.gives, events.refuses who);
+      anchor_tags = λ d has. omega (arith, ap (λ a. a.tag) (anchor-restacked g s l who e s' l' h d));
+      frame_turns = h.frame_turns;
+      emptied = omega (arith, emptied_less, h.may.cleared);
+      list_turns = λ class has. omega (arith, h.list_turns class, h.may.cleared);
+    })
+    turned
 
 tied-restacked :
-    (g : Geometry) (s : State) (l : Lists) (who : ℕ) (e : ErrandFields) (s' : State) (l' : Lists) → Restacks g s l who e s' l' → IsTied g s l → IsTied g s' l'
-tied-restacked g s l who e s' l' h tied =
-    let was = λ (place : ℕ) (b : Block) (live : IsLive s' place b). ap (λ past. block_at place (pool_of past)) (sym h.history) ∙ live in
-    record {
-      small = λ place class b live is.
-          let old = tied.small place class b (was place b live) is in (
-            old.0,
-            record {
-              exists = old.1.exists;
-              bound = subst IsTrue (sym (bound-restacked g s l who e s' l' h old.0)) old.1.bound;
-              located = located-restacked g s l who e s' l' h old.0 (frame_of place) class old.1.located;
-            },
-            tie-restacked g s l who e s' l' h place (2 * old.0) old.2,
-          );
-      large = λ place units b live is. tie-restacked g s l who e s' l' h place (2 * units + 1) (tied.large place units b (was place b live) is);
-      units = λ unit has.
-          let old = tied.units unit has in (
-            λ bit. let c = old.0 (ap (λ w. bit_at w unit) (sym (h.word name.Units tt)) ∙ bit) in
-                (c.0, c.1, c.2, ap (λ past. block_at (unit_place g.frames c.1) (pool_of past)) h.history ∙ c.3, c.4, c.5, c.6),
-            λ c. ap (λ w. bit_at w unit) (h.word name.Units tt)
-                ∙ old.1 (c.0, c.1, c.2, was (unit_place g.frames c.1) c.0 c.3, c.4, c.5, c.6),
-          );
-      no_more_units = subst (λ w. w < 2 ^ g.units) (sym (h.word name.Units tt)) tied.no_more_units;
-      shelved = λ k place b has live is. h.word (name.Shelf k) tt ∙ tied.shelved k place b has (was place b live) is;
-      bare_shelf = λ k has none. h.word (name.Shelf k) tt ∙ tied.bare_shelf k has (λ place b live is. none place b (ap (λ past. block_at place (pool_of past)) h.history ∙ live) is);
-      contents = λ place i v b live is. h.word (name.Arena (place + 1 + i)) tt ∙ tied.contents place i v b (was place b live) is;
-      hands =
-          each-caller g (λ i e. All (λ x. IsOwned s' i x.place x.need) (holds_of e.point).hands) s.errand who e s'.errand h.moves
-          (λ k d lt. owned-restacked g s l who e s' l' h who _ _ (h.may.hands k d lt)) (λ i has k d lt. owned-restacked g s l who e s' l' h i _ _ (tied.hands i has k d lt));
-      frees =
-          each-caller g (λ i e. All (λ x. IsOwned s' i x.place x.need) (holds_of e.point).frees) s.errand who e s'.errand h.moves
-          (λ k d lt. owned-restacked g s l who e s' l' h who _ _ (h.may.frees k d lt)) (λ i has k d lt. owned-restacked g s l who e s' l' h i _ _ (tied.frees i has k d lt));
-    }
+    (g : Geometry) (s : State) (l : Lists) (who : ℕ) (e : ErrandFields) (s' : State) (l' : Lists) → Restacks g s l who e s' l'
+    → IsTied g s l → IsTied g s' l'
+tied-restacked g s l who e s' l' h =
+    blocks-stay g s l l' who e s' h.moves
+    (record { arena = λ place. h.word (name.Arena place) tt; units = h.word name.Units tt; shelf = λ k. h.word (name.Shelf k) tt }) h.history
+    (λ place c b d live is its. record {
+      exists = its.exists;
+      bound = subst IsTrue (sym (bound-restacked g s l who e s' l' h d)) its.bound;
+      located = located-restacked g s l who e s' l' h d (frame_of place) c its.located;
+    })
+    h.may.excepts (λ k d lt. owned-restacked g s l who e s' l' h who _ _ (h.may.hands k d lt))
+    (λ k d lt. owned-restacked g s l who e s' l' h who _ _ (h.may.frees k d lt))
 
 -- so the state stays sound, with the new lists
 pub restacked-sound :

@@ -1,13 +1,10 @@
 -- A won push onto a stack after which a descriptor is retired.
-use Rattle.std.proofs.Common.{ℕ, zero, suc, Bool, true, false, None, Some, ◌≡◌, ◌<◌, ◌≤◌, ◌+◌, ◌^◌, List, [], ◌∷◌, ◌++◌, length, refl, arith, ap, sym, subst, inl, inr, ◌∙◌}
+use Rattle.std.proofs.Common.{ℕ, zero, suc, Bool, true, false, None, Some, ◌≡◌, ◌<◌, ◌≤◌, ◌+◌, List, [], ◌∷◌, ◌++◌, length, refl, arith, ap, sym, subst, inl, inr, ◌∙◌}
 use Rattle.std.specs.Prelude.{◌==◌, ◌⊎◌, ◌&&◌, not, slice_index, replicate, All, Any, IsTrue, if◌then◌else◌}
 use Rattle.std.proofs.lemmas.Bool.{cases_eq, cond-false, eq-eqb, leb-true, ne_eqb}
 use Rattle.std.proofs.lemmas.List.{length-append}
-use Rattle.std.proofs.lemmas.List.Elements.{All-append, All-nil, All-cons, All-head, All-tail}
-use Rattle.std.proofs.Math.Nat.{mod-eq_of_lt}
+use Rattle.std.proofs.lemmas.List.Elements.{All-append, All-nil, All-cons, All-head}
 use Rattle.heap_geometry.specs.declared.geometry.Geometry.{Geometry}
-use Rattle.heap_geometry.specs.declared.limits.TheConstants.{CLASSES}
-use Rattle.packed_words.specs.declared.widths.TheConstants.{TOP_BITS}
 use Rattle.packed_words.specs.Head.{HeadFields, IsHead, head_of, head_word}
 use Rattle.packed_words.proofs.HeadLemmas.{head_of-head_word}
 use Rattle.word_plan.specs.declared.name.WordName.{WordName}
@@ -19,8 +16,7 @@ use Rattle.superblock_parts.specs.declared.point.BlockPoint.TheVariants as block
 use Rattle.stack_parts.specs.declared.point.Pile.{Pile}
 use Rattle.stack_parts.specs.declared.point.Pile.TheVariants.{Frames, Partials}
 use Rattle.stack_parts.specs.declared.point.StackPoint.TheVariants as stack
-use Rattle.stack_parts.specs.Piles.{head_name, next_name, pile_limit, pushed_head}
-use Rattle.stack_parts.specs.Stacks.{Stacked, next_in}
+use Rattle.stack_parts.specs.Piles.{head_name}
 use Rattle.hazard_parts.specs.declared.point.DescPoint.TheVariants as desc
 use Rattle.errand_steps.specs.declared.next.Next.TheVariants.{Retire}
 use Rattle.errand_steps.specs.declared.onward.Onward.{Onward}
@@ -44,17 +40,17 @@ use Rattle.sound_state.specs.Holdings.{Kept, Status, clear, keep, onward_holds, 
 use Rattle.sound_state.specs.Guards.{IsGuard, IsHazard, passed_by, held_by}
 use Rattle.sound_state.specs.Superblocks.{anchor_for, kept_among, reserved_among}
 use Rattle.sound_state.specs.Turns.{one_if, in_turn, has_frame, has_partial, has_refused, is_discarding_at, pops_left}
-use Rattle.sound_state.specs.Keepers.{IsKeptAs, IsPartlyUsed, IsWithout}
+use Rattle.sound_state.specs.Keepers.{IsKeptAs, IsWithout}
 use Rattle.sound_state.specs.Lists.{Lists}
-use Rattle.sound_state.specs.Recalls.{IsSo, IsOwned, emptied, list_of, onward_recalls, recalls_of, tops_exist, says}
+use Rattle.sound_state.specs.Recalls.{IsSo, IsOwned, emptied, list_of, recalls_of}
 use Rattle.sound_state.specs.Sound.{IsSoundWithoutCounts, IsSoundWith}
 use Rattle.sound_state.specs.Stock.{waits_in, stock_among}
-use Rattle.sound_state.proofs.shared.PointLemmas.{kept_places, fits-at, kept-at, so-at}
-use Rattle.sound_state.proofs.quiet.QuietStacks.{pile-stacked, pile-exists, push_top_lost-sound}
+use Rattle.sound_state.proofs.shared.PointLemmas.{kept_places, fits-at, kept-at}
+use Rattle.sound_state.proofs.quiet.QuietStacks.{push_top_lost-sound}
 use Rattle.sound_state.proofs.stacks.StackEffects.{MayStand}
 use Rattle.sound_state.proofs.quiet.QuietLemmas.{found_from}
-use Rattle.sound_state.proofs.stacks.StackSteps.{AreKept, limit-room, listed-with, partly-with, list-partly, keeps-less, in-hand, holds-true, keeps_list, push_going_on-sound}
-use Rattle.sound_state.proofs.stacks.StackShifts.{Exchanges, ErrandsBalanced, exchanges-sound, HoldsMore, OneMore, Balanced, with_list, more-pushed, more-balanced, balance-back, list-elsewhere}
+use Rattle.sound_state.proofs.stacks.StackSteps.{AreKept, head_pushed, pushes-on, keeps-less, in-hand, holds-true, push_going_on-sound}
+use Rattle.sound_state.proofs.stacks.StackShifts.{Exchanges, ErrandsBalanced, exchanges-sound, HoldsMore, Balanced, with_list, more-balanced, balance-back}
 use Rattle.sound_state.proofs.shared.StepLemmas.{raised-least, raised-below}
 
 -- no word is read yet
@@ -127,35 +123,11 @@ record StandsBare (q : Point) : Type 0 where
 
 idle-bare : StandsBare Idle
 unfolding holds_of recalls_of
-idle-bare = record {
-  kept = refl;
-  credits = refl;
-  frames = refl;
-  hands = refl;
-  frees = refl;
-  hazard = refl;
-  recalls = refl;
-  pushed = refl;
-  passed = refl;
-  unread = λ k below. let bad : ⊥ = omega (arith, below) in absurd bad;
-  waits = λ class. refl;
-}
+idle-bare = grind (arith)
 
 active-bare : (seat : SeatFields) (o : Onward) → StandsBare (Block (block.LoadActive seat) o)
 unfolding holds_of recalls_of
-active-bare seat o = record {
-  kept = refl;
-  credits = refl;
-  frames = refl;
-  hands = refl;
-  frees = refl;
-  hazard = refl;
-  recalls = refl;
-  pushed = refl;
-  passed = refl;
-  unread = λ k below. let bad : ⊥ = omega (arith, below) in absurd bad;
-  waits = λ class. refl;
-}
+active-bare seat o = grind (arith)
 
 scan-bare : (seat : SeatFields) (o : Onward) → StandsBare (Desc (desc.ReadHazard seat no_words 0) o)
 unfolding holds_of recalls_of
@@ -227,12 +199,8 @@ tag-stays words words' n m new fits writes same =
       | inr differ ↦ ap (λ w. (head_of w).tag) (writes.elsewhere m differ)
     ]
 
--- a won push onto a stack, after which d is retired and the caller stands bare
-record PushRetires (g : Geometry) (s : State) (l : Lists) (who : ℕ) (seat : SeatFields) (pile : Pile) (i : ℕ) (h : HeadFields) (o : Onward)
-    (d : ℕ) (status : Status) (q : Point) (t : ℕ) : Type 0 where
-  at : (s.errand who).point ≡ Stack (stack.PushTop seat pile i h) o
-  word : s.word (head_name seat pile) ≡ head_word h
-  settles : settle_of (s.errand who) (found_at s who) ≡ retired_at (s.errand who) (found_at s who) d q t
+-- a push that goes on with a retirement of d holds nothing but d, and the index where it isn't on the stack yet
+record RetiresOff (seat : SeatFields) (pile : Pile) (i : ℕ) (h : HeadFields) (o : Onward) (d : ℕ) (status : Status) : Type 0 where
   more : HoldsMore seat pile i (onward_holds seat o) (holds_of (Stack (stack.PushTop seat pile i h) o))
   kept : (onward_holds seat o).kept ≡ keep d seat.class status
   frames : (onward_holds seat o).frames ≡ []
@@ -240,51 +208,55 @@ record PushRetires (g : Geometry) (s : State) (l : Lists) (who : ℕ) (seat : Se
   hands : (holds_of (Stack (stack.PushTop seat pile i h) o)).hands ≡ []
   frees : (holds_of (Stack (stack.PushTop seat pile i h) o)).frees ≡ []
   hazard : (holds_of (Stack (stack.PushTop seat pile i h) o)).hazard ≡ clear
-  may : MayRetire s status d
+
+discard-off :
+    (seat : SeatFields) (i : ℕ) (h : HeadFields) (words d : ℕ) → RetiresOff seat Frames i h (onward.Discard words d) d on_its_way
+unfolding holds_of
+discard-off seat i h words d = grind (arith)
+
+retire-off : (seat : SeatFields) (i : ℕ) (h : HeadFields) (d : ℕ) → RetiresOff seat Partials i h (onward.Retire d) d partly_used
+unfolding holds_of
+retire-off seat i h d = grind (arith)
+
+-- where the caller goes on when it has retired d, with so many turns: it stands bare
+record RetiresTo (g : Geometry) (s : State) (who : ℕ) (p : Point) (d : ℕ) (q : Point) (t : ℕ) : Type 0 where
+  settles : settle_of (s.errand who) (found_at s who) ≡ retired_at (s.errand who) (found_at s who) d q t
   bare : StandsBare q
   full : spare_of q ≡ 1 → length (s.errand who).retired ≡ g.callers
-  turns : RetireTurns (Stack (stack.PushTop seat pile i h) o) q (s.errand who).turns t
+  turns : RetireTurns p q (s.errand who).turns t
+
+-- the errand that a won push leaves so, and what it exchanges
+abbrev Retired : Geometry → State → Lists → ℕ → SeatFields → Pile → ℕ → HeadFields → Type 0
+Retired g s l who seat pile i h =
+    (e : ErrandFields) × Exchanges g s l who seat pile (head_pushed i h) e (with_list l seat pile (i ∷ list_of l seat pile))
 
 push-exchanges :
     (g : Geometry) (s : State) (l : Lists) (who : ℕ) (seat : SeatFields) (pile : Pile) (i : ℕ) (h : HeadFields) (o : Onward)
-    (d : ℕ) (status : Status) (q : Point) (t : ℕ) → IsSoundWithoutCounts g s → IsSoundWith g s l → who < g.callers
-    → PushRetires g s l who seat pile i h o d status q t
-    → Exchanges g s l who seat pile (record { top = i + 1; tag = h.tag }) (retired_at (s.errand who) (found_at s who) d q t)
-    (with_list l seat pile (i ∷ list_of l seat pile))
-unfolding plan_point_of event_of recalls_of
-push-exchanges g s l who seat pile i h o d status q t sound old has r =
+    (d : ℕ) (status : Status) → IsSoundWithoutCounts g s → IsSoundWith g s l → who < g.callers
+    → (s.errand who).point ≡ Stack (stack.PushTop seat pile i h) o → s.word (head_name seat pile) ≡ head_word h
+    → RetiresOff seat pile i h o d status → MayRetire s status d → (q : Point) (t : ℕ)
+    → RetiresTo g s who (Stack (stack.PushTop seat pile i h) o) d q t → Retired g s l who seat pile i h
+unfolding plan_point_of event_of
+push-exchanges g s l who seat pile i h o d status sound old has at word off may q t r =
     let p : Point = Stack (stack.PushTop seat pile i h) o in
     let a : ErrandFields = s.errand who in
     let x : Found = found_at s who in
     let e : ErrandFields = retired_at a x d q t in
-    let new : HeadFields = record { top = i + 1; tag = h.tag } in
-    let won : (s.word (head_name seat pile) == head_word h) ≡ true = eq-eqb (s.word (head_name seat pile)) (head_word h) r.word in
-    let fit = fits-at g s l who p old has r.at in
-    let class : seat.class < CLASSES = fit.point.0.seat.class in
-    let before : head_of (s.word (head_name seat pile)) ≡ h = ap head_of r.word ∙ head_of-head_word h fit.point.1 in
-    let so = so-at g s l who p old has r.at in
-    let said = All-head (IsSo g s l who) (says (next_name pile i) h.top) (tops_exist seat pile h ∷ onward_recalls seat o) so in
-    let xs : List ℕ = list_of l seat pile in
-    let l' : Lists = with_list l seat pile (i ∷ xs) in
-    let stacked : Stacked (next_in s.word pile) h.top xs =
-    subst (λ y. Stacked (next_in s.word pile) y.top xs) before (pile-stacked g s l seat pile old.listed class) in
-    let longer : Stacked (next_in s.word pile) (i + 1) (i ∷ xs) =
-    (refl, subst (λ y. Stacked (next_in s.word pile) y xs) (sym said.1) stacked) in
-    let room : i + 1 < 2 ^ TOP_BITS = omega (arith, fit.point.0.index, limit-room g pile sound.checked) in
-    let fits : IsHead new = record { top = room; tag = fit.point.1.tag } in
-    let uncut : pushed_head h i ≡ new = ap (λ y. record { top = y; tag = h.tag }) (mod-eq_of_lt {n = i + 1} {m = 2 ^ TOP_BITS} room) in
-    let one : OneMore seat pile i l' l = more-pushed l seat pile i in
+    let on = pushes-on g s l who seat pile i h o sound old has at word in
+    let l' : Lists = with_list l seat pile (i ∷ list_of l seat pile) in
     let b : Balanced l l' (holds_of p) (onward_holds seat o) =
-    balance-back l' l (onward_holds seat o) (holds_of p) (more-balanced seat pile i l' l (onward_holds seat o) (holds_of p) class one r.more) in
-    let kept = kept-at g s l who p old has r.at in
+    balance-back l' l (onward_holds seat o) (holds_of p)
+    (more-balanced seat pile i l' l (onward_holds seat o) (holds_of p) on.class on.one off.more) in
+    let kept = kept-at g s l who p old has at in
     let keeps : IsKeptAs s status d seat.class =
     All-head (λ k. IsKeptAs s k.status k.desc k.class) (record { desc = d; class = seat.class; status = status }) []
-    (subst (AreKept s) r.kept (keeps-less s seat pile i (onward_holds seat o) (holds_of p) r.more kept)) in
+    (subst (AreKept s) off.kept (keeps-less s seat pile i (onward_holds seat o) (holds_of p) off.more kept)) in
     let own = old.errands who has in
     let lost : a.lost ≤ e.lost = raised-least (counts_lost a.point x) a.lost own.lost in
-    let tag : (head_of (s.word (head_name seat pile))).tag ≡ h.tag = ap (λ (y : HeadFields). y.tag) before in
-    let turns : RetireTurns a.point q a.turns t = subst (λ z. RetireTurns z q a.turns t) (sym r.at) r.turns in
-    let may : MayStand g s l who a e = record {
+    let list = on.list (in-hand s seat pile i (onward_holds seat o) (holds_of p) off.more kept) in
+    let tag : (head_of (s.word (head_name seat pile))).tag ≡ h.tag = ap (λ (y : HeadFields). y.tag) on.before in
+    let turns : RetireTurns a.point q a.turns t = subst (λ z. RetireTurns z q a.turns t) (sym at) r.turns in
+    let stand : MayStand g s l who a e = record {
       rule = record {
         caller = own.caller;
         geometry = own.geometry;
@@ -294,12 +266,12 @@ push-exchanges g s l who seat pile i h o d status q t sound old has r =
       kept = subst (AreKept s) (sym r.bare.kept) (All-nil (λ (k : Kept). IsKeptAs s k.status k.desc k.class));
       retired =
           All-append (IsWithout s) a.retired (d ∷ []) (old.kept.retired who has)
-          (All-cons (IsWithout s) d [] (without-retired s status d seat.class r.may keeps) (All-nil (IsWithout s)));
+          (All-cons (IsWithout s) d [] (without-retired s status d seat.class may keeps) (All-nil (IsWithout s)));
       so = subst (All (IsSo g s l who)) (sym r.bare.recalls) (All-nil (IsSo g s l who));
       hazard =
-          subst (λ z. IsHazard z (s.word (name.Hazard who))) (r.hazard ∙ sym r.bare.hazard)
-          (subst (λ z. IsHazard (holds_of z).hazard (s.word (name.Hazard who))) r.at (old.guarded.words who has));
-      guard = λ k word guard. let bad : ⊥ = subst IsGuard r.bare.hazard guard in absurd bad;
+          subst (λ z. IsHazard z (s.word (name.Hazard who))) (off.hazard ∙ sym r.bare.hazard)
+          (subst (λ z. IsHazard (holds_of z).hazard (s.word (name.Hazard who))) at (old.guarded.words who has));
+      guard = λ k guarding guard. let bad : ⊥ = subst IsGuard r.bare.hazard guard in absurd bad;
       pushed = λ k is. absurd (let bad : None ≡ Some k = sym r.bare.pushed ∙ is in cc);
       passed = r.bare.passed;
       unread = r.bare.unread;
@@ -310,65 +282,56 @@ push-exchanges g s l who seat pile i h o d status q t sound old has r =
           elim excepted [
             | inl y ↦
                 inl
-                (subst (λ bs. Any (λ z. z.place ≡ place) bs) (ap (λ z. (holds_of z).hands) r.at ∙ r.hands ∙ sym r.bare.hands) y)
+                (subst (λ bs. Any (λ z. z.place ≡ place) bs) (ap (λ z. (holds_of z).hands) at ∙ off.hands ∙ sym r.bare.hands) y)
             | inr y ↦
                 inr
                 (subst (λ bs. Any (λ z. (z.place ≡ place) × IsTrue z.overwritten) bs)
-                (ap (λ z. (holds_of z).frees) r.at ∙ r.frees ∙ sym r.bare.frees) y)
+                (ap (λ z. (holds_of z).frees) at ∙ off.frees ∙ sym r.bare.frees) y)
           ];
       own_turns = omega (arith, old.turned.own_turns who has, turns.under_way);
       own_lost = omega (arith, old.turned.own_lost who has, turns.discards, lost);
-      cleared = ap (λ z. raised (counts_cleared z x) a.cleared) r.at;
+      cleared = ap (λ z. raised (counts_cleared z x) a.cleared) at;
     } in
-    let places = λ (y : ℕ). ap (kept_places y) r.kept ∙ retire-places s status d y seat.class r.may in
+    let places = λ (y : ℕ). ap (kept_places y) off.kept ∙ retire-places s status d y seat.class may in
     let added = λ (y : ℕ). occurs-added y d a.retired in
-    let old_kept : (holds_of a.point).kept ≡ (holds_of p).kept = ap (λ z. (holds_of z).kept) r.at in
+    let old_kept : (holds_of a.point).kept ≡ (holds_of p).kept = ap (λ z. (holds_of z).kept) at in
     let balanced : ErrandsBalanced g s l l' a e = record {
       available = b.available;
-      reserves = λ y. ap (reserved_among y) (r.bare.credits ∙ sym (ap (λ z. (holds_of z).credits) r.at ∙ r.credits));
+      reserves = λ y. ap (reserved_among y) (r.bare.credits ∙ sym (ap (λ z. (holds_of z).credits) at ∙ off.credits));
       waits = λ y.
           ap (kept_among waiting y) r.bare.kept
-          ∙ sym (ap (kept_among waiting y) old_kept ∙ sym (b.waits y) ∙ ap (kept_among waiting y) r.kept ∙ retire-waits s status d y seat.class r.may);
+          ∙ sym (ap (kept_among waiting y) old_kept ∙ sym (b.waits y) ∙ ap (kept_among waiting y) off.kept ∙ retire-waits s status d y seat.class may);
       ways = λ y. omega (arith, ap (kept_among on_its_way y) r.bare.kept);
       away = λ y.
           let was : kept_among on_its_way y (holds_of a.point).kept ≡ kept_among on_its_way y (keep d seat.class status) =
-          ap (kept_among on_its_way y) old_kept ∙ sym (b.ways y) ∙ ap (kept_among on_its_way y) r.kept in
+          ap (kept_among on_its_way y) old_kept ∙ sym (b.ways y) ∙ ap (kept_among on_its_way y) off.kept in
           let none = ap (kept_among on_its_way y) r.bare.kept in
-          elim (retire-away s status d y seat.class (occurs y a.retired) (occurs y (a.retired ++ d ∷ [])) r.may (added y)) [
+          elim (retire-away s status d y seat.class (occurs y a.retired) (occurs y (a.retired ++ d ∷ [])) may (added y)) [
             | inl same ↦ inl (omega (arith, same, was, none))
             | inr grown ↦ inr (grown.0, omega (arith, grown.1, was, none))
           ];
       frames = λ f.
-          omega (arith, b.frames f, ap (occurs f) r.frames, ap (occurs f) r.bare.frames, ap (λ z. occurs f (holds_of z).frames) r.at);
+          omega (arith, b.frames f, ap (occurs f) off.frames, ap (occurs f) r.bare.frames, ap (λ z. occurs f (holds_of z).frames) at);
       places = λ y. omega (arith, b.places y, places y, added y, ap (kept_places y) r.bare.kept, ap (kept_places y) old_kept);
       stock = λ c.
           omega (arith, b.stock c, ap (stock_among c) r.bare.kept, ap (stock_among c) old_kept, r.bare.waits c);
-    } in
-    record {
-      event = subst (λ z. event_of who z (found_from s z) ≡ None) (sym r.at) (rw won refl);
-      head = ap (λ z. name_of (plan_point_of z)) r.at;
-      after =
-          subst (λ z. after_action (plan_point_of z) (s.word (name_of (plan_point_of z))) ≡ head_word new) (sym r.at) (rw won (ap head_word uncut));
-      settles = r.settles;
-      may = may;
-      fits = fits;
-      listed = λ words' writes.
-          listed-with g s l seat pile new (i ∷ xs) words' old.listed fits writes longer
-          (All-cons (λ j. j < pile_limit g pile) i xs fit.point.0.index (pile-exists g s l seat pile old.listed class));
-      balanced = balanced;
-      partly =
-          partly-with s l seat pile (i ∷ xs) old.kept.listed
-          (λ is.
-          All-cons (λ j. IsPartlyUsed s j seat.class) i xs (in-hand s seat pile i (onward_holds seat o) (holds_of p) r.more kept is)
-          (list-partly g s l seat pile old class is));
-      tag = omega (arith, tag);
-      still = λ same j. omega (arith, ap (occurs j) one.here);
-      others = list-elsewhere l seat pile (i ∷ xs);
-      frame_turns = λ words' writes.
-          omega (arith, tag-stays s.word words' (head_name seat pile) name.FrameHead new fits writes tag, turns.unframed);
-      list_turns = λ c words' writes.
-          omega (arith, tag-stays s.word words' (head_name seat pile) (name.ListHead c) new fits writes tag, turns.pops);
-    }
+    } in (
+      e,
+      record {
+        event = subst (λ z. event_of who z (found_from s z) ≡ None) (sym at) (rw on.won refl);
+        head = ap (λ z. name_of (plan_point_of z)) at;
+        after =
+            subst (λ z. after_action (plan_point_of z) (s.word (name_of (plan_point_of z))) ≡ head_word (head_pushed i h)) (sym at) (rw on.won (ap head_word on.uncut));
+        settles = r.settles;
+        may = stand;
+        list = list;
+        balanced = balanced;
+        frame_turns = λ words' writes.
+            omega (arith, tag-stays s.word words' (head_name seat pile) name.FrameHead (head_pushed i h) list.fits writes tag, turns.unframed);
+        list_turns = λ c words' writes.
+            omega (arith, tag-stays s.word words' (head_name seat pile) (name.ListHead c) (head_pushed i h) list.fits writes tag, turns.pops);
+      },
+    )
 
 -- a test says yes or no
 says-either : (b : Bool) → (b ≡ true) ⊎ (b ≡ false)
@@ -397,8 +360,7 @@ discard-exchanges :
     (g : Geometry) (s : State) (l : Lists) (who : ℕ) (seat : SeatFields) (i : ℕ) (h : HeadFields) (words d : ℕ) → IsSoundWithoutCounts g s
     → IsSoundWith g s l → who < g.callers → (s.errand who).point ≡ Stack (stack.PushTop seat Frames i h) (onward.Discard words d)
     → s.word name.FrameHead ≡ head_word h
-    → (e : ErrandFields)
-    × Exchanges g s l who seat Frames (record { top = i + 1; tag = h.tag }) e (with_list l seat Frames (i ∷ list_of l seat Frames))
+    → Retired g s l who seat Frames i h
 unfolding plan_point_of next_of holds_of
 discard-exchanges g s l who seat i h words d sound old has at word =
     let p : Point = Stack (stack.PushTop seat Frames i h) (onward.Discard words d) in
@@ -407,77 +369,36 @@ discard-exchanges g s l who seat i h words d sound old has at word =
     let won : (s.word name.FrameHead == head_word h) ≡ true = eq-eqb (s.word name.FrameHead) (head_word h) word in
     let next : next_of a.point x ≡ Retire seat d (onward.Turn words) =
     subst (λ z. next_of z (found_from s z) ≡ Retire seat d (onward.Turn words)) (sym at) (rw won refl) in
+    let retires =
+    push-exchanges g s l who seat Frames i h (onward.Discard words d) d on_its_way sound old has at word (discard-off seat i h words d) (inl refl) in
     elim (says-either (is_full a)) [
       | inl full ↦
-          let q : Point = Desc (desc.ReadHazard seat no_words 0) (onward.Turn words) in (
-            retired_at a x d q a.turns,
-            push-exchanges g s l who seat Frames i h (onward.Discard words d) d on_its_way q a.turns sound old has
-                (record {
-                  at = at;
-                  word = word;
-                  settles = settle-full a x seat d (onward.Turn words) next full;
-                  more = (refl, refl);
-                  kept = refl;
-                  frames = refl;
-                  credits = refl;
-                  hands = refl;
-                  frees = refl;
-                  hazard = refl;
-                  may = inl refl;
-                  bare = scan-bare seat (onward.Turn words);
-                  full = λ spare. full-list g s l who p old has at refl full;
-                  turns = record { under_way = omega arith; discards = omega arith; unframed = omega arith; pops = omega arith };
-                }),
-          )
+          retires (Desc (desc.ReadHazard seat no_words 0) (onward.Turn words)) a.turns
+          (record {
+            settles = settle-full a x seat d (onward.Turn words) next full;
+            bare = scan-bare seat (onward.Turn words);
+            full = λ spare. full-list g s l who p old has at refl full;
+            turns = grind (arith);
+          })
       | inr few ↦
           elim (says-either (is_spent a)) [
-            | inl spent ↦ (
-              retired_at a x d Idle a.turns,
-              push-exchanges g s l who seat Frames i h (onward.Discard words d) d on_its_way Idle a.turns sound old has
-                  (record {
-                    at = at;
-                    word = word;
-                    settles = settle-spent a x seat d words next few spent;
-                    more = (refl, refl);
-                    kept = refl;
-                    frames = refl;
-                    credits = refl;
-                    hands = refl;
-                    frees = refl;
-                    hazard = refl;
-                    may = inl refl;
-                    bare = idle-bare;
-                    full = λ spare. absurd (omega (arith, spare));
-                    turns = record { under_way = omega arith; discards = omega arith; unframed = omega arith; pops = omega arith };
-                  }),
-            )
+            | inl spent ↦
+                retires Idle a.turns
+                (record {
+                  settles = settle-spent a x seat d words next few spent;
+                  bare = idle-bare;
+                  full = λ spare. absurd (omega (arith, spare));
+                  turns = grind (arith);
+                })
             | inr left ↦
                 let more_turns : one_more a.turns ≡ a.turns + 1 = one-more-turn g s l who old has left in
-                let q : Point = Block (block.LoadActive seat) (onward.Alloc words) in (
-                  retired_at a x d q (one_more a.turns),
-                  push-exchanges g s l who seat Frames i h (onward.Discard words d) d on_its_way q (one_more a.turns) sound old has
-                      (record {
-                        at = at;
-                        word = word;
-                        settles = settle-turns a x seat d words next few left;
-                        more = (refl, refl);
-                        kept = refl;
-                        frames = refl;
-                        credits = refl;
-                        hands = refl;
-                        frees = refl;
-                        hazard = refl;
-                        may = inl refl;
-                        bare = active-bare seat (onward.Alloc words);
-                        full = λ spare. absurd (omega (arith, spare));
-                        turns = record {
-                          under_way = omega (arith, more_turns);
-                          discards = omega (arith, more_turns);
-                          unframed = omega (arith, more_turns);
-                          pops = omega (arith, more_turns);
-                        };
-                      }),
-                )
+                retires (Block (block.LoadActive seat) (onward.Alloc words)) (one_more a.turns)
+                (record {
+                  settles = settle-turns a x seat d words next few left;
+                  bare = active-bare seat (onward.Alloc words);
+                  full = λ spare. absurd (omega (arith, spare));
+                  turns = grind (arith, more_turns);
+                })
           ]
     ]
 
@@ -486,7 +407,7 @@ pub push_discard_won-sound :
     → who < g.callers → (s.errand who).point ≡ Stack (stack.PushTop seat Frames i h) (onward.Discard words d)
     → s.word name.FrameHead ≡ head_word h → Step s who s' → IsSoundWithoutCounts g s'
 push_discard_won-sound g s who s' seat i h words d sound has at word step =
-    exchanges-sound g s who s' seat Frames (record { top = i + 1; tag = h.tag }) sound has
+    exchanges-sound g s who s' seat Frames (head_pushed i h) sound has
     (λ l old.
     let to = discard-exchanges g s l who seat i h words d sound old has at word in
     (with_list l seat Frames (i ∷ list_of l seat Frames), to.0, to.1)) step
@@ -496,8 +417,7 @@ retire-exchanges :
     (g : Geometry) (s : State) (l : Lists) (who : ℕ) (seat : SeatFields) (i : ℕ) (h : HeadFields) (d : ℕ) → IsSoundWithoutCounts g s
     → IsSoundWith g s l → who < g.callers → (s.errand who).point ≡ Stack (stack.PushTop seat Partials i h) (onward.Retire d)
     → s.word (name.ListHead seat.class) ≡ head_word h
-    → (e : ErrandFields)
-    × Exchanges g s l who seat Partials (record { top = i + 1; tag = h.tag }) e (with_list l seat Partials (i ∷ list_of l seat Partials))
+    → Retired g s l who seat Partials i h
 unfolding plan_point_of next_of holds_of recalls_of
 retire-exchanges g s l who seat i h d sound old has at word =
     let p : Point = Stack (stack.PushTop seat Partials i h) (onward.Retire d) in
@@ -506,52 +426,26 @@ retire-exchanges g s l who seat i h d sound old has at word =
     let won : (s.word (name.ListHead seat.class) == head_word h) ≡ true = eq-eqb (s.word (name.ListHead seat.class)) (head_word h) word in
     let next : next_of a.point x ≡ Retire seat d onward.EndFree =
     subst (λ z. next_of z (found_from s z) ≡ Retire seat d onward.EndFree) (sym at) (rw won refl) in
-    let so = so-at g s l who p old has at in
-    let is = All-head (IsSo g s l who) (emptied d) []
-    (All-tail (IsSo g s l who) (tops_exist seat Partials h) (emptied d ∷ [])
-    (All-tail (IsSo g s l who) (says (name.Next i) h.top) (tops_exist seat Partials h ∷ emptied d ∷ []) so)) in
+    let is = All-head (IsSo g s l who) (emptied d) [] (pushes-on g s l who seat Partials i h (onward.Retire d) sound old has at word).so in
+    let retires =
+    push-exchanges g s l who seat Partials i h (onward.Retire d) d partly_used sound old has at word (retire-off seat i h d) (inr (refl, is.state)) in
     elim (says-either (is_full a)) [
       | inl full ↦
-          let q : Point = Desc (desc.ReadHazard seat no_words 0) onward.EndFree in (
-            retired_at a x d q a.turns,
-            push-exchanges g s l who seat Partials i h (onward.Retire d) d partly_used q a.turns sound old has
-                (record {
-                  at = at;
-                  word = word;
-                  settles = settle-full a x seat d onward.EndFree next full;
-                  more = (refl, refl);
-                  kept = refl;
-                  frames = refl;
-                  credits = refl;
-                  hands = refl;
-                  frees = refl;
-                  hazard = refl;
-                  may = inr (refl, is.state);
-                  bare = scan-bare seat onward.EndFree;
-                  full = λ spare. full-list g s l who p old has at refl full;
-                  turns = record { under_way = omega arith; discards = omega arith; unframed = omega arith; pops = omega arith };
-                }),
-          )
-      | inr few ↦ (
-        retired_at a x d Idle a.turns,
-        push-exchanges g s l who seat Partials i h (onward.Retire d) d partly_used Idle a.turns sound old has
-            (record {
-              at = at;
-              word = word;
-              settles = settle-ends a x seat d next few;
-              more = (refl, refl);
-              kept = refl;
-              frames = refl;
-              credits = refl;
-              hands = refl;
-              frees = refl;
-              hazard = refl;
-              may = inr (refl, is.state);
-              bare = idle-bare;
-              full = λ spare. absurd (omega (arith, spare));
-              turns = record { under_way = omega arith; discards = omega arith; unframed = omega arith; pops = omega arith };
-            }),
-      )
+          retires (Desc (desc.ReadHazard seat no_words 0) onward.EndFree) a.turns
+          (record {
+            settles = settle-full a x seat d onward.EndFree next full;
+            bare = scan-bare seat onward.EndFree;
+            full = λ spare. full-list g s l who p old has at refl full;
+            turns = grind (arith);
+          })
+      | inr few ↦
+          retires Idle a.turns
+          (record {
+            settles = settle-ends a x seat d next few;
+            bare = idle-bare;
+            full = λ spare. absurd (omega (arith, spare));
+            turns = grind (arith);
+          })
     ]
 
 pub push_retire_won-sound :
@@ -559,26 +453,24 @@ pub push_retire_won-sound :
     → who < g.callers → (s.errand who).point ≡ Stack (stack.PushTop seat Partials i h) (onward.Retire d)
     → s.word (name.ListHead seat.class) ≡ head_word h → Step s who s' → IsSoundWithoutCounts g s'
 push_retire_won-sound g s who s' seat i h d sound has at word step =
-    exchanges-sound g s who s' seat Partials (record { top = i + 1; tag = h.tag }) sound has
+    exchanges-sound g s who s' seat Partials (head_pushed i h) sound has
     (λ l old.
     let to = retire-exchanges g s l who seat i h d sound old has at word in
     (with_list l seat Partials (i ∷ list_of l seat Partials), to.0, to.1)) step
 
--- after a push nothing is retired, or a frame's descriptor is, or an EMPTY superblock's
-abbrev words_of : Onward → ℕ
-words_of (onward.Discard words d) = words
-words_of o = 0
-
-abbrev desc_of : Onward → ℕ
-desc_of (onward.Discard words d) = d
-desc_of (onward.Retire d) = d
-desc_of o = 0
-
-the-retiring :
-    (pile : Pile) (o : Onward) → pushes pile o ≡ true
-    → (keeps_list o ≡ true)
-    ⊎ (((pile ≡ Frames) × (o ≡ onward.Discard (words_of o) (desc_of o))) ⊎ ((pile ≡ Partials) × (o ≡ onward.Retire (desc_of o))))
-the-retiring pile o is = grind (arith, is)
+-- after a push a frame's descriptor is retired, or an EMPTY superblock's, or nothing
+push-top-won :
+    (g : Geometry) (s : State) (who : ℕ) (s' : State) (seat : SeatFields) (pile : Pile) (i : ℕ) (h : HeadFields) (o : Onward)
+    → pushes pile o ≡ true → IsSoundWithoutCounts g s → who < g.callers → (s.errand who).point ≡ Stack (stack.PushTop seat pile i h) o
+    → s.word (head_name seat pile) ≡ head_word h → Step s who s' → IsSoundWithoutCounts g s'
+push-top-won g s who s' seat Frames i h (onward.Discard words d) is sound has at word step =
+    push_discard_won-sound g s who s' seat i h words d sound has at word step
+push-top-won g s who s' seat Partials i h (onward.Retire d) is sound has at word step =
+    push_retire_won-sound g s who s' seat i h d sound has at word step
+push-top-won g s who s' seat Partials i h (onward.Discard words d) is sound has at word step = absurd (cc)
+push-top-won g s who s' seat Frames i h (onward.Retire d) is sound has at word step = absurd (cc)
+push-top-won g s who s' seat pile i h o is sound has at word step =
+    push_going_on-sound g s who s' seat pile i h o sound has at refl word step
 
 -- a won push onto a stack
 pub push_top_won-sound :
@@ -587,19 +479,7 @@ pub push_top_won-sound :
     → s.word (head_name seat pile) ≡ head_word h → Step s who s' → IsSoundWithoutCounts g s'
 push_top_won-sound g s who s' seat pile i h o sound has at word step =
     let fit = fits-at g s sound.parts.0 who (Stack (stack.PushTop seat pile i h) o) sound.parts.1 has at in
-    elim (the-retiring pile o (holds-true (pushes pile o) fit.goes)) [
-      | inl goes ↦ push_going_on-sound g s who s' seat pile i h o sound has at goes word step
-      | inr (inl is) ↦
-          let point : (s.errand who).point ≡ Stack (stack.PushTop seat Frames i h) (onward.Discard (words_of o) (desc_of o)) =
-          at ∙ ap (λ z. Stack (stack.PushTop seat z i h) o) is.0 ∙ ap (λ z. Stack (stack.PushTop seat Frames i h) z) is.1 in
-          push_discard_won-sound g s who s' seat i h (words_of o) (desc_of o) sound has point
-          (subst (λ z. s.word (head_name seat z) ≡ head_word h) is.0 word) step
-      | inr (inr is) ↦
-          let point : (s.errand who).point ≡ Stack (stack.PushTop seat Partials i h) (onward.Retire (desc_of o)) =
-          at ∙ ap (λ z. Stack (stack.PushTop seat z i h) o) is.0 ∙ ap (λ z. Stack (stack.PushTop seat Partials i h) z) is.1 in
-          push_retire_won-sound g s who s' seat i h (desc_of o) sound has point
-          (subst (λ z. s.word (head_name seat z) ≡ head_word h) is.0 word) step
-    ]
+    push-top-won g s who s' seat pile i h o (holds-true (pushes pile o) fit.goes) sound has at word step
 
 -- won or lost
 pub push_top-sound :

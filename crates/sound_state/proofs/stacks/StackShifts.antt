@@ -12,9 +12,8 @@ use Rattle.packed_words.proofs.HeadLemmas.{head_of-head_word, head_word-below}
 use Rattle.word_plan.specs.declared.name.WordName.{WordName}
 use Rattle.word_plan.specs.declared.name.WordName.TheVariants as name
 use Rattle.word_plan.specs.Actions.{name_of, after_action}
-use Rattle.word_plan.specs.Counts.{descriptor_count, word_count}
+use Rattle.word_plan.specs.Counts.{descriptor_count}
 use Rattle.word_plan.specs.Seats.{SeatFields}
-use Rattle.word_plan.specs.Table.{word_name}
 use Rattle.word_plan.specs.Words.{Writes}
 use Rattle.word_plan.proofs.NameLemmas.{cases_name}
 use Rattle.superblock_parts.specs.Chains.{occurs}
@@ -40,7 +39,7 @@ use Rattle.sound_state.specs.Lists.{Lists, IsListed}
 use Rattle.sound_state.specs.Recalls.{list_of}
 use Rattle.sound_state.specs.Sound.{IsSoundWithoutCounts, IsSoundWith}
 use Rattle.sound_state.specs.Stock.{word_stock, errand_stock, full_stock, stock_among, waits_in}
-use Rattle.sound_state.specs.Sums.{sum_below, words_sum}
+use Rattle.sound_state.specs.Sums.{sum_below}
 use Rattle.sound_state.specs.Superblocks.{anchor_for, info_or_zero, word_reserves, errand_reserves, errand_keeps, errand_away, kept_among, reserved_among}
 use Rattle.sound_state.specs.Turns.{turn_unframed, turn_unlisted, errand_pops, one_if, in_turn, has_frame, has_partial, pops_left}
 use Rattle.sound_state.proofs.shared.PointLemmas.{kept_places}
@@ -48,6 +47,7 @@ use Rattle.sound_state.proofs.quiet.QuietLemmas.{found_from}
 use Rattle.sound_state.proofs.shared.AlikeLemmas.{MayGoOn}
 use Rattle.sound_state.proofs.stacks.StackEffects.{Restacks, MayStand, IsNoHead}
 use Rattle.sound_state.proofs.stacks.StackFacts.{restacked-sound}
+use Rattle.sound_state.proofs.shared.KeptLemmas.{words-but}
 use Rattle.sound_state.proofs.shared.StepLemmas.{PointGoes, at_point, goes-stands, may-after, settle-at, settle-end, words-below}
 use Rattle.sound_state.proofs.shared.SumLemmas.{sum-same, sum-change, callers-moved}
 
@@ -68,7 +68,7 @@ pub record OneMore (seat : SeatFields) (pile : Pile) (x : ℕ) (l l' : Lists) : 
   pub here : list_of l seat pile ≡ x ∷ list_of l' seat pile
   pub others : OthersStay seat pile l l'
 
-pub list-here : (l : Lists) (seat : SeatFields) (pile : Pile) (xs : List ℕ) → list_of (with_list l seat pile xs) seat pile ≡ xs
+list-here : (l : Lists) (seat : SeatFields) (pile : Pile) (xs : List ℕ) → list_of (with_list l seat pile xs) seat pile ≡ xs
 list-here l seat Frames xs = refl
 list-here l seat Partials xs = cond-true {A = List ℕ} (seat.class == seat.class) xs (l.partials seat.class) (eq-eqb seat.class seat.class refl)
 
@@ -225,6 +225,17 @@ Spends Frames was now p q = now + one_if (in_turn q && not (has_frame q)) ≤ wa
 Spends Partials was now p q =
     now + pops_left q + one_if (in_turn q && not (has_partial q)) ≤ was + pops_left p + one_if (in_turn p && not (has_partial p))
 
+-- where a stack has another head, its list is that of the second lists, and all others stay
+pub record NewList (g : Geometry) (s : State) (l : Lists) (seat : SeatFields) (pile : Pile) (new : HeadFields) (l' : Lists) : Type 0 where
+  pub fits : IsHead new
+  pub listed : (words' : WordName → ℕ) → Writes s.word (head_name seat pile) (head_word new) words' → IsListed g words' l'
+  pub partly : (class : ℕ) → class < CLASSES → All (λ d. IsPartlyUsed s d class) (l'.partials class)
+  pub tag : (head_of (s.word (head_name seat pile))).tag ≤ new.tag
+  pub still :
+      (head_of (s.word (head_name seat pile))).tag ≡ new.tag → (i : ℕ)
+      → occurs i (list_of l seat pile) ≤ occurs i (list_of l' seat pile)
+  pub others : OthersStay seat pile l l'
+
 -- a step from the first point to the second, with a won exchange of a head
 pub record Shifts (g : Geometry) (s : State) (l : Lists) (who : ℕ) (p q : Point) (seat : SeatFields) (pile : Pile) (new : HeadFields)
     (l' : Lists) : Type 0 where
@@ -234,17 +245,10 @@ pub record Shifts (g : Geometry) (s : State) (l : Lists) (who : ℕ) (p q : Poin
   pub head : name_of (plan_point_of p) ≡ head_name seat pile
   pub after : after_action (plan_point_of p) (s.word (name_of (plan_point_of p))) ≡ head_word new
   pub goes : PointGoes g s l who p q
-  pub fits : IsHead new
-  pub listed : (words' : WordName → ℕ) → Writes s.word (head_name seat pile) (head_word new) words' → IsListed g words' l'
+  pub list : NewList g s l seat pile new l'
   pub balanced : Balanced l l' (holds_of p) (holds_of q)
   pub credits : (holds_of q).credits ≡ (holds_of p).credits
   pub waits : (class : ℕ) → waits_in class q ≡ waits_in class p
-  pub partly : (class : ℕ) → class < CLASSES → All (λ d. IsPartlyUsed s d class) (l'.partials class)
-  pub tag : (head_of (s.word (head_name seat pile))).tag ≤ new.tag
-  pub still :
-      (head_of (s.word (head_name seat pile))).tag ≡ new.tag → (i : ℕ)
-      → occurs i (list_of l seat pile) ≤ occurs i (list_of l' seat pile)
-  pub others : OthersStay seat pile l l'
   pub spends : Spends pile (head_of (s.word (head_name seat pile))).tag new.tag p q
 
 -- a head is no other word
@@ -252,21 +256,7 @@ pub no-head-apart : (seat : SeatFields) (pile : Pile) (n : WordName) → IsNoHea
 no-head-apart seat Frames n is same = let bad : ⊥ = subst IsNoHead same is in bad
 no-head-apart seat Partials n is same = let bad : ⊥ = subst IsNoHead same is in bad
 
--- words that weigh nothing at a head weigh the same
-words-stay :
-    (g : Geometry) (weight : WordName → ℕ → ℕ) (words : WordName → ℕ) (n : WordName) (new : ℕ) (words' : WordName → ℕ)
-    → Writes words n new words' → ((w : ℕ) → weight n w ≡ 0) → words_sum g weight words' ≡ words_sum g weight words
-unfolding words_sum
-words-stay g weight words n new words' writes none =
-    let same : (m : WordName) → weight m (words' m) ≡ weight m (words m) =
-    λ m.
-    elim (cases_name m n) [
-      | inl is ↦ subst (λ k. weight k (words' k) ≡ weight k (words k)) (sym is) (none (words' n) ∙ sym (none (words n)))
-      | inr differ ↦ ap (weight m) (writes.elsewhere m differ)
-    ] in
-    sum-same (word_count g) (λ k. weight (word_name g k) (words (word_name g k))) (λ k. weight (word_name g k) (words' (word_name g k)))
-    (λ k lt. same (word_name g k))
-
+-- a head weighs nothing
 reserves-none : (d : ℕ) (seat : SeatFields) (pile : Pile) (w : ℕ) → word_reserves d (head_name seat pile) w ≡ 0
 reserves-none d seat Frames w = refl
 reserves-none d seat Partials w = refl
@@ -375,15 +365,8 @@ pub record Exchanges (g : Geometry) (s : State) (l : Lists) (who : ℕ) (seat : 
       after_action (plan_point_of (s.errand who).point) (s.word (name_of (plan_point_of (s.errand who).point))) ≡ head_word new
   pub settles : settle_of (s.errand who) (found_at s who) ≡ e
   pub may : MayStand g s l who (s.errand who) e
-  pub fits : IsHead new
-  pub listed : (words' : WordName → ℕ) → Writes s.word (head_name seat pile) (head_word new) words' → IsListed g words' l'
+  pub list : NewList g s l seat pile new l'
   pub balanced : ErrandsBalanced g s l l' (s.errand who) e
-  pub partly : (class : ℕ) → class < CLASSES → All (λ d. IsPartlyUsed s d class) (l'.partials class)
-  pub tag : (head_of (s.word (head_name seat pile))).tag ≤ new.tag
-  pub still :
-      (head_of (s.word (head_name seat pile))).tag ≡ new.tag → (i : ℕ)
-      → occurs i (list_of l seat pile) ≤ occurs i (list_of l' seat pile)
-  pub others : OthersStay seat pile l l'
   pub frame_turns :
       (words' : WordName → ℕ) → Writes s.word (head_name seat pile) (head_word new) words'
       → (head_of (words' name.FrameHead)).tag + turn_unframed e + (s.errand who).turns
@@ -405,7 +388,7 @@ exchanges-restacks g s l who s' seat pile new e l' old has h step =
     let plain : (n : WordName) → IsNoHead n → s'.word n ≡ s.word n = λ n is. writes.elsewhere n (no-head-apart seat pile n is) in
     let callers = λ (weight : ErrandFields → ℕ). callers-moved g weight s.errand who e s'.errand has moves in
     let words = λ (weight : WordName → ℕ → ℕ) (none : (w : ℕ) → weight (head_name seat pile) w ≡ 0).
-    words-stay g weight s.word (head_name seat pile) (head_word new) s'.word writes none in
+    words-but g weight s.word s'.word (head_name seat pile) writes.elsewhere none in
     let anchor = λ (d : ℕ). ap anchor_of (plain (name.Anchor d) tt) in
     let b = h.balanced in
     record {
@@ -413,11 +396,11 @@ exchanges-restacks g s l who s' seat pile new e l' old has h step =
       moves = moves;
       may = h.may;
       word = plain;
-      below = words-below s.word (head_name seat pile) (head_word new) s'.word writes old.words (head_word-below new h.fits);
+      below = words-below s.word (head_name seat pile) (head_word new) s'.word writes old.words (head_word-below new h.list.fits);
       history = step.history ∙ ap (with_event s.history) h.event;
-      listed = h.listed s'.word writes;
+      listed = h.list.listed s'.word writes;
       available = b.available;
-      partly = h.partly;
+      partly = h.list.partly;
       reserved = λ d.
           omega (arith, words (word_reserves d) (reserves-none d seat pile), callers (errand_reserves d), b.reserves d);
       waits = λ d. omega (arith, callers (errand_keeps waiting d), b.waits d);
@@ -442,9 +425,9 @@ exchanges-restacks g s l who s' seat pile new e l' old has h step =
           sum-same (descriptor_count g) (full_stock s class) (full_stock s' class)
           (λ d lt. rw (anchor d, ap (λ x. info_or_zero (info_of x)) (plain (name.Info d) tt)) refl) in
           omega (arith, words (word_stock class) (stock-none class seat pile), callers (errand_stock class), b.stock class, full);
-      tag = λ seat2 pile2. tag-grows s.word s'.word (head_name seat pile) (head_name seat2 pile2) new h.fits writes h.tag;
+      tag = λ seat2 pile2. tag-grows s.word s'.word (head_name seat pile) (head_name seat2 pile2) new h.list.fits writes h.list.tag;
       still = λ seat2 pile2.
-          still-listed s l l' seat seat2 pile pile2 new s'.word h.fits writes h.others h.still;
+          still-listed s l l' seat seat2 pile pile2 new s'.word h.list.fits writes h.list.others h.list.still;
       frame_turns = h.frame_turns s'.word writes;
       list_turns = λ class. h.list_turns class s'.word writes;
     }
@@ -511,8 +494,7 @@ shifts-exchanges g s l who q seat pile new l' old has h =
           (may-after g s l who (found_at s who) q old has (old.words (name_at s who)) after h.cleared
           (goes-stands g s l who (s.errand who).point q h.goes))
           h.goes (ap (λ b. raised b (s.errand who).cleared) h.cleared);
-      fits = h.fits;
-      listed = h.listed;
+      list = h.list;
       balanced = record {
         available = h.balanced.available;
         reserves = λ d. ap (reserved_among d) h.credits;
@@ -523,14 +505,10 @@ shifts-exchanges g s l who q seat pile new l' old has h =
         places = λ d. omega (arith, h.balanced.places d);
         stock = λ class. omega (arith, h.balanced.stock class, h.waits class);
       };
-      partly = h.partly;
-      tag = h.tag;
-      still = h.still;
-      others = h.others;
       frame_turns = λ words' writes.
-          omega (arith, frame-spends s seat pile (s.errand who).point q new words' h.fits writes h.spends h.goes.turn.unframed);
+          omega (arith, frame-spends s seat pile (s.errand who).point q new words' h.list.fits writes h.spends h.goes.turn.unframed);
       list_turns = λ class words' writes.
-          omega (arith, list-spends s seat pile (s.errand who).point q new words' class h.fits writes h.spends h.goes.turn.pops);
+          omega (arith, list-spends s seat pile (s.errand who).point q new words' class h.list.fits writes h.spends h.goes.turn.pops);
     }
 
 -- it keeps the state sound, with other lists

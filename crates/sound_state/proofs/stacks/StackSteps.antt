@@ -1,5 +1,5 @@
 -- The steps of a won pop from a stack and of a won push onto one.
-use Rattle.std.proofs.Common.{ℕ, Bool, true, false, ◌≡◌, ◌<◌, ◌≤◌, ◌+◌, ◌-◌, ◌^◌, List, [], ◌∷◌, refl, arith, ap, sym, subst, inl, inr, ◌∙◌}
+use Rattle.std.proofs.Common.{ℕ, Bool, true, false, ◌≡◌, ◌≢◌, ◌<◌, ◌≤◌, ◌+◌, ◌-◌, ◌^◌, List, [], ◌∷◌, refl, arith, ap, sym, subst, inl, inr, ◌∙◌}
 use Rattle.std.specs.Prelude.{◌==◌, ◌⊎◌, All, IsTrue}
 use Rattle.std.proofs.lemmas.Bool.{cases_eq, cond-true, cond-false, eq-eqb, ne_eqb}
 use Rattle.std.proofs.lemmas.List.Elements.{All-nil, All-cons, All-head, All-tail}
@@ -14,7 +14,6 @@ use Rattle.packed_words.proofs.HeadLemmas.{head_of-head_word}
 use Rattle.word_plan.specs.declared.name.WordName.{WordName}
 use Rattle.word_plan.specs.declared.name.WordName.TheVariants as name
 use Rattle.word_plan.specs.Counts.{descriptor_count}
-use Rattle.word_plan.specs.declared.seat.Site.{Site}
 use Rattle.word_plan.specs.Seats.{SeatFields}
 use Rattle.word_plan.specs.Words.{Writes}
 use Rattle.word_plan.proofs.CountLemmas.{descriptor_count_within}
@@ -32,11 +31,10 @@ use Rattle.errand_steps.specs.declared.onward.Onward.{Onward}
 use Rattle.errand_steps.specs.declared.onward.Onward.TheVariants as onward
 use Rattle.errand_steps.specs.declared.point.Point.{Point}
 use Rattle.errand_steps.specs.declared.point.Point.TheVariants.{Idle, Block, Stack, Desc, Partial}
-use Rattle.errand_steps.specs.declared.reply.Reply.TheVariants as reply
 use Rattle.errand_steps.specs.Events.{event_of}
 use Rattle.errand_steps.specs.Nexts.{next_of, popped, put_away}
 use Rattle.errand_steps.specs.Onwards.{pops, pushes}
-use Rattle.errand_steps.specs.Points.{asked, plan_point_of}
+use Rattle.errand_steps.specs.Points.{plan_point_of}
 use Rattle.errand_steps.specs.Steps.{State, Step}
 use Rattle.sound_state.specs.Holdings.{Holding, Kept, holds_of, partly_used}
 use Rattle.sound_state.specs.Keepers.{IsKeptAs, IsPartlyUsed}
@@ -47,7 +45,7 @@ use Rattle.sound_state.specs.Stock.{waits_in}
 use Rattle.sound_state.proofs.shared.PointLemmas.{HoldsAlike, alike-goes, fits-at, kept-at, so-at}
 use Rattle.sound_state.proofs.quiet.QuietStacks.{pile-stacked, pile-exists, pop_top_lost-sound}
 use Rattle.sound_state.proofs.stacks.StackEffects.{IsNoHead}
-use Rattle.sound_state.proofs.stacks.StackShifts.{HoldsMore, OneMore, Leads, Spends, with_list, more-popped, more-pushed, more-balanced, balance-back, shifts-sound, class_named, no-head-apart, list-here, list-elsewhere}
+use Rattle.sound_state.proofs.stacks.StackShifts.{NewList, HoldsMore, OneMore, Leads, Spends, with_list, more-popped, more-pushed, more-balanced, balance-back, shifts-sound, class_named, no-head-apart, list-elsewhere}
 use Rattle.sound_state.proofs.shared.StepLemmas.{TurnGoes}
 use Rattle.sound_state.proofs.shared.TagLemmas.{frame-tag-below, list-tags-below}
 
@@ -59,12 +57,25 @@ tag-room g s seat Frames sound has = frame-tag-below g s sound
 tag-room g s seat Partials sound has = list-tags-below g s sound seat.class has
 
 -- an index and the number above it fit a top
-pub limit-room : (g : Geometry) (pile : Pile) → IsChecked g → pile_limit g pile < 2 ^ TOP_BITS
+limit-room : (g : Geometry) (pile : Pile) → IsChecked g → pile_limit g pile < 2 ^ TOP_BITS
 limit-room g Frames checked = omega (arith, checked.frames.1)
 limit-room g Partials checked = omega (arith, descriptor_count_within g checked)
 
+-- what holds of the new list of partial superblocks and of those of other classes holds of each
+partials-with :
+    (P : ℕ → List ℕ → Type 0) (l : Lists) (seat : SeatFields) (xs : List ℕ) (class : ℕ) → P seat.class xs
+    → (class ≢ seat.class → P class (l.partials class)) → P class ((with_list l seat Partials xs).partials class)
+partials-with P l seat xs class here others =
+    elim (cases_eq class seat.class) [
+      | inl same ↦
+          subst (P class) (sym (cond-true {A = List ℕ} (class == seat.class) xs (l.partials class) (eq-eqb class seat.class same)))
+          (subst (λ c. P c xs) (sym same) here)
+      | inr differ ↦
+          subst (P class) (sym (cond-false {A = List ℕ} (class == seat.class) xs (l.partials class) (ne_eqb class seat.class differ))) (others differ)
+    ]
+
 -- the words with another head make the lists with another one
-pub listed-with :
+listed-with :
     (g : Geometry) (s : State) (l : Lists) (seat : SeatFields) (pile : Pile) (new : HeadFields) (xs : List ℕ) (words' : WordName → ℕ)
     → IsListed g s.word l → IsHead new → Writes s.word (head_name seat pile) (head_word new) words'
     → Stacked (next_in s.word pile) new.top xs → All (λ i. i < pile_limit g pile) xs → IsListed g words' (with_list l seat pile xs)
@@ -96,46 +107,22 @@ listed-with g s l seat Partials new xs words' listed fits w stacked exist =
       available = rw (partials, plain name.DescHead tt) listed.available;
       available_exist = listed.available_exist;
       partials = λ class has.
-          elim (cases_eq class seat.class) [
-            | inl same ↦
-                let here : Stacked (next_in words' Partials) (head_of (words' (name.ListHead seat.class))).top ((with_list l seat Partials xs).partials seat.class) =
-                subst (Stacked (next_in words' Partials) (head_of (words' (name.ListHead seat.class))).top) (sym (list-here l seat Partials xs))
-                (rw (partials, top) stacked) in
-                subst (λ c. Stacked (next_in words' Partials) (head_of (words' (name.ListHead c))).top ((with_list l seat Partials xs).partials c)) (sym same) here
-            | inr differ ↦
-                subst (Stacked (next_in words' Partials) (head_of (words' (name.ListHead class))).top)
-                (sym (cond-false {A = List ℕ} (class == seat.class) xs (l.partials class) (ne_eqb class seat.class differ)))
-                (rw (partials, w.elsewhere (name.ListHead class) (λ e. differ (ap class_named e))) (listed.partials class has))
-          ];
+          partials-with (λ c ys. Stacked (next_in words' Partials) (head_of (words' (name.ListHead c))).top ys) l seat xs class
+          (rw (partials, top) stacked)
+          (λ differ. rw (partials, w.elsewhere (name.ListHead class) (λ e. differ (ap class_named e))) (listed.partials class has));
       partials_exist = λ class has.
-          elim (cases_eq class seat.class) [
-            | inl same ↦
-                subst (All (λ d. d < descriptor_count g))
-                (sym (cond-true {A = List ℕ} (class == seat.class) xs (l.partials class) (eq-eqb class seat.class same))) exist
-            | inr differ ↦
-                subst (All (λ d. d < descriptor_count g))
-                (sym (cond-false {A = List ℕ} (class == seat.class) xs (l.partials class) (ne_eqb class seat.class differ)))
-                (listed.partials_exist class has)
-          ];
+          partials-with (λ c. All (λ d. d < descriptor_count g)) l seat xs class exist (λ differ. listed.partials_exist class has);
     }
 
 -- the superblocks of all lists are partly used, where those of the new one are
-pub partly-with :
+partly-with :
     (s : State) (l : Lists) (seat : SeatFields) (pile : Pile) (xs : List ℕ)
     → ((class : ℕ) → class < CLASSES → All (λ d. IsPartlyUsed s d class) (l.partials class))
     → (pile ≡ Partials → All (λ d. IsPartlyUsed s d seat.class) xs) → (class : ℕ) → class < CLASSES
     → All (λ d. IsPartlyUsed s d class) ((with_list l seat pile xs).partials class)
 partly-with s l seat Frames xs old these class has = old class has
 partly-with s l seat Partials xs old these class has =
-    elim (cases_eq class seat.class) [
-      | inl same ↦
-          subst (All (λ d. IsPartlyUsed s d class))
-          (sym (cond-true {A = List ℕ} (class == seat.class) xs (l.partials class) (eq-eqb class seat.class same)))
-          (subst (λ c. All (λ d. IsPartlyUsed s d c) xs) (sym same) (these refl))
-      | inr differ ↦
-          subst (All (λ d. IsPartlyUsed s d class))
-          (sym (cond-false {A = List ℕ} (class == seat.class) xs (l.partials class) (ne_eqb class seat.class differ))) (old class has)
-    ]
+    partials-with (λ c. All (λ d. IsPartlyUsed s d c)) l seat xs class (these refl) (λ differ. old class has)
 
 -- a stack that has an index on top is that index and the rest
 record IsTopOf (next : ℕ → ℕ) (top : ℕ) (xs : List ℕ) : Type 0 where
@@ -150,7 +137,7 @@ top-of next top (x ∷ xs) stacked some =
     record { rest = xs; whole = ap (λ y. y ∷ xs) here; stacked = subst (λ y. Stacked next (next y) xs) here stacked.1 }
 
 -- the partial superblocks of a list are partly used
-pub list-partly :
+list-partly :
     (g : Geometry) (s : State) (l : Lists) (seat : SeatFields) (pile : Pile) → IsSoundWith g s l → seat.class < CLASSES → pile ≡ Partials
     → All (λ d. IsPartlyUsed s d seat.class) (list_of l seat pile)
 list-partly g s l seat Frames old has is = absurd (cc)
@@ -245,154 +232,55 @@ pop-leads-sound g s who s' seat pile h below o q to sound has at word step =
             (keeps-more s seat pile (h.top - 1) (holds_of p) (holds_of q) to.more
             (λ is. All-head (λ d. IsPartlyUsed s d seat.class) (h.top - 1) top.rest (partly is)) (kept-at g s l who p old has at))
             (pop-recalls g s l who q to.recalls);
-        fits = fits;
-        listed = λ words' writes.
-            listed-with g s l seat pile new top.rest words' old.listed fits writes
-            (subst (λ b. Stacked (next_in s.word pile) b top.rest) below_is top.stacked)
-            (All-tail (λ i. i < pile_limit g pile) (h.top - 1) top.rest exist);
+        list = record {
+          fits = fits;
+          listed = λ words' writes.
+              listed-with g s l seat pile new top.rest words' old.listed fits writes
+              (subst (λ b. Stacked (next_in s.word pile) b top.rest) below_is top.stacked)
+              (All-tail (λ i. i < pile_limit g pile) (h.top - 1) top.rest exist);
+          partly =
+              partly-with s l seat pile top.rest old.kept.listed
+              (λ is. All-tail (λ d. IsPartlyUsed s d seat.class) (h.top - 1) top.rest (partly is));
+          tag = omega (arith, ap (λ (x : HeadFields). x.tag) before);
+          still = λ same i. let bad : ⊥ = omega (arith, same, ap (λ (x : HeadFields). x.tag) before) in absurd bad;
+          others = one.others;
+        };
         balanced =
             more-balanced seat pile (h.top - 1) l (with_list l seat pile top.rest) (holds_of p) (holds_of q) class one to.more;
         credits = to.credits;
         waits = to.waits;
-        partly =
-            partly-with s l seat pile top.rest old.kept.listed
-            (λ is. All-tail (λ d. IsPartlyUsed s d seat.class) (h.top - 1) top.rest (partly is));
-        tag = omega (arith, ap (λ (x : HeadFields). x.tag) before);
-        still = λ same i. let bad : ⊥ = omega (arith, same, ap (λ (x : HeadFields). x.tag) before) in absurd bad;
-        others = one.others;
         spends = subst (λ (x : HeadFields). Spends pile x.tag (h.tag + 1) p q) (sym before) to.spends;
       },
     )) step
 
 -- a frame is popped for a new superblock; a partial superblock is taken, or cleared from its list
-take_frame-leads :
-    (seat : SeatFields) (h : HeadFields) (below words d : ℕ)
-    → PopLeads seat Frames h below (onward.TakeFrame words d)
-    (Block (block.LinkBlock (record { seat = seat; desc = d; frame = h.top - 1 }) 0) (onward.Alloc words))
+abbrev popped_to : SeatFields → HeadFields → Onward → Point
+popped_to seat h (onward.TakeFrame words d) =
+    Block (block.LinkBlock (record { seat = seat; desc = d; frame = h.top - 1 }) 0) (onward.Alloc words)
+popped_to seat h (onward.Alloc words) = Partial (partial.LoadTakenInfo seat (h.top - 1)) (onward.Alloc words)
+popped_to seat h o = Partial (partial.LoadListedAnchor seat (h.top - 1)) o
+
+pop-leads :
+    (seat : SeatFields) (pile : Pile) (h : HeadFields) (below : ℕ) (o : Onward) → pops pile o ≡ true
+    → PopLeads seat pile h below o (popped_to seat h o)
 unfolding holds_of recalls_of
-take_frame-leads seat h below words d = record {
+pop-leads seat Frames h below (onward.TakeFrame words d) is = record {
   next = refl;
-  holds = record {
-    hazard = refl;
-    hands = refl;
-    frees = refl;
-    pushed = refl;
-    passed = refl;
-    unread = refl;
-    spare = refl;
-    turn = record { under_way = omega arith; discards = omega arith; unanswered = omega arith; unframed = omega arith; pops = omega arith };
-  };
+  holds = grind (arith);
   more = (refl, refl);
   credits = refl;
   waits = λ class. refl;
   recalls = inr (h.top - 1, seat.class, refl);
   spends = omega arith;
 }
+pop-leads seat Partials h below (onward.Alloc words) is = grind (arith)
+pop-leads seat Partials h below onward.Clear is = grind (arith)
+pop-leads seat Partials h below (onward.ClearSecond first) is = grind (arith)
+pop-leads seat pile h below o is = absurd (cc)
 
-alloc-leads :
-    (seat : SeatFields) (h : HeadFields) (below words : ℕ)
-    → PopLeads seat Partials h below (onward.Alloc words) (Partial (partial.LoadTakenInfo seat (h.top - 1)) (onward.Alloc words))
-unfolding holds_of recalls_of
-alloc-leads seat h below words = record {
-  next = refl;
-  holds = record {
-    hazard = refl;
-    hands = refl;
-    frees = refl;
-    pushed = refl;
-    passed = refl;
-    unread = refl;
-    spare = refl;
-    turn = record { under_way = omega arith; discards = omega arith; unanswered = omega arith; unframed = omega arith; pops = omega arith };
-  };
-  more = (refl, refl);
-  credits = refl;
-  waits = λ class. refl;
-  recalls = inl refl;
-  spends = omega arith;
-}
-
-clear-leads :
-    (seat : SeatFields) (h : HeadFields) (below : ℕ)
-    → PopLeads seat Partials h below onward.Clear (Partial (partial.LoadListedAnchor seat (h.top - 1)) onward.Clear)
-unfolding holds_of recalls_of
-clear-leads seat h below = record {
-  next = refl;
-  holds = record {
-    hazard = refl;
-    hands = refl;
-    frees = refl;
-    pushed = refl;
-    passed = refl;
-    unread = refl;
-    spare = refl;
-    turn = record { under_way = omega arith; discards = omega arith; unanswered = omega arith; unframed = omega arith; pops = omega arith };
-  };
-  more = (refl, refl);
-  credits = refl;
-  waits = λ class. refl;
-  recalls = inl refl;
-  spends = omega arith;
-}
-
-clear_second-leads :
-    (seat : SeatFields) (h : HeadFields) (below first : ℕ)
-    → PopLeads seat Partials h below (onward.ClearSecond first)
-    (Partial (partial.LoadListedAnchor seat (h.top - 1)) (onward.ClearSecond first))
-unfolding holds_of recalls_of
-clear_second-leads seat h below first = record {
-  next = refl;
-  holds = record {
-    hazard = refl;
-    hands = refl;
-    frees = refl;
-    pushed = refl;
-    passed = refl;
-    unread = refl;
-    spare = refl;
-    turn = record { under_way = omega arith; discards = omega arith; unanswered = omega arith; unframed = omega arith; pops = omega arith };
-  };
-  more = (refl, refl);
-  credits = refl;
-  waits = λ class. refl;
-  recalls = inl refl;
-  spends = omega arith;
-}
-
--- the continuations of a pop
-abbrev desc_of : Onward → ℕ
-desc_of (onward.TakeFrame words d) = d
-desc_of (onward.ClearSecond first) = first
-desc_of o = 0
-
-the-frame : (o : Onward) → IsTrue (pops Frames o) → o ≡ onward.TakeFrame (asked o) (desc_of o)
-the-frame o is = grind (arith, is)
-
-the-partial :
-    (o : Onward) → IsTrue (pops Partials o)
-    → (o ≡ onward.Alloc (asked o)) ⊎ ((o ≡ onward.Clear) ⊎ (o ≡ onward.ClearSecond (desc_of o)))
-the-partial o is = grind (arith, is)
-
--- a won pop of a frame leads to a new superblock, that of a partial one to its word or its anchor
-pop-leads :
-    (seat : SeatFields) (pile : Pile) (h : HeadFields) (below : ℕ) (o : Onward) → IsTrue (pops pile o)
-    → (q : Point) × PopLeads seat pile h below o q
-pop-leads seat Frames h below o is =
-    let d : ℕ = desc_of o in
-    subst (λ x. (q : Point) × PopLeads seat Frames h below x q) (sym (the-frame o is))
-    (Block (block.LinkBlock (record { seat = seat; desc = d; frame = h.top - 1 }) 0) (onward.Alloc (asked o)), take_frame-leads seat h below (asked o) d)
-pop-leads seat Partials h below o is =
-    elim (the-partial o is) [
-      | inl e ↦
-          subst (λ x. (q : Point) × PopLeads seat Partials h below x q) (sym e)
-          (Partial (partial.LoadTakenInfo seat (h.top - 1)) (onward.Alloc (asked o)), alloc-leads seat h below (asked o))
-      | inr (inl e) ↦
-          subst (λ x. (q : Point) × PopLeads seat Partials h below x q) (sym e)
-          (Partial (partial.LoadListedAnchor seat (h.top - 1)) onward.Clear, clear-leads seat h below)
-      | inr (inr e) ↦
-          subst (λ x. (q : Point) × PopLeads seat Partials h below x q) (sym e)
-          (Partial (partial.LoadListedAnchor seat (h.top - 1)) (onward.ClearSecond (desc_of o)), clear_second-leads seat h below (desc_of o))
-    ]
+-- what holds is true
+pub holds-true : (b : Bool) → IsTrue b → b ≡ true
+holds-true b is = grind (arith, is)
 
 -- a won pop from a stack
 pub pop_top_won-sound :
@@ -400,9 +288,9 @@ pub pop_top_won-sound :
     → IsSoundWithoutCounts g s → who < g.callers → (s.errand who).point ≡ Stack (stack.PopTop seat pile h below) o
     → s.word (head_name seat pile) ≡ head_word h → Step s who s' → IsSoundWithoutCounts g s'
 pop_top_won-sound g s who s' seat pile h below o sound has at word step =
-    let leads = pop-leads seat pile h below o
-    (fits-at g s sound.parts.0 who (Stack (stack.PopTop seat pile h below) o) sound.parts.1 has at).goes in
-    pop-leads-sound g s who s' seat pile h below o leads.0 leads.1 sound has at word step
+    let fit = fits-at g s sound.parts.0 who (Stack (stack.PopTop seat pile h below) o) sound.parts.1 has at in
+    pop-leads-sound g s who s' seat pile h below o (popped_to seat h o) (pop-leads seat pile h below o (holds-true (pops pile o) fit.goes))
+    sound has at word step
 
 -- won or lost
 pub pop_top-sound :
@@ -429,26 +317,36 @@ push-spends : (pile : Pile) (t : ℕ) (p q : Point) → TurnGoes p q → Spends 
 push-spends Frames t p q goes = omega (arith, goes.unframed)
 push-spends Partials t p q goes = omega (arith, goes.pops)
 
--- a won push that leads there
-push-leads-sound :
-    (g : Geometry) (s : State) (who : ℕ) (s' : State) (seat : SeatFields) (pile : Pile) (i : ℕ) (h : HeadFields) (o : Onward) (q : Point)
-    → PushLeads seat pile i h o q → IsSoundWithoutCounts g s → who < g.callers → (s.errand who).point ≡ Stack (stack.PushTop seat pile i h) o
-    → s.word (head_name seat pile) ≡ head_word h → Step s who s' → IsSoundWithoutCounts g s'
-unfolding plan_point_of next_of event_of recalls_of
-push-leads-sound g s who s' seat pile i h o q to sound has at word step =
+-- the head after a push
+abbrev pub head_pushed : ℕ → HeadFields → HeadFields
+head_pushed i h = record { top = i + 1; tag = h.tag }
+
+-- what a won push finds and leaves: its index in front of the list, which is one of the heap's
+pub record PushesOn (g : Geometry) (s : State) (l : Lists) (who : ℕ) (seat : SeatFields) (pile : Pile) (i : ℕ) (h : HeadFields)
+    (o : Onward) : Type 0 where
+  pub won : (s.word (head_name seat pile) == head_word h) ≡ true
+  pub class : seat.class < CLASSES
+  pub before : head_of (s.word (head_name seat pile)) ≡ h
+  pub uncut : pushed_head h i ≡ head_pushed i h
+  pub one : OneMore seat pile i (with_list l seat pile (i ∷ list_of l seat pile)) l
+  pub list :
+      (pile ≡ Partials → IsPartlyUsed s i seat.class)
+      → NewList g s l seat pile (head_pushed i h) (with_list l seat pile (i ∷ list_of l seat pile))
+  pub so : All (IsSo g s l who) (onward_recalls seat o)
+
+pub pushes-on :
+    (g : Geometry) (s : State) (l : Lists) (who : ℕ) (seat : SeatFields) (pile : Pile) (i : ℕ) (h : HeadFields) (o : Onward)
+    → IsSoundWithoutCounts g s → IsSoundWith g s l → who < g.callers → (s.errand who).point ≡ Stack (stack.PushTop seat pile i h) o
+    → s.word (head_name seat pile) ≡ head_word h → PushesOn g s l who seat pile i h o
+unfolding recalls_of
+pushes-on g s l who seat pile i h o sound old has at word =
     let p : Point = Stack (stack.PushTop seat pile i h) o in
-    let new : HeadFields = record { top = i + 1; tag = h.tag } in
-    let won : (s.word (head_name seat pile) == head_word h) ≡ true = eq-eqb (s.word (head_name seat pile)) (head_word h) word in
-    shifts-sound g s who s' p q seat pile new sound has at
-    (λ l old.
+    let new : HeadFields = head_pushed i h in
     let fit = fits-at g s l who p old has at in
     let class : seat.class < CLASSES = fit.point.0.seat.class in
     let before : head_of (s.word (head_name seat pile)) ≡ h = ap head_of word ∙ head_of-head_word h fit.point.1 in
     let so = so-at g s l who p old has at in
     let said = All-head (IsSo g s l who) (says (next_name pile i) h.top) (tops_exist seat pile h ∷ onward_recalls seat o) so in
-    let so_onward =
-    All-tail (IsSo g s l who) (tops_exist seat pile h) (onward_recalls seat o)
-    (All-tail (IsSo g s l who) (says (next_name pile i) h.top) (tops_exist seat pile h ∷ onward_recalls seat o) so) in
     let xs : List ℕ = list_of l seat pile in
     let stacked : Stacked (next_in s.word pile) h.top xs =
     subst (λ x. Stacked (next_in s.word pile) x.top xs) before (pile-stacked g s l seat pile old.listed class) in
@@ -456,173 +354,68 @@ push-leads-sound g s who s' seat pile i h o q to sound has at word step =
     (refl, subst (λ t. Stacked (next_in s.word pile) t xs) (sym said.1) stacked) in
     let room : i + 1 < 2 ^ TOP_BITS = omega (arith, fit.point.0.index, limit-room g pile sound.checked) in
     let fits : IsHead new = record { top = room; tag = fit.point.1.tag } in
-    let uncut : pushed_head h i ≡ new = ap (λ t. record { top = t; tag = h.tag }) (mod-eq_of_lt {n = i + 1} {m = 2 ^ TOP_BITS} room) in
-    let one : OneMore seat pile i (with_list l seat pile (i ∷ xs)) l = more-pushed l seat pile i in
-    let kept = kept-at g s l who p old has at in (
-      with_list l seat pile (i ∷ xs),
-      record {
-        leads = rw won to.next;
-        event = rw won refl;
-        cleared = refl;
-        head = refl;
-        after = rw won (ap head_word uncut);
-        goes =
-            alike-goes g s l who p q old has at to.holds (keeps-less s seat pile i (holds_of q) (holds_of p) to.more kept)
-            (subst (All (IsSo g s l who)) (sym to.recalls) so_onward);
+    record {
+      won = eq-eqb (s.word (head_name seat pile)) (head_word h) word;
+      class = class;
+      before = before;
+      uncut = ap (λ t. record { top = t; tag = h.tag }) (mod-eq_of_lt {n = i + 1} {m = 2 ^ TOP_BITS} room);
+      one = more-pushed l seat pile i;
+      list = λ its. record {
         fits = fits;
         listed = λ words' writes.
             listed-with g s l seat pile new (i ∷ xs) words' old.listed fits writes longer
             (All-cons (λ j. j < pile_limit g pile) i xs fit.point.0.index (pile-exists g s l seat pile old.listed class));
-        balanced =
-            balance-back (with_list l seat pile (i ∷ xs)) l (holds_of q) (holds_of p)
-            (more-balanced seat pile i (with_list l seat pile (i ∷ xs)) l (holds_of q) (holds_of p) class one to.more);
-        credits = to.credits;
-        waits = to.waits;
         partly =
             partly-with s l seat pile (i ∷ xs) old.kept.listed
-            (λ is.
-            All-cons (λ d. IsPartlyUsed s d seat.class) i xs (in-hand s seat pile i (holds_of q) (holds_of p) to.more kept is)
-            (list-partly g s l seat pile old class is));
+            (λ is. All-cons (λ d. IsPartlyUsed s d seat.class) i xs (its is) (list-partly g s l seat pile old class is));
         tag = omega (arith, ap (λ (x : HeadFields). x.tag) before);
-        still = λ same j. omega (arith, ap (occurs j) one.here);
+        still = λ same j. omega (arith, ap (occurs j) (more-pushed l seat pile i).here);
         others = list-elsewhere l seat pile (i ∷ xs);
-        spends = subst (λ (x : HeadFields). Spends pile x.tag h.tag p q) (sym before) (push-spends pile h.tag p q to.holds.turn);
+      };
+      so =
+          All-tail (IsSo g s l who) (tops_exist seat pile h) (onward_recalls seat o)
+          (All-tail (IsSo g s l who) (says (next_name pile i) h.top) (tops_exist seat pile h ∷ onward_recalls seat o) so);
+    }
+
+-- a won push that leads there
+push-leads-sound :
+    (g : Geometry) (s : State) (who : ℕ) (s' : State) (seat : SeatFields) (pile : Pile) (i : ℕ) (h : HeadFields) (o : Onward) (q : Point)
+    → PushLeads seat pile i h o q → IsSoundWithoutCounts g s → who < g.callers → (s.errand who).point ≡ Stack (stack.PushTop seat pile i h) o
+    → s.word (head_name seat pile) ≡ head_word h → Step s who s' → IsSoundWithoutCounts g s'
+unfolding plan_point_of next_of event_of
+push-leads-sound g s who s' seat pile i h o q to sound has at word step =
+    let p : Point = Stack (stack.PushTop seat pile i h) o in
+    shifts-sound g s who s' p q seat pile (head_pushed i h) sound has at
+    (λ l old.
+    let on = pushes-on g s l who seat pile i h o sound old has at word in
+    let l' : Lists = with_list l seat pile (i ∷ list_of l seat pile) in
+    let kept = kept-at g s l who p old has at in (
+      l',
+      record {
+        leads = rw on.won to.next;
+        event = rw on.won refl;
+        cleared = refl;
+        head = refl;
+        after = rw on.won (ap head_word on.uncut);
+        goes =
+            alike-goes g s l who p q old has at to.holds (keeps-less s seat pile i (holds_of q) (holds_of p) to.more kept)
+            (subst (All (IsSo g s l who)) (sym to.recalls) on.so);
+        list = on.list (in-hand s seat pile i (holds_of q) (holds_of p) to.more kept);
+        balanced =
+            balance-back l' l (holds_of q) (holds_of p) (more-balanced seat pile i l' l (holds_of q) (holds_of p) on.class on.one to.more);
+        credits = to.credits;
+        waits = to.waits;
+        spends = subst (λ (x : HeadFields). Spends pile x.tag h.tag p q) (sym on.before) (push-spends pile h.tag p q to.holds.turn);
       },
     )) step
 
--- what a push goes on with: the block is handed out; the hazard word is cleared; the first of two goes back, too; the superblock is looked for in its slot
-give_block-leads :
-    (seat : SeatFields) (i : ℕ) (h : HeadFields) (words : ℕ) (at : Site) (k : ℕ)
-    → PushLeads seat Partials i h (onward.GiveBlock words at k) (Block (block.StorePrefix at k) (onward.Alloc words))
-unfolding holds_of recalls_of
-give_block-leads seat i h words at k = record {
-  next = inl refl;
-  holds = record {
-    hazard = refl;
-    hands = refl;
-    frees = refl;
-    pushed = refl;
-    passed = refl;
-    unread = refl;
-    spare = refl;
-    turn = record { under_way = omega arith; discards = omega arith; unanswered = omega arith; unframed = omega arith; pops = omega arith };
-  };
-  more = (refl, refl);
-  credits = refl;
-  waits = λ class. refl;
-  recalls = refl;
-}
-
-finish_stored-leads :
-    (seat : SeatFields) (i : ℕ) (h : HeadFields)
-    → PushLeads seat Partials i h (onward.Finish true) (Desc (desc.ClearHazard seat) onward.EndFree)
-unfolding holds_of recalls_of
-finish_stored-leads seat i h = record {
-  next = inl refl;
-  holds = record {
-    hazard = refl;
-    hands = refl;
-    frees = refl;
-    pushed = refl;
-    passed = refl;
-    unread = refl;
-    spare = refl;
-    turn = record { under_way = omega arith; discards = omega arith; unanswered = omega arith; unframed = omega arith; pops = omega arith };
-  };
-  more = (refl, refl);
-  credits = refl;
-  waits = λ class. refl;
-  recalls = refl;
-}
-
-push_first-leads :
-    (seat : SeatFields) (i : ℕ) (h : HeadFields) (first : ℕ)
-    → PushLeads seat Partials i h (onward.PushFirst first) (Stack (stack.LoadTopToPush seat Partials first) onward.EndFree)
-unfolding holds_of recalls_of
-push_first-leads seat i h first = record {
-  next = inl refl;
-  holds = record {
-    hazard = refl;
-    hands = refl;
-    frees = refl;
-    pushed = refl;
-    passed = refl;
-    unread = refl;
-    spare = refl;
-    turn = record { under_way = omega arith; discards = omega arith; unanswered = omega arith; unframed = omega arith; pops = omega arith };
-  };
-  more = (refl, refl);
-  credits = refl;
-  waits = λ class. refl;
-  recalls = refl;
-}
-
-remove-leads :
-    (seat : SeatFields) (i : ℕ) (h : HeadFields) (d heap : ℕ)
-    → PushLeads seat Frames i h (onward.Remove d heap) (Partial (partial.LoadHeldSlot seat d heap) onward.Free)
-unfolding holds_of recalls_of
-remove-leads seat i h d heap = record {
-  next = inl refl;
-  holds = record {
-    hazard = refl;
-    hands = refl;
-    frees = refl;
-    pushed = refl;
-    passed = refl;
-    unread = refl;
-    spare = refl;
-    turn = record { under_way = omega arith; discards = omega arith; unanswered = omega arith; unframed = omega arith; pops = omega arith };
-  };
-  more = (refl, refl);
-  credits = refl;
-  waits = λ class. refl;
-  recalls = refl;
-}
-
--- or with nothing: the call ends
-finish-leads :
-    (seat : SeatFields) (i : ℕ) (h : HeadFields)
-    → PushLeads seat Partials i h (onward.Finish false) (Idle)
-unfolding holds_of recalls_of
-finish-leads seat i h = record {
-  next = inr (reply.Freed, refl, refl);
-  holds = record {
-    hazard = refl;
-    hands = refl;
-    frees = refl;
-    pushed = refl;
-    passed = refl;
-    unread = refl;
-    spare = refl;
-    turn = record { under_way = omega arith; discards = omega arith; unanswered = omega arith; unframed = omega arith; pops = omega arith };
-  };
-  more = (refl, refl);
-  credits = refl;
-  waits = λ class. refl;
-  recalls = refl;
-}
-
-end_free-leads :
-    (seat : SeatFields) (i : ℕ) (h : HeadFields)
-    → PushLeads seat Partials i h onward.EndFree (Idle)
-unfolding holds_of recalls_of
-end_free-leads seat i h = record {
-  next = inr (reply.Freed, refl, refl);
-  holds = record {
-    hazard = refl;
-    hands = refl;
-    frees = refl;
-    pushed = refl;
-    passed = refl;
-    unread = refl;
-    spare = refl;
-    turn = record { under_way = omega arith; discards = omega arith; unanswered = omega arith; unframed = omega arith; pops = omega arith };
-  };
-  more = (refl, refl);
-  credits = refl;
-  waits = λ class. refl;
-  recalls = refl;
-}
+-- the block is handed out; the hazard word is cleared; the first of two goes back, too; the superblock is looked for in its slot; or the call ends
+abbrev pushed_to : SeatFields → Onward → Point
+pushed_to seat (onward.GiveBlock words at k) = Block (block.StorePrefix at k) (onward.Alloc words)
+pushed_to seat (onward.Finish true) = Desc (desc.ClearHazard seat) onward.EndFree
+pushed_to seat (onward.PushFirst first) = Stack (stack.LoadTopToPush seat Partials first) onward.EndFree
+pushed_to seat (onward.Remove d heap) = Partial (partial.LoadHeldSlot seat d heap) onward.Free
+pushed_to seat o = Idle
 
 -- the continuations of a push after which nothing is retired
 abbrev pub keeps_list : Onward → Bool
@@ -632,45 +425,15 @@ keeps_list o = true
 
 push-leads :
     (seat : SeatFields) (pile : Pile) (i : ℕ) (h : HeadFields) (o : Onward) → pushes pile o ≡ true → keeps_list o ≡ true
-    → (q : Point) × PushLeads seat pile i h o q
-push-leads seat Partials i h (onward.GiveBlock words at k) is goes = (Block (block.StorePrefix at k) (onward.Alloc words), give_block-leads seat i h words at k)
-push-leads seat Partials i h (onward.Finish true) is goes = (Desc (desc.ClearHazard seat) onward.EndFree, finish_stored-leads seat i h)
-push-leads seat Partials i h (onward.Finish false) is goes = (Idle, finish-leads seat i h)
-push-leads seat Partials i h onward.EndFree is goes = (Idle, end_free-leads seat i h)
-push-leads seat Partials i h (onward.PushFirst first) is goes =
-    (Stack (stack.LoadTopToPush seat Partials first) onward.EndFree, push_first-leads seat i h first)
-push-leads seat Frames i h (onward.Remove d heap) is goes = (Partial (partial.LoadHeldSlot seat d heap) onward.Free, remove-leads seat i h d heap)
-push-leads seat Partials i h (onward.Remove d heap) is goes = absurd (cc)
-push-leads seat Partials i h (onward.Discard words d) is goes = absurd (cc)
-push-leads seat Partials i h (onward.Retire d) is goes = absurd (cc)
-push-leads seat Partials i h (onward.Alloc words) is goes = absurd (cc)
-push-leads seat Partials i h (onward.TakeFrame words d) is goes = absurd (cc)
-push-leads seat Partials i h (onward.Turn words) is goes = absurd (cc)
-push-leads seat Partials i h (onward.Look words) is goes = absurd (cc)
-push-leads seat Partials i h onward.Refuse is goes = absurd (cc)
-push-leads seat Partials i h onward.Free is goes = absurd (cc)
-push-leads seat Partials i h onward.Clear is goes = absurd (cc)
-push-leads seat Partials i h (onward.ClearSecond first) is goes = absurd (cc)
-push-leads seat Partials i h onward.Nothing is goes = absurd (cc)
-push-leads seat Frames i h (onward.GiveBlock words at k) is goes = absurd (cc)
-push-leads seat Frames i h (onward.Finish stored) is goes = absurd (cc)
-push-leads seat Frames i h onward.EndFree is goes = absurd (cc)
-push-leads seat Frames i h (onward.PushFirst first) is goes = absurd (cc)
-push-leads seat Frames i h (onward.Discard words d) is goes = absurd (cc)
-push-leads seat Frames i h (onward.Retire d) is goes = absurd (cc)
-push-leads seat Frames i h (onward.Alloc words) is goes = absurd (cc)
-push-leads seat Frames i h (onward.TakeFrame words d) is goes = absurd (cc)
-push-leads seat Frames i h (onward.Turn words) is goes = absurd (cc)
-push-leads seat Frames i h (onward.Look words) is goes = absurd (cc)
-push-leads seat Frames i h onward.Refuse is goes = absurd (cc)
-push-leads seat Frames i h onward.Free is goes = absurd (cc)
-push-leads seat Frames i h onward.Clear is goes = absurd (cc)
-push-leads seat Frames i h (onward.ClearSecond first) is goes = absurd (cc)
-push-leads seat Frames i h onward.Nothing is goes = absurd (cc)
-
--- what holds is true
-pub holds-true : (b : Bool) → IsTrue b → b ≡ true
-holds-true b is = grind (arith, is)
+    → PushLeads seat pile i h o (pushed_to seat o)
+unfolding holds_of recalls_of
+push-leads seat Partials i h (onward.GiveBlock words at k) is goes = grind (arith)
+push-leads seat Partials i h (onward.Finish true) is goes = grind (arith)
+push-leads seat Partials i h (onward.Finish false) is goes = grind (arith)
+push-leads seat Partials i h onward.EndFree is goes = grind (arith)
+push-leads seat Partials i h (onward.PushFirst first) is goes = grind (arith)
+push-leads seat Frames i h (onward.Remove d heap) is goes = grind (arith)
+push-leads seat pile i h o is goes = absurd (cc)
 
 -- a won push onto a stack, after which nothing is retired
 pub push_going_on-sound :
@@ -679,5 +442,5 @@ pub push_going_on-sound :
     → s.word (head_name seat pile) ≡ head_word h → Step s who s' → IsSoundWithoutCounts g s'
 push_going_on-sound g s who s' seat pile i h o sound has at goes word step =
     let fit = fits-at g s sound.parts.0 who (Stack (stack.PushTop seat pile i h) o) sound.parts.1 has at in
-    let leads = push-leads seat pile i h o (holds-true (pushes pile o) fit.goes) goes in
-    push-leads-sound g s who s' seat pile i h o leads.0 leads.1 sound has at word step
+    push-leads-sound g s who s' seat pile i h o (pushed_to seat o) (push-leads seat pile i h o (holds-true (pushes pile o) fit.goes) goes)
+    sound has at word step

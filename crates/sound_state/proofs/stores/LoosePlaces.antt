@@ -1,10 +1,8 @@
 -- Who alone may store a word of the arena: the owner of the live block whose prefix it is, or the maker of the superblock in which it lies.
 use Rattle.std.proofs.Common.{ℕ, zero, suc, true, Option, Some, None, ◌≡◌, ◌≢◌, ◌<◌, ◌≤◌, ◌+◌, ◌^◌, List, [], ◌∷◌, length, refl, arith, ap, sym, subst, inl, inr, ◌∙◌}
-use Rattle.std.specs.List.{AllByRecursion}
 use Rattle.std.specs.Prelude.{IsTrue, slice_index_or}
 use Rattle.std.proofs.lemmas.Bool.{cases_eq}
 use Rattle.std.proofs.lemmas.Option.{none-some}
-use Rattle.std.proofs.lemmas.List.Elements.{All-from_recursion, recursion_from_All}
 use Rattle.heap_geometry.specs.declared.geometry.Geometry.{Geometry}
 use Rattle.heap_geometry.specs.declared.need.Need.{Need}
 use Rattle.heap_geometry.specs.declared.need.Need.TheVariants.{Small, Large, TooLarge}
@@ -15,26 +13,13 @@ use Rattle.word_plan.specs.declared.name.WordName.{WordName}
 use Rattle.word_plan.specs.declared.name.WordName.TheVariants as name
 use Rattle.word_plan.specs.declared.seat.Site.{Site}
 use Rattle.word_plan.specs.Counts.{descriptor_count}
-use Rattle.word_plan.specs.Seats.{SeatFields}
 use Rattle.word_plan.specs.Words.{Writes}
-use Rattle.superblock_parts.specs.Chains.{occurs}
-use Rattle.superblock_parts.specs.declared.point.BlockPoint.{BlockPoint}
+use Rattle.superblock_parts.specs.Chains.{occurs, prefix_name}
 use Rattle.superblock_parts.specs.declared.point.BlockPoint.TheVariants as block
-use Rattle.superblock_parts.specs.Fits.{FitsBlock}
-use Rattle.stack_parts.specs.declared.point.Pile.{Pile}
-use Rattle.stack_parts.specs.declared.point.Pile.TheVariants.{Frames, Partials}
-use Rattle.stack_parts.specs.declared.point.StackPoint.{StackPoint}
-use Rattle.stack_parts.specs.declared.point.StackPoint.TheVariants as stack
-use Rattle.stack_parts.specs.Piles.{next_name}
-use Rattle.hazard_parts.specs.declared.point.DescPoint.{DescPoint}
-use Rattle.hazard_parts.specs.declared.point.DescPoint.TheVariants as desc
-use Rattle.partial_parts.specs.declared.point.PartialPoint.{PartialPoint}
-use Rattle.large_parts.specs.declared.point.LargePoint.{LargePoint}
 use Rattle.pool_model.specs.Pool.{Block, block_at, pool_of}
 use Rattle.pool_model.specs.WellFormed.{IsPlaceFor, IsWellFormed}
 use Rattle.pool_model.proofs.PoolLemmas.{place-found, every-found}
 use Rattle.pool_model.proofs.WellFormedLemmas.{sound-of, small-frame, large-frame, class_span}
-use Rattle.errand_steps.specs.declared.onward.Onward.{Onward}
 use Rattle.errand_steps.specs.declared.point.Point.{Point}
 use Rattle.errand_steps.specs.declared.point.Point.TheVariants as point
 use Rattle.errand_steps.specs.Fits.{FitsPoint}
@@ -42,7 +27,7 @@ use Rattle.errand_steps.specs.Steps.{State}
 use Rattle.sound_state.specs.Frames.{errand_frames, fills}
 use Rattle.sound_state.specs.Holdings.{waiting, making, holds_of}
 use Rattle.sound_state.specs.Lists.{Lists}
-use Rattle.sound_state.specs.Recalls.{IsSo, IsOwned, recalls_of, onward_recalls, stack_recalls, desc_recalls, block_recalls, partial_recalls, large_recalls}
+use Rattle.sound_state.specs.Recalls.{IsOwned}
 use Rattle.sound_state.specs.Sound.{IsSoundWith, IsSoundWithoutCounts}
 use Rattle.sound_state.specs.Sums.{callers_sum}
 use Rattle.sound_state.specs.Superblocks.{info_for, is_bound, superblock_of, free_chain, errand_keeps, kept_among}
@@ -50,49 +35,14 @@ use Rattle.sound_state.specs.Ties.{IsLive, IsExcepted}
 use Rattle.sound_state.proofs.shared.FrameLemmas.{held-or-filled}
 use Rattle.sound_state.proofs.shared.OverlapLemmas.{live-apart, free-unlive}
 use Rattle.sound_state.proofs.shared.PointLemmas.{fits-at, frees-at}
-use Rattle.sound_state.proofs.stores.PrefixLemmas.{with_arena, IsStillSaid, IsChainKept, ArenaKept}
+use Rattle.sound_state.proofs.stores.StoreFields.{LoneKept}
+use Rattle.sound_state.proofs.stores.StoreReads.{links-stay, places-stay, place-stays, IsBlockUnread, link-unread, place-unread, lone-kept}
 use Rattle.sound_state.proofs.quiet.QuietPushes.{owner-is}
-use Rattle.sound_state.proofs.shared.StepLemmas.{words-below}
 use Rattle.sound_state.proofs.shared.SumLemmas.{term-sum, two-terms}
-
--- the arena of these words
-abbrev pub arena_in : (WordName → ℕ) → ℕ → ℕ
-arena_in words place = words (name.Arena place)
 
 abbrev arena_word : WordName → ℕ
 arena_word (name.Arena place) = place
 arena_word n = 0
-
--- the words after a write into the arena are those before it with another arena
-pub arena-written :
-    (words : WordName → ℕ) (p new : ℕ) (words' : WordName → ℕ) → Writes words (name.Arena p) new words' → (m : WordName)
-    → words' m ≡ with_arena (arena_in words') words m
-arena-written words p new words' w (name.Arena place) = refl
-arena-written words p new words' w (name.Next d) = w.elsewhere (name.Next d) (λ is. cc)
-arena-written words p new words' w (name.FrameNext f) = w.elsewhere (name.FrameNext f) (λ is. cc)
-arena-written words p new words' w (name.Anchor d) = w.elsewhere (name.Anchor d) (λ is. cc)
-arena-written words p new words' w (name.Info d) = w.elsewhere (name.Info d) (λ is. cc)
-arena-written words p new words' w (name.Active heap class) = w.elsewhere (name.Active heap class) (λ is. cc)
-arena-written words p new words' w (name.Slot heap class) = w.elsewhere (name.Slot heap class) (λ is. cc)
-arena-written words p new words' w (name.ListHead class) = w.elsewhere (name.ListHead class) (λ is. cc)
-arena-written words p new words' w name.FrameHead = w.elsewhere name.FrameHead (λ is. cc)
-arena-written words p new words' w name.DescHead = w.elsewhere name.DescHead (λ is. cc)
-arena-written words p new words' w (name.Hazard who) = w.elsewhere (name.Hazard who) (λ is. cc)
-arena-written words p new words' w name.Units = w.elsewhere name.Units (λ is. cc)
-arena-written words p new words' w (name.Shelf k) = w.elsewhere (name.Shelf k) (λ is. cc)
-
-pub arena-elsewhere :
-    (words : WordName → ℕ) (p new : ℕ) (words' : WordName → ℕ) → Writes words (name.Arena p) new words' → (q : ℕ) → q ≢ p
-    → arena_in words' q ≡ words (name.Arena q)
-arena-elsewhere words p new words' w q differ = w.elsewhere (name.Arena q) (λ is. differ (ap arena_word is))
-
--- the caller remembers nothing of what the place says: it doesn't push its block, and hasn't stored its link in a new superblock
-abbrev pub IsUnread : ℕ → Point → Type 0
-IsUnread p (point.Block (block.PushBlock at i a stored heap) o) = block_place at.frame at.seat.class i ≢ p
-IsUnread p (point.Block (block.LinkBlock at i) o) = (k : ℕ) → k < i → block_place at.frame at.seat.class k ≢ p
-IsUnread p (point.Block (block.StoreInfo at) o) = (k : ℕ) → k < block_count_of at.seat.class → block_place at.frame at.seat.class k ≢ p
-IsUnread p (point.Block (block.StoreAnchor at) o) = (k : ℕ) → k < block_count_of at.seat.class → block_place at.frame at.seat.class k ≢ p
-IsUnread p q = Unit {0}
 
 -- nobody reads the word at the place, but for a caller that hands out or frees the block there
 pub record IsLoose (g : Geometry) (s : State) (l : Lists) (p : ℕ) : Type 0 where
@@ -102,135 +52,31 @@ pub record IsLoose (g : Geometry) (s : State) (l : Lists) (p : ℕ) : Type 0 whe
   pub ties : (b : Block) → IsLive s p b → IsExcepted g s p
   pub contents :
       (place i v : ℕ) (b : Block) → IsLive s place b → slice_index_or b.contents i None ≡ Some v → place + 1 + i ≢ p
-  pub unread : (who : ℕ) → who < g.callers → IsUnread p (s.errand who).point
+  pub unread : (who : ℕ) → who < g.callers → IsBlockUnread (name.Arena p) (s.errand who).point
 
--- what each caller remembers is still said
-abbrev ChainsKept : Geometry → State → Lists → (ℕ → ℕ) → Type 0
-ChainsKept g s l a = (d : ℕ) → d < descriptor_count g → IsTrue (is_bound g s l d) → IsChainKept g s a d
-
--- the words at other places stay
-abbrev OthersStay : State → (ℕ → ℕ) → ℕ → Type 0
-OthersStay s a p = (q : ℕ) → q ≢ p → a q ≡ s.word (name.Arena q)
-
-said-block :
-    (g : Geometry) (s : State) (l : Lists) (a : ℕ → ℕ) (who place : ℕ) (p : BlockPoint) (o : Onward) → ChainsKept g s l a
-    → OthersStay s a place → FitsBlock g who p → AllByRecursion (IsSo g s l who) (block_recalls p) → IsUnread place (point.Block p o)
-    → AllByRecursion (IsStillSaid g s a) (block_recalls p)
-said-block g s l a who place (block.LoadActive seat) o kept stay fits so off = tt
-said-block g s l a who place (block.TakeCredit seat e credits) o kept stay fits so off = tt
-said-block g s l a who place (block.LoadInfo seat e share) o kept stay fits so off = (tt, tt)
-said-block g s l a who place (block.LoadAnchor at share) o kept stay fits so off = (tt, tt)
-said-block g s l a who place (block.LoadLink at share x) o kept stay fits so off =
-    (kept at.desc fits.site.desc so.1.0.0, (tt, tt))
-said-block g s l a who place (block.PopBlock at share x prefix) o kept stay fits so off =
-    let chain = kept at.desc fits.site.desc so.1.1.0.0 in
-    (λ is. chain x.avail (so.1.0.first is), (chain, (tt, tt)))
-said-block g s l a who place (block.StorePrefix at k) o kept stay fits so off = (tt, tt)
-said-block g s l a who place (block.InstallCredits at k more) o kept stay fits so off = (tt, tt)
-said-block g s l a who place (block.InstallSuperblock at) o kept stay fits so off = (refl, (tt, tt))
-said-block g s l a who place (block.LoadReturn at k more) o kept stay fits so off = (tt, tt)
-said-block g s l a who place (block.ReturnCredits at k more x) o kept stay fits so off = (tt, tt)
-said-block g s l a who place (block.LoadPrefix seat frame k) o kept stay fits so off = tt
-said-block g s l a who place (block.LoadPushAnchor at k stored) o kept stay fits so off = (tt, tt)
-said-block g s l a who place (block.StoreGuard at k x) o kept stay fits so off = (tt, tt)
-said-block g s l a who place (block.LoadOwner at k x) o kept stay fits so off = (tt, tt)
-said-block g s l a who place (block.StoreLink at k x stored heap) o kept stay fits so off = (tt, tt)
-said-block g s l a who place (block.PushBlock at k x stored heap) o kept stay fits so off =
-    (stay (block_place at.frame at.seat.class k) off, (tt, tt))
-said-block g s l a who place (block.LinkBlock at k) o kept stay fits so off =
-    (λ i lt. stay (block_place at.frame at.seat.class i) (off i lt), tt)
-said-block g s l a who place (block.StoreInfo at) o kept stay fits so off =
-    (λ i lt. stay (block_place at.frame at.seat.class i) (off i lt), tt)
-said-block g s l a who place (block.StoreAnchor at) o kept stay fits so off =
-    (refl, (λ i lt. stay (block_place at.frame at.seat.class i) (off i lt), tt))
-said-block g s l a who place (block.WantsPartial seat) o kept stay fits so off = tt
-said-block g s l a who place (block.Returned at k) o kept stay fits so off = tt
-said-block g s l a who place (block.Discarded at) o kept stay fits so off = tt
-said-block g s l a who place (block.Given at k) o kept stay fits so off = tt
-said-block g s l a who place (block.BecameEmpty at heap) o kept stay fits so off = tt
-said-block g s l a who place (block.BecamePartial at stored) o kept stay fits so off = tt
-said-block g s l a who place (block.Pushed seat stored) o kept stay fits so off = tt
-
-said-onward : (g : Geometry) (s : State) (a : ℕ → ℕ) (seat : SeatFields) (o : Onward) → AllByRecursion (IsStillSaid g s a) (onward_recalls seat o)
-said-onward g s a seat o = grind (arith)
-
-said-next : (s : State) (a : ℕ → ℕ) (pile : Pile) (i : ℕ) → with_arena a s.word (next_name pile i) ≡ s.word (next_name pile i)
-said-next s a Frames i = refl
-said-next s a Partials i = refl
-
-said-stack : (g : Geometry) (s : State) (a : ℕ → ℕ) (p : StackPoint) (o : Onward) → AllByRecursion (IsStillSaid g s a) (stack_recalls p o)
-said-stack g s a (stack.LoadTop seat pile) o = said-onward g s a seat o
-said-stack g s a (stack.LoadBelow seat pile h) o = (tt, said-onward g s a seat o)
-said-stack g s a (stack.PopTop seat pile h below) o = (tt, (tt, said-onward g s a seat o))
-said-stack g s a (stack.ConfirmEmpty seat pile h) o = said-onward g s a seat o
-said-stack g s a (stack.LoadTopToPush seat pile k) o = said-onward g s a seat o
-said-stack g s a (stack.StoreBelow seat pile k h) o = (tt, said-onward g s a seat o)
-said-stack g s a (stack.PushTop seat pile k h) o = (said-next s a pile k, (tt, said-onward g s a seat o))
-said-stack g s a (stack.Popped seat pile k) o = tt
-said-stack g s a (stack.FoundEmpty seat pile h) o = tt
-said-stack g s a (stack.ConfirmedEmpty seat pile) o = tt
-said-stack g s a (stack.Pushed seat pile) o = tt
-
-said-desc : (g : Geometry) (s : State) (a : ℕ → ℕ) (p : DescPoint) (o : Onward) → AllByRecursion (IsStillSaid g s a) (desc_recalls p o)
-said-desc g s a (desc.LoadDescHead seat) o = (tt, tt)
-said-desc g s a (desc.StoreHazard seat e) o = (tt, tt)
-said-desc g s a (desc.ReloadDescHead seat e) o = (tt, tt)
-said-desc g s a (desc.LoadNextDesc seat e) o = (tt, tt)
-said-desc g s a (desc.PopDesc seat e next) o = (tt, (tt, tt))
-said-desc g s a (desc.ClearAfterPop seat e) o = (tt, tt)
-said-desc g s a (desc.ClearHazard seat) o = said-onward g s a seat o
-said-desc g s a (desc.ReadHazard seat held k) o = tt
-said-desc g s a (desc.LoadHeadToPush seat e) o = tt
-said-desc g s a (desc.StoreNextDesc seat e top) o = tt
-said-desc g s a (desc.PushDesc seat e top) o = (refl, tt)
-said-desc g s a (desc.Got seat e) o = tt
-said-desc g s a (desc.Cleared seat) o = tt
-said-desc g s a (desc.Scanned seat held) o = tt
-said-desc g s a (desc.Pushed seat e) o = tt
-
-said-partial : (g : Geometry) (s : State) (a : ℕ → ℕ) (p : PartialPoint) (o : Onward) → AllByRecursion (IsStillSaid g s a) (partial_recalls p o)
-said-partial g s a p o = grind (arith)
-
-said-large : (g : Geometry) (s : State) (a : ℕ → ℕ) (p : LargePoint) → AllByRecursion (IsStillSaid g s a) (large_recalls p)
-said-large g s a p = grind (arith)
-
-said-point :
-    (g : Geometry) (s : State) (l : Lists) (a : ℕ → ℕ) (who place : ℕ) (p : Point) → ChainsKept g s l a → OthersStay s a place
-    → FitsPoint g who p → AllByRecursion (IsSo g s l who) (recalls_of p) → IsUnread place p
-    → AllByRecursion (IsStillSaid g s a) (recalls_of p)
-unfolding recalls_of
-said-point g s l a who place point.Idle kept stay fits so off = tt
-said-point g s l a who place (point.Block p o) kept stay fits so off = said-block g s l a who place p o kept stay fits.point so off
-said-point g s l a who place (point.Stack p o) kept stay fits so off = said-stack g s a p o
-said-point g s l a who place (point.Desc p o) kept stay fits so off = said-desc g s a p o
-said-point g s l a who place (point.Partial p o) kept stay fits so off = said-partial g s a p o
-said-point g s l a who place (point.Large p o) kept stay fits so off = said-large g s a p
-
--- a write to a place that nobody reads keeps the arena
+-- a write to a place that nobody reads keeps what is read
 pub arena-kept :
     (g : Geometry) (s : State) (l : Lists) (p new : ℕ) (words' : WordName → ℕ) → IsSoundWith g s l → IsLoose g s l p → new < 2 ^ 64
-    → Writes s.word (name.Arena p) new words' → ArenaKept g s l (arena_in words')
+    → Writes s.word (name.Arena p) new words' → LoneKept g s l words'
 arena-kept g s l p new words' old loose below w =
-    let a = arena_in words' in
-    let same = arena-written s.word p new words' w in
-    let stay : OthersStay s a p = arena-elsewhere s.word p new words' w in
-    let chains : ChainsKept g s l a =
-    λ d has bound i on. stay (block_place (info_for s d).frame (info_for s d).class i) (loose.chains d has bound i on) in
-    record {
-      words = λ m. subst (λ v. v < 2 ^ 64) (same m) (words-below s.word (name.Arena p) new words' w old.words below m);
-      chains = chains;
+    let n = name.Arena p in
+    let stay : (q : ℕ) → q ≢ p → words' (name.Arena q) ≡ s.word (name.Arena q) =
+    λ q differ. w.elsewhere (name.Arena q) (λ is. differ (ap arena_word is)) in
+    lone-kept g s l n new words' old tt below w (links-stay g s l n new words' old w (λ no. no)) (places-stay g s l n new words' old w (λ no. no))
+    (record {
+      chains = λ d has bound i on. stay (block_place (info_for s d).frame (info_for s d).class i) (loose.chains d has bound i on);
       ties = λ place b live.
           elim (cases_eq place p) [
             | inl is ↦ inl (subst (IsExcepted g s) (sym is) (loose.ties b (subst (λ q. IsLive s q b) is live)))
             | inr differ ↦ inr (stay place differ)
           ];
       contents = λ place i v b live of. stay (place + 1 + i) (loose.contents place i v b live of);
-      recalls = λ i has.
-          let q : Point = (s.errand i).point in
-          All-from_recursion (IsStillSaid g s a) (recalls_of q)
-          (said-point g s l a i p q chains stay (fits-at g s l i q old has refl)
-          (recursion_from_All (IsSo g s l i) (recalls_of q) (old.remembered.so i has)) (loose.unread i has));
-    }
+    })
+    (λ i has. record {
+      link = link-unread n (s.errand i).point (λ no. no);
+      block = loose.unread i has;
+      place = place-unread s words' n (s.errand i).point (place-stays s n new words' w (λ no. no)) (λ at o stands is. cc);
+    })
 
 -- what is written lies in the block
 pub written-within : (xs : List (Option ℕ)) (i v : ℕ) → slice_index_or xs i None ≡ Some v → i < length xs
@@ -358,41 +204,35 @@ pub record IsElsewhere (s : State) (i p : ℕ) : Type 0 where
   pub makes : (f : ℕ) → IsMaking s i f → frame_of p ≢ f
 
 -- so it remembers nothing of the place
-unread-block :
-    (g : Geometry) (s : State) (l : Lists) (i p : ℕ) (q : BlockPoint) (o : Onward) → IsSoundWith g s l → i < g.callers
-    → (s.errand i).point ≡ point.Block q o → FitsBlock g i q → IsElsewhere s i p → IsUnread p (point.Block q o)
-unfolding holds_of
-unread-block g s l i p (block.PushBlock at k x stored heap) o old has stands fits away =
-    λ same.
-    away.owns (Small at.seat.class)
-    (subst (λ place. IsOwned s i place (Small at.seat.class)) same
-    (frees-at g s l i (point.Block (block.PushBlock at k x stored heap) o) old has stands 0
-    (record { place = block_place at.frame at.seat.class k; need = Small at.seat.class; overwritten = true }) (omega arith)))
-unread-block g s l i p (block.LinkBlock at k) o old has stands fits away =
-    λ j lt same.
-    let mine : IsMaking s i at.frame = is-making s i (point.Block (block.LinkBlock at k) o) at stands refl in
-    away.makes at.frame mine
-    (ap frame_of (sym same) ∙ frame_of-block_place at.frame at.seat.class j (omega (arith, lt, fits.index)))
-unread-block g s l i p (block.StoreInfo at) o old has stands fits away =
-    λ j lt same.
-    let mine : IsMaking s i at.frame = is-making s i (point.Block (block.StoreInfo at) o) at stands refl in
-    away.makes at.frame mine (ap frame_of (sym same) ∙ frame_of-block_place at.frame at.seat.class j lt)
-unread-block g s l i p (block.StoreAnchor at) o old has stands fits away =
-    λ j lt same.
-    let mine : IsMaking s i at.frame = is-making s i (point.Block (block.StoreAnchor at) o) at stands refl in
-    away.makes at.frame mine (ap frame_of (sym same) ∙ frame_of-block_place at.frame at.seat.class j lt)
-unread-block g s l i p q o old has stands fits away = tt
+unmade-unread :
+    (g : Geometry) (s : State) (i p : ℕ) (q : Point) (at : Site) (k : ℕ) → (s.errand i).point ≡ q → holds_of q ≡ making at
+    → IsElsewhere s i p → k < block_count_of at.seat.class → prefix_name at.frame at.seat.class k ≢ name.Arena p
+unmade-unread g s i p q at k stands holds away lt same =
+    away.makes at.frame (is-making s i q at stands holds)
+    (ap (λ n. frame_of (arena_word n)) (sym same) ∙ frame_of-block_place at.frame at.seat.class k lt)
 
 unread-point :
     (g : Geometry) (s : State) (l : Lists) (i p : ℕ) (q : Point) → IsSoundWith g s l → i < g.callers
-    → (s.errand i).point ≡ q → FitsPoint g i q → IsElsewhere s i p → IsUnread p q
-unread-point g s l i p (point.Block q o) old has stands fits away = unread-block g s l i p q o old has stands fits.point away
+    → (s.errand i).point ≡ q → FitsPoint g i q → IsElsewhere s i p → IsBlockUnread (name.Arena p) q
+unfolding holds_of
+unread-point g s l i p (point.Block (block.PushBlock at k x stored heap) o) old has stands fits away =
+    λ same.
+    away.owns (Small at.seat.class)
+    (subst (λ n. IsOwned s i (arena_word n) (Small at.seat.class)) same
+    (frees-at g s l i (point.Block (block.PushBlock at k x stored heap) o) old has stands 0
+    (record { place = block_place at.frame at.seat.class k; need = Small at.seat.class; overwritten = true }) (omega arith)))
+unread-point g s l i p (point.Block (block.LinkBlock at k) o) old has stands fits away =
+    λ j lt. unmade-unread g s i p (point.Block (block.LinkBlock at k) o) at j stands refl away (omega (arith, lt, fits.point.index))
+unread-point g s l i p (point.Block (block.StoreInfo at) o) old has stands fits away =
+    λ j lt. unmade-unread g s i p (point.Block (block.StoreInfo at) o) at j stands refl away lt
+unread-point g s l i p (point.Block (block.StoreAnchor at) o) old has stands fits away =
+    λ j lt. unmade-unread g s i p (point.Block (block.StoreAnchor at) o) at j stands refl away lt
 unread-point g s l i p q old has stands fits away = tt
 
 -- the owner of a live small block, which everybody excepts, may store its prefix word
 pub live-loose :
     (g : Geometry) (s : State) (l : Lists) (who p class : ℕ) → IsSoundWithoutCounts g s → IsSoundWith g s l → who < g.callers
-    → IsOwned s who p (Small class) → IsExcepted g s p → IsUnread p (s.errand who).point → IsLoose g s l p
+    → IsOwned s who p (Small class) → IsExcepted g s p → IsBlockUnread (name.Arena p) (s.errand who).point → IsLoose g s l p
 live-loose g s l who p class sound old has owned excepted off = record {
   chains = λ d exists bound i on same.
       none-some owned.block.0
@@ -401,7 +241,7 @@ live-loose g s l who p class sound old has owned excepted off = record {
   contents = λ place i v b live of. unwritten-live g s p place i v owned.block.0 b sound owned.block.1 live of;
   unread = λ i has_i.
       elim (cases_eq i who) [
-        | inl is ↦ subst (λ j. IsUnread p (s.errand j).point) (sym is) off
+        | inl is ↦ subst (λ j. IsBlockUnread (name.Arena p) (s.errand j).point) (sym is) off
         | inr differ ↦
             unread-point g s l i p (s.errand i).point old has_i refl (fits-at g s l i (s.errand i).point old has_i refl)
             (record {
@@ -419,7 +259,7 @@ live-loose g s l who p class sound old has owned excepted off = record {
 -- so may the maker of a superblock store the link of one of its blocks
 pub making-loose :
     (g : Geometry) (s : State) (l : Lists) (who f class i : ℕ) → IsSoundWithoutCounts g s → IsSoundWith g s l → who < g.callers
-    → f < g.frames → i < block_count_of class → IsMaking s who f → IsUnread (block_place f class i) (s.errand who).point
+    → f < g.frames → i < block_count_of class → IsMaking s who f → IsBlockUnread (name.Arena (block_place f class i)) (s.errand who).point
     → IsLoose g s l (block_place f class i)
 making-loose g s l who f class i sound old has in_heap within mine off =
     let p = block_place f class i in
@@ -438,7 +278,7 @@ making-loose g s l who f class i sound old has in_heap within mine off =
           (written-frame g s place k v b b.need sound live refl of (omega (arith, there, in_heap)) ∙ there);
       unread = λ j has_j.
           elim (cases_eq j who) [
-            | inl is ↦ subst (λ k. IsUnread p (s.errand k).point) (sym is) off
+            | inl is ↦ subst (λ k. IsBlockUnread (name.Arena p) (s.errand k).point) (sym is) off
             | inr differ ↦
                 unread-point g s l j p (s.errand j).point old has_j refl (fits-at g s l j (s.errand j).point old has_j refl)
                 (record {

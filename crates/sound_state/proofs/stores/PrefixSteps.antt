@@ -1,8 +1,7 @@
 -- Steps that store the prefix word or the link of a block.
-use Rattle.std.proofs.Common.{ℕ, Bool, true, false, Option, Some, None, ◌≡◌, ◌<◌, ◌≤◌, ◌+◌, ◌^◌, ◌*◌, List, [], ◌∷◌, refl, arith, ap, sym, subst, inl, inr, ◌∙◌}
+use Rattle.std.proofs.Common.{ℕ, Bool, true, false, Option, Some, None, ◌≡◌, ◌<◌, ◌≤◌, ◌+◌, ◌^◌, ◌*◌, [], ◌∷◌, refl, arith, ap, sym, subst, inl, inr, ◌∙◌}
 use Rattle.std.specs.Prelude.{All, Any, IsTrue, nat_lt, if◌then◌else◌}
 use Rattle.std.proofs.lemmas.Bool.{cases_eq, cases_Bool, ltb-false}
-use Rattle.std.proofs.lemmas.Option.{none-some}
 use Rattle.std.proofs.lemmas.List.Elements.{All-nil, All-cons, All-head}
 use Rattle.heap_geometry.specs.declared.geometry.Geometry.{Geometry}
 use Rattle.heap_geometry.specs.declared.need.Need.{Need}
@@ -35,14 +34,12 @@ use Rattle.errand_steps.specs.declared.point.Point.{Point}
 use Rattle.errand_steps.specs.declared.point.Point.TheVariants.{Idle, Block}
 use Rattle.errand_steps.specs.declared.reply.Reply.{Reply}
 use Rattle.errand_steps.specs.declared.reply.Reply.TheVariants as reply
-use Rattle.errand_steps.specs.Errands.{IsErrand, settle_of, raised, counts_cleared, counts_lost}
+use Rattle.errand_steps.specs.Errands.{settle_of, raised, counts_cleared, counts_lost}
 use Rattle.errand_steps.specs.Events.{event_of}
 use Rattle.errand_steps.specs.Nexts.{next_of, enter_block}
 use Rattle.errand_steps.specs.Points.{plan_point_of}
-use Rattle.errand_steps.specs.Steps.{State, Step, Moves, name_at, found_at, with_event}
-use Rattle.errand_steps.proofs.ErrandLemmas.{settle_errand}
+use Rattle.errand_steps.specs.Steps.{State, Step, Moves, name_at, word_at, found_at, with_event}
 use Rattle.sound_state.specs.Holdings.{Handed, Freed, block_holds, making, holds_of}
-use Rattle.sound_state.specs.Keepers.{IsKeptAs}
 use Rattle.sound_state.specs.Lists.{Lists}
 use Rattle.sound_state.specs.Recalls.{IsSo, IsOwned, IsLocated, AreMade, block_recalls, recalls_of, bound_here, bound_at, says, made}
 use Rattle.sound_state.specs.Sound.{IsSoundWithoutCounts, IsSoundWith}
@@ -51,80 +48,17 @@ use Rattle.sound_state.specs.Superblocks.{is_bound}
 use Rattle.sound_state.specs.Ties.{IsLive}
 use Rattle.sound_state.proofs.quiet.QuietPushes.{any-none, any-one}
 use Rattle.sound_state.proofs.shared.FrameLemmas.{one-in-frame}
-use Rattle.sound_state.proofs.shared.AlikeLemmas.{sound-alike, IsSaidAt, MayGoOn, MayGuard}
-use Rattle.sound_state.proofs.stores.LoosePlaces.{arena_in, arena-written, arena-kept, IsLoose, IsUnread, is-making, live-loose, making-loose}
+use Rattle.sound_state.proofs.shared.AlikeLemmas.{sound-alike, IsSaidAt, MayGoOn}
+use Rattle.sound_state.proofs.stores.LoosePlaces.{arena-kept, IsLoose, is-making, live-loose, making-loose}
+use Rattle.sound_state.proofs.shared.NothingLemmas.{idle-nothing, nothing-guards, settled-own, nothing-may}
 use Rattle.sound_state.proofs.shared.PointLemmas.{exists-at, fits-at, so-at, frees-at, hands-at, hazard-at, WeighFrom, weigh-stays, from-weighs}
-use Rattle.sound_state.proofs.stores.PrefixLemmas.{rewritten, sound-rewritten}
-use Rattle.sound_state.proofs.quiet.QuietLemmas.{HoldsSame, same-weighs, same-goes, found_from, actives-stay}
+use Rattle.sound_state.proofs.stores.StoreFields.{between, sound-between}
+use Rattle.sound_state.proofs.stores.StoreReads.{lone-written, IsBlockUnread}
+use Rattle.sound_state.proofs.stores.StoreSteps.{StoresTo, store-written, step-between, store-sound}
+use Rattle.sound_state.proofs.quiet.QuietLemmas.{HoldsSame, found_from, actives-stay}
 use Rattle.sound_state.proofs.quiet.QuietLinks.{written-at}
-use Rattle.sound_state.proofs.shared.StepLemmas.{HoldsException, TurnGoes, at_point, settle-at, settle-end, may-after, goes-stands, goes-guards, raised-least, raised-below}
+use Rattle.sound_state.proofs.shared.StepLemmas.{HoldsException, TurnGoes, at_point, settle-end, raised-least}
 use Rattle.sound_state.proofs.shared.WeighLemmas.{WeighAlike, weigh-alike, alike-most, WeighMost, weigh-emptied}
-
--- the state after a step with the arena that it leaves and the errands before it
-abbrev pub stored : State → State → State
-stored s s' = rewritten s (arena_in s'.word)
-
--- a step that stores a word of the arena that nobody reads, tells nothing and leads to this point, where the caller holds the same
-pub record IsStoring (g : Geometry) (s : State) (who place : ℕ) (p q : Point) (s' : State) : Type 0 where
-  pub next : next_of p (found_from s p) ≡ At q
-  pub event : event_of who p (found_from s p) ≡ None
-  pub cleared : counts_cleared p (found_from s p) ≡ false
-  pub holds : HoldsSame p q
-  pub loose : (l : Lists) → IsSoundWith g s l → IsLoose g s l place
-  pub so : (l : Lists) → IsSoundWith g (stored s s') l → All (IsSo g (stored s s') l who) (recalls_of q)
-
--- keeps the state sound
-pub store-sound :
-    (g : Geometry) (s : State) (who : ℕ) (s' : State) (place new : ℕ) (p q : Point) → IsSoundWithoutCounts g s → who < g.callers
-    → (s.errand who).point ≡ p → IsStoring g s who place p q s' → Writes s.word (name.Arena place) new s'.word → new < 2 ^ 64
-    → Step s who s' → IsSoundWithoutCounts g s'
-store-sound g s who s' place new p q sound has at given w below step =
-    let h : IsStoring g s who place (s.errand who).point q s' = subst (λ r. IsStoring g s who place r q s') (sym at) given in
-    let l = sound.parts.0 in
-    let old = sound.parts.1 in
-    let n = name_at s who in
-    let x = found_at s who in
-    let e = at_point (s.errand who) x q in
-    let between = stored s s' in
-    let after = settle-at (s.errand who) x q h.next in
-    let moves : Moves s.errand who e s'.errand = subst (λ f. Moves s.errand who f s'.errand) after step.errand in
-    let past : s'.history ≡ s.history = step.history ∙ ap (with_event s.history) h.event in
-    let kept = arena-kept g s l place new s'.word old (h.loose l old) below w in
-    let written : IsSoundWith g between l = sound-rewritten g s l (arena_in s'.word) kept old in
-    let same = arena-written s.word place new s'.word w in
-    let weigh : WeighMost n (between.word n) (s'.word n) (s.errand who) e =
-    alike-most n (between.word n) (s'.word n) (s.errand who) e
-    (subst (λ v. WeighAlike n (between.word n) v (s.errand who) e) (sym (same n)) (same-weighs n (between.word n) (s.errand who) x q h.holds)) in
-    let goes = same-goes g between l who q written has h.holds (h.so l written) in
-    record {
-      checked = sound.checked;
-      legal = subst (IsLegalWithoutCounts g) (sym past) sound.legal;
-      parts = (
-        l,
-        sound-alike g between l who e s'
-            (record {
-              caller = has;
-              moves = moves;
-              alike =
-                  weigh-alike g between l who n (s'.word n) e s' (exists-at g s who (s.errand who).point sound has refl) has
-                  (record { here = refl; elsewhere = λ m differ. same m }) moves past
-                  weigh;
-              may =
-                  may-after g between l who x q written has (old.words n) after h.cleared
-                  (goes-stands g between l who (s.errand who).point q goes);
-              others = λ i differ. same (name.Hazard i);
-              guards =
-                  goes-guards g between l who q (s.errand who).retired (s'.word (name.Hazard who)) written.guarded has (same (name.Hazard who)) goes;
-              actives = actives-stay g between l s'.word written.kept same;
-              words = λ m. subst (λ v. v < 2 ^ 64) (sym (same m)) (kept.words m);
-              emptied =
-                  let still : raised (counts_cleared (s.errand who).point x) (s.errand who).cleared ≡ (s.errand who).cleared =
-                  ap (λ b. raised b (s.errand who).cleared) h.cleared in
-                  omega (arith, weigh-emptied g between l who n (s'.word n) e s' has (record { here = refl; elsewhere = λ m differ. same m }) moves weigh, still);
-            })
-            written,
-      );
-    }
 
 the-one : {X : Type 0} (P : X → Type 0) (x : X) → P x → Any P (x ∷ [])
 the-one P x is = (0, x, omega arith, refl, is)
@@ -141,25 +75,27 @@ store_link-sound g s who s' site i a guarded heap o sound has at step =
     let freed : Freed = record { place = place; need = need.Small site.seat.class; overwritten = true } in
     let w : Writes s.word (name.Arena place) a.avail s'.word = written-at s who s' p at step in
     let fit = (fits-at g s sound.parts.0 who p sound.parts.1 has at).point in
-    store-sound g s who s' place a.avail p q sound has at
+    let below : a.avail < 2 ^ 64 = omega (arith, fit.anchor.avail, block_count_of-most site.seat.class) in
+    store-sound g s who s' p q (name.Arena place) a.avail sound has at
     (record {
-      next = refl;
-      event = refl;
-      cleared = refl;
+      stores = record { plan = refl; next = λ x. refl; event = λ x. refl; lost = λ x. refl; cleared = λ x. refl };
+      lone = tt;
       holds = grind (arith);
-      loose = λ l old.
+      kept = λ l old.
           let owned : IsOwned s who place (need.Small site.seat.class) =
           All-head (λ x. IsOwned s who x.place x.need) freed [] (frees-at g s l who p old has at) in
           let mine : HoldsException (holds_of p) place =
           inr (the-one (λ (b : Freed). (b.place ≡ place) × IsTrue b.overwritten) freed (refl, refl)) in
-          live-loose g s l who place site.seat.class sound old has owned
+          arena-kept g s l place a.avail s'.word old
+          (live-loose g s l who place site.seat.class sound old has owned
           (record { who = (who, has, subst (λ r. HoldsException (holds_of r) place) (sym at) mine) })
-          (subst (IsUnread place) (sym at) tt);
+          (subst (IsBlockUnread (name.Arena place)) (sym at) tt))
+          below w;
       so = λ l old.
-          All-cons (IsSo g (stored s s') l who) (says (prefix_name site.frame site.seat.class i) a.avail) (bound_here site) (tt, w.here)
-          (so-at g (stored s s') l who p old has at);
+          All-cons (IsSo g (between s s'.word) l who) (says (prefix_name site.frame site.seat.class i) a.avail) (bound_here site) (tt, w.here)
+          (so-at g (between s s'.word) l who p old has at);
     })
-    w (omega (arith, fit.anchor.avail, block_count_of-most site.seat.class)) step
+    step
 
 -- the block at a place serves one need
 abbrev need_there : Option Live → Need
@@ -194,10 +130,8 @@ small-said g s l who site i old frame exists within bound located owned says_it 
     }
 
 -- a step that stores a word of the arena that nobody reads and ends the call of a caller that hands out the block there
-pub record IsLastStore (g : Geometry) (s : State) (who place : ℕ) (p : Point) (r : Reply) (s' : State) : Type 0 where
-  pub next : next_of p (found_from s p) ≡ End r
-  pub event : event_of who p (found_from s p) ≡ None
-  pub cleared : counts_cleared p (found_from s p) ≡ false
+pub record IsLastStore (g : Geometry) (s : State) (who place new : ℕ) (p : Point) (r : Reply) (s' : State) : Type 0 where
+  pub stores : StoresTo who p (name.Arena place) new (End r)
   pub credits : (holds_of p).credits ≡ []
   pub kept : (holds_of p).kept ≡ []
   pub frames : (holds_of p).frames ≡ []
@@ -205,7 +139,8 @@ pub record IsLastStore (g : Geometry) (s : State) (who place : ℕ) (p : Point) 
   pub hazard : s.word (name.Hazard who) ≡ 0
   pub turn : TurnGoes p Idle
   pub loose : (l : Lists) → IsSoundWith g s l → IsLoose g s l place
-  pub said : (l : Lists) → IsSoundWith g (stored s s') l → (q : ℕ) → HoldsException (holds_of p) q → IsSaidAt g (stored s s') l q
+  pub said :
+      (l : Lists) → IsSoundWith g (between s s'.word) l → (q : ℕ) → HoldsException (holds_of p) q → IsSaidAt g (between s s'.word) l q
 
 -- who is idle keeps nothing
 idle-may :
@@ -214,42 +149,18 @@ idle-may :
     → TurnGoes (s.errand who).point Idle
     → ((q : ℕ) → HoldsException (holds_of (s.errand who).point) q → IsSaidAt g s l q)
     → MayGoOn g s l who (s.errand who) (at_point (s.errand who) x Idle)
-unfolding holds_of recalls_of
 idle-may g s l who x sound has word after still turn said =
     let e = s.errand who in
-    let old = sound.errands who has in
-    let turned = sound.turned.own_turns who has in
-    let more : e.lost ≤ raised (counts_lost e.point x) e.lost = raised-least (counts_lost e.point x) e.lost old.lost in
-    record {
-      rule = record {
-        caller = old.caller;
-        geometry = old.geometry;
-        rule = subst IsErrand after (settle_errand e x old.rule word);
-        lost = raised-below (counts_lost e.point x) e.lost old.lost;
-      };
-      kept = All-nil (λ k. IsKeptAs s k.status k.desc k.class);
-      retired = sound.kept.retired who has;
-      so = All-nil (IsSo g s l who);
-      full = λ spare. let bad : ⊥ = omega (arith, spare) in absurd bad;
-      hands = All-nil (λ x. IsOwned s who x.place x.need);
-      frees = All-nil (λ x. IsOwned s who x.place x.need);
-      excepts = λ place x. inr (said place x);
-      own_turns = omega (arith, turned, turn.under_way);
-      own_lost = omega (arith, sound.turned.own_lost who has, turn.discards, turn.unanswered, more);
+    let own = sound.errands who has in
+    nothing-may g s l who e (at_point e x Idle) idle-nothing (settled-own g who e x (at_point e x Idle) own word after) (sound.kept.retired who has)
+    (λ spare. let bad : ⊥ = omega (arith, spare) in absurd bad) said
+    (record {
+      own_turns = omega (arith, sound.turned.own_turns who has, turn.under_way);
+      own_lost =
+          omega (arith, sound.turned.own_lost who has, turn.discards, turn.unanswered, raised-least (counts_lost e.point x) e.lost own.lost);
       frame_turns = omega (arith, turn.unframed);
       list_turns = omega (arith, turn.pops, ap (λ b. raised b e.cleared) still);
-    }
-
--- and guards nothing
-idle-guards : (g : Geometry) (s : State) (who : ℕ) (retired : List ℕ) (word : ℕ) → word ≡ 0 → MayGuard g s who Idle retired word
-unfolding holds_of
-idle-guards g s who retired word none = record {
-  hazard = none;
-  guard = λ d is guard. absurd guard;
-  pushed = λ i d has guards is. none-some d is;
-  passed = λ i d has guards listed below. let bad : ⊥ = omega (arith, below) in absurd bad;
-  unread = λ i passed below. let bad : ⊥ = omega (arith, below) in absurd bad;
-}
+    })
 
 idle-weighs :
     (n : WordName) (w : ℕ) (p : Point) → (holds_of p).credits ≡ [] → (holds_of p).kept ≡ [] → (holds_of p).frames ≡ []
@@ -258,54 +169,50 @@ unfolding holds_of
 idle-weighs n w p credits kept frames waits = weigh-stays n w p Idle (sym credits) (sym kept) (sym frames) (λ class. sym (waits class))
 
 -- it keeps the state sound
-pub last-sound :
+last-sound :
     (g : Geometry) (s : State) (who : ℕ) (s' : State) (place new : ℕ) (p : Point) (r : Reply) → IsSoundWithoutCounts g s → who < g.callers
-    → (s.errand who).point ≡ p → IsLastStore g s who place p r s' → Writes s.word (name.Arena place) new s'.word → new < 2 ^ 64
-    → Step s who s' → IsSoundWithoutCounts g s'
-last-sound g s who s' place new p r sound has at given w below step =
-    let h : IsLastStore g s who place (s.errand who).point r s' = subst (λ q. IsLastStore g s who place q r s') (sym at) given in
+    → (s.errand who).point ≡ p → IsLastStore g s who place new p r s' → new < 2 ^ 64 → Step s who s' → IsSoundWithoutCounts g s'
+last-sound g s who s' place new p r sound has at given below step =
+    let h : IsLastStore g s who place new (s.errand who).point r s' = subst (λ q. IsLastStore g s who place new q r s') (sym at) given in
     let l = sound.parts.0 in
     let old = sound.parts.1 in
+    let t = between s s'.word in
     let n = name_at s who in
-    let x = found_at s who in
+    let x = found_at t who in
     let e = at_point (s.errand who) x Idle in
-    let between = stored s s' in
-    let after = settle-end (s.errand who) x r h.next in
-    let moves : Moves s.errand who e s'.errand = subst (λ f. Moves s.errand who f s'.errand) after step.errand in
-    let past : s'.history ≡ s.history = step.history ∙ ap (with_event s.history) h.event in
-    let kept = arena-kept g s l place new s'.word old (h.loose l old) below w in
-    let written : IsSoundWith g between l = sound-rewritten g s l (arena_in s'.word) kept old in
-    let same = arena-written s.word place new s'.word w in
-    let weigh : WeighMost n (between.word n) (s'.word n) (s.errand who) e =
-    alike-most n (between.word n) (s'.word n) (s.errand who) e
-    (subst (λ v. WeighAlike n (between.word n) v (s.errand who) e) (sym (same n))
-    (from-weighs n (between.word n) (between.word n) (s.errand who) x Idle
-    (idle-weighs n (between.word n) (s.errand who).point h.credits h.kept h.frames h.waits))) in
+    let w = store-written s who s' (name.Arena place) new (End r) h.stores step in
+    let again : Step t who s' = step-between s who s' (name.Arena place) new (End r) tt h.stores step in
+    let same : (m : WordName) → s'.word m ≡ t.word m = lone-written s.word (name.Arena place) new s'.word tt w in
+    let whole : IsSoundWith g t l = sound-between g s l s'.word (arena-kept g s l place new s'.word old (h.loose l old) below w) old in
+    let still : counts_cleared (s.errand who).point x ≡ false = h.stores.cleared (word_at t who) in
+    let after = settle-end (s.errand who) x r (h.stores.next (word_at t who)) in
+    let moves : Moves s.errand who e s'.errand = subst (λ f. Moves s.errand who f s'.errand) after again.errand in
+    let past : s'.history ≡ s.history = again.history ∙ ap (with_event s.history) (h.stores.event (word_at t who)) in
+    let wrote : Writes t.word n (s'.word n) s'.word = record { here = refl; elsewhere = λ m differ. same m } in
+    let weigh : WeighMost n (t.word n) (s'.word n) (s.errand who) e =
+    alike-most n (t.word n) (s'.word n) (s.errand who) e
+    (subst (λ v. WeighAlike n (t.word n) v (s.errand who) e) (sym (same n))
+    (from-weighs n (t.word n) (t.word n) (s.errand who) x Idle
+    (idle-weighs n (t.word n) (s.errand who).point h.credits h.kept h.frames h.waits))) in
     record {
       checked = sound.checked;
       legal = subst (IsLegalWithoutCounts g) (sym past) sound.legal;
       parts = (
         l,
-        sound-alike g between l who e s'
+        sound-alike g t l who e s'
             (record {
               caller = has;
               moves = moves;
-              alike =
-                  weigh-alike g between l who n (s'.word n) e s' (exists-at g s who (s.errand who).point sound has refl) has
-                  (record { here = refl; elsewhere = λ m differ. same m }) moves past
-                  weigh;
-              may = idle-may g between l who x written has (old.words n) after h.cleared h.turn (h.said l written);
+              alike = weigh-alike g t l who n (s'.word n) e s' (exists-at g s who (s.errand who).point sound has refl) has wrote moves past weigh;
+              may = idle-may g t l who x whole has (whole.words n) after still h.turn (h.said l whole);
               others = λ i differ. same (name.Hazard i);
-              guards =
-                  idle-guards g between who (s.errand who).retired (s'.word (name.Hazard who)) (same (name.Hazard who) ∙ h.hazard);
-              actives = actives-stay g between l s'.word written.kept same;
-              words = λ m. subst (λ v. v < 2 ^ 64) (sym (same m)) (kept.words m);
+              guards = nothing-guards g t who Idle (s.errand who).retired (s'.word (name.Hazard who)) idle-nothing (same (name.Hazard who) ∙ h.hazard);
+              actives = actives-stay g t l s'.word whole.kept same;
+              words = λ m. subst (λ v. v < 2 ^ 64) (sym (same m)) (whole.words m);
               emptied =
-                  let still : raised (counts_cleared (s.errand who).point x) (s.errand who).cleared ≡ (s.errand who).cleared =
-                  ap (λ b. raised b (s.errand who).cleared) h.cleared in
-                  omega (arith, weigh-emptied g between l who n (s'.word n) e s' has (record { here = refl; elsewhere = λ m differ. same m }) moves weigh, still);
+                  omega (arith, weigh-emptied g t l who n (s'.word n) e s' has wrote moves weigh, ap (λ b. raised b (s.errand who).cleared) still);
             })
-            written,
+            whole,
       );
     }
 
@@ -328,9 +235,7 @@ store_prefix-sound g s who s' site i o sound has at step =
     let two : prefix_word (Small site.desc) ≡ 2 * site.desc = small-prefix site.desc in
     last-sound g s who s' place (prefix_word (Small site.desc)) p (reply.Given place (need.Small class)) sound has at
     (record {
-      next = refl;
-      event = refl;
-      cleared = refl;
+      stores = record { plan = refl; next = λ x. refl; event = λ x. refl; lost = λ x. refl; cleared = λ x. refl };
       credits = refl;
       kept = refl;
       frames = refl;
@@ -343,21 +248,21 @@ store_prefix-sound g s who s' site i o sound has at step =
           let mine : HoldsException (holds_of p) place = inl (the-one (λ (b : Handed). b.place ≡ place) handed refl) in
           live-loose g s l who place class sound old has owned
           (record { who = (who, has, subst (λ r. HoldsException (holds_of r) place) (sym at) mine) })
-          (subst (IsUnread place) (sym at) tt);
+          (subst (IsBlockUnread (name.Arena place)) (sym at) tt);
       said = λ l old q x.
-          let between = stored s s' in
-          let owned : IsOwned between who place (need.Small class) =
-          All-head (λ x. IsOwned between who x.place x.need) handed [] (hands-at g between l who p old has at) in
-          let here : IsSo g between l who (bound_at site.desc site.frame class) =
-          All-head (IsSo g between l who) (bound_at site.desc site.frame class) [] (so-at g between l who p old has at) in
-          let said : IsSaidAt g between l place =
-          small-said g between l who site i old fit.site.frame fit.site.desc fit.index here.0 here.1 owned (w.here ∙ two) in
+          let t = between s s'.word in
+          let owned : IsOwned t who place (need.Small class) =
+          All-head (λ x. IsOwned t who x.place x.need) handed [] (hands-at g t l who p old has at) in
+          let here : IsSo g t l who (bound_at site.desc site.frame class) =
+          All-head (IsSo g t l who) (bound_at site.desc site.frame class) [] (so-at g t l who p old has at) in
+          let said : IsSaidAt g t l place =
+          small-said g t l who site i old fit.site.frame fit.site.desc fit.index here.0 here.1 owned (w.here ∙ two) in
           elim x [
-            | inl a ↦ subst (IsSaidAt g between l) (any-one (λ (b : Handed). b.place ≡ q) handed a) said
+            | inl a ↦ subst (IsSaidAt g t l) (any-one (λ (b : Handed). b.place ≡ q) handed a) said
             | inr a ↦ absurd (any-none (λ (b : Freed). (b.place ≡ q) × IsTrue b.overwritten) a)
           ];
     })
-    w (omega (arith, two, fit.site.desc, descriptor_count_within g sound.checked)) step
+    (omega (arith, two, fit.site.desc, descriptor_count_within g sound.checked)) step
 
 -- the link of a new superblock's block fits its word
 new_link-below : (class i : ℕ) → i < block_count_of class → new_link class i < 2 ^ 64
@@ -387,23 +292,25 @@ link_block-to g s who s' site i o q n sound has at step leads enters holds recal
     let place = block_place f c i in
     let w : Writes s.word (name.Arena place) (new_link c i) s'.word = written-at s who s' p at step in
     let fit = (fits-at g s sound.parts.0 who p sound.parts.1 has at).point in
-    store-sound g s who s' place (new_link c i) p (Block q o) sound has at
+    let leads_on : next_of p (found_from s p) ≡ At (Block q o) = ap (λ r. enter_block r o) leads ∙ enters in
+    store-sound g s who s' p (Block q o) (name.Arena place) (new_link c i) sound has at
     (record {
-      next = ap (λ r. enter_block r o) leads ∙ enters;
-      event = refl;
-      cleared = refl;
+      stores = record { plan = refl; next = λ x. leads_on; event = λ x. refl; lost = λ x. refl; cleared = λ x. refl };
+      lone = tt;
       holds = same;
-      loose = λ l old.
-          let apart : IsUnread place p = λ k lt is. prefix_name-apart f c k i (omega (arith, lt)) (ap name.Arena is) in
-          making-loose g s l who f c i sound old has fit.site.frame fit.index
-          (is-making s who p site at refl) (subst (IsUnread place) (sym at) apart);
+      kept = λ l old.
+          let apart : IsBlockUnread (name.Arena place) p = λ k lt. prefix_name-apart f c k i (omega (arith, lt)) in
+          arena-kept g s l place (new_link c i) s'.word old
+          (making-loose g s l who f c i sound old has fit.site.frame fit.index
+          (is-making s who p site at refl) (subst (IsBlockUnread (name.Arena place)) (sym at) apart))
+          (new_link-below c i fit.index) w;
       so = λ l old.
-          let between = stored s s' in
-          let so_far : AreMade between f c i = All-head (IsSo g between l who) (made f c i) [] (so-at g between l who p old has at) in
-          subst (All (IsSo g between l who)) (sym recalls)
-          (All-cons (IsSo g between l who) (made f c n) [] (made-more between f c i n so_far w.here most) (All-nil (IsSo g between l who)));
+          let t = between s s'.word in
+          let so_far : AreMade t f c i = All-head (IsSo g t l who) (made f c i) [] (so-at g t l who p old has at) in
+          subst (All (IsSo g t l who)) (sym recalls)
+          (All-cons (IsSo g t l who) (made f c n) [] (made-more t f c i n so_far w.here most) (All-nil (IsSo g t l who)));
     })
-    w (new_link-below c i fit.index) step
+    step
 
 pub link_block-sound :
     (g : Geometry) (s : State) (who : ℕ) (s' : State) (site : Site) (i : ℕ) (o : Onward) → IsSoundWithoutCounts g s

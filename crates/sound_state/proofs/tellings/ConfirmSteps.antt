@@ -1,9 +1,10 @@
 -- A look that finds no partial superblock, and a refusal for want of a frame, keep the state sound.
 use Rattle.sound_state.proofs.quiet.QuietStacks.{confirm_empty_lost-sound}
-use Rattle.std.proofs.Common.{ℕ, true, false, cond, Some, None, ◌≡◌, ◌<◌, ◌≤◌, ◌+◌, ◌^◌, List, [], ◌∷◌, ◌++◌, length, refl, arith, ap, sym, subst, inl, inr, ◌∙◌, eq-eqb, ne_eqb}
-use Rattle.std.specs.Prelude.{◌==◌, ◌&&◌, not, if◌then◌else◌, All, IsTrue, slice_index, count_by, nat_le}
+use Rattle.std.proofs.Common.{ℕ, true, false, cond, Some, ◌≡◌, ◌<◌, ◌≤◌, ◌+◌, ◌^◌, List, [], ◌∷◌, ◌++◌, refl, arith, ap, sym, subst, inl, inr, ◌∙◌, eq-eqb, ne_eqb}
+use Rattle.std.specs.Prelude.{◌==◌, ◌&&◌, not, if◌then◌else◌, All, IsTrue, count_by, nat_le}
 use Rattle.std.proofs.lemmas.Bool.{cases_eq, cases_Bool, cond-true, cond-false}
-use Rattle.std.proofs.lemmas.List.Elements.{All-append, All-cons, All-nil}
+use Rattle.std.proofs.lemmas.Option.{none-some}
+use Rattle.std.proofs.lemmas.List.Elements.{All-cons, All-nil}
 use Rattle.heap_geometry.specs.declared.geometry.Geometry.{Geometry}
 use Rattle.heap_geometry.specs.declared.limits.TheConstants.{SMALL_MOST}
 use Rattle.heap_geometry.specs.declared.need.Need.TheVariants.{Small}
@@ -29,31 +30,31 @@ use Rattle.errand_steps.specs.declared.onward.Onward.TheVariants as onward
 use Rattle.errand_steps.specs.declared.point.Point.{Point}
 use Rattle.errand_steps.specs.declared.point.Point.TheVariants.{Idle, Stack, Desc}
 use Rattle.errand_steps.specs.declared.reply.Reply.TheVariants as reply
-use Rattle.errand_steps.specs.Errands.{ErrandFields, IsErrand, settle_of, raised, counts_lost, counts_cleared, is_full, no_words}
+use Rattle.errand_steps.specs.Errands.{ErrandFields, settle_of, raised, counts_lost, counts_cleared, is_full, no_words}
 use Rattle.errand_steps.specs.Events.{event_of}
-use Rattle.errand_steps.specs.Fits.{FitsPoint, spare_of, pushed_by}
+use Rattle.errand_steps.specs.Fits.{FitsPoint, spare_of}
 use Rattle.errand_steps.specs.Nexts.{next_of}
 use Rattle.errand_steps.specs.Onwards.{confirms}
 use Rattle.errand_steps.specs.Points.{plan_point_of}
 use Rattle.errand_steps.specs.Steps.{State, Step, action_at, name_at, word_at, found_at, event_at}
-use Rattle.errand_steps.proofs.ErrandLemmas.{settle_errand}
-use Rattle.sound_state.specs.Guards.{IsHazard, IsGuard, passed_by, held_by}
-use Rattle.sound_state.specs.Holdings.{nothing, keep, holds_of, waiting, reserving, on_its_way, partly_used}
+use Rattle.sound_state.specs.Guards.{IsHazard}
+use Rattle.sound_state.specs.Holdings.{Status, clear, holds_of, waiting, reserving, on_its_way, partly_used}
 use Rattle.sound_state.specs.Keepers.{IsWithout, IsKeptAs}
 use Rattle.sound_state.specs.Lists.{Lists}
 use Rattle.sound_state.specs.Recalls.{IsSo, IsOwned, recalls_of, looked}
 use Rattle.sound_state.specs.Sound.{IsSoundWithoutCounts, IsSoundWith}
-use Rattle.sound_state.specs.Stock.{waits_in, errand_stock}
-use Rattle.sound_state.specs.Superblocks.{kept_among}
+use Rattle.sound_state.specs.Stock.{errand_stock}
 use Rattle.sound_state.specs.Turns.{one_if, in_turn, has_frame, has_partial, has_refused, is_discarding_at, pops_left, gives_small, refuses_small}
 use Rattle.sound_state.proofs.shared.AlikeLemmas.{MayGoOn, MayGuard, IsSoundBut}
 use Rattle.sound_state.proofs.tellings.ConfirmLemmas.{WeighTold, StockFor, TellsOn, step-tells}
 use Rattle.sound_state.proofs.tellings.LookLemmas.{look-stock}
+use Rattle.sound_state.proofs.shared.HasLemmas.{kept-one}
+use Rattle.sound_state.proofs.shared.NothingLemmas.{HoldsNothing, idle-nothing, scan-nothing, keeps-excepts, nothing-guards}
 use Rattle.sound_state.proofs.shared.PointLemmas.{fits-at, so-at}
 use Rattle.sound_state.proofs.pops.PopTurns.{small-served}
 use Rattle.sound_state.proofs.quiet.QuietLemmas.{found_from}
-use Rattle.sound_state.proofs.retirements.RetireLemmas.{retired_at, occurs-push, settle-full, settle-end, raised-within, full-length, none-some, one-most, no_words-zero}
-use Rattle.sound_state.proofs.shared.StepLemmas.{HoldsException, PointStands, TurnGoes, at_point, settle-at, may-after}
+use Rattle.sound_state.proofs.retirements.RetireLemmas.{Lets, retired_at, retired-may, occurs-push, settle-full, settle-end, one-most}
+use Rattle.sound_state.proofs.shared.StepLemmas.{PointStands, raised-least, TurnGoes, at_point, settle-at, may-after}
 use Rattle.sound_state.proofs.tellings.TellLemmas.{IsTold, told_state, told-but, told-counts, counted-not, told-ends}
 
 -- where the caller remembers nothing, all of the state is sound
@@ -79,11 +80,6 @@ but-whole g s l who but own = record {
   turned = but.turned;
   tied = but.tied;
 }
-
--- who holds nothing excepts no block
-nothing-excepts : (place : ℕ) → HoldsException nothing place → ⊥
-nothing-excepts place (inl x) = omega (arith, x.2)
-nothing-excepts place (inr x) = omega (arith, x.2)
 
 -- the stack is empty where the head's top is 0
 pub stacked-none : (next : ℕ → ℕ) (top : ℕ) (xs : List ℕ) → Stacked next top xs → top ≡ 0 → xs ≡ []
@@ -126,7 +122,7 @@ look-stands g s l who seat h words =
       spare = refl;
       hands = All-nil (λ x. IsOwned t who x.place x.need);
       frees = All-nil (λ x. IsOwned t who x.place x.need);
-      excepts = λ place x. absurd (nothing-excepts place x);
+      excepts = λ place x. absurd (keeps-excepts [] clear place x);
       turn = look-turn seat h words;
     }
 
@@ -243,78 +239,40 @@ record TurnRefused (p q : Point) : Type 0 where
   unframed : one_if (in_turn q && not (has_frame q)) ≤ one_if (in_turn p && not (has_frame p))
   pops : pops_left q + one_if (in_turn q && not (has_partial q)) ≤ pops_left p + one_if (in_turn p && not (has_partial p))
 
--- a caller that keeps one descriptor on its way, and nothing else, holds nothing at the second point
-record Refused (p q : Point) (d class : ℕ) : Type 0 where
-  before : holds_of p ≡ record nothing { kept = keep d class on_its_way }
-  after : holds_of q ≡ nothing
-  recalls : recalls_of q ≡ []
-  waits : (c : ℕ) → waits_in c q ≡ 0
-  pushed : pushed_by q ≡ None
-  passed : passed_by q ≡ 0
-  unread : (i : ℕ) → i < length (held_by q) → slice_index (held_by q) i ≡ 0
-  spare : spare_of p ≡ 0
-  turn : TurnRefused p q
+-- it keeps that one, and holds nothing then
+refused-lets :
+    (seat : SeatFields) (h : HeadFields) (words d : ℕ) (q : Point) → HoldsNothing q → Lets (refusing seat h words d) q d seat.class on_its_way clear
+unfolding holds_of
+refused-lets seat h words d q bare = record { before = refl; bare = bare; waits = λ c. refl; spare = refl }
 
-refused-scan : (seat : SeatFields) (h : HeadFields) (words d : ℕ) → Refused (refusing seat h words d) (scanning seat) d seat.class
-unfolding holds_of recalls_of
-refused-scan seat h words d = record {
-  before = refl;
-  after = refl;
-  recalls = refl;
-  waits = λ c. refl;
-  pushed = refl;
-  passed = refl;
-  unread = λ i lt. no_words-zero i lt;
-  spare = refl;
-  turn = record { under_way = omega arith; discards = omega arith; unframed = omega arith; pops = omega arith };
-}
+refused-scan : (seat : SeatFields) (h : HeadFields) (words d : ℕ) → TurnRefused (refusing seat h words d) (scanning seat)
+refused-scan seat h words d = record { under_way = omega arith; discards = omega arith; unframed = omega arith; pops = omega arith }
 
-refused-idle : (seat : SeatFields) (h : HeadFields) (words d : ℕ) → Refused (refusing seat h words d) Idle d seat.class
-unfolding holds_of recalls_of
-refused-idle seat h words d = record {
-  before = refl;
-  after = refl;
-  recalls = refl;
-  waits = λ c. refl;
-  pushed = refl;
-  passed = refl;
-  unread = λ i lt. let bad : ⊥ = omega (arith, lt) in absurd bad;
-  spare = refl;
-  turn = record { under_way = omega arith; discards = omega arith; unframed = omega arith; pops = omega arith };
-}
-
--- one that is on its way isn't in another state
-way-alone :
-    (k d class : ℕ)
-    → (kept_among reserving k (keep d class on_its_way) ≡ 0) × (kept_among waiting k (keep d class on_its_way) ≡ 0)
-    × (kept_among partly_used k (keep d class on_its_way) ≡ 0)
-    × (kept_among on_its_way k (keep d class on_its_way) ≡ (if d == k then 1 else 0))
-way-alone k d class = grind (arith)
+refused-idle : (seat : SeatFields) (h : HeadFields) (words d : ℕ) → TurnRefused (refusing seat h words d) Idle
+refused-idle seat h words d = record { under_way = omega arith; discards = omega arith; unframed = omega arith; pops = omega arith }
 
 refused-weigh :
-    (e : ErrandFields) (x : Found) (q : Point) (d class : ℕ) → Refused e.point q d class → WeighTold e (retired_at e x d q)
-refused-weigh e x q d class to = record {
-  reserves = λ k. rw (to.before, to.after) refl;
-  waits = λ k. rw (to.before, to.after) (sym (way-alone k d class).1);
-  ways = λ k. rw (to.before, to.after) (omega arith);
-  away = λ k. rw (to.before, to.after) (omega (arith, occurs-push k d e.retired, (way-alone k d class).3));
-  places = λ k.
-      let alone = way-alone k d class in
-      rw (to.before, to.after) (omega (arith, occurs-push k d e.retired, alone.0, alone.1, alone.2, alone.3));
-  frames = λ f. rw (to.before, to.after) refl;
-}
+    (e : ErrandFields) (x : Found) (q : Point) (d class : ℕ) → Lets e.point q d class on_its_way clear → WeighTold e (retired_at e x d q)
+refused-weigh e x q d class to =
+    let one = λ (as_kept : Status) (k : ℕ). kept-one as_kept on_its_way k d class in
+    record {
+      reserves = λ k. rw (to.before, to.bare.holds) refl;
+      waits = λ k. rw (to.before, to.bare.holds) (sym (one waiting k));
+      ways = λ k. rw (to.before, to.bare.holds) (omega arith);
+      away = λ k. rw (to.before, to.bare.holds) (omega (arith, occurs-push k d e.retired, one on_its_way k));
+      places = λ k.
+          rw (to.before, to.bare.holds)
+          (omega (arith, occurs-push k d e.retired, one reserving k, one waiting k, one partly_used k, one on_its_way k));
+      frames = λ f. rw (to.before, to.bare.holds) refl;
+    }
 
 refused-room :
     (g : Geometry) (s : State) (l : Lists) (who : ℕ) (x : Found) (q : Point) (d class : ℕ) → IsSoundWith g s l
-    → Refused (s.errand who).point q d class → StockFor g s l (s.errand who) (retired_at (s.errand who) x d q)
+    → Lets (s.errand who).point q d class on_its_way clear → StockFor g s l (s.errand who) (retired_at (s.errand who) x d q)
 refused-room g s l who x q d class old to c is =
-    let zero : errand_stock c (retired_at (s.errand who) x d q) ≡ 0 = rw (to.after, to.waits c) refl in
-    omega (arith, zero, old.stocked.most c is)
-
--- who keeps one descriptor excepts no block
-way-excepts : (d class place : ℕ) → HoldsException (record nothing { kept = keep d class on_its_way }) place → ⊥
-way-excepts d class place (inl x) = omega (arith, x.2)
-way-excepts d class place (inr x) = omega (arith, x.2)
+    let less : errand_stock c (retired_at (s.errand who) x d q) ≤ errand_stock c (s.errand who) =
+    rw (to.before, to.bare.holds, to.bare.waits c) (omega arith) in
+    omega (arith, less, old.stocked.most c is)
 
 refuses-one : (who words : ℕ) → nat_le words SMALL_MOST ≡ true → cond {A = ℕ} (refuses_small who (Refuse who words)) 1 0 ≡ 1
 refuses-one who words small = rw (eq-eqb who who refl, small) refl
@@ -322,78 +280,50 @@ refuses-one who words small = rw (eq-eqb who who refl, small) refl
 refused-may :
     (g : Geometry) (s : State) (l : Lists) (who : ℕ) (x : Found) (q : Point) (words d class : ℕ) → IsSoundWith g s l → who < g.callers
     → x.value < 2 ^ 64 → settle_of (s.errand who) x ≡ retired_at (s.errand who) x d q → counts_cleared (s.errand who).point x ≡ false
-    → nat_le words SMALL_MOST ≡ true → Refused (s.errand who).point q d class → (spare_of q ≡ 1 → is_full (s.errand who) ≡ true)
+    → nat_le words SMALL_MOST ≡ true → Lets (s.errand who).point q d class on_its_way clear → TurnRefused (s.errand who).point q
+    → (spare_of q ≡ 1 → is_full (s.errand who) ≡ true)
     → MayGoOn g (told_state s (Refuse who words)) l who (s.errand who) (retired_at (s.errand who) x d q)
-refused-may g s l who x q words d class old has word after still small to full =
+refused-may g s l who x q words d class old has word after still small to turn full =
     let e = s.errand who in
     let event = Refuse who words in
-    let t = told_state s event in
-    let own = old.errands who has in
-    let lost = raised-within (counts_lost e.point x) e.lost own.lost in
-    let same : raised (counts_cleared e.point x) e.cleared ≡ e.cleared = ap (λ b. raised b e.cleared) still in
     let gives = counted-not (gives_small who) s.history event refl in
     let refuses : count_by (refuses_small who) (s.history ++ event ∷ []) ≡ count_by (refuses_small who) s.history + 1 =
     omega (arith, told-counts (refuses_small who) s.history event, refuses-one who words small) in
     let on_way : IsWithout s d =
     subst (λ held. All (λ k. IsKeptAs s k.status k.desc k.class) held.kept) to.before (old.kept.errand who has) 0
     (record { desc = d; class = class; status = on_its_way }) (omega arith) in
-    record {
-      rule = record {
-        caller = own.caller;
-        geometry = own.geometry;
-        rule = subst IsErrand after (settle_errand e x own.rule word);
-        lost = lost.1;
-      };
-      kept = subst (λ held. All (λ k. IsKeptAs t k.status k.desc k.class) held.kept) (sym to.after) (All-nil (λ k. IsKeptAs t k.status k.desc k.class));
-      retired =
-          All-append (IsWithout t) e.retired (d ∷ []) (old.kept.retired who has) (All-cons (IsWithout t) d [] on_way (All-nil (IsWithout t)));
-      so = subst (All (IsSo g t l who)) (sym to.recalls) (All-nil (IsSo g t l who));
-      full = λ spare.
-          let room : length e.retired ≤ e.geometry.callers = omega (arith, own.rule.room, to.spare) in
-          full-length e d (full spare) room ∙ ap (λ o. o.callers + 1) own.geometry;
-      hands = subst (λ held. All (λ b. IsOwned t who b.place b.need) held.hands) (sym to.after) (All-nil (λ b. IsOwned t who b.place b.need));
-      frees = subst (λ held. All (λ b. IsOwned t who b.place b.need) held.frees) (sym to.after) (All-nil (λ b. IsOwned t who b.place b.need));
-      excepts = λ place b. absurd (way-excepts d class place (subst (λ held. HoldsException held place) to.before b));
-      own_turns = omega (arith, old.turned.own_turns who has, to.turn.under_way, gives);
+    retired-may g s (s.history ++ event ∷ []) l who x d class on_its_way clear q old has word after to full on_way
+    (record {
+      own_turns = omega (arith, old.turned.own_turns who has, turn.under_way, gives);
       own_lost =
           omega (
             arith,
             old.turned.own_lost who has,
-            to.turn.discards,
+            turn.discards,
             one-most (in_turn e.point && not (has_refused e.point)),
             gives,
             refuses,
-            lost.0,
+            raised-least (counts_lost e.point x) e.lost (old.errands who has).lost,
           );
-      frame_turns = omega (arith, to.turn.unframed);
-      list_turns = omega (arith, to.turn.pops, same);
-    }
-
-refused-guards :
-    (g : Geometry) (s : State) (who : ℕ) (p q : Point) (d class : ℕ) (retired : List ℕ) (word : ℕ) → Refused p q d class → word ≡ 0
-    → MayGuard g s who q retired word
-refused-guards g s who p q d class retired word to bare = record {
-  hazard = subst (λ held. IsHazard held.hazard word) (sym to.after) bare;
-  guard = λ d is guard. absurd (subst (λ held. IsGuard held.hazard) to.after guard);
-  pushed = λ i d has guards is. absurd (none-some d (sym to.pushed ∙ is));
-  passed = λ i d has guards listed below. let bad : ⊥ = omega (arith, below, to.passed) in absurd bad;
-  unread = λ i passed below. to.unread i below;
-}
+      frame_turns = omega (arith, turn.unframed);
+      list_turns = omega (arith, turn.pops, ap (λ b. raised b e.cleared) still);
+    })
 
 refused-tells :
     (g : Geometry) (s : State) (l : Lists) (who : ℕ) (x : Found) (q : Point) (words d class : ℕ) → IsSoundWith g s l → who < g.callers
     → x.value < 2 ^ 64 → settle_of (s.errand who) x ≡ retired_at (s.errand who) x d q → counts_cleared (s.errand who).point x ≡ false
-    → nat_le words SMALL_MOST ≡ true → Refused (s.errand who).point q d class → (spare_of q ≡ 1 → is_full (s.errand who) ≡ true)
+    → nat_le words SMALL_MOST ≡ true → Lets (s.errand who).point q d class on_its_way clear → TurnRefused (s.errand who).point q
+    → (spare_of q ≡ 1 → is_full (s.errand who) ≡ true)
     → TellsOn g s l who (Refuse who words) (retired_at (s.errand who) x d q)
-refused-tells g s l who x q words d class old has word after still small to full =
+refused-tells g s l who x q words d class old has word after still small to turn full =
     let e = s.errand who in
     let bare : s.word (name.Hazard who) ≡ 0 =
     subst (λ held. IsHazard held.hazard (s.word (name.Hazard who))) to.before (old.guarded.words who has) in
     record {
       told = refused-told g who words;
       weigh = refused-weigh e x q d class to;
-      may = refused-may g s l who x q words d class old has word after still small to full;
-      guards = refused-guards g (told_state s (Refuse who words)) who e.point q d class (retired_at e x d q).retired (s.word (name.Hazard who)) to bare;
+      may = refused-may g s l who x q words d class old has word after still small to turn full;
+      guards = nothing-guards g (told_state s (Refuse who words)) who q (retired_at e x d q).retired (s.word (name.Hazard who)) to.bare bare;
       cleared = ap (λ b. raised b e.cleared) still;
       stock = refused-room g s l who x q d class old to;
     }
@@ -431,14 +361,17 @@ confirm_no_frame-sound g s who s' seat h words d sound has at same step =
           step-tells g s who event (retired_at e x d (scanning seat)) s' sound has after told stays allowed
           (λ l old.
           refused-tells g s l who x (scanning seat) words d seat.class old has (old.words (name_at s who)) after cleared small
-          (subst (λ r. Refused r (scanning seat) d seat.class) (sym at) (refused-scan seat h words d)) (λ spare. full))
+          (subst (λ r. Lets r (scanning seat) d seat.class on_its_way clear) (sym at)
+          (refused-lets seat h words d (scanning seat) (scan-nothing seat onward.Refuse)))
+          (subst (λ r. TurnRefused r (scanning seat)) (sym at) (refused-scan seat h words d)) (λ spare. full))
           step
       | inr few ↦
           let after = settle-end e x seat d onward.Refuse next few reply.Refused refl in
           step-tells g s who event (retired_at e x d Idle) s' sound has after told stays allowed
           (λ l old.
           refused-tells g s l who x Idle words d seat.class old has (old.words (name_at s who)) after cleared small
-          (subst (λ r. Refused r Idle d seat.class) (sym at) (refused-idle seat h words d))
+          (subst (λ r. Lets r Idle d seat.class on_its_way clear) (sym at) (refused-lets seat h words d Idle idle-nothing))
+          (subst (λ r. TurnRefused r Idle) (sym at) (refused-idle seat h words d))
           (λ spare. let bad : ⊥ = omega (arith, spare) in absurd bad))
           step
     ]
@@ -448,38 +381,11 @@ confirm_empty-cases :
     (g : Geometry) (s : State) (who : ℕ) (s' : State) (seat : SeatFields) (pile : Pile) (h : HeadFields) (o : Onward) → IsTrue (confirms pile o)
     → IsSoundWithoutCounts g s → who < g.callers → (s.errand who).point ≡ Stack (stack.ConfirmEmpty seat pile h) o
     → s.word (head_name seat pile) ≡ head_word h → Step s who s' → IsSoundWithoutCounts g s'
-confirm_empty-cases g s who s' seat Partials h (onward.Alloc words) goes sound has at same step = confirm_no_partial-sound g s who s' seat h words sound has at same step
-confirm_empty-cases g s who s' seat Partials h (onward.TakeFrame words d) goes sound has at same step = absurd (cc)
-confirm_empty-cases g s who s' seat Partials h (onward.GiveBlock words site i) goes sound has at same step = absurd (cc)
-confirm_empty-cases g s who s' seat Partials h (onward.Discard words d) goes sound has at same step = absurd (cc)
-confirm_empty-cases g s who s' seat Partials h (onward.Turn words) goes sound has at same step = absurd (cc)
-confirm_empty-cases g s who s' seat Partials h (onward.Look words) goes sound has at same step = absurd (cc)
-confirm_empty-cases g s who s' seat Partials h onward.Refuse goes sound has at same step = absurd (cc)
-confirm_empty-cases g s who s' seat Partials h onward.Free goes sound has at same step = absurd (cc)
-confirm_empty-cases g s who s' seat Partials h (onward.Remove d heap) goes sound has at same step = absurd (cc)
-confirm_empty-cases g s who s' seat Partials h onward.Clear goes sound has at same step = absurd (cc)
-confirm_empty-cases g s who s' seat Partials h (onward.ClearSecond first) goes sound has at same step = absurd (cc)
-confirm_empty-cases g s who s' seat Partials h (onward.Retire d) goes sound has at same step = absurd (cc)
-confirm_empty-cases g s who s' seat Partials h (onward.PushFirst first) goes sound has at same step = absurd (cc)
-confirm_empty-cases g s who s' seat Partials h (onward.Finish guarded) goes sound has at same step = absurd (cc)
-confirm_empty-cases g s who s' seat Partials h onward.EndFree goes sound has at same step = absurd (cc)
-confirm_empty-cases g s who s' seat Partials h onward.Nothing goes sound has at same step = absurd (cc)
-confirm_empty-cases g s who s' seat Frames h (onward.Alloc words) goes sound has at same step = absurd (cc)
-confirm_empty-cases g s who s' seat Frames h (onward.TakeFrame words d) goes sound has at same step = confirm_no_frame-sound g s who s' seat h words d sound has at same step
-confirm_empty-cases g s who s' seat Frames h (onward.GiveBlock words site i) goes sound has at same step = absurd (cc)
-confirm_empty-cases g s who s' seat Frames h (onward.Discard words d) goes sound has at same step = absurd (cc)
-confirm_empty-cases g s who s' seat Frames h (onward.Turn words) goes sound has at same step = absurd (cc)
-confirm_empty-cases g s who s' seat Frames h (onward.Look words) goes sound has at same step = absurd (cc)
-confirm_empty-cases g s who s' seat Frames h onward.Refuse goes sound has at same step = absurd (cc)
-confirm_empty-cases g s who s' seat Frames h onward.Free goes sound has at same step = absurd (cc)
-confirm_empty-cases g s who s' seat Frames h (onward.Remove d heap) goes sound has at same step = absurd (cc)
-confirm_empty-cases g s who s' seat Frames h onward.Clear goes sound has at same step = absurd (cc)
-confirm_empty-cases g s who s' seat Frames h (onward.ClearSecond first) goes sound has at same step = absurd (cc)
-confirm_empty-cases g s who s' seat Frames h (onward.Retire d) goes sound has at same step = absurd (cc)
-confirm_empty-cases g s who s' seat Frames h (onward.PushFirst first) goes sound has at same step = absurd (cc)
-confirm_empty-cases g s who s' seat Frames h (onward.Finish guarded) goes sound has at same step = absurd (cc)
-confirm_empty-cases g s who s' seat Frames h onward.EndFree goes sound has at same step = absurd (cc)
-confirm_empty-cases g s who s' seat Frames h onward.Nothing goes sound has at same step = absurd (cc)
+confirm_empty-cases g s who s' seat Partials h (onward.Alloc words) goes sound has at same step =
+    confirm_no_partial-sound g s who s' seat h words sound has at same step
+confirm_empty-cases g s who s' seat Frames h (onward.TakeFrame words d) goes sound has at same step =
+    confirm_no_frame-sound g s who s' seat h words d sound has at same step
+confirm_empty-cases g s who s' seat pile h o goes sound has at same step = absurd (cc)
 
 pub confirm_empty_won-sound :
     (g : Geometry) (s : State) (who : ℕ) (s' : State) (seat : SeatFields) (pile : Pile) (h : HeadFields) (o : Onward) → IsSoundWithoutCounts g s

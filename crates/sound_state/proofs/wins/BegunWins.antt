@@ -16,7 +16,7 @@ use Rattle.errand_steps.specs.Steps.{State, Moves}
 use Rattle.sound_state.specs.Contention.{is_by, IsExpected, lost_of}
 use Rattle.sound_state.specs.Expectations.{expects_of}
 use Rattle.sound_state.specs.Installs.{IsActive, installs_by, installs_against, installs_on, is_seeking, errand_offers}
-use Rattle.sound_state.specs.Runs.{Call, alloc, free, write, read, put, take, Begins, begun_by}
+use Rattle.sound_state.specs.Runs.{Call, alloc, free, Begins, begun_by}
 use Rattle.sound_state.specs.Sound.{with_errands}
 use Rattle.sound_state.specs.Turns.{gives_small, refuses_small, turn_unanswered, errand_discards}
 use Rattle.sound_state.specs.Wins.{Wins}
@@ -63,88 +63,20 @@ alloc-begins : (e : ErrandFields) (words : ℕ) (n : Need) → IsIdle e → Begi
 unfolding expects_of
 alloc-begins e words (Small class) idle =
     cond_both (is_spent e) e _ (BeginsAs e) (λ spent. idle-begins e idle)
-    (λ left. record {
-      won = refl;
-      lost = refl;
-      expects = refl;
-      offers = refl;
-      seeks = refl;
-      discards = refl;
-      turns = grind (arith);
-    })
-alloc-begins e words (Large units) idle = record {
-  won = refl;
-  lost = refl;
-  expects = refl;
-  offers = refl;
-  seeks = refl;
-  discards = refl;
-  turns = omega arith;
-}
+    (λ left. grind (arith))
+alloc-begins e words (Large units) idle = grind (arith)
 alloc-begins e words TooLarge idle = idle-begins e idle
 
 free-begins : (e : ErrandFields) (place : ℕ) (n : Need) → IsIdle e → BeginsAs e (free_begun e place n)
 unfolding free_begun expects_of
-free-begins e place (Small class) idle = record {
-  won = refl;
-  lost = refl;
-  expects = refl;
-  offers = refl;
-  seeks = refl;
-  discards = refl;
-  turns = omega arith;
-}
-free-begins e place (Large units) idle = record {
-  won = refl;
-  lost = refl;
-  expects = refl;
-  offers = refl;
-  seeks = refl;
-  discards = refl;
-  turns = omega arith;
-}
 free-begins e place TooLarge idle = idle-begins e idle
+free-begins e place n idle = grind (arith)
 
 call-begins : (e : ErrandFields) (call : Call) → IsIdle e → BeginsAs e (begun_by e call)
 unfolding alloc_begun write_begun read_begun put_begun take_begun expects_of
 call-begins e (alloc words) idle = alloc-begins e words (need_of words) idle
 call-begins e (free place need) idle = free-begins e place need idle
-call-begins e (write place need i value) idle = record {
-  won = refl;
-  lost = refl;
-  expects = refl;
-  offers = refl;
-  seeks = refl;
-  discards = refl;
-  turns = omega arith;
-}
-call-begins e (read place need i) idle = record {
-  won = refl;
-  lost = refl;
-  expects = refl;
-  offers = refl;
-  seeks = refl;
-  discards = refl;
-  turns = omega arith;
-}
-call-begins e (put place need shelf) idle = record {
-  won = refl;
-  lost = refl;
-  expects = refl;
-  offers = refl;
-  seeks = refl;
-  discards = refl;
-  turns = omega arith;
-}
-call-begins e (take shelf) idle = record {
-  won = refl;
-  lost = refl;
-  expects = refl;
-  offers = refl;
-  seeks = refl;
-  discards = refl;
-  turns = omega arith;
-}
+call-begins e call idle = grind (arith)
 
 -- an idle caller is in no turn
 idle-answered : (e : ErrandFields) → IsIdle e → turn_unanswered e ≡ 0

@@ -1,0 +1,100 @@
+-- Steps that leave their word, from a point that is known: they keep the state sound.
+use Rattle.std.proofs.Common.{ℕ, false, None, ◌≡◌, ◌<◌, ◌^◌, refl, sym, subst}
+use Rattle.std.specs.Prelude.{All, drop}
+use Rattle.std.proofs.lemmas.List.Elements.{All-nil, All-drop}
+use Rattle.heap_geometry.specs.declared.geometry.Geometry.{Geometry}
+use Rattle.word_plan.specs.Actions.{name_of, after_action}
+use Rattle.errand_steps.specs.declared.next.Next.{Next}
+use Rattle.errand_steps.specs.declared.next.Next.TheVariants.{End}
+use Rattle.errand_steps.specs.declared.point.Point.{Point}
+use Rattle.errand_steps.specs.declared.point.Point.TheVariants.{Idle}
+use Rattle.errand_steps.specs.declared.reply.Reply.{Reply}
+use Rattle.errand_steps.specs.Errands.{point_after, counts_cleared}
+use Rattle.errand_steps.specs.Events.{event_of}
+use Rattle.errand_steps.specs.Nexts.{next_of}
+use Rattle.errand_steps.specs.Points.{plan_point_of}
+use Rattle.errand_steps.specs.Steps.{State, Step}
+use Rattle.sound_state.specs.Lists.{Lists}
+use Rattle.sound_state.specs.Recalls.{IsSo, recalls_of}
+use Rattle.sound_state.specs.Sound.{IsSoundWithoutCounts, IsSoundWith}
+use Rattle.sound_state.proofs.quiet.QuietLemmas.{HoldsSame, same-goes, same-stays}
+use Rattle.sound_state.proofs.shared.PointLemmas.{WeighFrom, so-at, stays-actives, step-from}
+use Rattle.sound_state.proofs.shared.StepLemmas.{IsPlain, PointGoes, found_from}
+
+-- the step tells nothing, clears nothing, and leaves its word
+pub record IsSilent (s : State) (who : ℕ) (p : Point) : Type 0 where
+  pub event : event_of who p (found_from s p) ≡ None
+  pub cleared : counts_cleared p (found_from s p) ≡ false
+  pub word : after_action (plan_point_of p) (s.word (name_of (plan_point_of p))) ≡ s.word (name_of (plan_point_of p))
+
+-- a silent step after which the caller weighs what it weighed, and may stand where it leads
+pub record IsSteady (g : Geometry) (s : State) (who : ℕ) (p : Point) (n : Next) : Type 0 where
+  pub plain : IsPlain n
+  pub weighs : (w : ℕ) → WeighFrom (name_of (plan_point_of p)) w w p (point_after n)
+  pub goes : (l : Lists) → IsSoundWith g s l → PointGoes g s l who p (point_after n)
+
+-- keeps the state sound
+pub steady-at :
+    (g : Geometry) (s : State) (who : ℕ) (s' : State) (p : Point) → IsSoundWithoutCounts g s → who < g.callers → (s.errand who).point ≡ p
+    → IsSilent s who p → IsSteady g s who p (next_of p (found_from s p)) → Step s who s' → IsSoundWithoutCounts g s'
+steady-at g s who s' p sound has at silent h step =
+    let n = name_of (plan_point_of p) in
+    step-from g s who s' p (next_of p (found_from s p)) h.plain sound has at
+    (λ l old. record {
+      next = refl;
+      event = silent.event;
+      cleared = silent.cleared;
+      goes = h.goes l old;
+      weigh = subst (λ v. WeighFrom n (s.word n) v p (point_after (next_of p (found_from s p)))) (sym silent.word) (h.weighs (s.word n));
+      below = subst (λ v. v < 2 ^ 64) (sym silent.word) (old.words n);
+      actives = λ words' w. stays-actives g s l n _ words' old w silent.word;
+    })
+    step
+
+-- a step that leads where the caller holds what it held, and what it remembers is so
+pub record LeadsQuietly (g : Geometry) (s : State) (who : ℕ) (p : Point) (n : Next) : Type 0 where
+  pub plain : IsPlain n
+  pub holds : HoldsSame p (point_after n)
+  pub so : (l : Lists) → IsSoundWith g s l → All (IsSo g s l who) (recalls_of (point_after n))
+
+-- so what it weighs stays, and it may stand there
+pub quiet-steady :
+    (g : Geometry) (s : State) (who : ℕ) (p : Point) (n : Next) → who < g.callers → (s.errand who).point ≡ p → LeadsQuietly g s who p n
+    → IsSteady g s who p n
+quiet-steady g s who p n has at h =
+    let same = h.holds in
+    record {
+      plain = h.plain;
+      weighs = λ w. same-stays (name_of (plan_point_of p)) w p (point_after n) same;
+      goes = λ l old.
+          subst (λ r. PointGoes g s l who r (point_after n)) at
+          (same-goes g s l who (point_after n) old has (subst (λ r. HoldsSame r (point_after n)) (sym at) same) (h.so l old));
+    }
+
+-- keeps the state sound, if it is silent
+pub quiet-at :
+    (g : Geometry) (s : State) (who : ℕ) (s' : State) (p : Point) → IsSoundWithoutCounts g s → who < g.callers → (s.errand who).point ≡ p
+    → IsSilent s who p → LeadsQuietly g s who p (next_of p (found_from s p)) → Step s who s' → IsSoundWithoutCounts g s'
+quiet-at g s who s' p sound has at silent h step =
+    steady-at g s who s' p sound has at silent (quiet-steady g s who p (next_of p (found_from s p)) has at h) step
+
+-- a step that leads where the caller holds the same, and remembers the same but for the first few things
+pub record LeadsOn (p : Point) (n : Next) (forgotten : ℕ) : Type 0 where
+  pub plain : IsPlain n
+  pub holds : HoldsSame p (point_after n)
+  pub recalls : recalls_of (point_after n) ≡ drop forgotten (recalls_of p)
+
+-- leads quietly
+pub leads-on :
+    (g : Geometry) (s : State) (who : ℕ) (p : Point) (n : Next) (forgotten : ℕ) → who < g.callers → (s.errand who).point ≡ p
+    → LeadsOn p n forgotten → LeadsQuietly g s who p n
+leads-on g s who p n forgotten has at h = record {
+  plain = h.plain;
+  holds = h.holds;
+  so = λ l old. subst (All (IsSo g s l who)) (sym h.recalls) (All-drop (IsSo g s l who) forgotten (recalls_of p) (so-at g s l who p old has at));
+}
+
+-- a step that ends the call of a caller that holds nothing leads quietly
+pub ends-quietly : (g : Geometry) (s : State) (who : ℕ) (p : Point) (r : Reply) → HoldsSame p Idle → LeadsQuietly g s who p (End r)
+unfolding recalls_of
+ends-quietly g s who p r holds = record { plain = tt; holds = holds; so = λ l old. All-nil (IsSo g s l who) }

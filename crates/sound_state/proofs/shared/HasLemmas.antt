@@ -1,0 +1,79 @@
+-- What a caller keeps at its point, and that no other caller has it.
+use Rattle.std.proofs.Common.{ℕ, ◌≡◌, ◌≢◌, ◌<◌, ◌≤◌, ◌+◌, refl, arith, sym, subst, inl, inr}
+use Rattle.std.specs.Prelude.{◌==◌, if◌then◌else◌}
+use Rattle.std.proofs.lemmas.Bool.{cases_eq, eq-eqb}
+use Rattle.heap_geometry.specs.declared.geometry.Geometry.{Geometry}
+use Rattle.word_plan.specs.Counts.{descriptor_count}
+use Rattle.errand_steps.specs.declared.point.Point.{Point}
+use Rattle.errand_steps.specs.Errands.{ErrandFields}
+use Rattle.errand_steps.specs.Steps.{State}
+use Rattle.sound_state.specs.Holdings.{Status, reserving, waiting, partly_used, on_its_way, keep, holds_of}
+use Rattle.sound_state.specs.Keepers.{errand_has}
+use Rattle.sound_state.specs.Lists.{Lists}
+use Rattle.sound_state.specs.Sound.{IsSoundWith}
+use Rattle.sound_state.specs.Sums.{sum_below, callers_sum}
+use Rattle.sound_state.specs.Superblocks.{errand_keeps, errand_away, away_of, kept_among, same_status}
+use Rattle.sound_state.proofs.shared.SumLemmas.{sum-plus, sum-least, term-sum, two-terms}
+
+-- one that is kept in one state isn't in another
+pub kept-one :
+    (as_kept status : Status) (k d class : ℕ)
+    → kept_among as_kept k (keep d class status) ≡ (if same_status status as_kept then (if d == k then 1 else 0) else 0)
+kept-one as_kept status k d class = grind (arith)
+
+-- and is kept in its own
+pub kept-itself : (status : Status) (d class : ℕ) → 1 ≤ kept_among status d (keep d class status)
+kept-itself status d class = grind (arith, eq-eqb d d refl)
+
+-- a caller at the point keeps what is kept there
+pub keeps-at :
+    (e : ErrandFields) (p : Point) (status : Status) (d : ℕ) → e.point ≡ p → 1 ≤ kept_among status d (holds_of p).kept → 1 ≤ errand_keeps status d e
+keeps-at e p status d at some = subst (λ q. 1 ≤ kept_among status d (holds_of q).kept) (sym at) some
+
+-- what it keeps it has
+keeps-has : (e : ErrandFields) (status : Status) (d : ℕ) → 1 ≤ errand_keeps status d e → 1 ≤ errand_has d e
+keeps-has e reserving d some = omega (arith, some)
+keeps-has e waiting d some = omega (arith, some)
+keeps-has e partly_used d some = omega (arith, some)
+keeps-has e on_its_way d some = omega (arith, some)
+
+-- so it has what is kept there
+pub has-at :
+    (e : ErrandFields) (p : Point) (status : Status) (d : ℕ) → e.point ≡ p → 1 ≤ kept_among status d (holds_of p).kept → 1 ≤ errand_has d e
+has-at e p status d at some = keeps-has e status d (keeps-at e p status d at some)
+
+-- what one caller has, of which all have one, no other has
+pub others-none :
+    (g : Geometry) (weight : ErrandFields → ℕ) (errands : ℕ → ErrandFields) (who i : ℕ) → who < g.callers → i < g.callers → i ≢ who
+    → 1 ≤ weight (errands who) → callers_sum g weight errands ≤ 1 → weight (errands i) ≡ 0
+unfolding callers_sum
+others-none g weight errands who i has has_i other mine most =
+    omega (arith, mine, most, two-terms g.callers (λ k. weight (errands k)) i who has_i has other)
+
+-- so two callers that have a descriptor are one
+pub only-one :
+    (g : Geometry) (s : State) (l : Lists) (who i d : ℕ) → IsSoundWith g s l → who < g.callers → i < g.callers → d < descriptor_count g
+    → 1 ≤ errand_has d (s.errand who) → 1 ≤ errand_has d (s.errand i) → i ≡ who
+only-one g s l who i d old has has_i exists mine his =
+    elim (cases_eq i who) [
+      | inl is ↦ is
+      | inr differ ↦
+          let once = old.kept.once d exists in
+          let none : errand_has d (s.errand i) ≡ 0 = others-none g (errand_has d) s.errand who i has has_i differ mine (omega (arith, once)) in
+          absurd (omega (arith, none, his))
+    ]
+
+-- a partly used superblock that a caller keeps isn't away
+pub keeps-near :
+    (g : Geometry) (s : State) (l : Lists) (who d : ℕ) → IsSoundWith g s l → who < g.callers → d < descriptor_count g
+    → 1 ≤ errand_keeps partly_used d (s.errand who) → away_of g s l d ≡ 0
+unfolding callers_sum
+keeps-near g s l who d old has exists keeps =
+    let partly = λ (i : ℕ). errand_keeps partly_used d (s.errand i) in
+    let away = λ (i : ℕ). errand_away d (s.errand i) in
+    let both : sum_below g.callers (λ i. partly i + away i) ≡ sum_below g.callers partly + sum_below g.callers away = sum-plus g.callers partly away in
+    let least : sum_below g.callers (λ i. partly i + away i) ≤ sum_below g.callers (λ i. errand_has d (s.errand i)) =
+    sum-least g.callers (λ i. partly i + away i) (λ i. errand_has d (s.errand i)) (λ i lt. omega arith) in
+    let once = old.kept.once d exists in
+    let mine : partly who ≤ sum_below g.callers partly = term-sum g.callers partly who has in
+    omega (arith, once, both, least, mine, keeps)

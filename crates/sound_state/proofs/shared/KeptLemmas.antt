@@ -1,0 +1,336 @@
+-- Each descriptor stands in one place, and as many are out for each class, after a step that changes one anchor or none.
+use Rattle.std.proofs.Common.{ℕ, ◌≡◌, ◌≢◌, ◌<◌, ◌≤◌, ◌+◌, List, [], ◌∷◌, refl, arith, ap, sym, subst, inl, inr, ◌∙◌}
+use Rattle.std.specs.Prelude.{◌⊎◌, ◌==◌, All, IsSome, if◌then◌else◌}
+use Rattle.std.proofs.lemmas.Bool.{cases_eq, cond-true, cond-false, eq-eqb, ne_eqb}
+use Rattle.std.proofs.lemmas.List.Elements.{All-nil, All-cons, All-head, All-tail}
+use Rattle.heap_geometry.specs.declared.geometry.Geometry.{Geometry}
+use Rattle.heap_geometry.specs.declared.limits.TheConstants.{CLASSES}
+use Rattle.packed_words.specs.Active.{active_of}
+use Rattle.packed_words.specs.Info.{info_of}
+use Rattle.packed_words.specs.declared.anchor.State.TheVariants as phase
+use Rattle.packed_words.specs.Anchor.{AnchorFields, anchor_of}
+use Rattle.word_plan.specs.Counts.{descriptor_count, word_count}
+use Rattle.word_plan.specs.Table.{word_name}
+use Rattle.word_plan.specs.declared.name.WordName.{WordName}
+use Rattle.word_plan.specs.declared.name.WordName.TheVariants as name
+use Rattle.word_plan.proofs.NameLemmas.{cases_name}
+use Rattle.superblock_parts.specs.Chains.{occurs}
+use Rattle.superblock_parts.proofs.ChainLemmas.{occurs-here, occurs-more}
+use Rattle.errand_steps.specs.Errands.{ErrandFields}
+use Rattle.errand_steps.specs.Steps.{State, Moves}
+use Rattle.sound_state.specs.Holdings.{Kept, Status, reserving, waiting, partly_used, on_its_way, holds_of}
+use Rattle.sound_state.specs.Keepers.{IsKept, IsPartlyUsed, IsActive, IsWithout, IsKeptAs, places_of, errand_has, full_keeps, active_keeps, word_keeps}
+use Rattle.sound_state.specs.Lists.{Lists}
+use Rattle.sound_state.specs.Stock.{IsStocked, errand_stock, full_stock, word_stock}
+use Rattle.sound_state.specs.Sums.{sum_below, words_sum, callers_sum}
+use Rattle.sound_state.specs.Superblocks.{anchor_for, info_for, info_or_zero}
+use Rattle.sound_state.proofs.pops.PopFacts.{anchor_number}
+use Rattle.sound_state.proofs.pops.PopTurns.{each-other}
+use Rattle.sound_state.proofs.shared.AlikeLemmas.{ActivesKept}
+use Rattle.sound_state.proofs.shared.CreditLemmas.{word-sum}
+use Rattle.sound_state.proofs.shared.PointLemmas.{kept_places}
+use Rattle.sound_state.proofs.shared.SumLemmas.{callers-moved, sum-change, sum-same, term-sum, two-terms}
+
+-- wherever d stands, it is after a step in the state that belongs there
+pub record Goes (s s' : State) (d : ℕ) : Type 0 where
+  pub partly : (c : ℕ) → IsPartlyUsed s d c → IsPartlyUsed s' d c
+  pub active : (c : ℕ) → IsActive s d c → IsActive s' d c
+  pub without : IsWithout s d → IsWithout s' d
+  pub full : (anchor_for s' d).state ≡ phase.Full → ((anchor_for s d).state ≡ phase.Full) × ((anchor_for s' d).count ≤ (anchor_for s d).count)
+
+-- so it does where its class and state stay, with a free block where it is partial, and with no more of them where it is FULL
+pub state-goes :
+    (s s' : State) (d : ℕ) → info_for s' d ≡ info_for s d → (anchor_for s' d).state ≡ (anchor_for s d).state
+    → ((anchor_for s d).state ≡ phase.Partial → 1 ≤ (anchor_for s d).count → 1 ≤ (anchor_for s' d).count)
+    → ((anchor_for s d).state ≡ phase.Full → (anchor_for s' d).count ≤ (anchor_for s d).count) → Goes s s' d
+state-goes s s' d info state some less = record {
+  partly = λ c k. record {
+    class = ap (λ x. x.class) info ∙ k.class;
+    state = elim k.state [ inl partial ↦ inl (state ∙ partial.0, some partial.0 partial.1) | inr empty ↦ inr (state ∙ empty) ];
+  };
+  active = λ c k. record { class = ap (λ x. x.class) info ∙ k.class; state = state ∙ k.state };
+  without = λ k. elim k [ inl active ↦ inl (state ∙ active) | inr empty ↦ inr (state ∙ empty) ];
+  full = λ is. (sym state ∙ is, less (sym state ∙ is));
+}
+
+-- and where its word and its anchor stay
+pub same-goes : (s s' : State) (d : ℕ) → info_for s' d ≡ info_for s d → anchor_for s' d ≡ anchor_for s d → Goes s s' d
+same-goes s s' d info anchor =
+    state-goes s s' d info (ap (λ x. x.state) anchor) (λ partial some. omega (arith, some, ap (λ x. x.count) anchor))
+    (λ full. omega (arith, ap (λ x. x.count) anchor))
+
+-- what a caller keeps is in the state in which it keeps it
+pub kept-goes : (s s' : State) (status : Status) (d c : ℕ) → Goes s s' d → IsKeptAs s status d c → IsKeptAs s' status d c
+kept-goes s s' reserving d c h k = h.active c k
+kept-goes s s' waiting d c h k = h.active c k
+kept-goes s s' partly_used d c h k = h.partly c k
+kept-goes s s' on_its_way d c h k = h.without k
+
+-- what holds of all that is in a list stays so where it does of each
+on-all :
+    (P Q : ℕ → Type 0) (xs : List ℕ) → ((x : ℕ) → 0 < occurs x xs → P x → Q x) → All P xs → All Q xs
+on-all P Q [] f all = All-nil Q
+on-all P Q (x ∷ xs) f all =
+    All-cons Q x xs (f x (omega (arith, occurs-here x xs)) (All-head P x xs all))
+    (on-all P Q xs (λ y on. f y (omega (arith, on, occurs-more y x xs))) (All-tail P x xs all))
+
+kept-here : (k : Kept) (ks : List Kept) → 1 ≤ kept_places k.desc (k ∷ ks)
+kept-here k ks = grind (arith)
+
+kept-more : (d : ℕ) (k : Kept) (ks : List Kept) → kept_places d ks ≤ kept_places d (k ∷ ks)
+kept-more d k ks = grind (arith)
+
+on-kept :
+    (P Q : Kept → Type 0) (ks : List Kept) → ((k : Kept) → 1 ≤ kept_places k.desc ks → P k → Q k) → All P ks → All Q ks
+on-kept P Q [] f all = All-nil Q
+on-kept P Q (k ∷ ks) f all =
+    All-cons Q k ks (f k (kept-here k ks) (All-head P k ks all))
+    (on-kept P Q ks (λ x on. f x (omega (arith, on, kept-more x.desc k ks))) (All-tail P k ks all))
+
+-- a caller alone has d
+pub record HasAlone (g : Geometry) (s : State) (l : Lists) (who d : ℕ) : Type 0 where
+  pub words : words_sum g (word_keeps d) s.word ≡ 0
+  pub listed : sum_below CLASSES (λ class. occurs d (l.partials class)) ≡ 0
+  pub available : occurs d l.available ≡ 0
+  pub retired : occurs d (s.errand who).retired ≡ 0
+  pub others : (i : ℕ) → i < g.callers → i ≢ who → errand_has d (s.errand i) ≡ 0
+
+-- it does where it keeps d
+pub has-alone :
+    (g : Geometry) (s : State) (l : Lists) (who d : ℕ) → IsKept g s l → who < g.callers → d < descriptor_count g
+    → 1 ≤ kept_places d (holds_of (s.errand who).point).kept → HasAlone g s l who d
+unfolding callers_sum
+has-alone g s l who d kept caller has keeps =
+    let once = kept.once d has in
+    let own : errand_has d (s.errand who) ≡ occurs d (s.errand who).retired + kept_places d (holds_of (s.errand who).point).kept =
+    omega arith in
+    let mine : errand_has d (s.errand who) ≤ sum_below g.callers (λ i. errand_has d (s.errand i)) =
+    term-sum g.callers (λ i. errand_has d (s.errand i)) who caller in
+    record {
+      words = omega (arith, once, own, keeps, mine);
+      listed = omega (arith, once, own, keeps, mine);
+      available = omega (arith, once, own, keeps, mine);
+      retired = omega (arith, once, own, keeps, mine);
+      others = λ i has_i other.
+          omega (arith, once, own, keeps, two-terms g.callers (λ i. errand_has d (s.errand i)) i who has_i caller other);
+    }
+
+-- a caller alone has d before a step, no word holds it after the step, and it is without free blocks where it is FULL then
+pub record ChangesAlone (g : Geometry) (s : State) (l : Lists) (who : ℕ) (s' : State) (d : ℕ) : Type 0 where
+  pub alone : HasAlone g s l who d
+  pub words : words_sum g (word_keeps d) s'.word ≡ 0
+  pub full : (anchor_for s' d).state ≡ phase.Full → (anchor_for s' d).count ≡ 0
+
+-- a step leaves the lists, and each descriptor in one place
+pub record KeepsPlaces (g : Geometry) (s : State) (l : Lists) (who : ℕ) (e : ErrandFields) (s' : State) : Type 0 where
+  pub caller : who < g.callers
+  pub moves : Moves s.errand who e s'.errand
+  pub places : (d : ℕ) → places_of g s' l d ≡ places_of g s l d
+  pub actives : ActivesKept g s s'.word
+  pub goes : (d : ℕ) → Goes s s' d ⊎ ChangesAlone g s l who s' d
+  pub retired : e.retired ≡ (s.errand who).retired
+  pub own : All (λ k. IsKeptAs s' k.status k.desc k.class) (holds_of e.point).kept
+
+-- then each is in the state that belongs there
+pub places-kept :
+    (g : Geometry) (s : State) (l : Lists) (who : ℕ) (e : ErrandFields) (s' : State) → KeepsPlaces g s l who e s' → IsKept g s l
+    → IsKept g s' l
+places-kept g s l who e s' h kept =
+    let goes : (d : ℕ) → (ChangesAlone g s l who s' d → ⊥) → Goes s s' d =
+    λ d more. elim (h.goes d) [ inl goes ↦ goes | inr alone ↦ absurd (more alone) ] in
+    record {
+      once = λ d has. h.places d ∙ kept.once d has;
+      active_words = h.actives.active_words;
+      slot_words = h.actives.slot_words;
+      active = λ heap class d credits has_heap has_class is.
+          let old = h.actives.active heap class d credits has_heap has_class is in
+          let n : WordName = name.Active heap class in
+          let keeps : word_keeps d n (s'.word n) ≡ 1 = ap (active_keeps d) is ∙ cond-true {A = ℕ} (d == d) 1 0 (eq-eqb d d refl) in
+          let some = word-sum g (word_keeps d) s'.word n (has_heap, has_class) in
+          (old.0, (goes d (λ alone. let none : ⊥ = omega (arith, alone.words, keeps, some) in none)).active class old.1);
+      slot = λ heap class d has_heap has_class is.
+          let old = h.actives.slot heap class d has_heap has_class is in
+          let n : WordName = name.Slot heap class in
+          let keeps : word_keeps d n (s'.word n) ≡ 1 = cond-true {A = ℕ} (s'.word n == d + 1) 1 0 (eq-eqb (s'.word n) (d + 1) is) in
+          let some = word-sum g (word_keeps d) s'.word n (has_heap, has_class) in
+          (old.0, (goes d (λ alone. let none : ⊥ = omega (arith, alone.words, keeps, some) in none)).partly class old.1);
+      full = λ d has is.
+          elim (h.goes d) [
+            | inl goes ↦ let was = goes.full is in omega (arith, was.1, kept.full d has was.0)
+            | inr alone ↦ alone.full is
+          ];
+      listed = λ class has.
+          on-all (λ d. IsPartlyUsed s d class) (λ d. IsPartlyUsed s' d class) (l.partials class)
+          (λ d on.
+          (goes d (λ a.
+          let none : ⊥ = omega (arith, a.alone.listed, on, term-sum CLASSES (λ c. occurs d (l.partials c)) class has) in none)).partly class)
+          (kept.listed class has);
+      available =
+          on-all (IsWithout s) (IsWithout s') l.available
+          (λ d on. (goes d (λ a. let none : ⊥ = omega (arith, a.alone.available, on) in none)).without) kept.available;
+      retired =
+          each-other g (λ i f. All (IsWithout s') f.retired) s.errand who e s'.errand h.moves
+          (subst (All (IsWithout s')) (sym h.retired)
+          (on-all (IsWithout s) (IsWithout s') (s.errand who).retired
+          (λ d on. (goes d (λ a. let none : ⊥ = omega (arith, a.alone.retired, on) in none)).without) (kept.retired who h.caller)))
+          (λ i has other.
+          on-all (IsWithout s) (IsWithout s') (s.errand i).retired
+          (λ d on. (goes d (λ a. let none : ⊥ = omega (arith, a.alone.others i has other, on) in none)).without) (kept.retired i has));
+      errand =
+          each-other g (λ i f. All (λ k. IsKeptAs s' k.status k.desc k.class) (holds_of f.point).kept) s.errand who e s'.errand h.moves h.own
+          (λ i has other.
+          on-kept (λ k. IsKeptAs s k.status k.desc k.class) (λ k. IsKeptAs s' k.status k.desc k.class) (holds_of (s.errand i).point).kept
+          (λ k on.
+          kept-goes s s' k.status k.desc k.class
+          (goes k.desc (λ a. let none : ⊥ = omega (arith, a.alone.others i has other, on) in none))) (kept.errand i has));
+    }
+
+-- words that weigh nothing where they may change weigh the same
+pub words-but :
+    (g : Geometry) (weight : WordName → ℕ → ℕ) (words words' : WordName → ℕ) (n : WordName) → ((m : WordName) → m ≢ n → words' m ≡ words m)
+    → ((w : ℕ) → weight n w ≡ 0) → words_sum g weight words' ≡ words_sum g weight words
+unfolding words_sum
+words-but g weight words words' n elsewhere none =
+    let same : (m : WordName) → weight m (words' m) ≡ weight m (words m) =
+    λ m.
+    elim (cases_name m n) [
+      | inl is ↦ subst (λ k. weight k (words' k) ≡ weight k (words k)) (sym is) (none (words' n) ∙ sym (none (words n)))
+      | inr differ ↦ ap (weight m) (elsewhere m differ)
+    ] in
+    sum-same (word_count g) (λ k. weight (word_name g k) (words (word_name g k))) (λ k. weight (word_name g k) (words' (word_name g k)))
+    (λ k lt. same (word_name g k))
+
+-- a caller changes the anchor of x, of class c, from a to b, where what it keeps then stands for that
+pub record MovesAt (g : Geometry) (s : State) (l : Lists) (who x c : ℕ) (a b : AnchorFields) (e : ErrandFields) (s' : State) : Type 0 where
+  pub caller : who < g.callers
+  pub moves : Moves s.errand who e s'.errand
+  pub exists : x < descriptor_count g
+  pub class : (info_for s x).class ≡ c
+  pub before : anchor_for s x ≡ a
+  pub after : anchor_for s' x ≡ b
+  pub elsewhere : (n : WordName) → n ≢ name.Anchor x → s'.word n ≡ s.word n
+  pub retired : e.retired ≡ (s.errand who).retired
+  pub places :
+      (d : ℕ) → kept_places d (holds_of e.point).kept + (if x == d then full_keeps b.state else 0)
+      ≡ kept_places d (holds_of (s.errand who).point).kept + (if x == d then full_keeps a.state else 0)
+  pub stock :
+      (class : ℕ) → errand_stock class e + (if c == class then full_keeps b.state else 0)
+      ≡ errand_stock class (s.errand who) + (if c == class then full_keeps a.state else 0)
+  pub goes : Goes s s' x ⊎ ((1 ≤ kept_places x (holds_of (s.errand who).point).kept) × (b.state ≡ phase.Full → b.count ≡ 0))
+  pub own : All (λ k. IsKeptAs s' k.status k.desc k.class) (holds_of e.point).kept
+
+moved-info :
+    (g : Geometry) (s : State) (l : Lists) (who x c : ℕ) (a b : AnchorFields) (e : ErrandFields) (s' : State) → MovesAt g s l who x c a b e s'
+    → (d : ℕ) → info_for s' d ≡ info_for s d
+moved-info g s l who x c a b e s' h d = ap (λ w. info_or_zero (info_of w)) (h.elsewhere (name.Info d) (λ same. cc))
+
+moved-anchor :
+    (g : Geometry) (s : State) (l : Lists) (who x c : ℕ) (a b : AnchorFields) (e : ErrandFields) (s' : State) → MovesAt g s l who x c a b e s'
+    → (d : ℕ) → d ≢ x → anchor_for s' d ≡ anchor_for s d
+moved-anchor g s l who x c a b e s' h d differ = ap anchor_of (h.elsewhere (name.Anchor d) (λ same. differ (ap anchor_number same)))
+
+-- what is FULL changes at x alone
+moved-full :
+    (g : Geometry) (s : State) (l : Lists) (who x c : ℕ) (a b : AnchorFields) (e : ErrandFields) (s' : State) → MovesAt g s l who x c a b e s'
+    → (d : ℕ)
+    → full_keeps (anchor_for s' d).state + (if x == d then full_keeps a.state else 0)
+    ≡ full_keeps (anchor_for s d).state + (if x == d then full_keeps b.state else 0)
+moved-full g s l who x c a b e s' h d =
+    elim (cases_eq x d) [
+      | inl here ↦
+          let after : full_keeps (anchor_for s' d).state ≡ full_keeps b.state =
+          ap (λ k. full_keeps (anchor_for s' k).state) (sym here) ∙ ap (λ y. full_keeps y.state) h.after in
+          let before : full_keeps (anchor_for s d).state ≡ full_keeps a.state =
+          ap (λ k. full_keeps (anchor_for s k).state) (sym here) ∙ ap (λ y. full_keeps y.state) h.before in
+          omega (
+            arith,
+            after,
+            before,
+            cond-true {A = ℕ} (x == d) (full_keeps a.state) 0 (eq-eqb x d here),
+            cond-true {A = ℕ} (x == d) (full_keeps b.state) 0 (eq-eqb x d here),
+          )
+      | inr other ↦
+          omega (
+            arith,
+            ap (λ y. full_keeps y.state) (moved-anchor g s l who x c a b e s' h d (λ same. other (sym same))),
+            cond-false {A = ℕ} (x == d) (full_keeps a.state) 0 (ne_eqb x d other),
+            cond-false {A = ℕ} (x == d) (full_keeps b.state) 0 (ne_eqb x d other),
+          )
+    ]
+
+-- each descriptor stands in as many places, so in one, in the state that belongs there
+pub moved-kept :
+    (g : Geometry) (s : State) (l : Lists) (who x c : ℕ) (a b : AnchorFields) (e : ErrandFields) (s' : State) → MovesAt g s l who x c a b e s'
+    → IsKept g s l → IsKept g s' l
+moved-kept g s l who x c a b e s' h kept =
+    let words = λ (d : ℕ). words-but g (word_keeps d) s.word s'.word (name.Anchor x) h.elsewhere (λ w. refl) in
+    let active = λ (heap class : ℕ). h.elsewhere (name.Active heap class) (λ same. cc) in
+    let slot = λ (heap class : ℕ). h.elsewhere (name.Slot heap class) (λ same. cc) in
+    places-kept g s l who e s'
+    (record {
+      caller = h.caller;
+      moves = h.moves;
+      places = λ d.
+          let now : errand_has d e ≡ occurs d (s.errand who).retired + kept_places d (holds_of e.point).kept =
+          omega (arith, ap (occurs d) h.retired) in
+          let was : errand_has d (s.errand who) ≡ occurs d (s.errand who).retired + kept_places d (holds_of (s.errand who).point).kept =
+          omega arith in
+          omega (
+            arith,
+            now,
+            was,
+            callers-moved g (errand_has d) s.errand who e s'.errand h.caller h.moves,
+            words d,
+            h.places d,
+            moved-full g s l who x c a b e s' h d,
+          );
+      actives = record {
+        active_words = λ heap class has_heap has_class.
+            subst (λ w. IsSome (active_of w)) (sym (active heap class)) (kept.active_words heap class has_heap has_class);
+        slot_words = λ heap class has_heap has_class.
+            subst (λ w. w ≤ descriptor_count g) (sym (slot heap class)) (kept.slot_words heap class has_heap has_class);
+        active = λ heap class d credits has_heap has_class is.
+            kept.active heap class d credits has_heap has_class (ap active_of (sym (active heap class)) ∙ is);
+        slot = λ heap class d has_heap has_class is. kept.slot heap class d has_heap has_class (sym (slot heap class) ∙ is);
+      };
+      goes = λ d.
+          elim (cases_eq d x) [
+            | inr other ↦ inl (same-goes s s' d (moved-info g s l who x c a b e s' h d) (moved-anchor g s l who x c a b e s' h d other))
+            | inl same ↦
+                elim h.goes [
+                  | inl goes ↦ inl (subst (Goes s s') (sym same) goes)
+                  | inr keeps ↦
+                      let alone = has-alone g s l who x kept h.caller h.exists keeps.0 in
+                      inr (subst (ChangesAlone g s l who s') (sym same) (record {
+                        alone = alone;
+                        words = words x ∙ alone.words;
+                        full = λ is. ap (λ y. y.count) h.after ∙ keeps.1 (sym (ap (λ y. y.state) h.after) ∙ is);
+                      }))
+                ]
+          ];
+      retired = h.retired;
+      own = h.own;
+    }) kept
+
+-- and as many are out for each class
+pub moved-stocked :
+    (g : Geometry) (s : State) (l : Lists) (who x c : ℕ) (a b : AnchorFields) (e : ErrandFields) (s' : State) → MovesAt g s l who x c a b e s'
+    → IsStocked g s l → IsStocked g s' l
+moved-stocked g s l who x c a b e s' h stocked = record {
+  most = λ class has.
+      let elsewhere : (d : ℕ) → d < descriptor_count g → d ≢ x → full_stock s' class d ≡ full_stock s class d =
+      λ d lt other. rw (moved-info g s l who x c a b e s' h d, moved-anchor g s l who x c a b e s' h d other) refl in
+      let after : full_stock s' class x ≡ (if c == class then full_keeps b.state else 0) =
+      rw (moved-info g s l who x c a b e s' h x, h.class, h.after) refl in
+      let before : full_stock s class x ≡ (if c == class then full_keeps a.state else 0) = rw (h.class, h.before) refl in
+      omega (
+        arith,
+        stocked.most class has,
+        after,
+        before,
+        callers-moved g (errand_stock class) s.errand who e s'.errand h.caller h.moves,
+        words-but g (word_stock class) s.word s'.word (name.Anchor x) h.elsewhere (λ w. refl),
+        sum-change (descriptor_count g) (full_stock s class) (full_stock s' class) x h.exists elsewhere,
+        h.stock class,
+      );
+}

@@ -1,0 +1,117 @@
+-- A caller that goes on to a point at which it holds nothing and remembers nothing.
+use Rattle.std.proofs.Common.{ℕ, None, ◌≡◌, ◌<◌, ◌≤◌, ◌+◌, ◌^◌, List, [], length, refl, arith, sym, subst, inl, inr, ◌∙◌}
+use Rattle.std.specs.Prelude.{All, count_by, slice_index}
+use Rattle.std.proofs.lemmas.Grind.{common_steps}
+use Rattle.std.proofs.lemmas.List.Elements.{All-nil}
+use Rattle.std.proofs.lemmas.Option.{none-some}
+use Rattle.heap_geometry.specs.declared.geometry.Geometry.{Geometry}
+use Rattle.word_plan.specs.declared.action.Found.{Found}
+use Rattle.word_plan.specs.Seats.{SeatFields}
+use Rattle.hazard_parts.specs.declared.point.DescPoint.TheVariants as desc
+use Rattle.errand_steps.specs.declared.onward.Onward.{Onward}
+use Rattle.errand_steps.specs.declared.point.Point.{Point}
+use Rattle.errand_steps.specs.declared.point.Point.TheVariants.{Idle, Desc}
+use Rattle.errand_steps.specs.Errands.{ErrandFields, settle_of, counts_lost, no_words}
+use Rattle.errand_steps.specs.Fits.{spare_of, pushed_by}
+use Rattle.errand_steps.specs.Steps.{State}
+use Rattle.errand_steps.proofs.ErrandLemmas.{settle_errand}
+use Rattle.sound_state.specs.Guards.{IsHazard, IsGuard, passed_by, held_by}
+use Rattle.sound_state.specs.Holdings.{Hazard, Kept, nothing, holds_of}
+use Rattle.sound_state.specs.Keepers.{IsWithout, IsKeptAs}
+use Rattle.sound_state.specs.Lists.{Lists}
+use Rattle.sound_state.specs.Recalls.{IsSo, IsOwned, recalls_of}
+use Rattle.sound_state.specs.Sound.{IsOwnErrand}
+use Rattle.sound_state.specs.Stock.{waits_in}
+use Rattle.sound_state.specs.Turns.{gives_small, refuses_small, turn_open, turn_unframed, turn_unlisted, turn_unanswered, errand_discards, errand_pops}
+use Rattle.sound_state.proofs.shared.AlikeLemmas.{MayGoOn, MayGuard, Excepts, IsSaidAt}
+use Rattle.sound_state.proofs.shared.StepLemmas.{HoldsException, raised-below}
+
+-- at the point a caller holds nothing, remembers nothing, waits for nothing and pushes nothing; where it scans, it has read no hazard word yet
+pub record HoldsNothing (q : Point) : Type 0 where
+  pub holds : holds_of q ≡ nothing
+  pub recalls : recalls_of q ≡ []
+  pub waits : (class : ℕ) → waits_in class q ≡ 0
+  pub pushed : pushed_by q ≡ None
+  pub passed : passed_by q ≡ 0
+  pub unread : (i : ℕ) → i < length (held_by q) → slice_index (held_by q) i ≡ 0
+
+-- so does who is idle, and who begins a scan
+pub idle-nothing : HoldsNothing Idle
+unfolding holds_of recalls_of
+idle-nothing = record {
+  holds = refl;
+  recalls = refl;
+  waits = λ class. refl;
+  pushed = refl;
+  passed = refl;
+  unread = λ i lt. let bad : ⊥ = omega (arith, lt) in absurd bad;
+}
+
+-- no hazard word is noted yet
+no_words-zero : (i : ℕ) → i < length no_words → slice_index no_words i ≡ 0
+no_words-zero i lt = grind (arith, common_steps)
+
+pub scan-nothing : (seat : SeatFields) (o : Onward) → HoldsNothing (Desc (desc.ReadHazard seat no_words 0) o)
+unfolding holds_of recalls_of
+scan-nothing seat o =
+    record { holds = refl; recalls = refl; waits = λ class. refl; pushed = refl; passed = refl; unread = no_words-zero }
+
+-- who holds no block excepts none
+pub keeps-excepts : (ks : List Kept) (h : Hazard) (place : ℕ) → HoldsException (record nothing { kept = ks; hazard = h }) place → ⊥
+keeps-excepts ks h place (inl x) = omega (arith, x.2)
+keeps-excepts ks h place (inr x) = omega (arith, x.2)
+
+-- the caller guards nothing there
+pub nothing-guards :
+    (g : Geometry) (s : State) (who : ℕ) (q : Point) (retired : List ℕ) (word : ℕ) → HoldsNothing q → word ≡ 0 → MayGuard g s who q retired word
+nothing-guards g s who q retired word h bare = record {
+  hazard = subst (λ held. IsHazard held.hazard word) (sym h.holds) bare;
+  guard = λ d is guard. absurd (subst (λ held. IsGuard held.hazard) h.holds guard);
+  pushed = λ i d has guards is. absurd (none-some d (sym h.pushed ∙ is));
+  passed = λ i d has guards listed below. let bad : ⊥ = omega (arith, below, h.passed) in absurd bad;
+  unread = λ i passed below. h.unread i below;
+}
+
+-- the errand after a step is still the caller's own
+pub settled-own :
+    (g : Geometry) (who : ℕ) (e : ErrandFields) (x : Found) (f : ErrandFields) → IsOwnErrand g who e → x.value < 2 ^ 64 → settle_of e x ≡ f
+    → IsOwnErrand g who f
+unfolding settle_of
+settled-own g who e x f own word after =
+    subst (IsOwnErrand g who) after
+    (record {
+      caller = own.caller;
+      geometry = own.geometry;
+      rule = settle_errand e x own.rule word;
+      lost = raised-below (counts_lost e.point x) e.lost own.lost;
+    })
+
+-- the caller's turns and counts go on from one errand to another as they may
+pub record CountsGo (g : Geometry) (s : State) (who : ℕ) (a b : ErrandFields) : Type 0 where
+  pub own_turns : count_by (gives_small who) s.history + turn_open b ≤ b.turns
+  pub own_lost :
+      b.turns + errand_discards b
+      ≤ count_by (gives_small who) s.history + count_by (refuses_small who) s.history + b.lost + turn_unanswered b
+  pub frame_turns : turn_unframed b + a.turns ≤ turn_unframed a + b.turns
+  pub list_turns :
+      errand_pops b + turn_unlisted b + a.turns + a.cleared ≤ errand_pops a + turn_unlisted a + b.turns + b.cleared
+
+-- so the caller may go on to such a point
+pub nothing-may :
+    (g : Geometry) (s : State) (l : Lists) (who : ℕ) (a b : ErrandFields) → HoldsNothing b.point → IsOwnErrand g who b
+    → All (IsWithout s) b.retired → (spare_of b.point ≡ 1 → length b.retired ≡ g.callers + 1)
+    → ((place : ℕ) → Excepts a place → IsSaidAt g s l place) → CountsGo g s who a b → MayGoOn g s l who a b
+nothing-may g s l who a b h own retired full said counts = record {
+  rule = own;
+  kept = subst (λ held. All (λ k. IsKeptAs s k.status k.desc k.class) held.kept) (sym h.holds) (All-nil (λ k. IsKeptAs s k.status k.desc k.class));
+  retired = retired;
+  so = subst (All (IsSo g s l who)) (sym h.recalls) (All-nil (IsSo g s l who));
+  full = full;
+  hands = subst (λ held. All (λ x. IsOwned s who x.place x.need) held.hands) (sym h.holds) (All-nil (λ x. IsOwned s who x.place x.need));
+  frees = subst (λ held. All (λ x. IsOwned s who x.place x.need) held.frees) (sym h.holds) (All-nil (λ x. IsOwned s who x.place x.need));
+  excepts = λ place x. inr (said place x);
+  own_turns = counts.own_turns;
+  own_lost = counts.own_lost;
+  frame_turns = counts.frame_turns;
+  list_turns = counts.list_turns;
+}

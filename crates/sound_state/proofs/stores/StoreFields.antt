@@ -1,0 +1,431 @@
+-- A store into a link, a word of the arena or what a descriptor says keeps the state sound where what is read of that word stays.
+use Rattle.std.proofs.Common.{ℕ, Bool, true, false, Some, None, ◌≡◌, ◌<◌, ◌≤◌, ◌+◌, ◌^◌, ◌-◌, ◌*◌, List, [], ◌∷◌, refl, arith, ap, sym, subst, inl, inr, ◌∙◌}
+use Rattle.std.specs.Prelude.{◌⊎◌, ◌==◌, ◌&&◌, if◌then◌else◌, All, IsTrue, IsSome, slice_index_or}
+use Rattle.std.proofs.lemmas.Bool.{cond-true, eq-eqb}
+use Rattle.heap_geometry.specs.declared.geometry.Geometry.{Geometry}
+use Rattle.heap_geometry.specs.declared.limits.TheConstants.{CLASSES}
+use Rattle.heap_geometry.specs.Need.{block_count_of}
+use Rattle.heap_geometry.specs.Place.{block_place, frame_of}
+use Rattle.heap_geometry.specs.declared.need.Need.{Need}
+use Rattle.packed_words.specs.declared.active.ActiveWord.TheVariants.{Held}
+use Rattle.packed_words.specs.Active.{active_of}
+use Rattle.packed_words.specs.Anchor.{AnchorFields}
+use Rattle.packed_words.specs.Head.{HeadFields, head_of}
+use Rattle.packed_words.specs.Info.{info_of}
+use Rattle.packed_words.specs.Prefix.{link_of}
+use Rattle.word_plan.specs.declared.name.WordName.{WordName}
+use Rattle.word_plan.specs.declared.name.WordName.TheVariants as name
+use Rattle.word_plan.specs.Counts.{descriptor_count}
+use Rattle.word_plan.specs.Seats.{SeatFields, info_in}
+use Rattle.superblock_parts.specs.Chains.{occurs, link_in, prefix_name}
+use Rattle.superblock_parts.proofs.ChainLemmas.{chain_of-same}
+use Rattle.stack_parts.specs.declared.point.Pile.{Pile}
+use Rattle.stack_parts.specs.declared.point.Pile.TheVariants.{Frames, Partials}
+use Rattle.stack_parts.specs.Stacks.{Stacked, next_in}
+use Rattle.stack_parts.specs.Piles.{head_name, next_name}
+use Rattle.pool_model.specs.Pool.{Block}
+use Rattle.errand_steps.specs.Steps.{State}
+use Rattle.sound_state.specs.Frames.{IsFramed, fills}
+use Rattle.sound_state.specs.Guards.{IsGuarded, Guards}
+use Rattle.sound_state.specs.Holdings.{Status, reserving, waiting, partly_used, on_its_way, holds_of}
+use Rattle.sound_state.specs.Keepers.{IsKept, IsPartlyUsed, IsActive, IsKeptAs, word_keeps, errand_has, full_keeps}
+use Rattle.sound_state.specs.Lists.{Lists, IsListed}
+use Rattle.sound_state.specs.Recalls.{Recall, IsPopped, IsLocated, IsTopStill, IsSo, IsOwned, recalls_of, bound_for, located, bound_at, pops, links, tops, nexts, tops_exist, says, made, in_use, emptied, noted, owns, owns_all, looked}
+use Rattle.sound_state.specs.Sound.{IsSoundWith}
+use Rattle.sound_state.specs.Stock.{IsStocked, word_stock, full_stock}
+use Rattle.sound_state.specs.Sums.{sum_below, words_sum, callers_sum}
+use Rattle.sound_state.specs.Superblocks.{Superblock, AreChained, IsChained, info_or_zero, anchor_for, info_for, live_at, superblock_of, free_chain, is_bound, waiting_of, word_reserves, errand_reserves}
+use Rattle.sound_state.specs.Ties.{IsTied, IsLive, IsExcepted}
+use Rattle.sound_state.specs.Turns.{IsTurned}
+use Rattle.sound_state.proofs.shared.HolderLemmas.{IsHolderWeight, keeps-holder, reserves-holder, stock-holder}
+use Rattle.sound_state.proofs.shared.SumLemmas.{sum-same}
+
+-- a word that a caller stores alone
+abbrev pub IsLone : WordName → Type 0
+IsLone (name.Arena place) = Unit {0}
+IsLone (name.Next d) = Unit {0}
+IsLone (name.FrameNext f) = Unit {0}
+IsLone (name.Info d) = Unit {0}
+IsLone n = ⊥
+
+-- the second words, with what the first ones have of these
+abbrev pub with_lone : (WordName → ℕ) → (WordName → ℕ) → WordName → ℕ
+with_lone new words (name.Arena place) = new (name.Arena place)
+with_lone new words (name.Next d) = new (name.Next d)
+with_lone new words (name.FrameNext f) = new (name.FrameNext f)
+with_lone new words (name.Info d) = new (name.Info d)
+with_lone new words n = words n
+
+-- the state in between: the words that are stored alone are these, and nothing else has changed
+abbrev pub between : State → (WordName → ℕ) → State
+between s w = record { word = with_lone w s.word; errand = s.errand; history = s.history }
+
+-- the descriptor's word names the frame and the class that it named
+abbrev pub IsPlaceKept : State → (WordName → ℕ) → ℕ → Type 0
+IsPlaceKept s w d =
+    ((info_or_zero (info_of (w (name.Info d)))).frame ≡ (info_for s d).frame)
+    × ((info_or_zero (info_of (w (name.Info d)))).class ≡ (info_for s d).class)
+
+-- what a caller keeps has its class still, but on its way it has none
+abbrev pub IsKeptStill : State → (WordName → ℕ) → Status → ℕ → Type 0
+IsKeptStill s w on_its_way d = Unit {0}
+IsKeptStill s w status d = IsPlaceKept s w d
+
+-- the prefix word of a superblock's block is what it was
+abbrev pub IsPrefixKept : State → (WordName → ℕ) → ℕ → ℕ → Type 0
+IsPrefixKept s w d i =
+    w (prefix_name (info_for s d).frame (info_for s d).class i) ≡ s.word (prefix_name (info_for s d).frame (info_for s d).class i)
+
+abbrev pub IsChainKept : Geometry → State → (WordName → ℕ) → ℕ → Type 0
+IsChainKept g s w d = (i : ℕ) → 0 < occurs i (free_chain (superblock_of g s d)) → IsPrefixKept s w d i
+
+-- what is remembered of such a word is still so
+abbrev pub IsStillSaid : Geometry → State → Lists → (WordName → ℕ) → Recall → Type 0
+IsStillSaid g s l w (located d f c) = IsPlaceKept s w d
+IsStillSaid g s l w (pops d x) = IsPlaceKept s w d × IsChainKept g s w d
+IsStillSaid g s l w (links d x prefix) = IsPlaceKept s w d × (x.tag ≡ (anchor_for s d).tag → IsPrefixKept s w d x.avail)
+IsStillSaid g s l w (nexts seat pile h below) =
+    h.tag ≡ (head_of (s.word (head_name seat pile))).tag → w (next_name pile (h.top - 1)) ≡ s.word (next_name pile (h.top - 1))
+IsStillSaid g s l w (says n v) = with_lone w s.word n ≡ s.word n
+IsStillSaid g s l w (made f c blocks) = (i : ℕ) → i < blocks → w (prefix_name f c i) ≡ s.word (prefix_name f c i)
+IsStillSaid g s l w (noted d next) = 0 < occurs d l.available → w (name.Next d) ≡ s.word (name.Next d)
+IsStillSaid g s l w r = Unit {0}
+
+-- the links of what is listed are what they were, and the others are in range
+pub record LinksKept (g : Geometry) (s : State) (l : Lists) (w : WordName → ℕ) : Type 0 where
+  pub nexts : (d : ℕ) → d < descriptor_count g → w (name.Next d) ≤ descriptor_count g
+  pub frame_nexts : (f : ℕ) → f < g.frames → w (name.FrameNext f) ≤ g.frames
+  pub frames : (f : ℕ) → 0 < occurs f l.frames → w (name.FrameNext f) ≡ s.word (name.FrameNext f)
+  pub available : (d : ℕ) → 0 < occurs d l.available → w (name.Next d) ≡ s.word (name.Next d)
+  pub partials : (class : ℕ) → class < CLASSES → (d : ℕ) → 0 < occurs d (l.partials class) → w (name.Next d) ≡ s.word (name.Next d)
+
+-- the descriptors that somebody reads name the frame and the class that they named
+pub record PlacesKept (g : Geometry) (s : State) (l : Lists) (w : WordName → ℕ) : Type 0 where
+  pub infos : (d : ℕ) → d < descriptor_count g → IsSome (info_in g (w (name.Info d)))
+  pub bound : (d : ℕ) → IsTrue (is_bound g s l d) → IsPlaceKept s w d
+  pub active :
+      (heap class d credits : ℕ) → heap < g.heaps → class < CLASSES → active_of (s.word (name.Active heap class)) ≡ Some (Held d credits)
+      → IsPlaceKept s w d
+  pub slot : (heap class d : ℕ) → heap < g.heaps → class < CLASSES → s.word (name.Slot heap class) ≡ d + 1 → IsPlaceKept s w d
+  pub listed : (class : ℕ) → class < CLASSES → All (IsPlaceKept s w) (l.partials class)
+  pub errand : (who : ℕ) → who < g.callers → All (λ k. IsKeptStill s w k.status k.desc) (holds_of (s.errand who).point).kept
+  pub full : (d : ℕ) → d < descriptor_count g → IsPlaceKept s w d ⊎ (full_keeps (anchor_for s d).state ≡ 0)
+
+-- the words of free blocks and of live ones are what they were
+pub record BlocksKept (g : Geometry) (s : State) (l : Lists) (w : WordName → ℕ) : Type 0 where
+  pub chains : (d : ℕ) → d < descriptor_count g → IsTrue (is_bound g s l d) → IsChainKept g s w d
+  pub ties : (place : ℕ) (b : Block) → IsLive s place b → IsExcepted g s place ⊎ (w (name.Arena place) ≡ s.word (name.Arena place))
+  pub contents :
+      (place i v : ℕ) (b : Block) → IsLive s place b → slice_index_or b.contents i None ≡ Some v
+      → w (name.Arena (place + 1 + i)) ≡ s.word (name.Arena (place + 1 + i))
+
+-- so what is read of the words that are stored alone stays
+pub record LoneKept (g : Geometry) (s : State) (l : Lists) (w : WordName → ℕ) : Type 0 where
+  pub words : (n : WordName) → with_lone w s.word n < 2 ^ 64
+  pub links : LinksKept g s l w
+  pub places : PlacesKept g s l w
+  pub blocks : BlocksKept g s l w
+  pub recalls : (who : ℕ) → who < g.callers → All (IsStillSaid g s l w) (recalls_of (s.errand who).point)
+
+-- what only processor heaps' words weigh stays
+lone-weighs :
+    (weight : WordName → ℕ → ℕ) (w words : WordName → ℕ) → IsHolderWeight weight → (n : WordName)
+    → weight n (with_lone w words n) ≡ weight n (words n)
+lone-weighs weight w words h (name.Arena place) = h.elsewhere (name.Arena place) _ refl ∙ sym (h.elsewhere (name.Arena place) _ refl)
+lone-weighs weight w words h (name.Next d) = h.elsewhere (name.Next d) _ refl ∙ sym (h.elsewhere (name.Next d) _ refl)
+lone-weighs weight w words h (name.FrameNext f) = h.elsewhere (name.FrameNext f) _ refl ∙ sym (h.elsewhere (name.FrameNext f) _ refl)
+lone-weighs weight w words h (name.Info d) = h.elsewhere (name.Info d) _ refl ∙ sym (h.elsewhere (name.Info d) _ refl)
+lone-weighs weight w words h n = refl
+
+lone-sum :
+    (g : Geometry) (weight : WordName → ℕ → ℕ) (w words : WordName → ℕ) → IsHolderWeight weight
+    → words_sum g weight (with_lone w words) ≡ words_sum g weight words
+unfolding words_sum
+lone-sum g weight w words h = sum-same _ _ _ (λ k lt. lone-weighs weight w words h _)
+
+-- what is said of a descriptor's word or anchor, and of a block, is said where the frame and the class stay
+partly-between : (s : State) (w : WordName → ℕ) (d c : ℕ) → IsPlaceKept s w d → IsPartlyUsed s d c → IsPartlyUsed (between s w) d c
+partly-between s w d c same k = record { class = same.1 ∙ k.class; state = k.state }
+
+active-between : (s : State) (w : WordName → ℕ) (d c : ℕ) → IsPlaceKept s w d → IsActive s d c → IsActive (between s w) d c
+active-between s w d c same k = record { class = same.1 ∙ k.class; state = k.state }
+
+kept_as-between :
+    (s : State) (w : WordName → ℕ) (status : Status) (d c : ℕ) → IsKeptStill s w status d → IsKeptAs s status d c
+    → IsKeptAs (between s w) status d c
+kept_as-between s w reserving d c same k = active-between s w d c same k
+kept_as-between s w waiting d c same k = active-between s w d c same k
+kept_as-between s w partly_used d c same k = partly-between s w d c same k
+kept_as-between s w on_its_way d c same k = k
+
+located-between : (s : State) (w : WordName → ℕ) (d f c : ℕ) → IsPlaceKept s w d → IsLocated s d f c → IsLocated (between s w) d f c
+located-between s w d f c same k = record { frame = same.0 ∙ k.frame; class = same.1 ∙ k.class }
+
+owned-between : (s : State) (w : WordName → ℕ) (who place : ℕ) (n : Need) → IsOwned s who place n → IsOwned (between s w) who place n
+owned-between s w who place n k = record { block = k.block }
+
+excepted-between : (g : Geometry) (s : State) (w : WordName → ℕ) (place : ℕ) → IsExcepted g s place → IsExcepted g (between s w) place
+excepted-between g s w place x = record { who = x.who }
+
+-- a superblock with other links
+abbrev with_next : (ℕ → ℕ) → Superblock → Superblock
+with_next next b = record b { next = next }
+
+abbrev links_of : State → (WordName → ℕ) → ℕ → ℕ → ℕ
+links_of s w d = link_in w (info_for s d).frame (info_for s d).class
+
+superblock-between :
+    (g : Geometry) (s : State) (w : WordName → ℕ) (d : ℕ) → IsPlaceKept s w d
+    → superblock_of g (between s w) d ≡ with_next (links_of s w d) (superblock_of g s d)
+superblock-between g s w d same =
+    let now = info_or_zero (info_of (w (name.Info d))) in
+    let info = info_for s d in
+    let with_place : ℕ → ℕ → ℕ → Superblock = λ n f c. record {
+      anchor = anchor_for s d;
+      reserved = n + callers_sum g (errand_reserves d) s.errand;
+      waiting = waiting_of g s d;
+      next = link_in w f c;
+      live = λ i. live_at s (block_place f c i);
+      size = block_count_of c;
+    } in
+    ap (λ n. with_place n now.frame now.class) (lone-sum g (word_reserves d) w s.word (reserves-holder d))
+    ∙ ap (λ f. with_place (words_sum g (word_reserves d) s.word) f now.class) same.0
+    ∙ ap (λ c. with_place (words_sum g (word_reserves d) s.word) info.frame c) same.1
+
+-- the chain is the same where its links are
+same-chain :
+    (next : ℕ → ℕ) (b : Superblock) → ((i : ℕ) → 0 < occurs i (free_chain b) → next i ≡ b.next i)
+    → free_chain (with_next next b) ≡ free_chain b
+same-chain next b same = chain_of-same b.next next (b.anchor.count + b.reserved) b.anchor.avail same
+
+chained-next :
+    (next : ℕ → ℕ) (b : Superblock) → ((i : ℕ) → 0 < occurs i (free_chain b) → next i ≡ b.next i) → IsChained b
+    → IsChained (with_next next b)
+chained-next next b same h =
+    let chain : free_chain (with_next next b) ≡ free_chain b = same-chain next b same in
+    let on = λ (i : ℕ) (some : 0 < occurs i (free_chain (with_next next b))). subst (λ xs. 0 < occurs i xs) chain some in
+    record {
+      avail = h.avail;
+      within = λ i some. h.within i (on i some);
+      links = λ i some. subst (λ k. k < b.size) (sym (same i (on i some))) (h.links i (on i some));
+      once = λ i lt. omega (arith, h.once i lt, ap (occurs i) chain);
+      some = h.some;
+    }
+
+popped-next :
+    (next : ℕ → ℕ) (b : Superblock) (x : AnchorFields) → ((i : ℕ) → 0 < occurs i (free_chain b) → next i ≡ b.next i) → IsPopped b x
+    → IsPopped (with_next next b) x
+popped-next next b x same h =
+    let chain : free_chain (with_next next b) ≡ free_chain b = same-chain next b same in
+    record {
+      tag = h.tag;
+      first = λ is. subst (λ xs. 0 < occurs x.avail xs) (sym chain) (h.first is);
+    }
+
+kept-links :
+    (g : Geometry) (s : State) (w : WordName → ℕ) (d : ℕ) → IsChainKept g s w d → (i : ℕ) → 0 < occurs i (free_chain (superblock_of g s d))
+    → links_of s w d i ≡ (superblock_of g s d).next i
+kept-links g s w d kept i on = ap link_of (kept i on)
+
+top-between :
+    (s : State) (l : Lists) (w : WordName → ℕ) (seat : SeatFields) (pile : Pile) (h : HeadFields) → IsTopStill s l seat pile h
+    → IsTopStill (between s w) l seat pile h
+top-between s l w seat Frames h k = record { tag = k.tag; top = k.top }
+top-between s l w seat Partials h k = record { tag = k.tag; top = k.top }
+
+next-between :
+    (g : Geometry) (s : State) (l : Lists) (w : WordName → ℕ) (i : ℕ) (seat : SeatFields) (pile : Pile) (h : HeadFields) (below : ℕ)
+    → IsStillSaid g s l w (nexts seat pile h below) → IsSo g s l i (nexts seat pile h below) → IsSo g (between s w) l i (nexts seat pile h below)
+next-between g s l w i seat Frames h below still so = λ is. still is ∙ so is
+next-between g s l w i seat Partials h below still so = λ is. still is ∙ so is
+
+-- what is remembered stays so
+so-between :
+    (g : Geometry) (s : State) (l : Lists) (w : WordName → ℕ) (i : ℕ) (r : Recall)
+    → ((d : ℕ) → IsTrue (is_bound g s l d) → IsPlaceKept s w d) → IsStillSaid g s l w r → IsSo g s l i r → IsSo g (between s w) l i r
+so-between g s l w i (bound_for d c) kept still so = (so.0, (kept d so.0).1 ∙ so.1)
+so-between g s l w i (located d f c) kept still so = located-between s w d f c still so
+so-between g s l w i (bound_at d f c) kept still so = (so.0, located-between s w d f c (kept d so.0) so.1)
+so-between g s l w i (pops d x) kept still so =
+    subst (λ b. IsPopped b x) (sym (superblock-between g s w d still.0))
+    (popped-next (links_of s w d) (superblock_of g s d) x (kept-links g s w d still.1) so)
+so-between g s l w i (links d x prefix) kept still so =
+    λ is. ap (λ b. b.next x.avail) (superblock-between g s w d still.0) ∙ ap link_of (still.1 is) ∙ so is
+so-between g s l w i (tops seat p head) kept still so = top-between s l w seat p head so
+so-between g s l w i (nexts seat p head below) kept still so = next-between g s l w i seat p head below still so
+so-between g s l w i (tops_exist seat p head) kept still so = so
+so-between g s l w i (says n v) kept still so = (so.0, still ∙ so.1)
+so-between g s l w i (made f c blocks) kept still so = λ k below. still k below ∙ so k below
+so-between g s l w i (in_use x) kept still so = so
+so-between g s l w i (emptied d) kept still so = record { state = so.state; unavailable = so.unavailable; standing = so.standing }
+so-between g s l w i (noted d next) kept still so = λ on. still on ∙ so on
+so-between g s l w i (owns place k) kept still so = (so.0, owned-between s w i place so.0 so.1, so.2)
+so-between g s l w i (owns_all place n) kept still so = owned-between s w i place n so
+so-between g s l w i (looked c) kept still so = so
+
+-- a stack whose indexes have the same next words is the same list
+stacked-agrees :
+    (next next' : ℕ → ℕ) (top : ℕ) (xs : List ℕ) → ((j : ℕ) → 0 < occurs j xs → next' j ≡ next j) → Stacked next top xs
+    → Stacked next' top xs
+stacked-agrees next next' top [] same stack = stack
+stacked-agrees next next' top (x ∷ xs) same stack =
+    let once : occurs x (x ∷ xs) ≡ 1 + occurs x xs = ap (λ n. n + occurs x xs) (cond-true {A = ℕ} (x == x) 1 0 (eq-eqb x x refl)) in
+    let here : next' x ≡ next x = same x (omega (arith, once)) in
+    (stack.0, rw here (stacked-agrees next next' (next x) xs (λ j on. same j (omega (arith, on))) stack.1))
+
+listed-between :
+    (g : Geometry) (s : State) (l : Lists) (w : WordName → ℕ) → LinksKept g s l w → IsListed g s.word l → IsListed g (with_lone w s.word) l
+listed-between g s l w k old = record {
+  nexts = k.nexts;
+  frame_nexts = k.frame_nexts;
+  frames = stacked-agrees (next_in s.word Frames) (next_in w Frames) (head_of (s.word name.FrameHead)).top l.frames k.frames old.frames;
+  frames_exist = old.frames_exist;
+  available = stacked-agrees (next_in s.word Partials) (next_in w Partials) (s.word name.DescHead) l.available k.available old.available;
+  available_exist = old.available_exist;
+  partials = λ class has.
+      stacked-agrees (next_in s.word Partials) (next_in w Partials) (head_of (s.word (name.ListHead class))).top (l.partials class)
+      (k.partials class has) (old.partials class has);
+  partials_exist = old.partials_exist;
+}
+
+kept-between : (g : Geometry) (s : State) (l : Lists) (w : WordName → ℕ) → PlacesKept g s l w → IsKept g s l → IsKept g (between s w) l
+kept-between g s l w same kept = record {
+  once = λ d has.
+      ap
+      (λ n. n + sum_below CLASSES (λ class. occurs d (l.partials class)) + occurs d l.available + callers_sum g (errand_has d) s.errand
+      + full_keeps (anchor_for s d).state)
+      (lone-sum g (word_keeps d) w s.word (keeps-holder d))
+      ∙ kept.once d has;
+  active_words = kept.active_words;
+  slot_words = kept.slot_words;
+  active = λ heap class d credits has_heap has_class is.
+      let k = kept.active heap class d credits has_heap has_class is in
+      (k.0, active-between s w d class (same.active heap class d credits has_heap has_class is) k.1);
+  slot = λ heap class d has_heap has_class is.
+      let k = kept.slot heap class d has_heap has_class is in
+      (k.0, partly-between s w d class (same.slot heap class d has_heap has_class is) k.1);
+  full = kept.full;
+  listed = λ class has k d lt. partly-between s w _ class (same.listed class has k d lt) (kept.listed class has k d lt);
+  available = kept.available;
+  retired = kept.retired;
+  errand = λ i has k d lt. kept_as-between s w _ _ _ (same.errand i has k d lt) (kept.errand i has k d lt);
+}
+
+chained-between :
+    (g : Geometry) (s : State) (l : Lists) (w : WordName → ℕ) → LoneKept g s l w → AreChained g s l → AreChained g (between s w) l
+chained-between g s l w kept chained = record {
+  infos = kept.places.infos;
+  chained = λ d has bound.
+      subst IsChained (sym (superblock-between g s w d (kept.places.bound d bound)))
+      (chained-next (links_of s w d) (superblock_of g s d) (kept-links g s w d (kept.blocks.chains d has bound)) (chained.chained d has bound));
+}
+
+-- a bound superblock fills the frame that it did
+fill-same :
+    (b : Bool) (w x y f : ℕ) → (b ≡ true → y ≡ x)
+    → ◌≡◌ {A = ℕ} (if b && (w == 0) && (y == f) then 1 else 0) (if b && (w == 0) && (x == f) then 1 else 0)
+fill-same true w x y f h = ap (λ z. if (w == 0) && (z == f) then 1 else 0) (h refl)
+fill-same false w x y f h = refl
+
+framed-between : (g : Geometry) (s : State) (l : Lists) (w : WordName → ℕ) → PlacesKept g s l w → IsFramed g s l → IsFramed g (between s w) l
+framed-between g s l w kept framed = record {
+  once = λ f has.
+      let filled : sum_below (descriptor_count g) (fills g (between s w) l f) ≡ sum_below (descriptor_count g) (fills g s l f) =
+      sum-same (descriptor_count g) (fills g s l f) (fills g (between s w) l f)
+      (λ d lt.
+      fill-same (is_bound g s l d) (waiting_of g s d) (info_for s d).frame (info_or_zero (info_of (w (name.Info d)))).frame f
+      (λ bound. (kept.bound d bound).0)) in
+      omega (arith, filled, framed.once f has);
+}
+
+guarded-between : (g : Geometry) (s : State) (w : WordName → ℕ) → IsGuarded g s → IsGuarded g (between s w)
+guarded-between g s w guarded =
+    let was : (i d : ℕ) → Guards (between s w) i d → Guards s i d = λ i d guards. record { word = guards.word; guard = guards.guard } in
+    record {
+      words = guarded.words;
+      pushed = λ i other d has has_other guards is. guarded.pushed i other d has has_other (was i d guards) is;
+      passed = λ i other d has has_other guards listed below. guarded.passed i other d has has_other (was i d guards) listed below;
+      unread = guarded.unread;
+      full = guarded.full;
+    }
+
+full-same :
+    (c c' class n : ℕ) → (c' ≡ c) ⊎ (n ≡ 0) → ◌≡◌ {A = ℕ} (if c' == class then n else 0) (if c == class then n else 0)
+full-same c c' class n (inl same) = ap (λ x. if x == class then n else 0) same
+full-same c c' class n (inr none) = grind (arith, none)
+
+stocked-between :
+    (g : Geometry) (s : State) (l : Lists) (w : WordName → ℕ) → PlacesKept g s l w → IsStocked g s l → IsStocked g (between s w) l
+stocked-between g s l w kept stocked = record {
+  most = λ class has.
+      let full : sum_below (descriptor_count g) (full_stock (between s w) class) ≡ sum_below (descriptor_count g) (full_stock s class) =
+      sum-same (descriptor_count g) (full_stock s class) (full_stock (between s w) class)
+      (λ d lt.
+      full-same (info_for s d).class (info_or_zero (info_of (w (name.Info d)))).class class (full_keeps (anchor_for s d).state)
+      (elim (kept.full d lt) [ inl same ↦ inl same.1 | inr none ↦ inr none ])) in
+      let words : words_sum g (word_stock class) (with_lone w s.word) ≡ words_sum g (word_stock class) s.word =
+      lone-sum g (word_stock class) w s.word (stock-holder class) in
+      omega (arith, full, words, stocked.most class has);
+}
+
+turned-between : (g : Geometry) (s : State) (l : Lists) (w : WordName → ℕ) → IsTurned g s l → IsTurned g (between s w) l
+turned-between g s l w turned = record {
+  own_turns = turned.own_turns;
+  own_lost = turned.own_lost;
+  anchor_tags = turned.anchor_tags;
+  frame_tag = turned.frame_tag;
+  emptied = turned.emptied;
+  list_tags = turned.list_tags;
+}
+
+tied-between : (g : Geometry) (s : State) (l : Lists) (w : WordName → ℕ) → LoneKept g s l w → IsTied g s l → IsTied g (between s w) l
+tied-between g s l w kept tied =
+    let tie : (place v : ℕ) (b : Block) → IsLive s place b → IsExcepted g s place ⊎ (s.word (name.Arena place) ≡ v)
+    → IsExcepted g (between s w) place ⊎ (w (name.Arena place) ≡ v) =
+    λ place v b live t.
+    elim t [
+      | inl x ↦ inl (excepted-between g s w place x)
+      | inr is ↦ elim (kept.blocks.ties place b live) [
+        | inl x ↦ inl (excepted-between g s w place x)
+        | inr same ↦ inr (same ∙ is)
+      ]
+    ] in
+    record {
+      small = λ place class block live is.
+          let old = tied.small place class block live is in (
+            old.0,
+            record {
+              exists = old.1.exists;
+              bound = old.1.bound;
+              located = located-between s w old.0 (frame_of place) class (kept.places.bound old.0 old.1.bound) old.1.located;
+            },
+            tie place (2 * old.0) block live old.2,
+          );
+      large = λ place units block live is. tie place (2 * units + 1) block live (tied.large place units block live is);
+      units = tied.units;
+      no_more_units = tied.no_more_units;
+      shelved = tied.shelved;
+      bare_shelf = tied.bare_shelf;
+      contents = λ place i v b live is. kept.blocks.contents place i v b live is ∙ tied.contents place i v b live is;
+      hands = λ i has k d lt. owned-between s w i _ _ (tied.hands i has k d lt);
+      frees = λ i has k d lt. owned-between s w i _ _ (tied.frees i has k d lt);
+    }
+
+-- so the state in between is sound
+pub sound-between :
+    (g : Geometry) (s : State) (l : Lists) (w : WordName → ℕ) → LoneKept g s l w → IsSoundWith g s l → IsSoundWith g (between s w) l
+sound-between g s l w kept sound = record {
+  words = kept.words;
+  errands = sound.errands;
+  listed = listed-between g s l w kept.links sound.listed;
+  kept = kept-between g s l w kept.places sound.kept;
+  chained = chained-between g s l w kept sound.chained;
+  framed = framed-between g s l w kept.places sound.framed;
+  remembered = record {
+    so = λ i has k d lt. so-between g s l w i _ kept.places.bound (kept.recalls i has k d lt) (sound.remembered.so i has k d lt);
+  };
+  guarded = guarded-between g s w sound.guarded;
+  stocked = stocked-between g s l w kept.places sound.stocked;
+  turned = turned-between g s l w sound.turned;
+  tied = tied-between g s l w kept sound.tied;
+}
