@@ -1,7 +1,6 @@
 pub mod ActiveChanges
 pub mod BegunWins
 pub mod BlockExpects
-pub mod CarriedLemmas
 pub mod ContendLemmas
 pub mod CountLemmas
 pub mod DescExpects
@@ -20,7 +19,6 @@ pub mod SettleExpects
 pub mod StackExpects
 pub mod StepWins
 pub mod StoreLemmas
-pub mod TurnBlocks
 pub mod TurnEnds
 pub mod TurnParts
 pub mod TurnPoints

@@ -2,7 +2,6 @@
 use Rattle.std.proofs.Common.{ℕ, ◌≡◌, ◌≢◌, ◌<◌, ◌+◌, ◌^◌, ◌*◌, length, refl, arith, ap, sym, subst, inl, inr, ◌∙◌}
 use Rattle.std.specs.Prelude.{◌⊎◌, ◌==◌, if◌then◌else◌, All, Any, IsTrue}
 use Rattle.std.specs.Int.{bit_at}
-use Rattle.std.proofs.lemmas.Bool.{cases_eq}
 use Rattle.std.proofs.lemmas.List.Elements.{All-nil}
 use Rattle.heap_geometry.specs.declared.geometry.Geometry.{Geometry}
 use Rattle.heap_geometry.specs.declared.need.Need.{Need}
@@ -23,14 +22,17 @@ use Rattle.sound_state.specs.Keepers.{full_keeps}
 use Rattle.sound_state.specs.Lists.{Lists}
 use Rattle.sound_state.specs.Recalls.{IsOwned}
 use Rattle.sound_state.specs.Sound.{IsSoundWith}
-use Rattle.sound_state.specs.Stock.{IsStocked, stock_among, waits_in, word_stock, errand_stock, full_stock}
+use Rattle.sound_state.specs.Stock.{IsStocked, waits_in, word_stock, full_stock}
 use Rattle.sound_state.specs.Sums.{sum_below}
 use Rattle.sound_state.specs.Superblocks.{anchor_for, info_for, is_bound}
 use Rattle.sound_state.specs.Ties.{IsTied, IsLive, IsExcepted}
 use Rattle.sound_state.proofs.shared.AlikeLemmas.{each-caller, Excepts}
-use Rattle.sound_state.proofs.anchors.AnchorFacts.{Anchors, installing, anchored-anchor, anchored-here, anchored-info, anchored-bound, anchored-free, anchored-words}
+use Rattle.sound_state.proofs.anchors.AnchorFacts.{Anchors, anchored-holds, anchored-write, anchored-here, anchored-info, anchored-bound, anchored-free, anchored-words}
 use Rattle.sound_state.proofs.shared.GuardEffects.{guarded-clear}
-use Rattle.sound_state.proofs.shared.SumLemmas.{sum-same, callers-moved}
+use Rattle.sound_state.proofs.shared.SumLemmas.{sum-same}
+use Rattle.sound_state.proofs.shared.SuperblockEffects.{field-stays}
+use Rattle.sound_state.proofs.shared.HoldingEffects.{stock-goes}
+use Rattle.sound_state.proofs.shared.MakingWeights.{making-stock}
 
 -- how many descriptors are out
 pub anchored-stocked :
@@ -45,26 +47,15 @@ anchored-stocked g s l who at e s' o h before after old =
           sum-same (descriptor_count g) (full_stock s class) (full_stock s' class)
           (λ d lt.
           let keeps : full_keeps (anchor_for s' d).state ≡ full_keeps (anchor_for s d).state =
-          elim (cases_eq d at.desc) [
-            | inl is ↦
-                subst (λ j. full_keeps (anchor_for s' j).state ≡ full_keeps (anchor_for s j).state) (sym is)
-                (ap (λ a. full_keeps a.state) (anchored-here g s l who at e s' h) ∙ sym free.full)
-            | inr differ ↦ ap (λ a. full_keeps a.state) (anchored-anchor g s l who at e s' h d differ)
-          ] in
+          field-stays (anchored-write g s l who at e s' h) (λ a. full_keeps a.state)
+          (ap (λ a. full_keeps a.state) (anchored-here g s l who at e s' h) ∙ sym free.full) d in
           ap (λ n. if (info_for s' d).class == class then n else 0) keeps
           ∙ ap (λ i. if i.class == class then full_keeps (anchor_for s d).state else 0) (anchored-info g s l who at e s' h d)) in
-          let was : errand_stock class (s.errand who) ≡ stock_among class (making at).kept =
-          ap (λ x. stock_among class x.kept + waits_in class (s.errand who).point) h.holds_before
-          ∙ ap (λ p. stock_among class (making at).kept + waits_in class p) before ∙ omega arith in
-          let now : errand_stock class e ≡ stock_among class (installing at).kept =
-          ap (λ x. stock_among class x.kept + waits_in class e.point) h.holds_after
-          ∙ ap (λ p. stock_among class (installing at).kept + waits_in class p) after ∙ omega arith in
           omega (
             arith,
             full,
-            was,
-            now,
-            callers-moved g (errand_stock class) s.errand who e s'.errand h.caller h.moves,
+            stock-goes (anchored-holds g s l who at e s' h) class (ap (waits_in class) before) (ap (waits_in class) after),
+            making-stock at class,
             anchored-words g s l who at e s' h (word_stock class) (λ v. refl),
             old.stocked.most class has,
           );
@@ -78,74 +69,74 @@ anchored-guarded g s l who at e s' o h after old =
     (ap (λ x. x.hazard) h.holds_after) (ap pushed_by after) (ap passed_by after) (ap (λ p. length (held_by p)) after) (ap spare_of after) old.guarded
 
 -- who makes a superblock excepts no block
-making-excepts : (at : Site) (place : ℕ) → Any (λ b. b.place ≡ place) (making at).hands ⊎ Any (λ b. (b.place ≡ place) × IsTrue b.overwritten) (making at).frees → ⊥
+making-excepts :
+    (at : Site) (place : ℕ)
+    → Any (λ b. b.place ≡ place) (making at).hands ⊎ Any (λ b. (b.place ≡ place) × IsTrue b.overwritten) (making at).frees → ⊥
 making-excepts at place (inl x) = omega (arith, x.2)
 making-excepts at place (inr x) = omega (arith, x.2)
 
-pub owned-anchored :
-    (g : Geometry) (s : State) (l : Lists) (who : ℕ) (at : Site) (e : ErrandFields) (s' : State) → Anchors g s l who at e s'
-    → (i place : ℕ) (n : Need) → IsOwned s i place n → IsOwned s' i place n
-owned-anchored g s l who at e s' h i place n k = record {
-  block = (k.block.0, ap (λ past. block_at place (pool_of past)) h.history ∙ k.block.1, k.block.2, k.block.3);
-}
+module _ (g : Geometry) (s : State) (l : Lists) (who : ℕ) (at : Site) (e : ErrandFields) (s' : State) (h : Anchors g s l who at e s') where
+  pub owned-anchored : (i place : ℕ) (n : Need) → IsOwned s i place n → IsOwned s' i place n
+  owned-anchored i place n k = record {
+    block = (k.block.0, ap (λ past. block_at place (pool_of past)) h.history ∙ k.block.1, k.block.2, k.block.3);
+  }
 
-pub anchored-tied :
-    (g : Geometry) (s : State) (l : Lists) (who : ℕ) (at : Site) (e : ErrandFields) (s' : State) → Anchors g s l who at e s'
-    → IsSoundWith g s l → IsTied g s' l
-anchored-tied g s l who at e s' h old =
-    let tied = old.tied in
-    let w = h.writes in
-    let free = anchored-free g s l who at e s' h old in
-    let was = λ (place : ℕ) (b : Block) (live : IsLive s' place b). ap (λ past. block_at place (pool_of past)) (sym h.history) ∙ live in
-    let excepted : (place : ℕ) → IsExcepted g s place → IsExcepted g s' place =
-    λ place x. record {
-      who = (
-        x.who.0,
-        x.who.1,
-        each-caller g (λ j f. Excepts (s.errand j) place → Excepts f place) s.errand who e s'.errand h.moves
-            (λ ex. absurd (making-excepts at place (subst (λ x. Any (λ b. b.place ≡ place) x.hands ⊎ Any (λ b. (b.place ≡ place) × IsTrue b.overwritten) x.frees) h.holds_before ex)))
-            (λ j has same. same) x.who.0 x.who.1 x.who.2,
-      );
-    } in
-    let tie : (place v : ℕ) → IsExcepted g s place ⊎ (s.word (name.Arena place) ≡ v) → IsExcepted g s' place ⊎ (s'.word (name.Arena place) ≡ v) =
-    λ place v t. elim t [ inl x ↦ inl (excepted place x) | inr is ↦ inr (w.elsewhere (name.Arena place) (λ same. cc) ∙ is) ] in
-    record {
-      small = λ place class b live is.
-          let of = tied.small place class b (was place b live) is in
-          let d : ℕ = of.0 in
-          let differ : d ≢ at.desc = λ same. free.bound (subst (λ k. IsTrue (is_bound g s l k)) same of.1.bound) in
-          let info = anchored-info g s l who at e s' h d in (
-            d,
-            record {
-              exists = of.1.exists;
-              bound = subst IsTrue (sym (anchored-bound g s l who at e s' h d differ)) of.1.bound;
-              located = record {
-                frame = ap (λ x. x.frame) info ∙ of.1.located.frame;
-                class = ap (λ x. x.class) info ∙ of.1.located.class;
-              };
-            },
-            tie place (2 * d) of.2,
-          );
-      large = λ place units b live is. tie place (2 * units + 1) (tied.large place units b (was place b live) is);
-      units = λ unit has.
-          let of = tied.units unit has in
-          let word : s'.word name.Units ≡ s.word name.Units = w.elsewhere name.Units (λ is. cc) in (
-            λ bit. let c = of.0 (ap (λ v. bit_at v unit) (sym word) ∙ bit) in
-                (c.0, c.1, c.2, ap (λ past. block_at (unit_place g.frames c.1) (pool_of past)) h.history ∙ c.3, c.4, c.5, c.6),
-            λ c. ap (λ v. bit_at v unit) word ∙ of.1 (c.0, c.1, c.2, was (unit_place g.frames c.1) c.0 c.3, c.4, c.5, c.6),
-          );
-      no_more_units = subst (λ v. v < 2 ^ g.units) (sym (w.elsewhere name.Units (λ is. cc))) tied.no_more_units;
-      shelved = λ k place b has live is. w.elsewhere (name.Shelf k) (λ same. cc) ∙ tied.shelved k place b has (was place b live) is;
-      bare_shelf = λ k has none.
-          w.elsewhere (name.Shelf k) (λ same. cc)
-          ∙ tied.bare_shelf k has (λ place b live is. none place b (ap (λ past. block_at place (pool_of past)) h.history ∙ live) is);
-      contents = λ place i v b live is. w.elsewhere (name.Arena (place + 1 + i)) (λ same. cc) ∙ tied.contents place i v b (was place b live) is;
-      hands =
-          each-caller g (λ i f. All (λ x. IsOwned s' i x.place x.need) (holds_of f.point).hands) s.errand who e s'.errand h.moves
-          (subst (λ x. All (λ y. IsOwned s' who y.place y.need) x.hands) (sym h.holds_after) (All-nil (λ y. IsOwned s' who y.place y.need)))
-          (λ i has k d lt. owned-anchored g s l who at e s' h i _ _ (tied.hands i has k d lt));
-      frees =
-          each-caller g (λ i f. All (λ x. IsOwned s' i x.place x.need) (holds_of f.point).frees) s.errand who e s'.errand h.moves
-          (subst (λ x. All (λ y. IsOwned s' who y.place y.need) x.frees) (sym h.holds_after) (All-nil (λ y. IsOwned s' who y.place y.need)))
-          (λ i has k d lt. owned-anchored g s l who at e s' h i _ _ (tied.frees i has k d lt));
-    }
+  pub anchored-tied : IsSoundWith g s l → IsTied g s' l
+  anchored-tied old =
+      let tied = old.tied in
+      let w = h.writes in
+      let free = anchored-free g s l who at e s' h old in
+      let was = λ (place : ℕ) (b : Block) (live : IsLive s' place b). ap (λ past. block_at place (pool_of past)) (sym h.history) ∙ live in
+      let excepted : (place : ℕ) → IsExcepted g s place → IsExcepted g s' place =
+      λ place x. record {
+        who = (
+          x.who.0,
+          x.who.1,
+          each-caller g (λ j f. Excepts (s.errand j) place → Excepts f place) s.errand who e s'.errand h.moves
+              (λ ex. absurd (making-excepts at place
+              (subst (λ x. Any (λ b. b.place ≡ place) x.hands ⊎ Any (λ b. (b.place ≡ place) × IsTrue b.overwritten) x.frees) h.holds_before ex)))
+              (λ j has same. same) x.who.0 x.who.1 x.who.2,
+        );
+      } in
+      let tie : (place v : ℕ) → IsExcepted g s place ⊎ (s.word (name.Arena place) ≡ v) → IsExcepted g s' place ⊎ (s'.word (name.Arena place) ≡ v) =
+      λ place v t. elim t [ inl x ↦ inl (excepted place x) | inr is ↦ inr (w.elsewhere (name.Arena place) (λ same. cc) ∙ is) ] in
+      record {
+        small = λ place class b live is.
+            let of = tied.small place class b (was place b live) is in
+            let d : ℕ = of.0 in
+            let differ : d ≢ at.desc = λ same. free.bound (subst (λ k. IsTrue (is_bound g s l k)) same of.1.bound) in
+            let info = anchored-info g s l who at e s' h d in (
+              d,
+              record {
+                exists = of.1.exists;
+                bound = subst IsTrue (sym (anchored-bound g s l who at e s' h d differ)) of.1.bound;
+                located = record {
+                  frame = ap (λ x. x.frame) info ∙ of.1.located.frame;
+                  class = ap (λ x. x.class) info ∙ of.1.located.class;
+                };
+              },
+              tie place (2 * d) of.2,
+            );
+        large = λ place units b live is. tie place (2 * units + 1) (tied.large place units b (was place b live) is);
+        units = λ unit has.
+            let of = tied.units unit has in
+            let word : s'.word name.Units ≡ s.word name.Units = w.elsewhere name.Units (λ is. cc) in (
+              λ bit. let c = of.0 (ap (λ v. bit_at v unit) (sym word) ∙ bit) in
+                  (c.0, c.1, c.2, ap (λ past. block_at (unit_place g.frames c.1) (pool_of past)) h.history ∙ c.3, c.4, c.5, c.6),
+              λ c. ap (λ v. bit_at v unit) word ∙ of.1 (c.0, c.1, c.2, was (unit_place g.frames c.1) c.0 c.3, c.4, c.5, c.6),
+            );
+        no_more_units = subst (λ v. v < 2 ^ g.units) (sym (w.elsewhere name.Units (λ is. cc))) tied.no_more_units;
+        shelved = λ k place b has live is. w.elsewhere (name.Shelf k) (λ same. cc) ∙ tied.shelved k place b has (was place b live) is;
+        bare_shelf = λ k has none.
+            w.elsewhere (name.Shelf k) (λ same. cc)
+            ∙ tied.bare_shelf k has (λ place b live is. none place b (ap (λ past. block_at place (pool_of past)) h.history ∙ live) is);
+        contents = λ place i v b live is. w.elsewhere (name.Arena (place + 1 + i)) (λ same. cc) ∙ tied.contents place i v b (was place b live) is;
+        hands =
+            each-caller g (λ i f. All (λ x. IsOwned s' i x.place x.need) (holds_of f.point).hands) s.errand who e s'.errand h.moves
+            (subst (λ x. All (λ y. IsOwned s' who y.place y.need) x.hands) (sym h.holds_after) (All-nil (λ y. IsOwned s' who y.place y.need)))
+            (λ i has k d lt. owned-anchored i _ _ (tied.hands i has k d lt));
+        frees =
+            each-caller g (λ i f. All (λ x. IsOwned s' i x.place x.need) (holds_of f.point).frees) s.errand who e s'.errand h.moves
+            (subst (λ x. All (λ y. IsOwned s' who y.place y.need) x.frees) (sym h.holds_after) (All-nil (λ y. IsOwned s' who y.place y.need)))
+            (λ i has k d lt. owned-anchored i _ _ (tied.frees i has k d lt));
+      }

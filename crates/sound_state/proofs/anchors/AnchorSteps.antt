@@ -1,7 +1,6 @@
 -- The store of a new superblock's anchor keeps the state sound.
-use Rattle.std.proofs.Common.{ℕ, Option, Some, None, true, false, ◌≡◌, ◌<◌, ◌≤◌, ◌+◌, [], ◌∷◌, refl, arith, ap, sym, subst, inl, inr, ◌∙◌}
+use Rattle.std.proofs.Common.{ℕ, Option, Some, None, true, false, ◌≡◌, ◌<◌, ◌≤◌, ◌+◌, [], ◌∷◌, refl, arith, ap, sym, subst, inl, ◌∙◌}
 use Rattle.std.specs.Prelude.{◌&&◌, not}
-use Rattle.std.proofs.lemmas.Bool.{cases_eq}
 use Rattle.std.proofs.lemmas.List.Elements.{All-head}
 use Rattle.heap_geometry.specs.declared.geometry.Geometry.{Geometry}
 use Rattle.heap_geometry.specs.Need.{block_count_of}
@@ -11,7 +10,6 @@ use Rattle.packed_words.specs.Anchor.{anchor_word}
 use Rattle.packed_words.specs.Info.{info_word, info_of}
 use Rattle.packed_words.proofs.AnchorLemmas.{anchor_word-below}
 use Rattle.packed_words.proofs.InfoLemmas.{info-exact}
-use Rattle.sound_state.proofs.pops.PopRecalls.{new_anchor-fits}
 use Rattle.word_plan.specs.declared.name.WordName.TheVariants as name
 use Rattle.word_plan.specs.declared.seat.Site.{Site}
 use Rattle.word_plan.specs.Sites.{info_at, IsSiteOf}
@@ -21,23 +19,22 @@ use Rattle.superblock_parts.specs.declared.point.BlockPoint.{BlockPoint}
 use Rattle.superblock_parts.specs.declared.point.BlockPoint.TheVariants as block
 use Rattle.pool_model.specs.Legal.{IsLegalWithoutCounts}
 use Rattle.pool_model.specs.Pool.{Block as Live, block_at, pool_of}
-use Rattle.errand_steps.specs.declared.next.Next.TheVariants.{At}
 use Rattle.errand_steps.specs.declared.onward.Onward.{Onward}
 use Rattle.errand_steps.specs.declared.point.Point.TheVariants.{Block}
-use Rattle.errand_steps.specs.Errands.{ErrandFields, IsErrand, raised, counts_lost, counts_cleared}
+use Rattle.errand_steps.specs.Errands.{ErrandFields, counts_lost}
 use Rattle.errand_steps.specs.Events.{event_of}
 use Rattle.errand_steps.specs.Nexts.{next_of}
 use Rattle.errand_steps.specs.Points.{plan_point_of}
-use Rattle.errand_steps.specs.Steps.{State, Step, Moves, name_at, found_at, with_event}
-use Rattle.errand_steps.proofs.ErrandLemmas.{settle_errand}
+use Rattle.errand_steps.specs.Steps.{State, Step}
 use Rattle.sound_state.specs.Holdings.{holds_of}
 use Rattle.sound_state.specs.Lists.{Lists}
 use Rattle.sound_state.specs.Recalls.{IsSo, IsLocated, AreMade, recalls_of, says, made}
 use Rattle.sound_state.specs.Sound.{IsSoundWithoutCounts, IsSoundWith, IsOwnErrand}
 use Rattle.sound_state.specs.Superblocks.{info_or_zero, anchor_for, away_of, is_there, live_at}
 use Rattle.sound_state.specs.Turns.{IsTurned, one_if, in_turn, is_giving, has_frame, has_frame_block, has_partial, has_refused, is_discarding_at, pops_left, turn_unlisted, errand_pops, emptied_out}
+use Rattle.sound_state.proofs.pops.PopRecalls.{new_anchor-fits}
 use Rattle.sound_state.proofs.shared.AlikeLemmas.{each-caller}
-use Rattle.sound_state.proofs.anchors.AnchorFacts.{Anchors, it-here, it-elsewhere, anchored-anchor, anchored-here, anchored-away, anchored-home}
+use Rattle.sound_state.proofs.anchors.AnchorFacts.{Anchors, anchored-anchor, anchored-here, anchored-away, anchored-home}
 use Rattle.sound_state.proofs.anchors.AnchorFields.{anchored-chained, anchored-framed, anchored-listed}
 use Rattle.sound_state.proofs.anchors.AnchorKept.{anchored-kept}
 use Rattle.sound_state.proofs.anchors.AnchorRecalls.{anchored-remembered}
@@ -46,9 +43,11 @@ use Rattle.sound_state.proofs.stores.InfoSteps.{site-info}
 use Rattle.sound_state.proofs.stores.LoosePlaces.{is-making, live-unmade}
 use Rattle.sound_state.proofs.shared.PointLemmas.{fits-at, so-at, All-rest}
 use Rattle.sound_state.proofs.quiet.QuietLemmas.{found_from}
-use Rattle.sound_state.proofs.quiet.QuietLinks.{written-at}
-use Rattle.sound_state.proofs.shared.StepLemmas.{at_point, settle-at, words-below, raised-least, raised-below}
+use Rattle.sound_state.proofs.shared.StepLemmas.{at_point, words-below, raised-least, found_from}
 use Rattle.sound_state.proofs.shared.TurnEffects.{TurnWeighs, emptied-kept, head-tag, no-event, turn-weighs, turned-after}
+use Rattle.sound_state.proofs.shared.MakingWeights.{it-here, it-elsewhere}
+use Rattle.sound_state.proofs.shared.WonEffects.{StepEffects, step-effects}
+use Rattle.sound_state.proofs.shared.SuperblockEffects.{of-each}
 
 -- a caller that makes a superblock is in a turn
 making-weighs :
@@ -76,13 +75,10 @@ anchored-turned g s l who at e s' o h before after turns lost cleared old =
     let out_1 : emptied_out g s' l at.desc ≡ 0 = rw (home, anchored-here g s l who at e s' h) refl in
     let emptied_same =
     emptied-kept g s l s' l
-    (λ d.
-    elim (cases_eq d at.desc) [
-      | inl is ↦ subst (λ k. emptied_out g s' l k ≡ emptied_out g s l k) (sym is) (out_1 ∙ sym out_0)
-      | inr differ ↦
-          let away : away_of g s' l d ≡ away_of g s l d = omega (arith, anchored-away g s l who at e s' h d, it-elsewhere at d differ) in
-          rw (away, anchored-anchor g s l who at e s' h d differ) refl
-    ]) in
+    (of-each (λ k. emptied_out g s' l k ≡ emptied_out g s l k) at.desc (out_1 ∙ sym out_0)
+    (λ d differ.
+    let away : away_of g s' l d ≡ away_of g s l d = omega (arith, anchored-away g s l who at e s' h d, it-elsewhere at d differ) in
+    rw (away, anchored-anchor g s l who at e s' h d differ) refl)) in
     turned-after g s l who e s' l 0 0
     (record {
       caller = h.caller;
@@ -92,12 +88,9 @@ anchored-turned g s l who at e s' o h before after turns lost cleared old =
       own_lost =
           omega (arith, turned.own_lost who h.caller, events.gives, events.refuses who, p.unanswered, q.discards, q.unanswered, turns, lost);
       anchor_tags = λ d has.
-          elim (cases_eq d at.desc) [
-            | inl is ↦
-                subst (λ k. (anchor_for s' k).tag ≤ (anchor_for s k).tag + 0) (sym is)
-                (omega (arith, ap (λ a. a.tag) (anchored-here g s l who at e s' h)))
-            | inr differ ↦ omega (arith, ap (λ a. a.tag) (anchored-anchor g s l who at e s' h d differ))
-          ];
+          of-each (λ k. (anchor_for s' k).tag ≤ (anchor_for s k).tag + 0) at.desc
+          (omega (arith, ap (λ a. a.tag) (anchored-here g s l who at e s' h)))
+          (λ d differ. omega (arith, ap (λ a. a.tag) (anchored-anchor g s l who at e s' h d differ))) d;
       frame_turns = omega (arith, head-tag (h.writes.elsewhere name.FrameHead (λ is. cc)), q.unframed, turns);
       emptied = omega (arith, emptied_same, cleared);
       list_turns = λ class has.
@@ -120,18 +113,15 @@ store_anchor-sound g s who s' site o sound has at step =
     let c = site.seat.class in
     let l = sound.parts.0 in
     let old = sound.parts.1 in
-    let x = found_at s who in
+    let x = found_from s p in
     let e = at_point (s.errand who) x q in
     let fit : IsSiteOf g who site = (fits-at g s l who p old has at).point in
-    let after = settle-at (s.errand who) x q (subst (λ r. next_of r (found_from s r) ≡ At q) (sym at) refl) in
-    let quiet : event_of who (s.errand who).point x ≡ None = subst (λ r. event_of who r (found_from s r) ≡ None) (sym at) refl in
-    let uncleared : counts_cleared (s.errand who).point x ≡ false = subst (λ r. counts_cleared r (found_from s r) ≡ false) (sym at) refl in
-    let moves : Moves s.errand who e s'.errand = subst (λ f. Moves s.errand who f s'.errand) after step.errand in
-    let past : s'.history ≡ s.history = step.history ∙ ap (with_event s.history) quiet in
-    let w : Writes s.word (name.Anchor site.desc) (anchor_word (new_anchor c)) s'.word = written-at s who s' p at step in
+    let effects : StepEffects g s who p x q s' = step-effects g s l who s' p x q old has at refl (inl refl) step in
+    let past : s'.history ≡ s.history = effects.history in
+    let w : Writes s.word (name.Anchor site.desc) (anchor_word (new_anchor c)) s'.word = effects.writes in
     let h : Anchors g s l who site e s' = record {
       caller = has;
-      moves = moves;
+      moves = effects.moves;
       site = fit;
       writes = w;
       history = past;
@@ -139,7 +129,6 @@ store_anchor-sound g s who s' site o sound has at step =
       holds_before = ap holds_of at;
       holds_after = refl;
     } in
-    let own = old.errands who has in
     let so = so-at g s l who p old has at in
     let said : s.word (name.Info site.desc) ≡ info_word (info_at site) =
     (All-head (IsSo g s l who) (says (name.Info site.desc) (info_word (info_at site))) (made site.frame c (block_count_of c) ∷ []) so).1 in
@@ -164,16 +153,10 @@ store_anchor-sound g s who s' site o sound has at step =
       parts = (
         l,
         record {
-          words = words-below s.word (name.Anchor site.desc) (anchor_word (new_anchor c)) s'.word w old.words (anchor_word-below (new_anchor c) (new_anchor-fits c));
-          errands =
-              each-caller g (IsOwnErrand g) s.errand who e s'.errand moves
-              (record {
-                caller = own.caller;
-                geometry = own.geometry;
-                rule = subst IsErrand after (settle_errand (s.errand who) x own.rule (old.words (name_at s who)));
-                lost = raised-below (counts_lost (s.errand who).point x) (s.errand who).lost own.lost;
-              })
-              old.errands;
+          words =
+              words-below s.word (name.Anchor site.desc) (anchor_word (new_anchor c)) s'.word w old.words
+              (anchor_word-below (new_anchor c) (new_anchor-fits c));
+          errands = each-caller g (IsOwnErrand g) s.errand who e s'.errand effects.moves effects.rule old.errands;
           listed = anchored-listed g s l who site e s' h old;
           kept = anchored-kept g s l who site e s' h old lies;
           chained = anchored-chained g s l who site e s' h old lies links_made unlive;
@@ -183,8 +166,8 @@ store_anchor-sound g s who s' site o sound has at step =
           stocked = anchored-stocked g s l who site e s' o h at refl old;
           turned =
               anchored-turned g s l who site e s' o h at refl refl
-              (raised-least (counts_lost (s.errand who).point x) (s.errand who).lost own.lost)
-              (ap (λ b. raised b (s.errand who).cleared) uncleared) old;
+              (raised-least (counts_lost (s.errand who).point x) (s.errand who).lost (old.errands who has).lost)
+              effects.cleared old;
           tied = anchored-tied g s l who site e s' h old;
         },
       );

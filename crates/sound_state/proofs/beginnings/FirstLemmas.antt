@@ -39,7 +39,7 @@ use Rattle.errand_steps.specs.Openings.{next_index, IsOpening}
 use Rattle.errand_steps.specs.Steps.{State}
 use Rattle.sound_state.specs.Frames.{IsFramed, errand_frames, fills}
 use Rattle.sound_state.specs.Guards.{IsGuarded, Guards, IsGuard, IsHazard, held_by}
-use Rattle.sound_state.specs.Holdings.{Status, waiting, holds_of}
+use Rattle.sound_state.specs.Holdings.{waiting, holds_of}
 use Rattle.sound_state.specs.Keepers.{IsKept, IsPartlyUsed, IsWithout, IsKeptAs, word_keeps, errand_has, full_keeps}
 use Rattle.sound_state.specs.Lists.{Lists, IsListed}
 use Rattle.sound_state.specs.Recalls.{IsRemembered, IsSo, IsOwned, recalls_of}
@@ -108,10 +108,15 @@ zero-info = refl
 pub info-zero : (g : Geometry) → IsChecked g → IsSome (info_in g 0)
 info-zero g checked = subst (λ i. IsSome (info_within g i)) (sym zero-info) (info-some g 0 checked)
 
+-- what is so of a word that the heap begins with, and of 0, is so of the word
+opening-word :
+    (g : Geometry) (first : WordName → ℕ) (s : State) (m : WordName) (P : ℕ → Type 0) → IsOpening g first s
+    → (exists g m ≡ true → P (first m)) → P 0 → P (s.word m)
+opening-word g first s m P o has none = subst P (sym (o.word m)) (cond_both (exists g m) (first m) 0 P has (λ e. none))
+
 -- a word that is 0 in the beginning
 pub zero-word : (g : Geometry) (first : WordName → ℕ) (s : State) (m : WordName) → IsOpening g first s → first m ≡ 0 → s.word m ≡ 0
-zero-word g first s m o is =
-    o.word m ∙ cond_both (exists g m) (first m) 0 (λ w. w ≡ 0) (λ e. is) (λ e. refl)
+zero-word g first s m o is = opening-word g first s m (λ w. w ≡ 0) o (λ e. is) refl
 
 -- a word that the heap has
 pub first-word : (g : Geometry) (first : WordName → ℕ) (s : State) (m : WordName) → IsOpening g first s → exists g m ≡ true → s.word m ≡ first m
@@ -129,49 +134,33 @@ pub at-opening :
     → (who : ℕ) → who < g.callers → P (s.errand who)
 at-opening g first s P o idle who has = subst P (sym (o.errand who has)) (idle who)
 
--- an idle caller weighs nothing
-none-away : (who : ℕ) (g : Geometry) (d : ℕ) → errand_away d (open_errand who g) ≡ 0
-unfolding holds_of
-none-away who g d = refl
-
-none-had : (g : Geometry) (d who : ℕ) → errand_has d (open_errand who g) ≡ 0
-unfolding holds_of
-none-had g d who = refl
-
-none-framed : (g : Geometry) (f who : ℕ) → errand_frames f (open_errand who g) ≡ 0
-unfolding holds_of
-none-framed g f who = refl
-
-none-stocked : (g : Geometry) (class who : ℕ) → errand_stock class (open_errand who g) ≡ 0
-unfolding holds_of
-none-stocked g class who = refl
-
-none-reserved : (g : Geometry) (d who : ℕ) → errand_reserves d (open_errand who g) ≡ 0
-unfolding holds_of
-none-reserved g d who = refl
-
-none-waiting : (g : Geometry) (status : Status) (d who : ℕ) → errand_keeps status d (open_errand who g) ≡ 0
-unfolding holds_of
-none-waiting g status d who = refl
-
 pub first-reserved : (g : Geometry) (first : WordName → ℕ) (s : State) (d : ℕ) → IsOpening g first s → callers_sum g (errand_reserves d) s.errand ≡ 0
-first-reserved g first s d o = opened-weighs g first s (errand_reserves d) o (none-reserved g d)
+unfolding holds_of
+first-reserved g first s d o = opened-weighs g first s (errand_reserves d) o (λ who. refl)
 
 pub first-waiting : (g : Geometry) (first : WordName → ℕ) (s : State) (d : ℕ) → IsOpening g first s → waiting_of g s d ≡ 0
-first-waiting g first s d o = opened-weighs g first s (errand_keeps waiting d) o (none-waiting g waiting d)
+unfolding holds_of
+first-waiting g first s d o = opened-weighs g first s (errand_keeps waiting d) o (λ who. refl)
 
 -- a descriptor from n on is available; one before isn't
 pub first-away :
     (g : Geometry) (n : ℕ) (first : WordName → ℕ) (s : State) (d : ℕ) → IsBegun g n first s → n ≤ d → d < descriptor_count g
     → away_of g s (first_lists g n) d ≡ 1
+unfolding holds_of
 first-away g n first s d b least has =
-    omega (arith, b.rule.descriptors, indexes-once n (descriptor_count g - n) d least (omega (arith, b.rule.descriptors)), opened-weighs g first s (errand_away d) b.opening (λ who. none-away who g d))
+    omega (
+      arith,
+      b.rule.descriptors,
+      indexes-once n (descriptor_count g - n) d least (omega (arith, b.rule.descriptors)),
+      opened-weighs g first s (errand_away d) b.opening (λ who. refl),
+    )
 
 pub first-here :
     (g : Geometry) (n : ℕ) (first : WordName → ℕ) (s : State) (d : ℕ) → IsBegun g n first s → d < n
     → away_of g s (first_lists g n) d ≡ 0
+unfolding holds_of
 first-here g n first s d b below =
-    omega (arith, indexes-before n (descriptor_count g - n) d below, opened-weighs g first s (errand_away d) b.opening (λ who. none-away who g d))
+    omega (arith, indexes-before n (descriptor_count g - n) d below, opened-weighs g first s (errand_away d) b.opening (λ who. refl))
 
 pub first-unbound :
     (g : Geometry) (n : ℕ) (first : WordName → ℕ) (s : State) (d : ℕ) → IsBegun g n first s → n ≤ d → d < descriptor_count g
@@ -218,13 +207,11 @@ zero-anchor_tag = refl
 
 pub first-state : (g : Geometry) (n : ℕ) (first : WordName → ℕ) (s : State) (d : ℕ) → IsBegun g n first s → (anchor_for s d).state ≡ phase.Active
 first-state g n first s d b =
-    subst (λ w. (anchor_of w).state ≡ phase.Active) (sym (b.opening.word (name.Anchor d)))
-    (cond_both (exists g (name.Anchor d)) (first (name.Anchor d)) 0 (λ w. (anchor_of w).state ≡ phase.Active) (λ e. b.rule.states d) (λ e. zero-state))
+    opening-word g first s (name.Anchor d) (λ w. (anchor_of w).state ≡ phase.Active) b.opening (λ e. b.rule.states d) zero-state
 
 first-tag : (g : Geometry) (n : ℕ) (first : WordName → ℕ) (s : State) (d : ℕ) → IsBegun g n first s → (anchor_for s d).tag ≡ 0
 first-tag g n first s d b =
-    subst (λ w. (anchor_of w).tag ≡ 0) (sym (b.opening.word (name.Anchor d)))
-    (cond_both (exists g (name.Anchor d)) (first (name.Anchor d)) 0 (λ w. (anchor_of w).tag ≡ 0) (λ e. b.rule.tags d) (λ e. zero-anchor_tag))
+    opening-word g first s (name.Anchor d) (λ w. (anchor_of w).tag ≡ 0) b.opening (λ e. b.rule.tags d) zero-anchor_tag
 
 -- the lists are the stacks
 first-listed : (g : Geometry) (n : ℕ) (first : WordName → ℕ) (s : State) → IsBegun g n first s → IsListed g s.word (first_lists g n)
@@ -268,7 +255,7 @@ first-kept g n first s b once held =
     record {
       once = λ d has.
           let listed : sum_below CLASSES (λ class. 0) ≡ 0 = sum-none CLASSES (λ class. 0) (λ j lt. refl) in
-          let callers : callers_sum g (errand_has d) s.errand ≡ 0 = opened-weighs g first s (errand_has d) o (none-had g d) in
+          let callers : callers_sum g (errand_has d) s.errand ≡ 0 = opened-weighs g first s (errand_has d) o (λ who. refl) in
           let full : full_keeps (anchor_for s d).state ≡ 0 = ap full_keeps (first-state g n first s d b) in
           omega (arith, once d has, listed, callers, full);
       active_words = λ heap class has_heap has_class.
@@ -311,8 +298,9 @@ pub first-framed :
     → ((f : ℕ) → f < g.frames
     → occurs f (indexes n (g.frames - n)) + sum_below (descriptor_count g) (fills g s (first_lists g n) f) ≡ 1)
     → IsFramed g s (first_lists g n)
+unfolding holds_of
 first-framed g n first s b once = record {
-  once = λ f has. omega (arith, once f has, opened-weighs g first s (errand_frames f) b.opening (none-framed g f));
+  once = λ f has. omega (arith, once f has, opened-weighs g first s (errand_frames f) b.opening (λ who. refl));
 }
 
 first-remembered : (g : Geometry) (n : ℕ) (first : WordName → ℕ) (s : State) → IsBegun g n first s → IsRemembered g s (first_lists g n)
@@ -351,13 +339,14 @@ first-guarded g n first s b =
 pub first-stocked :
     (g : Geometry) (n : ℕ) (first : WordName → ℕ) (s : State) → IsBegun g n first s
     → ((class : ℕ) → words_sum g (word_stock class) s.word ≤ 1) → IsStocked g s (first_lists g n)
+unfolding holds_of
 first-stocked g n first s b words =
     let none-full : (class d : ℕ) → full_stock s class d ≡ 0 = λ class d.
     cond_both ((info_for s d).class == class) (full_keeps (anchor_for s d).state) 0 (λ m. m ≡ 0)
     (λ e. ap full_keeps (first-state g n first s d b)) (λ e. refl) in
     record {
       most = λ class has.
-          let callers : callers_sum g (errand_stock class) s.errand ≡ 0 = opened-weighs g first s (errand_stock class) b.opening (none-stocked g class) in
+          let callers : callers_sum g (errand_stock class) s.errand ≡ 0 = opened-weighs g first s (errand_stock class) b.opening (λ who. refl) in
           let full : sum_below (descriptor_count g) (full_stock s class) ≡ 0 =
           sum-none (descriptor_count g) (full_stock s class) (λ d lt. none-full class d) in
           omega (arith, words class, callers, full, b.checked.frames.0);
@@ -421,9 +410,7 @@ first-tied g n first s begun =
 
 -- the words are words
 first-words : (g : Geometry) (n : ℕ) (first : WordName → ℕ) (s : State) → IsBegun g n first s → (m : WordName) → s.word m < 2 ^ 64
-first-words g n first s b m =
-    subst (λ w. w < 2 ^ 64) (sym (b.opening.word m))
-    (cond_both (exists g m) (first m) 0 (λ w. w < 2 ^ 64) (λ e. b.rule.words m e) (λ e. omega arith))
+first-words g n first s b m = opening-word g first s m (λ w. w < 2 ^ 64) b.opening (b.rule.words m) (omega arith)
 
 -- an opening errand keeps its rule
 open-own : (g : Geometry) (who : ℕ) → IsChecked g → who < g.callers → IsOwnErrand g who (open_errand who g)

@@ -92,14 +92,10 @@ installed-below g class (name.Info k) checked of has =
     cond_both (k == 0) (info_word (installed_info class)) 0 (λ w. w < 2 ^ 64) (λ e. info-below class of) (λ e. omega arith)
 installed-below g class (name.Active heap of_class) checked of has =
     cond_both (heap == 0 && of_class == class) (active_word (Held 0 (full_credits class))) 0 (λ w. w < 2 ^ 64) (λ e. active-below class of) (λ e. omega arith)
-installed-below g class (name.Slot heap of_class) checked of has = omega arith
-installed-below g class (name.ListHead k) checked of has = omega arith
 installed-below g class name.FrameHead checked of has = omega (arith, next-word g.frames 0 checked.frames.0, checked.frames.1)
 installed-below g class name.DescHead checked of has =
     omega (arith, next-word (descriptor_count g) 0 (omega (arith, some-descriptors g checked)), descriptor_count_within g checked)
-installed-below g class (name.Hazard k) checked of has = omega arith
-installed-below g class name.Units checked of has = omega arith
-installed-below g class (name.Shelf k) checked of has = omega arith
+installed-below g class m checked of has = omega arith
 
 -- frame 0 and descriptor 0 are in use, all others on their stacks
 installed-first : (g : Geometry) (class : ℕ) → IsChecked g → class < CLASSES → IsFirst g 1 (installed g class)

@@ -29,17 +29,7 @@ opening-below g (name.Next d) checked has =
     omega (arith, next-word (descriptor_count g) d (ltb-true d (descriptor_count g) has), descriptor_count_within g checked)
 opening-below g (name.FrameNext f) checked has =
     omega (arith, next-word g.frames f (ltb-true f g.frames has), checked.frames.1)
-opening-below g (name.Arena k) checked has = omega arith
-opening-below g (name.Anchor k) checked has = omega arith
-opening-below g (name.Info k) checked has = omega arith
-opening-below g (name.Active heap class) checked has = omega arith
-opening-below g (name.Slot heap class) checked has = omega arith
-opening-below g (name.ListHead k) checked has = omega arith
-opening-below g name.FrameHead checked has = omega arith
-opening-below g name.DescHead checked has = omega arith
-opening-below g (name.Hazard k) checked has = omega arith
-opening-below g name.Units checked has = omega arith
-opening-below g (name.Shelf k) checked has = omega arith
+opening-below g m checked has = omega arith
 
 -- at opening all frames and descriptors are on their stacks
 opening-first : (g : Geometry) → IsChecked g → IsFirst g 0 (opening g)

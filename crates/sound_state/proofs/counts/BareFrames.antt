@@ -15,8 +15,7 @@ use Rattle.packed_words.specs.Active.{active_of}
 use Rattle.word_plan.specs.declared.name.WordName.{WordName}
 use Rattle.word_plan.specs.declared.name.WordName.TheVariants as name
 use Rattle.word_plan.specs.declared.seat.Site.{Site}
-use Rattle.word_plan.specs.Counts.{descriptor_count, word_count}
-use Rattle.word_plan.specs.Table.{word_name}
+use Rattle.word_plan.specs.Counts.{descriptor_count}
 use Rattle.superblock_parts.specs.Anchors.{new_credits}
 use Rattle.superblock_parts.specs.Chains.{occurs}
 use Rattle.superblock_parts.specs.declared.point.BlockPoint.{BlockPoint}
@@ -24,20 +23,15 @@ use Rattle.superblock_parts.specs.declared.point.BlockPoint.TheVariants as block
 use Rattle.superblock_parts.specs.declared.point.Share.{Share}
 use Rattle.superblock_parts.specs.Fits.{FitsBlock}
 use Rattle.superblock_parts.proofs.ChainLemmas.{chain_of-length}
-use Rattle.stack_parts.specs.declared.point.StackPoint.{StackPoint}
-use Rattle.hazard_parts.specs.declared.point.DescPoint.{DescPoint}
-use Rattle.partial_parts.specs.declared.point.PartialPoint.{PartialPoint}
-use Rattle.large_parts.specs.declared.point.LargePoint.{LargePoint}
 use Rattle.pool_model.specs.Pool.{Block, block_at, pool_of}
 use Rattle.pool_model.specs.Legal.{IsBare}
 use Rattle.pool_model.proofs.PoolLemmas.{place-found}
-use Rattle.errand_steps.specs.declared.onward.Onward.{Onward}
 use Rattle.errand_steps.specs.declared.point.Point.{Point}
 use Rattle.errand_steps.specs.declared.point.Point.TheVariants as point
 use Rattle.errand_steps.specs.Fits.{FitsPoint}
 use Rattle.errand_steps.specs.Steps.{State}
 use Rattle.sound_state.specs.Frames.{fills, errand_frames}
-use Rattle.sound_state.specs.Holdings.{waiting, keep, reserve, before_pop, block_handed, holds_of, block_holds, stack_holds, desc_holds, partial_holds, large_holds}
+use Rattle.sound_state.specs.Holdings.{waiting, keep, reserve, before_pop, block_handed, holds_of, block_holds}
 use Rattle.sound_state.specs.Lists.{Lists}
 use Rattle.sound_state.specs.Recalls.{IsSo, IsOwned, IsLocated, recalls_of, block_recalls, bound_here, bound_at}
 use Rattle.sound_state.specs.Sound.{IsSoundWith}
@@ -45,7 +39,8 @@ use Rattle.sound_state.specs.Sums.{sum_below, words_sum, callers_sum}
 use Rattle.sound_state.specs.Superblocks.{Superblock, IsChained, superblock_of, free_chain, live_at, is_there, info_for, is_bound, waiting_of, reserved_of, offered, word_reserves, reserved_among, errand_reserves, kept_among, errand_keeps}
 use Rattle.sound_state.proofs.counts.BareWeights.{popping, popping_block, popping_fills, errand_weighs, held_fills, word_weighs, frame_weighs}
 use Rattle.sound_state.proofs.shared.PointLemmas.{fits-at}
-use Rattle.sound_state.proofs.shared.SumLemmas.{sum-same, sum-ones, sum-occurs, sum-least, some-term, term-sum}
+use Rattle.sound_state.proofs.shared.WeightSums.{words-some, callers-least}
+use Rattle.sound_state.proofs.shared.SumLemmas.{sum-same, sum-ones, sum-occurs, some-term, term-sum}
 
 -- nothing is live at a place of a bare frame
 dead-at :
@@ -114,14 +109,8 @@ word-offers g s l f d m word some filled = absurd (omega (arith, some))
 words-offer :
     (g : Geometry) (s : State) (l : Lists) (f d : ℕ) → 0 < words_sum g (word_reserves d) s.word → 0 < fills g s l f d
     → 0 < words_sum g (word_weighs g s l f) s.word
-unfolding words_sum
 words-offer g s l f d some filled =
-    let (k, lt, here) = some-term (word_count g) (λ k. word_reserves d (word_name g k) (s.word (word_name g k))) some in
-    omega (
-      arith,
-      word-offers g s l f d (word_name g k) (s.word (word_name g k)) here filled,
-      term-sum (word_count g) (λ k. word_weighs g s l f (word_name g k) (s.word (word_name g k))) k lt,
-    )
+    words-some g (word_reserves d) (word_weighs g s l f) s.word (λ m here. word-offers g s l f d m (s.word m) here filled) some
 
 -- a caller that has reserved blocks of it is about to pop one
 before-pop :
@@ -185,29 +174,13 @@ block-pops g s l who f d (block.InstallSuperblock at) b fits so hands none some 
 block-pops g s l who f d p b fits so hands none some = absurd (omega (arith, some))
 
 -- nothing is reserved anywhere else
-stack-free : (d : ℕ) (p : StackPoint) (o : Onward) → reserved_among d (stack_holds p o).credits ≡ 0
-stack-free d p o = grind (arith)
-
-desc-free : (d : ℕ) (p : DescPoint) (o : Onward) → reserved_among d (desc_holds p o).credits ≡ 0
-desc-free d p o = grind (arith)
-
-partial-free : (d : ℕ) (p : PartialPoint) (o : Onward) → reserved_among d (partial_holds p o).credits ≡ 0
-partial-free d p o = grind (arith)
-
-large-free : (d : ℕ) (p : LargePoint) → reserved_among d (large_holds p).credits ≡ 0
-large-free d p = grind (arith)
-
 point-pops :
     (g : Geometry) (s : State) (l : Lists) (who f d : ℕ) (p : Point) → Beside g s l who f d → FitsPoint g who p
     → All (IsSo g s l who) (recalls_of p) → All (λ x. IsOwned s who x.place x.need) (holds_of p).hands
     → kept_among waiting d (holds_of p).kept ≡ 0 → 0 < reserved_among d (holds_of p).credits → 0 < popping_fills g s l f (popping p)
 unfolding holds_of recalls_of
-point-pops g s l who f d point.Idle b fits so hands none some = absurd (omega (arith, some))
 point-pops g s l who f d (point.Block p o) b fits so hands none some = block-pops g s l who f d p b fits.point so hands none some
-point-pops g s l who f d (point.Stack p o) b fits so hands none some = absurd (omega (arith, some, stack-free d p o))
-point-pops g s l who f d (point.Desc p o) b fits so hands none some = absurd (omega (arith, some, desc-free d p o))
-point-pops g s l who f d (point.Partial p o) b fits so hands none some = absurd (omega (arith, some, partial-free d p o))
-point-pops g s l who f d (point.Large p o) b fits so hands none some = absurd (omega (arith, some, large-free d p))
+point-pops g s l who f d p b fits so hands none some = absurd (grind (arith, some))
 
 -- so callers that have reserved blocks of it weigh something
 callers-pop :
@@ -239,9 +212,7 @@ filled-weighs g s l f d sound bare has filled =
 held-more :
     (g : Geometry) (s : State) (l : Lists) (f : ℕ)
     → callers_sum g (errand_frames f) s.errand ≤ callers_sum g (errand_weighs g s l f) s.errand
-unfolding callers_sum
-held-more g s l f =
-    sum-least g.callers (λ i. errand_frames f (s.errand i)) (λ i. errand_weighs g s l f (s.errand i)) (λ i lt. omega arith)
+held-more g s l f = callers-least g (errand_frames f) (errand_weighs g s l f) s.errand (λ e. omega arith)
 
 -- where no frame is on the stack, each bare frame weighs something
 pub bare-weighs :

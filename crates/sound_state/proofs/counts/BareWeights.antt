@@ -15,22 +15,18 @@ use Rattle.word_plan.proofs.TableLemmas.{word_name-Exists}
 use Rattle.superblock_parts.specs.Chains.{occurs}
 use Rattle.superblock_parts.specs.declared.point.BlockPoint.{BlockPoint}
 use Rattle.superblock_parts.specs.declared.point.BlockPoint.TheVariants as block
-use Rattle.stack_parts.specs.declared.point.StackPoint.{StackPoint}
-use Rattle.hazard_parts.specs.declared.point.DescPoint.{DescPoint}
-use Rattle.partial_parts.specs.declared.point.PartialPoint.{PartialPoint}
-use Rattle.large_parts.specs.declared.point.LargePoint.{LargePoint}
-use Rattle.errand_steps.specs.declared.onward.Onward.{Onward}
 use Rattle.errand_steps.specs.declared.point.Point.{Point}
 use Rattle.errand_steps.specs.declared.point.Point.TheVariants as point
 use Rattle.errand_steps.specs.Errands.{ErrandFields}
 use Rattle.errand_steps.specs.Steps.{State}
 use Rattle.sound_state.specs.Frames.{fills, errand_frames}
-use Rattle.sound_state.specs.Holdings.{holds_of, block_holds, stack_holds, desc_holds, partial_holds, large_holds}
+use Rattle.sound_state.specs.Holdings.{holds_of}
 use Rattle.sound_state.specs.Lists.{Lists}
 use Rattle.sound_state.specs.Sums.{sum_below, words_sum, callers_sum}
 use Rattle.sound_state.specs.Superblocks.{info_for, is_bound, waiting_of}
 use Rattle.sound_state.proofs.shared.HeapNames.{active_one, actives-most}
-use Rattle.sound_state.proofs.shared.SumLemmas.{sum-none, sum-plus, sum-most, sum-least, sum-swap, sum-once, sum-occurs, term-sum, sum-most-but}
+use Rattle.sound_state.proofs.shared.WeightSums.{words-together, callers-together}
+use Rattle.sound_state.proofs.shared.SumLemmas.{sum-none, sum-plus, sum-most, sum-least, sum-swap, sum-once, sum-occurs, term-sum}
 
 -- the descriptor of which a caller is about to pop a block
 abbrev pub popping_block : BlockPoint → Option ℕ
@@ -122,13 +118,10 @@ all-actives g =
 -- so all frames weigh no more than that in active words
 words-most :
     (g : Geometry) (s : State) (l : Lists) (n : ℕ) → sum_below n (λ f. words_sum g (word_weighs g s l f) s.word) ≤ g.heaps * CLASSES
-unfolding words_sum
 words-most g s l n =
     omega (
       arith,
-      sum-swap n (word_count g) (λ f k. word_weighs g s l f (word_name g k) (s.word (word_name g k))),
-      sum-least (word_count g) (λ k. sum_below n (λ f. word_weighs g s l f (word_name g k) (s.word (word_name g k))))
-          (λ k. any_active (word_name g k)) (λ k lt. word-once g s l n (word_name g k) (s.word (word_name g k))),
+      words-together g n (word_weighs g s l) s.word any_active (λ m exists. word-once g s l n m (s.word m)),
       all-actives g,
     )
 
@@ -137,41 +130,13 @@ abbrev pop_one : Option ℕ → ℕ
 pop_one None = 0
 pop_one (Some d) = 1
 
-pays-block : (p : BlockPoint) → pop_one (popping_block p) ≤ length (block_holds p).credits
-pays-block p = grind (arith)
-
 pays : (p : Point) → pop_one (popping p) ≤ length (holds_of p).credits
 unfolding holds_of
-pays point.Idle = omega arith
-pays (point.Block p o) = pays-block p
-pays (point.Stack p o) = omega arith
-pays (point.Desc p o) = omega arith
-pays (point.Partial p o) = omega arith
-pays (point.Large p o) = omega arith
-
-one-block : (p : BlockPoint) → length (block_holds p).frames + pop_one (popping_block p) ≤ 1
-one-block p = grind (arith)
-
-one-stack : (p : StackPoint) (o : Onward) → length (stack_holds p o).frames ≤ 1
-one-stack p o = grind (arith)
-
-one-desc : (p : DescPoint) (o : Onward) → length (desc_holds p o).frames ≤ 1
-one-desc p o = grind (arith)
-
-one-partial : (p : PartialPoint) (o : Onward) → length (partial_holds p o).frames ≤ 1
-one-partial p o = grind (arith)
-
-one-large : (p : LargePoint) → length (large_holds p).frames ≤ 1
-one-large p = grind (arith)
+pays p = grind (arith)
 
 one-point : (p : Point) → length (holds_of p).frames + pop_one (popping p) ≤ 1
 unfolding holds_of
-one-point point.Idle = omega arith
-one-point (point.Block p o) = one-block p
-one-point (point.Stack p o) = omega (arith, one-stack p o)
-one-point (point.Desc p o) = omega (arith, one-desc p o)
-one-point (point.Partial p o) = omega (arith, one-partial p o)
-one-point (point.Large p o) = omega (arith, one-large p)
+one-point p = grind (arith)
 
 -- so all frames weigh at most one in a caller
 popping-once : (g : Geometry) (s : State) (l : Lists) (n : ℕ) (o : Option ℕ) → sum_below n (λ f. popping_fills g s l f o) ≤ pop_one o
@@ -193,21 +158,18 @@ caller-weighs g s l n e =
 callers-most :
     (g : Geometry) (s : State) (l : Lists) (n who : ℕ) → who < g.callers → (holds_of (s.errand who).point).frames ≡ []
     → (holds_of (s.errand who).point).credits ≡ [] → sum_below n (λ f. callers_sum g (errand_weighs g s l f) s.errand) + 1 ≤ g.callers
-unfolding callers_sum
 callers-most g s l n who has no_frame no_credit =
-    let each : ℕ → ℕ = λ i. sum_below n (λ f. errand_weighs g s l f (s.errand i)) in
-    let none : each who ≡ 0 =
     omega (
       arith,
-      caller-weighs g s l n (s.errand who),
-      ap (length {A = ℕ}) no_frame,
-      pays (s.errand who).point,
-      ap (length {A = _}) no_credit,
-    ) in
-    omega (
-      arith,
-      sum-swap n g.callers (λ f i. errand_weighs g s l f (s.errand i)),
-      sum-most-but g.callers each 1 who has none (λ i lt. omega (arith, caller-weighs g s l n (s.errand i), one-point (s.errand i).point)),
+      callers-together g n (errand_weighs g s l) s.errand who 1 has
+          (omega (
+            arith,
+            caller-weighs g s l n (s.errand who),
+            ap (length {A = ℕ}) no_frame,
+            pays (s.errand who).point,
+            ap (length {A = _}) no_credit,
+          ))
+          (λ e. omega (arith, caller-weighs g s l n e, one-point e.point)),
     )
 
 -- all frames together

@@ -8,22 +8,17 @@ use Rattle.word_plan.specs.declared.name.WordName.{WordName}
 use Rattle.word_plan.specs.declared.name.WordName.TheVariants as name
 use Rattle.word_plan.specs.Counts.{descriptor_count, word_count}
 use Rattle.word_plan.specs.Table.{word_name}
-use Rattle.superblock_parts.specs.declared.point.BlockPoint.{BlockPoint}
-use Rattle.stack_parts.specs.declared.point.StackPoint.{StackPoint}
-use Rattle.hazard_parts.specs.declared.point.DescPoint.{DescPoint}
-use Rattle.partial_parts.specs.declared.point.PartialPoint.{PartialPoint}
-use Rattle.large_parts.specs.declared.point.LargePoint.{LargePoint}
-use Rattle.errand_steps.specs.declared.onward.Onward.{Onward}
 use Rattle.errand_steps.specs.declared.point.Point.{Point}
-use Rattle.errand_steps.specs.declared.point.Point.TheVariants as point
 use Rattle.errand_steps.specs.Errands.{ErrandFields}
 use Rattle.errand_steps.specs.Steps.{State}
-use Rattle.sound_state.specs.Holdings.{Kept, Reserved, Holding, holds_of, block_holds, stack_holds, desc_holds, partial_holds, large_holds}
+use Rattle.sound_state.specs.Holdings.{Kept, Reserved, Holding, holds_of}
 use Rattle.sound_state.specs.Keepers.{active_keeps}
 use Rattle.sound_state.specs.Sums.{sum_below, words_sum, callers_sum}
 use Rattle.sound_state.proofs.shared.HeapNames.{active_one, slot_one, actives-most, slots-most}
 use Rattle.sound_state.proofs.shared.StockLemmas.{active-one, slot-once}
-use Rattle.sound_state.proofs.shared.SumLemmas.{sum-none, sum-plus, sum-least, sum-swap, sum-once, sum-most-but}
+use Rattle.sound_state.proofs.shared.KeptCounts.{named_among, named-most}
+use Rattle.sound_state.proofs.shared.WeightSums.{words-together, callers-together}
+use Rattle.sound_state.proofs.shared.SumLemmas.{sum-none, sum-plus, sum-once}
 
 -- 1 where an active word or a slot of the class holds d
 abbrev pub class_keeps : ℕ → ℕ → WordName → ℕ → ℕ
@@ -31,11 +26,7 @@ class_keeps class d (name.Active heap c) word = if c == class then active_keeps 
 class_keeps class d (name.Slot heap c) word = if c == class then (if word == d + 1 then 1 else 0) else 0
 class_keeps class d other word = 0
 
--- how often d is among the kept descriptors, and among the reserved blocks' ones
-abbrev pub named_among : ℕ → List Kept → ℕ
-named_among d [] = 0
-named_among d (k ∷ rest) = (if k.desc == d then 1 else 0) + named_among d rest
-
+-- how often d is among the reserved blocks' descriptors
 abbrev pub credited_among : ℕ → List Reserved → ℕ
 credited_among d [] = 0
 credited_among d (r ∷ rest) = (if r.desc == d then 1 else 0) + credited_among d rest
@@ -65,47 +56,23 @@ word-once : (n class : ℕ) (w : WordName) (word : ℕ) → sum_below n (λ d. c
 word-once n class (name.Active heap c) word =
     omega (arith, of-class-once n class c (λ d. active_keeps d (active_of word)) (active-one n (active_of word)))
 word-once n class (name.Slot heap c) word = omega (arith, of-class-once n class c (λ d. if word == d + 1 then 1 else 0) (slot-once n word))
-word-once n class (name.Arena i) word = omega (arith, sum-none n (λ d. 0) (λ d lt. refl))
-word-once n class (name.Anchor i) word = omega (arith, sum-none n (λ d. 0) (λ d lt. refl))
-word-once n class (name.Next i) word = omega (arith, sum-none n (λ d. 0) (λ d lt. refl))
-word-once n class (name.Info i) word = omega (arith, sum-none n (λ d. 0) (λ d lt. refl))
-word-once n class (name.ListHead i) word = omega (arith, sum-none n (λ d. 0) (λ d lt. refl))
-word-once n class (name.FrameNext i) word = omega (arith, sum-none n (λ d. 0) (λ d lt. refl))
-word-once n class name.FrameHead word = omega (arith, sum-none n (λ d. 0) (λ d lt. refl))
-word-once n class name.DescHead word = omega (arith, sum-none n (λ d. 0) (λ d lt. refl))
-word-once n class (name.Hazard i) word = omega (arith, sum-none n (λ d. 0) (λ d lt. refl))
-word-once n class name.Units word = omega (arith, sum-none n (λ d. 0) (λ d lt. refl))
-word-once n class (name.Shelf i) word = omega (arith, sum-none n (λ d. 0) (λ d lt. refl))
+word-once n class w word = omega (arith, sum-none n (λ d. 0) (λ d lt. refl))
 
 -- so the words of the class hold two descriptors a heap
 words-most :
     (g : Geometry) (n class : ℕ) (words : WordName → ℕ) → sum_below n (λ d. words_sum g (class_keeps class d) words) ≤ 2 * g.heaps
-unfolding words_sum
 words-most g n class words =
-    let keeps = λ (d k : ℕ). class_keeps class d (word_name g k) (words (word_name g k)) in
     let actives = λ (k : ℕ). active_one class (word_name g k) in
     let slots = λ (k : ℕ). slot_one class (word_name g k) in
     omega (
       arith,
-      sum-swap n (word_count g) keeps,
-      sum-least (word_count g) (λ k. sum_below n (λ d. keeps d k)) (λ k. actives k + slots k)
-          (λ k lt. word-once n class (word_name g k) (words (word_name g k))),
+      words-together g n (class_keeps class) words (λ w. active_one class w + slot_one class w) (λ w exists. word-once n class w (words w)),
       sum-plus (word_count g) actives slots,
       actives-most g class,
       slots-most g class,
     )
 
 -- descriptors are named no more often than a list is long
-named-most : (n : ℕ) (ks : List Kept) → sum_below n (λ d. named_among d ks) ≤ length ks
-named-most n [] = omega (arith, sum-none n (λ d. 0) (λ d lt. refl))
-named-most n (k ∷ ks) =
-    omega (
-      arith,
-      sum-plus n (λ d. if k.desc == d then 1 else 0) (λ d. named_among d ks),
-      sum-once n k.desc,
-      named-most n ks,
-    )
-
 credited-most : (n : ℕ) (rs : List Reserved) → sum_below n (λ d. credited_among d rs) ≤ length rs
 credited-most n [] = omega (arith, sum-none n (λ d. 0) (λ d lt. refl))
 credited-most n (r ∷ rs) =
@@ -120,29 +87,9 @@ credited-most n (r ∷ rs) =
 abbrev held_count : Holding → ℕ
 held_count h = length h.kept + length h.credits
 
-block-two : (p : BlockPoint) → held_count (block_holds p) ≤ 2
-block-two p = grind (arith)
-
-stack-two : (p : StackPoint) (o : Onward) → held_count (stack_holds p o) ≤ 2
-stack-two p o = grind (arith)
-
-desc-two : (p : DescPoint) (o : Onward) → held_count (desc_holds p o) ≤ 2
-desc-two p o = grind (arith)
-
-partial-two : (p : PartialPoint) (o : Onward) → held_count (partial_holds p o) ≤ 2
-partial-two p o = grind (arith)
-
-large-two : (p : LargePoint) → held_count (large_holds p) ≤ 2
-large-two p = grind (arith)
-
 point-two : (p : Point) → held_count (holds_of p) ≤ 2
 unfolding holds_of
-point-two point.Idle = omega arith
-point-two (point.Block p o) = block-two p
-point-two (point.Stack p o) = stack-two p o
-point-two (point.Desc p o) = desc-two p o
-point-two (point.Partial p o) = partial-two p o
-point-two (point.Large p o) = large-two p
+point-two p = grind (arith)
 
 caller-most : (n : ℕ) (e : ErrandFields) → sum_below n (λ d. errand_nears d e) ≤ held_count (holds_of e.point)
 caller-most n e =
@@ -157,18 +104,11 @@ caller-most n e =
 -- so the callers have two each, where one has none two fewer
 callers-most :
     (g : Geometry) (n : ℕ) (errands : ℕ → ErrandFields) (who : ℕ) → who < g.callers → (holds_of (errands who).point).kept ≡ []
-    → (holds_of (errands who).point).credits ≡ [] → sum_below n (λ d. callers_sum g (errand_nears d) errands) + 2 ≤ 2 * g.callers
-unfolding callers_sum
+    → (holds_of (errands who).point).credits ≡ [] → sum_below n (λ d. callers_sum g (errand_nears d) errands) + 2 ≤ g.callers * 2
 callers-most g n errands who has no_kept no_credits =
-    let nears = λ (d i : ℕ). errand_nears d (errands i) in
-    let each = λ (i : ℕ). sum_below n (λ d. nears d i) in
-    let none : each who ≡ 0 =
-    omega (arith, caller-most n (errands who), ap (length {A = Kept}) no_kept, ap (length {A = Reserved}) no_credits) in
-    omega (
-      arith,
-      sum-swap n g.callers nears,
-      sum-most-but g.callers each 2 who has none (λ i lt. omega (arith, caller-most n (errands i), point-two (errands i).point)),
-    )
+    callers-together g n errand_nears errands who 2 has
+    (omega (arith, caller-most n (errands who), ap (length {A = Kept}) no_kept, ap (length {A = Reserved}) no_credits))
+    (λ e. omega (arith, caller-most n e, point-two e.point))
 
 -- descriptors are near the class twice for each heap and each other caller, at most
 pub near-most :

@@ -14,23 +14,24 @@ use Rattle.packed_words.specs.declared.anchor.State.TheVariants as phase
 use Rattle.packed_words.specs.Active.{active_of}
 use Rattle.word_plan.specs.declared.name.WordName.{WordName}
 use Rattle.word_plan.specs.declared.name.WordName.TheVariants as name
-use Rattle.word_plan.specs.Counts.{descriptor_count, word_count}
-use Rattle.word_plan.specs.Table.{Exists, word_name}
-use Rattle.word_plan.proofs.TableLemmas.{word_name-Exists}
+use Rattle.word_plan.specs.Counts.{descriptor_count}
+use Rattle.word_plan.specs.Table.{Exists}
 use Rattle.superblock_parts.specs.Chains.{occurs, chain_of}
 use Rattle.pool_model.specs.Legal.{IsPartUsed, IsWorn}
 use Rattle.pool_model.specs.Pool.{block_at, pool_of}
 use Rattle.errand_steps.specs.Errands.{ErrandFields}
 use Rattle.errand_steps.specs.Steps.{State}
-use Rattle.sound_state.specs.Holdings.{Kept, Reserved, reserving, waiting, partly_used, holds_of}
+use Rattle.sound_state.specs.Holdings.{Reserved, waiting, holds_of}
 use Rattle.sound_state.specs.Keepers.{active_keeps, word_keeps, full_keeps, errand_has, IsPartlyUsed}
 use Rattle.sound_state.specs.Lists.{Lists}
 use Rattle.sound_state.specs.Sound.{IsSoundWith}
 use Rattle.sound_state.specs.Sums.{sum_below, words_sum, callers_sum}
-use Rattle.sound_state.specs.Superblocks.{Superblock, superblock_of, held_back, is_there, anchor_for, info_for, offered, word_reserves, reserved_among, errand_reserves, reserved_of, kept_among, errand_keeps, errand_away, away_of, waiting_of, is_bound}
+use Rattle.sound_state.specs.Superblocks.{Superblock, superblock_of, held_back, is_there, anchor_for, info_for, offered, word_reserves, reserved_among, errand_reserves, reserved_of, errand_keeps, errand_away, away_of, waiting_of, is_bound}
 use Rattle.sound_state.proofs.counts.FrameCounts.{frames-most}
-use Rattle.sound_state.proofs.counts.NearCounts.{class_keeps, named_among, credited_among, errand_nears, near_of, near-most}
-use Rattle.sound_state.proofs.shared.SumLemmas.{sum-none, sum-plus, sum-least, some-term, term-sum}
+use Rattle.sound_state.proofs.counts.NearCounts.{class_keeps, credited_among, errand_nears, near_of, near-most}
+use Rattle.sound_state.proofs.shared.KeptCounts.{kept-named}
+use Rattle.sound_state.proofs.shared.WeightSums.{words-least, words-some, callers-least, callers-some}
+use Rattle.sound_state.proofs.shared.SumLemmas.{sum-none, sum-plus, sum-least}
 
 -- what occurs in a list is as all of the list are
 occurring-all : (P : ℕ → Type 0) (d : ℕ) (xs : List ℕ) → All P xs → 1 ≤ occurs d xs → P d
@@ -71,26 +72,12 @@ word-near g s l class d sound is (name.Slot heap c) exists =
           omega (arith, cond-true {A = ℕ} (c == class) keeps 0 (eq-eqb c class same))
       | inr differ ↦ omega (arith, cond-false {A = ℕ} (word == d + 1) 1 0 (ne_eqb word (d + 1) differ))
     ]
-word-near g s l class d sound is (name.Arena i) exists = omega arith
-word-near g s l class d sound is (name.Anchor i) exists = omega arith
-word-near g s l class d sound is (name.Next i) exists = omega arith
-word-near g s l class d sound is (name.Info i) exists = omega arith
-word-near g s l class d sound is (name.ListHead i) exists = omega arith
-word-near g s l class d sound is (name.FrameNext i) exists = omega arith
-word-near g s l class d sound is name.FrameHead exists = omega arith
-word-near g s l class d sound is name.DescHead exists = omega arith
-word-near g s l class d sound is (name.Hazard i) exists = omega arith
-word-near g s l class d sound is name.Units exists = omega arith
-word-near g s l class d sound is (name.Shelf i) exists = omega arith
+word-near g s l class d sound is n exists = omega arith
 
 words-near :
     (g : Geometry) (s : State) (l : Lists) (class d : ℕ) → IsSoundWith g s l → (info_for s d).class ≡ class
     → words_sum g (word_keeps d) s.word ≤ words_sum g (class_keeps class d) s.word
-unfolding words_sum
-words-near g s l class d sound is =
-    let keeps = λ (k : ℕ). word_keeps d (word_name g k) (s.word (word_name g k)) in
-    let nears = λ (k : ℕ). class_keeps class d (word_name g k) (s.word (word_name g k)) in
-    sum-least (word_count g) keeps nears (λ k lt. word-near g s l class d sound is (word_name g k) (word_name-Exists g k lt))
+words-near g s l class d sound is = words-least g (word_keeps d) (class_keeps class d) s.word (word-near g s l class d sound is)
 
 -- a word that offers blocks of d holds it
 offered-held : (d : ℕ) (o : Option ActiveWord) → 1 ≤ offered d o → 1 ≤ active_keeps d o
@@ -98,28 +85,10 @@ offered-held d o some = grind (arith, some)
 
 word-offers : (d : ℕ) (n : WordName) (word : ℕ) → 0 < word_reserves d n word → 1 ≤ word_keeps d n word
 word-offers d (name.Active heap c) word some = offered-held d (active_of word) (omega (arith, some))
-word-offers d (name.Slot heap c) word some = absurd (omega (arith, some))
-word-offers d (name.Arena i) word some = absurd (omega (arith, some))
-word-offers d (name.Anchor i) word some = absurd (omega (arith, some))
-word-offers d (name.Next i) word some = absurd (omega (arith, some))
-word-offers d (name.Info i) word some = absurd (omega (arith, some))
-word-offers d (name.ListHead i) word some = absurd (omega (arith, some))
-word-offers d (name.FrameNext i) word some = absurd (omega (arith, some))
-word-offers d name.FrameHead word some = absurd (omega (arith, some))
-word-offers d name.DescHead word some = absurd (omega (arith, some))
-word-offers d (name.Hazard i) word some = absurd (omega (arith, some))
-word-offers d name.Units word some = absurd (omega (arith, some))
-word-offers d (name.Shelf i) word some = absurd (omega (arith, some))
+word-offers d n word some = absurd (omega (arith, some))
 
 words-offer : (g : Geometry) (d : ℕ) (words : WordName → ℕ) → 0 < words_sum g (word_reserves d) words → 1 ≤ words_sum g (word_keeps d) words
-unfolding words_sum
-words-offer g d words some =
-    let (k, lt, here) = some-term (word_count g) (λ k. word_reserves d (word_name g k) (words (word_name g k))) some in
-    omega (
-      arith,
-      word-offers d (word_name g k) (words (word_name g k)) here,
-      term-sum (word_count g) (λ k. word_keeps d (word_name g k) (words (word_name g k))) k lt,
-    )
+words-offer g d words some = words-some g (word_reserves d) (word_keeps d) words (λ n. word-offers d n (words n)) some
 
 -- a caller that has reserved blocks of d is near
 credits-near : (d : ℕ) (rs : List Reserved) → 0 < reserved_among d rs → 1 ≤ credited_among d rs
@@ -134,32 +103,13 @@ credits-near d (r ∷ rs) some =
 callers-reserve :
     (g : Geometry) (d : ℕ) (errands : ℕ → ErrandFields) → 0 < callers_sum g (errand_reserves d) errands
     → 1 ≤ callers_sum g (errand_nears d) errands
-unfolding callers_sum
 callers-reserve g d errands some =
-    let (i, lt, here) = some-term g.callers (λ i. errand_reserves d (errands i)) some in
-    omega (
-      arith,
-      credits-near d (holds_of (errands i).point).credits here,
-      term-sum g.callers (λ i. errand_nears d (errands i)) i lt,
-    )
+    callers-some g (errand_reserves d) (errand_nears d) errands (λ e here. omega (arith, credits-near d (holds_of e.point).credits here)) some
 
 -- so is one that keeps d, but on its way
-kept-one :
-    (d : ℕ) (k : Kept) (ks : List Kept)
-    → kept_among reserving d (k ∷ ks) + kept_among waiting d (k ∷ ks) + kept_among partly_used d (k ∷ ks)
-    ≤ (if k.desc == d then 1 else 0) + (kept_among reserving d ks + kept_among waiting d ks + kept_among partly_used d ks)
-kept-one d k ks = grind (arith)
-
-kept-near :
-    (d : ℕ) (ks : List Kept) → kept_among reserving d ks + kept_among waiting d ks + kept_among partly_used d ks ≤ named_among d ks
-kept-near d [] = omega arith
-kept-near d (k ∷ ks) = omega (arith, kept-one d k ks, kept-near d ks)
-
 callers-wait : (g : Geometry) (s : State) (d : ℕ) → waiting_of g s d ≤ callers_sum g (errand_nears d) s.errand
-unfolding callers_sum
 callers-wait g s d =
-    sum-least g.callers (λ i. errand_keeps waiting d (s.errand i)) (λ i. errand_nears d (s.errand i))
-    (λ i lt. omega (arith, kept-near d (holds_of (s.errand i).point).kept))
+    callers-least g (errand_keeps waiting d) (errand_nears d) s.errand (λ e. omega (arith, kept-named d (holds_of e.point).kept))
 
 callers-keep :
     (g : Geometry) (d : ℕ) (errands : ℕ → ErrandFields)
@@ -172,7 +122,7 @@ callers-keep g d errands =
       arith,
       sum-plus g.callers away nears,
       sum-least g.callers (λ i. errand_has d (errands i)) (λ i. away i + nears i)
-          (λ i lt. omega (arith, kept-near d (holds_of (errands i).point).kept)),
+          (λ i lt. omega (arith, kept-named d (holds_of (errands i).point).kept)),
     )
 
 -- where the class's list is empty, a descriptor of the class is in none
@@ -193,9 +143,7 @@ unlisted g s l class d sound bare is =
 -- a FULL superblock has no free block that nobody has reserved
 full-bare : (p : Phase) (count : ℕ) → (p ≡ phase.Full → count ≡ 0) → 1 ≤ count → full_keeps p ≡ 0
 full-bare phase.Full count bare some = absurd (omega (arith, bare refl, some))
-full-bare phase.Active count bare some = refl
-full-bare phase.Partial count bare some = refl
-full-bare phase.Empty count bare some = refl
+full-bare p count bare some = refl
 
 -- a chain that has an index is not empty; only the superblock of a caller that installs it holds a block back
 some-chain : (next : ℕ → ℕ) (k a i : ℕ) → 0 < occurs i (chain_of next k a) → 1 ≤ k

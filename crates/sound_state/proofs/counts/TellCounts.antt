@@ -13,7 +13,6 @@ use Rattle.packed_words.proofs.HeadLemmas.{head_of-head_word}
 use Rattle.word_plan.specs.declared.name.WordName.TheVariants as name
 use Rattle.word_plan.specs.Seats.{SeatFields}
 use Rattle.superblock_parts.specs.declared.point.BlockPoint.{BlockPoint}
-use Rattle.superblock_parts.specs.declared.point.BlockPoint.TheVariants as block
 use Rattle.stack_parts.specs.declared.point.Pile.{Pile}
 use Rattle.stack_parts.specs.declared.point.Pile.TheVariants.{Frames, Partials}
 use Rattle.stack_parts.specs.declared.point.StackPoint.{StackPoint}
@@ -64,10 +63,7 @@ found-top word h head none won =
 
 -- a point in a superblock tells no look and no refusal
 block-tells : (g : Geometry) (pool : Pool) (who words : ℕ) (p : BlockPoint) → HasCount g pool (block_event who words p)
-block-tells g pool who words (block.PopBlock at share a prefix) = tt
-block-tells g pool who words (block.InstallSuperblock at) = tt
-block-tells g pool who words (block.PushBlock at i a guarded heap) = tt
-block-tells g pool who words p = tt
+block-tells g pool who words p = grind (arith)
 
 -- at a large block only a refusal of a large need does
 large-refuses : (g : Geometry) (pool : Pool) (units : ℕ) (o : Onward) → IsRunFor units o → IsCountedFor g pool (need_of (asked o))
@@ -132,12 +128,10 @@ point-tells :
     → LooksWorn g s l (holds_of p) → RefusesCrowded g s l (holds_of p) → (found_from s p).won ≡ true
     → HasCount g (pool_of s.history) (won_event who p)
 unfolding holds_of
-point-tells g s l who point.Idle sound fits worn crowded won = tt
 point-tells g s l who (point.Block p o) sound fits worn crowded won = block-tells g (pool_of s.history) who (asked o) p
 point-tells g s l who (point.Stack p o) sound fits worn crowded won = stack-tells g s l who p o sound fits worn crowded won
-point-tells g s l who (point.Desc p o) sound fits worn crowded won = tt
-point-tells g s l who (point.Partial p o) sound fits worn crowded won = tt
 point-tells g s l who (point.Large p o) sound fits worn crowded won = large-tells g (pool_of s.history) who p o fits.goes
+point-tells g s l who p sound fits worn crowded won = tt
 
 -- what is lost tells nothing
 won-counts :

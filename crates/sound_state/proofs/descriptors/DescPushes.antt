@@ -41,7 +41,8 @@ use Rattle.sound_state.specs.Sound.{IsSoundWithoutCounts, IsSoundWith}
 use Rattle.sound_state.specs.Stock.{waits_in}
 use Rattle.sound_state.specs.Turns.{one_if, in_turn, has_frame, has_partial, has_refused, is_discarding_at, pops_left}
 use Rattle.sound_state.proofs.shared.AlikeLemmas.{MayGoOn, Excepts}
-use Rattle.sound_state.proofs.descriptors.DescEffects.{IsOfListed, sound-restocked, with_available}
+use Rattle.sound_state.proofs.descriptors.DescEffects.{IsOfListed}
+use Rattle.sound_state.proofs.shared.ShownLemmas.{sound-but_one, sound-shown, with_available}
 use Rattle.sound_state.proofs.descriptors.DescRecalls.{recalls-pushed}
 use Rattle.sound_state.proofs.descriptors.DescWeighs.{ListWeighs, restocks-by}
 use Rattle.sound_state.proofs.hazards.HazardLemmas.{plain-guards, name-below}
@@ -109,9 +110,6 @@ turn-bare false seat words = grind (arith)
 resumed-bare : (e : ErrandFields) (seat : SeatFields) (o : Onward) → IsTrue (resumes o) → IsBare (resumed_point e seat o)
 unfolding holds_of recalls_of
 resumed-bare e seat (onward.Turn words) is = turn-bare (is_spent e) seat words
-resumed-bare e seat (onward.Look words) is = grind (arith)
-resumed-bare e seat onward.Refuse is = grind (arith)
-resumed-bare e seat onward.EndFree is = grind (arith)
 resumed-bare e seat o is = grind (arith, is)
 
 one_more-below : (n : ℕ) → n + 1 < 2 ^ 64 → one_more n ≡ n + 1
@@ -127,9 +125,6 @@ resumed-turns :
     (e : ErrandFields) (seat : SeatFields) (d top : ℕ) (o : Onward) → IsTrue (resumes o) → e.turns + 1 < 2 ^ 64
     → TurnResumes (Desc (desc.PushDesc seat d top) o) (resumed_point e seat o) e.turns (resumed_turns e seat o)
 resumed-turns e seat d top (onward.Turn words) is below = turn-resumes (is_spent e) seat d top words e.turns below
-resumed-turns e seat d top (onward.Look words) is below = grind (arith)
-resumed-turns e seat d top onward.Refuse is below = grind (arith)
-resumed-turns e seat d top onward.EndFree is below = grind (arith)
 resumed-turns e seat d top o is below = grind (arith, is)
 
 -- a list without one that it contains has it once less
@@ -275,7 +270,7 @@ push_desc_won-sound g s who s' seat d top o sound has at won step =
     let restocks =
     restocks-by g s l who e s' (d ∷ l.available) (d + 1) old has (exists-at g s who p sound has at) writes
     (subst (λ f. Moves s.errand who f s'.errand) after step.errand) past (name-below g d sound.checked exists)
-    (ap (λ b. raised b (s.errand who).cleared) cleared) (λ place x. absurd (push-excepts seat d top o (s.errand who) at place x)) may guards stack
+    (ap (λ b. raised b (s.errand who).cleared) cleared) may guards stack
     (All-cons (λ k. k < descriptor_count g) d l.available exists old.listed.available_exist)
     (All-cons (IsWithout s) d l.available (All-at (IsWithout s) d (s.errand who).retired (old.kept.retired who has) listed) old.kept.available)
     (push-weighs l seat d top o (s.errand who) x at listed bare) (recalls-pushed g s l who d old has exists listed pushes)
@@ -283,7 +278,7 @@ push_desc_won-sound g s who s' seat d top o sound has at won step =
     record {
       checked = sound.checked;
       legal = subst (IsLegalWithoutCounts g) (sym past) sound.legal;
-      parts = (with_available l (d ∷ l.available), sound-restocked g s l who e s' (d ∷ l.available) restocks old);
+      parts = (with_available l (d ∷ l.available), sound-shown g s l who e s' (d ∷ l.available) restocks (sound-but_one g s l who old));
     }
 
 -- won or lost

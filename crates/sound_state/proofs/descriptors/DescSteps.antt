@@ -29,7 +29,8 @@ use Rattle.sound_state.specs.Lists.{Lists}
 use Rattle.sound_state.specs.Recalls.{IsSo, IsOwned, noted, looked, recalls_of}
 use Rattle.sound_state.specs.Sound.{IsSoundWithoutCounts}
 use Rattle.sound_state.specs.Superblocks.{kept_among}
-use Rattle.sound_state.proofs.descriptors.DescEffects.{IsOfListed, sound-restocked, with_available}
+use Rattle.sound_state.proofs.descriptors.DescEffects.{IsOfListed}
+use Rattle.sound_state.proofs.shared.ShownLemmas.{sound-but_one, sound-shown, with_available}
 use Rattle.sound_state.proofs.descriptors.DescRecalls.{recalls-popped}
 use Rattle.sound_state.proofs.descriptors.DescWeighs.{ListWeighs, restocks-by}
 use Rattle.sound_state.proofs.hazards.HazardLemmas.{plain-guards, leads-at}
@@ -134,14 +135,14 @@ pop_desc_won-sound g s who s' seat d next o sound has at won step =
     let restocks =
     restocks-by g s l who e s' ys next old has (exists-at g s who p sound has at) writes (subst (λ f. Moves s.errand who f s'.errand) after step.errand) past
     (subst (λ w. w < 2 ^ 64) link (old.words (name.Next d))) (ap (λ b. raised b (s.errand who).cleared) cleared)
-    stands.excepts (may-after g s l who (found_at s who) q old has (old.words (name_at s who)) after cleared stands)
+    (may-after g s l who (found_at s who) q old has (old.words (name_at s who)) after cleared stands)
     guards (subst (λ top. Stacked (next_in s.word Partials) top ys) link first.2) (All-tail (λ k. k < descriptor_count g) d ys exist)
     (All-tail (IsWithout s) d ys without) (pop-weighs l seat d next o ys (s.errand who) (found_at s who) at is) (recalls-popped g s l d ys old is)
     (All-cons (IsOfListed l ys) (looked seat.class) [] tt (All-nil (IsOfListed l ys))) in
     record {
       checked = sound.checked;
       legal = subst (IsLegalWithoutCounts g) (sym past) sound.legal;
-      parts = (with_available l ys, sound-restocked g s l who e s' ys restocks old);
+      parts = (with_available l ys, sound-shown g s l who e s' ys restocks (sound-but_one g s l who old));
     }
 
 -- won or lost

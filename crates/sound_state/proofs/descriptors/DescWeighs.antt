@@ -3,7 +3,6 @@ use Rattle.std.proofs.Common.{ℕ, ◌≡◌, ◌<◌, ◌+◌, ◌^◌, List, r
 use Rattle.std.specs.Prelude.{All}
 use Rattle.heap_geometry.specs.declared.geometry.Geometry.{Geometry}
 use Rattle.packed_words.specs.Anchor.{anchor_of}
-use Rattle.packed_words.specs.Info.{info_of}
 use Rattle.word_plan.specs.declared.name.WordName.{WordName}
 use Rattle.word_plan.specs.declared.name.WordName.TheVariants as name
 use Rattle.word_plan.specs.Counts.{descriptor_count}
@@ -21,13 +20,15 @@ use Rattle.sound_state.specs.Keepers.{IsWithout, word_keeps, errand_has, full_ke
 use Rattle.sound_state.specs.Lists.{Lists}
 use Rattle.sound_state.specs.Recalls.{recalls_of}
 use Rattle.sound_state.specs.Sound.{IsSoundWith}
-use Rattle.sound_state.specs.Stock.{word_stock, errand_stock, full_stock}
-use Rattle.sound_state.specs.Sums.{sum_below}
-use Rattle.sound_state.specs.Superblocks.{info_or_zero, word_reserves, errand_reserves, errand_keeps, errand_away}
-use Rattle.sound_state.proofs.shared.AlikeLemmas.{MayGoOn, MayGuard, Excepts}
-use Rattle.sound_state.proofs.descriptors.DescEffects.{IsNoDescHead, IsOfListed, Restocks}
+use Rattle.sound_state.specs.Stock.{word_stock, errand_stock}
+use Rattle.sound_state.specs.Superblocks.{word_reserves, errand_reserves, errand_keeps, errand_away, away_of}
+use Rattle.sound_state.proofs.shared.AlikeLemmas.{MayGoOn, MayGuard}
+use Rattle.sound_state.proofs.descriptors.DescEffects.{IsNoDescHead, IsOfListed, stays-listed}
 use Rattle.sound_state.proofs.shared.StepLemmas.{words-below}
-use Rattle.sound_state.proofs.shared.SumLemmas.{words-written, callers-moved, sum-same}
+use Rattle.sound_state.proofs.shared.ShownLemmas.{IsShown, ShowsSame, actives-same, with_available}
+use Rattle.sound_state.proofs.shared.TurnEffects.{emptied-kept}
+use Rattle.sound_state.proofs.shared.WeighLemmas.{full-same}
+use Rattle.sound_state.proofs.shared.SumLemmas.{words-written, callers-moved}
 
 -- the list and the new errand weigh what the list and the errand before it did
 pub record ListWeighs (l : Lists) (ys : List ℕ) (a b : ErrandFields) : Type 0 where
@@ -49,46 +50,60 @@ others-stay words new words' w n apart =
       | inr differ ↦ w.elsewhere n differ
     ]
 
+shown-apart : (n : WordName) → IsShown n → IsNoDescHead n
+shown-apart n shown = grind (arith)
+
 -- a step that writes the head, with the stack that it leaves
 pub restocks-by :
     (g : Geometry) (s : State) (l : Lists) (who : ℕ) (e : ErrandFields) (s' : State) (ys : List ℕ) (new : ℕ) → IsSoundWith g s l
     → who < g.callers → Exists g name.DescHead → Writes s.word name.DescHead new s'.word → Moves s.errand who e s'.errand
     → s'.history ≡ s.history → new < 2 ^ 64 → e.cleared ≡ (s.errand who).cleared
-    → ((place : ℕ) → Excepts (s.errand who) place → Excepts e place) → MayGoOn g s l who (s.errand who) e
+    → MayGoOn g s l who (s.errand who) e
     → MayGuard g s who e.point e.retired (s.word (name.Hazard who)) → Stacked (next_in s.word Partials) new ys
     → All (λ d. d < descriptor_count g) ys → All (IsWithout s) ys → ListWeighs l ys (s.errand who) e
     → ((i : ℕ) → i < g.callers → All (IsOfListed l ys) (recalls_of (s.errand i).point)) → All (IsOfListed l ys) (recalls_of e.point)
-    → Restocks g s l who e s' ys
-restocks-by g s l who e s' ys new old has exists w m past small still excepts may guards stack exist without weigh recalls here =
+    → ShowsSame g s l who e s' ys
+restocks-by g s l who e s' ys new old has exists w m past small still may guards stack exist without weigh recalls here =
     let stay = others-stay s.word new s'.word w in
     let words = λ (weight : WordName → ℕ → ℕ). words-written g weight s.word name.DescHead new s'.word exists w in
     let callers = λ (weight : ErrandFields → ℕ). callers-moved g weight s.errand who e s'.errand has m in
     let anchor = λ (d : ℕ). ap anchor_of (stay (name.Anchor d) tt) in
+    let away : (d : ℕ) → away_of g s' (with_available l ys) d ≡ away_of g s l d =
+    λ d. omega (arith, callers (errand_away d), weigh.away d) in
     record {
       caller = has;
       moves = m;
       may = may;
+      others = λ i differ. stay (name.Hazard i) tt;
       guards = subst (MayGuard g s who e.point e.retired) (sym (stay (name.Hazard who) tt)) guards;
-      word = stay;
-      below = words-below s.word name.DescHead new s'.word w old.words small;
+      actives =
+          actives-same g s l s'.word old.kept (λ heap class. stay (name.Active heap class) tt) (λ heap class. stay (name.Slot heap class) tt);
+      words = words-below s.word name.DescHead new s'.word w old.words small;
+      word = λ n shown. stay n (shown-apart n shown);
       history = past;
-      cleared = still;
-      excepts = excepts;
-      stack = subst (λ top. Stacked (next_in s.word Partials) top ys) (sym w.here) stack;
+      stacked = subst (λ top. Stacked (next_in s.word Partials) top ys) (sym w.here) stack;
       exist = exist;
       without = without;
       reserved = λ d. omega (arith, words (word_reserves d), callers (errand_reserves d), weigh.reserves d);
       waits = λ d. omega (arith, callers (errand_keeps waiting d), weigh.waits d);
       ways = λ d off. omega (arith, callers (errand_keeps on_its_way d), weigh.ways d off);
-      away = λ d. omega (arith, callers (errand_away d), weigh.away d);
+      bound = λ d. rw (away d, anchor d) refl;
       places = λ d.
           omega (arith, words (word_keeps d), callers (errand_has d), weigh.places d, ap (λ a. full_keeps a.state) (anchor d));
       frames = λ f. omega (arith, callers (errand_frames f), weigh.frames f);
-      stock = λ class.
-          let full : sum_below (descriptor_count g) (full_stock s' class) ≡ sum_below (descriptor_count g) (full_stock s class) =
-          sum-same (descriptor_count g) (full_stock s class) (full_stock s' class)
-          (λ d lt. rw (anchor d, ap (λ x. info_or_zero (info_of x)) (stay (name.Info d) tt)) refl) in
-          omega (arith, words (word_stock class), callers (errand_stock class), weigh.stock class, full);
-      recalls = recalls;
-      recalls_here = here;
+      stock = λ stocked.
+          record {
+            most = λ class has.
+                omega (
+                  arith,
+                  words (word_stock class),
+                  callers (errand_stock class),
+                  weigh.stock class,
+                  full-same g s s' class (λ d. stay (name.Anchor d) tt) (λ d. stay (name.Info d) tt),
+                  stocked.most class has,
+                );
+          };
+      emptied = omega (arith, emptied-kept g s l s' (with_available l ys) (λ d. rw (away d, anchor d) refl), still);
+      stays = λ i has k d lt. stays-listed l ys s s' stay _ (recalls i has k d lt);
+      stays_here = λ k d lt. stays-listed l ys s s' stay _ (here k d lt);
     }

@@ -1,5 +1,5 @@
 -- A lost install: what it changes, and that everything else stays.
-use Rattle.std.proofs.Common.{ℕ, true, false, None, ◌≡◌, ◌<◌, ◌≤◌, ◌+◌, [], ◌∷◌, length}
+use Rattle.std.proofs.Common.{ℕ, true, false, None, ◌≡◌, ◌<◌, ◌≤◌, ◌+◌, [], length}
 use Rattle.std.specs.Prelude.{◌⊎◌, IsTrue}
 use Rattle.heap_geometry.specs.declared.geometry.Geometry.{Geometry}
 use Rattle.word_plan.specs.declared.name.WordName.{WordName}
@@ -11,7 +11,7 @@ use Rattle.errand_steps.specs.Fits.{spare_of, pushed_by}
 use Rattle.errand_steps.specs.declared.point.Point.{Point}
 use Rattle.errand_steps.specs.Steps.{State, Moves}
 use Rattle.sound_state.specs.Guards.{passed_by, held_by}
-use Rattle.sound_state.specs.Holdings.{Holding, nothing, on_its_way, keep, holds_of}
+use Rattle.sound_state.specs.Holdings.{making, holds_of}
 use Rattle.sound_state.specs.Lists.{Lists}
 use Rattle.sound_state.specs.Recalls.{IsLocated, recalls_of}
 use Rattle.sound_state.specs.Sound.{IsOwnErrand}
@@ -19,10 +19,6 @@ use Rattle.sound_state.specs.Stock.{waits_in}
 use Rattle.sound_state.specs.Superblocks.{anchor_for, is_bound}
 use Rattle.sound_state.specs.Turns.{in_turn, has_frame, has_partial, has_refused, pops_left}
 use Rattle.sound_state.proofs.installs.InstallEffects.{StandsFramed, installing_holds}
-
--- what a caller holds whose superblock isn't needed: the descriptor, on its way, and the frame
-abbrev pub discarding_holds : Site → Holding
-discarding_holds at = record nothing { kept = keep at.desc at.seat.class on_its_way; frames = at.frame ∷ [] }
 
 -- a point at which a caller pushes the frame of a superblock that isn't needed
 pub record StandsDiscarding (p : Point) : Type 0 where
@@ -36,7 +32,7 @@ pub record StandsDiscarding (p : Point) : Type 0 where
   pub unread : length (held_by p) ≡ 0
   pub spare : spare_of p ≡ 0
 
--- a caller doesn't install its new superblock, whose descriptor and frame go on their ways, and all else stays
+-- a caller doesn't install its new superblock, holds it as it did while it made it, and all else stays
 pub record Discards (g : Geometry) (s : State) (l : Lists) (who : ℕ) (at : Site) (e : ErrandFields) (s' : State) : Type 0 where
   pub caller : who < g.callers
   pub moves : Moves s.errand who e s'.errand
@@ -52,7 +48,7 @@ pub record Discards (g : Geometry) (s : State) (l : Lists) (who : ℕ) (at : Sit
   pub lost : (e.lost ≡ (s.errand who).lost + 1) ⊎ (e.turns ≤ e.lost)
   pub cleared : e.cleared ≡ (s.errand who).cleared
   pub holds_before : holds_of (s.errand who).point ≡ installing_holds at
-  pub holds_after : holds_of e.point ≡ discarding_holds at
+  pub holds_after : holds_of e.point ≡ making at
   pub recalls_after : recalls_of e.point ≡ []
   pub stands_before : StandsFramed (s.errand who).point
   pub unlisted : has_partial (s.errand who).point ≡ false

@@ -1,11 +1,10 @@
 -- A step that stores its caller's hazard word, or reads one, and after which the caller holds what else it held.
 use Rattle.std.proofs.Common.{ℕ, zero, suc, false, Option, Some, None, ◌≡◌, ◌<◌, ◌≤◌, ◌+◌, ◌^◌, List, [], ◌∷◌, length, refl, arith, ap, sym, subst, inl, inr, ◌⊎◌, ◌∙◌}
-use Rattle.std.specs.Prelude.{All, Any, Contains, IsSome, IsTrue, IfSome, ◌==◌}
+use Rattle.std.specs.Prelude.{All, Any, Contains, IsTrue, IfSome, ◌==◌}
 use Rattle.std.proofs.lemmas.Bool.{cond-true, eq-eqb}
 use Rattle.std.proofs.lemmas.Option.{none-some}
 use Rattle.heap_geometry.specs.declared.geometry.Geometry.{Geometry}
 use Rattle.heap_geometry.specs.Geometry.{IsChecked}
-use Rattle.packed_words.specs.Active.{active_of}
 use Rattle.word_plan.specs.declared.action.Found.{Found}
 use Rattle.word_plan.specs.declared.name.WordName.{WordName}
 use Rattle.word_plan.specs.declared.name.WordName.TheVariants as name
@@ -38,6 +37,7 @@ use Rattle.sound_state.specs.Stock.{waits_in, word_stock, stock_among}
 use Rattle.sound_state.specs.Sums.{callers_sum}
 use Rattle.sound_state.specs.Superblocks.{word_reserves, reserved_among, kept_among, errand_away}
 use Rattle.sound_state.proofs.shared.AlikeLemmas.{MayGuard, GuardsAnew, IsUnretired, ActivesKept}
+use Rattle.sound_state.proofs.shared.ShownLemmas.{actives-same}
 use Rattle.sound_state.proofs.quiet.QuietLemmas.{found_from, actives-stay, words-stay}
 use Rattle.sound_state.proofs.shared.StepLemmas.{PointStands, TurnGoes, at_point, settle-at, settle-end, step-most}
 use Rattle.sound_state.proofs.shared.SumLemmas.{term-sum}
@@ -179,16 +179,9 @@ hazard_caller n = 0
 pub hazard-actives :
     (g : Geometry) (s : State) (l : Lists) (i new : ℕ) (words' : WordName → ℕ) → IsSoundWith g s l
     → Writes s.word (name.Hazard i) new words' → ActivesKept g s words'
-hazard-actives g s l i new words' old w = record {
-  active_words = λ heap class has_heap has_class.
-      subst (λ v. IsSome (active_of v)) (sym (w.elsewhere (name.Active heap class) (λ same. cc))) (old.kept.active_words heap class has_heap has_class);
-  slot_words = λ heap class has_heap has_class.
-      subst (λ v. v ≤ descriptor_count g) (sym (w.elsewhere (name.Slot heap class) (λ same. cc))) (old.kept.slot_words heap class has_heap has_class);
-  active = λ heap class d credits has_heap has_class is.
-      old.kept.active heap class d credits has_heap has_class (ap active_of (sym (w.elsewhere (name.Active heap class) (λ same. cc))) ∙ is);
-  slot = λ heap class d has_heap has_class is.
-      old.kept.slot heap class d has_heap has_class (sym (w.elsewhere (name.Slot heap class) (λ same. cc)) ∙ is);
-}
+hazard-actives g s l i new words' old w =
+    actives-same g s l words' old.kept (λ heap class. w.elsewhere (name.Active heap class) (λ same. cc))
+    (λ heap class. w.elsewhere (name.Slot heap class) (λ same. cc))
 
 -- a store to a hazard word weighs nothing
 hazard-weighs :

@@ -38,15 +38,11 @@ use Rattle.sound_state.specs.Sound.{IsSoundWithoutCounts, IsSoundWith}
 use Rattle.sound_state.specs.Sums.{callers_sum}
 use Rattle.sound_state.specs.Superblocks.{is_bound, away_of, errand_away}
 use Rattle.sound_state.proofs.shared.AlikeLemmas.{GuardsAnew}
-use Rattle.sound_state.proofs.hazards.HazardLemmas.{HoldsBut, store-hazard, read-hazard, plain-guards, leads-at, ends-at, picks-at, name-below, available-unretired, bound-unretired}
+use Rattle.sound_state.proofs.hazards.HazardLemmas.{store-hazard, read-hazard, plain-guards, leads-at, ends-at, picks-at, name-below, available-unretired, bound-unretired}
 use Rattle.sound_state.proofs.quiet.QuietDescs.{reload_desc_head_other-sound}
 use Rattle.sound_state.proofs.shared.PointLemmas.{fits-at, so-at, hazard-at}
 
 -- the store of the name of a descriptor that was on top of the available ones
-store-holds : (seat : SeatFields) (d : ℕ) (o : Onward) → HoldsBut (Desc (desc.StoreHazard seat d) o) (Desc (desc.ReloadDescHead seat d) o)
-unfolding holds_of
-store-holds seat d o = grind (arith)
-
 pub store_hazard-sound :
     (g : Geometry) (s : State) (who : ℕ) (s' : State) (seat : SeatFields) (d : ℕ) (o : Onward) → IsSoundWithoutCounts g s → who < g.callers
     → (s.errand who).point ≡ Desc (desc.StoreHazard seat d) o → Step s who s' → IsSoundWithoutCounts g s'
@@ -60,17 +56,13 @@ store_hazard-sound g s who s' seat d o sound has at step =
     (λ l old. record {
       event = refl;
       cleared = refl;
-      holds = store-holds seat d o;
+      holds = grind (arith);
       so = so-at g s l who p old has at;
       guards = plain-guards g s who q (s.errand who).retired (d + 1) refl (λ e is guard. absurd guard) refl refl refl;
     })
     step
 
 -- the descriptor that the hazard word names is still on top
-reload-holds : (seat : SeatFields) (d : ℕ) (o : Onward) → HoldsBut (Desc (desc.ReloadDescHead seat d) o) (Desc (desc.LoadNextDesc seat d) o)
-unfolding holds_of
-reload-holds seat d o = grind (arith)
-
 top-occurs : (next : ℕ → ℕ) (d : ℕ) (xs : List ℕ) → Stacked next (d + 1) xs → 1 ≤ occurs d xs
 top-occurs next d [] stack = omega (arith, stack)
 top-occurs next d (x ∷ xs) stack =
@@ -94,7 +86,7 @@ reload_desc_head_same-sound g s who s' seat d o sound has at same step =
     record {
       event = refl;
       cleared = refl;
-      holds = reload-holds seat d o;
+      holds = grind (arith);
       so = so-at g s l who p old has at;
       guards =
           plain-guards g s who q (s.errand who).retired (s.word (name.Hazard who)) named
@@ -115,12 +107,6 @@ reload_desc_head-sound g s who s' seat d o sound has at step =
     ]
 
 -- the descriptor is popped: the hazard word is cleared
-popped-holds :
-    (seat : SeatFields) (d words : ℕ)
-    → HoldsBut (Desc (desc.ClearAfterPop seat d) (onward.Alloc words)) (Stack (stack.LoadTop seat Frames) (onward.TakeFrame words d))
-unfolding holds_of
-popped-holds seat d words = grind (arith)
-
 pub clear_after_pop-sound :
     (g : Geometry) (s : State) (who : ℕ) (s' : State) (seat : SeatFields) (d : ℕ) (o : Onward) → IsSoundWithoutCounts g s → who < g.callers
     → (s.errand who).point ≡ Desc (desc.ClearAfterPop seat d) o → Step s who s' → IsSoundWithoutCounts g s'
@@ -133,7 +119,7 @@ clear_after_pop-sound g s who s' seat d (onward.Alloc words) sound has at step =
     (λ l old. record {
       event = refl;
       cleared = refl;
-      holds = popped-holds seat d words;
+      holds = grind (arith);
       so = so-at g s l who p old has at;
       guards = plain-guards g s who q (s.errand who).retired 0 refl (λ e is guard. absurd guard) refl refl refl;
     })
@@ -142,11 +128,6 @@ clear_after_pop-sound g s who s' seat d o sound has at step =
     let bad : ⊥ = cc ((fits-at g s sound.parts.0 who (Desc (desc.ClearAfterPop seat d) o) sound.parts.1 has at).goes) in absurd bad
 
 -- a free clears its hazard word and looks through the list
-clear-holds :
-    (seat : SeatFields) → HoldsBut (Desc (desc.ClearHazard seat) onward.Clear) (Stack (stack.LoadTop seat Partials) onward.Clear)
-unfolding holds_of
-clear-holds seat = grind (arith)
-
 pub clear_hazard_looks-sound :
     (g : Geometry) (s : State) (who : ℕ) (s' : State) (seat : SeatFields) → IsSoundWithoutCounts g s → who < g.callers
     → (s.errand who).point ≡ Desc (desc.ClearHazard seat) onward.Clear → Step s who s' → IsSoundWithoutCounts g s'
@@ -159,17 +140,13 @@ clear_hazard_looks-sound g s who s' seat sound has at step =
     (λ l old. record {
       event = refl;
       cleared = refl;
-      holds = clear-holds seat;
+      holds = grind (arith);
       so = so-at g s l who p old has at;
       guards = plain-guards g s who q (s.errand who).retired 0 refl (λ e is guard. absurd guard) refl refl refl;
     })
     step
 
 -- a free clears its hazard word and ends
-end-holds : (seat : SeatFields) → HoldsBut (Desc (desc.ClearHazard seat) onward.EndFree) Idle
-unfolding holds_of
-end-holds seat = grind (arith)
-
 pub clear_hazard_ends-sound :
     (g : Geometry) (s : State) (who : ℕ) (s' : State) (seat : SeatFields) → IsSoundWithoutCounts g s → who < g.callers
     → (s.errand who).point ≡ Desc (desc.ClearHazard seat) onward.EndFree → Step s who s' → IsSoundWithoutCounts g s'
@@ -181,18 +158,13 @@ clear_hazard_ends-sound g s who s' seat sound has at step =
     (λ l old. record {
       event = refl;
       cleared = refl;
-      holds = end-holds seat;
+      holds = grind (arith);
       so = All-nil (IsSo g s l who);
       guards = plain-guards g s who Idle (s.errand who).retired 0 refl (λ e is guard. absurd guard) refl refl refl;
     })
     step
 
 -- a free stores the name of the descriptor whose superblock its push makes empty
-guard-holds :
-    (site : Site) (i : ℕ) (a : AnchorFields) (o : Onward) → HoldsBut (Block (block.StoreGuard site i a) o) (Block (block.LoadOwner site i a) o)
-unfolding holds_of
-guard-holds site i a o = grind (arith)
-
 bound-near : (g : Geometry) (s : State) (l : Lists) (d : ℕ) → IsTrue (is_bound g s l d) → away_of g s l d ≡ 0
 bound-near g s l d bound = grind (arith, bound)
 
@@ -215,7 +187,7 @@ store_guard-sound g s who s' site i a o sound has at step =
     record {
       event = refl;
       cleared = refl;
-      holds = guard-holds site i a o;
+      holds = grind (arith);
       so = so-at g s l who p old has at;
       guards =
           plain-guards g s who q (s.errand who).retired (d + 1) refl
@@ -224,19 +196,6 @@ store_guard-sound g s who s' site i a o sound has at step =
           inr (subst (GuardsAnew g s q) one (record { unretired = free; pushed = λ bad. cc; passed = refl }))) refl refl refl;
     })
     step
-
--- a scan reads a hazard word
-read-holds :
-    (seat : SeatFields) (held noted : List ℕ) (i j : ℕ) (o : Onward)
-    → HoldsBut (Desc (desc.ReadHazard seat held i) o) (Desc (desc.ReadHazard seat noted j) o)
-unfolding holds_of
-read-holds seat held noted i j o = grind (arith)
-
-push-holds :
-    (seat : SeatFields) (held : List ℕ) (i d : ℕ) (o : Onward)
-    → HoldsBut (Desc (desc.ReadHazard seat held i) o) (Desc (desc.LoadHeadToPush seat d) o)
-unfolding holds_of
-push-holds seat held i d o = grind (arith)
 
 -- there is room for each caller's word
 held-room : (g : Geometry) (held : List ℕ) (i : ℕ) → IsChecked g → length held ≡ HELD_MOST → i < g.callers → i < length held
@@ -299,7 +258,7 @@ read_hazard_next-sound g s who s' seat held i o sound has at more step =
     (λ l old. record {
       event = refl;
       cleared = refl;
-      holds = read-holds seat held noted i (i + 1) o;
+      holds = grind (arith);
       so = All-nil (IsSo g s l who);
       guards = record {
         hazard = hazard-at g s l who p old has at;
@@ -327,7 +286,7 @@ read-picks g s who s' seat held i o None sound has at last pick step =
     (λ l old. record {
       event = refl;
       cleared = refl;
-      holds = read-holds seat held held i i o;
+      holds = grind (arith);
       so = All-nil (IsSo g s l who);
       guards = record {
         hazard = hazard-at g s l who p old has at;
@@ -351,7 +310,7 @@ read-picks g s who s' seat held i o (Some d) sound has at last pick step =
     (λ l old. record {
       event = refl;
       cleared = refl;
-      holds = push-holds seat held i d o;
+      holds = grind (arith);
       so = All-nil (IsSo g s l who);
       guards = record {
         hazard = hazard-at g s l who p old has at;

@@ -1,5 +1,5 @@
 -- A won install: what it changes, and that everything else stays.
-use Rattle.std.proofs.Common.{ℕ, true, false, ◌≡◌, ◌<◌, ◌+◌, ◌^◌, [], ◌∷◌, ◌++◌}
+use Rattle.std.proofs.Common.{ℕ, true, false, ◌≡◌, ◌<◌, ◌^◌, [], ◌∷◌, ◌++◌}
 use Rattle.std.specs.Prelude.{IsTrue}
 use Rattle.heap_geometry.specs.declared.geometry.Geometry.{Geometry}
 use Rattle.heap_geometry.specs.declared.need.Need.TheVariants as need
@@ -17,7 +17,7 @@ use Rattle.pool_model.specs.declared.event.Event.TheVariants.{Alloc}
 use Rattle.errand_steps.specs.Errands.{ErrandFields}
 use Rattle.errand_steps.specs.declared.point.Point.{Point}
 use Rattle.errand_steps.specs.Steps.{State, Moves}
-use Rattle.sound_state.specs.Holdings.{Holding, nothing, waiting, reserve, keep, block_handed, holds_of}
+use Rattle.sound_state.specs.Holdings.{Holding, nothing, block_handed, holds_of}
 use Rattle.sound_state.specs.Lists.{Lists}
 use Rattle.sound_state.specs.Recalls.{IsLocated, bound_here, recalls_of}
 use Rattle.sound_state.specs.Sound.{IsOwnErrand}
@@ -25,15 +25,9 @@ use Rattle.sound_state.specs.Stock.{waits_in}
 use Rattle.sound_state.specs.Superblocks.{anchor_for, is_bound}
 use Rattle.sound_state.specs.Turns.{in_turn, has_frame, has_refused, is_discarding_at, pops_left}
 use Rattle.sound_state.proofs.pops.PopEffects.{StandsIn}
+pub use Rattle.sound_state.proofs.shared.MakingWeights.{installing_holds}
 
--- what a caller holds that is about to install a superblock, and after it has
-abbrev pub installing_holds : Site → Holding
-installing_holds at = record nothing {
-  credits = reserve at.desc (new_credits at.seat.class + 1);
-  kept = keep at.desc at.seat.class waiting;
-  frames = at.frame ∷ [];
-}
-
+-- what a caller holds that has installed one
 abbrev pub installed_holds : Site → Holding
 installed_holds at = record nothing { hands = block_handed at 0 }
 

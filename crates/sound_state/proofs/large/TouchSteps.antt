@@ -193,12 +193,6 @@ pub touched-step :
 touched-step g s l who s' p q n new past old has at h step =
     step-from-here g s l who s' q n new past old has (subst (λ r. TouchesAt g s l who r q n new past) (sym at) h) step
 
--- where the word is none of the arena's, every prefix word stays
-pub arena-stays :
-    (words : WordName → ℕ) (n : WordName) (new : ℕ) (words' : WordName → ℕ) → Writes words n new words' → ((p : ℕ) → name.Arena p ≢ n)
-    → (p : ℕ) → words' (name.Arena p) ≡ words (name.Arena p)
-arena-stays words n new words' w apart p = w.elsewhere (name.Arena p) (apart p)
-
 pub stays-still :
     (g : Geometry) (s : State) (n : WordName) (new : ℕ) (words' : WordName → ℕ) → Writes s.word n new words' → ((p : ℕ) → name.Arena p ≢ n)
     → (IsAwayWord n → ⊥) → (q : Point) → All (Stays g s words') (recalls_of q)

@@ -30,7 +30,7 @@ use Rattle.sound_state.specs.Lists.{Lists}
 use Rattle.sound_state.specs.Recalls.{Recall, IsPopped, IsRemembered, IsSo, IsOwned, recalls_of, bound_for, bound_at, pops, links, says}
 use Rattle.sound_state.specs.Sound.{IsSoundWithoutCounts, IsSoundWith}
 use Rattle.sound_state.specs.Sums.{sum_below, callers_sum}
-use Rattle.sound_state.specs.Superblocks.{IsChained, anchor_for, info_for, superblock_of, reserved_of, reserved_among, errand_reserves, waiting_of, errand_keeps}
+use Rattle.sound_state.specs.Superblocks.{anchor_for, info_for, superblock_of, reserved_of, reserved_among, errand_reserves, errand_keeps}
 use Rattle.sound_state.proofs.shared.PointLemmas.{fits-at, so-at}
 use Rattle.sound_state.proofs.shared.RecallEffects.{IsSteady, AreSteady, Leaves, IsLeft, popped-steady, here-so, remembered-left}
 use Rattle.sound_state.proofs.shared.RecallTables.{InstallsNone, IsBacked, backed-recalls}
@@ -54,11 +54,6 @@ occurs-all n (x ∷ xs) within =
 pub sum-fewer : (n : ℕ) (f : ℕ → ℕ) → f 0 ≡ 0 → ((j : ℕ) → j < n + 1 → f j ≤ 1) → sum_below (suc n) f ≤ n
 sum-fewer zero f none most = omega (arith, none)
 sum-fewer (suc n) f none most = omega (arith, sum-fewer n f none (λ j lt. most j (omega (arith, lt))), most (suc n) (omega arith))
-
--- a superblock whose block 0 is held back has fewer free blocks than blocks
-pub held-fewer : (g : Geometry) (s : State) (d : ℕ) → IsChained (superblock_of g s d) → 1 ≤ waiting_of g s d
-    → (anchor_for s d).count + reserved_of g s d < block_count_of (info_for s d).class
-held-fewer g s d chained waits = omega (arith, tally (superblock_of g s d) chained, waits)
 
 -- the anchor of a new superblock fits its word
 pub new_anchor-fits : (class : ℕ) → IsAnchor (new_anchor class)

@@ -1,7 +1,7 @@
 -- The step of a won pop, and what it changes.
 use Rattle.std.proofs.Common.{ℕ, Bool, true, false, ◌≡◌, ◌<◌, ◌+◌, ◌^◌, ◌/◌, [], ◌∷◌, refl, arith, ap, sym, subst, inl, inr, ◌∙◌}
-use Rattle.std.specs.Prelude.{◌==◌, if◌then◌else◌, nat_lt}
-use Rattle.std.proofs.lemmas.Bool.{cases_eq, eq-eqb}
+use Rattle.std.specs.Prelude.{if◌then◌else◌, nat_lt}
+use Rattle.std.proofs.lemmas.Bool.{cases_eq}
 use Rattle.std.proofs.lemmas.List.Elements.{All-head, All-tail}
 use Rattle.std.proofs.lemmas.Nat.{mod_below, pow_pos}
 use Rattle.std.proofs.Math.Nat.{mod-eq_of_lt}
@@ -11,12 +11,9 @@ use Rattle.heap_geometry.specs.Need.{need_of}
 use Rattle.packed_words.specs.Anchor.{AnchorFields, IsAnchor, anchor_of, anchor_word}
 use Rattle.packed_words.specs.Prefix.{link_of}
 use Rattle.packed_words.specs.declared.widths.TheConstants.{AVAIL_BITS, TAG_BITS}
-use Rattle.packed_words.proofs.AnchorLemmas.{anchor_of-anchor_word, anchor_word-below}
-use Rattle.word_plan.specs.declared.action.Found.{Found}
+use Rattle.packed_words.proofs.AnchorLemmas.{anchor_of-anchor_word}
 use Rattle.word_plan.specs.declared.name.WordName.TheVariants as name
 use Rattle.word_plan.specs.declared.seat.Site.{Site}
-use Rattle.word_plan.specs.Actions.{name_of, after_action}
-use Rattle.word_plan.specs.Words.{Writes}
 use Rattle.superblock_parts.specs.Anchors.{popped, more_of}
 use Rattle.superblock_parts.specs.Points as points
 use Rattle.superblock_parts.specs.declared.point.BlockPoint.{BlockPoint}
@@ -27,15 +24,14 @@ use Rattle.errand_steps.specs.declared.onward.Onward.{Onward}
 use Rattle.errand_steps.specs.declared.onward.Onward.TheVariants as onward
 use Rattle.errand_steps.specs.declared.point.Point.{Point}
 use Rattle.errand_steps.specs.declared.point.Point.TheVariants.{Block}
-use Rattle.errand_steps.specs.Errands.{IsErrand, settle_of, counts_lost, counts_cleared, raised}
 use Rattle.errand_steps.specs.Events.{event_of}
 use Rattle.errand_steps.specs.Fits.{FitsOnward}
 use Rattle.errand_steps.specs.Nexts.{next_of, enter_block}
 use Rattle.errand_steps.specs.Points.{asked, plan_point_of}
-use Rattle.errand_steps.specs.Steps.{State, Step, Moves, found_at, with_event, name_at}
-use Rattle.errand_steps.proofs.ErrandLemmas.{settle_errand}
+use Rattle.errand_steps.specs.Steps.{State, Step}
+use Rattle.word_plan.specs.declared.action.Action.TheVariants.{Cas}
 use Rattle.sound_state.specs.Holdings as hold
-use Rattle.sound_state.specs.Holdings.{Holding, nothing, holds_of, before_pop, block_handed}
+use Rattle.sound_state.specs.Holdings.{nothing, holds_of, block_handed}
 use Rattle.sound_state.specs.Lists.{Lists}
 use Rattle.sound_state.specs.Recalls.{IsSo, bound_here, bound_at, pops, links, recalls_of}
 use Rattle.sound_state.specs.Sound.{IsSoundWithoutCounts, IsSoundWith, IsOwnErrand}
@@ -49,9 +45,10 @@ use Rattle.sound_state.proofs.pops.PopRecalls.{popped-remembered}
 use Rattle.sound_state.proofs.pops.PopTies.{popped-legal, popped-tied}
 use Rattle.sound_state.proofs.pops.PopTurns.{popped-guarded, popped-listed, popped-turned}
 use Rattle.sound_state.proofs.quiet.QuietExchanges.{pop_block-lost}
-use Rattle.sound_state.proofs.quiet.QuietLemmas.{found_from}
-use Rattle.sound_state.proofs.shared.StepLemmas.{settle-at, at_point, words-below}
+use Rattle.sound_state.proofs.shared.StepLemmas.{at_point}
 use Rattle.sound_state.proofs.shared.TagLemmas.{anchor-tags-below}
+use Rattle.sound_state.proofs.shared.CreditLemmas.{won_with}
+use Rattle.sound_state.proofs.shared.WonEffects.{AnchorWon, anchor-won}
 
 -- where a pop leads, by whether more blocks are reserved
 abbrev popped_point : Bool → Site → ℕ → ℕ → BlockPoint
@@ -89,7 +86,8 @@ popped-uncut share a link room = ap (λ t. record (popped_anchor share a link) {
 link-below : (prefix : ℕ) → link_of prefix < 2 ^ AVAIL_BITS
 link-below prefix = mod_below (prefix / 2 ^ 0) (2 ^ AVAIL_BITS) (pow_pos AVAIL_BITS)
 
-popped-fits : (share : Share) (a : AnchorFields) (prefix : ℕ) → IsAnchor a → a.tag + 1 < 2 ^ TAG_BITS → IsAnchor (popped_anchor share a (link_of prefix))
+popped-fits :
+    (share : Share) (a : AnchorFields) (prefix : ℕ) → IsAnchor a → a.tag + 1 < 2 ^ TAG_BITS → IsAnchor (popped_anchor share a (link_of prefix))
 popped-fits share a prefix fits room = record {
   avail = link-below prefix;
   count = omega (arith, fits.count);
@@ -101,17 +99,13 @@ pub small-asked :
     → need_of (asked o) ≡ need.Small at.seat.class
 small-asked g who at o alloc fit = subst (FitsOnward g who at.seat) alloc fit
 
--- an exchange of this word that is won
-abbrev pub found_won : ℕ → Found
-found_won word = record { value = word; won = true }
-
 -- what the step of a won pop changes
 pub pop-pops :
     (g : Geometry) (s : State) (l : Lists) (who : ℕ) (s' : State) (at : Site) (share : Share) (a : AnchorFields) (prefix : ℕ) (o : Onward)
     → IsSoundWithoutCounts g s → IsSoundWith g s l → who < g.callers → (s.errand who).point ≡ Block (block.PopBlock at share a prefix) o
     → s.word (name.Anchor at.desc) ≡ anchor_word a → Step s who s'
     → Pops g s l who at share a (link_of prefix) (asked o)
-    (at_point (s.errand who) (found_won (anchor_word a)) (Block (points.after_pop at a.avail (more_of share a)) o)) s'
+    (at_point (s.errand who) (won_with (anchor_word a)) (Block (points.after_pop at a.avail (more_of share a)) o)) s'
 unfolding event_of next_of plan_point_of holds_of recalls_of
 pop-pops g s l who s' at share a prefix o sound is has here word step =
     let p : Point = Block (block.PopBlock at share a prefix) o in
@@ -120,47 +114,37 @@ pop-pops g s l who s' at share a prefix o sound is has here word step =
     let so = so-at g s l who p is has here in
     let so_links = All-head (IsSo g s l who) (links at.desc a prefix) (pops at.desc a ∷ bound_here at) so in
     let so_rest = All-tail (IsSo g s l who) (links at.desc a prefix) (pops at.desc a ∷ bound_here at) so in
-    let so_bound = All-head (IsSo g s l who) (bound_at at.desc at.frame at.seat.class) [] (All-tail (IsSo g s l who) (pops at.desc a) (bound_here at) so_rest) in
+    let so_bound =
+    All-head (IsSo g s l who) (bound_at at.desc at.frame at.seat.class) [] (All-tail (IsSo g s l who) (pops at.desc a) (bound_here at) so_rest) in
     let before : anchor_for s at.desc ≡ a = ap anchor_of word ∙ anchor_of-anchor_word a fit.point.anchor.fits in
     let room : a.tag + 1 < 2 ^ TAG_BITS =
     subst (λ x. x.tag + 1 < 2 ^ TAG_BITS) before (anchor-tags-below g s sound at.desc fit.point.site.desc) in
     let uncut : popped share a (link_of prefix) ≡ popped_anchor share a (link_of prefix) = popped-uncut share a (link_of prefix) room in
     let fits_new : IsAnchor (popped_anchor share a (link_of prefix)) = popped-fits share a prefix fit.point.anchor.fits room in
-    let is_won : (s.word (name.Anchor at.desc) == anchor_word a) ≡ true = eq-eqb (s.word (name.Anchor at.desc)) (anchor_word a) word in
-    let found : found_at s who ≡ found_won (anchor_word a) = ap (found_from s) here ∙ rw (word, eq-eqb (anchor_word a) (anchor_word a) refl) refl in
-    let moved : settle_of (s.errand who) (found_at s who) ≡ at_point (s.errand who) (found_won (anchor_word a)) q =
-    ap (settle_of (s.errand who)) found
-    ∙ settle-at (s.errand who) (found_won (anchor_word a)) q (ap (λ r. next_of r (found_won (anchor_word a))) here ∙ popped-enters (nat_lt 0 (more_of share a)) at a.avail (more_of share a) o) in
-    let writes : Writes s.word (name.Anchor at.desc) (anchor_word (popped share a (link_of prefix))) s'.word =
-    subst (λ v. Writes s.word (name.Anchor at.desc) v s'.word) (rw is_won refl)
-    (subst (λ r. Writes s.word (name_of (plan_point_of r)) (after_action (plan_point_of r) (s.word (name_of (plan_point_of r)))) s'.word) here step.word) in
-    let own = is.errands who has in
+    let new : AnchorFields = popped_anchor share a (link_of prefix) in
+    let won : AnchorWon g s who p at.desc a new q s' =
+    anchor-won g s l who s' p at.desc a new q is has here word fit.point.anchor.fits fits_new
+    (ap (λ x. Cas (name.Anchor at.desc) (anchor_word a) (anchor_word x)) uncut)
+    (inl (popped-enters (nat_lt 0 (more_of share a)) at a.avail (more_of share a) o)) step in
     record {
       caller = has;
-      moves = subst (λ f. Moves s.errand who f s'.errand) moved step.errand;
+      moves = won.step.moves;
       site = fit.point.site;
       fits = fit.point.anchor;
       small = small-asked g who at o (the-alloc o fit.goes) fit.onward;
       bound = so_bound.0;
       located = so_bound.1;
-      before = before;
-      after = ap anchor_of (writes.here ∙ ap anchor_word uncut) ∙ anchor_of-anchor_word (popped_anchor share a (link_of prefix)) fits_new;
+      before = won.before;
+      after = won.after;
       next = so_links (sym (ap (λ x. x.tag) before));
-      elsewhere = writes.elsewhere;
-      below =
-          words-below s.word (name.Anchor at.desc) (anchor_word (popped share a (link_of prefix))) s'.word writes is.words
-          (subst (λ x. anchor_word x < 2 ^ 64) (sym uncut) (anchor_word-below (popped_anchor share a (link_of prefix)) fits_new));
-      history = step.history ∙ ap (with_event s.history) (ap (event_of who (s.errand who).point) found ∙ ap (λ r. event_of who r (found_won (anchor_word a))) here);
-      rule = record {
-        caller = own.caller;
-        geometry = own.geometry;
-        rule = subst IsErrand moved (settle_errand (s.errand who) (found_at s who) own.rule (is.words (name_at s who)));
-        lost = subst (λ b. raised b (s.errand who).lost < 2 ^ 64) (sym (ap (λ r. counts_lost r (found_won (anchor_word a))) here)) own.lost;
-      };
+      elsewhere = won.elsewhere;
+      below = won.below;
+      history = won.step.history;
+      rule = won.step.rule;
       retired = refl;
       turns = refl;
-      lost = ap (λ b. raised b (s.errand who).lost) (ap (λ r. counts_lost r (found_won (anchor_word a))) here);
-      cleared = ap (λ b. raised b (s.errand who).cleared) (ap (λ r. counts_cleared r (found_won (anchor_word a))) here);
+      lost = won.step.lost;
+      cleared = won.step.cleared;
       holds_before = ap holds_of here;
       holds_after = point-holds (nat_lt 0 (more_of share a)) at a.avail (more_of share a) o;
       recalls_after = point-recalls (nat_lt 0 (more_of share a)) at a.avail (more_of share a) o;
@@ -170,13 +154,14 @@ pop-pops g s l who s' at share a prefix o sound is has here word step =
 
 -- the state after a won pop is sound
 pub pop_block-won :
-    (g : Geometry) (s : State) (who : ℕ) (s' : State) (at : Site) (share : Share) (a : AnchorFields) (prefix : ℕ) (o : Onward) → IsSoundWithoutCounts g s
-    → who < g.callers → (s.errand who).point ≡ Block (block.PopBlock at share a prefix) o → s.word (name.Anchor at.desc) ≡ anchor_word a
+    (g : Geometry) (s : State) (who : ℕ) (s' : State) (at : Site) (share : Share) (a : AnchorFields) (prefix : ℕ) (o : Onward)
+    → IsSoundWithoutCounts g s → who < g.callers
+    → (s.errand who).point ≡ Block (block.PopBlock at share a prefix) o → s.word (name.Anchor at.desc) ≡ anchor_word a
     → Step s who s' → IsSoundWithoutCounts g s'
 pop_block-won g s who s' at share a prefix o sound has here word step =
     let l = sound.parts.0 in
     let is = sound.parts.1 in
-    let e = at_point (s.errand who) (found_won (anchor_word a)) (Block (points.after_pop at a.avail (more_of share a)) o) in
+    let e = at_point (s.errand who) (won_with (anchor_word a)) (Block (points.after_pop at a.avail (more_of share a)) o) in
     let h = pop-pops g s l who s' at share a prefix o sound is has here word step in
     record {
       checked = sound.checked;
@@ -201,8 +186,9 @@ pop_block-won g s who s' at share a prefix o sound has here word step =
 
 -- so it is after a pop, won or lost
 pub pop_block-sound :
-    (g : Geometry) (s : State) (who : ℕ) (s' : State) (at : Site) (share : Share) (a : AnchorFields) (prefix : ℕ) (o : Onward) → IsSoundWithoutCounts g s
-    → who < g.callers → (s.errand who).point ≡ Block (block.PopBlock at share a prefix) o → Step s who s' → IsSoundWithoutCounts g s'
+    (g : Geometry) (s : State) (who : ℕ) (s' : State) (at : Site) (share : Share) (a : AnchorFields) (prefix : ℕ) (o : Onward)
+    → IsSoundWithoutCounts g s → who < g.callers
+    → (s.errand who).point ≡ Block (block.PopBlock at share a prefix) o → Step s who s' → IsSoundWithoutCounts g s'
 pop_block-sound g s who s' at share a prefix o sound has here step =
     elim (cases_eq (s.word (name.Anchor at.desc)) (anchor_word a)) [
       | inl is ↦ pop_block-won g s who s' at share a prefix o sound has here is step

@@ -1,6 +1,6 @@
 -- The step of a won push, and what it changes.
 use Rattle.std.proofs.Common.{ℕ, Bool, true, false, ◌≡◌, ◌≢◌, ◌<◌, ◌≤◌, ◌+◌, ◌^◌, [], refl, arith, ap, sym, subst, inl, inr, ◌∙◌}
-use Rattle.std.specs.Prelude.{◌⊎◌, ◌==◌, IsTrue, if◌then◌else◌}
+use Rattle.std.specs.Prelude.{◌==◌, IsTrue, if◌then◌else◌}
 use Rattle.std.proofs.lemmas.Bool.{cases_eq, eq-eqb, ne_eqb}
 use Rattle.std.proofs.lemmas.List.Elements.{All-head, All-tail}
 use Rattle.std.proofs.Math.Nat.{mod-eq_of_lt}
@@ -12,13 +12,10 @@ use Rattle.packed_words.specs.Prefix.{link_of}
 use Rattle.packed_words.specs.declared.anchor.State.{State as Phase}
 use Rattle.packed_words.specs.declared.anchor.State.TheVariants as phase
 use Rattle.packed_words.specs.declared.widths.TheConstants.{AVAIL_BITS, COUNT_BITS}
-use Rattle.packed_words.proofs.AnchorLemmas.{anchor_of-anchor_word, anchor_word-below}
+use Rattle.packed_words.proofs.AnchorLemmas.{anchor_of-anchor_word}
 use Rattle.partial_parts.specs.Grants.{is_empty}
-use Rattle.word_plan.specs.declared.action.Found.{Found}
 use Rattle.word_plan.specs.declared.name.WordName.TheVariants as name
 use Rattle.word_plan.specs.declared.seat.Site.{Site}
-use Rattle.word_plan.specs.Actions.{name_of, after_action}
-use Rattle.word_plan.specs.Words.{Writes}
 use Rattle.word_plan.proofs.SeatLemmas.{block_count_of-most}
 use Rattle.superblock_parts.specs.Anchors.{pushed, is_last}
 use Rattle.superblock_parts.specs.Chains.{prefix_name, link_in}
@@ -28,30 +25,28 @@ use Rattle.stack_parts.specs.declared.point.Pile.TheVariants.{Frames}
 use Rattle.stack_parts.specs.declared.point.StackPoint.TheVariants as stack
 use Rattle.hazard_parts.specs.declared.point.DescPoint.TheVariants as desc
 use Rattle.partial_parts.specs.declared.point.PartialPoint.TheVariants as partial
-use Rattle.errand_steps.specs.declared.next.Next.{Next}
-use Rattle.errand_steps.specs.declared.next.Next.TheVariants.{At, End}
 use Rattle.errand_steps.specs.declared.onward.Onward.{Onward}
 use Rattle.errand_steps.specs.declared.onward.Onward.TheVariants as onward
 use Rattle.errand_steps.specs.declared.point.Point.{Point}
 use Rattle.errand_steps.specs.declared.point.Point.TheVariants.{Idle, Block, Stack, Desc, Partial}
 use Rattle.errand_steps.specs.declared.reply.Reply.TheVariants as reply
-use Rattle.errand_steps.specs.Errands.{ErrandFields, IsErrand, settle_of, counts_lost, counts_cleared, raised}
+use Rattle.errand_steps.specs.Errands.{ErrandFields}
 use Rattle.errand_steps.specs.Events.{event_of}
 use Rattle.errand_steps.specs.Nexts.{next_of, enter_block}
 use Rattle.errand_steps.specs.Points.{plan_point_of}
-use Rattle.errand_steps.specs.Steps.{State, Step, Moves, found_at, with_event, name_at}
-use Rattle.errand_steps.proofs.ErrandLemmas.{settle_errand}
+use Rattle.errand_steps.specs.Steps.{State, Step}
+use Rattle.word_plan.specs.declared.action.Action.TheVariants.{Cas}
 use Rattle.sound_state.specs.Holdings.{holds_of}
 use Rattle.sound_state.specs.Lists.{Lists}
 use Rattle.sound_state.specs.Recalls.{IsSo, IsOwned, bound_here, bound_at, says, recalls_of}
 use Rattle.sound_state.specs.Sound.{IsSoundWith}
 use Rattle.sound_state.specs.Superblocks.{IsChained, anchor_for, away_of, info_for, superblock_of}
-use Rattle.sound_state.proofs.pops.PopSteps.{found_won}
 use Rattle.sound_state.proofs.shared.PointLemmas.{fits-at, so-at, frees-at, the-free}
 use Rattle.sound_state.proofs.pops.PopFacts.{bound-stands}
 use Rattle.sound_state.proofs.pushes.PushEffects.{Outcome, stays, unfills, empties, IsOutcome, Pushes, FreeStands, pushed_anchor, pushed_holds, pushed_recalls, pushed_place}
-use Rattle.sound_state.proofs.quiet.QuietLemmas.{found_from}
-use Rattle.sound_state.proofs.shared.StepLemmas.{settle-at, settle-end, at_point, words-below}
+use Rattle.sound_state.proofs.shared.StepLemmas.{at_point}
+use Rattle.sound_state.proofs.shared.CreditLemmas.{won_with}
+use Rattle.sound_state.proofs.shared.WonEffects.{LeadsTo, AnchorWon, anchor-won}
 
 -- where a push leads
 abbrev ended : Bool → Site → Point
@@ -61,10 +56,6 @@ abbrev pushed_point : Outcome → Site → Bool → ℕ → Point
 pushed_point stays at stored heap = ended stored at
 pushed_point unfills at stored heap = Partial (partial.LoadOwner at.seat at.desc) (onward.Finish stored)
 pushed_point empties at stored heap = Stack (stack.LoadTopToPush at.seat Frames at.frame) (onward.Remove at.desc heap)
-
--- the step leads to the point, or ends the call
-abbrev LeadsTo : Next → Point → Type 0
-LeadsTo n q = (n ≡ At q) ⊎ ((n ≡ End reply.Freed) × (q ≡ Idle))
 
 record Leads (at : Site) (i : ℕ) (a : AnchorFields) (stored : Bool) (heap : ℕ) (out : Outcome) : Type 0 where
   is : IsOutcome out at.seat.class stored a
@@ -77,41 +68,29 @@ avail-room class = omega (arith, block_count_of-most class)
 
 finishes : (at : Site) (stored : Bool) → LeadsTo (enter_block (block.Pushed at.seat stored) onward.Free) (ended stored at)
 finishes at true = inl refl
-finishes at false = inr (refl, refl)
+finishes at false = inr (reply.Freed, refl, refl)
+
+not-last : (class : ℕ) (a : AnchorFields) → a.count + 1 < block_count_of class → is_last class a ≡ false
+not-last class a less = ne_eqb (a.count + 1) (block_count_of class) (λ same. let bad : ⊥ = omega (arith, same, less) in bad)
 
 leads-by :
     (at : Site) (i : ℕ) (a : AnchorFields) (stored : Bool) (heap : ℕ) (p : Phase) → a.state ≡ p → i < 2 ^ AVAIL_BITS
     → a.count + 1 < block_count_of at.seat.class → p ≢ phase.Empty → (out : Outcome) × Leads at i a stored heap out
 leads-by at i a stored heap phase.Active is avail less stands =
-    let not_last : is_last at.seat.class a ≡ false =
-    ne_eqb (a.count + 1) (block_count_of at.seat.class) (λ same. let bad : ⊥ = omega (arith, same, less) in bad) in (
-      stays,
-      record {
-        is = (less, inl is);
-        next = rw (not_last, is) (finishes at stored);
-        anchor = rw (not_last, is, mod-eq_of_lt {n = i} {m = 2 ^ AVAIL_BITS} avail, mod-eq_of_lt {n = a.count + 1} {m = 2 ^ COUNT_BITS} (omega (arith, less, avail-room at.seat.class))) refl;
-      },
-    )
+    let last = not-last at.seat.class a less in
+    let count = mod-eq_of_lt {n = a.count + 1} {m = 2 ^ COUNT_BITS} (omega (arith, less, avail-room at.seat.class)) in
+    let index = mod-eq_of_lt {n = i} {m = 2 ^ AVAIL_BITS} avail in
+    (stays, record { is = (less, inl is); next = rw (last, is) (finishes at stored); anchor = rw (last, is, index, count) refl })
 leads-by at i a stored heap phase.Full is avail less stands =
-    let not_last : is_last at.seat.class a ≡ false =
-    ne_eqb (a.count + 1) (block_count_of at.seat.class) (λ same. let bad : ⊥ = omega (arith, same, less) in bad) in (
-      unfills,
-      record {
-        is = (less, is);
-        next = rw (not_last, is) (inl refl);
-        anchor = rw (not_last, is, mod-eq_of_lt {n = i} {m = 2 ^ AVAIL_BITS} avail, mod-eq_of_lt {n = a.count + 1} {m = 2 ^ COUNT_BITS} (omega (arith, less, avail-room at.seat.class))) refl;
-      },
-    )
+    let last = not-last at.seat.class a less in
+    let count = mod-eq_of_lt {n = a.count + 1} {m = 2 ^ COUNT_BITS} (omega (arith, less, avail-room at.seat.class)) in
+    let index = mod-eq_of_lt {n = i} {m = 2 ^ AVAIL_BITS} avail in
+    (unfills, record { is = (less, is); next = rw (last, is) (inl refl); anchor = rw (last, is, index, count) refl })
 leads-by at i a stored heap phase.Partial is avail less stands =
-    let not_last : is_last at.seat.class a ≡ false =
-    ne_eqb (a.count + 1) (block_count_of at.seat.class) (λ same. let bad : ⊥ = omega (arith, same, less) in bad) in (
-      stays,
-      record {
-        is = (less, inr is);
-        next = rw (not_last, is) (finishes at stored);
-        anchor = rw (not_last, is, mod-eq_of_lt {n = i} {m = 2 ^ AVAIL_BITS} avail, mod-eq_of_lt {n = a.count + 1} {m = 2 ^ COUNT_BITS} (omega (arith, less, avail-room at.seat.class))) refl;
-      },
-    )
+    let last = not-last at.seat.class a less in
+    let count = mod-eq_of_lt {n = a.count + 1} {m = 2 ^ COUNT_BITS} (omega (arith, less, avail-room at.seat.class)) in
+    let index = mod-eq_of_lt {n = i} {m = 2 ^ AVAIL_BITS} avail in
+    (stays, record { is = (less, inr is); next = rw (last, is) (finishes at stored); anchor = rw (last, is, index, count) refl })
 leads-by at i a stored heap phase.Empty is avail less stands = absurd (stands refl)
 
 leads :
@@ -130,15 +109,6 @@ leads at i a stored heap avail less stands last =
             },
           )
       | inr differ ↦ leads-by at i a stored heap a.state refl avail (omega (arith, less, differ)) stands
-    ]
-
--- the errand after it
-settle-leads :
-    (e : ErrandFields) (x : Found) (q : Point) → LeadsTo (next_of e.point x) q → settle_of e x ≡ at_point e x q
-settle-leads e x q leads =
-    elim leads [
-      | inl at ↦ settle-at e x q at
-      | inr end ↦ settle-end e x reply.Freed end.0 ∙ ap (at_point e x) (sym end.1)
     ]
 
 point-holds : (out : Outcome) (at : Site) (stored : Bool) (heap : ℕ) → holds_of (pushed_point out at stored heap) ≡ pushed_holds out at stored
@@ -161,11 +131,14 @@ point-stands stays at false heap = grind (arith)
 point-stands unfills at stored heap = grind (arith)
 point-stands empties at stored heap = grind (arith)
 
-push-stands : (at : Site) (i : ℕ) (a : AnchorFields) (stored : Bool) (heap : ℕ) (o : Onward) → FreeStands (Block (block.PushBlock at i a stored heap) o)
+push-stands :
+    (at : Site) (i : ℕ) (a : AnchorFields) (stored : Bool) (heap : ℕ) (o : Onward) → FreeStands (Block (block.PushBlock at i a stored heap) o)
 push-stands at i a stored heap o = grind (arith)
 
 -- the anchor after it fits its word
-pushed-fits : (out : Outcome) (class i : ℕ) (stored : Bool) (a : AnchorFields) → IsAnchor a → i < 2 ^ AVAIL_BITS → IsOutcome out class stored a → IsAnchor (pushed_anchor out i a)
+pushed-fits :
+    (out : Outcome) (class i : ℕ) (stored : Bool) (a : AnchorFields) → IsAnchor a → i < 2 ^ AVAIL_BITS → IsOutcome out class stored a
+    → IsAnchor (pushed_anchor out i a)
 pushed-fits stays class i stored a fits avail is = record { avail = avail; count = omega (arith, is.0, avail-room class); tag = fits.tag }
 pushed-fits unfills class i stored a fits avail is = record { avail = avail; count = omega (arith, is.0, avail-room class); tag = fits.tag }
 pushed-fits empties class i stored a fits avail is = record { avail = avail; count = fits.count; tag = fits.tag }
@@ -197,59 +170,48 @@ push-pushes g s l who s' at i a stored heap o is has here word step =
     let avail : i < 2 ^ AVAIL_BITS = omega (arith, fit.point.block.index, avail-room at.seat.class) in
     let chained : IsChained (superblock_of g s at.desc) = is.chained.chained at.desc fit.point.block.site.desc so_bound.0 in
     let less : a.count < block_count_of at.seat.class =
-    subst (λ x. x.count < block_count_of at.seat.class) before (subst (λ c. (anchor_for s at.desc).count < block_count_of c) so_bound.1.class chained.some) in
+    subst (λ x. x.count < block_count_of at.seat.class) before
+    (subst (λ c. (anchor_for s at.desc).count < block_count_of c) so_bound.1.class chained.some) in
     let stood : is_empty a.state ≡ false =
     subst (λ x. is_empty x.state ≡ false) before (bound-stands (away_of g s l at.desc == 0) (is_empty (anchor_for s at.desc).state) so_bound.0) in
     let stands : a.state ≢ phase.Empty = λ empty. let bad : is_empty phase.Empty ≡ false = ap is_empty (sym empty) ∙ stood in cc in
     let to = leads at i a stored heap avail less stands fit.point.stored in
     let out : Outcome = to.0 in
     let q : Point = pushed_point out at stored heap in
-    let w : Found = found_won (anchor_word a) in
     let free : o ≡ onward.Free = the-free o fit.goes in
     let fits_new : IsAnchor (pushed_anchor out i a) = pushed-fits out at.seat.class i stored a fit.point.anchor.fits avail to.1.is in
-    let is_won : (s.word (name.Anchor at.desc) == anchor_word a) ≡ true = eq-eqb (s.word (name.Anchor at.desc)) (anchor_word a) word in
-    let found : found_at s who ≡ w = ap (found_from s) here ∙ rw (word, eq-eqb (anchor_word a) (anchor_word a) refl) refl in
-    let goes : LeadsTo (next_of (s.errand who).point w) q =
-    subst (λ r. LeadsTo (next_of r w) q) (sym here) (subst (λ r. LeadsTo (enter_block (points.after_push at a stored heap) r) q) (sym free) to.1.next) in
-    let moved : settle_of (s.errand who) (found_at s who) ≡ at_point (s.errand who) w q =
-    ap (settle_of (s.errand who)) found ∙ settle-leads (s.errand who) w q goes in
-    let writes : Writes s.word (name.Anchor at.desc) (anchor_word (pushed at.seat.class i a)) s'.word =
-    subst (λ v. Writes s.word (name.Anchor at.desc) v s'.word) (rw is_won refl)
-    (subst (λ r. Writes s.word (name_of (plan_point_of r)) (after_action (plan_point_of r) (s.word (name_of (plan_point_of r)))) s'.word) here step.word) in
-    let own = is.errands who has in (
+    let won : AnchorWon g s who p at.desc a (pushed_anchor out i a) q s' =
+    anchor-won g s l who s' p at.desc a (pushed_anchor out i a) q is has here word fit.point.anchor.fits fits_new
+    (ap (λ x. Cas (name.Anchor at.desc) (anchor_word a) (anchor_word x)) to.1.anchor)
+    (subst (λ r. LeadsTo (enter_block (points.after_push at a stored heap) r) q) (sym free) to.1.next) step in (
       out,
-      at_point (s.errand who) w q,
+      at_point (s.errand who) (won_with (anchor_word a)) q,
       record {
         caller = has;
-        moves = subst (λ f. Moves s.errand who f s'.errand) moved step.errand;
+        moves = won.step.moves;
         site = fit.point.block.site;
         index = fit.point.block.index;
         fits = fit.point.anchor;
         goes = to.1.is;
         bound = so_bound.0;
         located = so_bound.1;
-        owned = All-head (λ x. IsOwned s who x.place x.need) (record { place = pushed_place at i; need = need.Small at.seat.class; overwritten = true }) [] frees;
-        before = before;
-        after = ap anchor_of (writes.here ∙ ap anchor_word to.1.anchor) ∙ anchor_of-anchor_word (pushed_anchor out i a) fits_new;
+        owned =
+            All-head (λ x. IsOwned s who x.place x.need)
+            (record { place = pushed_place at i; need = need.Small at.seat.class; overwritten = true }) [] frees;
+        before = won.before;
+        after = won.after;
         next =
             ap (λ f. link_in s.word f (info_for s at.desc).class i) so_bound.1.frame
             ∙ ap (λ c. link_in s.word at.frame c i) so_bound.1.class ∙ ap link_of so_link.1
             ∙ small-link a.avail fit.point.anchor.fits.avail;
-        elsewhere = writes.elsewhere;
-        below =
-            words-below s.word (name.Anchor at.desc) (anchor_word (pushed at.seat.class i a)) s'.word writes is.words
-            (subst (λ x. anchor_word x < 2 ^ 64) (sym to.1.anchor) (anchor_word-below (pushed_anchor out i a) fits_new));
-        history = step.history ∙ ap (with_event s.history) (ap (event_of who (s.errand who).point) found ∙ ap (λ r. event_of who r w) here);
-        rule = record {
-          caller = own.caller;
-          geometry = own.geometry;
-          rule = subst IsErrand moved (settle_errand (s.errand who) (found_at s who) own.rule (is.words (name_at s who)));
-          lost = subst (λ b. raised b (s.errand who).lost < 2 ^ 64) (sym (ap (λ r. counts_lost r w) here)) own.lost;
-        };
+        elsewhere = won.elsewhere;
+        below = won.below;
+        history = won.step.history;
+        rule = won.step.rule;
         retired = refl;
         turns = refl;
-        lost = ap (λ b. raised b (s.errand who).lost) (ap (λ r. counts_lost r w) here);
-        cleared = ap (λ b. raised b (s.errand who).cleared) (ap (λ r. counts_cleared r w) here);
+        lost = won.step.lost;
+        cleared = won.step.cleared;
         holds_before = ap holds_of here;
         holds_after = point-holds out at stored heap;
         recalls_after = point-recalls out at stored heap;

@@ -2,11 +2,9 @@
 use Rattle.std.proofs.Common.{ℕ, ◌≡◌, ◌<◌, ap, sym, subst}
 use Rattle.std.specs.Prelude.{All, length}
 use Rattle.heap_geometry.specs.declared.geometry.Geometry.{Geometry}
-use Rattle.word_plan.specs.declared.action.Found.{Found}
 use Rattle.word_plan.specs.declared.name.WordName.{WordName}
 use Rattle.word_plan.specs.declared.name.WordName.TheVariants as name
 use Rattle.errand_steps.specs.declared.point.Point.{Point}
-use Rattle.errand_steps.specs.Errands.{ErrandFields}
 use Rattle.errand_steps.specs.Fits.{spare_of, pushed_by}
 use Rattle.errand_steps.specs.Steps.{State}
 use Rattle.sound_state.specs.Guards.{IsHazard, IsGuard, passed_by, held_by}
@@ -16,10 +14,9 @@ use Rattle.sound_state.specs.Lists.{Lists}
 use Rattle.sound_state.specs.Recalls.{IsSo, IsOwned, recalls_of}
 use Rattle.sound_state.specs.Sound.{IsSoundWith}
 use Rattle.sound_state.specs.Stock.{waits_in}
-use Rattle.sound_state.proofs.shared.PointLemmas.{WeighFrom, from-weighs, weigh-stays}
+use Rattle.sound_state.proofs.shared.PointLemmas.{WeighFrom, weigh-stays}
 pub use Rattle.sound_state.proofs.shared.StepLemmas.{found_from, actives-stay, words-stay}
-use Rattle.sound_state.proofs.shared.StepLemmas.{PointGoes, TurnGoes, HoldsException, at_point}
-use Rattle.sound_state.proofs.shared.WeighLemmas.{WeighAlike}
+use Rattle.sound_state.proofs.shared.StepLemmas.{PointGoes, TurnGoes, HoldsException}
 
 -- at the second point a caller holds what it holds at the first, and is no further back in its turn
 pub record HoldsSame (p q : Point) : Type 0 where
@@ -34,10 +31,6 @@ pub record HoldsSame (p q : Point) : Type 0 where
 -- a word that stays, and points at which a caller holds the same, weigh the same
 pub same-stays : (n : WordName) (w : ℕ) (p q : Point) → HoldsSame p q → WeighFrom n w w p q
 same-stays n w p q h = weigh-stays n w p q (ap (λ x. x.credits) h.holds) (ap (λ x. x.kept) h.holds) (ap (λ x. x.frames) h.holds) h.waits
-
--- a word that stays, and an errand that holds the same, weigh the same
-pub same-weighs : (n : WordName) (w : ℕ) (e : ErrandFields) (x : Found) (q : Point) → HoldsSame e.point q → WeighAlike n w w e (at_point e x q)
-same-weighs n w e x q h = from-weighs n w w e x q (same-stays n w e.point q h)
 
 -- where the caller holds the same, what it holds is still so
 pub same-goes :

@@ -1,53 +1,25 @@
 -- A step that changes no superblock, no list and no event: a caller goes on, at most active words and slots change, and at most an EMPTY superblock's descriptor is retired.
-use Rattle.std.proofs.Common.{ℕ, Some, ◌≡◌, ◌≢◌, ◌<◌, ◌≤◌, ◌+◌, ◌^◌, ◌-◌, ◌*◌, List, length, refl, arith, ap, sym, subst, inl, inr, ◌∙◌}
-use Rattle.std.proofs.Math.Path.{fun_ext}
-use Rattle.std.specs.Prelude.{◌⊎◌, slice_index, All, Any, Contains, IsTrue, IsSome, count_by}
-use Rattle.std.specs.Int.{bit_at}
-use Rattle.std.proofs.lemmas.Bool.{cases_eq}
+use Rattle.std.proofs.Common.{ℕ, ◌≡◌, ◌≢◌, ◌<◌, ◌≤◌, ◌+◌, ◌^◌, arith, sym, subst}
 use Rattle.heap_geometry.specs.declared.geometry.Geometry.{Geometry}
-use Rattle.heap_geometry.specs.declared.limits.TheConstants.{CLASSES}
-use Rattle.heap_geometry.specs.declared.need.Need.{Need}
-use Rattle.heap_geometry.specs.declared.need.Need.TheVariants as need
-use Rattle.heap_geometry.specs.Need.{block_count_of}
-use Rattle.heap_geometry.specs.Place.{block_place, frame_of, unit_place}
-use Rattle.packed_words.specs.Anchor.{AnchorFields, anchor_of}
-use Rattle.packed_words.specs.declared.active.ActiveWord.TheVariants.{Held}
-use Rattle.packed_words.specs.Active.{active_of}
-use Rattle.packed_words.specs.declared.anchor.State.TheVariants as phase
-use Rattle.packed_words.specs.Head.{HeadFields, head_of}
-use Rattle.packed_words.specs.Info.{info_of}
-use Rattle.packed_words.specs.Prefix.{link_of}
 use Rattle.word_plan.specs.declared.name.WordName.{WordName}
 use Rattle.word_plan.specs.declared.name.WordName.TheVariants as name
 use Rattle.word_plan.specs.Counts.{descriptor_count}
-use Rattle.word_plan.specs.Seats.{info_in}
-use Rattle.superblock_parts.specs.Chains.{prefix_name, link_in}
-use Rattle.stack_parts.specs.declared.point.Pile.{Pile}
-use Rattle.stack_parts.specs.declared.point.Pile.TheVariants.{Frames, Partials}
-use Rattle.stack_parts.specs.Piles.{head_name, next_name}
-use Rattle.word_plan.specs.Seats.{SeatFields}
-use Rattle.pool_model.specs.declared.event.Event.TheVariants.{Looked}
-use Rattle.pool_model.specs.Histories.{own, EndsWith}
-use Rattle.pool_model.specs.Pool.{Block, block_at, pool_of}
-use Rattle.errand_steps.specs.declared.point.Point.{Point}
+use Rattle.stack_parts.specs.declared.point.Pile.TheVariants.{Partials}
+use Rattle.stack_parts.specs.Stacks.{Stacked, next_in}
 use Rattle.errand_steps.specs.Errands.{ErrandFields}
-use Rattle.errand_steps.specs.Fits.{spare_of, pushed_by}
 use Rattle.errand_steps.specs.Steps.{State, Moves}
-use Rattle.sound_state.specs.Frames.{IsFramed, errand_frames, fills}
-use Rattle.sound_state.specs.Guards.{IsGuarded, Guards, IsGuard, IsHazard, passed_by, held_by}
-use Rattle.sound_state.specs.Holdings.{Status, reserving, waiting, partly_used, on_its_way, holds_of}
-use Rattle.sound_state.specs.Keepers.{IsKept, IsPartlyUsed, IsActive, IsWithout, IsKeptAs, places_of}
-use Rattle.sound_state.specs.Lists.{Lists, IsListed}
-use Rattle.sound_state.specs.Recalls.{Recall, IsPopped, IsPlain, IsLocated, IsTopStill, IsRemembered, IsSo, IsOwned, recalls_of, bound_for, located, bound_at, pops, links, tops, nexts, tops_exist, says, made, in_use, emptied, noted, owns, owns_all, looked}
-use Rattle.sound_state.specs.Sound.{IsSoundWith, IsOwnErrand}
+use Rattle.sound_state.specs.Frames.{errand_frames}
+use Rattle.sound_state.specs.Holdings.{on_its_way}
+use Rattle.sound_state.specs.Keepers.{places_of}
+use Rattle.sound_state.specs.Lists.{Lists}
+use Rattle.sound_state.specs.Recalls.{Recall, IsPlain, says}
+use Rattle.sound_state.specs.Sound.{IsSoundWith}
 use Rattle.sound_state.specs.Stock.{IsStocked}
 use Rattle.sound_state.specs.Sums.{sum_below, callers_sum}
-use Rattle.sound_state.specs.Superblocks.{Superblock, AreChained, IsChained, info_or_zero, live_at, is_there, anchor_for, info_for, superblock_of, reserved_of, waiting_of, is_bound, errand_keeps}
-use Rattle.sound_state.specs.Ties.{IsTied, IsLive, IsExcepted, IsBlockOfDesc}
-use Rattle.sound_state.specs.Turns.{IsTurned, gives_small, refuses_small, turn_open, turn_unframed, turn_unlisted, turn_unanswered, errand_discards, errand_pops, emptied_out}
-use Rattle.sound_state.proofs.shared.ListEffects.{IsListWord, listed-kept}
-use Rattle.sound_state.proofs.shared.SumLemmas.{sum-same}
-use Rattle.sound_state.proofs.shared.TurnEffects.{head-tag, no-event, turned-after}
+use Rattle.sound_state.specs.Superblocks.{reserved_of, waiting_of, is_bound, errand_keeps}
+use Rattle.sound_state.specs.Turns.{emptied_out}
+pub use Rattle.sound_state.proofs.shared.ShownLemmas.{each-caller, same-superblock, Excepts, IsSaidAt, MayGoOn, IsUnretired, GuardsAnew, MayGuard, ActivesKept, OthersRemember, IsSoundBut}
+use Rattle.sound_state.proofs.shared.ShownLemmas.{IsShown, StaysSo, ShowsSame, sound-but_one, sound-shown}
 
 -- the second state shows the same superblocks, lists and events as the first
 pub record Alike (g : Geometry) (s : State) (l : Lists) (s' : State) : Type 0 where
@@ -60,198 +32,6 @@ pub record Alike (g : Geometry) (s : State) (l : Lists) (s' : State) : Type 0 wh
   pub places : (d : ℕ) → places_of g s' l d ≡ places_of g s l d
   pub frames : (f : ℕ) → callers_sum g (errand_frames f) s'.errand ≡ callers_sum g (errand_frames f) s.errand
   pub stock : IsStocked g s l → IsStocked g s' l
-
-anchor-alike : (g : Geometry) (s : State) (l : Lists) (s' : State) → Alike g s l s' → (d : ℕ) → anchor_for s' d ≡ anchor_for s d
-anchor-alike g s l s' h d = ap anchor_of (h.word (name.Anchor d) tt)
-
-info-alike : (g : Geometry) (s : State) (l : Lists) (s' : State) → Alike g s l s' → (d : ℕ) → info_for s' d ≡ info_for s d
-info-alike g s l s' h d = ap (λ w. info_or_zero (info_of w)) (h.word (name.Info d) tt)
-
-live-alike : (g : Geometry) (s : State) (l : Lists) (s' : State) → Alike g s l s' → (place : ℕ) → live_at s' place ≡ live_at s place
-live-alike g s l s' h place = ap (λ e. is_there (block_at place (pool_of e))) h.history
-
-pub same-superblock :
-    (a a' : AnchorFields) (r r' w w' : ℕ) (n n' v v' : ℕ → ℕ) (z z' : ℕ) → a' ≡ a → r' ≡ r → w' ≡ w → n' ≡ n → v' ≡ v → z' ≡ z
-    → ◌≡◌ {A = Superblock} (record { anchor = a'; reserved = r'; waiting = w'; next = n'; live = v'; size = z' })
-    (record { anchor = a; reserved = r; waiting = w; next = n; live = v; size = z })
-same-superblock a a' r r' w w' n n' v v' z z' ea er ew en ev ez = rw (ea, er, ew, en, ev, ez) refl
-
-superblock-alike : (g : Geometry) (s : State) (l : Lists) (s' : State) → Alike g s l s' → (d : ℕ) → superblock_of g s' d ≡ superblock_of g s d
-superblock-alike g s l s' h d =
-    let i = info-alike g s l s' h d in
-    let next : link_in s'.word (info_for s' d).frame (info_for s' d).class ≡ link_in s.word (info_for s d).frame (info_for s d).class =
-    fun_ext (λ k. ap link_of (h.word (prefix_name (info_for s' d).frame (info_for s' d).class k) tt ∙ ap (λ x. s.word (prefix_name x.frame x.class k)) i)) in
-    let live : (λ k. live_at s' (block_place (info_for s' d).frame (info_for s' d).class k)) ≡ (λ k. live_at s (block_place (info_for s d).frame (info_for s d).class k)) =
-    fun_ext (λ k. live-alike g s l s' h (block_place (info_for s' d).frame (info_for s' d).class k) ∙ ap (λ x. live_at s (block_place x.frame x.class k)) i) in
-    same-superblock _ _ _ _ _ _ _ _ _ _ _ _ (anchor-alike g s l s' h d) (h.reserved d) (h.waits d) next live (ap (λ x. block_count_of x.class) i)
-
-fills-alike : (g : Geometry) (s : State) (l : Lists) (s' : State) → Alike g s l s' → (f d : ℕ) → fills g s' l f d ≡ fills g s l f d
-fills-alike g s l s' h f d = rw (h.bound d, h.waits d, info-alike g s l s' h d) refl
-
--- what is said of a descriptor's word or anchor stays so
-partly-alike : (g : Geometry) (s : State) (l : Lists) (s' : State) → Alike g s l s' → (d c : ℕ) → IsPartlyUsed s d c → IsPartlyUsed s' d c
-partly-alike g s l s' h d c k = record {
-  class = ap (λ x. x.class) (info-alike g s l s' h d) ∙ k.class;
-  state = subst (λ a. ((a.state ≡ phase.Partial) × (1 ≤ a.count)) ⊎ (a.state ≡ phase.Empty)) (sym (anchor-alike g s l s' h d)) k.state;
-}
-
-active-alike : (g : Geometry) (s : State) (l : Lists) (s' : State) → Alike g s l s' → (d c : ℕ) → IsActive s d c → IsActive s' d c
-active-alike g s l s' h d c k = record {
-  class = ap (λ x. x.class) (info-alike g s l s' h d) ∙ k.class;
-  state = ap (λ a. a.state) (anchor-alike g s l s' h d) ∙ k.state;
-}
-
-without-alike : (g : Geometry) (s : State) (l : Lists) (s' : State) → Alike g s l s' → (d : ℕ) → IsWithout s d → IsWithout s' d
-without-alike g s l s' h d k = subst (λ a. (a.state ≡ phase.Active) ⊎ (a.state ≡ phase.Empty)) (sym (anchor-alike g s l s' h d)) k
-
-kept_as-alike :
-    (g : Geometry) (s : State) (l : Lists) (s' : State) → Alike g s l s' → (status : Status) (d c : ℕ) → IsKeptAs s status d c
-    → IsKeptAs s' status d c
-kept_as-alike g s l s' h reserving d c k = active-alike g s l s' h d c k
-kept_as-alike g s l s' h waiting d c k = active-alike g s l s' h d c k
-kept_as-alike g s l s' h partly_used d c k = partly-alike g s l s' h d c k
-kept_as-alike g s l s' h on_its_way d c k = without-alike g s l s' h d k
-
-located-alike : (g : Geometry) (s : State) (l : Lists) (s' : State) → Alike g s l s' → (d f c : ℕ) → IsLocated s d f c → IsLocated s' d f c
-located-alike g s l s' h d f c k = record {
-  frame = ap (λ x. x.frame) (info-alike g s l s' h d) ∙ k.frame;
-  class = ap (λ x. x.class) (info-alike g s l s' h d) ∙ k.class;
-}
-
-owned-alike : (g : Geometry) (s : State) (l : Lists) (s' : State) → Alike g s l s' → (who place : ℕ) (n : Need) → IsOwned s who place n → IsOwned s' who place n
-owned-alike g s l s' h who place n k = record {
-  block = (
-    k.block.0,
-    ap (λ e. block_at place (pool_of e)) h.history ∙ k.block.1,
-    k.block.2,
-    k.block.3,
-  );
-}
-
-head-alike :
-    (g : Geometry) (s : State) (l : Lists) (s' : State) → Alike g s l s' → (seat : SeatFields) (p : Pile)
-    → s'.word (head_name seat p) ≡ s.word (head_name seat p)
-head-alike g s l s' h seat Frames = h.word name.FrameHead tt
-head-alike g s l s' h seat Partials = h.word (name.ListHead seat.class) tt
-
-next-alike :
-    (g : Geometry) (s : State) (l : Lists) (s' : State) → Alike g s l s' → (p : Pile) (i : ℕ)
-    → s'.word (next_name p i) ≡ s.word (next_name p i)
-next-alike g s l s' h Frames i = h.word (name.FrameNext i) tt
-next-alike g s l s' h Partials i = h.word (name.Next i) tt
-
-top-alike :
-    (g : Geometry) (s : State) (l : Lists) (s' : State) → Alike g s l s' → (seat : SeatFields) (p : Pile) (head : HeadFields)
-    → IsTopStill s l seat p head → IsTopStill s' l seat p head
-top-alike g s l s' h seat p head k =
-    let same : head_of (s'.word (head_name seat p)) ≡ head_of (s.word (head_name seat p)) = ap head_of (head-alike g s l s' h seat p) in
-    record {
-      tag = subst (λ x. head.tag ≤ x.tag) (sym same) k.tag;
-      top = λ is. k.top (is ∙ ap (λ x. x.tag) same);
-    }
-
--- what is remembered stays so
-so-alike :
-    (g : Geometry) (s : State) (l : Lists) (s' : State) → Alike g s l s' → (i : ℕ) (r : Recall) → IsSo g s l i r → IsSo g s' l i r
-so-alike g s l s' h i (bound_for d c) so =
-    (subst IsTrue (sym (h.bound d)) so.0, ap (λ x. x.class) (info-alike g s l s' h d) ∙ so.1)
-so-alike g s l s' h i (located d f c) so = located-alike g s l s' h d f c so
-so-alike g s l s' h i (bound_at d f c) so =
-    (subst IsTrue (sym (h.bound d)) so.0, located-alike g s l s' h d f c so.1)
-so-alike g s l s' h i (pops d a) so = subst (λ b. IsPopped b a) (sym (superblock-alike g s l s' h d)) so
-so-alike g s l s' h i (links d a prefix) so =
-    let b = superblock-alike g s l s' h d in
-    λ is. ap (λ x. x.next a.avail) b ∙ so (is ∙ ap (λ x. x.tag) (anchor-alike g s l s' h d))
-so-alike g s l s' h i (tops seat p head) so = top-alike g s l s' h seat p head so
-so-alike g s l s' h i (nexts seat p head below) so =
-    λ is. next-alike g s l s' h p (head.top - 1) ∙ so (is ∙ ap (λ w. (head_of w).tag) (head-alike g s l s' h seat p))
-so-alike g s l s' h i (tops_exist seat p head) so = so
-so-alike g s l s' h i (says n w) so = (so.0, h.word n so.0 ∙ so.1)
-so-alike g s l s' h i (made f c blocks) so = λ k below. h.word (prefix_name f c k) tt ∙ so k below
-so-alike g s l s' h i (in_use a) so = so
-so-alike g s l s' h i (emptied d) so = record {
-  state = ap (λ a. a.state) (anchor-alike g s l s' h d) ∙ so.state;
-  unavailable = so.unavailable;
-  standing = omega (arith, h.ways d, so.standing);
-}
-so-alike g s l s' h i (noted d next) so = λ on. h.word (name.Next d) tt ∙ so on
-so-alike g s l s' h i (owns place k) so = (so.0, owned-alike g s l s' h i place so.0 so.1, so.2)
-so-alike g s l s' h i (owns_all place n) so = owned-alike g s l s' h i place n so
-so-alike g s l s' h i (looked c) so = subst (λ e. EndsWith (own i e) (Looked i c)) (sym h.history) so
-
--- what holds of the new errand and of those of the others holds of each
-pub each-caller :
-    (g : Geometry) (P : ℕ → ErrandFields → Type 0) (errands : ℕ → ErrandFields) (who : ℕ) (e : ErrandFields) (errands' : ℕ → ErrandFields)
-    → Moves errands who e errands' → P who e → ((i : ℕ) → i < g.callers → P i (errands i))
-    → (i : ℕ) → i < g.callers → P i (errands' i)
-each-caller g P errands who e errands' m here others i has =
-    elim (cases_eq i who) [
-      | inl same ↦ let at : P who (errands' who) = subst (P who) (sym m.here) here in subst (λ j. P j (errands' j)) (sym same) at
-      | inr differ ↦ subst (P i) (sym (m.elsewhere i differ)) (others i has)
-    ]
-
--- the block at the place is excepted by what this caller hands out or frees
-abbrev pub Excepts : ErrandFields → ℕ → Type 0
-Excepts e place =
-    Any (λ b. b.place ≡ place) (holds_of e.point).hands
-    ⊎ Any (λ b. (b.place ≡ place) × IsTrue b.overwritten) (holds_of e.point).frees
-
--- the prefix word at the place says what it does where nobody excepts the block
-pub record IsSaidAt (g : Geometry) (s : State) (l : Lists) (place : ℕ) : Type 0 where
-  pub small :
-      (class d : ℕ) (b : Block) → IsLive s place b → b.need ≡ need.Small class → IsBlockOfDesc g s l place class d
-      → s.word (name.Arena place) ≡ 2 * d
-  pub large : (units : ℕ) (b : Block) → IsLive s place b → b.need ≡ need.Large units → s.word (name.Arena place) ≡ 2 * units + 1
-
--- a caller may go on from one errand to another in a state
-pub record MayGoOn (g : Geometry) (s : State) (l : Lists) (who : ℕ) (a b : ErrandFields) : Type 0 where
-  pub rule : IsOwnErrand g who b
-  pub kept : All (λ k. IsKeptAs s k.status k.desc k.class) (holds_of b.point).kept
-  pub retired : All (IsWithout s) b.retired
-  pub so : All (IsSo g s l who) (recalls_of b.point)
-  pub full : spare_of b.point ≡ 1 → length b.retired ≡ g.callers + 1
-  pub hands : All (λ x. IsOwned s who x.place x.need) (holds_of b.point).hands
-  pub frees : All (λ x. IsOwned s who x.place x.need) (holds_of b.point).frees
-  pub excepts : (place : ℕ) → Excepts a place → Excepts b place ⊎ IsSaidAt g s l place
-  pub own_turns : count_by (gives_small who) s.history + turn_open b ≤ b.turns
-  pub own_lost :
-      b.turns + errand_discards b
-      ≤ count_by (gives_small who) s.history + count_by (refuses_small who) s.history + b.lost + turn_unanswered b
-  pub frame_turns : turn_unframed b + a.turns ≤ turn_unframed a + b.turns
-  pub list_turns :
-      errand_pops b + turn_unlisted b + a.turns + a.cleared ≤ errand_pops a + turn_unlisted a + b.turns + b.cleared
-
--- the descriptor is free to be guarded anew: it is retired nowhere, and nobody pushes it
-pub record IsUnretired (g : Geometry) (s : State) (d : ℕ) : Type 0 where
-  pub pushed : (other : ℕ) → other < g.callers → pushed_by (s.errand other).point ≡ Some d → ⊥
-  pub listed : (other : ℕ) → other < g.callers → Contains (s.errand other).retired d → ⊥
-
--- a caller may begin to guard the descriptor at a point at which it neither pushes it nor scans
-pub record GuardsAnew (g : Geometry) (s : State) (q : Point) (d : ℕ) : Type 0 where
-  pub unretired : IsUnretired g s d
-  pub pushed : pushed_by q ≡ Some d → ⊥
-  pub passed : passed_by q ≡ 0
-
--- with this hazard word and this retired list a caller may stand at the point, by the hazard words that were there
-pub record MayGuard (g : Geometry) (s : State) (who : ℕ) (q : Point) (retired : List ℕ) (word : ℕ) : Type 0 where
-  pub hazard : IsHazard (holds_of q).hazard word
-  pub guard : (d : ℕ) → word ≡ d + 1 → IsGuard (holds_of q).hazard → Guards s who d ⊎ GuardsAnew g s q d
-  pub pushed : (i d : ℕ) → i < g.callers → Guards s i d → pushed_by q ≡ Some d → ⊥
-  pub passed :
-      (i d : ℕ) → i < g.callers → Guards s i d → Contains retired d → i < passed_by q → slice_index (held_by q) i ≡ d + 1
-  pub unread : (i : ℕ) → passed_by q ≤ i → i < length (held_by q) → slice_index (held_by q) i ≡ 0
-
--- what the active words and the slots hold is in its state
-pub record ActivesKept (g : Geometry) (s : State) (words : WordName → ℕ) : Type 0 where
-  pub active_words :
-      (heap class : ℕ) → heap < g.heaps → class < CLASSES → IsSome (active_of (words (name.Active heap class)))
-  pub slot_words : (heap class : ℕ) → heap < g.heaps → class < CLASSES → words (name.Slot heap class) ≤ descriptor_count g
-  pub active :
-      (heap class d credits : ℕ) → heap < g.heaps → class < CLASSES → active_of (words (name.Active heap class)) ≡ Some (Held d credits)
-      → (d < descriptor_count g) × IsActive s d class
-  pub slot :
-      (heap class d : ℕ) → heap < g.heaps → class < CLASSES → words (name.Slot heap class) ≡ d + 1
-      → (d < descriptor_count g) × IsPartlyUsed s d class
 
 -- a caller goes on in a state that shows the same
 pub record GoesOn (g : Geometry) (s : State) (l : Lists) (who : ℕ) (e : ErrandFields) (s' : State) : Type 0 where
@@ -267,261 +47,53 @@ pub record GoesOn (g : Geometry) (s : State) (l : Lists) (who : ℕ) (e : Errand
       sum_below (descriptor_count g) (emptied_out g s' l) + e.cleared
       ≤ sum_below (descriptor_count g) (emptied_out g s l) + (s.errand who).cleared
 
--- the heads and the next words are plain words
-list-plain : (n : WordName) → IsListWord n → IsPlain n
-list-plain (name.Active heap class) is = is
-list-plain (name.Slot heap class) is = is
-list-plain (name.Hazard caller) is = is
-list-plain n is = tt
+-- what such a step shows is plain
+plain-shown : (n : WordName) → IsShown n → IsPlain n
+plain-shown n shown = grind (arith)
 
-listed-alike : (g : Geometry) (s : State) (l : Lists) (s' : State) → Alike g s l s' → IsListed g s.word l → IsListed g s'.word l
-listed-alike g s l s' h = listed-kept g s.word s'.word l (λ n is. h.word n (list-plain n is))
+-- and what is remembered stays so
+stays-alike : (g : Geometry) (s : State) (l : Lists) (s' : State) → Alike g s l s' → (r : Recall) → StaysSo l l.available s s' r
+stays-alike g s l s' h (says n w) = h.word n
+stays-alike g s l s' h r = grind (arith)
 
-kept-alike : (g : Geometry) (s : State) (l : Lists) (who : ℕ) (e : ErrandFields) (s' : State) → GoesOn g s l who e s' → IsKept g s l → IsKept g s' l
-kept-alike g s l who e s' go kept =
+shows-alike :
+    (g : Geometry) (s : State) (l : Lists) (who : ℕ) (e : ErrandFields) (s' : State) → GoesOn g s l who e s' → IsSoundBut g s l who
+    → ShowsSame g s l who e s' l.available
+shows-alike g s l who e s' go sound =
     let h = go.alike in
     record {
-      once = λ d has. h.places d ∙ kept.once d has;
-      active_words = go.actives.active_words;
-      slot_words = go.actives.slot_words;
-      active = λ heap class d credits has_heap has_class is.
-          let a = go.actives.active heap class d credits has_heap has_class is in (a.0, active-alike g s l s' h d class a.1);
-      slot = λ heap class d has_heap has_class is.
-          let a = go.actives.slot heap class d has_heap has_class is in (a.0, partly-alike g s l s' h d class a.1);
-      full = λ d has is.
-          ap (λ a. a.count) (anchor-alike g s l s' h d)
-          ∙ kept.full d has (ap (λ a. a.state) (sym (anchor-alike g s l s' h d)) ∙ is);
-      listed = λ class has k d lt. partly-alike g s l s' h _ class (kept.listed class has k d lt);
-      available = λ k d lt. without-alike g s l s' h _ (kept.available k d lt);
-      retired =
-          each-caller g (λ i e. All (IsWithout s') e.retired) s.errand who e s'.errand go.moves
-          (λ k d lt. without-alike g s l s' h _ (go.may.retired k d lt)) (λ i has k d lt. without-alike g s l s' h _ (kept.retired i has k d lt));
-      errand =
-          each-caller g (λ i e. All (λ k. IsKeptAs s' k.status k.desc k.class) (holds_of e.point).kept) s.errand who e s'.errand go.moves
-          (λ k d lt. kept_as-alike g s l s' h _ _ _ (go.may.kept k d lt)) (λ i has k d lt. kept_as-alike g s l s' h _ _ _ (kept.errand i has k d lt));
-    }
-
-chained-alike : (g : Geometry) (s : State) (l : Lists) (s' : State) → Alike g s l s' → AreChained g s l → AreChained g s' l
-chained-alike g s l s' h chained = record {
-  infos = λ d has. subst (λ w. IsSome (info_in g w)) (sym (h.word (name.Info d) tt)) (chained.infos d has);
-  chained = λ d has bound.
-      subst IsChained (sym (superblock-alike g s l s' h d)) (chained.chained d has (subst IsTrue (h.bound d) bound));
-}
-
-framed-alike : (g : Geometry) (s : State) (l : Lists) (s' : State) → Alike g s l s' → IsFramed g s l → IsFramed g s' l
-framed-alike g s l s' h framed = record {
-  once = λ f has.
-      let filled : sum_below (descriptor_count g) (fills g s' l f) ≡ sum_below (descriptor_count g) (fills g s l f) =
-      sum-same (descriptor_count g) (fills g s l f) (fills g s' l f) (λ d lt. fills-alike g s l s' h f d) in
-      omega (arith, filled, h.frames f, framed.once f has);
-}
-
--- what all callers but one remember is so
-abbrev pub OthersRemember : Geometry → State → Lists → ℕ → Type 0
-OthersRemember g s l who = (i : ℕ) → i < g.callers → i ≢ who → All (IsSo g s l i) (recalls_of (s.errand i).point)
-
-remembered-alike :
-    (g : Geometry) (s : State) (l : Lists) (who : ℕ) (e : ErrandFields) (s' : State) → GoesOn g s l who e s' → OthersRemember g s l who
-    → IsRemembered g s' l
-remembered-alike g s l who e s' go remembered = record {
-  so = λ i has.
-      elim (cases_eq i who) [
-        | inl same ↦
-            let here : All (IsSo g s' l who) (recalls_of (s'.errand who).point) =
-            subst (λ f. All (IsSo g s' l who) (recalls_of f.point)) (sym go.moves.here)
-            (λ k d lt. so-alike g s l s' go.alike who _ (go.may.so k d lt)) in
-            subst (λ j. All (IsSo g s' l j) (recalls_of (s'.errand j).point)) (sym same) here
-        | inr differ ↦
-            subst (λ f. All (IsSo g s' l i) (recalls_of f.point)) (sym (go.moves.elsewhere i differ))
-            (λ k d lt. so-alike g s l s' go.alike i _ (remembered i has differ k d lt))
-      ];
-}
-
--- whoever guards a descriptor afterwards did before; or it is the caller that went on, and it guards it anew
-guards-alike :
-    (g : Geometry) (s : State) (l : Lists) (who : ℕ) (e : ErrandFields) (s' : State) → GoesOn g s l who e s' → (i d : ℕ)
-    → Guards s' i d → Guards s i d ⊎ ((i ≡ who) × GuardsAnew g s e.point d)
-guards-alike g s l who e s' go i d guards =
-    elim (cases_eq i who) [
-      | inl same ↦
-          let here : Guards s' who d = subst (λ j. Guards s' j d) same guards in
-          elim (go.guards.guard d here.word (subst (λ f. IsGuard (holds_of f.point).hazard) go.moves.here here.guard)) [
-            | inl old ↦ inl (subst (λ j. Guards s j d) (sym same) old)
-            | inr anew ↦ inr (same, anew)
-          ]
-      | inr differ ↦
-          inl (record {
-            word = sym (go.others i differ) ∙ guards.word;
-            guard = subst (λ f. IsGuard (holds_of f.point).hazard) (go.moves.elsewhere i differ) guards.guard;
-          })
-    ]
-
-guarded-alike :
-    (g : Geometry) (s : State) (l : Lists) (who : ℕ) (e : ErrandFields) (s' : State) → GoesOn g s l who e s' → IsGuarded g s → IsGuarded g s'
-guarded-alike g s l who e s' go guarded = record {
-  words = λ i has.
-      elim (cases_eq i who) [
-        | inl same ↦
-            let here : IsHazard (holds_of (s'.errand who).point).hazard (s'.word (name.Hazard who)) =
-            subst (λ f. IsHazard (holds_of f.point).hazard (s'.word (name.Hazard who))) (sym go.moves.here) go.guards.hazard in
-            subst (λ j. IsHazard (holds_of (s'.errand j).point).hazard (s'.word (name.Hazard j))) (sym same) here
-        | inr differ ↦
-            subst (λ w. IsHazard (holds_of (s'.errand i).point).hazard w) (sym (go.others i differ))
-            (subst (λ f. IsHazard (holds_of f.point).hazard (s.word (name.Hazard i))) (sym (go.moves.elsewhere i differ)) (guarded.words i has))
-      ];
-  pushed = λ i other d has has_other guards.
-      elim (guards-alike g s l who e s' go i d guards) [
-        | inl old ↦
-            each-caller g (λ j f. pushed_by f.point ≡ Some d → ⊥) s.errand who e s'.errand go.moves (go.guards.pushed i d has old)
-            (λ j has_j. guarded.pushed i j d has has_j old) other has_other
-        | inr anew ↦
-            each-caller g (λ j f. pushed_by f.point ≡ Some d → ⊥) s.errand who e s'.errand go.moves anew.1.pushed anew.1.unretired.pushed other
-            has_other
-      ];
-  passed = λ i other d has has_other guards.
-      elim (guards-alike g s l who e s' go i d guards) [
-        | inl old ↦
-            each-caller g (λ j f. Contains f.retired d → i < passed_by f.point → slice_index (held_by f.point) i ≡ d + 1) s.errand who e s'.errand
-            go.moves (go.guards.passed i d has old) (λ j has_j. guarded.passed i j d has has_j old) other has_other
-        | inr anew ↦
-            each-caller g (λ j f. Contains f.retired d → i < passed_by f.point → slice_index (held_by f.point) i ≡ d + 1) s.errand who e s'.errand
-            go.moves (λ listed below. let bad : ⊥ = omega (arith, below, anew.1.passed) in absurd bad)
-            (λ j has_j listed below. absurd (anew.1.unretired.listed j has_j listed)) other has_other
-      ];
-  unread = λ i k has passed below.
-      each-caller g (λ j e. passed_by e.point ≤ k → k < length (held_by e.point) → slice_index (held_by e.point) k ≡ 0) s.errand who e s'.errand go.moves
-      (go.guards.unread k) (λ j has_j passed below. guarded.unread j k has_j passed below) i has passed below;
-  full =
-      each-caller g (λ i e. spare_of e.point ≡ 1 → length e.retired ≡ g.callers + 1) s.errand who e s'.errand go.moves go.may.full guarded.full;
-}
-
-turned-alike :
-    (g : Geometry) (s : State) (l : Lists) (who : ℕ) (e : ErrandFields) (s' : State) → GoesOn g s l who e s' → IsTurned g s l → IsTurned g s' l
-turned-alike g s l who e s' go turned =
-    let h = go.alike in
-    let events = no-event g who s.history s'.history h.history in
-    turned-after g s l who e s' l 0 0
-    (record {
       caller = go.caller;
       moves = go.moves;
-      events = events;
-      own_turns = omega (arith, go.may.own_turns, events.gives);
-      own_lost = omega (arith, go.may.own_lost, events.gives, events.refuses who);
-      anchor_tags = λ d has. omega (arith, ap (λ a. a.tag) (anchor-alike g s l s' h d));
-      frame_turns = omega (arith, head-tag (h.word name.FrameHead tt), go.may.frame_turns);
-      emptied = omega (arith, go.emptied);
-      list_turns = λ class has. omega (arith, head-tag (h.word (name.ListHead class) tt), go.may.list_turns);
-    })
-    turned
-
-excepted-alike :
-    (g : Geometry) (s : State) (l : Lists) (who : ℕ) (e : ErrandFields) (s' : State) → GoesOn g s l who e s' → (place : ℕ)
-    → IsExcepted g s place → IsExcepted g s' place ⊎ IsSaidAt g s l place
-excepted-alike g s l who e s' go place x =
-    let i = x.who.0 in
-    elim (each-caller g (λ j e. Excepts (s.errand j) place → Excepts e place ⊎ IsSaidAt g s l place) s.errand who e s'.errand go.moves
-    (go.may.excepts place) (λ j has same. inl same) i x.who.1 x.who.2) [
-      | inl still ↦ inl (record { who = (i, x.who.1, still) })
-      | inr said ↦ inr said
-    ]
-
-tie-alike :
-    (g : Geometry) (s : State) (l : Lists) (who : ℕ) (e : ErrandFields) (s' : State) → GoesOn g s l who e s' → (place w : ℕ)
-    → (IsSaidAt g s l place → s.word (name.Arena place) ≡ w) → IsExcepted g s place ⊎ (s.word (name.Arena place) ≡ w)
-    → IsExcepted g s' place ⊎ (s'.word (name.Arena place) ≡ w)
-tie-alike g s l who e s' go place w says_it (inl x) =
-    elim (excepted-alike g s l who e s' go place x) [
-      | inl still ↦ inl still
-      | inr said ↦ inr (go.alike.word (name.Arena place) tt ∙ says_it said)
-    ]
-tie-alike g s l who e s' go place w says_it (inr is) = inr (go.alike.word (name.Arena place) tt ∙ is)
-
-tied-alike :
-    (g : Geometry) (s : State) (l : Lists) (who : ℕ) (e : ErrandFields) (s' : State) → GoesOn g s l who e s' → IsTied g s l → IsTied g s' l
-tied-alike g s l who e s' go tied =
-    let h = go.alike in
-    let was = λ (place : ℕ) (b : Block) (live : IsLive s' place b). ap (λ past. block_at place (pool_of past)) (sym h.history) ∙ live in
-    record {
-      small = λ place class b live is.
-          let old = tied.small place class b (was place b live) is in (
-            old.0,
-            record {
-              exists = old.1.exists;
-              bound = subst IsTrue (sym (h.bound old.0)) old.1.bound;
-              located = located-alike g s l s' h old.0 (frame_of place) class old.1.located;
-            },
-            tie-alike g s l who e s' go place (2 * old.0) (λ said. said.small class old.0 b (was place b live) is old.1) old.2,
-          );
-      large = λ place units b live is.
-          tie-alike g s l who e s' go place (2 * units + 1) (λ said. said.large units b (was place b live) is)
-          (tied.large place units b (was place b live) is);
-      units = λ unit has.
-          let old = tied.units unit has in (
-            λ bit. let c = old.0 (ap (λ w. bit_at w unit) (sym (h.word name.Units tt)) ∙ bit) in
-                (c.0, c.1, c.2, ap (λ past. block_at (unit_place g.frames c.1) (pool_of past)) h.history ∙ c.3, c.4, c.5, c.6),
-            λ c. ap (λ w. bit_at w unit) (h.word name.Units tt)
-                ∙ old.1 (c.0, c.1, c.2, was (unit_place g.frames c.1) c.0 c.3, c.4, c.5, c.6),
-          );
-      no_more_units = subst (λ w. w < 2 ^ g.units) (sym (h.word name.Units tt)) tied.no_more_units;
-      shelved = λ k place b has live is. h.word (name.Shelf k) tt ∙ tied.shelved k place b has (was place b live) is;
-      bare_shelf = λ k has none. h.word (name.Shelf k) tt ∙ tied.bare_shelf k has (λ place b live is. none place b (ap (λ past. block_at place (pool_of past)) h.history ∙ live) is);
-      contents = λ place i v b live is. h.word (name.Arena (place + 1 + i)) tt ∙ tied.contents place i v b (was place b live) is;
-      hands =
-          each-caller g (λ i e. All (λ x. IsOwned s' i x.place x.need) (holds_of e.point).hands) s.errand who e s'.errand go.moves
-          (λ k d lt. owned-alike g s l s' h who _ _ (go.may.hands k d lt)) (λ i has k d lt. owned-alike g s l s' h i _ _ (tied.hands i has k d lt));
-      frees =
-          each-caller g (λ i e. All (λ x. IsOwned s' i x.place x.need) (holds_of e.point).frees) s.errand who e s'.errand go.moves
-          (λ k d lt. owned-alike g s l s' h who _ _ (go.may.frees k d lt)) (λ i has k d lt. owned-alike g s l s' h i _ _ (tied.frees i has k d lt));
+      may = go.may;
+      others = go.others;
+      guards = go.guards;
+      actives = go.actives;
+      words = go.words;
+      word = λ n shown. h.word n (plain-shown n shown);
+      history = h.history;
+      stacked = subst (λ w. Stacked (next_in s.word Partials) w l.available) (sym (h.word name.DescHead tt)) sound.listed.available;
+      exist = sound.listed.available_exist;
+      without = sound.kept.available;
+      reserved = h.reserved;
+      waits = h.waits;
+      ways = λ d off. h.ways d;
+      bound = h.bound;
+      places = h.places;
+      frames = h.frames;
+      stock = h.stock;
+      emptied = go.emptied;
+      stays = λ i has k d lt. stays-alike g s l s' h _;
+      stays_here = λ k d lt. stays-alike g s l s' h _;
     }
 
--- the state is sound, but for what one caller remembers
-pub record IsSoundBut (g : Geometry) (s : State) (l : Lists) (who : ℕ) : Type 0 where
-  pub words : (n : WordName) → s.word n < 2 ^ 64
-  pub errands : (i : ℕ) → i < g.callers → IsOwnErrand g i (s.errand i)
-  pub listed : IsListed g s.word l
-  pub kept : IsKept g s l
-  pub chained : AreChained g s l
-  pub framed : IsFramed g s l
-  pub remembered : OthersRemember g s l who
-  pub guarded : IsGuarded g s
-  pub stocked : IsStocked g s l
-  pub turned : IsTurned g s l
-  pub tied : IsTied g s l
-
--- a caller that goes on so makes such a state sound
+-- a caller that goes on so makes a state sound that is sound but for what it remembers
 pub sound-but :
     (g : Geometry) (s : State) (l : Lists) (who : ℕ) (e : ErrandFields) (s' : State) → GoesOn g s l who e s' → IsSoundBut g s l who
     → IsSoundWith g s' l
-sound-but g s l who e s' go sound = record {
-  words = go.words;
-  errands = each-caller g (IsOwnErrand g) s.errand who e s'.errand go.moves go.may.rule sound.errands;
-  listed = listed-alike g s l s' go.alike sound.listed;
-  kept = kept-alike g s l who e s' go sound.kept;
-  chained = chained-alike g s l s' go.alike sound.chained;
-  framed = framed-alike g s l s' go.alike sound.framed;
-  remembered = remembered-alike g s l who e s' go sound.remembered;
-  guarded = guarded-alike g s l who e s' go sound.guarded;
-  stocked = go.alike.stock sound.stocked;
-  turned = turned-alike g s l who e s' go sound.turned;
-  tied = tied-alike g s l who e s' go sound.tied;
-}
+sound-but g s l who e s' go sound = sound-shown g s l who e s' l.available (shows-alike g s l who e s' go sound) sound
 
 -- and keeps a sound one sound
 pub sound-alike :
     (g : Geometry) (s : State) (l : Lists) (who : ℕ) (e : ErrandFields) (s' : State) → GoesOn g s l who e s' → IsSoundWith g s l
     → IsSoundWith g s' l
-sound-alike g s l who e s' go sound =
-    sound-but g s l who e s' go
-    (record {
-      words = sound.words;
-      errands = sound.errands;
-      listed = sound.listed;
-      kept = sound.kept;
-      chained = sound.chained;
-      framed = sound.framed;
-      remembered = λ i has differ. sound.remembered.so i has;
-      guarded = sound.guarded;
-      stocked = sound.stocked;
-      turned = sound.turned;
-      tied = sound.tied;
-    })
+sound-alike g s l who e s' go sound = sound-but g s l who e s' go (sound-but_one g s l who sound)

@@ -13,16 +13,11 @@ use Rattle.superblock_parts.specs.Anchors.{new_anchor}
 use Rattle.superblock_parts.specs.Chains.{occurs}
 use Rattle.superblock_parts.specs.declared.point.BlockPoint.{BlockPoint}
 use Rattle.superblock_parts.specs.declared.point.BlockPoint.TheVariants as block
-use Rattle.hazard_parts.specs.declared.point.DescPoint.{DescPoint}
-use Rattle.partial_parts.specs.declared.point.PartialPoint.{PartialPoint}
-use Rattle.stack_parts.specs.declared.point.StackPoint.{StackPoint}
-use Rattle.large_parts.specs.declared.point.LargePoint.{LargePoint}
-use Rattle.errand_steps.specs.declared.onward.Onward.{Onward}
 use Rattle.errand_steps.specs.declared.point.Point.{Point}
 use Rattle.errand_steps.specs.declared.point.Point.TheVariants as point
 use Rattle.errand_steps.specs.Steps.{State}
 use Rattle.sound_state.specs.Frames.{errand_frames, fills}
-use Rattle.sound_state.specs.Holdings.{waiting, holds_of, block_holds, stack_holds, desc_holds, partial_holds, large_holds}
+use Rattle.sound_state.specs.Holdings.{waiting, holds_of}
 use Rattle.sound_state.specs.Lists.{Lists}
 use Rattle.sound_state.specs.Recalls.{IsSo, IsLocated, recalls_of, block_recalls, bound_at, bound_here, says}
 use Rattle.sound_state.specs.Sound.{IsSoundWith}
@@ -49,42 +44,14 @@ is_frame f None = 0
 is_frame f (Some at) = if at.frame == f then 1 else 0
 
 -- only that superblock waits
-waits-block : (d : ℕ) (p : BlockPoint) → kept_among waiting d (block_holds p).kept ≡ is_desc d (installing_block p)
-waits-block d p = grind (arith)
-
-waits-stack : (d : ℕ) (p : StackPoint) (o : Onward) → kept_among waiting d (stack_holds p o).kept ≡ 0
-waits-stack d p o = grind (arith)
-
-waits-desc : (d : ℕ) (p : DescPoint) (o : Onward) → kept_among waiting d (desc_holds p o).kept ≡ 0
-waits-desc d p o = grind (arith)
-
-waits-partial : (d : ℕ) (p : PartialPoint) (o : Onward) → kept_among waiting d (partial_holds p o).kept ≡ 0
-waits-partial d p o = grind (arith)
-
-waits-large : (d : ℕ) (p : LargePoint) → kept_among waiting d (large_holds p).kept ≡ 0
-waits-large d p = grind (arith)
-
 waits-is : (d : ℕ) (p : Point) → kept_among waiting d (holds_of p).kept ≡ is_desc d (installing p)
 unfolding holds_of
-waits-is d point.Idle = refl
-waits-is d (point.Block p o) = waits-block d p
-waits-is d (point.Stack p o) = waits-stack d p o
-waits-is d (point.Desc p o) = waits-desc d p o
-waits-is d (point.Partial p o) = waits-partial d p o
-waits-is d (point.Large p o) = waits-large d p
+waits-is d p = grind (arith)
 
 -- its frame is in the caller's hand
-frames-block : (f : ℕ) (p : BlockPoint) → is_frame f (installing_block p) ≤ occurs f (block_holds p).frames
-frames-block f p = grind (arith)
-
 frames-held : (f : ℕ) (p : Point) → is_frame f (installing p) ≤ occurs f (holds_of p).frames
 unfolding holds_of
-frames-held f point.Idle = omega arith
-frames-held f (point.Block p o) = frames-block f p
-frames-held f (point.Stack p o) = omega arith
-frames-held f (point.Desc p o) = omega arith
-frames-held f (point.Partial p o) = omega arith
-frames-held f (point.Large p o) = omega arith
+frames-held f p = grind (arith)
 
 -- the caller remembers where it lies
 recalls-block :
@@ -115,12 +82,8 @@ located-site :
     (g : Geometry) (s : State) (l : Lists) (who : ℕ) (p : Point) (at : Site) → All (IsSo g s l who) (recalls_of p)
     → installing p ≡ Some at → IsLocated s at.desc at.frame at.seat.class
 unfolding recalls_of
-located-site g s l who point.Idle at so is = absurd (none-some at is)
 located-site g s l who (point.Block p o) at so is = located-block g s l who p at so is
-located-site g s l who (point.Stack p o) at so is = absurd (none-some at is)
-located-site g s l who (point.Desc p o) at so is = absurd (none-some at is)
-located-site g s l who (point.Partial p o) at so is = absurd (none-some at is)
-located-site g s l who (point.Large p o) at so is = absurd (none-some at is)
+located-site g s l who p at so is = absurd (none-some at is)
 
 waiting-framed :
     (g : Geometry) (s : State) (l : Lists) (who d f : ℕ) → IsSoundWith g s l → who < g.callers → 1 ≤ errand_keeps waiting d (s.errand who)

@@ -49,43 +49,24 @@ heap-names-most g at one named =
       sum-most g.heaps (λ heap. sum_below (word_count g) (λ k. here k heap)) 1 (λ heap lt. sum-once (word_count g) (word_index g (at heap))),
     )
 
-active-named : (g : Geometry) (class : ℕ) (n : WordName) → Exists g n → IsHeapName g (λ heap. name.Active heap class) (active_one class) n
-active-named g class (name.Active heap c) exists =
+-- a word of such a name is of the class, or not
+named-here :
+    (g : Geometry) (class c heap : ℕ) (at : ℕ → ℕ → WordName) (one : WordName → ℕ) → heap < g.heaps → one (at heap c) ≡ (if c == class then 1 else 0)
+    → IsHeapName g (λ h. at h class) one (at heap c)
+named-here g class c heap at one has is =
     elim (cases_eq c class) [
-      | inl e ↦ inr (cond-true {A = ℕ} (c == class) 1 0 (eq-eqb c class e), heap, exists.0, ap (name.Active heap) e)
-      | inr ne ↦ inl (cond-false {A = ℕ} (c == class) 1 0 (ne_eqb c class ne))
+      | inl e ↦ inr (is ∙ cond-true {A = ℕ} (c == class) 1 0 (eq-eqb c class e), heap, has, ap (at heap) e)
+      | inr ne ↦ inl (is ∙ cond-false {A = ℕ} (c == class) 1 0 (ne_eqb c class ne))
     ]
-active-named g class (name.Slot heap c) exists = inl refl
-active-named g class (name.Arena i) exists = inl refl
-active-named g class (name.Anchor i) exists = inl refl
-active-named g class (name.Next i) exists = inl refl
-active-named g class (name.Info i) exists = inl refl
-active-named g class (name.ListHead i) exists = inl refl
-active-named g class (name.FrameNext i) exists = inl refl
-active-named g class name.FrameHead exists = inl refl
-active-named g class name.DescHead exists = inl refl
-active-named g class (name.Hazard i) exists = inl refl
-active-named g class name.Units exists = inl refl
-active-named g class (name.Shelf i) exists = inl refl
+
+-- such are the active words and the slots of the class
+active-named : (g : Geometry) (class : ℕ) (n : WordName) → Exists g n → IsHeapName g (λ heap. name.Active heap class) (active_one class) n
+active-named g class (name.Active heap c) exists = named-here g class c heap name.Active (active_one class) exists.0 refl
+active-named g class n exists = inl refl
 
 slot-named : (g : Geometry) (class : ℕ) (n : WordName) → Exists g n → IsHeapName g (λ heap. name.Slot heap class) (slot_one class) n
-slot-named g class (name.Slot heap c) exists =
-    elim (cases_eq c class) [
-      | inl e ↦ inr (cond-true {A = ℕ} (c == class) 1 0 (eq-eqb c class e), heap, exists.0, ap (name.Slot heap) e)
-      | inr ne ↦ inl (cond-false {A = ℕ} (c == class) 1 0 (ne_eqb c class ne))
-    ]
-slot-named g class (name.Active heap c) exists = inl refl
-slot-named g class (name.Arena i) exists = inl refl
-slot-named g class (name.Anchor i) exists = inl refl
-slot-named g class (name.Next i) exists = inl refl
-slot-named g class (name.Info i) exists = inl refl
-slot-named g class (name.ListHead i) exists = inl refl
-slot-named g class (name.FrameNext i) exists = inl refl
-slot-named g class name.FrameHead exists = inl refl
-slot-named g class name.DescHead exists = inl refl
-slot-named g class (name.Hazard i) exists = inl refl
-slot-named g class name.Units exists = inl refl
-slot-named g class (name.Shelf i) exists = inl refl
+slot-named g class (name.Slot heap c) exists = named-here g class c heap name.Slot (slot_one class) exists.0 refl
+slot-named g class n exists = inl refl
 
 pub actives-most : (g : Geometry) (class : ℕ) → sum_below (word_count g) (λ k. active_one class (word_name g k)) ≤ g.heaps
 actives-most g class = heap-names-most g (λ heap. name.Active heap class) (active_one class) (active-named g class)

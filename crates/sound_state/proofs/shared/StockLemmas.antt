@@ -13,33 +13,26 @@ use Rattle.word_plan.specs.declared.name.WordName.TheVariants as name
 use Rattle.word_plan.specs.Counts.{descriptor_count, word_count}
 use Rattle.word_plan.specs.Seats.{SeatFields}
 use Rattle.word_plan.specs.Table.{Exists, word_name}
-use Rattle.word_plan.proofs.TableLemmas.{word_name-Exists}
 use Rattle.superblock_parts.specs.Chains.{occurs}
-use Rattle.superblock_parts.specs.declared.point.BlockPoint.{BlockPoint}
-use Rattle.superblock_parts.specs.Fits.{FitsBlock}
-use Rattle.stack_parts.specs.declared.point.StackPoint.{StackPoint}
 use Rattle.stack_parts.specs.declared.point.Pile.TheVariants.{Partials}
 use Rattle.stack_parts.specs.Stacks.{Stacked, next_in}
-use Rattle.stack_parts.specs.Fits.{FitsStack}
-use Rattle.hazard_parts.specs.declared.point.DescPoint.{DescPoint}
 use Rattle.hazard_parts.specs.declared.point.DescPoint.TheVariants as desc
-use Rattle.hazard_parts.specs.Fits.{FitsDesc}
-use Rattle.partial_parts.specs.declared.point.PartialPoint.{PartialPoint}
-use Rattle.partial_parts.specs.Fits.{FitsPartial}
-use Rattle.large_parts.specs.declared.point.LargePoint.{LargePoint}
 use Rattle.errand_steps.specs.declared.onward.Onward.{Onward}
 use Rattle.errand_steps.specs.declared.point.Point.{Point}
 use Rattle.errand_steps.specs.declared.point.Point.TheVariants as point
 use Rattle.errand_steps.specs.Fits.{FitsPoint, spare_of}
 use Rattle.errand_steps.specs.Errands.{ErrandFields}
 use Rattle.errand_steps.specs.Steps.{State}
-use Rattle.sound_state.specs.Holdings.{Kept, reserving, waiting, partly_used, on_its_way, holds_of, block_holds, stack_holds, desc_holds, partial_holds, large_holds}
+use Rattle.sound_state.specs.Holdings.{Kept, holds_of}
 use Rattle.sound_state.specs.Keepers.{active_keeps, word_keeps, full_keeps, errand_has, places_of}
 use Rattle.sound_state.specs.Lists.{Lists}
 use Rattle.sound_state.specs.Stock.{word_stock, full_stock, stock_of, errand_stock, stock_among, waits_in}
 use Rattle.sound_state.specs.Sound.{IsSoundWith, IsSoundWithoutCounts}
 use Rattle.sound_state.specs.Sums.{sum_below, words_sum, callers_sum}
-use Rattle.sound_state.specs.Superblocks.{anchor_for, info_for, info_or_zero, kept_among}
+use Rattle.sound_state.specs.Superblocks.{anchor_for, info_for, info_or_zero}
+use Rattle.sound_state.proofs.shared.HolderLemmas.{zero-active}
+use Rattle.sound_state.proofs.shared.KeptCounts.{named_among, named-most, kept-named}
+use Rattle.sound_state.proofs.shared.WeightSums.{words-together}
 use Rattle.sound_state.proofs.shared.SumLemmas.{sum-same, sum-none, sum-ones, sum-plus, sum-most, sum-least, sum-swap, sum-once, sum-occurs, term-sum}
 
 -- 1 where a word isn't 0
@@ -52,10 +45,6 @@ active-one n None = omega (arith, sum-none n (λ d. 0) (λ d lt. refl))
 active-one n (Some Null) = omega (arith, sum-none n (λ d. 0) (λ d lt. refl))
 active-one n (Some (Held e credits)) = sum-once n e
 
-active-none : active_of 0 ≡ Some Null
-unfolding active_of
-active-none = refl
-
 active-named : (n word : ℕ) → sum_below n (λ d. active_keeps d (active_of word)) ≤ some_word word
 active-named n word =
     elim (cases_eq word 0) [
@@ -63,7 +52,7 @@ active-named n word =
           omega (
             arith,
             cond-true {A = ℕ} (word == 0) 0 1 (eq-eqb word 0 e),
-            sum-none n (λ d. active_keeps d (active_of word)) (λ d lt. ap (λ w. active_keeps d (active_of w)) e ∙ ap (active_keeps d) active-none),
+            sum-none n (λ d. active_keeps d (active_of word)) (λ d lt. ap (λ w. active_keeps d (active_of w)) e ∙ ap (active_keeps d) zero-active),
           )
       | inr ne ↦ omega (arith, cond-false {A = ℕ} (word == 0) 0 1 (ne_eqb word 0 ne), active-one n (active_of word))
     ]
@@ -114,29 +103,20 @@ word-once g (name.Slot heap c) word exists =
       word-stocked c word,
       term-sum CLASSES (λ class. word_stock class (name.Slot heap c) word) c exists.1,
     )
-word-once g (name.Arena k) word exists = omega (arith, sum-none (descriptor_count g) (λ d. 0) (λ d lt. refl))
-word-once g (name.Anchor k) word exists = omega (arith, sum-none (descriptor_count g) (λ d. 0) (λ d lt. refl))
-word-once g (name.Next k) word exists = omega (arith, sum-none (descriptor_count g) (λ d. 0) (λ d lt. refl))
-word-once g (name.Info k) word exists = omega (arith, sum-none (descriptor_count g) (λ d. 0) (λ d lt. refl))
-word-once g (name.ListHead k) word exists = omega (arith, sum-none (descriptor_count g) (λ d. 0) (λ d lt. refl))
-word-once g (name.FrameNext k) word exists = omega (arith, sum-none (descriptor_count g) (λ d. 0) (λ d lt. refl))
-word-once g name.FrameHead word exists = omega (arith, sum-none (descriptor_count g) (λ d. 0) (λ d lt. refl))
-word-once g name.DescHead word exists = omega (arith, sum-none (descriptor_count g) (λ d. 0) (λ d lt. refl))
-word-once g (name.Hazard k) word exists = omega (arith, sum-none (descriptor_count g) (λ d. 0) (λ d lt. refl))
-word-once g name.Units word exists = omega (arith, sum-none (descriptor_count g) (λ d. 0) (λ d lt. refl))
-word-once g (name.Shelf k) word exists = omega (arith, sum-none (descriptor_count g) (λ d. 0) (λ d lt. refl))
+word-once g n word exists = omega (arith, sum-none (descriptor_count g) (λ d. 0) (λ d lt. refl))
 
 -- what the words keep is in stock
 words-stocked : (g : Geometry) (words : WordName → ℕ)
     → sum_below (descriptor_count g) (λ d. words_sum g (word_keeps d) words) ≤ sum_below CLASSES (λ class. words_sum g (word_stock class) words)
 unfolding words_sum
 words-stocked g words =
-    let kept = λ (d k : ℕ). word_keeps d (word_name g k) (words (word_name g k)) in
     let stock = λ (class k : ℕ). word_stock class (word_name g k) (words (word_name g k)) in
-    let each : sum_below (word_count g) (λ k. sum_below (descriptor_count g) (λ d. kept d k)) ≤ sum_below (word_count g) (λ k. sum_below CLASSES (λ class. stock class k)) =
-    sum-least (word_count g) (λ k. sum_below (descriptor_count g) (λ d. kept d k)) (λ k. sum_below CLASSES (λ class. stock class k))
-    (λ k lt. word-once g (word_name g k) (words (word_name g k)) (word_name-Exists g k lt)) in
-    omega (arith, sum-swap (descriptor_count g) (word_count g) kept, sum-swap CLASSES (word_count g) stock)
+    omega (
+      arith,
+      words-together g (descriptor_count g) word_keeps words (λ m. sum_below CLASSES (λ class. word_stock class m (words m)))
+          (λ m. word-once g m (words m)),
+      sum-swap CLASSES (word_count g) stock,
+    )
 
 -- the lists have no more than their lengths
 lists-stocked : (n : ℕ) (partials : ℕ → List ℕ)
@@ -176,24 +156,6 @@ full-stocked n s =
           )),
     )
 
--- each descriptor that a caller keeps is kept in one of the states
-abbrev any_among : ℕ → List Kept → ℕ
-any_among d ks = kept_among reserving d ks + kept_among waiting d ks + kept_among partly_used d ks + kept_among on_its_way d ks
-
-any-more : (d : ℕ) (k : Kept) (ks : List Kept) → any_among d (k ∷ ks) ≡ (if k.desc == d then 1 else 0) + any_among d ks
-any-more d k ks = grind (arith)
-
-any-most : (n : ℕ) (ks : List Kept) → sum_below n (λ d. any_among d ks) ≤ length ks
-any-most n [] = omega (arith, sum-none n (λ d. 0) (λ d lt. refl))
-any-most n (k ∷ ks) =
-    omega (
-      arith,
-      any-most n ks,
-      sum-once n k.desc,
-      sum-plus n (λ d. if k.desc == d then 1 else 0) (λ d. any_among d ks),
-      sum-same n (λ d. (if k.desc == d then 1 else 0) + any_among d ks) (λ d. any_among d (k ∷ ks)) (λ d lt. any-more d k ks),
-    )
-
 -- for a class that there is
 abbrev InClass : List Kept → Type 0
 InClass [] = Unit {0}
@@ -210,29 +172,9 @@ stock-least (k ∷ ks) all =
       cond-true {A = ℕ} (k.class == k.class) 1 0 (eq-eqb k.class k.class refl),
     )
 
-in-class-block : (g : Geometry) (who : ℕ) (p : BlockPoint) → FitsBlock g who p → InClass (block_holds p).kept
-in-class-block g who p fits = grind (arith)
-
-in-class-desc : (g : Geometry) (who : ℕ) (p : DescPoint) (o : Onward) → FitsDesc g who p → InClass (desc_holds p o).kept
-in-class-desc g who p o fits = grind (arith)
-
-in-class-partial : (g : Geometry) (who : ℕ) (p : PartialPoint) (o : Onward) → FitsPartial g who p → InClass (partial_holds p o).kept
-in-class-partial g who p o fits = grind (arith)
-
-in-class-stack : (g : Geometry) (who : ℕ) (p : StackPoint) (o : Onward) → FitsStack g who p → InClass (stack_holds p o).kept
-in-class-stack g who p o fits = grind (arith)
-
-in-class-large : (p : LargePoint) → InClass (large_holds p).kept
-in-class-large p = grind (arith)
-
 in-class : (g : Geometry) (who : ℕ) (p : Point) → FitsPoint g who p → InClass (holds_of p).kept
 unfolding holds_of
-in-class g who point.Idle fits = tt
-in-class g who (point.Block p o) fits = in-class-block g who p fits.point
-in-class g who (point.Stack p o) fits = in-class-stack g who p o fits.point
-in-class g who (point.Desc p o) fits = in-class-desc g who p o fits.point
-in-class g who (point.Partial p o) fits = in-class-partial g who p o fits.point
-in-class g who (point.Large p o) fits = in-class-large p
+in-class g who p fits = grind (arith, fits)
 
 spare-most : (p : Point) → spare_of p ≤ 1
 spare-most p = grind (arith)
@@ -242,10 +184,11 @@ caller-has : (n : ℕ) (e : ErrandFields) → sum_below n (λ d. errand_has d e)
 caller-has n e =
     omega (
       arith,
-      sum-same n (λ d. occurs d e.retired + any_among d (holds_of e.point).kept) (λ d. errand_has d e) (λ d lt. omega arith),
-      sum-plus n (λ d. occurs d e.retired) (λ d. any_among d (holds_of e.point).kept),
+      sum-same n (λ d. occurs d e.retired + named_among d (holds_of e.point).kept) (λ d. errand_has d e)
+          (λ d lt. omega (arith, kept-named d (holds_of e.point).kept)),
+      sum-plus n (λ d. occurs d e.retired) (λ d. named_among d (holds_of e.point).kept),
       sum-occurs n e.retired,
-      any-most n (holds_of e.point).kept,
+      named-most n (holds_of e.point).kept,
     )
 
 -- for how many classes a caller waits for a descriptor

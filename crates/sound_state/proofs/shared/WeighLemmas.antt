@@ -93,6 +93,15 @@ away-same :
 away-same g s l who n before after e s' has m weigh d =
     omega (arith, callers-moved g (errand_away d) s.errand who e s'.errand has m, weigh.away d)
 
+-- as many superblocks are FULL, where no anchor and no descriptor's word changes
+pub full-same :
+    (g : Geometry) (s s' : State) (class : ℕ) → ((d : ℕ) → s'.word (name.Anchor d) ≡ s.word (name.Anchor d))
+    → ((d : ℕ) → s'.word (name.Info d) ≡ s.word (name.Info d))
+    → sum_below (descriptor_count g) (full_stock s' class) ≡ sum_below (descriptor_count g) (full_stock s class)
+full-same g s s' class anchor info =
+    sum-same (descriptor_count g) (full_stock s class) (full_stock s' class)
+    (λ d lt. rw (ap anchor_of (anchor d), ap (λ x. info_or_zero (info_of x)) (info d)) refl)
+
 -- the same, but that an EMPTY superblock's descriptor may go away, and stand for its class no more
 pub record WeighClose (n : WordName) (before after : ℕ) (a b : ErrandFields) : Type 0 where
   pub plain : IsPlain n → after ≡ before
@@ -125,10 +134,14 @@ weigh-close g s l who n new e s' exists has w m past bound weigh =
       stock = λ stocked.
           record {
             most = λ class has.
-                let full : sum_below (descriptor_count g) (full_stock s' class) ≡ sum_below (descriptor_count g) (full_stock s class) =
-                sum-same (descriptor_count g) (full_stock s class) (full_stock s' class)
-                (λ d lt. rw (anchor d, ap (λ x. info_or_zero (info_of x)) (plain (name.Info d) tt)) refl) in
-                omega (arith, words (word_stock class), callers (errand_stock class), weigh.stock class, full, stocked.most class has);
+                omega (
+                  arith,
+                  words (word_stock class),
+                  callers (errand_stock class),
+                  weigh.stock class,
+                  full-same g s s' class (λ d. plain (name.Anchor d) tt) (λ d. plain (name.Info d) tt),
+                  stocked.most class has,
+                );
           };
     }
 

@@ -1,5 +1,5 @@
 -- Reserved blocks are returned, and blocks of a partial superblock are granted.
-use Rattle.std.proofs.Common.{ℕ, zero, suc, Bool, true, false, None, ◌≡◌, ◌≢◌, ◌<◌, ◌≤◌, ◌+◌, ◌^◌, List, [], ◌∷◌, length, refl, arith, ap, sym, subst, inl, inr, ◌∙◌}
+use Rattle.std.proofs.Common.{ℕ, Bool, true, false, ◌≡◌, ◌≢◌, ◌<◌, ◌≤◌, ◌+◌, ◌^◌, List, [], ◌∷◌, refl, arith, ap, sym, subst, inl, inr, ◌∙◌}
 use Rattle.std.specs.Prelude.{◌==◌, IsTrue, if◌then◌else◌, nat_lt, All}
 use Rattle.std.proofs.lemmas.Bool.{cases_eq, cases_lt, cond-true, eq-eqb, lt-ltb}
 use Rattle.std.proofs.lemmas.List.Elements.{All-nil, All-cons, All-head, All-tail}
@@ -14,133 +14,52 @@ use Rattle.packed_words.specs.Info.{info_of}
 use Rattle.packed_words.specs.declared.anchor.State.{State as Phase}
 use Rattle.packed_words.specs.declared.anchor.State.TheVariants as phase
 use Rattle.packed_words.specs.declared.widths.TheConstants.{COUNT_BITS}
-use Rattle.packed_words.proofs.AnchorLemmas.{anchor_of-anchor_word, anchor_word-below}
+use Rattle.packed_words.proofs.AnchorLemmas.{anchor_of-anchor_word}
 use Rattle.partial_parts.specs.declared.point.PartialPoint.TheVariants as partial
 use Rattle.partial_parts.specs.Grants.{grant_more, granted, granted_state, is_empty}
 use Rattle.word_plan.specs.declared.action.Action.TheVariants.{Cas}
-use Rattle.word_plan.specs.declared.action.Found.{Found}
-use Rattle.word_plan.specs.declared.name.WordName.{WordName}
 use Rattle.word_plan.specs.declared.name.WordName.TheVariants as name
 use Rattle.word_plan.specs.declared.seat.Site.{Site}
-use Rattle.word_plan.specs.Actions.{name_of, after_action, found_by}
 use Rattle.word_plan.specs.Counts.{descriptor_count}
 use Rattle.word_plan.specs.Seats.{heap_of}
-use Rattle.word_plan.specs.Words.{Writes}
 use Rattle.word_plan.proofs.SeatLemmas.{block_count_of-most}
 use Rattle.superblock_parts.specs.Anchors.{returned}
 use Rattle.superblock_parts.specs.Chains.{occurs}
 use Rattle.superblock_parts.specs.declared.point.BlockPoint.TheVariants as block
 use Rattle.superblock_parts.specs.declared.point.Share.TheVariants.{Grant}
-use Rattle.superblock_parts.proofs.ChainLemmas.{chain_of-length}
-use Rattle.errand_steps.specs.declared.next.Next.TheVariants.{At}
 use Rattle.errand_steps.specs.declared.onward.Onward.{Onward}
 use Rattle.errand_steps.specs.declared.onward.Onward.TheVariants as onward
 use Rattle.errand_steps.specs.declared.point.Point.{Point}
 use Rattle.errand_steps.specs.declared.point.Point.TheVariants.{Block, Partial}
-use Rattle.errand_steps.specs.Errands.{IsErrand, settle_of, counts_lost, counts_cleared, raised}
 use Rattle.errand_steps.specs.Events.{event_of}
 use Rattle.errand_steps.specs.Nexts.{next_of}
 use Rattle.errand_steps.specs.Points.{asked, plan_point_of}
-use Rattle.errand_steps.specs.Steps.{State, Step, Moves, found_at, with_event, name_at}
-use Rattle.errand_steps.proofs.ErrandLemmas.{settle_errand}
-use Rattle.sound_state.specs.Holdings.{Handed, Kept, reserving, waiting, partly_used, on_its_way, keep, before_pop, after_pop, holds_of}
+use Rattle.errand_steps.specs.Steps.{State, Step}
+use Rattle.sound_state.specs.Holdings.{Handed, Kept, reserving, waiting, partly_used, on_its_way, keep, before_pop, after_pop, holds_of, Status}
 use Rattle.sound_state.specs.Keepers.{IsActive, IsPartlyUsed, IsKeptAs, errand_has, full_keeps}
 use Rattle.sound_state.specs.Lists.{Lists}
 use Rattle.sound_state.specs.Recalls.{IsLocated, IsOwned, IsSo, bound_at, located, in_use, recalls_of}
-use Rattle.sound_state.specs.Sound.{IsSoundWithoutCounts, IsSoundWith, IsOwnErrand}
+use Rattle.sound_state.specs.Sound.{IsSoundWithoutCounts, IsSoundWith}
 use Rattle.sound_state.specs.Stock.{stock_among}
 use Rattle.sound_state.specs.Sums.{sum_below, callers_sum}
-use Rattle.sound_state.specs.Superblocks.{Superblock, IsChained, anchor_for, info_for, info_or_zero, superblock_of, free_chain, live_at, is_there, is_bound, away_of, reserved_among, errand_reserves, errand_keeps, errand_away, kept_among}
+use Rattle.sound_state.specs.Superblocks.{Superblock, IsChained, anchor_for, info_for, info_or_zero, superblock_of, live_at, is_there, is_bound, away_of, reserved_among, errand_reserves, errand_keeps, errand_away, kept_among, same_status}
 use Rattle.sound_state.specs.Turns.{has_partial}
-use Rattle.sound_state.proofs.pops.PopSteps.{found_won}
 use Rattle.sound_state.proofs.quiet.QuietExchanges.{return_credits-lost}
 use Rattle.sound_state.proofs.quiet.QuietPartials.{grant_lost-sound}
 use Rattle.sound_state.proofs.shared.PointLemmas.{fits-at, so-at, kept-at, hands-at, the-alloc, kept_places}
 use Rattle.sound_state.proofs.pops.PopEffects.{StandsIn}
-use Rattle.sound_state.proofs.pops.PopRecalls.{occurs-all}
-use Rattle.sound_state.proofs.quiet.QuietLemmas.{found_from}
 use Rattle.sound_state.proofs.shifts.ShiftEffects.{Shifts}
 use Rattle.sound_state.proofs.shifts.ShiftRecalls.{shifted-sound}
-use Rattle.sound_state.proofs.shared.StepLemmas.{settle-at, at_point, words-below}
-use Rattle.sound_state.proofs.shared.SumLemmas.{sum-plus, sum-least, sum-most, term-sum}
-
-found-cas :
-    (n : WordName) (word expected new : ℕ) → word ≡ expected → found_by (Cas n expected new) word ≡ found_won expected
-found-cas n word expected new same = rw (same, eq-eqb expected expected refl) refl
-
--- what a won exchange of an anchor does that leads to a point and gives no event
-pub record AnchorWon (g : Geometry) (s : State) (who d : ℕ) (a b : AnchorFields) (q : Point) (s' : State) : Type 0 where
-  pub moves : Moves s.errand who (at_point (s.errand who) (found_won (anchor_word a)) q) s'.errand
-  pub before : anchor_for s d ≡ a
-  pub after : anchor_for s' d ≡ b
-  pub elsewhere : (n : WordName) → n ≢ name.Anchor d → s'.word n ≡ s.word n
-  pub below : (n : WordName) → s'.word n < 2 ^ 64
-  pub history : s'.history ≡ s.history
-  pub rule : IsOwnErrand g who (at_point (s.errand who) (found_won (anchor_word a)) q)
-  pub lost : raised (counts_lost (s.errand who).point (found_won (anchor_word a))) (s.errand who).lost ≡ (s.errand who).lost
-  pub cleared :
-      raised (counts_cleared (s.errand who).point (found_won (anchor_word a))) (s.errand who).cleared ≡ (s.errand who).cleared
-
-pub anchor-won :
-    (g : Geometry) (s : State) (l : Lists) (who : ℕ) (s' : State) (d : ℕ) (a b : AnchorFields) (p q : Point) → IsSoundWith g s l
-    → who < g.callers → (s.errand who).point ≡ p → s.word (name.Anchor d) ≡ anchor_word a → IsAnchor a → IsAnchor b
-    → plan_point_of p ≡ Cas (name.Anchor d) (anchor_word a) (anchor_word b) → next_of p (found_won (anchor_word a)) ≡ At q
-    → event_of who p (found_won (anchor_word a)) ≡ None → counts_lost p (found_won (anchor_word a)) ≡ false
-    → counts_cleared p (found_won (anchor_word a)) ≡ false → Step s who s' → AnchorWon g s who d a b q s'
-anchor-won g s l who s' d a b p q old has here word fits new plan next event lost cleared step =
-    let x : Found = found_won (anchor_word a) in
-    let found : found_at s who ≡ x =
-    ap (found_from s) here ∙ ap (λ c. found_by c (s.word (name_of c))) plan
-    ∙ found-cas (name.Anchor d) (s.word (name.Anchor d)) (anchor_word a) (anchor_word b) word in
-    let moved : settle_of (s.errand who) (found_at s who) ≡ at_point (s.errand who) x q =
-    ap (settle_of (s.errand who)) found ∙ settle-at (s.errand who) x q (ap (λ r. next_of r x) here ∙ next) in
-    let is_won : (s.word (name.Anchor d) == anchor_word a) ≡ true = eq-eqb (s.word (name.Anchor d)) (anchor_word a) word in
-    let written : Writes s.word (name.Anchor d) (after_action (Cas (name.Anchor d) (anchor_word a) (anchor_word b)) (s.word (name.Anchor d))) s'.word =
-    subst (λ c. Writes s.word (name_of c) (after_action c (s.word (name_of c))) s'.word) (ap plan_point_of here ∙ plan) step.word in
-    let writes : Writes s.word (name.Anchor d) (anchor_word b) s'.word =
-    subst (λ v. Writes s.word (name.Anchor d) v s'.word) (rw is_won refl) written in
-    let own = old.errands who has in
-    let is_lost : counts_lost (s.errand who).point x ≡ false = ap (λ r. counts_lost r x) here ∙ lost in
-    record {
-      moves = subst (λ f. Moves s.errand who f s'.errand) moved step.errand;
-      before = ap anchor_of word ∙ anchor_of-anchor_word a fits;
-      after = ap anchor_of writes.here ∙ anchor_of-anchor_word b new;
-      elsewhere = writes.elsewhere;
-      below = words-below s.word (name.Anchor d) (anchor_word b) s'.word writes old.words (anchor_word-below b new);
-      history = step.history ∙ ap (with_event s.history) (ap (event_of who (s.errand who).point) found ∙ ap (λ r. event_of who r x) here ∙ event);
-      rule = record {
-        caller = own.caller;
-        geometry = own.geometry;
-        rule = subst IsErrand moved (settle_errand (s.errand who) (found_at s who) own.rule (old.words (name_at s who)));
-        lost = subst (λ t. raised t (s.errand who).lost < 2 ^ 64) (sym is_lost) own.lost;
-      };
-      lost = ap (λ t. raised t (s.errand who).lost) is_lost;
-      cleared = ap (λ t. raised t (s.errand who).cleared) (ap (λ r. counts_cleared r x) here ∙ cleared);
-    }
-
--- terms that are 1 at most, and one of them 0
-sum-hole : (n : ℕ) (f : ℕ → ℕ) (i : ℕ) → i < n → f i ≡ 0 → ((j : ℕ) → j < n → f j ≤ 1) → sum_below n f < n
-sum-hole zero f i lt none most = absurd (omega (arith, lt))
-sum-hole (suc n) f i lt none most =
-    elim (cases_eq n i) [
-      | inl e ↦
-          let last : f n ≡ 0 = subst (λ k. f k ≡ 0) (sym e) none in
-          omega (arith, last, sum-most n f 1 (λ j below. most j (omega (arith, below))))
-      | inr ne ↦
-          omega (arith, sum-hole n f i (omega (arith, lt, ne)) none (λ j below. most j (omega (arith, below))), most n (omega arith))
-    ]
+use Rattle.sound_state.proofs.shared.StepLemmas.{at_point}
+use Rattle.sound_state.proofs.shared.SumLemmas.{sum-plus, sum-least, term-sum}
+use Rattle.sound_state.proofs.shared.CreditLemmas.{won_with}
+use Rattle.sound_state.proofs.shared.TallyLemmas.{tally}
+use Rattle.sound_state.proofs.shared.SuperblockEffects.{located-live}
+use Rattle.sound_state.proofs.shared.WonEffects.{AnchorWon, anchor-won}
 
 -- a superblock with a live block has fewer free blocks than blocks
-pub live-fewer :
-    (b : Superblock) (i : ℕ) → IsChained b → i < b.size → b.live i ≡ 1 → b.anchor.count + b.reserved < b.size
-live-fewer b i chained within live =
-    let xs : List ℕ = free_chain b in
-    let long : length xs ≡ b.anchor.count + b.reserved = chain_of-length b.next (b.anchor.count + b.reserved) b.anchor.avail in
-    let all : length xs ≤ sum_below b.size (λ j. occurs j xs) = occurs-all b.size xs chained.within in
-    let none : occurs i xs ≡ 0 = omega (arith, chained.once i within, live) in
-    let fewer : sum_below b.size (λ j. occurs j xs) < b.size =
-    sum-hole b.size (λ j. occurs j xs) i within none (λ j below. omega (arith, chained.once j below)) in
-    omega (arith, long, all, fewer)
+live-fewer : (b : Superblock) (i : ℕ) → IsChained b → i < b.size → b.live i ≡ 1 → b.anchor.count + b.reserved < b.size
+live-fewer b i chained within live = omega (arith, tally b chained, term-sum b.size b.live i within, live)
 
 -- a live block at hand
 hand-live : (s : State) (who place : ℕ) (n : Need) → IsOwned s who place n → live_at s place ≡ 1
@@ -168,11 +87,11 @@ return-elsewhere at i more d ne = grind (arith, ne)
 return-has : (at : Site) (i more : ℕ) → 1 ≤ kept_places at.desc (after_pop at i more).kept
 return-has at i more = grind (arith)
 
-return-waits : (at : Site) (i more d : ℕ) → kept_among waiting d (keep at.desc at.seat.class partly_used) ≡ kept_among waiting d (after_pop at i more).kept
-return-waits at i more d = grind (arith)
-
-return-ways : (at : Site) (i more d : ℕ) → kept_among on_its_way d (keep at.desc at.seat.class partly_used) ≡ kept_among on_its_way d (after_pop at i more).kept
-return-ways at i more d = grind (arith)
+-- none else is kept
+return-others :
+    (status : Status) (at : Site) (i more d : ℕ) → same_status reserving status ≡ false → same_status partly_used status ≡ false
+    → kept_among status d (keep at.desc at.seat.class partly_used) ≡ kept_among status d (after_pop at i more).kept
+return-others status at i more d reserves partly = grind (arith, reserves, partly)
 
 return-stands : (at : Site) (i more : ℕ) (a : AnchorFields) (o : Onward) → StandsIn false (Block (block.ReturnCredits at i more a) o)
 return-stands at i more a o = grind (arith)
@@ -204,8 +123,7 @@ return-fewer g s l who site i more a o old has here =
     let sup : Superblock = superblock_of g s site.desc in
     let size : sup.size ≡ block_count_of site.seat.class = ap block_count_of so.1.class in
     let live : sup.live i ≡ 1 =
-    ap (λ f. live_at s (block_place f (info_for s site.desc).class i)) so.1.frame
-    ∙ ap (λ c. live_at s (block_place site.frame c i)) so.1.class
+    located-live g s site.desc site.frame site.seat.class so.1 i
     ∙ hand-live s who (block_place site.frame site.seat.class i) (need.Small site.seat.class) owned in
     let chained : IsChained sup = old.chained.chained site.desc fit.point.0.site.desc so.0 in
     let fewer = live-fewer sup i chained (omega (arith, size, fit.point.0.index)) live in
@@ -222,7 +140,7 @@ pub return-shifts :
     (g : Geometry) (s : State) (l : Lists) (who : ℕ) (s' : State) (site : Site) (i more : ℕ) (a : AnchorFields) (o : Onward)
     → IsSoundWith g s l → who < g.callers → (s.errand who).point ≡ Block (block.ReturnCredits site i more a) o
     → s.word (name.Anchor site.desc) ≡ anchor_word a → Step s who s'
-    → Shifts g s l who site a (with_returned more a) (at_point (s.errand who) (found_won (anchor_word a)) (puts_away site i o)) s'
+    → Shifts g s l who site a (with_returned more a) (at_point (s.errand who) (won_with (anchor_word a)) (puts_away site i o)) s'
 unfolding event_of next_of plan_point_of holds_of recalls_of
 return-shifts g s l who s' site i more a o old has here word step =
     let p : Point = Block (block.ReturnCredits site i more a) o in
@@ -231,23 +149,24 @@ return-shifts g s l who s' site i more a o old has here word step =
     let fit = fits-at g s l who p old has here in
     let so = All-head (IsSo g s l who) (bound_at site.desc site.frame site.seat.class) [] (so-at g s l who p old has here) in
     let active : IsActive s site.desc site.seat.class =
-    All-head (λ k. IsKeptAs s k.status k.desc k.class) (record { desc = site.desc; class = site.seat.class; status = reserving }) [] (kept-at g s l who p old has here) in
+    All-head (λ k. IsKeptAs s k.status k.desc k.class) (record { desc = site.desc; class = site.seat.class; status = reserving }) []
+    (kept-at g s l who p old has here) in
     let fits : IsAnchor a = fit.point.2.fits in
     let was : anchor_for s site.desc ≡ a = ap anchor_of word ∙ anchor_of-anchor_word a fits in
     let fewer : a.count + more < block_count_of site.seat.class =
     subst (λ x. x.count + more < block_count_of site.seat.class) was (return-fewer g s l who site i more a o old has here) in
     let room : a.count + more < 2 ^ COUNT_BITS = omega (arith, fewer, block_count_of-most site.seat.class) in
     let new : IsAnchor b = record { avail = fits.avail; count = room; tag = fits.tag } in
-    let won : AnchorWon g s who site.desc a b q s' =
-    anchor-won g s l who s' site.desc a b p q old has here word fits new
-    (ap (λ x. Cas (name.Anchor site.desc) (anchor_word a) (anchor_word x)) (returned-uncut more a room)) refl refl refl refl step in
+    let won : AnchorWon g s who p site.desc a b q s' =
+    anchor-won g s l who s' p site.desc a b q old has here word fits new
+    (ap (λ x. Cas (name.Anchor site.desc) (anchor_word a) (anchor_word x)) (returned-uncut more a room)) (inl refl) step in
     let none : full_keeps a.state ≡ 0 = ap (λ x. full_keeps x.state) (sym was) ∙ ap full_keeps active.state in
     let some : 1 ≤ a.count + more = omega (arith, fit.point.1.0) in
     let info : info_for s' site.desc ≡ info_for s site.desc =
     ap (λ w. info_or_zero (info_of w)) (won.elsewhere (name.Info site.desc) (λ same. cc)) in
     record {
       caller = has;
-      moves = won.moves;
+      moves = won.step.moves;
       site = fit.point.0.site;
       bound = so.0;
       located = so.1;
@@ -260,19 +179,19 @@ return-shifts g s l who s' site i more a o old has here word step =
       full = λ is. cc;
       elsewhere = won.elsewhere;
       below = won.below;
-      history = won.history;
-      rule = won.rule;
+      history = won.step.history;
+      rule = won.step.rule;
       retired = refl;
       turns = refl;
-      lost = won.lost;
-      cleared = won.cleared;
+      lost = won.step.lost;
+      cleared = won.step.cleared;
       reserves =
           let mine : reserved_among site.desc (holds_of (s.errand who).point).credits ≡ more =
           ap (λ r. reserved_among site.desc (holds_of r).credits) here ∙ return-reserves site i more in
           omega (arith, mine);
       reserves_elsewhere = λ d ne. return-elsewhere site i more d ne ∙ sym (ap (λ r. reserved_among d (holds_of r).credits) here);
-      waits = λ d. return-waits site i more d ∙ sym (ap (λ r. kept_among waiting d (holds_of r).kept) here);
-      ways = λ d. return-ways site i more d ∙ sym (ap (λ r. kept_among on_its_way d (holds_of r).kept) here);
+      waits = λ d. return-others waiting site i more d refl refl ∙ sym (ap (λ r. kept_among waiting d (holds_of r).kept) here);
+      ways = λ d. return-others on_its_way site i more d refl refl ∙ sym (ap (λ r. kept_among on_its_way d (holds_of r).kept) here);
       places = λ d.
           subst
           (λ r. kept_places d (holds_of q).kept + (if site.desc == d then full_keeps b.state else 0)
@@ -311,7 +230,7 @@ pub return_credits_won-sound :
 return_credits_won-sound g s who s' site i more a o sound has here word step =
     let l : Lists = sound.parts.0 in
     let old : IsSoundWith g s l = sound.parts.1 in
-    shifted-sound g s l who site a (with_returned more a) (at_point (s.errand who) (found_won (anchor_word a)) (puts_away site i o)) s'
+    shifted-sound g s l who site a (with_returned more a) (at_point (s.errand who) (won_with (anchor_word a)) (puts_away site i o)) s'
     (return-shifts g s l who s' site i more a o old has here word step) sound old
 
 -- before and after a grant, by whether more than one block is granted
@@ -335,13 +254,11 @@ grant-stock :
 grant-stock x class true state c none = grind (arith, none)
 grant-stock x class false state c none = grind (arith, none)
 
-grant-waits : (x class : ℕ) (t : Bool) (d : ℕ) → kept_among waiting d (grant_keeps x class t) ≡ kept_among waiting d (keep x class partly_used)
-grant-waits x class true d = grind (arith)
-grant-waits x class false d = grind (arith)
-
-grant-ways : (x class : ℕ) (t : Bool) (d : ℕ) → kept_among on_its_way d (grant_keeps x class t) ≡ kept_among on_its_way d (keep x class partly_used)
-grant-ways x class true d = grind (arith)
-grant-ways x class false d = grind (arith)
+grant-others :
+    (status : Status) (x class : ℕ) (t : Bool) (d : ℕ) → same_status reserving status ≡ false → same_status partly_used status ≡ false
+    → kept_among status d (grant_keeps x class t) ≡ kept_among status d (keep x class partly_used)
+grant-others status x class true d reserves partly = grind (arith, reserves, partly)
+grant-others status x class false d reserves partly = grind (arith, partly)
 
 grant-has : (x class : ℕ) → 1 ≤ kept_places x (keep x class partly_used)
 grant-has x class = grind (arith)
@@ -392,7 +309,7 @@ unfolding callers_sum
 granting-away g s l who d old has exists keeps =
     let partly = λ (i : ℕ). errand_keeps partly_used d (s.errand i) in
     let aways = λ (i : ℕ). errand_away d (s.errand i) in
-    let both : sum_below g.callers (λ i. partly i + aways i) ≡ sum_below g.callers partly + sum_below g.callers aways = sum-plus g.callers partly aways in
+    let both = sum-plus g.callers partly aways in
     let least : sum_below g.callers (λ i. partly i + aways i) ≤ sum_below g.callers (λ i. errand_has d (s.errand i)) =
     sum-least g.callers (λ i. partly i + aways i) (λ i. errand_has d (s.errand i)) (λ i lt. omega arith) in
     let once = old.kept.once d exists in
@@ -400,7 +317,9 @@ granting-away g s l who d old has exists keeps =
     omega (arith, once, both, least, mine, keeps)
 
 -- a partly used superblock that isn't EMPTY has free blocks
-partial-some : (s : State) (d c : ℕ) → IsPartlyUsed s d c → is_empty (anchor_for s d).state ≡ false → ((anchor_for s d).state ≡ phase.Partial) × (1 ≤ (anchor_for s d).count)
+partial-some :
+    (s : State) (d c : ℕ) → IsPartlyUsed s d c → is_empty (anchor_for s d).state ≡ false
+    → ((anchor_for s d).state ≡ phase.Partial) × (1 ≤ (anchor_for s d).count)
 partial-some s d c is used =
     elim is.state [
       | inl some ↦ some
@@ -418,7 +337,7 @@ pub grant-shifts :
     → IsSoundWith g s l → who < g.callers → (s.errand who).point ≡ Partial (partial.Grant site a) (onward.Alloc words)
     → s.word (name.Anchor site.desc) ≡ anchor_word a → Step s who s'
     → Shifts g s l who site a (granted a)
-    (at_point (s.errand who) (found_won (anchor_word a)) (Block (block.LoadAnchor site (Grant (grant_more a.count))) (onward.Alloc words))) s'
+    (at_point (s.errand who) (won_with (anchor_word a)) (Block (block.LoadAnchor site (Grant (grant_more a.count))) (onward.Alloc words))) s'
 unfolding event_of next_of plan_point_of holds_of recalls_of
 grant-shifts g s l who s' site a words old has here word step =
     let p : Point = Partial (partial.Grant site a) (onward.Alloc words) in
@@ -447,13 +366,13 @@ grant-shifts g s l who s' site a words old has here word step =
     let chained : IsChained (superblock_of g s d) = old.chained.chained d fit.point.0.desc bound in
     let size : (superblock_of g s d).size ≡ block_count_of c = ap block_count_of lies.class in
     let new : IsAnchor b = record { avail = fits.avail; count = omega (arith, fits.count, granted-less a); tag = fits.tag } in
-    let won : AnchorWon g s who d a b q s' =
-    anchor-won g s l who s' d a b p q old has here word fits new refl refl refl refl refl step in
+    let won : AnchorWon g s who p d a b q s' =
+    anchor-won g s l who s' p d a b q old has here word fits new refl (inl refl) step in
     let none : full_keeps a.state ≡ 0 = ap (λ x. full_keeps x.state) (sym was) ∙ ap full_keeps some.0 in
     let info : info_for s' d ≡ info_for s d = ap (λ w. info_or_zero (info_of w)) (won.elsewhere (name.Info d) (λ same. cc)) in
     record {
       caller = has;
-      moves = won.moves;
+      moves = won.step.moves;
       site = fit.point.0;
       bound = bound;
       located = lies;
@@ -466,18 +385,18 @@ grant-shifts g s l who s' site a words old has here word step =
       full = granted-full a;
       elsewhere = won.elsewhere;
       below = won.below;
-      history = won.history;
-      rule = won.rule;
+      history = won.step.history;
+      rule = won.step.rule;
       retired = refl;
       turns = refl;
-      lost = won.lost;
-      cleared = won.cleared;
+      lost = won.step.lost;
+      cleared = won.step.cleared;
       reserves =
           let mine : reserved_among d (holds_of (s.errand who).point).credits ≡ 0 = ap (λ r. reserved_among d (holds_of r).credits) here in
           omega (arith, mine, grant-reserves d c more, granted-together a count);
       reserves_elsewhere = λ e ne. grant-elsewhere d c more e ne ∙ sym (ap (λ r. reserved_among e (holds_of r).credits) here);
-      waits = λ e. grant-waits d c t e ∙ sym (ap (λ r. kept_among waiting e (holds_of r).kept) here);
-      ways = λ e. grant-ways d c t e ∙ sym (ap (λ r. kept_among on_its_way e (holds_of r).kept) here);
+      waits = λ e. grant-others waiting d c t e refl refl ∙ sym (ap (λ r. kept_among waiting e (holds_of r).kept) here);
+      ways = λ e. grant-others on_its_way d c t e refl refl ∙ sym (ap (λ r. kept_among on_its_way e (holds_of r).kept) here);
       places = λ e.
           subst
           (λ r. kept_places e (holds_of q).kept + (if d == e then full_keeps b.state else 0)
@@ -505,7 +424,8 @@ grant-shifts g s l who s' site a words old has here word step =
 -- blocks of a partial superblock are granted
 pub grant_won-sound :
     (g : Geometry) (s : State) (who : ℕ) (s' : State) (site : Site) (a : AnchorFields) (o : Onward) → IsSoundWithoutCounts g s → who < g.callers
-    → (s.errand who).point ≡ Partial (partial.Grant site a) o → s.word (name.Anchor site.desc) ≡ anchor_word a → Step s who s' → IsSoundWithoutCounts g s'
+    → (s.errand who).point ≡ Partial (partial.Grant site a) o → s.word (name.Anchor site.desc) ≡ anchor_word a → Step s who s'
+    → IsSoundWithoutCounts g s'
 grant_won-sound g s who s' site a o sound has here word step =
     let l : Lists = sound.parts.0 in
     let old : IsSoundWith g s l = sound.parts.1 in
@@ -513,7 +433,7 @@ grant_won-sound g s who s' site a o sound has here word step =
     let stands : (s.errand who).point ≡ Partial (partial.Grant site a) (onward.Alloc (asked o)) =
     here ∙ ap (λ o. Partial (partial.Grant site a) o) alloc in
     shifted-sound g s l who site a (granted a)
-    (at_point (s.errand who) (found_won (anchor_word a)) (Block (block.LoadAnchor site (Grant (grant_more a.count))) (onward.Alloc (asked o)))) s'
+    (at_point (s.errand who) (won_with (anchor_word a)) (Block (block.LoadAnchor site (Grant (grant_more a.count))) (onward.Alloc (asked o)))) s'
     (grant-shifts g s l who s' site a (asked o) old has stands word step) sound old
 
 -- so it is after both, won or lost

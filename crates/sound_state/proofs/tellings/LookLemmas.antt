@@ -13,27 +13,21 @@ use Rattle.partial_parts.specs.Grants.{is_empty}
 use Rattle.word_plan.specs.declared.name.WordName.{WordName}
 use Rattle.word_plan.specs.declared.name.WordName.TheVariants as name
 use Rattle.word_plan.specs.Counts.{descriptor_count, word_count}
-use Rattle.word_plan.specs.Seats.{SeatFields, info_within}
+use Rattle.word_plan.specs.Seats.{info_within}
 use Rattle.word_plan.specs.Table.{Exists, word_name}
 use Rattle.word_plan.proofs.TableLemmas.{word_name-Exists}
-use Rattle.superblock_parts.specs.declared.point.BlockPoint.{BlockPoint}
-use Rattle.stack_parts.specs.declared.point.StackPoint.{StackPoint}
-use Rattle.hazard_parts.specs.declared.point.DescPoint.{DescPoint}
-use Rattle.partial_parts.specs.declared.point.PartialPoint.{PartialPoint}
-use Rattle.large_parts.specs.declared.point.LargePoint.{LargePoint}
-use Rattle.errand_steps.specs.declared.onward.Onward.{Onward}
 use Rattle.errand_steps.specs.declared.point.Point.{Point}
-use Rattle.errand_steps.specs.declared.point.Point.TheVariants as point
 use Rattle.errand_steps.specs.Steps.{State}
 use Rattle.sound_state.specs.Frames.{fills}
-use Rattle.sound_state.specs.Holdings.{waiting, holds_of, block_holds, stack_holds, desc_holds, partial_holds, large_holds, onward_holds}
+use Rattle.sound_state.specs.Holdings.{waiting, holds_of}
 use Rattle.sound_state.specs.Keepers.{active_keeps, word_keeps, full_keeps, errand_has}
 use Rattle.sound_state.specs.Lists.{Lists}
-use Rattle.sound_state.specs.Stock.{word_stock, full_stock, stock_of, errand_stock, stock_among, waits_in, waits_in_desc}
+use Rattle.sound_state.specs.Stock.{word_stock, full_stock, stock_of, errand_stock, stock_among, waits_in}
 use Rattle.sound_state.specs.Sound.{IsSoundWith}
 use Rattle.sound_state.specs.Sums.{sum_below, words_sum, callers_sum}
 use Rattle.sound_state.specs.Superblocks.{anchor_for, info_for, info_or_zero, errand_keeps, errand_away, away_of, waiting_of, is_bound}
 use Rattle.sound_state.proofs.shared.HeapNames.{slot_one, slots-most}
+use Rattle.sound_state.proofs.shared.WeightSums.{words-least}
 use Rattle.sound_state.proofs.shared.SumLemmas.{sum-none, sum-plus, sum-most, sum-most-but, sum-least, sum-swap, term-sum}
 
 -- 1 where an active word holds d
@@ -83,17 +77,7 @@ word-parts g s l sound class (name.Active heap c) exists =
           (λ d credits is. (sound.kept.active heap c d credits exists.0 exists.1 is).0),
     )
 word-parts g s l sound class (name.Slot heap c) exists = omega (arith, class-slot class c (s.word (name.Slot heap c)))
-word-parts g s l sound class (name.Arena k) exists = omega arith
-word-parts g s l sound class (name.Anchor k) exists = omega arith
-word-parts g s l sound class (name.Next k) exists = omega arith
-word-parts g s l sound class (name.Info k) exists = omega arith
-word-parts g s l sound class (name.ListHead k) exists = omega arith
-word-parts g s l sound class (name.FrameNext k) exists = omega arith
-word-parts g s l sound class name.FrameHead exists = omega arith
-word-parts g s l sound class name.DescHead exists = omega arith
-word-parts g s l sound class (name.Hazard k) exists = omega arith
-word-parts g s l sound class name.Units exists = omega arith
-word-parts g s l sound class (name.Shelf k) exists = omega arith
+word-parts g s l sound class n exists = omega arith
 
 words-parts :
     (g : Geometry) (s : State) (l : Lists) → IsSoundWith g s l → (class : ℕ)
@@ -118,10 +102,7 @@ part-kept : (d : ℕ) (n : WordName) (word : ℕ) → active_part d n word ≤ w
 part-kept d n word = grind (arith)
 
 parts-kept : (g : Geometry) (s : State) (d : ℕ) → words_sum g (active_part d) s.word ≤ words_sum g (word_keeps d) s.word
-unfolding words_sum
-parts-kept g s d =
-    sum-least (word_count g) (λ k. active_part d (word_name g k) (s.word (word_name g k))) (λ k. word_keeps d (word_name g k) (s.word (word_name g k)))
-    (λ k lt. part-kept d (word_name g k) (s.word (word_name g k)))
+parts-kept g s d = words-least g (active_part d) (word_keeps d) s.word (λ n exists. part-kept d n (s.word n))
 
 active-not :
     (d : ℕ) (o : Option ActiveWord) → ((credits : ℕ) → o ≡ Some (Held d credits) → ⊥) → active_keeps d o ≡ 0
@@ -139,18 +120,7 @@ part-not g s l sound d empty (name.Active heap c) exists =
     let active : (anchor_for s d).state ≡ phase.Active = (sound.kept.active heap c d credits exists.0 exists.1 is).1.state in
     let same : ◌≡◌ {A = Phase} phase.Active phase.Empty = sym active ∙ empty in
     cc)
-part-not g s l sound d empty (name.Slot heap c) exists = refl
-part-not g s l sound d empty (name.Arena i) exists = refl
-part-not g s l sound d empty (name.Anchor i) exists = refl
-part-not g s l sound d empty (name.Next i) exists = refl
-part-not g s l sound d empty (name.Info i) exists = refl
-part-not g s l sound d empty (name.ListHead i) exists = refl
-part-not g s l sound d empty (name.FrameNext i) exists = refl
-part-not g s l sound d empty name.FrameHead exists = refl
-part-not g s l sound d empty name.DescHead exists = refl
-part-not g s l sound d empty (name.Hazard i) exists = refl
-part-not g s l sound d empty name.Units exists = refl
-part-not g s l sound d empty (name.Shelf i) exists = refl
+part-not g s l sound d empty n exists = refl
 
 parts-not :
     (g : Geometry) (s : State) (l : Lists) → IsSoundWith g s l → (d : ℕ) → (anchor_for s d).state ≡ phase.Empty
@@ -241,32 +211,9 @@ full-least : (s : State) (class d : ℕ) → full_stock s class d ≤ full_keeps
 full-least s class d = grind (arith)
 
 -- a caller keeps at most two descriptors for a class, or waits for one
-onward-one : (class : ℕ) (s : SeatFields) (o : Onward) → stock_among class (onward_holds s o).kept ≤ 1
-onward-one class s o = grind (arith)
-
-block-two : (class : ℕ) (p : BlockPoint) → stock_among class (block_holds p).kept ≤ 2
-block-two class p = grind (arith)
-
-stack-two : (class : ℕ) (p : StackPoint) (o : Onward) → stock_among class (stack_holds p o).kept ≤ 2
-stack-two class p o = grind (arith)
-
-desc-two : (class : ℕ) (p : DescPoint) (o : Onward) → stock_among class (desc_holds p o).kept + waits_in_desc class p ≤ 2
-desc-two class p o = grind (arith)
-
-partial-two : (class : ℕ) (p : PartialPoint) (o : Onward) → stock_among class (partial_holds p o).kept ≤ 2
-partial-two class p o = grind (arith)
-
-large-two : (class : ℕ) (p : LargePoint) → stock_among class (large_holds p).kept ≤ 2
-large-two class p = grind (arith)
-
 point-two : (class : ℕ) (p : Point) → stock_among class (holds_of p).kept + waits_in class p ≤ 2
 unfolding holds_of
-point-two class point.Idle = omega arith
-point-two class (point.Block p o) = omega (arith, block-two class p)
-point-two class (point.Stack p o) = omega (arith, stack-two class p o)
-point-two class (point.Desc p o) = desc-two class p o
-point-two class (point.Partial p o) = omega (arith, partial-two class p o)
-point-two class (point.Large p o) = omega (arith, large-two class p)
+point-two class p = grind (arith)
 
 callers-two :
     (g : Geometry) (s : State) (who class : ℕ) → who < g.callers → errand_stock class (s.errand who) ≡ 0

@@ -14,14 +14,6 @@ use Rattle.superblock_parts.specs.declared.point.BlockPoint.{BlockPoint}
 use Rattle.superblock_parts.specs.declared.point.BlockPoint.TheVariants as block
 use Rattle.superblock_parts.specs.Anchors.{new_credits}
 use Rattle.superblock_parts.specs.Points.{plan_block_of, credit_taken}
-use Rattle.stack_parts.specs.declared.point.StackPoint.{StackPoint}
-use Rattle.stack_parts.specs.Points.{plan_stack_of}
-use Rattle.hazard_parts.specs.declared.point.DescPoint.{DescPoint}
-use Rattle.hazard_parts.specs.Points.{plan_desc_of}
-use Rattle.partial_parts.specs.declared.point.PartialPoint.{PartialPoint}
-use Rattle.partial_parts.specs.Points.{plan_partial_of}
-use Rattle.large_parts.specs.declared.point.LargePoint.{LargePoint}
-use Rattle.large_parts.specs.Points.{plan_large_of}
 use Rattle.errand_steps.specs.declared.point.Point.{Point}
 use Rattle.errand_steps.specs.declared.point.Point.TheVariants as point
 use Rattle.errand_steps.specs.Errands.{counts_won}
@@ -41,19 +33,6 @@ abbrev pub ChangesActive : Point → ℕ → Type 0
 ChangesActive p v =
     IsActive (name_of (plan_point_of p)) → after_action (plan_point_of p) v ≢ active_word Null
     → (v ≢ active_word Null) ⊎ (IsTrue (offers p) × (counts_won (plan_point_of p) (found_in p v) ≡ true))
-
--- elsewhere a step isn't on an active word
-stack-apart : (p : StackPoint) → IsActive (name_of (plan_stack_of p)) → ⊥
-stack-apart p is = grind (arith, is)
-
-desc-apart : (p : DescPoint) → IsActive (name_of (plan_desc_of p)) → ⊥
-desc-apart p is = grind (arith, is)
-
-partial-apart : (p : PartialPoint) → IsActive (name_of (plan_partial_of p)) → ⊥
-partial-apart p is = grind (arith, is)
-
-large-apart : (p : LargePoint) → IsActive (name_of (plan_large_of p)) → ⊥
-large-apart p is = grind (arith, is)
 
 -- an exchange of null for a held one
 install-changes :
@@ -81,41 +60,15 @@ block-changes :
     → (v ≢ active_word Null) ⊎ (IsTrue (is_offer p) × (counts_won (plan_block_of p) (found_by (plan_block_of p) v) ≡ true))
 block-changes (block.LoadActive s) v is some = inl some
 block-changes (block.TakeCredit s d credits) v is some = inl (take-changes v d credits some)
-block-changes (block.LoadInfo s d share) v is some = absurd is
-block-changes (block.LoadAnchor at share) v is some = absurd is
-block-changes (block.LoadLink at share a) v is some = absurd is
-block-changes (block.PopBlock at share a prefix) v is some = absurd is
-block-changes (block.StorePrefix at i) v is some = absurd is
 block-changes (block.InstallCredits at i more) v is some = install-changes v _ (active_name at.seat) (held-some at.desc (more - 1))
 block-changes (block.InstallSuperblock at) v is some = install-changes v _ (active_name at.seat) (held-some at.desc (new_credits at.seat.class))
-block-changes (block.LoadReturn at i more) v is some = absurd is
-block-changes (block.ReturnCredits at i more a) v is some = absurd is
-block-changes (block.LoadPrefix s frame i) v is some = absurd is
-block-changes (block.LoadPushAnchor at i guarded) v is some = absurd is
-block-changes (block.StoreGuard at i a) v is some = absurd is
-block-changes (block.LoadOwner at i a) v is some = absurd is
-block-changes (block.StoreLink at i a guarded heap) v is some = absurd is
-block-changes (block.PushBlock at i a guarded heap) v is some = absurd is
-block-changes (block.LinkBlock at i) v is some = absurd is
-block-changes (block.StoreInfo at) v is some = absurd is
-block-changes (block.StoreAnchor at) v is some = absurd is
-block-changes (block.WantsPartial s) v is some = absurd is
-block-changes (block.Returned at i) v is some = absurd is
-block-changes (block.Discarded at) v is some = absurd is
-block-changes (block.Given at i) v is some = absurd is
-block-changes (block.BecameEmpty at heap) v is some = absurd is
-block-changes (block.BecamePartial at guarded) v is some = absurd is
-block-changes (block.Pushed s guarded) v is some = absurd is
+block-changes p v is some = absurd is
 
 -- at each point
 pub active-change : (p : Point) (v : ℕ) → ChangesActive p v
 unfolding plan_point_of
-active-change point.Idle v is some = absurd is
 active-change (point.Block p o) v is some = block-changes p v is some
-active-change (point.Stack p o) v is some = absurd (stack-apart p is)
-active-change (point.Desc p o) v is some = absurd (desc-apart p is)
-active-change (point.Partial p o) v is some = absurd (partial-apart p is)
-active-change (point.Large p o) v is some = absurd (large-apart p is)
+active-change p v is some = absurd (grind (arith, is))
 
 -- what counts as won of an offer was won
 pub install-won : (p : Point) (x : Found) → one_if (offers p && counts_won (plan_point_of p) x) ≤ one_if (offers p && x.won)

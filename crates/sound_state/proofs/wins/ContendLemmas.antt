@@ -1,7 +1,7 @@
 -- A step keeps the bound on what callers lose: a win makes at most one pair of each other caller dirty, and a lost exchange uses one up.
-use Rattle.std.proofs.Common.{ℕ, Bool, true, false, ◌≡◌, ◌≢◌, ◌<◌, ◌≤◌, ◌+◌, ◌-◌, ◌*◌, length, refl, arith, ap, sym, subst, inl, inr, ◌∙◌}
-use Rattle.std.specs.Prelude.{◌⊎◌, ◌==◌, not, if◌then◌else◌, option_to_list}
-use Rattle.std.proofs.lemmas.Bool.{cases_Bool, cases_eq, cond-true, cond-false, eq-eqb, ne_eqb, and_parts, not-true, not_from_true, false≢true}
+use Rattle.std.proofs.Common.{ℕ, true, false, ◌≡◌, ◌≢◌, ◌<◌, ◌≤◌, ◌+◌, ◌-◌, ◌*◌, length, refl, arith, ap, sym, subst, inl, inr, ◌∙◌}
+use Rattle.std.specs.Prelude.{◌⊎◌, ◌==◌, not, option_to_list}
+use Rattle.std.proofs.lemmas.Bool.{cases_Bool, and_parts, not-true, not_from_true, false≢true}
 use Rattle.heap_geometry.specs.declared.geometry.Geometry.{Geometry}
 use Rattle.word_plan.specs.declared.action.Action.{Action}
 use Rattle.word_plan.specs.declared.action.Action.TheVariants.{Load, Store, Cas, Swap, And}
@@ -19,10 +19,11 @@ use Rattle.errand_steps.specs.Points.{plan_point_of}
 use Rattle.errand_steps.specs.Steps.{State, Step, action_at, name_at, word_at, found_at}
 use Rattle.sound_state.specs.Contention.{IsExpected, IsNoted, IsContended, is_against, dirty_since, is_dirty, dirty_on, dirty_pairs, lost_of}
 use Rattle.sound_state.specs.Expectations.{expects_of}
-use Rattle.sound_state.specs.Sums.{sum_below, callers_sum}
+use Rattle.sound_state.specs.Sums.{callers_sum}
 use Rattle.sound_state.specs.Turns.{one_if}
 use Rattle.sound_state.specs.Wins.{Wins, win_at, list_after, confirms, wins_after}
-use Rattle.sound_state.proofs.shared.SumLemmas.{sum-same, sum-change, sum-least, sum-ones, callers-moved}
+use Rattle.sound_state.proofs.shared.TurnEffects.{one_if-most}
+use Rattle.sound_state.proofs.shared.SumLemmas.{sum-most-but, sum-same, sum-change, callers-moved}
 use Rattle.sound_state.proofs.wins.DirtyLemmas.{dirty-same, clean-now}
 use Rattle.sound_state.proofs.wins.NoteLemmas.{}
 use Rattle.sound_state.proofs.wins.ExpectLemmas.{some-all}
@@ -100,11 +101,6 @@ own-confirmed g s who w old kept same =
     ∙ dirty-same w.list (option_to_list (win_at s who)) who m (w.noted who m) (old.past who m)
     (no-count (is_against who m) s who (against-own s who m))
 
--- a bit is 1 at most
-one-most : (b : Bool) → one_if b ≤ 1
-one-most true = omega arith
-one-most false = omega arith
-
 -- so the own pair is no more dirty than it was
 own-most :
     (g : Geometry) (s : State) (who : ℕ) (w : Wins) → IsNoted g s w
@@ -141,29 +137,17 @@ now-clean s who w lost =
       | inr seen ↦ own-seen s who w seen.0 seen.1
     ]
 
--- bits of which one is 0
-all-but-one : (n : ℕ) (f : ℕ → ℕ) (i : ℕ) → i < n → f i ≡ 0 → ((j : ℕ) → j < n → f j ≤ 1) → sum_below n f + 1 ≤ n
-all-but-one n f i lt here most =
-    let rest : ℕ → ℕ = λ j. if j == i then 0 else 1 in
-    let changed : sum_below n rest + 1 ≡ sum_below n (λ j. 1) + rest i =
-    sum-change n (λ j. 1) rest i lt (λ j jn ne. cond-false {A = ℕ} (j == i) 0 1 (ne_eqb j i ne)) in
-    let at_i : rest i ≡ 0 = cond-true {A = ℕ} (i == i) 0 1 (eq-eqb i i refl) in
-    let least : sum_below n f ≤ sum_below n rest =
-    sum-least n f rest
-    (λ j jn. elim (cases_eq j i) [
-      | inl is ↦ let P : ℕ → Type 0 = λ k. f k ≤ rest k in subst P (sym is) (omega (arith, here))
-      | inr ne ↦ let one : rest j ≡ 1 = cond-false {A = ℕ} (j == i) 0 1 (ne_eqb j i ne) in omega (arith, one, most j jn)
-    ]) in
-    omega (arith, changed, at_i, least, sum-ones n)
-
 -- on its word no more pairs are dirty after a win than there are other callers
 on-won :
     (g : Geometry) (s : State) (who : ℕ) (w : Wins) → who < g.callers → counts_won (action_at s who) (found_at s who) ≡ true
     → dirty_on g (wins_after s who w) (name_at s who) + 1 ≤ g.callers
 on-won g s who w has won =
     let new = won-new (action_at s who) (found_at s who) won in
-    all-but-one g.callers (λ i. one_if (is_dirty (wins_after s who w) i (name_at s who))) who has (ap one_if (own-seen s who w new.0 new.1))
-    (λ i lt. one-most (is_dirty (wins_after s who w) i (name_at s who)))
+    omega (
+      arith,
+      sum-most-but g.callers (λ i. one_if (is_dirty (wins_after s who w) i (name_at s who))) 1 who has (ap one_if (own-seen s who w new.0 new.1))
+          (λ i lt. one_if-most (is_dirty (wins_after s who w) i (name_at s who))),
+    )
 
 -- where nothing is won the own pair alone changes
 on-none :

@@ -1,21 +1,23 @@
 -- What a caller still expects after a step: what it expected of other words, and what its load sees.
-use Rattle.std.proofs.Common.{ℕ, suc, true, ◌≡◌, ◌≢◌, ◌+◌, List, ◌∷◌, get_or, refl, arith, sym, subst, ◌∙◌, inl, inr}
-use Rattle.std.specs.Prelude.{All, Any, ◌==◌, not, Some, IsTrue}
-use Rattle.std.proofs.lemmas.List.Elements.{All-cons, All-from_recursion}
+use Rattle.std.proofs.Common.{ℕ, suc, true, Option, Some, None, ◌≡◌, ◌≢◌, ◌+◌, ◌<◌, ◌^◌, List, [], ◌∷◌, get_or, refl, arith, sym, subst, ◌∙◌, inl, inr}
+use Rattle.std.specs.Prelude.{All, Any, ◌==◌, not, IsTrue}
+use Rattle.std.specs.List.{AllByRecursion}
+use Rattle.std.proofs.lemmas.List.Elements.{All-nil, All-cons, All-from_recursion}
 use Rattle.std.proofs.lemmas.List.{get_or_default}
 use Rattle.heap_geometry.specs.declared.geometry.Geometry.{Geometry}
-use Rattle.word_plan.specs.declared.action.Action.{Action}
 use Rattle.word_plan.specs.declared.action.Action.TheVariants as action
-use Rattle.word_plan.specs.declared.action.Found.{Found}
+use Rattle.packed_words.specs.Anchor.{AnchorFields, anchor_word}
+use Rattle.packed_words.proofs.AnchorLemmas.{anchor_word-anchor_of}
 use Rattle.word_plan.specs.declared.name.WordName.{WordName}
 use Rattle.word_plan.specs.Actions.{name_of, found_by}
-use Rattle.word_plan.specs.Seats.{SeatFields, desc_named}
+use Rattle.word_plan.specs.Seats.{SeatFields, desc_named, anchor_in}
 use Rattle.word_plan.specs.Sites.{active_name}
 use Rattle.errand_steps.specs.declared.onward.Onward.{Onward}
 use Rattle.errand_steps.specs.Onwards.{is_alloc}
 use Rattle.errand_steps.specs.declared.point.Point.{Point}
+use Rattle.errand_steps.specs.Points.{plan_point_of}
 use Rattle.sound_state.specs.Expectations.{Expected, expect, expects_of, onward_expects, none_active}
-use Rattle.sound_state.proofs.wins.WinDefs.{IsSeen, MayExpect}
+use Rattle.sound_state.proofs.wins.WinDefs.{IsSeen, MayExpect, found_in}
 
 -- the caller expects this among others
 abbrev pub IsIn : List Expected → Expected → Type 0
@@ -47,63 +49,91 @@ all-in_rest e xs k d lt = any-rest (λ x. x ≡ get_or xs k d) e xs (all-in xs k
 pub onward-active : (s : SeatFields) (o : Onward) → All (λ e. e.word ≡ active_name s) (onward_expects s o)
 onward-active s o = All-from_recursion (λ e. e.word ≡ active_name s) (onward_expects s o) (grind (arith))
 
+-- a step from the point that finds v carries or sees this; and all of these
+abbrev pub MayOne : Point → ℕ → Expected → Type 0
+MayOne p v = MayExpect p (plan_point_of p) (found_in p v)
+
+abbrev pub MayAll : Point → ℕ → List Expected → Type 0
+MayAll p v = All (MayOne p v)
+
+-- it sees this one, or leaves it so
+abbrev pub SeesAs : Point → ℕ → WordName → ℕ → Type 0
+SeesAs p v word value = IsSeen (plan_point_of p) (found_in p v) (record { word = word; value = value })
+
 -- what was expected of other words is carried
 pub all-carried :
-    (p : Point) (a : Action) (x : Found) (xs : List Expected) → All (IsIn (expects_of p)) xs → All (λ e. e.word ≢ name_of a) xs
-    → All (MayExpect p a x) xs
-all-carried p a x xs within apart k d lt = inl (within k d lt, apart k d lt)
+    (p : Point) (v : ℕ) (es : List Expected) → All (IsIn (expects_of p)) es → All (λ e. e.word ≢ name_of (plan_point_of p)) es → MayAll p v es
+all-carried p v es within apart k d lt = inl (within k d lt, apart k d lt)
 
--- so is what waits behind a part
+-- none of them is of the word of the step
+abbrev pub AllApart : Point → List Expected → Type 0
+AllApart p es = AllByRecursion (λ e. e.word ≢ name_of (plan_point_of p)) es
+
+-- so are all that were expected, and all but the first
+pub whole-carried : (p : Point) (v : ℕ) (es : List Expected) → expects_of p ≡ es → AllApart p es → MayAll p v es
+whole-carried p v es is apart =
+    all-carried p v es (rw is (all-in es)) (All-from_recursion (λ e. e.word ≢ name_of (plan_point_of p)) es apart)
+
+pub rest-carried : (p : Point) (v : ℕ) (e : Expected) (es : List Expected) → expects_of p ≡ e ∷ es → AllApart p es → MayAll p v es
+rest-carried p v e es is apart =
+    all-carried p v es (rw is (all-in_rest e es)) (All-from_recursion (λ e. e.word ≢ name_of (plan_point_of p)) es apart)
+
+-- and what waits behind a part
 pub onward-apart : (n : WordName) (s : SeatFields) (o : Onward) → active_name s ≢ n → All (λ e. e.word ≢ n) (onward_expects s o)
 onward-apart n s o apart k d lt = λ is. apart (sym (onward-active s o k d lt) ∙ is)
 
 pub onward-carried :
-    (p : Point) (a : Action) (x : Found) (s : SeatFields) (o : Onward) → All (IsIn (expects_of p)) (onward_expects s o)
-    → active_name s ≢ name_of a → All (MayExpect p a x) (onward_expects s o)
-onward-carried p a x s o within apart = all-carried p a x (onward_expects s o) within (onward-apart (name_of a) s o apart)
+    (p : Point) (v : ℕ) (s : SeatFields) (o : Onward) → All (IsIn (expects_of p)) (onward_expects s o)
+    → active_name s ≢ name_of (plan_point_of p) → MayAll p v (onward_expects s o)
+onward-carried p v s o within apart = all-carried p v (onward_expects s o) within (onward-apart (name_of (plan_point_of p)) s o apart)
+
+-- with what is expected of a word before it
+pub both-carried :
+    (p : Point) (v : ℕ) (n : WordName) (w : ℕ) (s : SeatFields) (o : Onward) → All (IsIn (expects_of p)) (expect n w (onward_expects s o))
+    → n ≢ name_of (plan_point_of p) → active_name s ≢ name_of (plan_point_of p) → MayAll p v (expect n w (onward_expects s o))
+both-carried p v n w s o within other apart =
+    all-carried p v (expect n w (onward_expects s o)) within
+    (All-cons (λ e. e.word ≢ name_of (plan_point_of p)) (record { word = n; value = w }) (onward_expects s o) other
+    (onward-apart (name_of (plan_point_of p)) s o apart))
+
+-- what the step sees, and what is expected beside that
+pub seen-more :
+    (p : Point) (v : ℕ) (word : WordName) (value : ℕ) (es : List Expected) → SeesAs p v word value → MayAll p v es
+    → MayAll p v (expect word value es)
+seen-more p v word value es seen rest =
+    All-cons (MayOne p v) (record { word = word; value = value }) es (inr seen) rest
 
 -- a load sees its word
-pub load-sees :
-    (n : WordName) (v value : ℕ) → value ≡ v → IsSeen (action.Load n) (found_by (action.Load n) v) (record { word = n; value = value })
-load-sees n v value is = record { word = refl; value = sym is; kept = refl; noted = refl }
+pub load-sees : (p : Point) (v : ℕ) (n : WordName) (w : ℕ) → plan_point_of p ≡ action.Load n → v ≡ w → SeesAs p v n w
+load-sees p v n w loads is =
+    subst (λ a. IsSeen a (found_by a v) (record { word = n; value = w })) (sym loads) (record { word = refl; value = is; kept = refl; noted = refl })
 
 pub load-seen :
-    (p : Point) (n : WordName) (v : ℕ) (e : Expected) → e.word ≡ n → v ≡ e.value
-    → MayExpect p (action.Load n) (found_by (action.Load n) v) e
-load-seen p n v e word value = inr (record { word = word; value = value; kept = refl; noted = refl })
+    (p : Point) (v : ℕ) (n : WordName) (w : ℕ) (es : List Expected) → plan_point_of p ≡ action.Load n → v ≡ w → MayAll p v es
+    → MayAll p v (expect n w es)
+load-seen p v n w es loads is rest = seen-more p v n w es (load-sees p v n w loads is) rest
 
--- a load that sees a word, and what waits behind the part
-pub load-expects :
-    (p : Point) (n : WordName) (v w : ℕ) (s : SeatFields) (o : Onward) → All (IsIn (expects_of p)) (onward_expects s o)
-    → active_name s ≢ n → v ≡ w
-    → All (MayExpect p (action.Load n) (found_by (action.Load n) v)) (expect n w (onward_expects s o))
-load-expects p n v w s o within apart same =
-    All-cons (MayExpect p (action.Load n) (found_by (action.Load n) v)) (record { word = n; value = w }) (onward_expects s o)
-    (load-seen p n v (record { word = n; value = w }) refl same)
-    (onward-carried p (action.Load n) (found_by (action.Load n) v) s o within apart)
+-- nothing is expected
+pub expects-none : (p : Point) (v : ℕ) → MayAll p v []
+expects-none p v = All-nil (MayOne p v)
 
--- an action on another word carries both
-pub both-carried :
-    (p : Point) (a : Action) (x : Found) (n : WordName) (w : ℕ) (s : SeatFields) (o : Onward)
-    → All (IsIn (expects_of p)) (expect n w (onward_expects s o)) → n ≢ name_of a → active_name s ≢ name_of a
-    → All (MayExpect p a x) (expect n w (onward_expects s o))
-both-carried p a x n w s o within other apart =
-    all-carried p a x (expect n w (onward_expects s o)) within
-    (All-cons (λ e. e.word ≢ name_of a) (record { word = n; value = w }) (onward_expects s o) other (onward-apart (name_of a) s o apart))
+-- what holds of both forms that an answer may have holds of it
+pub option_both :
+    {A B : Type 0} (f : Option A → B) (o : Option A) (P : B → Type 0) → P (f None) → ((a : A) → o ≡ Some a → P (f (Some a))) → P (f o)
+option_both f None P none some = none
+option_both f (Some a) P none some = some a refl
 
 -- a lost exchange finds another number than its own
 pub lost-differs : (v e : ℕ) → not (v == e) ≡ true → v ≢ e
 lost-differs v e lost = λ is. absurd (grind (arith, lost, is))
 
--- so it finds another word than the expected one
-pub exchange-loses :
-    (n : WordName) (v w : ℕ) (xs : List Expected) → not (v == w) ≡ true → Any (λ e. (e.word ≡ n) × (v ≢ e.value)) (expect n w xs)
-exchange-loses n v w xs lost =
-    any-first (λ e. (e.word ≡ n) × (v ≢ e.value)) (record { word = n; value = w }) xs (refl, lost-differs v w lost)
-
 -- a descriptor that a number names
 pub named-desc : (g : Geometry) (v d : ℕ) → desc_named g v ≡ Some d → v ≡ d + 1
 named-desc g v d is = grind (arith, is)
+
+-- the word of an anchor
+pub read-anchor : (class v : ℕ) (a : AnchorFields) → v < 2 ^ 64 → anchor_in class v ≡ Some a → v ≡ anchor_word a
+read-anchor class v a below is = grind (arith, is, anchor_word-anchor_of v below)
 
 -- an allocation at work expects that none is active
 pub alloc-active :

@@ -1,7 +1,7 @@
 -- A step keeps what bounds the turns by the installs.
 use Rattle.std.proofs.Common.{ℕ, false, Some, None, ◌≡◌, ◌≢◌, ◌<◌, ◌≤◌, ◌+◌, List, length, take, drop, refl, arith, ap, sym, subst, inl, inr, ◌∙◌}
 use Rattle.std.specs.Prelude.{◌&&◌, ◌==◌, not, All, Any, count_by, IsTrue}
-use Rattle.std.proofs.lemmas.Bool.{cases_Bool, cases_eq, eq-eqb, ne_eqb, cond-true, cond-false}
+use Rattle.std.proofs.lemmas.Bool.{cases_Bool, eq-eqb, ne_eqb, cond-true, cond-false}
 use Rattle.std.proofs.lemmas.List.{take_all}
 use Rattle.heap_geometry.specs.declared.geometry.Geometry.{Geometry}
 use Rattle.packed_words.specs.declared.active.ActiveWord.TheVariants.{Null}
@@ -58,10 +58,10 @@ discards-after s w who s' n h unmet =
           let loses : LosesNew p (word_at s who) (MetSince s w.list who n) = loses-new p (word_at s who) (MetSince s w.list who n) lost unmet.met in
           let before : 0 < count_by (installs_on who (name_at s who)) (drop n w.list) = loses.expected loses.active refl loses.some in
           let one : one_if (offers_new p && not (found_at s who).won) ≡ 1 = ap one_if lost in
-          omega (arith, h.settles.discards, h.goes.discards, loses.discards, one, before, on-against who (name_at s who) (drop n w.list), longer)
+          omega (arith, h.settles.to.discards, h.goes.discards, loses.discards, one, before, on-against who (name_at s who) (drop n w.list), longer)
       | inr kept ↦
           let none : one_if (offers_new p && not (found_at s who).won) ≡ 0 = ap one_if kept in
-          omega (arith, h.settles.discards, h.goes.discards, none, unmet.discards, longer)
+          omega (arith, h.settles.to.discards, h.goes.discards, none, unmet.discards, longer)
     ]
 
 -- what IsUnmet says, where the caller's errand is this one
@@ -74,9 +74,8 @@ record UnmetAs (s : State) (list : List Win) (who n : ℕ) (e : ErrandFields) : 
   discards : errand_discards e ≤ count_by (installs_against who) (drop n list)
 
 -- so it is unmet
-is-unmet : (s : State) (w : Wins) (who n : ℕ) (e : ErrandFields) → s.errand who ≡ e → UnmetAs s w.list who n e → IsUnmet s w who n
-is-unmet s w who n e is h =
-    let here = subst (UnmetAs s w.list who n) (sym is) h in record { past = here.past; turns = here.turns; met = here.met; discards = here.discards }
+is-unmet : (s : State) (w : Wins) (who n : ℕ) → UnmetAs s w.list who n (s.errand who) → IsUnmet s w who n
+is-unmet s w who n h = record { past = h.past; turns = h.turns; met = h.met; discards = h.discards }
 
 -- the caller still seeks what it sought
 still-unmet :
@@ -114,7 +113,7 @@ newly-unmet g s w who s' has h step old looks expects =
           ];
       discards =
           let none : one_if (offers_new (s.errand who).point && not (found_at s who).won) ≡ 0 = ap (λ b. one_if (b && not (found_at s who).won)) only.offer in
-          omega (arith, h.settles.discards, h.goes.discards, only.discards, none);
+          omega (arith, h.settles.to.discards, h.goes.discards, only.discards, none);
     }
 
 -- what another caller expects: the step leaves it so, or installs a superblock there
@@ -193,7 +192,7 @@ own-seeking :
 own-seeking g s w who s' has h old seeks =
     let inside = seeks-inside (settled s who).point seeks in
     let list = list_after s who w.list in
-    elim (h.goes.seeks (h.settles.seeks seeks)) [
+    elim (h.goes.seeks (h.settles.to.seeks seeks)) [
       | inl sought ↦
           let noted = old.seeking who has sought in
           (noted.0, own-note s w who noted.0 inside (unmet-seeks (s.errand who).point (found_at s who) (length list) (w.unmet who) sought ∙ noted.1))
@@ -209,7 +208,6 @@ pub step-installed :
 step-installed g s w who s' has fits step old expects =
     let h = step-turned g s who s' fits step in
     let list = list_after s who w.list in
-    let here : s'.errand who ≡ settled s who = step.errand.here in
     record {
       own =
           each-other g (λ i e. count_by (installs_by i) list + errand_offers e ≤ count_by (gives_small i) s'.history)
@@ -228,13 +226,9 @@ step-installed g s w who s' has fits step old expects =
           (own-seeking g s w who s' has h old)
           (λ i has_i ne seeks. let noted = old.seeking i has_i seeks in (noted.0, other-note s w who i ne ∙ noted.1));
       unmet = λ i n has_i is.
-          elim (cases_eq i who) [
-            | inl same ↦
-                let own : UnmetAs s' list who n (settled s who) =
-                own-unmet g s w who s' n has h step old expects (subst (λ j. (wins_after s who w).unmet j ≡ Some n) same is) in
-                subst (λ j. IsUnmet s' (wins_after s who w) j n) (sym same) (is-unmet s' (wins_after s who w) who n (settled s who) here own)
-            | inr ne ↦
-                is-unmet s' (wins_after s who w) i n (s.errand i) (step.errand.elsewhere i ne)
-                (other-unmet s w who s' i n h step ne (old.unmet i n has_i (sym (other-note s w who i ne) ∙ is)))
-          ];
+          is-unmet s' (wins_after s who w) i n
+          (each-other g (λ i e. (n : ℕ) → (wins_after s who w).unmet i ≡ Some n → UnmetAs s' list i n e)
+          s.errand who (settled s who) s'.errand step.errand
+          (λ n is. own-unmet g s w who s' n has h step old expects is)
+          (λ i has_i ne n is. other-unmet s w who s' i n h step ne (old.unmet i n has_i (sym (other-note s w who i ne) ∙ is))) i has_i n is);
     }

@@ -1,17 +1,18 @@
 -- A step keeps what the callers have noted of each other's wins.
 use Rattle.std.proofs.Common.{ℕ, Bool, true, false, Option, ◌≡◌, ◌≢◌, ◌<◌, ◌+◌, ◌-◌, ◌^◌, List, ◌++◌, length, refl, arith, ap, sym, subst, inl, inr, ◌∙◌}
-use Rattle.std.specs.Prelude.{min, count_by, option_to_list, slice_index_or, All, IsTrue}
+use Rattle.std.specs.Prelude.{min, count_by, option_to_list, All, IsTrue}
 use Rattle.std.proofs.lemmas.Bool.{cases_Bool, cases_eq, eq-eqb, ne_eqb}
 use Rattle.std.proofs.lemmas.List.Elements.{All-append}
 use Rattle.heap_geometry.specs.declared.geometry.Geometry.{Geometry}
 use Rattle.word_plan.specs.declared.name.WordName.{WordName}
 use Rattle.word_plan.proofs.NameLemmas.{cases_name}
-use Rattle.errand_steps.specs.Errands.{ErrandFields, settle_of, raised, counts_won, is_lost_exchange}
+use Rattle.errand_steps.specs.Errands.{settle_of, raised, counts_won, is_lost_exchange}
 use Rattle.errand_steps.specs.Steps.{State, Step, action_at, name_at, word_at, found_at}
 use Rattle.sound_state.specs.Contention.{IsExpected, IsNoted, IsDirty, is_by, is_against, dirty_since}
 use Rattle.sound_state.specs.Expectations.{Expected, expects_of}
 use Rattle.sound_state.specs.Wins.{Win, Wins, win_at, list_after, note_at, confirms, wins_after}
 use Rattle.sound_state.proofs.wins.CountLemmas.{count-append}
+use Rattle.sound_state.proofs.shared.CallerLemmas.{each-other}
 use Rattle.sound_state.proofs.wins.DirtyLemmas.{IsPast, dirty-stays, dirty-now}
 use Rattle.sound_state.proofs.wins.ExpectLemmas.{in-all}
 use Rattle.sound_state.proofs.wins.StepWins.{IsStore, word-stays, the_win, list-least, all-win, no-count, no-won, one-count, against-other, noted-others, noted-apart, noted-own, note-seen, note-lost, note-confirmed}
@@ -48,29 +49,18 @@ is-own s who = eq-eqb who who refl
 
 -- each caller counts its own
 won-after :
-    (g : Geometry) (s : State) (who : ℕ) (s' : State) (w : Wins) → Step s who s' → IsNoted g s w → (i : ℕ) → i < g.callers
+    (g : Geometry) (s : State) (who : ℕ) (s' : State) (w : Wins) → who < g.callers → Step s who s' → IsNoted g s w → (i : ℕ) → i < g.callers
     → (s'.errand i).won ≡ min (count_by (is_by i) (list_after s who w.list)) (2 ^ 64 - 1)
-won-after g s who s' w step old i has =
+won-after g s who s' w has step old =
     let more = option_to_list (win_at s who) in
-    let both : count_by (is_by i) (w.list ++ more) ≡ count_by (is_by i) w.list + count_by (is_by i) more =
-    count-append (is_by i) w.list more in
-    elim (cases_eq i who) [
-      | inl is ↦
-          let P : ℕ → Type 0 = λ k. (s'.errand k).won ≡ min (count_by (is_by k) (w.list ++ more)) (2 ^ 64 - 1) in
-          let own : count_by (is_by who) (w.list ++ more) ≡ count_by (is_by who) w.list + count_by (is_by who) more =
-          count-append (is_by who) w.list more in
-          let had : (s.errand who).won ≡ min (count_by (is_by who) w.list) (2 ^ 64 - 1) = old.won who (subst (λ k. k < g.callers) is has) in
-          subst P (sym is)
-          (won-more (counts_won (action_at s who) (found_at s who)) (s.errand who).won (s'.errand who).won
-          (count_by (is_by who) w.list) (count_by (is_by who) (w.list ++ more)) (own-won s who s' step) had
-          (λ won. omega (arith, own, one-count (is_by who) s who won (is-own s who)))
-          (λ none. omega (arith, own, no-won (is_by who) s who none)))
-      | inr other ↦
-          let same : (s'.errand i).won ≡ (s.errand i).won = ap (λ e. e.won) (step.errand.elsewhere i other) in
-          let none : count_by (is_by i) more ≡ 0 = no-count (is_by i) s who (ne_eqb who i (λ is. other (sym is))) in
-          let had : (s.errand i).won ≡ min (count_by (is_by i) w.list) (2 ^ 64 - 1) = old.won i has in
-          omega (arith, both, same, none, had)
-    ]
+    let both = λ (i : ℕ). count-append (is_by i) w.list more in
+    each-other g (λ i e. e.won ≡ min (count_by (is_by i) (w.list ++ more)) (2 ^ 64 - 1)) s.errand who (s'.errand who) s'.errand
+    (record { here = refl; elsewhere = step.errand.elsewhere })
+    (won-more (counts_won (action_at s who) (found_at s who)) (s.errand who).won (s'.errand who).won (count_by (is_by who) w.list)
+    (count_by (is_by who) (w.list ++ more)) (own-won s who s' step) (old.won who has)
+    (λ won. omega (arith, both who, one-count (is_by who) s who won (is-own s who)))
+    (λ none. omega (arith, both who, no-won (is_by who) s who none)))
+    (λ i has_i other. omega (arith, both i, no-count (is_by i) s who (ne_eqb who i (λ is. other (sym is))), old.won i has_i))
 
 -- no note is of wins to come
 note-past :
@@ -186,22 +176,11 @@ expected-own g s who s' w has step old e may =
 expected-after :
     (g : Geometry) (s : State) (who : ℕ) (s' : State) (w : Wins) → who < g.callers → Step s who s' → ExpectsAfter s who → StoresAlone g s who
     → IsNoted g s w → (i : ℕ) → i < g.callers → All (IsExpected s' (wins_after s who w) i) (expects_of (s'.errand i).point)
-expected-after g s who s' w has step expects stores old i lt =
-    elim (cases_eq i who) [
-      | inl is ↦
-          let P : ℕ → Type 0 = λ k. All (IsExpected s' (wins_after s who w) k) (expects_of (s'.errand k).point) in
-          let Q : ErrandFields → Type 0 = λ f. All (IsExpected s' (wins_after s who w) who) (expects_of f.point) in
-          subst P (sym is) (subst Q (sym step.errand.here)
-          (λ k d within.
-          expected-own g s who s' w has step old (slice_index_or (expects_of (settle_of (s.errand who) (found_at s who)).point) k d)
-          (expects k d within)))
-      | inr other ↦
-          let Q : ErrandFields → Type 0 = λ f. All (IsExpected s' (wins_after s who w) i) (expects_of f.point) in
-          subst Q (sym (step.errand.elsewhere i other))
-          (λ k d within.
-          expected-others g s who s' w step old i other (slice_index_or (expects_of (s.errand i).point) k d) (stores i lt other k d within)
-          (old.expected i lt k d within))
-    ]
+expected-after g s who s' w has step expects stores old =
+    each-other g (λ i e. All (IsExpected s' (wins_after s who w) i) (expects_of e.point)) s.errand who (settle_of (s.errand who) (found_at s who))
+    s'.errand step.errand (λ k d within. expected-own g s who s' w has step old _ (expects k d within))
+    (λ i has_i other k d within.
+    expected-others g s who s' w step old i other _ (stores i has_i other k d within) (old.expected i has_i k d within))
 
 -- a step keeps what is noted
 pub step-noted :
@@ -211,7 +190,7 @@ step-noted g s who s' w has step expects stores old = record {
   callers =
       All-append (λ x. x.caller < g.callers) w.list (option_to_list (win_at s who)) old.callers
       (all-win (λ x. x.caller < g.callers) s who has);
-  won = won-after g s who s' w step old;
+  won = won-after g s who s' w has step old;
   past = past-after g s who w old;
   expected = expected-after g s who s' w has step expects stores old;
 }

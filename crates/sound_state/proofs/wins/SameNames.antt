@@ -1,7 +1,7 @@
 -- When two names are the same.
-use Rattle.std.proofs.Common.{true, false, ◌≡◌, ◌≢◌, refl, ap, subst, inl, inr}
+use Rattle.std.proofs.Common.{true, false, ◌≡◌, ◌≢◌, refl, arith, ap, subst, inl, inr}
 use Rattle.std.specs.Prelude.{◌==◌}
-use Rattle.std.proofs.lemmas.Bool.{cases_Bool, eq-eqb, eqb-true, and_parts, and_from}
+use Rattle.std.proofs.lemmas.Bool.{cases_Bool, eq-eqb, eqb-true, and_parts}
 use Rattle.word_plan.specs.declared.name.WordName.{WordName}
 use Rattle.word_plan.specs.declared.name.WordName.TheVariants.{Arena, Anchor, Next, Info, Active, Slot, ListHead, FrameNext, FrameHead, DescHead, Hazard, Units, Shelf}
 use Rattle.sound_state.specs.Wins.{same_name}
@@ -29,19 +29,7 @@ same-name-is m n is = cc
 
 -- a name passes it with itself
 pub same-name-refl : (m : WordName) → same_name m m ≡ true
-same-name-refl (Arena a) = eq-eqb a a refl
-same-name-refl (Anchor a) = eq-eqb a a refl
-same-name-refl (Next a) = eq-eqb a a refl
-same-name-refl (Info a) = eq-eqb a a refl
-same-name-refl (Active a b) = and_from (a == a) (b == b) (eq-eqb a a refl) (eq-eqb b b refl)
-same-name-refl (Slot a b) = and_from (a == a) (b == b) (eq-eqb a a refl) (eq-eqb b b refl)
-same-name-refl (ListHead a) = eq-eqb a a refl
-same-name-refl (FrameNext a) = eq-eqb a a refl
-same-name-refl FrameHead = refl
-same-name-refl DescHead = refl
-same-name-refl (Hazard a) = eq-eqb a a refl
-same-name-refl Units = refl
-same-name-refl (Shelf a) = eq-eqb a a refl
+same-name-refl m = grind (arith, eq-eqb)
 
 -- so two names that are one pass it, and two that differ don't
 pub same-name-one : (m n : WordName) → m ≡ n → same_name m n ≡ true

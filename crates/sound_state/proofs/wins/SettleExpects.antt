@@ -49,21 +49,8 @@ no-pick-large p o = grind (arith)
 scanned-expects :
     (P : Expected → Type 0) (q : DescPoint) (r : Onward) (x : Found) (s : SeatFields) (held : List ℕ) (o : Onward)
     → enter_desc (settle_desc_of q x) r ≡ Pick s held o → All P (onward_expects s o) → All P (desc_expects q r)
-scanned-expects P (desc.LoadDescHead t) r x s held o is all = absurd (grind (arith, is))
-scanned-expects P (desc.StoreHazard t d) r x s held o is all = absurd (grind (arith, is))
-scanned-expects P (desc.ReloadDescHead t d) r x s held o is all = absurd (grind (arith, is))
-scanned-expects P (desc.LoadNextDesc t d) r x s held o is all = absurd (grind (arith, is))
-scanned-expects P (desc.PopDesc t d next) r x s held o is all = absurd (grind (arith, is))
-scanned-expects P (desc.ClearAfterPop t d) r x s held o is all = absurd (grind (arith, is))
-scanned-expects P (desc.ClearHazard t) r x s held o is all = absurd (grind (arith, is))
 scanned-expects P (desc.ReadHazard t words at) r x s held o is all = grind (arith, is)
-scanned-expects P (desc.LoadHeadToPush t d) r x s held o is all = absurd (grind (arith, is))
-scanned-expects P (desc.StoreNextDesc t d top) r x s held o is all = absurd (grind (arith, is))
-scanned-expects P (desc.PushDesc t d top) r x s held o is all = absurd (grind (arith, is))
-scanned-expects P (desc.Got t d) r x s held o is all = All-nil P
-scanned-expects P (desc.Cleared t) r x s held o is all = All-nil P
-scanned-expects P (desc.Scanned t words) r x s held o is all = All-nil P
-scanned-expects P (desc.Pushed t d) r x s held o is all = All-nil P
+scanned-expects P q r x s held o is all = grind (arith, is, All-nil P)
 
 -- a scan ends where the last hazard word is read: the caller expects there what it expected
 picked-expects :

@@ -1,12 +1,12 @@
--- What a caller expects after a step at a stack, and what it expects where it loses there.
-use Rattle.std.proofs.Common.{ℕ, Bool, true, false, ◌≡◌, ◌≢◌, ◌<◌, ◌^◌, ◌-◌, refl, arith, sym}
-use Rattle.std.specs.Prelude.{All, ◌==◌, if◌then◌else◌}
-use Rattle.std.proofs.lemmas.Bool.{true≢false}
+-- What a caller expects after a step at a stack it expected before, or its step saw it or left it so.
+use Rattle.std.proofs.Common.{ℕ, false, ◌≡◌, ◌≢◌, ◌<◌, ◌^◌, ◌-◌, refl, arith, sym}
+use Rattle.std.specs.Prelude.{All, ◌==◌}
+use Rattle.std.proofs.lemmas.Bool.{true≢false, cond_both}
 use Rattle.std.proofs.lemmas.List.Elements.{All-nil}
 use Rattle.heap_geometry.specs.declared.geometry.Geometry.{Geometry}
 use Rattle.packed_words.specs.Head.{HeadFields, head_word, head_of}
 use Rattle.packed_words.proofs.HeadLemmas.{head_word-head_of}
-use Rattle.word_plan.specs.Actions.{name_of, found_by}
+use Rattle.word_plan.specs.Actions.{name_of}
 use Rattle.word_plan.specs.Seats.{SeatFields}
 use Rattle.word_plan.specs.Sites.{active_name}
 use Rattle.stack_parts.specs.declared.point.Pile.{Pile}
@@ -22,8 +22,8 @@ use Rattle.errand_steps.specs.Nexts.{next_of, enter_stack, popped, confirmed_emp
 use Rattle.errand_steps.specs.Onwards.{has_left_stack}
 use Rattle.errand_steps.specs.Points.{plan_point_of}
 use Rattle.sound_state.specs.Expectations.{Expected, expects_of, onward_expects, head_still}
-use Rattle.sound_state.proofs.wins.ExpectLemmas.{IsIn, all-in, all-in_rest, onward-carried, load-expects, both-carried, exchange-loses}
-use Rattle.sound_state.proofs.wins.WinDefs.{MayExpect, ExpectsOn, LosesOn, next_expects}
+use Rattle.sound_state.proofs.wins.ExpectLemmas.{IsIn, MayOne, MayAll, all-in, all-in_rest, onward-carried, load-seen, both-carried}
+use Rattle.sound_state.proofs.wins.WinDefs.{ExpectsOn, next_expects}
 
 -- an active word is no word of a stack, and a head lies below no index
 head-apart : (s : SeatFields) (pile : Pile) → active_name s ≢ head_name s pile
@@ -42,17 +42,7 @@ below-apart s Partials i = λ is. cc
 stack-holds :
     (p : StackPoint) (o : Onward) → has_left_stack p ≡ false → All (IsIn (expects_of (Stack p o))) (onward_expects (seat_of_stack p) o)
 unfolding expects_of
-stack-holds (stack.LoadTop s pile) o inside = all-in (onward_expects s o)
-stack-holds (stack.LoadBelow s pile h) o inside = all-in_rest _ (onward_expects s o)
-stack-holds (stack.PopTop s pile h below) o inside = all-in_rest _ (onward_expects s o)
-stack-holds (stack.ConfirmEmpty s pile h) o inside = all-in_rest _ (onward_expects s o)
-stack-holds (stack.LoadTopToPush s pile i) o inside = all-in (onward_expects s o)
-stack-holds (stack.StoreBelow s pile i h) o inside = all-in_rest _ (onward_expects s o)
-stack-holds (stack.PushTop s pile i h) o inside = all-in_rest _ (onward_expects s o)
-stack-holds (stack.Popped s pile i) o inside = absurd (true≢false inside)
-stack-holds (stack.FoundEmpty s pile h) o inside = absurd (true≢false inside)
-stack-holds (stack.ConfirmedEmpty s pile) o inside = absurd (true≢false inside)
-stack-holds (stack.Pushed s pile) o inside = absurd (true≢false inside)
+stack-holds p o inside = grind (arith, inside, all-in, all-in_rest)
 
 -- a head that is read for a pop
 top-leads :
@@ -85,38 +75,16 @@ pub put-leads : (P : Expected → Type 0) (s : SeatFields) (o : Onward) → All 
 unfolding expects_of
 put-leads P s o = grind (arith, All-nil P)
 
--- an exchange that is won leads on, and one that is lost back to the head
-pop-leads :
-    (P : Expected → Type 0) (s : SeatFields) (pile : Pile) (i : ℕ) (o : Onward) (won : Bool) → All P (onward_expects s o)
-    → All P (next_expects (enter_stack (if won then stack.Popped s pile i else stack.LoadTop s pile) o))
-unfolding expects_of
-pop-leads P s pile i o true rest = popped-leads P s i o rest
-pop-leads P s pile i o false rest = rest
-
-confirm-leads :
-    (P : Expected → Type 0) (s : SeatFields) (pile : Pile) (o : Onward) (won : Bool) → All P (onward_expects s o)
-    → All P (next_expects (enter_stack (if won then stack.ConfirmedEmpty s pile else stack.LoadTop s pile) o))
-unfolding expects_of
-confirm-leads P s pile o true rest = confirmed-leads P s o rest
-confirm-leads P s pile o false rest = rest
-
-push-leads :
-    (P : Expected → Type 0) (s : SeatFields) (pile : Pile) (i : ℕ) (o : Onward) (won : Bool) → All P (onward_expects s o)
-    → All P (next_expects (enter_stack (if won then stack.Pushed s pile else stack.LoadTopToPush s pile i) o))
-unfolding expects_of
-push-leads P s pile i o true rest = put-leads P s o
-push-leads P s pile i o false rest = rest
-
--- what its caller may expect after a step at a stack
-abbrev May : StackPoint → Onward → ℕ → Expected → Type 0
-May p o v = MayExpect (Stack p o) (plan_stack_of p) (found_by (plan_stack_of p) v)
+-- where a step from p leads to q, it carries or sees all that its caller expects after it
+abbrev LeadsOn : StackPoint → Onward → ℕ → StackPoint → Type 0
+LeadsOn p o v q = MayAll (Stack p o) v (next_expects (enter_stack q o))
 
 -- what waits behind the part is carried
 waits-on :
     (p : StackPoint) (o : Onward) (v : ℕ) → has_left_stack p ≡ false → active_name (seat_of_stack p) ≢ name_of (plan_stack_of p)
-    → All (May p o v) (onward_expects (seat_of_stack p) o)
-waits-on p o v inside apart =
-    onward-carried (Stack p o) (plan_stack_of p) (found_by (plan_stack_of p) v) (seat_of_stack p) o (stack-holds p o inside) apart
+    → MayAll (Stack p o) v (onward_expects (seat_of_stack p) o)
+unfolding plan_point_of
+waits-on p o v inside apart = onward-carried (Stack p o) v (seat_of_stack p) o (stack-holds p o inside) apart
 
 -- a step at a stack carries or sees all that its caller expects after it
 pub stack-expects :
@@ -124,47 +92,32 @@ pub stack-expects :
 unfolding plan_point_of next_of expects_of
 stack-expects g who (stack.LoadTop s pile) o v fits below =
     let p = stack.LoadTop s pile in
-    top-leads (May p o v) s pile (head_of v) o (waits-on p o v refl (head-apart s pile))
-    (load-expects (Stack p o) (head_name s pile) v (head_word (head_of v)) s o (stack-holds p o refl) (head-apart s pile)
-    (sym (head_word-head_of v below)))
+    let rest = waits-on p o v refl (head-apart s pile) in
+    top-leads (MayOne (Stack p o) v) s pile (head_of v) o rest
+    (load-seen (Stack p o) v (head_name s pile) (head_word (head_of v)) (onward_expects s o) refl (sym (head_word-head_of v below)) rest)
 stack-expects g who (stack.LoadBelow s pile h) o v fits below =
-    let p = stack.LoadBelow s pile h in
-    below-leads (May p o v) s pile h v o
-    (both-carried (Stack p o) (plan_stack_of p) (found_by (plan_stack_of p) v) (head_name s pile) (head_word h) s o
+    below-leads (MayOne (Stack (stack.LoadBelow s pile h) o) v) s pile h v o
+    (both-carried (Stack (stack.LoadBelow s pile h) o) v (head_name s pile) (head_word h) s o
     (all-in (head_still s pile h o)) (below-apart s pile (h.top - 1)) (next-apart s pile (h.top - 1)))
 stack-expects g who (stack.PopTop s pile h next) o v fits below =
     let p = stack.PopTop s pile h next in
-    pop-leads (May p o v) s pile (h.top - 1) o (v == head_word h) (waits-on p o v refl (head-apart s pile))
+    let rest = waits-on p o v refl (head-apart s pile) in
+    cond_both (v == head_word h) (stack.Popped s pile (h.top - 1)) (stack.LoadTop s pile) (LeadsOn p o v)
+    (λ won. popped-leads (MayOne (Stack p o) v) s (h.top - 1) o rest) (λ lost. rest)
 stack-expects g who (stack.ConfirmEmpty s pile h) o v fits below =
     let p = stack.ConfirmEmpty s pile h in
-    confirm-leads (May p o v) s pile o (v == head_word h) (waits-on p o v refl (head-apart s pile))
+    let rest = waits-on p o v refl (head-apart s pile) in
+    cond_both (v == head_word h) (stack.ConfirmedEmpty s pile) (stack.LoadTop s pile) (LeadsOn p o v)
+    (λ won. confirmed-leads (MayOne (Stack p o) v) s o rest) (λ lost. rest)
 stack-expects g who (stack.LoadTopToPush s pile i) o v fits below =
     let p = stack.LoadTopToPush s pile i in
-    load-expects (Stack p o) (head_name s pile) v (head_word (head_of v)) s o (stack-holds p o refl) (head-apart s pile)
-    (sym (head_word-head_of v below))
+    load-seen (Stack p o) v (head_name s pile) (head_word (head_of v)) (onward_expects s o) refl (sym (head_word-head_of v below))
+    (waits-on p o v refl (head-apart s pile))
 stack-expects g who (stack.StoreBelow s pile i h) o v fits below =
-    let p = stack.StoreBelow s pile i h in
-    both-carried (Stack p o) (plan_stack_of p) (found_by (plan_stack_of p) v) (head_name s pile) (head_word h) s o
+    both-carried (Stack (stack.StoreBelow s pile i h) o) v (head_name s pile) (head_word h) s o
     (all-in (head_still s pile h o)) (below-apart s pile i) (next-apart s pile i)
 stack-expects g who (stack.PushTop s pile i h) o v fits below =
     let p = stack.PushTop s pile i h in
-    push-leads (May p o v) s pile i o (v == head_word h) (waits-on p o v refl (head-apart s pile))
-stack-expects g who (stack.Popped s pile i) o v fits below = absurd (true≢false fits.inside)
-stack-expects g who (stack.FoundEmpty s pile h) o v fits below = absurd (true≢false fits.inside)
-stack-expects g who (stack.ConfirmedEmpty s pile) o v fits below = absurd (true≢false fits.inside)
-stack-expects g who (stack.Pushed s pile) o v fits below = absurd (true≢false fits.inside)
-
--- one that is lost finds another head than its caller expects
-pub stack-loses : (p : StackPoint) (o : Onward) (v : ℕ) → LosesOn (Stack p o) v
-unfolding plan_point_of expects_of
-stack-loses (stack.LoadTop s pile) o v lost = absurd (true≢false (sym lost))
-stack-loses (stack.LoadBelow s pile h) o v lost = absurd (true≢false (sym lost))
-stack-loses (stack.PopTop s pile h below) o v lost = exchange-loses (head_name s pile) v (head_word h) (onward_expects s o) lost
-stack-loses (stack.ConfirmEmpty s pile h) o v lost = exchange-loses (head_name s pile) v (head_word h) (onward_expects s o) lost
-stack-loses (stack.LoadTopToPush s pile i) o v lost = absurd (true≢false (sym lost))
-stack-loses (stack.StoreBelow s pile i h) o v lost = absurd (true≢false (sym lost))
-stack-loses (stack.PushTop s pile i h) o v lost = exchange-loses (head_name s pile) v (head_word h) (onward_expects s o) lost
-stack-loses (stack.Popped s pile i) o v lost = absurd (true≢false (sym lost))
-stack-loses (stack.FoundEmpty s pile h) o v lost = absurd (true≢false (sym lost))
-stack-loses (stack.ConfirmedEmpty s pile) o v lost = absurd (true≢false (sym lost))
-stack-loses (stack.Pushed s pile) o v lost = absurd (true≢false (sym lost))
+    cond_both (v == head_word h) (stack.Pushed s pile) (stack.LoadTopToPush s pile i) (LeadsOn p o v)
+    (λ won. put-leads (MayOne (Stack p o) v) s o) (λ lost. waits-on p o v refl (head-apart s pile))
+stack-expects g who p o v fits below = absurd (true≢false fits.inside)

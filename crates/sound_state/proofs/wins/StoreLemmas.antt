@@ -21,11 +21,9 @@ use Rattle.stack_parts.specs.declared.point.StackPoint.{StackPoint}
 use Rattle.stack_parts.specs.declared.point.StackPoint.TheVariants as stack
 use Rattle.stack_parts.specs.Piles.{head_name, next_name}
 use Rattle.hazard_parts.specs.declared.point.DescPoint.{DescPoint}
-use Rattle.hazard_parts.specs.declared.point.DescPoint.TheVariants as desc
 use Rattle.partial_parts.specs.declared.point.PartialPoint.{PartialPoint}
 use Rattle.partial_parts.specs.declared.point.PartialPoint.TheVariants as partial
 use Rattle.large_parts.specs.declared.point.LargePoint.{LargePoint}
-use Rattle.large_parts.specs.declared.point.LargePoint.TheVariants as large
 use Rattle.errand_steps.specs.declared.onward.Onward.{Onward}
 use Rattle.errand_steps.specs.declared.point.Point.{Point}
 use Rattle.errand_steps.specs.declared.point.Point.TheVariants as point
@@ -116,12 +114,9 @@ module _ (g : Geometry) (s : State) (l : Lists) (i : ℕ) (Q : ℕ → Type 0) w
       (p : Point) → ((d : ℕ) → IsTrue (is_bound g s l d) → Q d) → ((d : ℕ) → 1 ≤ kept_among partly_used d (holds_of p).kept → Q d)
       → AllByRecursion (IsSo g s l i) (recalls_of p) → AreApart Q (expects_of p)
   unfolding holds_of recalls_of expects_of
-  apart-point point.Idle free kept so = tt
   apart-point (point.Block p o) free kept so = apart-block p free so
-  apart-point (point.Stack p o) free kept so = apart-stack p o
-  apart-point (point.Desc p o) free kept so = apart-desc p o
   apart-point (point.Partial p o) free kept so = apart-partial p o kept
-  apart-point (point.Large p o) free kept so = apart-large p
+  apart-point p free kept so = grind (arith, apart-head, apart-onward)
 
 -- a point that stores a word: it is one that nobody exchanges, or the anchor of its caller's new superblock
 abbrev StoresApart : Point → Type 0
@@ -130,52 +125,15 @@ StoresApart p =
     → (IsApartFrom (λ d. Unit {0}) (name_of (plan_point_of p)) → ⊥)
     ⊎ ((d : ℕ) × (1 ≤ kept_among on_its_way d (holds_of p).kept) × (name_of (plan_point_of p) ≡ name.Anchor d))
 
-stores-block : (p : BlockPoint) (o : Onward) → StoresApart (point.Block p o)
-unfolding plan_point_of holds_of
-stores-block (block.StorePrefix at k) o is = inl (λ bad. bad)
-stores-block (block.StoreGuard at k a) o is = inl (λ bad. bad)
-stores-block (block.StoreLink at k a stored heap) o is = inl (λ bad. bad)
-stores-block (block.LinkBlock at k) o is = inl (λ bad. bad)
-stores-block (block.StoreInfo at) o is = inl (λ bad. bad)
-stores-block (block.StoreAnchor at) o is = inr (at.desc, way-here at.desc at.seat.class, refl)
-stores-block p o is = absurd is
-
 stores-next : (pile : Pile) (k : ℕ) → IsApartFrom (λ d. Unit {0}) (next_name pile k) → ⊥
 stores-next Frames k bad = bad
 stores-next Partials k bad = bad
 
-stores-stack : (p : StackPoint) (o : Onward) → StoresApart (point.Stack p o)
-unfolding plan_point_of holds_of
-stores-stack (stack.StoreBelow seat pile k h) o is = inl (stores-next pile k)
-stores-stack p o is = absurd is
-
-stores-desc : (p : DescPoint) (o : Onward) → StoresApart (point.Desc p o)
-unfolding plan_point_of holds_of
-stores-desc (desc.StoreHazard seat e) o is = inl (λ bad. bad)
-stores-desc (desc.ClearAfterPop seat e) o is = inl (λ bad. bad)
-stores-desc (desc.ClearHazard seat) o is = inl (λ bad. bad)
-stores-desc (desc.StoreNextDesc seat e top) o is = inl (λ bad. bad)
-stores-desc p o is = absurd is
-
-stores-partial : (p : PartialPoint) (o : Onward) → StoresApart (point.Partial p o)
-unfolding plan_point_of holds_of
-stores-partial (partial.StoreOwner at) o is = inl (λ bad. bad)
-stores-partial p o is = absurd is
-
-stores-large : (p : LargePoint) (o : Onward) → StoresApart (point.Large p o)
-unfolding plan_point_of holds_of
-stores-large (large.StoreRunPrefix place run) o is = inl (λ bad. bad)
-stores-large (large.StoreWord place k value) o is = inl (λ bad. bad)
-stores-large p o is = absurd is
-
 stores-point : (p : Point) → StoresApart p
-unfolding plan_point_of
-stores-point point.Idle = λ is. absurd is
-stores-point (point.Block p o) = stores-block p o
-stores-point (point.Stack p o) = stores-stack p o
-stores-point (point.Desc p o) = stores-desc p o
-stores-point (point.Partial p o) = stores-partial p o
-stores-point (point.Large p o) = stores-large p o
+unfolding plan_point_of holds_of
+stores-point (point.Block (block.StoreAnchor at) o) = λ is. inr (at.desc, way-here at.desc at.seat.class, refl)
+stores-point (point.Stack (stack.StoreBelow seat pile k h) o) = λ is. inl (stores-next pile k)
+stores-point p = grind (arith)
 
 -- what a caller stores no other one expects
 pub stores-unexpected :

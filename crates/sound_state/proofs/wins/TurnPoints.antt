@@ -1,28 +1,23 @@
 -- What a step does to its caller's turn, at every point.
-use Rattle.std.proofs.Common.{ℕ, true, ◌≡◌, arith, sym, subst, inl, inr}
-use Rattle.std.specs.Prelude.{◌⊎◌, nat_le, IsTrue}
+use Rattle.std.proofs.Common.{ℕ, true, ◌≡◌, arith}
+use Rattle.std.specs.Prelude.{nat_le, IsTrue}
 use Rattle.heap_geometry.specs.declared.geometry.Geometry.{Geometry}
 use Rattle.heap_geometry.specs.declared.limits.TheConstants.{SMALL_MOST}
 use Rattle.word_plan.specs.declared.action.Found.{Found}
 use Rattle.word_plan.specs.Seats.{SeatFields}
-use Rattle.superblock_parts.specs.declared.point.BlockPoint.{BlockPoint}
 use Rattle.superblock_parts.specs.Points.{seat_of_block}
 use Rattle.stack_parts.specs.Points.{seat_of_stack}
 use Rattle.errand_steps.specs.declared.onward.Onward.{Onward}
-use Rattle.errand_steps.specs.declared.onward.Onward.TheVariants as onward
 use Rattle.errand_steps.specs.declared.point.Point.{Point}
 use Rattle.errand_steps.specs.declared.point.Point.TheVariants as point
 use Rattle.errand_steps.specs.Events.{event_of}
-use Rattle.errand_steps.specs.Fits.{FitsPoint, FitsInBlock, FitsOnward}
+use Rattle.errand_steps.specs.Fits.{FitsPoint, FitsOnward}
 use Rattle.errand_steps.specs.Nexts.{next_of}
-use Rattle.errand_steps.specs.Onwards.{goes_block, is_alloc, is_free}
 use Rattle.errand_steps.specs.Points.{asked}
 use Rattle.sound_state.specs.Turns.{is_onward_giving}
 use Rattle.sound_state.proofs.pops.PopTurns.{small-served}
-use Rattle.sound_state.proofs.shared.PointLemmas.{the-alloc, the-free}
-use Rattle.sound_state.proofs.wins.TurnBlocks.{TurnsTo, block-turns, free-turns}
-use Rattle.sound_state.proofs.wins.TurnParts.{stack-turns, desc-turns, partial-turns, large-turns}
-use Rattle.sound_state.proofs.wins.WinDefs.{TurnsOn, found_in}
+use Rattle.sound_state.proofs.wins.TurnParts.{block-turns, stack-turns, desc-turns, partial-turns, large-turns}
+use Rattle.sound_state.proofs.wins.WinDefs.{TurnsOn, TurnsTo, found_in}
 
 -- an allocation in a turn is of a small block
 pub giving-small :
@@ -30,35 +25,12 @@ pub giving-small :
     → nat_le (asked o) SMALL_MOST ≡ true
 giving-small g who s o fits gives = grind (arith, small-served)
 
--- in a superblock there is an allocation or a free
-block-for : (p : BlockPoint) (o : Onward) → IsTrue (goes_block p o) → IsTrue (is_alloc o) ⊎ IsTrue (is_free o)
-block-for p o goes = grind (arith)
-
--- in a superblock
-in-block :
-    (g : Geometry) (who : ℕ) (p : BlockPoint) (o : Onward) (x : Found) → FitsInBlock g who p o
-    → TurnsTo who (point.Block p o) x.value x.won (event_of who (point.Block p o) x) (next_of (point.Block p o) x)
-unfolding next_of
-in-block g who p o x fits =
-    elim (block-for p o fits.goes) [
-      | inl alloc ↦
-          let is : onward.Alloc (asked o) ≡ o = sym (the-alloc o alloc) in
-          subst (λ r. TurnsTo who (point.Block p r) x.value x.won (event_of who (point.Block p r) x) (next_of (point.Block p r) x)) is
-          (block-turns who p (asked o) x
-          (small-served (asked o) (seat_of_block p).class (subst (FitsOnward g who (seat_of_block p)) (sym is) fits.onward))
-          (subst (λ r. IsTrue (goes_block p r)) (sym is) fits.goes) fits.inside)
-      | inr free ↦
-          let is : onward.Free ≡ o = sym (the-free o free) in
-          subst (λ r. TurnsTo who (point.Block p r) x.value x.won (event_of who (point.Block p r) x) (next_of (point.Block p r) x)) is
-          (free-turns who p x (subst (λ r. IsTrue (goes_block p r)) (sym is) fits.goes) fits.inside)
-    ]
-
 -- at each point
 point-turns :
     (g : Geometry) (who : ℕ) (p : Point) (x : Found) → FitsPoint g who p → TurnsTo who p x.value x.won (event_of who p x) (next_of p x)
 unfolding next_of event_of
 point-turns g who point.Idle x fits = grind (arith)
-point-turns g who (point.Block p o) x fits = in-block g who p o x fits
+point-turns g who (point.Block p o) x fits = block-turns who p o x (giving-small g who (seat_of_block p) o fits.onward) fits.goes fits.inside
 point-turns g who (point.Stack p o) x fits = stack-turns who p o x (giving-small g who (seat_of_stack p) o fits.onward) fits.goes fits.inside
 point-turns g who (point.Desc p o) x fits = desc-turns who p o x fits.goes fits.inside
 point-turns g who (point.Partial p o) x fits = partial-turns who p o x fits.goes fits.inside
@@ -66,6 +38,4 @@ point-turns g who (point.Large p o) x fits = large-turns who p o x fits.goes fit
 
 -- with what the step finds where its word is v
 pub turns-on : (g : Geometry) (who : ℕ) (p : Point) (v : ℕ) → FitsPoint g who p → TurnsOn who p v
-turns-on g who p v fits =
-    let h = point-turns g who p (found_in p v) fits in
-    record { unanswered = h.unanswered; discards = h.discards; offers = h.offers; seeks = h.seeks }
+turns-on g who p v fits = point-turns g who p (found_in p v) fits

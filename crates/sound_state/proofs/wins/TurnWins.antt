@@ -44,7 +44,15 @@ pub own-after :
     (g : Geometry) (s : State) (w : Wins) (who : ℕ) (s' : State) → who < g.callers → Turned s who s' → IsInstalled g s w
     → count_by (installs_by who) (list_after s who w.list) + errand_offers (settled s who) ≤ count_by (gives_small who) s'.history
 own-after g s w who s' has h old =
-    omega (arith, old.own who has, h.gives who, count-win (installs_by who) w.list (win_at s who), own-install s who, h.goes.offers, h.settles.offers)
+    omega (
+      arith,
+      old.own who has,
+      h.gives who,
+      count-win (installs_by who) w.list (win_at s who),
+      own-install s who,
+      h.goes.offers,
+      h.settles.to.offers,
+    )
 
 -- its turns, where one may end only as the installs of others allow
 turn-after :
@@ -53,7 +61,7 @@ turn-after :
     → (settled s who).turns
     ≤ count_by (gives_small who) s'.history + count_by (refuses_small who) s'.history + installs + turn_unanswered (settled s who)
 turn-after s who s' installs h before =
-    omega (arith, before, h.gives who, h.refuses who, h.goes.unanswered, h.settles.turn, h.settles.turns)
+    omega (arith, before, h.gives who, h.refuses who, h.goes.unanswered, h.settles.to.turn, h.settles.turns)
 
 -- and where none ends
 pub stay-after :
@@ -63,8 +71,8 @@ pub stay-after :
     ≤ count_by (gives_small who) s'.history + count_by (refuses_small who) s'.history + installs + turn_unanswered (settled s who)
 stay-after s who s' installs h inside before =
     let none : one_if (begins_turn (s.errand who) (after_list (s.errand who) (next_of (s.errand who).point (found_at s who)))) ≡ 0 =
-    ap one_if (h.settles.begins inside) in
-    omega (arith, before, h.gives who, h.refuses who, h.goes.unanswered, h.settles.stays inside, h.settles.turns, none)
+    ap one_if (h.settles.to.begins inside) in
+    omega (arith, before, h.gives who, h.refuses who, h.goes.unanswered, h.settles.to.stays inside, h.settles.turns, none)
 
 -- a turn ends where a superblock that wasn't needed was given back: another one has been installed since the caller found none active
 ends-installed :

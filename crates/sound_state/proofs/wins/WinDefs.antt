@@ -112,18 +112,13 @@ abbrev pub refused_by : ℕ → Option Event → ℕ
 refused_by who None = 0
 refused_by who (Some e) = one_if (refuses_small who e)
 
--- what the step does to its caller's turn
-pub record TurnsOn (who : ℕ) (p : Point) (v : ℕ) : Type 0 where
-  pub unanswered :
-      one_if (in_turn p && not (has_refused p))
-      ≤ given_by who (event_of who p (found_in p v)) + refused_by who (event_of who p (found_in p v))
-      + next_unanswered (next_of p (found_in p v))
-  pub discards :
-      next_discards (next_of p (found_in p v))
-      ≤ one_if (in_turn p && is_discarding_at p) + one_if (offers_new p && not (found_in p v).won)
-  pub offers :
-      next_offers (next_of p (found_in p v)) + one_if (offers p && (found_in p v).won)
-      ≤ one_if (has_offer p) + given_by who (event_of who p (found_in p v))
-  pub seeks :
-      IsTrue (next_seeks (next_of p (found_in p v)))
-      → IsTrue (is_seeking p) ⊎ (IsTrue (looks_active p) × (v ≡ active_word Null))
+-- what a step does to its caller's turn that finds v, is won or isn't, adds this event and leads there
+pub record TurnsTo (who : ℕ) (p : Point) (v : ℕ) (won : Bool) (e : Option Event) (n : Next) : Type 0 where
+  pub unanswered : one_if (in_turn p && not (has_refused p)) ≤ given_by who e + refused_by who e + next_unanswered n
+  pub discards : next_discards n ≤ one_if (in_turn p && is_discarding_at p) + one_if (offers_new p && not won)
+  pub offers : next_offers n + one_if (offers p && won) ≤ one_if (has_offer p) + given_by who e
+  pub seeks : IsTrue (next_seeks n) → IsTrue (is_seeking p) ⊎ (IsTrue (looks_active p) × (v ≡ active_word Null))
+
+-- the same, with what the step finds where its word is v
+abbrev pub TurnsOn : ℕ → Point → ℕ → Type 0
+TurnsOn who p v = TurnsTo who p v (found_in p v).won (event_of who p (found_in p v)) (next_of p (found_in p v))

@@ -1,29 +1,34 @@
 -- Every step keeps what was won, noted and lost.
-use Rattle.std.proofs.Common.{ℕ, ◌<◌, ◌^◌, subst, refl}
+use Rattle.std.proofs.Common.{ℕ, true, ◌≡◌, ◌≢◌, ◌<◌, ◌^◌, List, [], ◌∷◌, arith, subst, refl}
+use Rattle.std.specs.Prelude.{◌==◌, not, Any}
 use Rattle.std.proofs.lemmas.List.Elements.{All-nil}
 use Rattle.heap_geometry.specs.declared.geometry.Geometry.{Geometry}
+use Rattle.word_plan.specs.declared.name.WordName.{WordName}
+use Rattle.word_plan.specs.Actions.{name_of}
 use Rattle.word_plan.specs.Table.{Exists}
 use Rattle.errand_steps.specs.declared.point.Point.{Point}
 use Rattle.errand_steps.specs.declared.point.Point.TheVariants.{Idle, Block, Stack, Desc, Partial, Large}
+use Rattle.errand_steps.specs.Errands.{counts_lost}
 use Rattle.errand_steps.specs.Fits.{FitsPoint}
 use Rattle.errand_steps.specs.Nexts.{next_of}
 use Rattle.errand_steps.specs.Points.{plan_point_of}
 use Rattle.errand_steps.specs.Steps.{State, Step, action_at, name_at, word_at, found_at}
 use Rattle.errand_steps.proofs.PlanLemmas.{plan-exists}
-use Rattle.sound_state.specs.Expectations.{expects_of}
+use Rattle.sound_state.specs.Expectations.{Expected, expects_of}
 use Rattle.sound_state.specs.Sound.{IsSoundWithoutCounts}
 use Rattle.sound_state.specs.Wins.{Wins, wins_after}
 use Rattle.sound_state.specs.Won.{IsWon}
 use Rattle.sound_state.proofs.shared.PointLemmas.{fits-at}
-use Rattle.sound_state.proofs.wins.BlockExpects.{block-expects, block-loses}
+use Rattle.sound_state.proofs.wins.BlockExpects.{block-expects}
 use Rattle.sound_state.proofs.wins.ContendLemmas.{step-contended}
-use Rattle.sound_state.proofs.wins.DescExpects.{desc-expects, desc-loses}
+use Rattle.sound_state.proofs.wins.DescExpects.{desc-expects}
+use Rattle.sound_state.proofs.wins.ExpectLemmas.{any-first, lost-differs}
 use Rattle.sound_state.proofs.wins.InstallWins.{step-installed}
-use Rattle.sound_state.proofs.wins.LargeExpects.{large-expects, large-loses}
+use Rattle.sound_state.proofs.wins.LargeExpects.{large-expects}
 use Rattle.sound_state.proofs.wins.NoteLemmas.{ExpectsAfter, step-noted}
-use Rattle.sound_state.proofs.wins.PartialExpects.{partial-expects, partial-loses}
+use Rattle.sound_state.proofs.wins.PartialExpects.{partial-expects}
 use Rattle.sound_state.proofs.wins.SettleExpects.{expects-settled}
-use Rattle.sound_state.proofs.wins.StackExpects.{stack-expects, stack-loses}
+use Rattle.sound_state.proofs.wins.StackExpects.{stack-expects}
 use Rattle.sound_state.proofs.wins.StoreLemmas.{stores-unexpected}
 use Rattle.sound_state.proofs.wins.WinDefs.{ExpectsOn, LosesOn, MayExpect, found_in}
 
@@ -37,15 +42,24 @@ expects-on g who (Desc p o) v fits below = desc-expects g who p o v fits
 expects-on g who (Partial p o) v fits below = partial-expects g who p o v fits below
 expects-on g who (Large p o) v fits below = large-expects p o v below
 
+-- the first of these is of the word, and expects another number there
+abbrev FirstDiffers : WordName → ℕ → List Expected → Type 0
+FirstDiffers n v [] = ⊥
+FirstDiffers n v (e ∷ es) = (e.word ≡ n) × (not (v == e.value) ≡ true)
+
+first-differs : (n : WordName) (v : ℕ) (es : List Expected) → FirstDiffers n v es → Any (λ e. (e.word ≡ n) × (v ≢ e.value)) es
+first-differs n v [] none = absurd none
+first-differs n v (e ∷ es) is = any-first (λ e. (e.word ≡ n) × (v ≢ e.value)) e es (is.0, lost-differs v e.value is.1)
+
+-- such is what is expected where a step counts as lost
+lost-expects :
+    (p : Point) (v : ℕ) → counts_lost p (found_in p v) ≡ true → FirstDiffers (name_of (plan_point_of p)) v (expects_of p)
+unfolding plan_point_of expects_of
+lost-expects p v lost = grind (arith, lost)
+
 -- what it loses it expected otherwise
 pub loses-on : (p : Point) (v : ℕ) → LosesOn p v
-unfolding plan_point_of
-loses-on Idle v = λ lost. absurd (cc)
-loses-on (Block p o) v = block-loses p o v
-loses-on (Stack p o) v = stack-loses p o v
-loses-on (Desc p o) v = desc-loses p o v
-loses-on (Partial p o) v = partial-loses p o v
-loses-on (Large p o) v = large-loses p o v
+loses-on p v lost = first-differs (name_of (plan_point_of p)) v (expects_of p) (lost-expects p v lost)
 
 -- the errand after a step expects what its caller carries or sees
 pub expects-after : (g : Geometry) (s : State) (who : ℕ) → IsSoundWithoutCounts g s → who < g.callers → ExpectsAfter s who

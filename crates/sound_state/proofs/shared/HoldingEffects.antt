@@ -1,0 +1,106 @@
+-- What an effect changes of what the callers hold, where one caller goes on that holds something else after it.
+use Rattle.std.proofs.Common.{ℕ, ◌≡◌, ◌<◌, ◌+◌, arith, ap}
+use Rattle.heap_geometry.specs.declared.geometry.Geometry.{Geometry}
+use Rattle.word_plan.specs.Counts.{descriptor_count}
+use Rattle.superblock_parts.specs.Chains.{occurs}
+use Rattle.errand_steps.specs.Errands.{ErrandFields}
+use Rattle.errand_steps.specs.Steps.{State, Moves}
+use Rattle.sound_state.specs.Frames.{IsFramed, fills}
+use Rattle.sound_state.specs.Holdings.{Holding, waiting, on_its_way, holds_of}
+use Rattle.sound_state.specs.Lists.{Lists}
+use Rattle.sound_state.specs.Sums.{callers_sum}
+use Rattle.sound_state.specs.Superblocks.{away_of, waiting_of, errand_reserves, reserved_among, errand_keeps, errand_away, kept_among}
+use Rattle.sound_state.specs.Keepers.{errand_has}
+use Rattle.sound_state.specs.Stock.{stock_among, waits_in, errand_stock}
+use Rattle.sound_state.proofs.shared.SumLemmas.{sum-same, callers-moved}
+use Rattle.sound_state.proofs.shared.PointLemmas.{kept_places}
+
+-- a caller goes on, and holds this now where it held that; what it has retired stays
+pub record HoldingEffects (g : Geometry) (s : State) (who : ℕ) (was now : Holding) (e : ErrandFields) (s' : State) : Type 0 where
+  pub caller : who < g.callers
+  pub moves : Moves s.errand who e s'.errand
+  pub retired : e.retired ≡ (s.errand who).retired
+  pub before : holds_of (s.errand who).point ≡ was
+  pub after : holds_of e.point ≡ now
+
+module _ {g : Geometry} {s : State} {who : ℕ} {was now : Holding} {e : ErrandFields} {s' : State} (h : HoldingEffects g s who was now e s') where
+  -- whatever is summed over all holdings changes by what the two weigh
+  pub holdings-go :
+      (weight : Holding → ℕ)
+      → callers_sum g (λ e. weight (holds_of e.point)) s'.errand + weight was ≡ callers_sum g (λ e. weight (holds_of e.point)) s.errand + weight now
+  holdings-go weight =
+      omega (
+        arith,
+        callers-moved g (λ e. weight (holds_of e.point)) s.errand who e s'.errand h.caller h.moves,
+        ap weight h.before,
+        ap weight h.after,
+      )
+
+  -- such are what waits to be installed, what is on its way, and what is reserved
+  pub waits-go : (d : ℕ) → waiting_of g s' d + kept_among waiting d was.kept ≡ waiting_of g s d + kept_among waiting d now.kept
+  waits-go d = holdings-go (λ x. kept_among waiting d x.kept)
+
+  pub ways-go :
+      (d : ℕ)
+      → callers_sum g (errand_keeps on_its_way d) s'.errand + kept_among on_its_way d was.kept
+      ≡ callers_sum g (errand_keeps on_its_way d) s.errand + kept_among on_its_way d now.kept
+  ways-go d = holdings-go (λ x. kept_among on_its_way d x.kept)
+
+  pub credits-go :
+      (d : ℕ)
+      → callers_sum g (errand_reserves d) s'.errand + reserved_among d was.credits
+      ≡ callers_sum g (errand_reserves d) s.errand + reserved_among d now.credits
+  credits-go d = holdings-go (λ x. reserved_among d x.credits)
+
+  -- and so changes what is away
+  pub away-goes : (l : Lists) (d : ℕ) → away_of g s' l d + kept_among on_its_way d was.kept ≡ away_of g s l d + kept_among on_its_way d now.kept
+  away-goes l d =
+      omega (
+        arith,
+        callers-moved g (errand_away d) s.errand who e s'.errand h.caller h.moves,
+        ap (occurs d) h.retired,
+        ap (λ x. kept_among on_its_way d x.kept) h.before,
+        ap (λ x. kept_among on_its_way d x.kept) h.after,
+      )
+
+  -- and how often it is kept
+  pub places-go :
+      (d : ℕ) → callers_sum g (errand_has d) s'.errand + kept_places d was.kept ≡ callers_sum g (errand_has d) s.errand + kept_places d now.kept
+  places-go d =
+      omega (
+        arith,
+        callers-moved g (errand_has d) s.errand who e s'.errand h.caller h.moves,
+        ap (occurs d) h.retired,
+        ap (λ x. kept_places d x.kept) h.before,
+        ap (λ x. kept_places d x.kept) h.after,
+      )
+
+  -- and what is out for a class, where it waits for nothing before and after
+  pub stock-goes :
+      (class : ℕ) → waits_in class (s.errand who).point ≡ 0 → waits_in class e.point ≡ 0
+      → callers_sum g (errand_stock class) s'.errand + stock_among class was.kept
+      ≡ callers_sum g (errand_stock class) s.errand + stock_among class now.kept
+  stock-goes class waited waits =
+      omega (
+        arith,
+        callers-moved g (errand_stock class) s.errand who e s'.errand h.caller h.moves,
+        waited,
+        waits,
+        ap (λ x. stock_among class x.kept) h.before,
+        ap (λ x. stock_among class x.kept) h.after,
+      )
+
+  -- each frame stays in one place, where the caller has the same frames in its hand, and the superblocks fill those that they filled
+  pub framed-after :
+      (l : Lists) → ((f d : ℕ) → fills g s' l f d ≡ fills g s l f d) → ((f : ℕ) → occurs f now.frames ≡ occurs f was.frames)
+      → IsFramed g s l → IsFramed g s' l
+  framed-after l filled hand old = record {
+    once = λ f has.
+        omega (
+          arith,
+          sum-same (descriptor_count g) (fills g s l f) (fills g s' l f) (λ d lt. filled f d),
+          holdings-go (λ x. occurs f x.frames),
+          hand f,
+          old.once f has,
+        );
+  }

@@ -1,0 +1,539 @@
+-- A step after which a state shows the same superblocks and events, and the same lists but for the available descriptors, is sound if it was.
+use Rattle.std.proofs.Common.{ℕ, Some, ◌≡◌, ◌≢◌, ◌<◌, ◌≤◌, ◌+◌, ◌^◌, ◌-◌, ◌*◌, List, length, refl, arith, ap, sym, subst, inl, inr, ◌∙◌}
+use Rattle.std.proofs.Math.Path.{fun_ext}
+use Rattle.std.specs.Prelude.{◌⊎◌, slice_index, All, Any, Contains, IsTrue, IsSome, count_by}
+use Rattle.std.specs.Int.{bit_at}
+use Rattle.std.proofs.lemmas.Bool.{cases_eq}
+use Rattle.heap_geometry.specs.declared.geometry.Geometry.{Geometry}
+use Rattle.heap_geometry.specs.declared.limits.TheConstants.{CLASSES}
+use Rattle.heap_geometry.specs.declared.need.Need.{Need}
+use Rattle.heap_geometry.specs.declared.need.Need.TheVariants as need
+use Rattle.heap_geometry.specs.Need.{block_count_of}
+use Rattle.heap_geometry.specs.Place.{block_place, frame_of, unit_place}
+use Rattle.packed_words.specs.Anchor.{AnchorFields, anchor_of}
+use Rattle.packed_words.specs.declared.active.ActiveWord.TheVariants.{Held}
+use Rattle.packed_words.specs.Active.{active_of}
+use Rattle.packed_words.specs.declared.anchor.State.TheVariants as phase
+use Rattle.packed_words.specs.Head.{HeadFields, head_of}
+use Rattle.packed_words.specs.Info.{info_of}
+use Rattle.packed_words.specs.Prefix.{link_of}
+use Rattle.word_plan.specs.declared.name.WordName.{WordName}
+use Rattle.word_plan.specs.declared.name.WordName.TheVariants as name
+use Rattle.word_plan.specs.Counts.{descriptor_count}
+use Rattle.word_plan.specs.Seats.{info_in}
+use Rattle.superblock_parts.specs.Chains.{occurs, prefix_name, link_in}
+use Rattle.stack_parts.specs.declared.point.Pile.{Pile}
+use Rattle.stack_parts.specs.declared.point.Pile.TheVariants.{Frames, Partials}
+use Rattle.stack_parts.specs.Piles.{head_name, next_name}
+use Rattle.stack_parts.specs.Stacks.{Stacked, next_in}
+use Rattle.word_plan.specs.Seats.{SeatFields}
+use Rattle.pool_model.specs.declared.event.Event.TheVariants.{Looked}
+use Rattle.pool_model.specs.Histories.{own, EndsWith}
+use Rattle.pool_model.specs.Pool.{Block, block_at, pool_of}
+use Rattle.errand_steps.specs.declared.point.Point.{Point}
+use Rattle.errand_steps.specs.Errands.{ErrandFields}
+use Rattle.errand_steps.specs.Fits.{spare_of, pushed_by}
+use Rattle.errand_steps.specs.Steps.{State, Moves}
+use Rattle.sound_state.specs.Frames.{IsFramed, errand_frames, fills}
+use Rattle.sound_state.specs.Guards.{IsGuarded, Guards, IsGuard, IsHazard, passed_by, held_by}
+use Rattle.sound_state.specs.Holdings.{Status, reserving, waiting, partly_used, on_its_way, holds_of}
+use Rattle.sound_state.specs.Keepers.{IsKept, IsPartlyUsed, IsActive, IsWithout, IsKeptAs, places_of}
+use Rattle.sound_state.specs.Lists.{Lists, IsListed}
+use Rattle.sound_state.specs.Recalls.{Recall, IsPopped, IsPlain, IsLocated, IsTopStill, IsRemembered, IsSo, IsOwned, recalls_of, list_of, bound_for, located, bound_at, pops, links, tops, nexts, tops_exist, says, made, in_use, emptied, noted, owns, owns_all, looked}
+use Rattle.sound_state.specs.Sound.{IsSoundWith, IsOwnErrand}
+use Rattle.sound_state.specs.Stock.{IsStocked}
+use Rattle.sound_state.specs.Sums.{sum_below, callers_sum}
+use Rattle.sound_state.specs.Superblocks.{Superblock, AreChained, IsChained, info_or_zero, live_at, is_there, anchor_for, info_for, superblock_of, reserved_of, waiting_of, is_bound, errand_keeps}
+use Rattle.sound_state.specs.Ties.{IsTied, IsLive, IsExcepted, IsBlockOfDesc}
+use Rattle.sound_state.specs.Turns.{IsTurned, gives_small, refuses_small, turn_open, turn_unframed, turn_unlisted, turn_unanswered, errand_discards, errand_pops, emptied_out}
+use Rattle.sound_state.proofs.shared.CallerLemmas.{each-other}
+use Rattle.sound_state.proofs.shared.ListEffects.{IsListWord, listed-anew}
+use Rattle.sound_state.proofs.shared.SumLemmas.{sum-same}
+use Rattle.sound_state.proofs.shared.TurnEffects.{head-tag, no-event, turned-after}
+
+pub same-superblock :
+    (a a' : AnchorFields) (r r' w w' : ℕ) (n n' v v' : ℕ → ℕ) (z z' : ℕ) → a' ≡ a → r' ≡ r → w' ≡ w → n' ≡ n → v' ≡ v → z' ≡ z
+    → ◌≡◌ {A = Superblock} (record { anchor = a'; reserved = r'; waiting = w'; next = n'; live = v'; size = z' })
+    (record { anchor = a; reserved = r; waiting = w; next = n; live = v; size = z })
+same-superblock a a' r r' w w' n n' v v' z z' ea er ew en ev ez = rw (ea, er, ew, en, ev, ez) refl
+
+-- what holds of the new errand and of those of the callers before holds of each
+pub each-caller :
+    (g : Geometry) (P : ℕ → ErrandFields → Type 0) (errands : ℕ → ErrandFields) (who : ℕ) (e : ErrandFields) (errands' : ℕ → ErrandFields)
+    → Moves errands who e errands' → P who e → ((i : ℕ) → i < g.callers → P i (errands i))
+    → (i : ℕ) → i < g.callers → P i (errands' i)
+each-caller g P errands who e errands' m here others =
+    each-other g P errands who e errands' m here (λ i has differ. others i has)
+
+-- the block at the place is excepted by what this caller hands out or frees
+abbrev pub Excepts : ErrandFields → ℕ → Type 0
+Excepts e place =
+    Any (λ b. b.place ≡ place) (holds_of e.point).hands
+    ⊎ Any (λ b. (b.place ≡ place) × IsTrue b.overwritten) (holds_of e.point).frees
+
+-- the prefix word at the place says what it does where nobody excepts the block
+pub record IsSaidAt (g : Geometry) (s : State) (l : Lists) (place : ℕ) : Type 0 where
+  pub small :
+      (class d : ℕ) (b : Block) → IsLive s place b → b.need ≡ need.Small class → IsBlockOfDesc g s l place class d
+      → s.word (name.Arena place) ≡ 2 * d
+  pub large : (units : ℕ) (b : Block) → IsLive s place b → b.need ≡ need.Large units → s.word (name.Arena place) ≡ 2 * units + 1
+
+-- a caller may go on from one errand to another in a state
+pub record MayGoOn (g : Geometry) (s : State) (l : Lists) (who : ℕ) (a b : ErrandFields) : Type 0 where
+  pub rule : IsOwnErrand g who b
+  pub kept : All (λ k. IsKeptAs s k.status k.desc k.class) (holds_of b.point).kept
+  pub retired : All (IsWithout s) b.retired
+  pub so : All (IsSo g s l who) (recalls_of b.point)
+  pub full : spare_of b.point ≡ 1 → length b.retired ≡ g.callers + 1
+  pub hands : All (λ x. IsOwned s who x.place x.need) (holds_of b.point).hands
+  pub frees : All (λ x. IsOwned s who x.place x.need) (holds_of b.point).frees
+  pub excepts : (place : ℕ) → Excepts a place → Excepts b place ⊎ IsSaidAt g s l place
+  pub own_turns : count_by (gives_small who) s.history + turn_open b ≤ b.turns
+  pub own_lost :
+      b.turns + errand_discards b
+      ≤ count_by (gives_small who) s.history + count_by (refuses_small who) s.history + b.lost + turn_unanswered b
+  pub frame_turns : turn_unframed b + a.turns ≤ turn_unframed a + b.turns
+  pub list_turns :
+      errand_pops b + turn_unlisted b + a.turns + a.cleared ≤ errand_pops a + turn_unlisted a + b.turns + b.cleared
+
+-- the descriptor is free to be guarded anew: it is retired nowhere, and nobody pushes it
+pub record IsUnretired (g : Geometry) (s : State) (d : ℕ) : Type 0 where
+  pub pushed : (other : ℕ) → other < g.callers → pushed_by (s.errand other).point ≡ Some d → ⊥
+  pub listed : (other : ℕ) → other < g.callers → Contains (s.errand other).retired d → ⊥
+
+-- a caller may begin to guard the descriptor at a point at which it neither pushes it nor scans
+pub record GuardsAnew (g : Geometry) (s : State) (q : Point) (d : ℕ) : Type 0 where
+  pub unretired : IsUnretired g s d
+  pub pushed : pushed_by q ≡ Some d → ⊥
+  pub passed : passed_by q ≡ 0
+
+-- with this hazard word and this retired list a caller may stand at the point, by the hazard words that were there
+pub record MayGuard (g : Geometry) (s : State) (who : ℕ) (q : Point) (retired : List ℕ) (word : ℕ) : Type 0 where
+  pub hazard : IsHazard (holds_of q).hazard word
+  pub guard : (d : ℕ) → word ≡ d + 1 → IsGuard (holds_of q).hazard → Guards s who d ⊎ GuardsAnew g s q d
+  pub pushed : (i d : ℕ) → i < g.callers → Guards s i d → pushed_by q ≡ Some d → ⊥
+  pub passed :
+      (i d : ℕ) → i < g.callers → Guards s i d → Contains retired d → i < passed_by q → slice_index (held_by q) i ≡ d + 1
+  pub unread : (i : ℕ) → passed_by q ≤ i → i < length (held_by q) → slice_index (held_by q) i ≡ 0
+
+-- what the active words and the slots hold is in its state
+pub record ActivesKept (g : Geometry) (s : State) (words : WordName → ℕ) : Type 0 where
+  pub active_words :
+      (heap class : ℕ) → heap < g.heaps → class < CLASSES → IsSome (active_of (words (name.Active heap class)))
+  pub slot_words : (heap class : ℕ) → heap < g.heaps → class < CLASSES → words (name.Slot heap class) ≤ descriptor_count g
+  pub active :
+      (heap class d credits : ℕ) → heap < g.heaps → class < CLASSES → active_of (words (name.Active heap class)) ≡ Some (Held d credits)
+      → (d < descriptor_count g) × IsActive s d class
+  pub slot :
+      (heap class d : ℕ) → heap < g.heaps → class < CLASSES → words (name.Slot heap class) ≡ d + 1
+      → (d < descriptor_count g) × IsPartlyUsed s d class
+
+-- where these words stay, they hold what they held
+pub actives-same :
+    (g : Geometry) (s : State) (l : Lists) (words' : WordName → ℕ) → IsKept g s l
+    → ((heap class : ℕ) → words' (name.Active heap class) ≡ s.word (name.Active heap class))
+    → ((heap class : ℕ) → words' (name.Slot heap class) ≡ s.word (name.Slot heap class)) → ActivesKept g s words'
+actives-same g s l words' kept active slot = record {
+  active_words = λ heap class has_heap has_class.
+      subst (λ w. IsSome (active_of w)) (sym (active heap class)) (kept.active_words heap class has_heap has_class);
+  slot_words = λ heap class has_heap has_class.
+      subst (λ w. w ≤ descriptor_count g) (sym (slot heap class)) (kept.slot_words heap class has_heap has_class);
+  active = λ heap class d credits has_heap has_class is.
+      kept.active heap class d credits has_heap has_class (ap active_of (sym (active heap class)) ∙ is);
+  slot = λ heap class d has_heap has_class is. kept.slot heap class d has_heap has_class (sym (slot heap class) ∙ is);
+}
+
+-- the word is no active word, no slot, no hazard word, and not the head of the available descriptors
+abbrev pub IsShown : WordName → Type 0
+IsShown (name.Active heap class) = ⊥
+IsShown (name.Slot heap class) = ⊥
+IsShown (name.Hazard caller) = ⊥
+IsShown name.DescHead = ⊥
+IsShown n = Unit {0}
+
+-- a head or a next word is such a word, but for that head
+list-shown : (n : WordName) → IsListWord n → n ≢ name.DescHead → IsShown n
+list-shown name.DescHead is differ = differ refl
+list-shown n is differ = grind (arith)
+
+-- the same stacks, with this list of available descriptors
+abbrev pub with_available : Lists → List ℕ → Lists
+with_available l ys = record l { available = ys }
+
+list-stays : (l : Lists) (ys : List ℕ) (seat : SeatFields) (p : Pile) → list_of (with_available l ys) seat p ≡ list_of l seat p
+list-stays l ys seat Frames = refl
+list-stays l ys seat Partials = refl
+
+-- what is remembered is of no descriptor that is available only now, and of no word that changes
+abbrev pub StaysSo : Lists → List ℕ → State → State → Recall → Type 0
+StaysSo l ys s s' (emptied d) = occurs d ys ≤ occurs d l.available
+StaysSo l ys s s' (noted d next) = occurs d ys ≤ occurs d l.available
+StaysSo l ys s s' (says n w) = IsPlain n → s'.word n ≡ s.word n
+StaysSo l ys s s' r = Unit {0}
+
+-- a caller goes on in a state that shows the same superblocks and events, and the same lists but for the available descriptors
+pub record ShowsSame (g : Geometry) (s : State) (l : Lists) (who : ℕ) (e : ErrandFields) (s' : State) (ys : List ℕ) : Type 0 where
+  pub caller : who < g.callers
+  pub moves : Moves s.errand who e s'.errand
+  pub may : MayGoOn g s l who (s.errand who) e
+  pub others : (i : ℕ) → i ≢ who → s'.word (name.Hazard i) ≡ s.word (name.Hazard i)
+  pub guards : MayGuard g s who e.point e.retired (s'.word (name.Hazard who))
+  pub actives : ActivesKept g s s'.word
+  pub words : (n : WordName) → s'.word n < 2 ^ 64
+  pub word : (n : WordName) → IsShown n → s'.word n ≡ s.word n
+  pub history : s'.history ≡ s.history
+  pub stacked : Stacked (next_in s.word Partials) (s'.word name.DescHead) ys
+  pub exist : All (λ d. d < descriptor_count g) ys
+  pub without : All (IsWithout s) ys
+  pub reserved : (d : ℕ) → reserved_of g s' d ≡ reserved_of g s d
+  pub waits : (d : ℕ) → waiting_of g s' d ≡ waiting_of g s d
+  pub ways :
+      (d : ℕ) → occurs d l.available ≡ 0 → callers_sum g (errand_keeps on_its_way d) s'.errand ≤ callers_sum g (errand_keeps on_its_way d) s.errand
+  pub bound : (d : ℕ) → is_bound g s' (with_available l ys) d ≡ is_bound g s l d
+  pub places : (d : ℕ) → places_of g s' (with_available l ys) d ≡ places_of g s l d
+  pub frames : (f : ℕ) → callers_sum g (errand_frames f) s'.errand ≡ callers_sum g (errand_frames f) s.errand
+  pub stock : IsStocked g s l → IsStocked g s' (with_available l ys)
+  pub emptied :
+      sum_below (descriptor_count g) (emptied_out g s' (with_available l ys)) + e.cleared
+      ≤ sum_below (descriptor_count g) (emptied_out g s l) + (s.errand who).cleared
+  pub stays : (i : ℕ) → i < g.callers → All (StaysSo l ys s s') (recalls_of (s.errand i).point)
+  pub stays_here : All (StaysSo l ys s s') (recalls_of e.point)
+
+-- what all callers but one remember is so
+abbrev pub OthersRemember : Geometry → State → Lists → ℕ → Type 0
+OthersRemember g s l who = (i : ℕ) → i < g.callers → i ≢ who → All (IsSo g s l i) (recalls_of (s.errand i).point)
+
+-- the state is sound, but for what one caller remembers
+pub record IsSoundBut (g : Geometry) (s : State) (l : Lists) (who : ℕ) : Type 0 where
+  pub words : (n : WordName) → s.word n < 2 ^ 64
+  pub errands : (i : ℕ) → i < g.callers → IsOwnErrand g i (s.errand i)
+  pub listed : IsListed g s.word l
+  pub kept : IsKept g s l
+  pub chained : AreChained g s l
+  pub framed : IsFramed g s l
+  pub remembered : OthersRemember g s l who
+  pub guarded : IsGuarded g s
+  pub stocked : IsStocked g s l
+  pub turned : IsTurned g s l
+  pub tied : IsTied g s l
+
+-- so is one that is sound
+pub sound-but_one : (g : Geometry) (s : State) (l : Lists) (who : ℕ) → IsSoundWith g s l → IsSoundBut g s l who
+sound-but_one g s l who sound = record {
+  words = sound.words;
+  errands = sound.errands;
+  listed = sound.listed;
+  kept = sound.kept;
+  chained = sound.chained;
+  framed = sound.framed;
+  remembered = λ i has differ. sound.remembered.so i has;
+  guarded = sound.guarded;
+  stocked = sound.stocked;
+  turned = sound.turned;
+  tied = sound.tied;
+}
+
+module _ (g : Geometry) (s : State) (l : Lists) (who : ℕ) (e : ErrandFields) (s' : State) (ys : List ℕ) (go : ShowsSame g s l who e s' ys) where
+  anchor-shown : (d : ℕ) → anchor_for s' d ≡ anchor_for s d
+  anchor-shown d = ap anchor_of (go.word (name.Anchor d) tt)
+
+  info-shown : (d : ℕ) → info_for s' d ≡ info_for s d
+  info-shown d = ap (λ w. info_or_zero (info_of w)) (go.word (name.Info d) tt)
+
+  live-shown : (place : ℕ) → live_at s' place ≡ live_at s place
+  live-shown place = ap (λ e. is_there (block_at place (pool_of e))) go.history
+
+  superblock-shown : (d : ℕ) → superblock_of g s' d ≡ superblock_of g s d
+  superblock-shown d =
+      let i = info-shown d in
+      let old = info_for s d in
+      let new = info_for s' d in
+      let next : link_in s'.word new.frame new.class ≡ link_in s.word old.frame old.class =
+      fun_ext (λ k. ap link_of (go.word (prefix_name new.frame new.class k) tt ∙ ap (λ x. s.word (prefix_name x.frame x.class k)) i)) in
+      let live : (λ k. live_at s' (block_place new.frame new.class k)) ≡ (λ k. live_at s (block_place old.frame old.class k)) =
+      fun_ext (λ k. live-shown (block_place new.frame new.class k) ∙ ap (λ x. live_at s (block_place x.frame x.class k)) i) in
+      same-superblock _ _ _ _ _ _ _ _ _ _ _ _ (anchor-shown d) (go.reserved d) (go.waits d) next live (ap (λ x. block_count_of x.class) i)
+
+  fills-shown : (f d : ℕ) → fills g s' (with_available l ys) f d ≡ fills g s l f d
+  fills-shown f d = rw (go.bound d, go.waits d, info-shown d) refl
+
+  -- what is said of a descriptor's word or anchor stays so
+  partly-shown : (d c : ℕ) → IsPartlyUsed s d c → IsPartlyUsed s' d c
+  partly-shown d c k = record {
+    class = ap (λ x. x.class) (info-shown d) ∙ k.class;
+    state = subst (λ a. ((a.state ≡ phase.Partial) × (1 ≤ a.count)) ⊎ (a.state ≡ phase.Empty)) (sym (anchor-shown d)) k.state;
+  }
+
+  active-shown : (d c : ℕ) → IsActive s d c → IsActive s' d c
+  active-shown d c k = record {
+    class = ap (λ x. x.class) (info-shown d) ∙ k.class;
+    state = ap (λ a. a.state) (anchor-shown d) ∙ k.state;
+  }
+
+  without-shown : (d : ℕ) → IsWithout s d → IsWithout s' d
+  without-shown d k = subst (λ a. (a.state ≡ phase.Active) ⊎ (a.state ≡ phase.Empty)) (sym (anchor-shown d)) k
+
+  kept_as-shown : (status : Status) (d c : ℕ) → IsKeptAs s status d c
+      → IsKeptAs s' status d c
+  kept_as-shown reserving d c k = active-shown d c k
+  kept_as-shown waiting d c k = active-shown d c k
+  kept_as-shown partly_used d c k = partly-shown d c k
+  kept_as-shown on_its_way d c k = without-shown d k
+
+  located-shown : (d f c : ℕ) → IsLocated s d f c → IsLocated s' d f c
+  located-shown d f c k = record {
+    frame = ap (λ x. x.frame) (info-shown d) ∙ k.frame;
+    class = ap (λ x. x.class) (info-shown d) ∙ k.class;
+  }
+
+  owned-shown : (who place : ℕ) (n : Need) → IsOwned s who place n → IsOwned s' who place n
+  owned-shown who place n k = record {
+    block = (
+      k.block.0,
+      ap (λ e. block_at place (pool_of e)) go.history ∙ k.block.1,
+      k.block.2,
+      k.block.3,
+    );
+  }
+
+  head-shown : (seat : SeatFields) (p : Pile)
+      → s'.word (head_name seat p) ≡ s.word (head_name seat p)
+  head-shown seat Frames = go.word name.FrameHead tt
+  head-shown seat Partials = go.word (name.ListHead seat.class) tt
+
+  next-shown : (p : Pile) (i : ℕ)
+      → s'.word (next_name p i) ≡ s.word (next_name p i)
+  next-shown Frames i = go.word (name.FrameNext i) tt
+  next-shown Partials i = go.word (name.Next i) tt
+
+  top-shown : (seat : SeatFields) (p : Pile) (head : HeadFields)
+      → IsTopStill s l seat p head → IsTopStill s' (with_available l ys) seat p head
+  top-shown seat p head k =
+      let same : head_of (s'.word (head_name seat p)) ≡ head_of (s.word (head_name seat p)) = ap head_of (head-shown seat p) in
+      record {
+        tag = subst (λ x. head.tag ≤ x.tag) (sym same) k.tag;
+        top = λ is. subst (λ xs. 0 < occurs (head.top - 1) xs) (sym (list-stays l ys seat p)) (k.top (is ∙ ap (λ x. x.tag) same));
+      }
+
+  -- what is remembered stays so
+  so-shown : (i : ℕ) (r : Recall) → StaysSo l ys s s' r → IsSo g s l i r → IsSo g s' (with_available l ys) i r
+  so-shown i (bound_for d c) of so =
+      (subst IsTrue (sym (go.bound d)) so.0, ap (λ x. x.class) (info-shown d) ∙ so.1)
+  so-shown i (located d f c) of so = located-shown d f c so
+  so-shown i (bound_at d f c) of so =
+      (subst IsTrue (sym (go.bound d)) so.0, located-shown d f c so.1)
+  so-shown i (pops d a) of so = subst (λ b. IsPopped b a) (sym (superblock-shown d)) so
+  so-shown i (links d a prefix) of so =
+      let b = superblock-shown d in
+      λ is. ap (λ x. x.next a.avail) b ∙ so (is ∙ ap (λ x. x.tag) (anchor-shown d))
+  so-shown i (tops seat p head) of so = top-shown seat p head so
+  so-shown i (nexts seat p head below) of so =
+      λ is. next-shown p (head.top - 1) ∙ so (is ∙ ap (λ w. (head_of w).tag) (head-shown seat p))
+  so-shown i (tops_exist seat p head) of so = so
+  so-shown i (says n w) of so = (so.0, of so.0 ∙ so.1)
+  so-shown i (made f c blocks) of so = λ k below. go.word (prefix_name f c k) tt ∙ so k below
+  so-shown i (in_use a) of so = so
+  so-shown i (emptied d) of so = record {
+    state = ap (λ a. a.state) (anchor-shown d) ∙ so.state;
+    unavailable = omega (arith, so.unavailable, of);
+    standing = omega (arith, go.ways d so.unavailable, so.standing);
+  }
+  so-shown i (noted d next) of so = λ on. go.word (name.Next d) tt ∙ so (omega (arith, on, of))
+  so-shown i (owns place k) of so = (so.0, owned-shown i place so.0 so.1, so.2)
+  so-shown i (owns_all place n) of so = owned-shown i place n so
+  so-shown i (looked c) of so = subst (λ e. EndsWith (own i e) (Looked i c)) (sym go.history) so
+
+  listed-shown : IsListed g s.word l → IsListed g s'.word (with_available l ys)
+  listed-shown = listed-anew g s.word s'.word l ys (λ n is differ. go.word n (list-shown n is differ)) go.stacked go.exist
+
+  kept-shown : IsKept g s l → IsKept g s' (with_available l ys)
+  kept-shown kept =
+      record {
+        once = λ d has. go.places d ∙ kept.once d has;
+        active_words = go.actives.active_words;
+        slot_words = go.actives.slot_words;
+        active = λ heap class d credits has_heap has_class is.
+            let a = go.actives.active heap class d credits has_heap has_class is in (a.0, active-shown d class a.1);
+        slot = λ heap class d has_heap has_class is.
+            let a = go.actives.slot heap class d has_heap has_class is in (a.0, partly-shown d class a.1);
+        full = λ d has is.
+            ap (λ a. a.count) (anchor-shown d)
+            ∙ kept.full d has (ap (λ a. a.state) (sym (anchor-shown d)) ∙ is);
+        listed = λ class has k d lt. partly-shown _ class (kept.listed class has k d lt);
+        available = λ k d lt. without-shown _ (go.without k d lt);
+        retired =
+            each-caller g (λ i e. All (IsWithout s') e.retired) s.errand who e s'.errand go.moves
+            (λ k d lt. without-shown _ (go.may.retired k d lt)) (λ i has k d lt. without-shown _ (kept.retired i has k d lt));
+        errand =
+            each-caller g (λ i e. All (λ k. IsKeptAs s' k.status k.desc k.class) (holds_of e.point).kept) s.errand who e s'.errand go.moves
+            (λ k d lt. kept_as-shown _ _ _ (go.may.kept k d lt)) (λ i has k d lt. kept_as-shown _ _ _ (kept.errand i has k d lt));
+      }
+
+  chained-shown : AreChained g s l → AreChained g s' (with_available l ys)
+  chained-shown chained = record {
+    infos = λ d has. subst (λ w. IsSome (info_in g w)) (sym (go.word (name.Info d) tt)) (chained.infos d has);
+    chained = λ d has bound.
+        subst IsChained (sym (superblock-shown d)) (chained.chained d has (subst IsTrue (go.bound d) bound));
+  }
+
+  framed-shown : IsFramed g s l → IsFramed g s' (with_available l ys)
+  framed-shown framed = record {
+    once = λ f has.
+        let filled : sum_below (descriptor_count g) (fills g s' (with_available l ys) f) ≡ sum_below (descriptor_count g) (fills g s l f) =
+        sum-same (descriptor_count g) (fills g s l f) (fills g s' (with_available l ys) f) (λ d lt. fills-shown f d) in
+        omega (arith, filled, go.frames f, framed.once f has);
+  }
+
+  remembered-shown : OthersRemember g s l who → IsRemembered g s' (with_available l ys)
+  remembered-shown old = record {
+    so =
+        each-other g (λ i e. All (IsSo g s' (with_available l ys) i) (recalls_of e.point)) s.errand who e s'.errand go.moves
+        (λ k d lt. so-shown who _ (go.stays_here k d lt) (go.may.so k d lt))
+        (λ i has differ k d lt. so-shown i _ (go.stays i has k d lt) (old i has differ k d lt));
+  }
+
+  -- whoever guards a descriptor afterwards did before; or it is the caller that went on, and it guards it anew
+  guards-shown : (i d : ℕ)
+      → Guards s' i d → Guards s i d ⊎ ((i ≡ who) × GuardsAnew g s e.point d)
+  guards-shown i d guards =
+      elim (cases_eq i who) [
+        | inl same ↦
+            let here : Guards s' who d = subst (λ j. Guards s' j d) same guards in
+            elim (go.guards.guard d here.word (subst (λ f. IsGuard (holds_of f.point).hazard) go.moves.here here.guard)) [
+              | inl old ↦ inl (subst (λ j. Guards s j d) (sym same) old)
+              | inr anew ↦ inr (same, anew)
+            ]
+        | inr differ ↦
+            inl (record {
+              word = sym (go.others i differ) ∙ guards.word;
+              guard = subst (λ f. IsGuard (holds_of f.point).hazard) (go.moves.elsewhere i differ) guards.guard;
+            })
+      ]
+
+  guarded-shown : IsGuarded g s → IsGuarded g s'
+  guarded-shown guarded = record {
+    words = λ i has.
+        elim (cases_eq i who) [
+          | inl same ↦
+              let here : IsHazard (holds_of (s'.errand who).point).hazard (s'.word (name.Hazard who)) =
+              subst (λ f. IsHazard (holds_of f.point).hazard (s'.word (name.Hazard who))) (sym go.moves.here) go.guards.hazard in
+              subst (λ j. IsHazard (holds_of (s'.errand j).point).hazard (s'.word (name.Hazard j))) (sym same) here
+          | inr differ ↦
+              subst (λ w. IsHazard (holds_of (s'.errand i).point).hazard w) (sym (go.others i differ))
+              (subst (λ f. IsHazard (holds_of f.point).hazard (s.word (name.Hazard i))) (sym (go.moves.elsewhere i differ)) (guarded.words i has))
+        ];
+    pushed = λ i other d has has_other guards.
+        elim (guards-shown i d guards) [
+          | inl old ↦
+              each-caller g (λ j f. pushed_by f.point ≡ Some d → ⊥) s.errand who e s'.errand go.moves (go.guards.pushed i d has old)
+              (λ j has_j. guarded.pushed i j d has has_j old) other has_other
+          | inr anew ↦
+              each-caller g (λ j f. pushed_by f.point ≡ Some d → ⊥) s.errand who e s'.errand go.moves anew.1.pushed anew.1.unretired.pushed other
+              has_other
+        ];
+    passed = λ i other d has has_other guards.
+        elim (guards-shown i d guards) [
+          | inl old ↦
+              each-caller g (λ j f. Contains f.retired d → i < passed_by f.point → slice_index (held_by f.point) i ≡ d + 1) s.errand who e s'.errand
+              go.moves (go.guards.passed i d has old) (λ j has_j. guarded.passed i j d has has_j old) other has_other
+          | inr anew ↦
+              each-caller g (λ j f. Contains f.retired d → i < passed_by f.point → slice_index (held_by f.point) i ≡ d + 1) s.errand who e s'.errand
+              go.moves (λ listed below. let bad : ⊥ = omega (arith, below, anew.1.passed) in absurd bad)
+              (λ j has_j listed below. absurd (anew.1.unretired.listed j has_j listed)) other has_other
+        ];
+    unread = λ i k has passed below.
+        each-caller g (λ j e. passed_by e.point ≤ k → k < length (held_by e.point) → slice_index (held_by e.point) k ≡ 0) s.errand who e s'.errand
+        go.moves (go.guards.unread k) (λ j has_j passed below. guarded.unread j k has_j passed below) i has passed below;
+    full =
+        each-caller g (λ i e. spare_of e.point ≡ 1 → length e.retired ≡ g.callers + 1) s.errand who e s'.errand go.moves go.may.full guarded.full;
+  }
+
+  turned-shown : IsTurned g s l → IsTurned g s' (with_available l ys)
+  turned-shown turned =
+      let events = no-event g who s.history s'.history go.history in
+      turned-after g s l who e s' (with_available l ys) 0 0
+      (record {
+        caller = go.caller;
+        moves = go.moves;
+        events = events;
+        own_turns = omega (arith, go.may.own_turns, events.gives);
+        own_lost = omega (arith, go.may.own_lost, events.gives, events.refuses who);
+        anchor_tags = λ d has. omega (arith, ap (λ a. a.tag) (anchor-shown d));
+        frame_turns = omega (arith, head-tag (go.word name.FrameHead tt), go.may.frame_turns);
+        emptied = omega (arith, go.emptied);
+        list_turns = λ class has. omega (arith, head-tag (go.word (name.ListHead class) tt), go.may.list_turns);
+      })
+      turned
+
+  excepted-shown : (place : ℕ)
+      → IsExcepted g s place → IsExcepted g s' place ⊎ IsSaidAt g s l place
+  excepted-shown place x =
+      let i = x.who.0 in
+      elim (each-caller g (λ j e. Excepts (s.errand j) place → Excepts e place ⊎ IsSaidAt g s l place) s.errand who e s'.errand go.moves
+      (go.may.excepts place) (λ j has same. inl same) i x.who.1 x.who.2) [
+        | inl still ↦ inl (record { who = (i, x.who.1, still) })
+        | inr said ↦ inr said
+      ]
+
+  tie-shown : (place w : ℕ)
+      → (IsSaidAt g s l place → s.word (name.Arena place) ≡ w) → IsExcepted g s place ⊎ (s.word (name.Arena place) ≡ w)
+      → IsExcepted g s' place ⊎ (s'.word (name.Arena place) ≡ w)
+  tie-shown place w says_it (inl x) =
+      elim (excepted-shown place x) [
+        | inl still ↦ inl still
+        | inr said ↦ inr (go.word (name.Arena place) tt ∙ says_it said)
+      ]
+  tie-shown place w says_it (inr is) = inr (go.word (name.Arena place) tt ∙ is)
+
+  tied-shown : IsTied g s l → IsTied g s' (with_available l ys)
+  tied-shown tied =
+      let was = λ (place : ℕ) (b : Block) (live : IsLive s' place b). ap (λ past. block_at place (pool_of past)) (sym go.history) ∙ live in
+      record {
+        small = λ place class b live is.
+            let old = tied.small place class b (was place b live) is in (
+              old.0,
+              record {
+                exists = old.1.exists;
+                bound = subst IsTrue (sym (go.bound old.0)) old.1.bound;
+                located = located-shown old.0 (frame_of place) class old.1.located;
+              },
+              tie-shown place (2 * old.0) (λ said. said.small class old.0 b (was place b live) is old.1) old.2,
+            );
+        large = λ place units b live is.
+            tie-shown place (2 * units + 1) (λ said. said.large units b (was place b live) is)
+            (tied.large place units b (was place b live) is);
+        units = λ unit has.
+            let old = tied.units unit has in (
+              λ bit. let c = old.0 (ap (λ w. bit_at w unit) (sym (go.word name.Units tt)) ∙ bit) in
+                  (c.0, c.1, c.2, ap (λ past. block_at (unit_place g.frames c.1) (pool_of past)) go.history ∙ c.3, c.4, c.5, c.6),
+              λ c. ap (λ w. bit_at w unit) (go.word name.Units tt)
+                  ∙ old.1 (c.0, c.1, c.2, was (unit_place g.frames c.1) c.0 c.3, c.4, c.5, c.6),
+            );
+        no_more_units = subst (λ w. w < 2 ^ g.units) (sym (go.word name.Units tt)) tied.no_more_units;
+        shelved = λ k place b has live is. go.word (name.Shelf k) tt ∙ tied.shelved k place b has (was place b live) is;
+        bare_shelf = λ k has none. go.word (name.Shelf k) tt ∙ tied.bare_shelf k has
+            (λ place b live is. none place b (ap (λ past. block_at place (pool_of past)) go.history ∙ live) is);
+        contents = λ place i v b live is. go.word (name.Arena (place + 1 + i)) tt ∙ tied.contents place i v b (was place b live) is;
+        hands =
+            each-caller g (λ i e. All (λ x. IsOwned s' i x.place x.need) (holds_of e.point).hands) s.errand who e s'.errand go.moves
+            (λ k d lt. owned-shown who _ _ (go.may.hands k d lt)) (λ i has k d lt. owned-shown i _ _ (tied.hands i has k d lt));
+        frees =
+            each-caller g (λ i e. All (λ x. IsOwned s' i x.place x.need) (holds_of e.point).frees) s.errand who e s'.errand go.moves
+            (λ k d lt. owned-shown who _ _ (go.may.frees k d lt)) (λ i has k d lt. owned-shown i _ _ (tied.frees i has k d lt));
+      }
+
+  -- such a step makes a state sound that is sound but for what this caller remembers
+  pub sound-shown : IsSoundBut g s l who → IsSoundWith g s' (with_available l ys)
+  sound-shown sound = record {
+    words = go.words;
+    errands = each-caller g (IsOwnErrand g) s.errand who e s'.errand go.moves go.may.rule sound.errands;
+    listed = listed-shown sound.listed;
+    kept = kept-shown sound.kept;
+    chained = chained-shown sound.chained;
+    framed = framed-shown sound.framed;
+    remembered = remembered-shown sound.remembered;
+    guarded = guarded-shown sound.guarded;
+    stocked = go.stock sound.stocked;
+    turned = turned-shown sound.turned;
+    tied = tied-shown sound.tied;
+  }

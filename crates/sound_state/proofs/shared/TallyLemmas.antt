@@ -1,0 +1,51 @@
+-- The blocks of a superblock, counted.
+use Rattle.std.proofs.Common.{ℕ, ◌≡◌, ◌<◌, ◌≤◌, ◌+◌, List, [], ◌∷◌, length, refl, arith, sym, ◌∙◌}
+use Rattle.std.specs.Prelude.{◌==◌, if◌then◌else◌}
+use Rattle.std.proofs.lemmas.Bool.{cond-true, cond-false, eq-eqb, ne_eqb}
+use Rattle.superblock_parts.specs.Chains.{occurs}
+use Rattle.superblock_parts.proofs.ChainLemmas.{chain_of-length, occurs-here, occurs-more}
+use Rattle.sound_state.specs.Sums.{sum_below}
+use Rattle.sound_state.specs.Superblocks.{Superblock, IsChained, free_chain, held_back}
+use Rattle.sound_state.proofs.shared.SumLemmas.{sum-same, sum-none, sum-one, sum-ones, sum-plus}
+
+-- all indexes of a list below a bound
+occurs-all : (n : ℕ) (xs : List ℕ) → ((j : ℕ) → 0 < occurs j xs → j < n) → sum_below n (λ j. occurs j xs) ≡ length xs
+occurs-all n [] within = sum-none n (λ j. 0) (λ j lt. refl)
+occurs-all n (x ∷ xs) within =
+    let has : x < n = within x (omega (arith, occurs-here x xs)) in
+    let one : sum_below n (λ j. if x == j then 1 else 0) ≡ (if x == x then 1 else 0) =
+    sum-one n (λ j. if x == j then 1 else 0) x has (λ j lt ne. cond-false {A = ℕ} (x == j) 1 0 (ne_eqb x j (λ same. ne (sym same)))) in
+    omega (
+      arith,
+      one,
+      cond-true {A = ℕ} (x == x) 1 0 (eq-eqb x x refl),
+      sum-plus n (λ j. if x == j then 1 else 0) (λ j. occurs j xs),
+      occurs-all n xs (λ j on. within j (omega (arith, on, occurs-more j x xs))),
+    )
+
+-- where block 0 is held back, one caller waits, and it is neither free nor live
+pub held-once :
+    (b : Superblock) → IsChained b → 1 ≤ b.waiting → (occurs 0 (free_chain b) ≡ 0) × (b.live 0 ≡ 0) × (b.waiting ≡ 1)
+held-once b chained waits =
+    let once = chained.once 0 (omega (arith, chained.avail)) in
+    let back : held_back b 0 ≡ b.waiting = refl in
+    (omega (arith, once, back, waits), omega (arith, once, back, waits), omega (arith, once, back, waits))
+
+-- the blocks of a superblock: the free ones, the live ones, and one that is held back
+pub tally : (b : Superblock) → IsChained b → b.anchor.count + b.reserved + sum_below b.size b.live + b.waiting ≡ b.size
+tally b chained =
+    let free : sum_below b.size (λ j. occurs j (free_chain b)) ≡ b.anchor.count + b.reserved =
+    occurs-all b.size (free_chain b) chained.within ∙ chain_of-length b.next (b.anchor.count + b.reserved) b.anchor.avail in
+    let held : sum_below b.size (held_back b) ≡ b.waiting =
+    sum-one b.size (held_back b) 0 (omega (arith, chained.avail)) (λ j lt ne. cond-false {A = ℕ} (j == 0) b.waiting 0 (ne_eqb j 0 ne)) in
+    let each : sum_below b.size (λ j. occurs j (free_chain b) + b.live j + held_back b j) ≡ sum_below b.size (λ j. 1) =
+    sum-same b.size (λ j. 1) (λ j. occurs j (free_chain b) + b.live j + held_back b j) (λ j lt. chained.once j lt) in
+    omega (
+      arith,
+      free,
+      held,
+      each,
+      sum-ones b.size,
+      sum-plus b.size (λ j. occurs j (free_chain b) + b.live j) (held_back b),
+      sum-plus b.size (λ j. occurs j (free_chain b)) b.live,
+    )

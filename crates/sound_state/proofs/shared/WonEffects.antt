@@ -1,0 +1,119 @@
+-- What a step changes, where its point is known, what it finds and where it leads; and what an exchange changes that is won.
+use Rattle.std.proofs.Common.{ℕ, ◌≡◌, ◌≢◌, ◌<◌, ◌^◌, refl, ap, sym, subst, inl, inr, ◌∙◌}
+use Rattle.std.specs.Prelude.{◌⊎◌, ◌==◌}
+use Rattle.std.proofs.lemmas.Bool.{cond-true, eq-eqb}
+use Rattle.heap_geometry.specs.declared.geometry.Geometry.{Geometry}
+use Rattle.packed_words.specs.Anchor.{AnchorFields, IsAnchor, anchor_of, anchor_word}
+use Rattle.packed_words.proofs.AnchorLemmas.{anchor_of-anchor_word, anchor_word-below}
+use Rattle.word_plan.specs.declared.action.Action.TheVariants.{Cas}
+use Rattle.word_plan.specs.declared.action.Found.{Found}
+use Rattle.word_plan.specs.declared.name.WordName.{WordName}
+use Rattle.word_plan.specs.declared.name.WordName.TheVariants as name
+use Rattle.word_plan.specs.Actions.{name_of, after_action, found_by}
+use Rattle.word_plan.specs.Words.{Writes}
+use Rattle.errand_steps.specs.declared.next.Next.{Next}
+use Rattle.errand_steps.specs.declared.reply.Reply.{Reply}
+use Rattle.errand_steps.specs.declared.next.Next.TheVariants.{At, End}
+use Rattle.errand_steps.specs.declared.point.Point.{Point}
+use Rattle.errand_steps.specs.declared.point.Point.TheVariants.{Idle}
+use Rattle.errand_steps.specs.Errands.{ErrandFields, IsErrand, settle_of, counts_lost, counts_cleared, raised}
+use Rattle.errand_steps.specs.Events.{event_of}
+use Rattle.errand_steps.specs.Nexts.{next_of}
+use Rattle.errand_steps.specs.Points.{plan_point_of}
+use Rattle.errand_steps.specs.Steps.{State, Step, Moves, found_at, name_at, with_event}
+use Rattle.errand_steps.proofs.ErrandLemmas.{settle_errand}
+use Rattle.sound_state.specs.Lists.{Lists}
+use Rattle.sound_state.specs.Sound.{IsSoundWith, IsOwnErrand}
+use Rattle.sound_state.specs.Superblocks.{anchor_for}
+use Rattle.sound_state.proofs.shared.CreditLemmas.{won_with}
+use Rattle.sound_state.proofs.shared.StepLemmas.{at_point, found_from, settle-at, settle-end, words-below, raised-below}
+
+-- the step leads to the point, or ends the call
+abbrev pub LeadsTo : Next → Point → Type 0
+LeadsTo n q = (n ≡ At q) ⊎ ((r : Reply) × (n ≡ End r) × (q ≡ Idle))
+
+settle-leads : (e : ErrandFields) (x : Found) (q : Point) → LeadsTo (next_of e.point x) q → settle_of e x ≡ at_point e x q
+settle-leads e x q leads =
+    elim leads [
+      | inl at ↦ settle-at e x q at
+      | inr end ↦ settle-end e x end.0 end.1 ∙ ap (at_point e x) (sym end.2)
+    ]
+
+-- a step from a point that finds this and leads there, or ends the call
+pub record StepEffects (g : Geometry) (s : State) (who : ℕ) (p : Point) (x : Found) (q : Point) (s' : State) : Type 0 where
+  pub moves : Moves s.errand who (at_point (s.errand who) x q) s'.errand
+  pub writes :
+      Writes s.word (name_of (plan_point_of p)) (after_action (plan_point_of p) (s.word (name_of (plan_point_of p)))) s'.word
+  pub history : s'.history ≡ with_event s.history (event_of who p x)
+  pub rule : IsOwnErrand g who (at_point (s.errand who) x q)
+  pub lost : raised (counts_lost (s.errand who).point x) (s.errand who).lost ≡ raised (counts_lost p x) (s.errand who).lost
+  pub cleared : raised (counts_cleared (s.errand who).point x) (s.errand who).cleared ≡ raised (counts_cleared p x) (s.errand who).cleared
+
+pub step-effects :
+    (g : Geometry) (s : State) (l : Lists) (who : ℕ) (s' : State) (p : Point) (x : Found) (q : Point) → IsSoundWith g s l → who < g.callers
+    → (s.errand who).point ≡ p → found_from s p ≡ x → LeadsTo (next_of p x) q → Step s who s' → StepEffects g s who p x q s'
+step-effects g s l who s' p x q old has here finds leads step =
+    let found : found_at s who ≡ x = ap (found_from s) here ∙ finds in
+    let moved : settle_of (s.errand who) (found_at s who) ≡ at_point (s.errand who) x q =
+    ap (settle_of (s.errand who)) found ∙ settle-leads (s.errand who) x q (subst (λ r. LeadsTo (next_of r x) q) (sym here) leads) in
+    let own = old.errands who has in
+    record {
+      moves = subst (λ f. Moves s.errand who f s'.errand) moved step.errand;
+      writes =
+          subst (λ r. Writes s.word (name_of (plan_point_of r)) (after_action (plan_point_of r) (s.word (name_of (plan_point_of r)))) s'.word) here
+          step.word;
+      history = step.history ∙ ap (with_event s.history) (ap (event_of who (s.errand who).point) found ∙ ap (λ r. event_of who r x) here);
+      rule = record {
+        caller = own.caller;
+        geometry = own.geometry;
+        rule = subst IsErrand moved (settle_errand (s.errand who) (found_at s who) own.rule (old.words (name_at s who)));
+        lost = raised-below (counts_lost (s.errand who).point x) (s.errand who).lost own.lost;
+      };
+      lost = ap (λ r. raised (counts_lost r x) (s.errand who).lost) here;
+      cleared = ap (λ r. raised (counts_cleared r x) (s.errand who).cleared) here;
+    }
+
+-- such a step whose exchange is won
+pub record WonEffects (g : Geometry) (s : State) (who : ℕ) (p : Point) (n : WordName) (expected new : ℕ) (q : Point) (s' : State) : Type 0 where
+  pub step : StepEffects g s who p (won_with expected) q s'
+  pub writes : Writes s.word n new s'.word
+  pub below : (m : WordName) → s'.word m < 2 ^ 64
+
+pub won-effects :
+    (g : Geometry) (s : State) (l : Lists) (who : ℕ) (s' : State) (p : Point) (n : WordName) (expected new : ℕ) (q : Point) → IsSoundWith g s l
+    → who < g.callers → (s.errand who).point ≡ p → s.word n ≡ expected → plan_point_of p ≡ Cas n expected new
+    → LeadsTo (next_of p (won_with expected)) q → new < 2 ^ 64 → Step s who s' → WonEffects g s who p n expected new q s'
+won-effects g s l who s' p n expected new q old has here word plan leads below step =
+    let found : found_by (Cas n expected new) (s.word n) ≡ won_with expected = rw (word, eq-eqb expected expected refl) refl in
+    let effects =
+    step-effects g s l who s' p (won_with expected) q old has here (ap (λ c. found_by c (s.word (name_of c))) plan ∙ found) leads step in
+    let after : after_action (Cas n expected new) (s.word n) ≡ new =
+    cond-true {A = ℕ} (s.word n == expected) new (s.word n) (eq-eqb (s.word n) expected word) in
+    let writes : Writes s.word n new s'.word =
+    subst (λ v. Writes s.word n v s'.word) after
+    (subst (λ c. Writes s.word (name_of c) (after_action c (s.word (name_of c))) s'.word) plan effects.writes) in
+    record { step = effects; writes = writes; below = words-below s.word n new s'.word writes old.words below }
+
+-- such a step whose exchange is of an anchor
+pub record AnchorWon (g : Geometry) (s : State) (who : ℕ) (p : Point) (d : ℕ) (a b : AnchorFields) (q : Point) (s' : State) : Type 0 where
+  pub step : StepEffects g s who p (won_with (anchor_word a)) q s'
+  pub before : anchor_for s d ≡ a
+  pub after : anchor_for s' d ≡ b
+  pub elsewhere : (n : WordName) → n ≢ name.Anchor d → s'.word n ≡ s.word n
+  pub below : (n : WordName) → s'.word n < 2 ^ 64
+
+pub anchor-won :
+    (g : Geometry) (s : State) (l : Lists) (who : ℕ) (s' : State) (p : Point) (d : ℕ) (a b : AnchorFields) (q : Point) → IsSoundWith g s l
+    → who < g.callers → (s.errand who).point ≡ p → s.word (name.Anchor d) ≡ anchor_word a → IsAnchor a → IsAnchor b
+    → plan_point_of p ≡ Cas (name.Anchor d) (anchor_word a) (anchor_word b) → LeadsTo (next_of p (won_with (anchor_word a))) q → Step s who s'
+    → AnchorWon g s who p d a b q s'
+anchor-won g s l who s' p d a b q old has here word fits new plan leads step =
+    let won =
+    won-effects g s l who s' p (name.Anchor d) (anchor_word a) (anchor_word b) q old has here word plan leads (anchor_word-below b new) step in
+    record {
+      step = won.step;
+      before = ap anchor_of word ∙ anchor_of-anchor_word a fits;
+      after = ap anchor_of won.writes.here ∙ anchor_of-anchor_word b new;
+      elsewhere = won.writes.elsewhere;
+      below = won.below;
+    }
