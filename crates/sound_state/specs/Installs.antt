@@ -1,5 +1,5 @@
 -- How many turns callers take, by how often others make a superblock the active one.
-use Rattle.std.specs.Prelude.{ℕ, Bool, true, false, ◌≡◌, ◌≢◌, ◌<◌, ◌≤◌, ◌+◌, ◌&&◌, ◌||◌, not, Some, length, take, drop, count_by, All, IsTrue}
+use Rattle.std.specs.Prelude.{ℕ, Bool, true, false, ◌≡◌, ◌≢◌, ◌<◌, ◌≤◌, ◌+◌, ◌&&◌, ◌||◌, not, Some, length, take, drop, count_by, List, All, IsTrue}
 use Rattle.heap_geometry.specs.declared.geometry.Geometry.{Geometry}
 use Rattle.packed_words.specs.declared.active.ActiveWord.TheVariants.{Null}
 use Rattle.packed_words.specs.Active.{active_word}
@@ -12,7 +12,7 @@ use Rattle.errand_steps.specs.declared.point.Point.TheVariants as point
 use Rattle.errand_steps.specs.Errands.{ErrandFields}
 use Rattle.errand_steps.specs.Steps.{State}
 use Rattle.sound_state.specs.Contention.{is_by, is_against}
-use Rattle.sound_state.specs.Expectations.{expects_of}
+use Rattle.sound_state.specs.Expectations.{Expected, expects_of}
 use Rattle.sound_state.specs.Turns.{one_if, gives_small, refuses_small, is_grant, is_onward_giving, has_frame_block, has_partial_block, errand_discards, turn_unanswered}
 use Rattle.sound_state.specs.Wins.{Win, Wins}
 
@@ -61,13 +61,16 @@ turns_allowed s who installs =
     count_by (gives_small who) s.history + count_by (refuses_small who) s.history + installs
     + turn_unanswered (s.errand who)
 
--- since a caller noted so many wins, in the turn that it is in: it takes no more turns than the installs before allow; an active word that it expects to be null, and that isn't, another has installed since; and so it is where it lost its own install
+-- an active word that a caller expects to be null, and that isn't, another has installed since it noted so many wins
+abbrev pub IsMet : State → List Win → ℕ → ℕ → Expected → Type 0
+IsMet s list who wins e =
+    IsActive e.word → e.value ≡ active_word Null → s.word e.word ≢ e.value → 0 < count_by (installs_on who e.word) (drop wins list)
+
+-- since a caller noted so many wins, in the turn that it is in: it takes no more turns than the installs before allow; each active word that it expects is met; and another has installed since where it lost its own install
 pub record IsUnmet (s : State) (w : Wins) (who wins : ℕ) : Type 0 where
   pub past : wins ≤ length w.list
   pub turns : (s.errand who).turns ≤ turns_allowed s who (count_by (installs_against who) (take wins w.list))
-  pub met :
-      All (λ e. IsActive e.word → e.value ≡ active_word Null → s.word e.word ≢ e.value → 0 < count_by (installs_on who e.word) (drop wins w.list))
-      (expects_of (s.errand who).point)
+  pub met : All (IsMet s w.list who wins) (expects_of (s.errand who).point)
   pub discards : errand_discards (s.errand who) ≤ count_by (installs_against who) (drop wins w.list)
 
 -- a caller installs at most as often as it is given a small block, and takes a turn beyond what it is given or refused only where another installed

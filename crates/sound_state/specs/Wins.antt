@@ -94,11 +94,13 @@ unmet_after s who wins old =
 
 -- the wins and the notes after that step
 abbrev pub wins_after : State → ℕ → Wins → Wins
-wins_after s who w = record {
-  list = list_after s who w.list;
-  noted = λ other word. if (other == who) && same_name word (name_at s who) then note_at s who (length (list_after s who w.list)) (w.noted who word) else w.noted other word;
-  unmet = λ other. if other == who then unmet_after s who (length (list_after s who w.list)) (w.unmet who) else w.unmet other;
-}
+wins_after s who w =
+    let list = list_after s who w.list in
+    let now = length list in record {
+      list = list;
+      noted = λ other word. if (other == who) && same_name word (name_at s who) then note_at s who now (w.noted who word) else w.noted other word;
+      unmet = λ other. if other == who then unmet_after s who now (w.unmet who) else w.unmet other;
+    }
 
 -- nothing is won or noted yet
 abbrev pub no_wins : Wins

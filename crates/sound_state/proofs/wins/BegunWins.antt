@@ -1,5 +1,5 @@
 -- A call that begins keeps what was won and noted.
-use Rattle.std.proofs.Common.{ℕ, false, Some, ◌≡◌, ◌≢◌, ◌<◌, ◌≤◌, ◌+◌, [], length, refl, arith, ap, sym, subst, ◌∙◌}
+use Rattle.std.proofs.Common.{ℕ, false, Some, ◌≡◌, ◌<◌, ◌≤◌, ◌+◌, [], length, refl, arith, ap, sym, subst, ◌∙◌}
 use Rattle.std.specs.Prelude.{◌^◌, ◌-◌, All, IsTrue, min, drop, count_by}
 use Rattle.std.specs.Prelude as list
 use Rattle.std.proofs.lemmas.Bool.{cond_both, true≢false}
@@ -8,14 +8,12 @@ use Rattle.heap_geometry.specs.declared.geometry.Geometry.{Geometry}
 use Rattle.heap_geometry.specs.declared.need.Need.{Need}
 use Rattle.heap_geometry.specs.declared.need.Need.TheVariants.{Small, Large, TooLarge}
 use Rattle.heap_geometry.specs.Need.{need_of}
-use Rattle.packed_words.specs.declared.active.ActiveWord.TheVariants.{Null}
-use Rattle.packed_words.specs.Active.{active_word}
 use Rattle.errand_steps.specs.Begins.{IsIdle, begins_alloc, alloc_begun, free_begun, write_begun, read_begun, put_begun, take_begun}
 use Rattle.errand_steps.specs.Errands.{ErrandFields, is_spent}
 use Rattle.errand_steps.specs.Steps.{State, Moves}
 use Rattle.sound_state.specs.Contention.{is_by, IsExpected, lost_of}
 use Rattle.sound_state.specs.Expectations.{expects_of}
-use Rattle.sound_state.specs.Installs.{IsActive, installs_by, installs_against, installs_on, is_seeking, errand_offers}
+use Rattle.sound_state.specs.Installs.{IsMet, installs_by, installs_against, is_seeking, errand_offers}
 use Rattle.sound_state.specs.Runs.{Call, alloc, free, Begins, begun_by}
 use Rattle.sound_state.specs.Sound.{with_errands}
 use Rattle.sound_state.specs.Turns.{gives_small, refuses_small, turn_unanswered, errand_discards}
@@ -33,8 +31,7 @@ UnmetAs s w who e =
     × (e.turns
     ≤ count_by (gives_small who) s.history + count_by (refuses_small who) s.history
     + count_by (installs_against who) (list.take wins w.list) + turn_unanswered e)
-    × All (λ x. IsActive x.word → x.value ≡ active_word Null → s.word x.word ≢ x.value → 0 < count_by (installs_on who x.word) (drop wins w.list))
-    (expects_of e.point)
+    × All (IsMet s w.list who wins) (expects_of e.point)
     × (errand_discards e ≤ count_by (installs_against who) (drop wins w.list))
 
 -- an errand that begins counts as the idle one before it, and its turn is one that has no answer yet
@@ -122,12 +119,7 @@ begun-won g s w who f errands won has idle b moves =
             let old = i.unmet who past has noted in (
               old.past,
               omega (arith, b.turns, old.turns, quiet),
-              subst
-                  (All
-                  (λ x. IsActive x.word → x.value ≡ active_word Null → s.word x.word ≢ x.value → 0 < count_by (installs_on who x.word) (drop past w.list)))
-                  (sym b.expects)
-                  (All-nil
-                  (λ x. IsActive x.word → x.value ≡ active_word Null → s.word x.word ≢ x.value → 0 < count_by (installs_on who x.word) (drop past w.list))),
+              subst (All (IsMet s w.list who past)) (sym b.expects) (All-nil (IsMet s w.list who past)),
               omega (arith, b.discards),
             ))
             (λ j has_j past noted. let old = i.unmet j past has_j noted in (old.past, old.turns, old.met, old.discards))

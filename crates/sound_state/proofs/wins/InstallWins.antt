@@ -12,7 +12,7 @@ use Rattle.errand_steps.specs.Errands.{ErrandFields}
 use Rattle.errand_steps.specs.Fits.{FitsPoint}
 use Rattle.errand_steps.specs.Steps.{State, Step, action_at, name_at, word_at, found_at}
 use Rattle.sound_state.specs.Expectations.{Expected, expects_of}
-use Rattle.sound_state.specs.Installs.{IsInstalled, IsUnmet, IsActive, installs_by, installs_against, installs_on, is_seeking, errand_offers}
+use Rattle.sound_state.specs.Installs.{IsInstalled, IsUnmet, IsMet, IsActive, installs_by, installs_against, installs_on, is_seeking, errand_offers}
 use Rattle.sound_state.specs.Turns.{one_if, gives_small, refuses_small, turn_unanswered, errand_discards}
 use Rattle.sound_state.specs.Wins.{Win, Wins, win_at, wins_after, list_after, unmet_at, unmet_after, is_between}
 use Rattle.sound_state.proofs.pops.PopTurns.{each-other}
@@ -25,25 +25,20 @@ use Rattle.sound_state.proofs.wins.StepWins.{list-least}
 use Rattle.sound_state.proofs.wins.ExpectLemmas.{in-all}
 use Rattle.sound_state.proofs.wins.WinDefs.{IsCarried, IsSeen, MayExpect, offers_new, looks_active}
 
--- what a caller that expects no superblock active owes to the others' installs since n wins
-abbrev MetSince : State → List Win → ℕ → ℕ → Expected → Type 0
-MetSince s list who n e =
-    IsActive e.word → e.value ≡ active_word Null → s.word e.word ≢ e.value → 0 < count_by (installs_on who e.word) (drop n list)
-
 -- what the step sees or leaves is as expected
 seen-met :
     (s : State) (who : ℕ) (s' : State) (list : List Win) (n : ℕ) (e : Expected) → Step s who s'
-    → IsSeen (action_at s who) (found_at s who) e → MetSince s' list who n e
+    → IsSeen (action_at s who) (found_at s who) e → IsMet s' list who n e
 seen-met s who s' list n e step seen = λ active null differs. absurd (differs (ap s'.word seen.word ∙ step.word.here ∙ seen.value))
 
 -- what a caller expected before, of another word than the step's
 carried-met :
     (s : State) (w : Wins) (who : ℕ) (s' : State) (n : ℕ) (e : Expected) → Step s who s' → IsUnmet s w who n
-    → IsCarried (s.errand who).point (name_at s who) e → MetSince s' (list_after s who w.list) who n e
+    → IsCarried (s.errand who).point (name_at s who) e → IsMet s' (list_after s who w.list) who n e
 carried-met s w who s' n e step unmet carried = λ active null differs.
     let same : s'.word e.word ≡ s.word e.word = step.word.elsewhere e.word carried.1 in
     let before : 0 < count_by (installs_on who e.word) (drop n w.list) =
-    in-all (MetSince s w.list who n) (expects_of (s.errand who).point) e unmet.met carried.0 active null (λ is. differs (same ∙ is)) in
+    in-all (IsMet s w.list who n) (expects_of (s.errand who).point) e unmet.met carried.0 active null (λ is. differs (same ∙ is)) in
     omega (arith, before, drop-win (installs_on who e.word) n w.list (win_at s who) unmet.past)
 
 -- the discards of a step that loses no new superblock, and of one that does
@@ -55,7 +50,7 @@ discards-after s w who s' n h unmet =
     let longer = drop-win (installs_against who) n w.list (win_at s who) unmet.past in
     elim (cases_Bool (offers_new p && not (found_at s who).won)) [
       | inl lost ↦
-          let loses : LosesNew p (word_at s who) (MetSince s w.list who n) = loses-new p (word_at s who) (MetSince s w.list who n) lost unmet.met in
+          let loses : LosesNew p (word_at s who) (IsMet s w.list who n) = loses-new p (word_at s who) (IsMet s w.list who n) lost unmet.met in
           let before : 0 < count_by (installs_on who (name_at s who)) (drop n w.list) = loses.expected loses.active refl loses.some in
           let one : one_if (offers_new p && not (found_at s who).won) ≡ 1 = ap one_if lost in
           omega (arith, h.settles.to.discards, h.goes.discards, loses.discards, one, before, on-against who (name_at s who) (drop n w.list), longer)
@@ -70,7 +65,7 @@ record UnmetAs (s : State) (list : List Win) (who n : ℕ) (e : ErrandFields) : 
   turns :
       e.turns
       ≤ count_by (gives_small who) s.history + count_by (refuses_small who) s.history + count_by (installs_against who) (take n list) + turn_unanswered e
-  met : All (MetSince s list who n) (expects_of e.point)
+  met : All (IsMet s list who n) (expects_of e.point)
   discards : errand_discards e ≤ count_by (installs_against who) (drop n list)
 
 -- so it is unmet
@@ -119,7 +114,7 @@ newly-unmet g s w who s' has h step old looks expects =
 -- what another caller expects: the step leaves it so, or installs a superblock there
 other-met :
     (s : State) (w : Wins) (who : ℕ) (s' : State) (i n : ℕ) (e : Expected) → Step s who s' → i ≢ who → n ≤ length w.list
-    → MetSince s w.list i n e → MetSince s' (list_after s who w.list) i n e
+    → IsMet s w.list i n e → IsMet s' (list_after s who w.list) i n e
 other-met s w who s' i n e step ne past met active null differs =
     let longer = drop-win (installs_on i e.word) n w.list (win_at s who) past in
     elim (cases_name e.word (name_at s who)) [
