@@ -19,6 +19,7 @@ pub mod SettleExpects
 pub mod StackExpects
 pub mod StepWins
 pub mod StoreLemmas
+pub mod TurnBounds
 pub mod TurnEnds
 pub mod TurnParts
 pub mod TurnPoints

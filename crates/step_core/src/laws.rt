@@ -1,7 +1,7 @@
 //! Laws of the machine: theorems about the definitions, on functions that do nothing; and a machine
 //! to begin with whose first superblock is in use.
 
-ghost use Rattle.std.specs.Prelude.{ℕ, List, ◌≡◌, ◌<◌, ◌≤◌, ◌+◌, ◌-◌, ◌*◌, ◌^◌, ◌++◌, ◌↔◌, IfOk};
+ghost use Rattle.std.specs.Prelude.{ℕ, List, ◌≡◌, ◌<◌, ◌≤◌, ◌+◌, ◌-◌, ◌*◌, ◌^◌, ◌++◌, ◌↔◌, IfOk, count_by};
 ghost use Rattle.heap_geometry.specs.Geometry.{IsChecked};
 ghost use Rattle.heap_geometry.specs.declared.limits.TheConstants.{CLASSES};
 ghost use Rattle.word_plan.specs.Actions.{name_of};
@@ -11,6 +11,7 @@ ghost use Rattle.errand_steps.specs.Errands.{plan_of};
 ghost use Rattle.sound_state.specs.Contention.{lost_of, won_of};
 ghost use Rattle.sound_state.specs.Sound.{IsSound};
 ghost use Rattle.sound_state.specs.Sums.{callers_sum};
+ghost use Rattle.sound_state.specs.Turns.{is_small_alloc, refuses_small, turn_unanswered};
 ghost use Rattle.step_core.specs.Cores.{CoreFields, IsCore, errand_at, state_of};
 ghost use Rattle.errand_steps.specs.Openings.{installed};
 ghost use Rattle.step_core.specs.Openings.{IsOpened};
@@ -32,14 +33,19 @@ pub fn open_installed(alloc: Global, geometry: Geometry, class: u8) -> Result<Co
 }
 
 /// What the type keeps of every machine, from its opening on and whatever its callers did: its state is
-/// sound; and its callers lost no more exchanges than they won, times the other callers, as long as no
-/// count of won ones stands at its end.
+/// sound; its callers lost no more exchanges than they won, times the other callers, as long as no
+/// count of won ones stands at its end; and a caller took no more turns than small blocks were given to
+/// any caller and small needs were refused to itself, and the turn that has no answer yet.
 pub fn machines_are_sound()
     ensures sound { (c : CoreFields) → IsCore c → IsSound c.geometry (state_of c) }
     ensures contended { (c : CoreFields) → IsCore c
         → ((who : ℕ) → who < c.geometry.callers → (errand_at c.errands who).won < 2 ^ 64 - 1)
         → callers_sum c.geometry lost_of (errand_at c.errands)
         ≤ (c.geometry.callers - 1) * callers_sum c.geometry won_of (errand_at c.errands) }
+    ensures turns { (c : CoreFields) (who : ℕ) → IsCore c → who < c.geometry.callers
+        → (errand_at c.errands who).turns
+        ≤ count_by is_small_alloc c.events + count_by (refuses_small who) c.events
+        + turn_unanswered (errand_at c.errands who) }
 {}
 
 /// A step is determined by the state before it.

@@ -1,10 +1,12 @@
 -- How wins are counted: in two lists, behind a note, and with one more.
-use Rattle.std.proofs.Common.{ℕ, Bool, true, false, cond, Option, Some, None, ◌≡◌, ◌≤◌, ◌+◌, List, [], ◌++◌, length, take, drop, arith, ap, ◌∙◌}
+use Rattle.std.proofs.Common.{ℕ, Bool, true, false, cond, Option, Some, None, ◌≡◌, ◌≤◌, ◌+◌, List, [], ◌∷◌, ◌++◌, length, take, drop, arith, ap, ◌∙◌}
 use Rattle.std.specs.Prelude.{count_by, option_to_list}
 use Rattle.std.proofs.lemmas.List.{take-append-le, drop-append-le}
 use Rattle.std.proofs.lemmas.List.Sums.{sum_by-append, sum_by-take-drop, sum_by-le-sum_by, sum_by_push}
+use Rattle.sound_state.specs.Sums.{sum_below}
 use Rattle.sound_state.specs.Turns.{one_if}
 use Rattle.sound_state.specs.Wins.{Win}
+use Rattle.sound_state.proofs.shared.SumLemmas.{sum-plus, sum-same}
 
 -- a win counts once, or not
 pub count-one : {X : Type 0} (p : X → Bool) (x : X) → p x ≡ true → count_by p (option_to_list (Some x)) ≡ 1
@@ -21,6 +23,19 @@ pub count-behind :
     {X : Type 0} (p : X → Bool) (xs ys : List X) (n : ℕ) → n ≤ length xs
     → count_by p (drop n (xs ++ ys)) ≡ count_by p (drop n xs) + count_by p ys
 count-behind p xs ys n within = ap (count_by p) (drop-append-le n xs ys within) ∙ count-append p (drop n xs) ys
+
+-- what a list counts for each caller, by its first element and the others
+pub counts-first :
+    {X : Type 0} (n : ℕ) (p : ℕ → X → Bool) (x : X) (xs : List X)
+    → sum_below n (λ who. count_by (p who) (x ∷ xs)) ≡ sum_below n (λ who. count_by (p who) (x ∷ [])) + sum_below n (λ who. count_by (p who) xs)
+counts-first n p x xs =
+    let one = λ (who : ℕ). count_by (p who) (x ∷ []) in
+    let rest = λ (who : ℕ). count_by (p who) xs in
+    omega (
+      arith,
+      sum-same n (λ who. one who + rest who) (λ who. count_by (p who) (x ∷ xs)) (λ who lt. count-append (p who) (x ∷ []) xs),
+      sum-plus n one rest,
+    )
 
 -- the two parts of a list
 pub count-parts : {X : Type 0} (p : X → Bool) (n : ℕ) (xs : List X) → count_by p (take n xs) + count_by p (drop n xs) ≡ count_by p xs

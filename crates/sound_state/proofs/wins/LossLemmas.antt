@@ -1,5 +1,5 @@
 -- Callers lose no more than others win.
-use Rattle.std.proofs.Common.{ℕ, ◌≡◌, ◌<◌, ◌≤◌, ◌+◌, ◌*◌, List, [], ◌∷◌, length, refl, arith}
+use Rattle.std.proofs.Common.{ℕ, ◌≡◌, ◌<◌, ◌≤◌, ◌*◌, List, [], ◌∷◌, length, refl, arith}
 use Rattle.std.specs.Prelude.{◌-◌, ◌^◌, All, count_by, min}
 use Rattle.std.proofs.lemmas.Bool.{eq-eqb}
 use Rattle.std.proofs.lemmas.List.Elements.{All-head, All-tail}
@@ -9,8 +9,8 @@ use Rattle.sound_state.specs.Contention.{is_by, lost_of, won_of}
 use Rattle.sound_state.specs.Sums.{sum_below, callers_sum}
 use Rattle.sound_state.specs.Wins.{Win, Wins}
 use Rattle.sound_state.specs.Won.{IsWon}
-use Rattle.sound_state.proofs.shared.SumLemmas.{sum-plus, sum-same, term-sum}
-use Rattle.sound_state.proofs.wins.CountLemmas.{count-append, count-one}
+use Rattle.sound_state.proofs.shared.SumLemmas.{sum-same, term-sum}
+use Rattle.sound_state.proofs.wins.CountLemmas.{counts-first, count-one}
 
 -- each win is one of its caller's
 all-won :
@@ -18,16 +18,11 @@ all-won :
 all-won n [] all = omega arith
 all-won n (x ∷ xs) all =
     let here : x.caller < n = All-head (λ y. y.caller < n) x xs all in
-    let one = λ (who : ℕ). count_by (is_by who) (x ∷ []) in
-    let rest = λ (who : ℕ). count_by (is_by who) xs in
-    let each : sum_below n (λ who. count_by (is_by who) (x ∷ xs)) ≡ sum_below n (λ who. one who + rest who) =
-    sum-same n (λ who. one who + rest who) (λ who. count_by (is_by who) (x ∷ xs)) (λ who lt. count-append (is_by who) (x ∷ []) xs) in
     omega (
       arith,
-      each,
-      sum-plus n one rest,
+      counts-first n is_by x xs,
       all-won n xs (All-tail (λ y. y.caller < n) x xs all),
-      term-sum n one x.caller here,
+      term-sum n (λ who. count_by (is_by who) (x ∷ [])) x.caller here,
       count-one (is_by x.caller) x (eq-eqb x.caller x.caller refl),
     )
 

@@ -18,8 +18,8 @@ pub fn steps_go_on()
         → IsSound g s → who < g.callers → Step s who after → GoesOn g s who after }
 {}
 
-/// Between two steps that lose or clear, a call makes at most `CALL_STEPS` steps, however many frames,
-/// heaps and callers there are.
+/// No call has more than `CALL_STEPS` steps left, however many frames, heaps and callers there are. So, as
+/// `steps_go_on` says, it makes at most that many between two steps that lose or clear.
 pub fn calls_are_short()
     ensures { (g : Geometry) (s : State) (who : ℕ) → IsSound g s → who < g.callers
         → steps_left g (s.errand who).point ≤ CALL_STEPS }

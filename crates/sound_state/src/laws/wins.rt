@@ -1,6 +1,6 @@
 //! Laws of what callers win from each other, and of what that bounds.
 
-ghost use Rattle.std.specs.Prelude.{ℕ, List, ◌<◌, ◌≤◌, ◌-◌, ◌*◌, ◌^◌};
+ghost use Rattle.std.specs.Prelude.{ℕ, List, ◌<◌, ◌≤◌, ◌+◌, ◌-◌, ◌*◌, ◌^◌, count_by};
 ghost use Rattle.heap_geometry.specs.declared.geometry.Geometry.{Geometry};
 ghost use Rattle.heap_geometry.specs.declared.limits.TheConstants.{CLASSES};
 ghost use Rattle.heap_geometry.specs.Geometry.{IsChecked};
@@ -10,6 +10,7 @@ ghost use Rattle.sound_state.specs.Contention.{lost_of, won_of};
 ghost use Rattle.sound_state.specs.Runs.{Call, Begins, Move, Reaches};
 ghost use Rattle.sound_state.specs.Sound.{IsSound};
 ghost use Rattle.sound_state.specs.Sums.{callers_sum};
+ghost use Rattle.sound_state.specs.Turns.{is_small_alloc, refuses_small, turn_unanswered};
 ghost use Rattle.sound_state.specs.Wins.{Wins, no_wins, wins_after};
 ghost use Rattle.sound_state.specs.Won.{IsWon};
 
@@ -47,4 +48,12 @@ pub fn losses_are_bounded()
     ensures { (g : Geometry) (s : State) (w : Wins) → IsWon g s w
         → ((who : ℕ) → who < g.callers → (s.errand who).won < 2 ^ 64 - 1)
         → callers_sum g lost_of s.errand ≤ (g.callers - 1) * callers_sum g won_of s.errand }
+{}
+
+/// A caller takes no more turns than small blocks were given to any caller and small needs were refused
+/// to itself, and the turn that has no answer yet.
+pub fn turns_are_bounded()
+    ensures { (g : Geometry) (s : State) (w : Wins) (who : ℕ) → IsWon g s w → who < g.callers
+        → (s.errand who).turns
+        ≤ count_by is_small_alloc s.history + count_by (refuses_small who) s.history + turn_unanswered (s.errand who) }
 {}
