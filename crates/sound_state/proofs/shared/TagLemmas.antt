@@ -11,7 +11,7 @@ use Rattle.heap_geometry.specs.declared.need.Need.TheVariants.{Small, Large, Too
 use Rattle.heap_geometry.specs.Geometry.{IsChecked}
 use Rattle.heap_geometry.specs.Need.{need_of}
 use Rattle.heap_geometry.specs.Place.{frame_of}
-use Rattle.packed_words.specs.declared.widths.TheConstants.{TAG_BITS, HEAD_TAG_BITS}
+use Rattle.packed_words.specs.declared.widths.TheConstants.{TAG_BITS}
 use Rattle.packed_words.specs.Head.{head_of}
 use Rattle.word_plan.specs.declared.name.WordName.TheVariants as name
 use Rattle.word_plan.specs.Counts.{descriptor_count}
@@ -29,7 +29,7 @@ use Rattle.sound_state.specs.Lists.{Lists}
 use Rattle.sound_state.specs.Sound.{IsSoundWith, IsSoundWithoutCounts}
 use Rattle.sound_state.specs.Sums.{sum_below, callers_sum}
 use Rattle.sound_state.specs.Superblocks.{anchor_for}
-use Rattle.sound_state.specs.Turns.{gives_small, is_small_alloc, is_small_free, turns_of, cleared_of}
+use Rattle.sound_state.specs.Turns.{gives_small, is_small_alloc, is_small_free, turn_unframed, turns_of, cleared_of}
 use Rattle.sound_state.proofs.shared.SumLemmas.{sum-same, sum-plus, sum-most, sum-least, term-sum}
 
 -- each small allocation is one of its caller's
@@ -190,17 +190,34 @@ anchor-tags-below g s sound d has =
     let is : IsSoundWith g s l = sound.parts.1 in
     omega (arith, is.turned.anchor_tags d has, given-most g s l sound.legal is, turns-most g s l sound.checked is)
 
-pub frame-tag-below : (g : Geometry) (s : State) → IsSoundWithoutCounts g s → (head_of (s.word name.FrameHead)).tag + 1 < 2 ^ HEAD_TAG_BITS
+pub frame-tag-below : (g : Geometry) (s : State) → IsSoundWithoutCounts g s → (head_of (s.word name.FrameHead)).tag + 1 < 2 ^ 42
 frame-tag-below g s sound =
     let l : Lists = sound.parts.0 in
     let is : IsSoundWith g s l = sound.parts.1 in
     omega (arith, is.turned.frame_tag, turns-most g s l sound.checked is)
 
-pub list-tags-below : (g : Geometry) (s : State) → IsSoundWithoutCounts g s → (class : ℕ) → class < CLASSES → (head_of (s.word (name.ListHead class))).tag + 1 < 2 ^ HEAD_TAG_BITS
+pub list-tags-below : (g : Geometry) (s : State) → IsSoundWithoutCounts g s → (class : ℕ) → class < CLASSES → (head_of (s.word (name.ListHead class))).tag + 1 < 2 ^ 44
 list-tags-below g s sound class has =
     let l : Lists = sound.parts.0 in
     let is : IsSoundWith g s l = sound.parts.1 in
     omega (arith, is.turned.list_tags class has, is.turned.emptied, small-freed g s.history sound.legal, given-most g s l sound.legal is, turns-most g s l sound.checked is)
+
+-- an anchor is popped once for each small block that is given
+pub anchor-tags-counted :
+    (g : Geometry) (s : State) → IsSoundWithoutCounts g s → (d : ℕ) → d < descriptor_count g → (anchor_for s d).tag ≤ count_by is_small_alloc s.history
+anchor-tags-counted g s sound d has = sound.parts.1.turned.anchor_tags d has
+
+-- the frames are popped once in a turn
+pub frame-tag-counted :
+    (g : Geometry) (s : State) → IsSoundWithoutCounts g s
+    → (head_of (s.word name.FrameHead)).tag + callers_sum g turn_unframed s.errand ≤ callers_sum g turns_of s.errand
+frame-tag-counted g s sound = sound.parts.1.turned.frame_tag
+
+-- a list is popped once in a turn, twice after a free, and once more where what it emptied is cleared
+pub list-tags-counted :
+    (g : Geometry) (s : State) → IsSoundWithoutCounts g s → (class : ℕ) → class < CLASSES
+    → (head_of (s.word (name.ListHead class))).tag ≤ callers_sum g turns_of s.errand + 3 * count_by (is_small_free g) s.history
+list-tags-counted g s sound class has = omega (arith, sound.parts.1.turned.list_tags class has, sound.parts.1.turned.emptied)
 
 -- a caller's cleared count is far from its end
 pub cleared-below : (g : Geometry) (s : State) → IsSoundWithoutCounts g s → (who : ℕ) → who < g.callers → (s.errand who).cleared + 1 < 2 ^ 64

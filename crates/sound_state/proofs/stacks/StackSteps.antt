@@ -53,8 +53,8 @@ use Rattle.sound_state.proofs.shared.TagLemmas.{frame-tag-below, list-tags-below
 pub tag-room :
     (g : Geometry) (s : State) (seat : SeatFields) (pile : Pile) → IsSoundWithoutCounts g s → seat.class < CLASSES
     → (head_of (s.word (head_name seat pile))).tag + 1 < 2 ^ HEAD_TAG_BITS
-tag-room g s seat Frames sound has = frame-tag-below g s sound
-tag-room g s seat Partials sound has = list-tags-below g s sound seat.class has
+tag-room g s seat Frames sound has = omega (arith, frame-tag-below g s sound)
+tag-room g s seat Partials sound has = omega (arith, list-tags-below g s sound seat.class has)
 
 -- an index and the number above it fit a top
 limit-room : (g : Geometry) (pile : Pile) → IsChecked g → pile_limit g pile < 2 ^ TOP_BITS

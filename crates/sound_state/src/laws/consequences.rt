@@ -1,11 +1,11 @@
 //! What a sound state gives, whatever led to it.
 
-ghost use Rattle.std.specs.Prelude.{ℕ, ◌≡◌, ◌≢◌, ◌<◌, ◌+◌, ◌^◌, None, IsTrue};
+ghost use Rattle.std.specs.Prelude.{ℕ, ◌≡◌, ◌≢◌, ◌<◌, ◌≤◌, ◌+◌, ◌*◌, ◌^◌, None, IsTrue, count_by};
 ghost use Rattle.heap_geometry.specs.declared.geometry.Geometry.{Geometry};
 ghost use Rattle.heap_geometry.specs.declared.limits.TheConstants.{CLASSES};
 ghost use Rattle.heap_geometry.specs.declared.need.Need.TheVariants.{Small};
 ghost use Rattle.heap_geometry.specs.Place.{IsApart, block_place};
-ghost use Rattle.packed_words.specs.declared.widths.TheConstants.{TAG_BITS, HEAD_TAG_BITS};
+ghost use Rattle.packed_words.specs.declared.widths.TheConstants.{TAG_BITS};
 ghost use Rattle.packed_words.specs.Head.{head_of};
 ghost use Rattle.word_plan.specs.declared.name.WordName.TheVariants as name;
 ghost use Rattle.word_plan.specs.Counts.{descriptor_count};
@@ -20,18 +20,31 @@ ghost use Rattle.sound_state.specs.Consequences.{IsTaken};
 ghost use Rattle.sound_state.specs.Lists.{Lists};
 ghost use Rattle.sound_state.specs.Sound.{IsSoundWith, IsSoundWithoutCounts};
 ghost use Rattle.sound_state.specs.Stock.{waits_in};
+ghost use Rattle.sound_state.specs.Sums.{callers_sum};
 ghost use Rattle.sound_state.specs.Superblocks.{anchor_for, info_for, is_bound, superblock_of, free_chain};
 ghost use Rattle.sound_state.specs.Ties.{IsLive};
+ghost use Rattle.sound_state.specs.Turns.{is_small_alloc, is_small_free, turn_unframed, turns_of};
 
-/// Every tag has room for one more pop: the sum is not cut.
+/// Every tag has room for one more pop: the sum is not cut. For no anchor has been popped more often than
+/// small blocks were given; the frames no more often than turns were taken, less those that have popped
+/// none yet; and a class's list no more often than turns were taken, and three times for each small block
+/// that was freed.
 pub fn tags_stay_below()
     ensures anchors { (g : Geometry) (s : State) → IsSoundWithoutCounts g s
         → (d : ℕ) → d < descriptor_count g → (anchor_for s d).tag + 1 < 2 ^ TAG_BITS }
     ensures frames { (g : Geometry) (s : State) → IsSoundWithoutCounts g s
-        → (head_of (s.word name.FrameHead)).tag + 1 < 2 ^ HEAD_TAG_BITS }
+        → (head_of (s.word name.FrameHead)).tag + 1 < 2 ^ 42 }
     ensures lists { (g : Geometry) (s : State) → IsSoundWithoutCounts g s
         → (class : ℕ) → class < CLASSES
-        → (head_of (s.word (name.ListHead class))).tag + 1 < 2 ^ HEAD_TAG_BITS }
+        → (head_of (s.word (name.ListHead class))).tag + 1 < 2 ^ 44 }
+    ensures pops { (g : Geometry) (s : State) → IsSoundWithoutCounts g s
+        → (d : ℕ) → d < descriptor_count g → (anchor_for s d).tag ≤ count_by is_small_alloc s.history }
+    ensures framings { (g : Geometry) (s : State) → IsSoundWithoutCounts g s
+        → (head_of (s.word name.FrameHead)).tag + callers_sum g turn_unframed s.errand ≤ callers_sum g turns_of s.errand }
+    ensures listings { (g : Geometry) (s : State) → IsSoundWithoutCounts g s
+        → (class : ℕ) → class < CLASSES
+        → (head_of (s.word (name.ListHead class))).tag
+        ≤ callers_sum g turns_of s.errand + 3 * count_by (is_small_free g) s.history }
 {}
 
 /// Two live blocks have no word in common. A live small block is a block of a superblock and none of
