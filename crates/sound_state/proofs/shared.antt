@@ -1,4 +1,5 @@
 pub mod AlikeLemmas
+pub mod BoundLemmas
 pub mod CallerLemmas
 pub mod CreditLemmas
 pub mod FrameLemmas

@@ -16,12 +16,12 @@ ghost use Rattle.hazard_parts.specs.declared.point.DescPoint.TheVariants.{LoadDe
 ghost use Rattle.errand_steps.specs.declared.onward.Onward.{Onward};
 ghost use Rattle.errand_steps.specs.declared.point.Point.TheVariants as point;
 ghost use Rattle.errand_steps.specs.Steps.{State};
-ghost use Rattle.sound_state.specs.Consequences.{IsTaken};
+ghost use Rattle.sound_state.specs.Consequences.{IsTaken, IsBound, AddsUp};
 ghost use Rattle.sound_state.specs.Lists.{Lists};
 ghost use Rattle.sound_state.specs.Sound.{IsSoundWith, IsSoundWithoutCounts};
 ghost use Rattle.sound_state.specs.Stock.{waits_in};
 ghost use Rattle.sound_state.specs.Sums.{callers_sum};
-ghost use Rattle.sound_state.specs.Superblocks.{anchor_for, info_for, is_bound, superblock_of, free_chain};
+ghost use Rattle.sound_state.specs.Superblocks.{IsChained, anchor_for, info_for, is_bound, superblock_of, free_chain};
 ghost use Rattle.sound_state.specs.Ties.{IsLive};
 ghost use Rattle.sound_state.specs.Turns.{is_small_alloc, is_small_free, turn_unframed, turns_of};
 
@@ -58,6 +58,13 @@ pub fn live_blocks_never_overlap()
         → (d i : ℕ) → d < descriptor_count g → IsTrue (is_bound g s l d)
         → 0 < occurs i (free_chain (superblock_of g s d))
         → block_at (block_place (info_for s d).frame (info_for s d).class i) (pool_of s.history) ≡ None }
+{}
+
+/// The blocks of a superblock add up: those that its anchor counts, those that are reserved, the live ones,
+/// and block 0 where the superblock is new and waits. For each of them is free, live or held back, once.
+pub fn blocks_add_up()
+    ensures all { (g : Geometry) (s : State) (d : ℕ) → IsSoundWithoutCounts g s → IsBound g s d → AddsUp (superblock_of g s d) }
+    ensures each { (g : Geometry) (s : State) (d : ℕ) → IsSoundWithoutCounts g s → IsBound g s d → IsChained (superblock_of g s d) }
 {}
 
 /// While a caller looks for a descriptor, one is available: the word that it loads names one of the
