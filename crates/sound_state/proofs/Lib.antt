@@ -19,5 +19,6 @@ pub mod shared
 pub mod shifts
 pub mod stacks
 pub mod stores
+pub mod tags
 pub mod tellings
 pub mod wins

@@ -15,6 +15,7 @@ pub mod StepsLeft
 pub mod Stock
 pub mod Sums
 pub mod Superblocks
+pub mod Tags
 pub mod Ties
 pub mod Turns
 pub mod Wins

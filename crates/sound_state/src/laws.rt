@@ -12,6 +12,7 @@ ghost use Rattle.sound_state.specs.Sound.{IsSound, IsSoundWithoutCounts, TellsCo
 
 pub mod consequences;
 pub mod endings;
+pub mod tags;
 pub mod wins;
 
 /// A state before the first step is sound: every frame is free, every descriptor available, and

@@ -1,0 +1,3 @@
+pub mod TagPoints
+pub mod TagRuns
+pub mod TagSteps

@@ -1,0 +1,175 @@
+-- What the step from each point does to the tag in an anchor's word.
+use Rattle.std.proofs.Common.{ℕ, Bool, false, ◌≡◌, ◌<◌, ◌≤◌, ◌+◌, ◌%◌, ◌^◌, refl, arith, ap, inl, inr, ◌∙◌}
+use Rattle.std.specs.Prelude.{◌⊎◌, ◌==◌, ◌&&◌, if◌then◌else◌}
+use Rattle.std.proofs.lemmas.Bool.{cases_eq, cond_both, eq-eqb, ne_eqb}
+use Rattle.heap_geometry.specs.declared.geometry.Geometry.{Geometry}
+use Rattle.packed_words.specs.declared.anchor.State.TheVariants as phase
+use Rattle.packed_words.specs.declared.widths.TheConstants.{AVAIL_BITS, COUNT_BITS, TAG_BITS}
+use Rattle.packed_words.specs.Anchor.{AnchorFields, IsAnchor, anchor_of, anchor_word}
+use Rattle.packed_words.proofs.AnchorLemmas.{anchor_of-anchor_word}
+use Rattle.word_plan.specs.declared.action.Action.{Action}
+use Rattle.word_plan.specs.declared.name.WordName.TheVariants as name
+use Rattle.word_plan.specs.Actions.{name_of, after_action, is_won}
+use Rattle.packed_words.specs.Prefix.{link_of}
+use Rattle.superblock_parts.specs.Anchors.{is_last, popped, pushed, pushed_state, returned}
+use Rattle.superblock_parts.specs.Fits.{FitsBlock}
+use Rattle.superblock_parts.specs.Points.{plan_block_of}
+use Rattle.superblock_parts.specs.declared.point.BlockPoint.{BlockPoint}
+use Rattle.superblock_parts.specs.declared.point.BlockPoint.TheVariants as block
+use Rattle.superblock_parts.specs.declared.point.Share.{Share}
+use Rattle.stack_parts.specs.declared.point.Pile.{Pile}
+use Rattle.stack_parts.specs.declared.point.Pile.TheVariants.{Frames, Partials}
+use Rattle.stack_parts.specs.declared.point.StackPoint.{StackPoint}
+use Rattle.stack_parts.specs.Piles.{head_name, next_name}
+use Rattle.stack_parts.specs.Points.{plan_stack_of}
+use Rattle.hazard_parts.specs.declared.point.DescPoint.{DescPoint}
+use Rattle.hazard_parts.specs.Points.{plan_desc_of}
+use Rattle.large_parts.specs.declared.point.LargePoint.{LargePoint}
+use Rattle.large_parts.specs.Points.{plan_large_of}
+use Rattle.partial_parts.specs.Fits.{FitsPartial}
+use Rattle.partial_parts.specs.Grants.{granted}
+use Rattle.partial_parts.specs.Points.{plan_partial_of}
+use Rattle.partial_parts.specs.declared.point.PartialPoint.{PartialPoint}
+use Rattle.partial_parts.specs.declared.point.PartialPoint.TheVariants as partial
+use Rattle.word_plan.specs.Seats.{SeatFields}
+use Rattle.errand_steps.specs.declared.point.Point.{Point}
+use Rattle.errand_steps.specs.declared.point.Point.TheVariants as point
+use Rattle.errand_steps.specs.Fits.{FitsPoint}
+use Rattle.errand_steps.specs.Points.{plan_point_of}
+use Rattle.sound_state.specs.Holdings.{on_its_way, block_holds, holds_of}
+use Rattle.sound_state.specs.Superblocks.{kept_among}
+use Rattle.sound_state.specs.Tags.{pops_block, pops_at}
+use Rattle.sound_state.specs.Turns.{one_if}
+use Rattle.sound_state.proofs.shared.SuperblockEffects.{anchor_number}
+
+-- the tag in an anchor's word
+abbrev tag_in : ℕ → ℕ
+tag_in w = (anchor_of w).tag
+
+-- the action leaves a word's tag, or the next one where it pops
+abbrev TagGoes : Action → Bool → ℕ → Type 0
+TagGoes a pops w = tag_in (after_action a w) ≡ tag_in w + one_if (pops && is_won a w)
+
+-- the word of an anchor has its tag
+word-tag : (a : AnchorFields) → IsAnchor a → tag_in (anchor_word a) ≡ a.tag
+word-tag a fits = ap (λ (x : AnchorFields). x.tag) (anchor_of-anchor_word a fits)
+
+-- an exchange of an anchor for one with the same tag keeps the tag, won or lost
+tag-kept :
+    (w : ℕ) (a b : AnchorFields) → IsAnchor a → IsAnchor b → b.tag ≡ a.tag
+    → tag_in (if w == anchor_word a then anchor_word b else w) ≡ tag_in w + 0
+tag-kept w a b fits new same =
+    elim (cases_eq w (anchor_word a)) [
+      | inl is ↦ rw (eq-eqb w (anchor_word a) is) (omega (arith, word-tag a fits, word-tag b new, ap tag_in is, same))
+      | inr ne ↦ rw (ne_eqb w (anchor_word a) ne) (omega arith)
+    ]
+
+-- the anchor after a return, a push or a grant fits, with the tag of before
+returned-tag : (more : ℕ) (a : AnchorFields) → IsAnchor a → IsAnchor (returned more a)
+returned-tag more a fits = record { avail = fits.avail; count = omega arith; tag = fits.tag }
+
+granted-tag : (a : AnchorFields) → IsAnchor a → IsAnchor (granted a)
+granted-tag a fits = record { avail = fits.avail; count = omega (arith, fits.count); tag = fits.tag }
+
+-- it fits, and has the tag of the other
+abbrev HasTag : ℕ → AnchorFields → Type 0
+HasTag tag b = IsAnchor b × (b.tag ≡ tag)
+
+pushed-tag : (class i : ℕ) (a : AnchorFields) → IsAnchor a → HasTag a.tag (pushed class i a)
+pushed-tag class i a fits =
+    cond_both (is_last class a) (record { avail = i % 2 ^ AVAIL_BITS; count = a.count; state = phase.Empty; tag = a.tag })
+    (record {
+      avail = i % 2 ^ AVAIL_BITS;
+      count = (a.count + 1) % 2 ^ COUNT_BITS;
+      state = pushed_state a.state;
+      tag = a.tag;
+    })
+    (HasTag a.tag) (λ last. (record { avail = omega arith; count = fits.count; tag = fits.tag }, refl))
+    (λ more. (record { avail = omega arith; count = omega arith; tag = fits.tag }, refl))
+
+-- a pop that is won leaves the next tag
+popped-tag : (share : Share) (a : AnchorFields) (prefix : ℕ) → IsAnchor a → IsAnchor (popped share a (link_of prefix))
+popped-tag share a prefix fits = record { avail = omega arith; count = omega (arith, fits.count); tag = omega arith }
+
+pop-goes :
+    (w d e : ℕ) (share : Share) (a : AnchorFields) (prefix : ℕ) → IsAnchor a → tag_in w + 1 < 2 ^ TAG_BITS → e ≡ d
+    → tag_in (if w == anchor_word a then anchor_word (popped share a (link_of prefix)) else w)
+    ≡ tag_in w + one_if ((e == d) && (w == anchor_word a))
+pop-goes w d e share a prefix fits room same =
+    elim (cases_eq w (anchor_word a)) [
+      | inl is ↦
+          let before : tag_in w ≡ a.tag = ap tag_in is ∙ word-tag a fits in
+          let after : tag_in (anchor_word (popped share a (link_of prefix))) ≡ (a.tag + 1) % 2 ^ TAG_BITS =
+          word-tag (popped share a (link_of prefix)) (popped-tag share a prefix fits) in
+          rw (eq-eqb e d same, eq-eqb w (anchor_word a) is) (omega (arith, room, before, after))
+      | inr ne ↦ rw (eq-eqb e d same, ne_eqb w (anchor_word a) ne) (omega arith)
+    ]
+
+-- in a superblock: whoever stores an anchor keeps the descriptor on its way
+tag-block :
+    (g : Geometry) (who d w : ℕ) (p : BlockPoint) → FitsBlock g who p → tag_in w + 1 < 2 ^ TAG_BITS
+    → name_of (plan_block_of p) ≡ name.Anchor d
+    → TagGoes (plan_block_of p) (pops_block d p) w ⊎ (1 ≤ kept_among on_its_way d (block_holds p).kept)
+tag-block g who d w (block.PopBlock at share a prefix) fits room is =
+    inl (pop-goes w d at.desc share a prefix fits.anchor.fits room (ap anchor_number is))
+tag-block g who d w (block.ReturnCredits at i more a) fits room is =
+    inl (tag-kept w a (returned more a) fits.2.fits (returned-tag more a fits.2.fits) refl)
+tag-block g who d w (block.PushBlock at i a stored heap) fits room is =
+    let new = pushed-tag at.seat.class i a fits.anchor.fits in
+    inl (tag-kept w a (pushed at.seat.class i a) fits.anchor.fits new.0 new.1)
+tag-block g who d w (block.StoreAnchor at) fits room is = inr (rw (eq-eqb at.desc d (ap anchor_number is)) (omega arith))
+tag-block g who d w (block.LoadAnchor at share) fits room is = inl (omega arith)
+tag-block g who d w (block.LoadReturn at i more) fits room is = inl (omega arith)
+tag-block g who d w (block.LoadPushAnchor at i stored) fits room is = inl (omega arith)
+tag-block g who d w p fits room is = absurd (cc)
+
+-- at a stack
+not-head : (s : SeatFields) (pile : Pile) (d : ℕ) → head_name s pile ≡ name.Anchor d → ⊥
+not-head s Frames d is = cc
+not-head s Partials d is = cc
+
+not-next : (pile : Pile) (i d : ℕ) → next_name pile i ≡ name.Anchor d → ⊥
+not-next Frames i d is = cc
+not-next Partials i d is = cc
+
+not-stack : (p : StackPoint) (d : ℕ) → name_of (plan_stack_of p) ≡ name.Anchor d → ⊥
+not-stack p d is = grind (arith, not-head, not-next, is)
+
+-- at the descriptors, the hazard words, a large block or a shelf
+not-desc : (p : DescPoint) (d : ℕ) → name_of (plan_desc_of p) ≡ name.Anchor d → ⊥
+not-desc p d is = grind (arith, is)
+
+not-large : (p : LargePoint) (d : ℕ) → name_of (plan_large_of p) ≡ name.Anchor d → ⊥
+not-large p d is = grind (arith, is)
+
+-- at a partial superblock
+tag-partial :
+    (g : Geometry) (who d w : ℕ) (p : PartialPoint) → FitsPartial g who p → name_of (plan_partial_of p) ≡ name.Anchor d
+    → TagGoes (plan_partial_of p) false w
+tag-partial g who d w (partial.Grant at a) fits is = tag-kept w a (granted a) fits.1.fits (granted-tag a fits.1.fits) refl
+tag-partial g who d w (partial.LoadGrantAnchor at) fits is = omega arith
+tag-partial g who d w (partial.LoadListedAnchor s k) fits is = omega arith
+tag-partial g who d w p fits is = absurd (cc)
+
+-- at each point
+pub tag-point :
+    (g : Geometry) (who d w : ℕ) (p : Point) → FitsPoint g who p → tag_in w + 1 < 2 ^ TAG_BITS → name_of (plan_point_of p) ≡ name.Anchor d
+    → TagGoes (plan_point_of p) (pops_at d p) w ⊎ (1 ≤ kept_among on_its_way d (holds_of p).kept)
+unfolding plan_point_of holds_of
+tag-point g who d w point.Idle fits room is = absurd (cc)
+tag-point g who d w (point.Block p o) fits room is = tag-block g who d w p fits.point room is
+tag-point g who d w (point.Stack p o) fits room is = absurd (not-stack p d is)
+tag-point g who d w (point.Desc p o) fits room is = absurd (not-desc p d is)
+tag-point g who d w (point.Partial p o) fits room is = inl (tag-partial g who d w p fits.point is)
+tag-point g who d w (point.Large p o) fits room is = absurd (not-large p d is)
+
+-- a pop is at the anchor of what it pops from
+pops-block : (d : ℕ) (p : BlockPoint) → name_of (plan_block_of p) ≡ name.Anchor d ⊎ (pops_block d p ≡ false)
+pops-block d (block.PopBlock at share a prefix) =
+    elim (cases_eq at.desc d) [ inl is ↦ inl (ap name.Anchor is) | inr ne ↦ inr (ne_eqb at.desc d ne) ]
+pops-block d p = inr refl
+
+pub pops-point : (d : ℕ) (p : Point) → (name_of (plan_point_of p) ≡ name.Anchor d) ⊎ (pops_at d p ≡ false)
+unfolding plan_point_of
+pops-point d (point.Block p o) = pops-block d p
+pops-point d p = inr refl

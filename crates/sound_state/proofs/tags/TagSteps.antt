@@ -1,0 +1,59 @@
+-- What a step does to the tag of a superblock.
+use Rattle.std.proofs.Common.{ℕ, ◌≡◌, ◌≢◌, ◌<◌, ◌+◌, refl, arith, ap, sym, inl, inr, ◌∙◌}
+use Rattle.std.specs.Prelude.{◌&&◌}
+use Rattle.heap_geometry.specs.declared.geometry.Geometry.{Geometry}
+use Rattle.packed_words.specs.Anchor.{anchor_of}
+use Rattle.word_plan.specs.declared.name.WordName.TheVariants as name
+use Rattle.word_plan.specs.Actions.{after_action, is_won}
+use Rattle.word_plan.proofs.NameLemmas.{cases_name}
+use Rattle.errand_steps.specs.Points.{plan_point_of}
+use Rattle.errand_steps.specs.Steps.{State, Step, name_at}
+use Rattle.sound_state.specs.Consequences.{IsBound}
+use Rattle.sound_state.specs.Sound.{IsSoundWithoutCounts}
+use Rattle.sound_state.specs.Superblocks.{anchor_for}
+use Rattle.sound_state.specs.Tags.{pops_at, pops_from}
+use Rattle.sound_state.specs.Turns.{one_if}
+use Rattle.sound_state.proofs.shared.BoundLemmas.{bound-with}
+use Rattle.sound_state.proofs.shared.PointLemmas.{fits-now}
+use Rattle.sound_state.proofs.shared.TagLemmas.{anchor-tags-below}
+use Rattle.sound_state.proofs.stores.InfoPlaces.{way-unplaced}
+use Rattle.sound_state.proofs.tags.TagPoints.{tag-point, pops-point}
+
+-- a step at another word leaves the anchor, and pops nothing of the superblock
+elsewhere-tag :
+    (s : State) (who : ℕ) (s' : State) (d : ℕ) → Step s who s' → name.Anchor d ≢ name_at s who
+    → (anchor_for s' d).tag ≡ (anchor_for s d).tag + pops_from s who d
+elsewhere-tag s who s' d step differ =
+    let same : (anchor_for s' d).tag ≡ (anchor_for s d).tag = ap (λ w. (anchor_of w).tag) (step.word.elsewhere (name.Anchor d) differ) in
+    elim (pops-point d (s.errand who).point) [
+      | inl is ↦ absurd (differ (sym is))
+      | inr none ↦ rw none (omega (arith, same))
+    ]
+
+-- one at the anchor
+here-tag :
+    (g : Geometry) (s : State) (who : ℕ) (s' : State) (d : ℕ) → IsSoundWithoutCounts g s → who < g.callers → Step s who s' → IsBound g s d
+    → name_at s who ≡ name.Anchor d → (anchor_for s' d).tag ≡ (anchor_for s d).tag + pops_from s who d
+here-tag g s who s' d sound has step bound is =
+    let p = (s.errand who).point in
+    let a = plan_point_of p in
+    let l = sound.parts.0 in
+    let old = sound.parts.1 in
+    let here : s'.word (name.Anchor d) ≡ after_action a (s.word (name.Anchor d)) =
+    ap s'.word (sym is) ∙ step.word.here ∙ ap (λ n. after_action a (s.word n)) is in
+    elim (tag-point g who d (s.word (name.Anchor d)) p (fits-now g s who p sound has refl) (anchor-tags-below g s sound d bound.exists) is) [
+      | inl goes ↦
+          ap (λ w. (anchor_of w).tag) here ∙ goes
+          ∙ ap (λ n. (anchor_for s d).tag + one_if (pops_at d p && is_won a (s.word n))) (sym is)
+      | inr way ↦ absurd ((way-unplaced g s l who d old has bound.exists way).bound (bound-with g s l d old bound))
+    ]
+
+-- any step
+pub tag-stepped :
+    (g : Geometry) (s : State) (who : ℕ) (s' : State) (d : ℕ) → IsSoundWithoutCounts g s → who < g.callers → Step s who s' → IsBound g s d
+    → (anchor_for s' d).tag ≡ (anchor_for s d).tag + pops_from s who d
+tag-stepped g s who s' d sound has step bound =
+    elim (cases_name (name.Anchor d) (name_at s who)) [
+      | inl is ↦ here-tag g s who s' d sound has step bound (sym is)
+      | inr differ ↦ elsewhere-tag s who s' d step differ
+    ]
