@@ -8,6 +8,7 @@ pub mod counts
 pub mod descriptors
 pub mod discards
 pub mod endings
+pub mod guards
 pub mod hazards
 pub mod installs
 pub mod large

@@ -3,6 +3,7 @@ pub mod Consequences
 pub mod Contention
 pub mod Expectations
 pub mod Frames
+pub mod Guarding
 pub mod Guards
 pub mod Holdings
 pub mod Installs

@@ -12,6 +12,7 @@ ghost use Rattle.sound_state.specs.Sound.{IsSound, IsSoundWithoutCounts, TellsCo
 
 pub mod consequences;
 pub mod endings;
+pub mod guards;
 pub mod tags;
 pub mod wins;
 

@@ -1,0 +1,4 @@
+pub mod GuardNexts
+pub mod GuardRuns
+pub mod GuardSettles
+pub mod GuardSteps

@@ -1,0 +1,215 @@
+-- What follows each point: what a scan has noted, what is pushed, and who stores to a hazard word.
+use Rattle.std.proofs.Common.{ℕ, Bool, true, false, Option, Some, None, ◌≡◌, ◌<◌, ◌+◌, List, refl, arith, ap, sym, inl, inr, ◌∙◌, length, length-set, get_or-set_other}
+use Rattle.std.specs.Prelude.{◌⊎◌, slice_index, slice_set, nat_lt}
+use Rattle.std.proofs.lemmas.Bool.{cases_eq, cond_both, true≢false, ltb-false}
+use Rattle.std.proofs.lemmas.Option.{none-some}
+use Rattle.std.proofs.lemmas.Grind.{get_or-set_at}
+use Rattle.heap_geometry.specs.declared.geometry.Geometry.{Geometry}
+use Rattle.heap_geometry.specs.Geometry.{IsChecked}
+use Rattle.word_plan.specs.declared.action.Action.{Action}
+use Rattle.word_plan.specs.declared.action.Action.TheVariants.{Store}
+use Rattle.word_plan.specs.declared.action.Found.{Found}
+use Rattle.word_plan.specs.declared.name.WordName.TheVariants as name
+use Rattle.word_plan.specs.Actions.{name_of, after_action}
+use Rattle.word_plan.specs.Seats.{SeatFields}
+use Rattle.superblock_parts.specs.declared.point.BlockPoint.{BlockPoint}
+use Rattle.superblock_parts.specs.declared.point.BlockPoint.TheVariants as block
+use Rattle.superblock_parts.specs.Fits.{FitsBlock}
+use Rattle.superblock_parts.specs.Points.{settle_block_of, plan_block_of}
+use Rattle.stack_parts.specs.declared.point.Pile.{Pile}
+use Rattle.stack_parts.specs.declared.point.Pile.TheVariants.{Frames, Partials}
+use Rattle.stack_parts.specs.declared.point.StackPoint.{StackPoint}
+use Rattle.stack_parts.specs.Piles.{head_name, next_name}
+use Rattle.stack_parts.specs.Points.{settle_stack_of, plan_stack_of}
+use Rattle.hazard_parts.specs.declared.point.DescPoint.{DescPoint}
+use Rattle.hazard_parts.specs.declared.point.DescPoint.TheVariants as desc
+use Rattle.hazard_parts.specs.Fits.{FitsDesc}
+use Rattle.hazard_parts.specs.Points.{settle_desc_of, plan_desc_of, after_hazard}
+use Rattle.partial_parts.specs.declared.point.PartialPoint.{PartialPoint}
+use Rattle.partial_parts.specs.Points.{settle_partial_of, plan_partial_of}
+use Rattle.large_parts.specs.declared.point.LargePoint.{LargePoint}
+use Rattle.large_parts.specs.Points.{settle_large_of, plan_large_of}
+use Rattle.errand_steps.specs.declared.onward.Onward.{Onward}
+use Rattle.errand_steps.specs.declared.next.Next.{Next}
+use Rattle.errand_steps.specs.declared.next.Next.TheVariants.{At, End, Turn, Retire, Pick, Unlist}
+use Rattle.errand_steps.specs.declared.point.Point.{Point}
+use Rattle.errand_steps.specs.declared.point.Point.TheVariants as point
+use Rattle.errand_steps.specs.Fits.{FitsPoint, pushed_by, pushed_by_desc}
+use Rattle.errand_steps.specs.Nexts.{next_of, enter_block, enter_stack, enter_desc, enter_partial, enter_large}
+use Rattle.errand_steps.specs.Points.{plan_point_of}
+use Rattle.sound_state.specs.Guards.{passed_by, held_by, passed_by_desc, held_by_desc}
+use Rattle.sound_state.proofs.hazards.HazardLemmas.{hazard_caller}
+
+-- what is pushed where the caller goes on, but for what a scan picks
+abbrev pub next_pushed : Next → Option ℕ
+next_pushed (At p) = pushed_by p
+next_pushed n = None
+
+pushed-block : (p : BlockPoint) (o : Onward) → next_pushed (enter_block p o) ≡ None
+pushed-block p o = grind (arith)
+
+pushed-stack : (p : StackPoint) (o : Onward) → next_pushed (enter_stack p o) ≡ None
+pushed-stack p o = grind (arith)
+
+pushed-partial : (p : PartialPoint) (o : Onward) → next_pushed (enter_partial p o) ≡ None
+pushed-partial p o = grind (arith)
+
+pushed-large : (p : LargePoint) (o : Onward) → next_pushed (enter_large p o) ≡ None
+pushed-large p o = grind (arith)
+
+pushed-desc : (p : DescPoint) (x : Found) (o : Onward) (d : ℕ) → next_pushed (enter_desc (settle_desc_of p x) o) ≡ Some d → pushed_by_desc p ≡ Some d
+pushed-desc p x o d is = grind (arith, is)
+
+-- whatever is pushed then was pushed before
+pub pushed-next : (p : Point) (x : Found) (d : ℕ) → next_pushed (next_of p x) ≡ Some d → pushed_by p ≡ Some d
+unfolding next_of
+pushed-next point.Idle x d is = is
+pushed-next (point.Block p o) x d is = absurd (none-some d (sym (pushed-block (settle_block_of p x) o) ∙ is))
+pushed-next (point.Stack p o) x d is = absurd (none-some d (sym (pushed-stack (settle_stack_of p x) o) ∙ is))
+pushed-next (point.Desc p o) x d is = pushed-desc p x o d is
+pushed-next (point.Partial p o) x d is = absurd (none-some d (sym (pushed-partial (settle_partial_of p x) o) ∙ is))
+pushed-next (point.Large p o) x d is = absurd (none-some d (sym (pushed-large (settle_large_of p x) o) ∙ is))
+
+-- whether a scan goes on or is over
+abbrev reads : Next → Bool
+reads (At p) = nat_lt 0 (passed_by p)
+reads (Pick s held o) = true
+reads n = false
+
+reads-block : (p : BlockPoint) (o : Onward) → reads (enter_block p o) ≡ false
+reads-block p o = grind (arith)
+
+reads-stack : (p : StackPoint) (o : Onward) → reads (enter_stack p o) ≡ false
+reads-stack p o = grind (arith)
+
+reads-partial : (p : PartialPoint) (o : Onward) → reads (enter_partial p o) ≡ false
+reads-partial p o = grind (arith)
+
+reads-large : (p : LargePoint) (o : Onward) → reads (enter_large p o) ≡ false
+reads-large p o = grind (arith)
+
+-- whether hazard words are read at the point, or all are read
+abbrev scans : DescPoint → Bool
+scans (desc.ReadHazard s held at) = true
+scans (desc.Scanned s held) = true
+scans p = false
+
+reads-desc : (p : DescPoint) (x : Found) (o : Onward) → scans p ≡ false → reads (enter_desc (settle_desc_of p x) o) ≡ false
+reads-desc p x o is = grind (arith, is)
+
+-- where the caller goes on, it has noted d + 1 as the hazard word of k, where it has passed that one; and where its scan is over
+abbrev pub NextNotes : ℕ → ℕ → Next → Type 0
+NextNotes k d (At p) = k < passed_by p → slice_index (held_by p) k ≡ d + 1
+NextNotes k d (Pick s held o) = (k < length held) × (slice_index held k ≡ d + 1)
+NextNotes k d n = Unit {0}
+
+unread-notes : (k d : ℕ) (n : Next) → reads n ≡ false → NextNotes k d n
+unread-notes k d (At p) none = λ below. let bad : ⊥ = omega (arith, below, ltb-false 0 (passed_by p) none) in absurd bad
+unread-notes k d (Pick s held o) none = absurd (true≢false none)
+unread-notes k d (End r) none = tt
+unread-notes k d (Turn s need) none = tt
+unread-notes k d (Retire s e o) none = tt
+unread-notes k d (Unlist s e o) none = tt
+
+-- the words that were noted, with the one that is read
+word-notes :
+    (held : List ℕ) (i k d v : ℕ) → i < length held → (k < i → slice_index held k ≡ d + 1) → (k ≡ i → v ≡ d + 1) → k < i + 1
+    → slice_index (slice_set held i v) k ≡ d + 1
+word-notes held i k d v room noted reads below =
+    elim (cases_eq k i) [
+      | inl same ↦ get_or-set_at held i k v 0 same room ∙ reads same
+      | inr differ ↦ get_or-set_other held i k v 0 differ ∙ noted (omega (arith, below, differ))
+    ]
+
+-- where a hazard word is read
+read-notes :
+    (g : Geometry) (who k d : ℕ) (s : SeatFields) (held : List ℕ) (i : ℕ) (o : Onward) (v : ℕ) → IsChecked g → k < g.callers
+    → FitsDesc g who (desc.ReadHazard s held i) → (k < i → slice_index held k ≡ d + 1) → (k ≡ i → v ≡ d + 1)
+    → NextNotes k d (enter_desc (after_hazard s held i v) o)
+read-notes g who k d s held i o v checked has fits noted reads =
+    let room : i < length held = omega (arith, checked.callers.1, fits.0.words, fits.1) in
+    let all = ap (λ (h : Geometry). h.callers) fits.0.seat.geometry in
+    let notes = word-notes held i k d v room noted reads in
+    cond_both (nat_lt (i + 1) s.geometry.callers) (desc.ReadHazard s (slice_set held i v) (i + 1)) (desc.Scanned s (slice_set held i v))
+    (λ p. NextNotes k d (enter_desc p o)) (λ more below. notes below)
+    (λ last. (
+      omega (arith, has, checked.callers.1, fits.0.words, length-set held i v),
+      notes (omega (arith, has, all, ltb-false (i + 1) s.geometry.callers last)),
+    ))
+
+-- at the descriptors or the hazard words
+desc-notes :
+    (g : Geometry) (who k d : ℕ) (p : DescPoint) (o : Onward) (x : Found) → IsChecked g → k < g.callers → FitsPoint g who (point.Desc p o)
+    → (k < passed_by_desc p → slice_index (held_by_desc p) k ≡ d + 1) → (name_of (plan_desc_of p) ≡ name.Hazard k → x.value ≡ d + 1)
+    → NextNotes k d (enter_desc (settle_desc_of p x) o)
+desc-notes g who k d (desc.ReadHazard s held i) o x checked has fits noted reads =
+    read-notes g who k d s held i o x.value checked has fits.point noted (λ same. reads (ap name.Hazard (sym same)))
+desc-notes g who k d (desc.Scanned s held) o x checked has fits noted reads = absurd (true≢false fits.inside)
+desc-notes g who k d p o x checked has fits noted reads =
+    unread-notes k d (enter_desc (settle_desc_of p x) o) (reads-desc p x o refl)
+
+-- at each point: who has noted the word of k, or reads it now
+pub notes-next :
+    (g : Geometry) (who k d : ℕ) (p : Point) (x : Found) → IsChecked g → k < g.callers → FitsPoint g who p
+    → (k < passed_by p → slice_index (held_by p) k ≡ d + 1) → (name_of (plan_point_of p) ≡ name.Hazard k → x.value ≡ d + 1)
+    → NextNotes k d (next_of p x)
+unfolding next_of plan_point_of
+notes-next g who k d point.Idle x checked has fits noted reads = noted
+notes-next g who k d (point.Block p o) x checked has fits noted reads = unread-notes k d _ (reads-block (settle_block_of p x) o)
+notes-next g who k d (point.Stack p o) x checked has fits noted reads = unread-notes k d _ (reads-stack (settle_stack_of p x) o)
+notes-next g who k d (point.Desc p o) x checked has fits noted reads = desc-notes g who k d p o x checked has fits noted reads
+notes-next g who k d (point.Partial p o) x checked has fits noted reads = unread-notes k d _ (reads-partial (settle_partial_of p x) o)
+notes-next g who k d (point.Large p o) x checked has fits noted reads = unread-notes k d _ (reads-large (settle_large_of p x) o)
+
+-- an action at a hazard word leaves it, or is the store of the caller whose word it is
+abbrev pub MayStore : ℕ → ℕ → Action → ℕ → Type 0
+MayStore who k a w = (after_action a w ≡ w) ⊎ ((who ≡ k) × (new : ℕ) × (a ≡ Store (name.Hazard k) new))
+
+-- a store to the hazard word of the seat's caller is one of those
+own-store :
+    (who k i new w : ℕ) → i ≡ who → name.Hazard i ≡ name.Hazard k → MayStore who k (Store (name.Hazard i) new) w
+own-store who k i new w own is =
+    let same : i ≡ k = ap hazard_caller is in
+    inr (sym own ∙ same, new, ap (λ j. Store (name.Hazard j) new) same)
+
+store-block :
+    (g : Geometry) (who k w : ℕ) (p : BlockPoint) → FitsBlock g who p → name_of (plan_block_of p) ≡ name.Hazard k → MayStore who k (plan_block_of p) w
+store-block g who k w (block.StoreGuard at i a) fits is = own-store who k at.seat.caller (at.desc + 1) w fits.block.site.seat.caller is
+store-block g who k w p fits is = absurd (cc)
+
+store-desc :
+    (g : Geometry) (who k w : ℕ) (p : DescPoint) → FitsDesc g who p → name_of (plan_desc_of p) ≡ name.Hazard k → MayStore who k (plan_desc_of p) w
+store-desc g who k w (desc.StoreHazard s d) fits is = own-store who k s.caller (d + 1) w fits.seat.caller is
+store-desc g who k w (desc.ClearAfterPop s d) fits is = own-store who k s.caller 0 w fits.seat.caller is
+store-desc g who k w (desc.ClearHazard s) fits is = own-store who k s.caller 0 w fits.caller is
+store-desc g who k w (desc.ReadHazard s held i) fits is = inl refl
+store-desc g who k w p fits is = absurd (cc)
+
+-- no other part acts on a hazard word
+not-head : (s : SeatFields) (pile : Pile) (k : ℕ) → head_name s pile ≡ name.Hazard k → ⊥
+not-head s Frames k is = cc
+not-head s Partials k is = cc
+
+not-next : (pile : Pile) (i k : ℕ) → next_name pile i ≡ name.Hazard k → ⊥
+not-next Frames i k is = cc
+not-next Partials i k is = cc
+
+not-stack : (p : StackPoint) (k : ℕ) → name_of (plan_stack_of p) ≡ name.Hazard k → ⊥
+not-stack p k is = grind (arith, not-head, not-next, is)
+
+not-partial : (p : PartialPoint) (k : ℕ) → name_of (plan_partial_of p) ≡ name.Hazard k → ⊥
+not-partial p k is = grind (arith, is)
+
+not-large : (p : LargePoint) (k : ℕ) → name_of (plan_large_of p) ≡ name.Hazard k → ⊥
+not-large p k is = grind (arith, is)
+
+-- at each point
+pub may-store :
+    (g : Geometry) (who k w : ℕ) (p : Point) → FitsPoint g who p → name_of (plan_point_of p) ≡ name.Hazard k → MayStore who k (plan_point_of p) w
+unfolding plan_point_of
+may-store g who k w point.Idle fits is = absurd (cc)
+may-store g who k w (point.Block p o) fits is = store-block g who k w p fits.point is
+may-store g who k w (point.Stack p o) fits is = absurd (not-stack p k is)
+may-store g who k w (point.Desc p o) fits is = store-desc g who k w p fits.point is
+may-store g who k w (point.Partial p o) fits is = absurd (not-partial p k is)
+may-store g who k w (point.Large p o) fits is = absurd (not-large p k is)

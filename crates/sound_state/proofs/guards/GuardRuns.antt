@@ -1,0 +1,108 @@
+-- Moves of any callers in which a caller doesn't store to its own hazard word keep what it guards.
+use Rattle.std.proofs.Common.{ℕ, true, None, Some, ◌≡◌, ◌≢◌, ◌<◌, List, [], ◌∷◌, refl, arith, sym, subst, ◌∙◌}
+use Rattle.std.proofs.lemmas.Bool.{cond_both}
+use Rattle.std.proofs.lemmas.Option.{none-some}
+use Rattle.heap_geometry.specs.declared.geometry.Geometry.{Geometry}
+use Rattle.heap_geometry.specs.declared.need.Need.{Need}
+use Rattle.heap_geometry.specs.declared.need.Need.TheVariants.{Small, Large, TooLarge}
+use Rattle.heap_geometry.specs.Need.{need_of}
+use Rattle.errand_steps.specs.declared.point.Point.{Point}
+use Rattle.errand_steps.specs.Begins.{IsIdle, begins_alloc, alloc_begun, free_point, free_begun, write_begun, read_begun, put_begun, take_begun}
+use Rattle.errand_steps.specs.Errands.{ErrandFields, is_spent}
+use Rattle.errand_steps.specs.Fits.{pushed_by}
+use Rattle.errand_steps.specs.Points.{is_idle}
+use Rattle.errand_steps.specs.Steps.{State}
+use Rattle.sound_state.specs.Guarding.{IsGuardedBy, LeavesHazard, ReachesUnstored}
+use Rattle.sound_state.specs.Guards.{Guards, passed_by}
+use Rattle.sound_state.specs.Runs.{Call, alloc, free, write, read, put, take, begun_by, Begins, Move, begins, steps, Moved}
+use Rattle.sound_state.specs.Sound.{IsSoundWithoutCounts, with_errands}
+use Rattle.sound_state.proofs.guards.GuardSettles.{HasNoted}
+use Rattle.sound_state.proofs.guards.GuardSteps.{guarded-stepped}
+use Rattle.sound_state.proofs.shared.CallerLemmas.{each-other}
+use Rattle.sound_state.proofs.tags.TagRuns.{move-sound}
+
+-- the caller has the same list, pushes nothing and scans nothing
+record IsFresh (e e' : ErrandFields) : Type 0 where
+  pub retired : e'.retired ≡ e.retired
+  pub pushed : pushed_by e'.point ≡ None
+  pub passed : passed_by e'.point ≡ 0
+
+-- so it does where it is in no call
+idle-pushed : (p : Point) → is_idle p ≡ true → pushed_by p ≡ None
+idle-pushed p idle = grind (arith, idle)
+
+idle-passed : (p : Point) → is_idle p ≡ true → passed_by p ≡ 0
+idle-passed p idle = grind (arith, idle)
+
+idle-fresh : (e : ErrandFields) → IsIdle e → IsFresh e e
+idle-fresh e idle = record { retired = refl; pushed = idle-pushed e.point idle; passed = idle-passed e.point idle }
+
+-- and where it begins a call
+alloc-fresh : (e : ErrandFields) (words : ℕ) (n : Need) → IsIdle e → IsFresh e (begins_alloc e words n)
+alloc-fresh e words (Small class) idle =
+    cond_both (is_spent e) e _ (IsFresh e) (λ spent. idle-fresh e idle) (λ has. record { retired = refl; pushed = refl; passed = refl })
+alloc-fresh e words (Large units) idle = record { retired = refl; pushed = refl; passed = refl }
+alloc-fresh e words TooLarge idle = idle-fresh e idle
+
+free-fresh : (e : ErrandFields) (place : ℕ) (n : Need) → IsIdle e → IsFresh e (record e { point = free_point e place n })
+free-fresh e place (Small class) idle = record { retired = refl; pushed = refl; passed = refl }
+free-fresh e place (Large units) idle = record { retired = refl; pushed = refl; passed = refl }
+free-fresh e place TooLarge idle = idle-fresh e idle
+
+begun-fresh : (e : ErrandFields) (call : Call) → IsIdle e → IsFresh e (begun_by e call)
+unfolding alloc_begun free_begun write_begun read_begun put_begun take_begun
+begun-fresh e (alloc words) idle = alloc-fresh e words (need_of words) idle
+begun-fresh e (free place need) idle = free-fresh e place need idle
+begun-fresh e (write place need i value) idle = record { retired = refl; pushed = refl; passed = refl }
+begun-fresh e (read place need i) idle = record { retired = refl; pushed = refl; passed = refl }
+begun-fresh e (put place need shelf) idle = record { retired = refl; pushed = refl; passed = refl }
+begun-fresh e (take shelf) idle = record { retired = refl; pushed = refl; passed = refl }
+
+-- a call that begins keeps what is guarded
+guarded-begun :
+    (g : Geometry) (s : State) (who d other : ℕ) (call : Call) (s' : State) → IsGuardedBy g s who d → Begins s other call s' → IsGuardedBy g s' who d
+guarded-begun g s who d other call s' guarded b =
+    let fresh = begun-fresh (s.errand other) call b.idle in
+    let after : IsGuardedBy g (with_errands s b.errands) who d = record {
+      word = guarded.word;
+      pushed =
+          each-other g (λ i e. pushed_by e.point ≢ Some d) s.errand other (begun_by (s.errand other) call) b.errands b.moves
+          (λ is. none-some d (sym fresh.pushed ∙ is)) (λ i has differ. guarded.pushed i has);
+      passed =
+          each-other g (λ i e. HasNoted who d e) s.errand other (begun_by (s.errand other) call) b.errands b.moves
+          (λ listed below. let bad : ⊥ = omega (arith, below, fresh.passed) in absurd bad) (λ i has differ. guarded.passed i has);
+    } in
+    subst (λ t. IsGuardedBy g t who d) (sym b.after) after
+
+-- any such move does
+guarded-moved :
+    (g : Geometry) (s : State) (who d : ℕ) (move : Move) (s' : State) → IsSoundWithoutCounts g s → who < g.callers → LeavesHazard s who move
+    → IsGuardedBy g s who d → Moved g s move s' → IsGuardedBy g s' who d
+guarded-moved g s who d (begins other call) s' sound has leaves guarded moved = guarded-begun g s who d other call s' guarded moved.1
+guarded-moved g s who d (steps other) s' sound has leaves guarded moved =
+    guarded-stepped g s who d other s' sound has moved.0 leaves guarded moved.1
+
+pub guarded-reached :
+    (g : Geometry) (who d : ℕ) (s : State) (moves : List Move) (s' : State) → IsSoundWithoutCounts g s → who < g.callers → IsGuardedBy g s who d
+    → ReachesUnstored g who s moves s' → IsGuardedBy g s' who d
+guarded-reached g who d s [] s' sound has guarded reached = subst (λ t. IsGuardedBy g t who d) (sym reached) guarded
+guarded-reached g who d s (move ∷ rest) s' sound has guarded (next, leaves, moved, reached) =
+    guarded-reached g who d next rest s' (move-sound g s move next sound moved) has
+    (guarded-moved g s who d move next sound has leaves guarded moved) reached
+
+-- what a caller guards is guarded so
+pub guards-give : (g : Geometry) (s : State) (who d : ℕ) → IsSoundWithoutCounts g s → who < g.callers → Guards s who d → IsGuardedBy g s who d
+guards-give g s who d sound has guards =
+    let guarded = sound.parts.1.guarded in
+    record {
+      word = guards.word;
+      pushed = λ other has_other. guarded.pushed who other d has has_other guards;
+      passed = λ other has_other. guarded.passed who other d has has_other guards;
+    }
+
+-- and goes on to be
+pub guards-reached :
+    (g : Geometry) (who d : ℕ) (s : State) (moves : List Move) (s' : State) → IsSoundWithoutCounts g s → who < g.callers → Guards s who d
+    → ReachesUnstored g who s moves s' → IsGuardedBy g s' who d
+guards-reached g who d s moves s' sound has guards reached =
+    guarded-reached g who d s moves s' sound has (guards-give g s who d sound has guards) reached

@@ -1,0 +1,103 @@
+-- What a caller has noted and pushes after its step, whatever its retired list says.
+use Rattle.std.proofs.Common.{ℕ, Option, Some, None, ◌≡◌, ◌<◌, ◌+◌, List, refl, arith, sym, ◌∙◌, length}
+use Rattle.std.specs.Prelude.{◌≢◌, Contains, slice_index}
+use Rattle.std.proofs.lemmas.Bool.{cond_both}
+use Rattle.std.proofs.lemmas.List.{get_or_default}
+use Rattle.std.proofs.lemmas.Option.{none-some}
+use Rattle.word_plan.specs.declared.action.Found.{Found}
+use Rattle.word_plan.specs.Seats.{SeatFields}
+use Rattle.hazard_parts.specs.declared.point.DescPoint.TheVariants as desc
+use Rattle.hazard_parts.specs.Retired.{first_unheld}
+use Rattle.hazard_parts.proofs.PickLemmas.{some-listed, some-free}
+use Rattle.errand_steps.specs.declared.onward.Onward.{Onward}
+use Rattle.errand_steps.specs.declared.next.Next.{Next}
+use Rattle.errand_steps.specs.declared.next.Next.TheVariants.{At, End, Turn, Retire, Pick, Unlist}
+use Rattle.errand_steps.specs.declared.point.Point.{Point}
+use Rattle.errand_steps.specs.declared.point.Point.TheVariants as point
+use Rattle.errand_steps.specs.Errands.{ErrandFields, settle_of, course_of, after_list, after_turn, picked, turned, is_full, no_words, point_after, list_after}
+use Rattle.errand_steps.specs.Fits.{pushed_by}
+use Rattle.errand_steps.specs.Nexts.{next_of, resumed}
+use Rattle.sound_state.specs.Guards.{passed_by, held_by}
+use Rattle.sound_state.proofs.guards.GuardNexts.{NextNotes, next_pushed, pushed-next}
+
+-- a caller that has retired d has noted the word of k where it has passed it
+abbrev pub HasNoted : ℕ → ℕ → ErrandFields → Type 0
+HasNoted k d e = Contains e.retired d → k < passed_by e.point → slice_index (held_by e.point) k ≡ d + 1
+
+-- nothing is pushed at the point, and no scan has passed anything
+record IsBlank (p : Point) : Type 0 where
+  pub pushed : pushed_by p ≡ None
+  pub passed : passed_by p ≡ 0
+
+-- so it is where a call goes on after a retirement, where a turn begins, and where a scan does
+resumed-blank : (e : ErrandFields) (s : SeatFields) (o : Onward) → IsBlank (point_after (after_turn e (resumed s o)))
+resumed-blank e s o = record { pushed = grind (arith); passed = grind (arith) }
+
+turned-blank : (e : ErrandFields) (s : SeatFields) (need : ℕ) → IsBlank (point_after (turned e s need))
+turned-blank e s need = record { pushed = grind (arith); passed = grind (arith) }
+
+retired-blank : (e : ErrandFields) (s : SeatFields) (d : ℕ) (o : Onward) → IsBlank (point_after (after_turn e (after_list e (Retire s d o))))
+retired-blank e s d o =
+    cond_both (is_full e) (At (point.Desc (desc.ReadHazard s no_words 0) o)) (resumed s o)
+    (λ n. IsBlank (point_after (after_turn e n))) (λ full. record { pushed = refl; passed = refl }) (λ room. resumed-blank e s o)
+
+-- nobody that is picked has a hazard word's note
+picked-free :
+    (k d : ℕ) (held ds : List ℕ) → (Contains ds d → (k < length held) × (slice_index held k ≡ d + 1)) → first_unheld held ds ≡ Some d → ⊥
+picked-free k d held ds notes pick =
+    let noted = notes (some-listed held ds d pick) in
+    some-free held ds d pick (k, noted.0, get_or_default held k (d + 1) 0 noted.0 ∙ noted.1)
+
+-- what it has noted after the step
+module _ (k d : ℕ) (e : ErrandFields) (x : Found) where
+  -- the caller with this list at this point
+  abbrev NotedAt : List ℕ → Point → Type 0
+  NotedAt ds p = Contains ds d → k < passed_by p → slice_index (held_by p) k ≡ d + 1
+
+  blank-notes : (ds : List ℕ) (p : Point) → IsBlank p → NotedAt ds p
+  blank-notes ds p blank listed below = let bad : ⊥ = omega (arith, below, blank.passed) in absurd bad
+
+  pick-notes :
+      (s : SeatFields) (o : Onward) (r : Option ℕ) → HasNoted k d e → NotedAt e.retired (point_after (after_turn e (picked e s o r)))
+  pick-notes s o None noted = noted
+  pick-notes s o (Some f) noted = λ listed below. let bad : ⊥ = omega (arith, below) in absurd bad
+
+  list-notes :
+      (n : Next) → HasNoted k d e → (Contains e.retired d → NextNotes k d n)
+      → NotedAt (list_after e.retired n) (point_after (after_turn e (after_list e n)))
+  list-notes (At p) noted next = next
+  list-notes (End r) noted next = blank-notes e.retired point.Idle (record { pushed = refl; passed = refl })
+  list-notes (Turn s need) noted next = blank-notes _ _ (turned-blank e s need)
+  list-notes (Retire s f o) noted next = blank-notes _ _ (retired-blank e s f o)
+  list-notes (Pick s held o) noted next = pick-notes s o (first_unheld held e.retired) noted
+  list-notes (Unlist s f o) noted next = blank-notes _ _ (resumed-blank e s o)
+
+  pub settled-notes : HasNoted k d e → (Contains e.retired d → NextNotes k d (next_of e.point x)) → HasNoted k d (settle_of e x)
+  unfolding settle_of course_of
+  settled-notes noted next = list-notes (next_of e.point x) noted next
+
+  -- and what it pushes
+  pick-pushes :
+      (s : SeatFields) (held : List ℕ) (o : Onward) (r : Option ℕ) → first_unheld held e.retired ≡ r
+      → (Contains e.retired d → (k < length held) × (slice_index held k ≡ d + 1)) → pushed_by e.point ≢ Some d
+      → pushed_by (point_after (after_turn e (picked e s o r))) ≢ Some d
+  pick-pushes s held o None pick notes free = free
+  pick-pushes s held o (Some f) pick notes free = λ is. picked-free k d held e.retired notes (pick ∙ is)
+
+  blank-pushes : (p : Point) → IsBlank p → pushed_by p ≢ Some d
+  blank-pushes p blank is = none-some d (sym blank.pushed ∙ is)
+
+  list-pushes :
+      (n : Next) → pushed_by e.point ≢ Some d → next_pushed n ≢ Some d → (Contains e.retired d → NextNotes k d n)
+      → pushed_by (point_after (after_turn e (after_list e n))) ≢ Some d
+  list-pushes (At p) free none notes = none
+  list-pushes (End r) free none notes = none
+  list-pushes (Turn s need) free none notes = blank-pushes _ (turned-blank e s need)
+  list-pushes (Retire s f o) free none notes = blank-pushes _ (retired-blank e s f o)
+  list-pushes (Pick s held o) free none notes = pick-pushes s held o (first_unheld held e.retired) refl notes free
+  list-pushes (Unlist s f o) free none notes = blank-pushes _ (resumed-blank e s o)
+
+  pub settled-pushes :
+      pushed_by e.point ≢ Some d → (Contains e.retired d → NextNotes k d (next_of e.point x)) → pushed_by (settle_of e x).point ≢ Some d
+  unfolding settle_of course_of
+  settled-pushes free notes = list-pushes (next_of e.point x) free (λ is. free (pushed-next e.point x d is)) notes

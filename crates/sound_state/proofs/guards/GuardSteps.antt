@@ -1,0 +1,60 @@
+-- A step that isn't the caller's store to its own hazard word keeps what it guards.
+use Rattle.std.proofs.Common.{ℕ, Some, ◌≡◌, ◌≢◌, ◌<◌, refl, ap, sym, inl, inr, ◌∙◌}
+use Rattle.std.specs.Prelude.{Contains}
+use Rattle.heap_geometry.specs.declared.geometry.Geometry.{Geometry}
+use Rattle.word_plan.specs.declared.name.WordName.TheVariants as name
+use Rattle.word_plan.specs.Actions.{after_action}
+use Rattle.word_plan.proofs.NameLemmas.{cases_name}
+use Rattle.errand_steps.specs.Fits.{pushed_by}
+use Rattle.errand_steps.specs.Nexts.{next_of}
+use Rattle.errand_steps.specs.Points.{plan_point_of}
+use Rattle.errand_steps.specs.Steps.{State, Step, action_at, found_at, name_at}
+use Rattle.sound_state.specs.Guarding.{IsGuardedBy, StoresHazard}
+use Rattle.sound_state.specs.Sound.{IsSoundWithoutCounts}
+use Rattle.sound_state.proofs.guards.GuardNexts.{NextNotes, may-store, notes-next}
+use Rattle.sound_state.proofs.guards.GuardSettles.{HasNoted, settled-notes, settled-pushes}
+use Rattle.sound_state.proofs.shared.CallerLemmas.{each-other}
+use Rattle.sound_state.proofs.shared.PointLemmas.{fits-now}
+
+-- the hazard word stays
+word-stays :
+    (g : Geometry) (s : State) (who other : ℕ) (s' : State) → IsSoundWithoutCounts g s → other < g.callers
+    → (other ≡ who → StoresHazard s who → ⊥) → Step s other s' → s'.word (name.Hazard who) ≡ s.word (name.Hazard who)
+word-stays g s who other s' sound has leaves step =
+    elim (cases_name (name.Hazard who) (name_at s other)) [
+      | inr differ ↦ step.word.elsewhere (name.Hazard who) differ
+      | inl is ↦
+          let p = (s.errand other).point in
+          let here : s'.word (name.Hazard who) ≡ after_action (plan_point_of p) (s.word (name.Hazard who)) =
+          ap s'.word is ∙ step.word.here ∙ ap (λ n. after_action (plan_point_of p) (s.word n)) (sym is) in
+          elim (may-store g other who (s.word (name.Hazard who)) p (fits-now g s other p sound has refl) (sym is)) [
+            | inl same ↦ here ∙ same
+            | inr stores ↦ absurd (leaves stores.0 (stores.1, ap (λ i. action_at s i) (sym stores.0) ∙ stores.2))
+          ]
+    ]
+
+-- what the caller that makes the step has noted where it goes on
+step-notes :
+    (g : Geometry) (s : State) (who d other : ℕ) → IsSoundWithoutCounts g s → who < g.callers → other < g.callers → IsGuardedBy g s who d
+    → Contains (s.errand other).retired d → NextNotes who d (next_of (s.errand other).point (found_at s other))
+step-notes g s who d other sound has has_other guarded listed =
+    let p = (s.errand other).point in
+    notes-next g other who d p (found_at s other) sound.checked has (fits-now g s other p sound has_other refl)
+    (guarded.passed other has_other listed) (λ is. ap s.word is ∙ guarded.word)
+
+pub guarded-stepped :
+    (g : Geometry) (s : State) (who d other : ℕ) (s' : State) → IsSoundWithoutCounts g s → who < g.callers → other < g.callers
+    → (other ≡ who → StoresHazard s who → ⊥) → IsGuardedBy g s who d → Step s other s' → IsGuardedBy g s' who d
+guarded-stepped g s who d other s' sound has has_other leaves guarded step =
+    let e = s.errand other in
+    let x = found_at s other in
+    let notes = step-notes g s who d other sound has has_other guarded in
+    record {
+      word = word-stays g s who other s' sound has_other leaves step ∙ guarded.word;
+      pushed =
+          each-other g (λ i e. pushed_by e.point ≢ Some d) s.errand other _ s'.errand step.errand
+          (settled-pushes who d e x (guarded.pushed other has_other) notes) (λ i has_i differ. guarded.pushed i has_i);
+      passed =
+          each-other g (λ i e. HasNoted who d e) s.errand other _ s'.errand step.errand
+          (settled-notes who d e x (guarded.passed other has_other) notes) (λ i has_i differ. guarded.passed i has_i);
+    }

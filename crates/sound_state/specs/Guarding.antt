@@ -1,0 +1,32 @@
+-- How long a guard lasts.
+use Rattle.std.specs.Prelude.{ℕ, ◌≡◌, ◌≢◌, ◌<◌, ◌+◌, Some, List, [], ◌∷◌, Contains, slice_index}
+use Rattle.heap_geometry.specs.declared.geometry.Geometry.{Geometry}
+use Rattle.word_plan.specs.declared.action.Action.TheVariants.{Store}
+use Rattle.word_plan.specs.declared.name.WordName.TheVariants as name
+use Rattle.errand_steps.specs.Fits.{pushed_by}
+use Rattle.errand_steps.specs.Steps.{State, action_at}
+use Rattle.sound_state.specs.Guards.{passed_by, held_by}
+use Rattle.sound_state.specs.Runs.{Move, begins, steps, Moved}
+
+-- the caller's hazard word names the descriptor; nobody is about to push it; and whoever has retired it and has passed that word in a scan has noted it
+pub record IsGuardedBy (g : Geometry) (s : State) (who d : ℕ) : Type 0 where
+  pub word : s.word (name.Hazard who) ≡ d + 1
+  pub pushed : (other : ℕ) → other < g.callers → pushed_by (s.errand other).point ≢ Some d
+  pub passed :
+      (other : ℕ) → other < g.callers → Contains (s.errand other).retired d → who < passed_by (s.errand other).point
+      → slice_index (held_by (s.errand other).point) who ≡ d + 1
+
+-- the caller's next step stores to its own hazard word
+abbrev pub StoresHazard : State → ℕ → Type 0
+StoresHazard s who = (new : ℕ) × (action_at s who ≡ Store (name.Hazard who) new)
+
+-- the move isn't such a step of this caller
+abbrev pub LeavesHazard : State → ℕ → Move → Type 0
+LeavesHazard s who (begins other call) = Unit {0}
+LeavesHazard s who (steps other) = other ≡ who → StoresHazard s who → ⊥
+
+-- these moves of any callers lead from one state to the other; in none of them does this caller store to its own hazard word
+abbrev pub ReachesUnstored : Geometry → ℕ → State → List Move → State → Type 0
+ReachesUnstored g who s [] s' = s' ≡ s
+ReachesUnstored g who s (move ∷ rest) s' =
+    (next : State) × LeavesHazard s who move × Moved g s move next × ReachesUnstored g who next rest s'
