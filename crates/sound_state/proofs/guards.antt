@@ -1,3 +1,5 @@
+pub mod AvailPoints
+pub mod AvailSteps
 pub mod GuardNexts
 pub mod GuardRuns
 pub mod GuardSettles

@@ -3,9 +3,11 @@ use Rattle.std.specs.Prelude.{ℕ, ◌≡◌, ◌≢◌, ◌<◌, ◌+◌, Some,
 use Rattle.heap_geometry.specs.declared.geometry.Geometry.{Geometry}
 use Rattle.word_plan.specs.declared.action.Action.TheVariants.{Store}
 use Rattle.word_plan.specs.declared.name.WordName.TheVariants as name
+use Rattle.superblock_parts.specs.Chains.{occurs}
 use Rattle.errand_steps.specs.Fits.{pushed_by}
 use Rattle.errand_steps.specs.Steps.{State, action_at}
 use Rattle.sound_state.specs.Guards.{passed_by, held_by}
+use Rattle.sound_state.specs.Lists.{Lists, IsListed}
 use Rattle.sound_state.specs.Runs.{Move, begins, steps, Moved}
 
 -- the caller's hazard word names the descriptor; nobody is about to push it; and whoever has retired it and has passed that word in a scan has noted it
@@ -15,6 +17,12 @@ pub record IsGuardedBy (g : Geometry) (s : State) (who d : ℕ) : Type 0 where
   pub passed :
       (other : ℕ) → other < g.callers → Contains (s.errand other).retired d → who < passed_by (s.errand other).point
       → slice_index (held_by (s.errand other).point) who ≡ d + 1
+
+-- the descriptor is on the available stack; the lists are those that the heads and the next words make
+pub record IsAvailable (g : Geometry) (s : State) (d : ℕ) : Type 0 where
+  pub lists : Lists
+  pub listed : IsListed g s.word lists
+  pub here : 0 < occurs d lists.available
 
 -- the caller's next step stores to its own hazard word
 abbrev pub StoresHazard : State → ℕ → Type 0

@@ -34,7 +34,7 @@ use Rattle.sound_state.proofs.shared.WeightSums.{words-least, words-some, caller
 use Rattle.sound_state.proofs.shared.SumLemmas.{sum-none, sum-plus, sum-least}
 
 -- what occurs in a list is as all of the list are
-occurring-all : (P : ℕ → Type 0) (d : ℕ) (xs : List ℕ) → All P xs → 1 ≤ occurs d xs → P d
+pub occurring-all : (P : ℕ → Type 0) (d : ℕ) (xs : List ℕ) → All P xs → 1 ≤ occurs d xs → P d
 occurring-all P d [] all some = absurd (omega (arith, some))
 occurring-all P d (x ∷ xs) all some =
     elim (cases_eq x d) [

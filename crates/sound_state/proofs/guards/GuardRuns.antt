@@ -1,5 +1,5 @@
 -- Moves of any callers in which a caller doesn't store to its own hazard word keep what it guards.
-use Rattle.std.proofs.Common.{ℕ, true, None, Some, ◌≡◌, ◌≢◌, ◌<◌, List, [], ◌∷◌, refl, arith, sym, subst, ◌∙◌}
+use Rattle.std.proofs.Common.{ℕ, true, None, Some, ◌≡◌, ◌≢◌, ◌<◌, List, [], ◌∷◌, refl, arith, ap, sym, subst, ◌∙◌}
 use Rattle.std.proofs.lemmas.Bool.{cond_both}
 use Rattle.std.proofs.lemmas.Option.{none-some}
 use Rattle.heap_geometry.specs.declared.geometry.Geometry.{Geometry}
@@ -12,10 +12,12 @@ use Rattle.errand_steps.specs.Errands.{ErrandFields, is_spent}
 use Rattle.errand_steps.specs.Fits.{pushed_by}
 use Rattle.errand_steps.specs.Points.{is_idle}
 use Rattle.errand_steps.specs.Steps.{State}
-use Rattle.sound_state.specs.Guarding.{IsGuardedBy, LeavesHazard, ReachesUnstored}
+use Rattle.sound_state.specs.Guarding.{IsAvailable, IsGuardedBy, LeavesHazard, ReachesUnstored}
 use Rattle.sound_state.specs.Guards.{Guards, passed_by}
+use Rattle.sound_state.specs.Lists.{IsListed}
 use Rattle.sound_state.specs.Runs.{Call, alloc, free, write, read, put, take, begun_by, Begins, Move, begins, steps, Moved}
 use Rattle.sound_state.specs.Sound.{IsSoundWithoutCounts, with_errands}
+use Rattle.sound_state.proofs.guards.AvailSteps.{available-stepped}
 use Rattle.sound_state.proofs.guards.GuardSettles.{HasNoted}
 use Rattle.sound_state.proofs.guards.GuardSteps.{guarded-stepped}
 use Rattle.sound_state.proofs.shared.CallerLemmas.{each-other}
@@ -106,3 +108,23 @@ pub guards-reached :
     → ReachesUnstored g who s moves s' → IsGuardedBy g s' who d
 guards-reached g who d s moves s' sound has guards reached =
     guarded-reached g who d s moves s' sound has (guards-give g s who d sound has guards) reached
+
+-- a move makes available no descriptor that nobody pushes
+available-moved :
+    (g : Geometry) (s : State) (d : ℕ) (move : Move) (s' : State) → IsSoundWithoutCounts g s
+    → ((other : ℕ) → other < g.callers → pushed_by (s.errand other).point ≢ Some d) → Moved g s move s' → IsAvailable g s' d → IsAvailable g s d
+available-moved g s d (begins other call) s' sound unpushed moved there =
+    let same : s'.word ≡ s.word = ap (λ (t : State). t.word) moved.1.after in
+    record { lists = there.lists; listed = subst (λ w. IsListed g w there.lists) same there.listed; here = there.here }
+available-moved g s d (steps other) s' sound unpushed moved there =
+    available-stepped g s other d s' sound moved.0 moved.1 (unpushed other moved.0) there
+
+-- so a guarded descriptor does not go back to the available ones
+pub unavailable-reached :
+    (g : Geometry) (who d : ℕ) (s : State) (moves : List Move) (s' : State) → IsSoundWithoutCounts g s → who < g.callers → IsGuardedBy g s who d
+    → ReachesUnstored g who s moves s' → IsAvailable g s' d → IsAvailable g s d
+unavailable-reached g who d s [] s' sound has guarded reached there = subst (λ t. IsAvailable g t d) reached there
+unavailable-reached g who d s (move ∷ rest) s' sound has guarded (next, leaves, moved, reached) there =
+    available-moved g s d move next sound guarded.pushed moved
+    (unavailable-reached g who d next rest s' (move-sound g s move next sound moved) has
+    (guarded-moved g s who d move next sound has leaves guarded moved) reached there)

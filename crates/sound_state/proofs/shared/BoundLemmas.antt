@@ -14,7 +14,7 @@ use Rattle.sound_state.specs.Superblocks.{IsChained, anchor_for, errand_away, is
 use Rattle.sound_state.proofs.shared.TallyLemmas.{tally}
 
 -- a stack is one list
-stacked-same : (next : ℕ → ℕ) (top : ℕ) (xs ys : List ℕ) → Stacked next top xs → Stacked next top ys → xs ≡ ys
+pub stacked-same : (next : ℕ → ℕ) (top : ℕ) (xs ys : List ℕ) → Stacked next top xs → Stacked next top ys → xs ≡ ys
 stacked-same next top [] [] a b = refl
 stacked-same next top [] (y ∷ ys) a b = absurd (omega (arith, a, b.0))
 stacked-same next top (x ∷ xs) [] a b = absurd (omega (arith, a.0, b))

@@ -264,7 +264,7 @@ so-between g s l w i (owns_all place n) kept still so = owned-between s w i plac
 so-between g s l w i (looked c) kept still so = so
 
 -- a stack whose indexes have the same next words is the same list
-stacked-agrees :
+pub stacked-agrees :
     (next next' : ℕ → ℕ) (top : ℕ) (xs : List ℕ) → ((j : ℕ) → 0 < occurs j xs → next' j ≡ next j) → Stacked next top xs
     → Stacked next' top xs
 stacked-agrees next next' top [] same stack = stack

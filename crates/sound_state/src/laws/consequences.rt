@@ -25,10 +25,10 @@ ghost use Rattle.sound_state.specs.Superblocks.{IsChained, anchor_for, info_for,
 ghost use Rattle.sound_state.specs.Ties.{IsLive};
 ghost use Rattle.sound_state.specs.Turns.{is_small_alloc, is_small_free, turn_unframed, turns_of};
 
-/// Every tag has room for one more pop: the sum is not cut. For no anchor has been popped more often than
-/// small blocks were given; the frames no more often than turns were taken, less those that have popped
-/// none yet; and a class's list no more often than turns were taken, and three times for each small block
-/// that was freed.
+/// Every tag has room for one more pop: the sum is not cut. No anchor has been popped more often than small
+/// blocks were given; the frames no more often than turns were taken, less those under way that have
+/// popped none yet; and a class's list no more often than turns were taken, and three times for each small
+/// block that was freed. All callers together take fewer than 2^42 turns.
 pub fn tags_stay_below()
     ensures anchors { (g : Geometry) (s : State) → IsSoundWithoutCounts g s
         → (d : ℕ) → d < descriptor_count g → (anchor_for s d).tag + 1 < 2 ^ TAG_BITS }

@@ -1,9 +1,15 @@
 //! Laws of the hazard words, and of the descriptors that they keep from being reused.
 
-ghost use Rattle.std.specs.Prelude.{ℕ, List, ◌<◌};
+ghost use Rattle.std.specs.Prelude.{ℕ, List, Some, ◌≡◌, ◌≢◌, ◌<◌};
 ghost use Rattle.heap_geometry.specs.declared.geometry.Geometry.{Geometry};
-ghost use Rattle.errand_steps.specs.Steps.{State};
-ghost use Rattle.sound_state.specs.Guarding.{IsGuardedBy, ReachesUnstored};
+ghost use Rattle.word_plan.specs.declared.name.WordName.TheVariants as name;
+ghost use Rattle.word_plan.specs.Seats.{SeatFields};
+ghost use Rattle.hazard_parts.specs.declared.point.DescPoint.TheVariants.{PopDesc};
+ghost use Rattle.errand_steps.specs.declared.onward.Onward.{Onward};
+ghost use Rattle.errand_steps.specs.declared.point.Point.TheVariants as point;
+ghost use Rattle.errand_steps.specs.Fits.{pushed_by};
+ghost use Rattle.errand_steps.specs.Steps.{State, Step};
+ghost use Rattle.sound_state.specs.Guarding.{IsAvailable, IsGuardedBy, ReachesUnstored};
 ghost use Rattle.sound_state.specs.Guards.{Guards};
 ghost use Rattle.sound_state.specs.Runs.{Move};
 ghost use Rattle.sound_state.specs.Sound.{IsSoundWithoutCounts};
@@ -15,12 +21,31 @@ pub fn guarded_are_not_pushed()
         → IsGuardedBy g s who d }
 {}
 
+/// No descriptor goes back to the available ones but by a caller's push of it: one that is available after
+/// a step and that the caller was not about to push was available before.
+pub fn only_pushes_make_available()
+    ensures { (g : Geometry) (s : State) (who d : ℕ) (after : State) → IsSoundWithoutCounts g s → who < g.callers
+        → Step s who after → pushed_by (s.errand who).point ≢ Some d → IsAvailable g after d → IsAvailable g s d }
+{}
+
+/// As long as the descriptor that a caller is about to pop is available, the one below it is the one that
+/// the caller noted: so a pop that is won leaves the others on the stack.
+pub fn what_lies_below_is_noted()
+    ensures { (g : Geometry) (s : State) (who d next : ℕ) (seat : SeatFields) (o : Onward) → IsSoundWithoutCounts g s
+        → who < g.callers → (s.errand who).point ≡ point.Desc (PopDesc seat d next) o → IsAvailable g s d
+        → s.word (name.Next d) ≡ next }
+{}
+
 /// A guard lasts until its caller stores to its own hazard word again, whatever calls begin and whatever
 /// steps are made, by other callers or by this one: also where the caller has lost the exchange for which
-/// it guarded the descriptor, and goes on with another one.
+/// it guarded the descriptor, and goes on with another one. So a guarded descriptor does not go back to the
+/// available ones.
 pub fn guards_last()
     ensures guarded { (g : Geometry) (who d : ℕ) (s : State) (moves : List Move) (after : State) → IsSoundWithoutCounts g s
         → who < g.callers → Guards s who d → ReachesUnstored g who s moves after → IsGuardedBy g after who d }
     ensures kept { (g : Geometry) (who d : ℕ) (s : State) (moves : List Move) (after : State) → IsSoundWithoutCounts g s
         → who < g.callers → IsGuardedBy g s who d → ReachesUnstored g who s moves after → IsGuardedBy g after who d }
+    ensures unavailable { (g : Geometry) (who d : ℕ) (s : State) (moves : List Move) (after : State) → IsSoundWithoutCounts g s
+        → who < g.callers → IsGuardedBy g s who d → ReachesUnstored g who s moves after
+        → IsAvailable g after d → IsAvailable g s d }
 {}

@@ -1,0 +1,157 @@
+-- The available descriptors gain only what a caller pushes.
+use Rattle.std.proofs.Common.{ℕ, Some, ◌≡◌, ◌≢◌, ◌<◌, List, [], ◌∷◌, refl, arith, ap, sym, subst, inl, inr, ◌∙◌}
+use Rattle.std.specs.Prelude.{◌==◌, Contains, IfSome}
+use Rattle.std.proofs.lemmas.Bool.{cond-false, ne_eqb}
+use Rattle.std.proofs.lemmas.List.Elements.{All-head}
+use Rattle.heap_geometry.specs.declared.geometry.Geometry.{Geometry}
+use Rattle.word_plan.specs.declared.name.WordName.{WordName}
+use Rattle.word_plan.specs.declared.name.WordName.TheVariants as name
+use Rattle.word_plan.specs.Actions.{after_action}
+use Rattle.word_plan.specs.Counts.{descriptor_count}
+use Rattle.word_plan.specs.Seats.{SeatFields}
+use Rattle.word_plan.proofs.NameLemmas.{cases_name}
+use Rattle.superblock_parts.specs.Chains.{occurs}
+use Rattle.superblock_parts.proofs.ChainLemmas.{occurs-here, occurs-more}
+use Rattle.stack_parts.specs.Stacks.{Stacked, next_in}
+use Rattle.stack_parts.specs.declared.point.Pile.TheVariants.{Partials}
+use Rattle.hazard_parts.specs.declared.point.DescPoint.TheVariants as desc
+use Rattle.errand_steps.specs.declared.onward.Onward.{Onward}
+use Rattle.errand_steps.specs.declared.point.Point.TheVariants as point
+use Rattle.errand_steps.specs.Fits.{pushed_by}
+use Rattle.errand_steps.specs.Points.{plan_point_of}
+use Rattle.errand_steps.specs.Steps.{State, Step, name_at}
+use Rattle.sound_state.specs.Guarding.{IsAvailable}
+use Rattle.sound_state.specs.Keepers.{errand_has}
+use Rattle.sound_state.specs.Lists.{Lists}
+use Rattle.sound_state.specs.Recalls.{IsSo, recalls_of, noted, says, looked}
+use Rattle.sound_state.specs.Sound.{IsSoundWithoutCounts, IsSoundWith}
+use Rattle.sound_state.specs.Sums.{callers_sum}
+use Rattle.sound_state.proofs.counts.PartUsedLemmas.{occurring-all}
+use Rattle.sound_state.proofs.guards.AvailPoints.{Pops, HeadGoes, head-point, next-point}
+use Rattle.sound_state.proofs.hazards.HazardLemmas.{contains-occurs}
+use Rattle.sound_state.proofs.shared.BoundLemmas.{stacked-same}
+use Rattle.sound_state.proofs.shared.PointLemmas.{so-at}
+use Rattle.sound_state.proofs.shared.SumLemmas.{term-sum}
+use Rattle.sound_state.proofs.stores.StoreFields.{stacked-agrees}
+
+-- what is available no caller has
+unavailable :
+    (g : Geometry) (s : State) (l : Lists) (who e : ℕ) → IsSoundWith g s l → who < g.callers → 0 < occurs e l.available
+    → errand_has e (s.errand who) ≡ 0
+unfolding callers_sum
+unavailable g s l who e old has on =
+    let exists : e < descriptor_count g = occurring-all (λ d. d < descriptor_count g) e l.available old.listed.available_exist on in
+    omega (arith, old.kept.once e exists, on, term-sum g.callers (λ i. errand_has e (s.errand i)) who has)
+
+-- so a step leaves the next words of what is available
+nexts-stay :
+    (g : Geometry) (s : State) (l : Lists) (who : ℕ) (s' : State) → IsSoundWith g s l → who < g.callers → Step s who s' → (e : ℕ)
+    → 0 < occurs e l.available → s'.word (name.Next e) ≡ s.word (name.Next e)
+nexts-stay g s l who s' old has step e on =
+    let p = (s.errand who).point in
+    let none = unavailable g s l who e old has on in
+    elim (cases_name (name.Next e) (name_at s who)) [
+      | inr differ ↦ step.word.elsewhere (name.Next e) differ
+      | inl is ↦
+          let here : s'.word (name.Next e) ≡ after_action (plan_point_of p) (s.word (name.Next e)) =
+          ap s'.word is ∙ step.word.here ∙ ap (λ n. after_action (plan_point_of p) (s.word n)) (sym is) in
+          elim (next-point e (s.word (name.Next e)) p (sym is)) [
+            | inl same ↦ here ∙ same
+            | inr held ↦
+                elim held [
+                  | inl pushes ↦
+                      let listed : Contains (s.errand who).retired e =
+                      subst (λ o. IfSome o (λ d. Contains (s.errand who).retired d)) pushes (old.errands who has).rule.pushed in
+                      let bad : ⊥ = omega (arith, none, contains-occurs (s.errand who).retired e listed) in absurd bad
+                  | inr keeps ↦ let bad : ⊥ = omega (arith, none, keeps) in absurd bad
+                ]
+          ]
+    ]
+
+-- what a pop that is won leaves is what it noted
+pub noted-below :
+    (g : Geometry) (s : State) (who d next : ℕ) (seat : SeatFields) (o : Onward) → IsSoundWithoutCounts g s → who < g.callers
+    → (s.errand who).point ≡ point.Desc (desc.PopDesc seat d next) o → IsAvailable g s d → s.word (name.Next d) ≡ next
+unfolding recalls_of
+noted-below g s who d next seat o sound has at there =
+    let l = sound.parts.0 in
+    let old = sound.parts.1 in
+    let so = so-at g s l who (point.Desc (desc.PopDesc seat d next) o) old has at in
+    let same : there.lists.available ≡ l.available =
+    stacked-same _ _ there.lists.available l.available there.listed.available old.listed.available in
+    All-head (IsSo g s l who) (noted d next) (looked seat.class ∷ []) so (subst (λ xs. 0 < occurs d xs) same there.here)
+
+-- the next word of what is pushed says the top that was read
+pushed-below :
+    (g : Geometry) (s : State) (l : Lists) (who d top : ℕ) (seat : SeatFields) (o : Onward) → IsSoundWith g s l → who < g.callers
+    → (s.errand who).point ≡ point.Desc (desc.PushDesc seat d top) o → s.word (name.Next d) ≡ top
+unfolding recalls_of
+pushed-below g s l who d top seat o old has at =
+    let so = so-at g s l who (point.Desc (desc.PushDesc seat d top) o) old has at in
+    (All-head (IsSo g s l who) (says (name.Next d) top) [] so).1
+
+-- after a pop the list is the rest of the one before it
+popped-gains :
+    (g : Geometry) (s : State) (l : Lists) (who d : ℕ) (words' : WordName → ℕ) (xs : List ℕ) → IsSoundWithoutCounts g s → IsSoundWith g s l
+    → who < g.callers → Pops (s.errand who).point (s.word name.DescHead) (words' name.DescHead)
+    → Stacked (next_in words' Partials) (s.word name.DescHead) xs → xs ≡ l.available → (ys : List ℕ)
+    → Stacked (next_in words' Partials) (words' name.DescHead) ys → ((e : ℕ) → 0 < occurs e xs → words' (name.Next e) ≡ s.word (name.Next e))
+    → 0 < occurs d ys → 0 < occurs d xs
+popped-gains g s l who d words' [] sound old has pop stack is ys after still on = absurd (omega (arith, stack, pop.before))
+popped-gains g s l who d words' (x ∷ xs) sound old has pop stack is ys after still on =
+    let first : pop.d ≡ x = omega (arith, stack.0, pop.before) in
+    let here : 0 < occurs x (x ∷ xs) = omega (arith, occurs-here x xs) in
+    let there : IsAvailable g s pop.d =
+    record { lists = l; listed = old.listed; here = subst (λ zs. 0 < occurs pop.d zs) is (subst (λ e. 0 < occurs e (x ∷ xs)) (sym first) here) } in
+    let next : s.word (name.Next pop.d) ≡ pop.next = noted-below g s who pop.d pop.next pop.seat pop.onward sound has pop.at there in
+    let top : words' name.DescHead ≡ words' (name.Next x) =
+    pop.after ∙ sym next ∙ ap (λ e. s.word (name.Next e)) first ∙ sym (still x here) in
+    let rest : Stacked (next_in words' Partials) (words' name.DescHead) xs =
+    subst (λ w. Stacked (next_in words' Partials) w xs) (sym top) stack.1 in
+    let same : ys ≡ xs = stacked-same _ _ ys xs after rest in
+    omega (arith, occurs-more d x xs, subst (λ zs. 0 < occurs d zs) same on)
+
+-- any step
+pub available-stepped :
+    (g : Geometry) (s : State) (who d : ℕ) (s' : State) → IsSoundWithoutCounts g s → who < g.callers → Step s who s'
+    → pushed_by (s.errand who).point ≢ Some d → IsAvailable g s' d → IsAvailable g s d
+available-stepped g s who d s' sound has step free there =
+    let l = sound.parts.0 in
+    let old = sound.parts.1 in
+    let p = (s.errand who).point in
+    let still = nexts-stay g s l who s' old has step in
+    let stack : Stacked (next_in s'.word Partials) (s.word name.DescHead) l.available =
+    stacked-agrees (next_in s.word Partials) (next_in s'.word Partials) (s.word name.DescHead) l.available still old.listed.available in
+    let gives = λ (on : 0 < occurs d l.available). let a : IsAvailable g s d = record { lists = l; listed = old.listed; here = on } in a in
+    let same_head = λ (same : s'.word name.DescHead ≡ s.word name.DescHead).
+    gives
+    (subst (λ xs. 0 < occurs d xs)
+    (stacked-same _ _ there.lists.available l.available there.listed.available
+    (subst (λ w. Stacked (next_in s'.word Partials) w l.available) (sym same) stack)) there.here) in
+    elim (cases_name name.DescHead (name_at s who)) [
+      | inr differ ↦ same_head (step.word.elsewhere name.DescHead differ)
+      | inl is ↦
+          let here : s'.word name.DescHead ≡ after_action (plan_point_of p) (s.word name.DescHead) =
+          ap s'.word is ∙ step.word.here ∙ ap (λ n. after_action (plan_point_of p) (s.word n)) (sym is) in
+          elim (subst (HeadGoes p (s.word name.DescHead)) (sym here) (head-point p (s.word name.DescHead) (sym is))) [
+            | inl same ↦ same_head same
+            | inr won ↦
+                elim won [
+                  | inl pop ↦
+                      gives
+                      (popped-gains g s l who d s'.word l.available sound old has pop stack refl there.lists.available there.listed.available still
+                      there.here)
+                  | inr push ↦
+                      let mine : pushed_by p ≡ Some push.d = ap pushed_by push.at in
+                      let differ : push.d ≢ d = λ same. free (mine ∙ ap Some same) in
+                      let below : s'.word (name.Next push.d) ≡ s.word name.DescHead =
+                      step.word.elsewhere (name.Next push.d) (λ same. cc)
+                      ∙ pushed-below g s l who push.d push.top push.seat push.onward old has push.at ∙ sym push.before in
+                      let all : Stacked (next_in s'.word Partials) (s'.word name.DescHead) (push.d ∷ l.available) =
+                      (push.after, subst (λ w. Stacked (next_in s'.word Partials) w l.available) (sym below) stack) in
+                      let same : there.lists.available ≡ push.d ∷ l.available =
+                      stacked-same _ _ there.lists.available (push.d ∷ l.available) there.listed.available all in
+                      gives (omega (arith, cond-false {A = ℕ} (push.d == d) 1 0 (ne_eqb push.d d differ), subst (λ xs. 0 < occurs d xs) same there.here))
+                ]
+          ]
+    ]
