@@ -202,6 +202,10 @@ list-tags-below g s sound class has =
     let is : IsSoundWith g s l = sound.parts.1 in
     omega (arith, is.turned.list_tags class has, is.turned.emptied, small-freed g s.history sound.legal, given-most g s l sound.legal is, turns-most g s l sound.checked is)
 
+-- all turns together are far from the end of a tag
+pub turns-below : (g : Geometry) (s : State) → IsSoundWithoutCounts g s → callers_sum g turns_of s.errand + 1 < 2 ^ 42
+turns-below g s sound = omega (arith, turns-most g s sound.parts.0 sound.checked sound.parts.1)
+
 -- an anchor is popped once for each small block that is given
 pub anchor-tags-counted :
     (g : Geometry) (s : State) → IsSoundWithoutCounts g s → (d : ℕ) → d < descriptor_count g → (anchor_for s d).tag ≤ count_by is_small_alloc s.history

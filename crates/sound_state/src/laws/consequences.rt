@@ -25,10 +25,10 @@ ghost use Rattle.sound_state.specs.Superblocks.{IsChained, anchor_for, info_for,
 ghost use Rattle.sound_state.specs.Ties.{IsLive};
 ghost use Rattle.sound_state.specs.Turns.{is_small_alloc, is_small_free, turn_unframed, turns_of};
 
-/// Every tag has room for one more pop: the sum is not cut. No anchor has been popped more often than small
-/// blocks were given; the frames no more often than turns were taken, less those under way that have
-/// popped none yet; and a class's list no more often than turns were taken, and three times for each small
-/// block that was freed. All callers together take fewer than 2^42 turns.
+/// Every tag has room for one more pop: the sum is not cut. An anchor's tag is at most the small blocks that
+/// were given; the tag of the frames at most the turns that all callers took, less those under way that
+/// have popped no frame yet; and the tag of a class's list at most these turns, and three times the small
+/// blocks that were freed.
 pub fn tags_stay_below()
     ensures anchors { (g : Geometry) (s : State) → IsSoundWithoutCounts g s
         → (d : ℕ) → d < descriptor_count g → (anchor_for s d).tag + 1 < 2 ^ TAG_BITS }
@@ -39,6 +39,7 @@ pub fn tags_stay_below()
         → (head_of (s.word (name.ListHead class))).tag + 1 < 2 ^ 44 }
     ensures pops { (g : Geometry) (s : State) → IsSoundWithoutCounts g s
         → (d : ℕ) → d < descriptor_count g → (anchor_for s d).tag ≤ count_by is_small_alloc s.history }
+    ensures turns { (g : Geometry) (s : State) → IsSoundWithoutCounts g s → callers_sum g turns_of s.errand + 1 < 2 ^ 42 }
     ensures framings { (g : Geometry) (s : State) → IsSoundWithoutCounts g s
         → (head_of (s.word name.FrameHead)).tag + callers_sum g turn_unframed s.errand ≤ callers_sum g turns_of s.errand }
     ensures listings { (g : Geometry) (s : State) → IsSoundWithoutCounts g s

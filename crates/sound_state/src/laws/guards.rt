@@ -29,7 +29,7 @@ pub fn only_pushes_make_available()
 {}
 
 /// As long as the descriptor that a caller is about to pop is available, the one below it is the one that
-/// the caller noted: so a pop that is won leaves the others on the stack.
+/// the caller noted: so a pop that is won puts that one on top.
 pub fn what_lies_below_is_noted()
     ensures { (g : Geometry) (s : State) (who d next : ℕ) (seat : SeatFields) (o : Onward) → IsSoundWithoutCounts g s
         → who < g.callers → (s.errand who).point ≡ point.Desc (PopDesc seat d next) o → IsAvailable g s d
