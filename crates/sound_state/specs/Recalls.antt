@@ -1,8 +1,9 @@
 -- What a caller remembers, and what that still says of the words.
-use Rattle.std.specs.Prelude.{ℕ, ◌≡◌, ◌<◌, ◌≤◌, ◌-◌, IsTrue, IsFalse, List, [], ◌∷◌, Some, All}
+use Rattle.std.specs.Prelude.{ℕ, ◌≡◌, ◌<◌, ◌≤◌, ◌-◌, IsTrue, IsFalse, List, [], ◌∷◌, ◌++◌, Some, All}
 use Rattle.heap_geometry.specs.declared.geometry.Geometry.{Geometry}
 use Rattle.heap_geometry.specs.declared.need.Need.{Need}
-use Rattle.heap_geometry.specs.Need.{block_count_of, usable_words}
+use Rattle.heap_geometry.specs.declared.need.Need.TheVariants.{Small}
+use Rattle.heap_geometry.specs.Need.{block_count_of, need_of, usable_words}
 use Rattle.packed_words.specs.declared.anchor.State.TheVariants as phase
 use Rattle.packed_words.specs.Anchor.{AnchorFields, anchor_word}
 use Rattle.packed_words.specs.Head.{HeadFields, head_of}
@@ -29,7 +30,8 @@ use Rattle.partial_parts.specs.declared.point.PartialPoint.TheVariants as partia
 use Rattle.partial_parts.specs.Grants.{is_empty}
 use Rattle.large_parts.specs.declared.point.LargePoint.{LargePoint}
 use Rattle.large_parts.specs.declared.point.LargePoint.TheVariants as large
-use Rattle.pool_model.specs.declared.event.Event.TheVariants.{Looked}
+use Rattle.pool_model.specs.declared.event.Event.{Event}
+use Rattle.pool_model.specs.declared.event.Event.TheVariants.{Looked, Refuse}
 use Rattle.pool_model.specs.declared.owner.Owner.TheVariants.{Caller}
 use Rattle.pool_model.specs.Histories.{own, EndsWith}
 use Rattle.pool_model.specs.Pool.{Block, block_at, pool_of}
@@ -61,6 +63,7 @@ pub data Recall : Type 0 where
   owns : (place i : ℕ) → Recall
   owns_all : (place : ℕ) → (need : Need) → Recall
   looked : (class : ℕ) → Recall
+  refused : (class : ℕ) → Recall
 
 -- the superblock at hand has this descriptor, fills this frame and is of this class
 abbrev pub bound_here : Site → List Recall
@@ -107,6 +110,11 @@ stack_recalls (stack.StoreBelow s pile i h) o = tops_exist s pile h ∷ onward_r
 stack_recalls (stack.PushTop s pile i h) o = says (next_name pile i) h.top ∷ tops_exist s pile h ∷ onward_recalls s o
 stack_recalls p o = []
 
+-- what waits behind a retirement: who is refused has told so
+abbrev pub resumed_recalls : SeatFields → Onward → List Recall
+resumed_recalls s onward.Refuse = refused s.class ∷ []
+resumed_recalls s o = []
+
 -- at the descriptors or the hazard words
 abbrev pub desc_recalls : DescPoint → Onward → List Recall
 desc_recalls (desc.LoadDescHead s) o = looked s.class ∷ []
@@ -116,7 +124,10 @@ desc_recalls (desc.LoadNextDesc s d) o = looked s.class ∷ []
 desc_recalls (desc.PopDesc s d next) o = noted d next ∷ looked s.class ∷ []
 desc_recalls (desc.ClearAfterPop s d) o = looked s.class ∷ []
 desc_recalls (desc.ClearHazard s) o = onward_recalls s o
-desc_recalls (desc.PushDesc s d top) o = says (name.Next d) top ∷ []
+desc_recalls (desc.ReadHazard s held at) o = resumed_recalls s o
+desc_recalls (desc.LoadHeadToPush s d) o = resumed_recalls s o
+desc_recalls (desc.StoreNextDesc s d top) o = resumed_recalls s o
+desc_recalls (desc.PushDesc s d top) o = says (name.Next d) top ∷ resumed_recalls s o
 desc_recalls p o = []
 
 -- at a partial superblock
@@ -179,6 +190,11 @@ pub record IsEmptied (g : Geometry) (s : State) (l : Lists) (d : ℕ) : Type 0 w
 pub record IsOwned (s : State) (who p : ℕ) (n : Need) : Type 0 where
   pub block : (b : Block) × (block_at p (pool_of s.history) ≡ Some b) × (b.owner ≡ Caller who) × (b.need ≡ n)
 
+-- the last two of a caller's events are that it looked for the class in vain, and that a need which blocks of the class serve was refused
+abbrev pub EndsRefused : List Event → ℕ → ℕ → Type 0
+EndsRefused events who class =
+    (before : List Event) × (words : ℕ) × (need_of words ≡ Small class) × (events ≡ before ++ Looked who class ∷ Refuse who words ∷ [])
+
 -- the word is none of a processor heap's and no hazard word
 abbrev pub IsPlain : WordName → Type 0
 IsPlain (name.Active heap class) = ⊥
@@ -206,6 +222,7 @@ IsSo g s l who (noted d next) = 0 < occurs d l.available → s.word (name.Next d
 IsSo g s l who (owns place i) = (n : Need) × IsOwned s who place n × (i < usable_words n)
 IsSo g s l who (owns_all place need) = IsOwned s who place need
 IsSo g s l who (looked class) = EndsWith (own who s.history) (Looked who class)
+IsSo g s l who (refused class) = EndsRefused (own who s.history) who class
 
 -- everything that a caller remembers is so
 pub record IsRemembered (g : Geometry) (s : State) (l : Lists) : Type 0 where

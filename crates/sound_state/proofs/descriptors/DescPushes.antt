@@ -36,7 +36,7 @@ use Rattle.sound_state.specs.Guards.{IsGuard, IsHazard, passed_by, held_by}
 use Rattle.sound_state.specs.Holdings.{Kept, nothing, holds_of}
 use Rattle.sound_state.specs.Keepers.{IsWithout, IsKeptAs}
 use Rattle.sound_state.specs.Lists.{Lists}
-use Rattle.sound_state.specs.Recalls.{IsSo, IsOwned, says, recalls_of}
+use Rattle.sound_state.specs.Recalls.{IsSo, IsOwned, says, recalls_of, resumed_recalls}
 use Rattle.sound_state.specs.Sound.{IsSoundWithoutCounts, IsSoundWith}
 use Rattle.sound_state.specs.Stock.{waits_in}
 use Rattle.sound_state.specs.Turns.{one_if, in_turn, has_frame, has_partial, has_refused, is_discarding_at, pops_left}
@@ -247,7 +247,7 @@ push_desc_won-sound g s who s' seat d top o sound has at won step =
     let event : event_of who p (found_from s p) ≡ None = rw is_won refl in
     let past : s'.history ≡ s.history =
     step.history ∙ ap (with_event s.history) (subst (λ r. event_of who r (found_from s r) ≡ None) (sym at) event) in
-    let link : s.word (name.Next d) ≡ top = (All-head (IsSo g s l who) (says (name.Next d) top) [] (so-at g s l who p old has at)).1 in
+    let link : s.word (name.Next d) ≡ top = (All-head (IsSo g s l who) (says (name.Next d) top) (resumed_recalls seat o) (so-at g s l who p old has at)).1 in
     let pushes : pushed_by (s.errand who).point ≡ Some d = ap pushed_by at in
     let listed : Contains (s.errand who).retired d =
     subst (λ k. IfSome k (λ j. Contains (s.errand who).retired j)) pushes own.rule.pushed in

@@ -28,7 +28,7 @@ use Rattle.sound_state.specs.Guards.{IsGuard, IsHazard}
 use Rattle.sound_state.specs.Holdings.{Holding, guarded, partly_used, holds_of, onward_holds, with_partial, stack_holds, desc_holds, cleared_holds, partial_holds}
 use Rattle.sound_state.specs.Keepers.{errand_has}
 use Rattle.sound_state.specs.Lists.{Lists}
-use Rattle.sound_state.specs.Recalls.{Recall, emptied, noted, says, recalls_of, onward_recalls, stack_recalls, desc_recalls, block_recalls, partial_recalls, large_recalls}
+use Rattle.sound_state.specs.Recalls.{Recall, emptied, noted, says, recalls_of, onward_recalls, stack_recalls, resumed_recalls, desc_recalls, block_recalls, partial_recalls, large_recalls}
 use Rattle.sound_state.specs.Sound.{IsSoundWith}
 use Rattle.sound_state.specs.Sums.{sum_below, callers_sum}
 use Rattle.sound_state.specs.Superblocks.{kept_among, errand_keeps}
@@ -85,10 +85,13 @@ held-clear seat (onward.Retire d) goes = (inl refl, tt)
 held-clear seat (onward.Remove d heap) goes = absurd (cc)
 held-clear seat o goes = grind (arith)
 
+held-resumed : (h : Holding) (seat : SeatFields) (o : Onward) → AllByRecursion (IsHeld h) (resumed_recalls seat o)
+held-resumed h seat o = grind (arith)
+
 held-desc : (p : DescPoint) (o : Onward) → IsTrue (goes_desc p o) → AllByRecursion (IsHeld (desc_holds p o)) (desc_recalls p o)
 held-desc (desc.PopDesc seat d next) o goes = (inl refl, (tt, tt))
 held-desc (desc.ClearHazard seat) o goes = held-clear seat o goes
-held-desc p o goes = grind (arith)
+held-desc p o goes = grind (arith, held-resumed)
 
 held-partial : (p : PartialPoint) (o : Onward) → AllByRecursion (IsHeld (partial_holds p o)) (partial_recalls p o)
 held-partial (partial.PutSlot seat i heap) o = held-more i seat o

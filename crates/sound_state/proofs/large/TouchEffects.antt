@@ -35,7 +35,7 @@ use Rattle.sound_state.specs.Guards.{IsGuarded, passed_by, held_by}
 use Rattle.sound_state.specs.Holdings.{Status, clear, reserving, waiting, partly_used, on_its_way, holds_of}
 use Rattle.sound_state.specs.Keepers.{IsKept, IsPartlyUsed, IsActive, IsWithout, IsKeptAs, places_of, word_keeps, errand_has, full_keeps}
 use Rattle.sound_state.specs.Lists.{Lists, IsListed}
-use Rattle.sound_state.specs.Recalls.{Recall, IsLocated, IsTopStill, IsRemembered, IsSo, IsOwned, recalls_of, bound_for, located, bound_at, pops, links, tops, nexts, tops_exist, says, made, in_use, emptied, noted, owns, owns_all, looked}
+use Rattle.sound_state.specs.Recalls.{Recall, EndsRefused, IsLocated, IsTopStill, IsRemembered, IsSo, IsOwned, recalls_of, bound_for, located, bound_at, pops, links, tops, nexts, tops_exist, says, made, in_use, emptied, noted, owns, owns_all, looked, refused}
 use Rattle.sound_state.specs.Sound.{IsSoundWith, IsOwnErrand}
 use Rattle.sound_state.specs.Stock.{stock_of, word_stock, errand_stock, full_stock, waits_in, stock_among}
 use Rattle.sound_state.specs.Ties.{IsTied}
@@ -405,6 +405,7 @@ so-touched g s l who e s' h i other (noted d next) stays so = λ on. h.word (nam
 so-touched g s l who e s' h i other (owns place k) stays so = (so.0, owned-touched g s l who e s' h i place so.0 other so.1, so.2)
 so-touched g s l who e s' h i other (owns_all place n) stays so = owned-touched g s l who e s' h i place n other so
 so-touched g s l who e s' h i other (looked c) stays so = subst (λ xs. EndsWith xs (Looked i c)) (sym (h.events i other)) so
+so-touched g s l who e s' h i other (refused c) stays so = subst (λ xs. EndsRefused xs i c) (sym (h.events i other)) so
 
 remembered-touched :
     (g : Geometry) (s : State) (l : Lists) (who : ℕ) (e : ErrandFields) (s' : State) → Touches g s l who e s' → IsRemembered g s l → IsRemembered g s' l

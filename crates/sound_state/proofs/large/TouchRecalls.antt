@@ -20,7 +20,7 @@ use Rattle.errand_steps.specs.declared.onward.Onward.{Onward}
 use Rattle.errand_steps.specs.declared.point.Point.{Point}
 use Rattle.errand_steps.specs.declared.point.Point.TheVariants as point
 use Rattle.errand_steps.specs.Steps.{State}
-use Rattle.sound_state.specs.Recalls.{Recall, recalls_of, block_recalls, onward_recalls, stack_recalls, desc_recalls, partial_recalls, large_recalls, pops, links, says, made}
+use Rattle.sound_state.specs.Recalls.{Recall, recalls_of, block_recalls, onward_recalls, stack_recalls, resumed_recalls, desc_recalls, partial_recalls, large_recalls, pops, links, says, made}
 use Rattle.sound_state.specs.Superblocks.{info_for, anchor_for, reserved_of}
 use Rattle.sound_state.proofs.large.TouchEffects.{IsAwayWord, Stays}
 use Rattle.sound_state.proofs.shared.RecallTables.{for-each}
@@ -60,8 +60,11 @@ apart-stack : (p : StackPoint) (o : Onward) → AllByRecursion IsApart (stack_re
 apart-stack p o = grind (arith, apart-next, apart-onward)
 
 -- at the descriptors or the hazard words
+apart-resumed : (seat : SeatFields) (o : Onward) → AllByRecursion IsApart (resumed_recalls seat o)
+apart-resumed seat o = grind (arith)
+
 apart-desc : (p : DescPoint) (o : Onward) → AllByRecursion IsApart (desc_recalls p o)
-apart-desc p o = grind (arith, apart-onward)
+apart-desc p o = grind (arith, apart-onward, apart-resumed)
 
 -- at a partial superblock
 apart-partial : (p : PartialPoint) (o : Onward) → AllByRecursion IsApart (partial_recalls p o)

@@ -1,8 +1,8 @@
 -- Steps that store what is to lie below an index that is about to be pushed.
-use Rattle.std.proofs.Common.{ℕ, Some, ◌≡◌, ◌≢◌, ◌<◌, ◌≤◌, ◌^◌, [], refl, arith, ap, sym, subst, inl, inr, ◌∙◌}
+use Rattle.std.proofs.Common.{ℕ, Some, ◌≡◌, ◌≢◌, ◌<◌, ◌≤◌, ◌^◌, refl, arith, ap, sym, subst, inl, inr, ◌∙◌}
 use Rattle.std.specs.Prelude.{◌==◌, IfSome, Contains}
 use Rattle.std.proofs.lemmas.Bool.{cases_eq, cond-true, eq-eqb}
-use Rattle.std.proofs.lemmas.List.Elements.{All-nil, All-cons}
+use Rattle.std.proofs.lemmas.List.Elements.{All-cons}
 use Rattle.heap_geometry.specs.declared.geometry.Geometry.{Geometry}
 use Rattle.heap_geometry.specs.declared.limits.TheConstants.{CLASSES}
 use Rattle.packed_words.specs.Head.{HeadFields}
@@ -33,7 +33,7 @@ use Rattle.sound_state.specs.Frames.{errand_frames}
 use Rattle.sound_state.specs.Holdings.{partly_used, pushed_too, holds_of}
 use Rattle.sound_state.specs.Keepers.{errand_has}
 use Rattle.sound_state.specs.Lists.{Lists}
-use Rattle.sound_state.specs.Recalls.{IsPlain, IsSo, recalls_of, tops_exist, says}
+use Rattle.sound_state.specs.Recalls.{IsPlain, IsSo, recalls_of, resumed_recalls, tops_exist, says}
 use Rattle.sound_state.specs.Sound.{IsSoundWithoutCounts, IsSoundWith}
 use Rattle.sound_state.specs.Sums.{callers_sum}
 use Rattle.sound_state.specs.Superblocks.{kept_among}
@@ -209,7 +209,8 @@ store_next_desc-sound g s who s' seat d top o sound has at step =
           (subst (IsLinkUnread (name.Next d)) (sym at) tt) tt fit.link
           (omega (arith, fit.link, descriptor_count_within g sound.checked)) w;
       so = λ l old.
-          All-cons (IsSo g (between s s'.word) l who) (says (name.Next d) top) [] (tt, w.here) (All-nil (IsSo g (between s s'.word) l who));
+          All-cons (IsSo g (between s s'.word) l who) (says (name.Next d) top) (resumed_recalls seat o) (tt, w.here)
+          (so-at g (between s s'.word) l who p old has at);
     })
     step
 

@@ -1,6 +1,6 @@
 -- A step that retires the descriptor of an EMPTY superblock, and leaves its word or clears a hazard word, keeps the state sound.
 use Rattle.std.proofs.Common.{ℕ, Bool, true, false, None, ◌≡◌, ◌≢◌, ◌<◌, ◌≤◌, ◌+◌, ◌^◌, List, [], ◌∷◌, ◌++◌, length, refl, arith, ap, sym, subst, inl, inr, ◌∙◌, length-append, ne_eqb, eq-eqb}
-use Rattle.std.specs.Prelude.{◌==◌, ◌&&◌, ◌⊎◌, not, if◌then◌else◌}
+use Rattle.std.specs.Prelude.{◌==◌, ◌&&◌, ◌⊎◌, not, if◌then◌else◌, All}
 use Rattle.std.proofs.lemmas.Bool.{cases_eq, cases_Bool, cond-true, cond-false, leb-true}
 use Rattle.std.proofs.lemmas.List.Elements.{All-append, All-cons, All-nil}
 use Rattle.heap_geometry.specs.declared.geometry.Geometry.{Geometry}
@@ -36,7 +36,7 @@ use Rattle.sound_state.specs.Guards.{IsHazard}
 use Rattle.sound_state.specs.Holdings.{Hazard, Status, clear, nothing, keep, holds_of, waiting, reserving, on_its_way, partly_used}
 use Rattle.sound_state.specs.Keepers.{word_keeps, IsWithout}
 use Rattle.sound_state.specs.Lists.{Lists}
-use Rattle.sound_state.specs.Recalls.{IsPlain}
+use Rattle.sound_state.specs.Recalls.{IsPlain, IsSo, recalls_of, resumed_recalls}
 use Rattle.sound_state.specs.Sound.{IsSoundWithoutCounts, IsSoundWith}
 use Rattle.sound_state.specs.Stock.{waits_in, word_stock}
 use Rattle.sound_state.specs.Sums.{sum_below}
@@ -193,6 +193,7 @@ pub record RetiresTo (g : Geometry) (s : State) (who : ℕ) (d class : ℕ) (h :
   pub exists : d < descriptor_count g
   pub empty : (anchor_for s d).state ≡ phase.Empty
   pub lets : Lets (s.errand who).point q d class partly_used h
+  pub recalls : recalls_of q ≡ []
   pub turn : TurnRetires (s.errand who).point q (found_at s who)
   pub full : spare_of q ≡ 1 → is_full (s.errand who) ≡ true
 
@@ -222,9 +223,10 @@ pub retired-may :
     (g : Geometry) (s : State) (past : List Event) (l : Lists) (who : ℕ) (x : Found) (d class : ℕ) (status : Status) (h : Hazard) (q : Point)
     → IsSoundWith g s l → who < g.callers → x.value < 2 ^ 64 → settle_of (s.errand who) x ≡ retired_at (s.errand who) x d q
     → Lets (s.errand who).point q d class status h → (spare_of q ≡ 1 → is_full (s.errand who) ≡ true) → IsWithout s d
+    → All (IsSo g (record s { history = past }) l who) (recalls_of q)
     → CountsGo g (record s { history = past }) who (s.errand who) (retired_at (s.errand who) x d q)
     → MayGoOn g (record s { history = past }) l who (s.errand who) (retired_at (s.errand who) x d q)
-retired-may g s past l who x d class status h q old has word after lets full without counts =
+retired-may g s past l who x d class status h q old has word after lets full without so counts =
     let e = s.errand who in
     let own = old.errands who has in
     nothing-may g (record s { history = past }) l who e (retired_at e x d q) lets.bare (settled-own g who e x (retired_at e x d q) own word after)
@@ -232,6 +234,7 @@ retired-may g s past l who x d class status h q old has word after lets full wit
     (λ spare.
     let room : length e.retired ≤ e.geometry.callers = omega (arith, own.rule.room, lets.spare) in
     full-length e d (full spare) room ∙ ap (λ o. o.callers + 1) own.geometry)
+    so
     (λ place b. absurd (keeps-excepts (keep d class status) h place (subst (λ held. HoldsException held place) lets.before b)))
     counts
 
@@ -274,7 +277,7 @@ retire-sound g s who s' d class h q sound has to left step =
                   (away-bound g s l who d e s' has moves away anchors to.empty) words.weigh;
               may =
                   retired-may g s s.history l who x d class partly_used h q old has (old.words (name_at s who)) to.after to.lets to.full
-                  (inr to.empty)
+                  (inr to.empty) (subst (All (IsSo g s l who)) (sym to.recalls) (All-nil (IsSo g s l who)))
                   (record {
                     own_turns = omega (arith, old.turned.own_turns who has, to.turn.under_way);
                     own_lost =
@@ -375,6 +378,8 @@ pub record Retires (g : Geometry) (s : State) (who : ℕ) (p : Point) (seat : Se
   pub waits : (c : ℕ) → waits_in c p ≡ 0
   pub spare : spare_of p ≡ 0
   pub bare : HoldsNothing q
+  pub recalls : recalls_of q ≡ []
+  pub unrefused : resumed_recalls seat o ≡ []
   pub unspared : spare_of q ≡ 0
   pub turn : TurnRetires p q (found_from s p)
   pub scans : TurnRetires p (Desc (desc.ReadHazard seat no_words 0) o) (found_from s p)
@@ -383,6 +388,7 @@ pub record Retires (g : Geometry) (s : State) (who : ℕ) (p : Point) (seat : Se
 retires-to :
     (g : Geometry) (s : State) (who : ℕ) (seat : SeatFields) (d : ℕ) (h : Hazard) (o : Onward) (q : Point) (P : Type 0)
     → Retires g s who (s.errand who).point seat d h o q → ((r : Point) → RetiresTo g s who d seat.class h r → P) → P
+unfolding recalls_of
 retires-to g s who seat d h o q P r leads =
     let e = s.errand who in
     elim (cases_Bool (is_full e)) [
@@ -394,6 +400,7 @@ retires-to g s who seat d h o q P r leads =
             exists = r.exists;
             empty = r.empty;
             lets = record { before = r.before; bare = scan-nothing seat o; waits = r.waits; spare = r.spare };
+            recalls = r.unrefused;
             turn = r.scans;
             full = λ spare. full;
           })
@@ -405,6 +412,7 @@ retires-to g s who seat d h o q P r leads =
             exists = r.exists;
             empty = r.empty;
             lets = record { before = r.before; bare = r.bare; waits = r.waits; spare = r.spare };
+            recalls = r.recalls;
             turn = r.turn;
             full = λ spare. let bad : ⊥ = omega (arith, spare, r.unspared) in absurd bad;
           })

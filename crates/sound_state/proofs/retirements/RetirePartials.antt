@@ -35,10 +35,9 @@ is-empty phase.Empty is = refl
 
 -- an allocation that looks for a partial superblock again holds nothing
 look-nothing : (seat : SeatFields) (need : ℕ) → HoldsNothing (Partial (partial.LoadSlot seat) (Alloc need))
-unfolding holds_of recalls_of
+unfolding holds_of
 look-nothing seat need = record {
   holds = refl;
-  recalls = refl;
   waits = λ class. refl;
   pushed = refl;
   passed = refl;
@@ -50,7 +49,7 @@ pub load_grant_anchor_empty-sound :
     (g : Geometry) (s : State) (who : ℕ) (s' : State) (site : Site) (need : ℕ) → IsSoundWithoutCounts g s → who < g.callers
     → (s.errand who).point ≡ Partial (partial.LoadGrantAnchor site) (Alloc need) → is_empty (anchor_for s site.desc).state ≡ true
     → Step s who s' → IsSoundWithoutCounts g s'
-unfolding plan_point_of next_of event_of holds_of
+unfolding plan_point_of next_of event_of holds_of recalls_of
 load_grant_anchor_empty-sound g s who s' site need sound has at empty step =
     let p = Partial (partial.LoadGrantAnchor site) (Alloc need) in
     let fits = fits-at g s sound.parts.0 who p sound.parts.1 has at in
@@ -66,6 +65,8 @@ load_grant_anchor_empty-sound g s who s' site need sound has at empty step =
       waits = λ c. refl;
       spare = refl;
       bare = look-nothing site.seat need;
+      recalls = refl;
+      unrefused = refl;
       unspared = refl;
       turn = grind (arith, empty);
       scans = grind (arith, empty);
@@ -77,7 +78,7 @@ pub load_first_listed_empty-sound :
     (g : Geometry) (s : State) (who : ℕ) (s' : State) (seat : SeatFields) (d : ℕ) → IsSoundWithoutCounts g s → who < g.callers
     → (s.errand who).point ≡ Partial (partial.LoadListedAnchor seat d) Clear → is_empty (anchor_for s d).state ≡ true → Step s who s'
     → IsSoundWithoutCounts g s'
-unfolding plan_point_of next_of event_of holds_of
+unfolding plan_point_of next_of event_of holds_of recalls_of
 load_first_listed_empty-sound g s who s' seat d sound has at empty step =
     let p = Partial (partial.LoadListedAnchor seat d) Clear in
     let fits = fits-at g s sound.parts.0 who p sound.parts.1 has at in
@@ -93,6 +94,8 @@ load_first_listed_empty-sound g s who s' seat d sound has at empty step =
       waits = λ c. refl;
       spare = refl;
       bare = idle-nothing;
+      recalls = refl;
+      unrefused = refl;
       unspared = refl;
       turn = grind (arith);
       scans = grind (arith);
@@ -111,7 +114,7 @@ removed-empty g s l who seat d old has at =
 pub clear_hazard_retires-sound :
     (g : Geometry) (s : State) (who : ℕ) (s' : State) (seat : SeatFields) (d : ℕ) → IsSoundWithoutCounts g s → who < g.callers
     → (s.errand who).point ≡ Desc (desc.ClearHazard seat) (Retire d) → Step s who s' → IsSoundWithoutCounts g s'
-unfolding plan_point_of next_of event_of holds_of
+unfolding plan_point_of next_of event_of holds_of recalls_of
 clear_hazard_retires-sound g s who s' seat d sound has at step =
     let p = Desc (desc.ClearHazard seat) (Retire d) in
     let fits = fits-at g s sound.parts.0 who p sound.parts.1 has at in
@@ -126,6 +129,8 @@ clear_hazard_retires-sound g s who s' seat d sound has at step =
       waits = λ c. refl;
       spare = refl;
       bare = idle-nothing;
+      recalls = refl;
+      unrefused = refl;
       unspared = refl;
       turn = grind (arith);
       scans = grind (arith);

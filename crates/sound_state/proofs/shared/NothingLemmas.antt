@@ -1,5 +1,5 @@
--- A caller that goes on to a point at which it holds nothing and remembers nothing.
-use Rattle.std.proofs.Common.{ℕ, None, ◌≡◌, ◌<◌, ◌≤◌, ◌+◌, ◌^◌, List, [], length, refl, arith, sym, subst, inl, inr, ◌∙◌}
+-- A caller that goes on to a point at which it holds nothing.
+use Rattle.std.proofs.Common.{ℕ, None, ◌≡◌, ◌<◌, ◌≤◌, ◌+◌, ◌^◌, List, length, refl, arith, sym, subst, inl, inr, ◌∙◌}
 use Rattle.std.specs.Prelude.{All, count_by, slice_index}
 use Rattle.std.proofs.lemmas.Grind.{common_steps}
 use Rattle.std.proofs.lemmas.List.Elements.{All-nil}
@@ -26,10 +26,9 @@ use Rattle.sound_state.specs.Turns.{gives_small, refuses_small, turn_open, turn_
 use Rattle.sound_state.proofs.shared.AlikeLemmas.{MayGoOn, MayGuard, Excepts, IsSaidAt}
 use Rattle.sound_state.proofs.shared.StepLemmas.{HoldsException, raised-below}
 
--- at the point a caller holds nothing, remembers nothing, waits for nothing and pushes nothing; where it scans, it has read no hazard word yet
+-- at the point a caller holds nothing, waits for nothing and pushes nothing; where it scans, it has read no hazard word yet
 pub record HoldsNothing (q : Point) : Type 0 where
   pub holds : holds_of q ≡ nothing
-  pub recalls : recalls_of q ≡ []
   pub waits : (class : ℕ) → waits_in class q ≡ 0
   pub pushed : pushed_by q ≡ None
   pub passed : passed_by q ≡ 0
@@ -37,10 +36,9 @@ pub record HoldsNothing (q : Point) : Type 0 where
 
 -- so does who is idle, and who begins a scan
 pub idle-nothing : HoldsNothing Idle
-unfolding holds_of recalls_of
+unfolding holds_of
 idle-nothing = record {
   holds = refl;
-  recalls = refl;
   waits = λ class. refl;
   pushed = refl;
   passed = refl;
@@ -52,9 +50,9 @@ no_words-zero : (i : ℕ) → i < length no_words → slice_index no_words i ≡
 no_words-zero i lt = grind (arith, common_steps)
 
 pub scan-nothing : (seat : SeatFields) (o : Onward) → HoldsNothing (Desc (desc.ReadHazard seat no_words 0) o)
-unfolding holds_of recalls_of
+unfolding holds_of
 scan-nothing seat o =
-    record { holds = refl; recalls = refl; waits = λ class. refl; pushed = refl; passed = refl; unread = no_words-zero }
+    record { holds = refl; waits = λ class. refl; pushed = refl; passed = refl; unread = no_words-zero }
 
 -- who holds no block excepts none
 pub keeps-excepts : (ks : List Kept) (h : Hazard) (place : ℕ) → HoldsException (record nothing { kept = ks; hazard = h }) place → ⊥
@@ -96,16 +94,17 @@ pub record CountsGo (g : Geometry) (s : State) (who : ℕ) (a b : ErrandFields) 
   pub list_turns :
       errand_pops b + turn_unlisted b + a.turns + a.cleared ≤ errand_pops a + turn_unlisted a + b.turns + b.cleared
 
--- so the caller may go on to such a point
+-- so the caller may go on to such a point, where what it remembers there is so
 pub nothing-may :
     (g : Geometry) (s : State) (l : Lists) (who : ℕ) (a b : ErrandFields) → HoldsNothing b.point → IsOwnErrand g who b
     → All (IsWithout s) b.retired → (spare_of b.point ≡ 1 → length b.retired ≡ g.callers + 1)
-    → ((place : ℕ) → Excepts a place → IsSaidAt g s l place) → CountsGo g s who a b → MayGoOn g s l who a b
-nothing-may g s l who a b h own retired full said counts = record {
+    → All (IsSo g s l who) (recalls_of b.point) → ((place : ℕ) → Excepts a place → IsSaidAt g s l place) → CountsGo g s who a b
+    → MayGoOn g s l who a b
+nothing-may g s l who a b h own retired full so said counts = record {
   rule = own;
   kept = subst (λ held. All (λ k. IsKeptAs s k.status k.desc k.class) held.kept) (sym h.holds) (All-nil (λ k. IsKeptAs s k.status k.desc k.class));
   retired = retired;
-  so = subst (All (IsSo g s l who)) (sym h.recalls) (All-nil (IsSo g s l who));
+  so = so;
   full = full;
   hands = subst (λ held. All (λ x. IsOwned s who x.place x.need) held.hands) (sym h.holds) (All-nil (λ x. IsOwned s who x.place x.need));
   frees = subst (λ held. All (λ x. IsOwned s who x.place x.need) held.frees) (sym h.holds) (All-nil (λ x. IsOwned s who x.place x.need));

@@ -27,7 +27,7 @@ use Rattle.errand_steps.specs.Errands.{ErrandFields}
 use Rattle.errand_steps.specs.Steps.{State, Moves}
 use Rattle.sound_state.specs.Holdings.{on_its_way}
 use Rattle.sound_state.specs.Lists.{Lists}
-use Rattle.sound_state.specs.Recalls.{Recall, IsPopped, IsLocated, IsEmptied, IsRemembered, IsSo, IsOwned, bound_here, recalls_of, bound_for, located, bound_at, pops, links, tops, nexts, tops_exist, says, made, in_use, emptied, noted, owns, owns_all, looked}
+use Rattle.sound_state.specs.Recalls.{Recall, EndsRefused, IsPopped, IsLocated, IsEmptied, IsRemembered, IsSo, IsOwned, bound_here, recalls_of, bound_for, located, bound_at, pops, links, tops, nexts, tops_exist, says, made, in_use, emptied, noted, owns, owns_all, looked, refused}
 use Rattle.sound_state.specs.Sums.{callers_sum}
 use Rattle.sound_state.specs.Superblocks.{Superblock, info_or_zero, anchor_for, info_for, superblock_of, free_chain, reserved_of, is_bound, errand_keeps}
 use Rattle.sound_state.proofs.pops.PopTurns.{each-other}
@@ -151,6 +151,7 @@ module _ (g : Geometry) (s : State) (l : Lists) (s' : State) (i : ℕ) (h : Leav
   so-left (owns place k) left so = (so.0, h.owned place so.0 so.1, so.2)
   so-left (owns_all place n) left so = h.owned place n so
   so-left (looked c) left so = subst (λ past. EndsWith past (Looked i c)) (sym h.events) so
+  so-left (refused c) left so = subst (λ past. EndsRefused past i c) (sym h.events) so
 
 -- and so is all, where what the caller that went on remembers is
 pub remembered-left :

@@ -36,7 +36,7 @@ use Rattle.errand_steps.specs.Onwards.{clears, goes_desc}
 use Rattle.errand_steps.specs.Steps.{State}
 use Rattle.sound_state.specs.Holdings.{Handed, Freed, reserve, before_pop, holds_of, block_holds, onward_holds, stack_holds, partial_holds}
 use Rattle.sound_state.specs.Lists.{Lists}
-use Rattle.sound_state.specs.Recalls.{Recall, IsSo, IsOwned, block_recalls, onward_recalls, stack_recalls, desc_recalls, partial_recalls, large_recalls, recalls_of, bound_for, bound_at, pops, links, says}
+use Rattle.sound_state.specs.Recalls.{Recall, IsSo, IsOwned, block_recalls, onward_recalls, stack_recalls, resumed_recalls, desc_recalls, partial_recalls, large_recalls, recalls_of, bound_for, bound_at, pops, links, says}
 use Rattle.sound_state.specs.Sound.{IsSoundWith}
 use Rattle.sound_state.specs.Superblocks.{anchor_for, is_bound, reserved_among, errand_reserves}
 use Rattle.sound_state.proofs.pops.PopFacts.{anchor_number}
@@ -84,8 +84,11 @@ module _ (g : Geometry) (s : State) (l : Lists) (i d : ℕ) where
   backed-stack : (p : StackPoint) (o : Onward) → AllByRecursion (IsBacked g s l d) (stack_recalls p o)
   backed-stack p o = grind (arith, backed-next, backed-onward)
 
+  backed-resumed : (seat : SeatFields) (o : Onward) → AllByRecursion (IsBacked g s l d) (resumed_recalls seat o)
+  backed-resumed seat o = grind (arith)
+
   backed-desc : (p : DescPoint) (o : Onward) → AllByRecursion (IsBacked g s l d) (desc_recalls p o)
-  backed-desc p o = grind (arith, backed-onward)
+  backed-desc p o = grind (arith, backed-onward, backed-resumed)
 
   backed-partial : (p : PartialPoint) (o : Onward) → AllByRecursion (IsBacked g s l d) (partial_recalls p o)
   backed-partial p o = grind (arith, backed-onward)
@@ -196,9 +199,12 @@ module _ (g : Geometry) (s : State) (l : Lists) (i d : ℕ) (off : OwnsNone g s 
   apart-cleared : (seat : SeatFields) (o : Onward) → IsTrue (clears o) → AllByRecursion (IsUnbound d) (onward_recalls seat o)
   apart-cleared seat o goes = grind (arith, goes)
 
+  apart-resumed : (seat : SeatFields) (o : Onward) → AllByRecursion (IsUnbound d) (resumed_recalls seat o)
+  apart-resumed seat o = grind (arith)
+
   apart-desc : (p : DescPoint) (o : Onward) → IsTrue (goes_desc p o) → AllByRecursion (IsUnbound d) (desc_recalls p o)
   apart-desc (desc.ClearHazard seat) o goes = apart-cleared seat o goes
-  apart-desc p o goes = grind (arith)
+  apart-desc p o goes = grind (arith, apart-resumed)
 
   -- at a partial superblock
   apart-partial :

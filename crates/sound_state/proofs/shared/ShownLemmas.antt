@@ -39,7 +39,7 @@ use Rattle.sound_state.specs.Guards.{IsGuarded, Guards, IsGuard, IsHazard, passe
 use Rattle.sound_state.specs.Holdings.{Status, reserving, waiting, partly_used, on_its_way, holds_of}
 use Rattle.sound_state.specs.Keepers.{IsKept, IsPartlyUsed, IsActive, IsWithout, IsKeptAs, places_of}
 use Rattle.sound_state.specs.Lists.{Lists, IsListed}
-use Rattle.sound_state.specs.Recalls.{Recall, IsPopped, IsPlain, IsLocated, IsTopStill, IsRemembered, IsSo, IsOwned, recalls_of, list_of, bound_for, located, bound_at, pops, links, tops, nexts, tops_exist, says, made, in_use, emptied, noted, owns, owns_all, looked}
+use Rattle.sound_state.specs.Recalls.{Recall, EndsRefused, IsPopped, IsPlain, IsLocated, IsTopStill, IsRemembered, IsSo, IsOwned, recalls_of, list_of, bound_for, located, bound_at, pops, links, tops, nexts, tops_exist, says, made, in_use, emptied, noted, owns, owns_all, looked, refused}
 use Rattle.sound_state.specs.Sound.{IsSoundWith, IsOwnErrand}
 use Rattle.sound_state.specs.Stock.{IsStocked}
 use Rattle.sound_state.specs.Sums.{sum_below, callers_sum}
@@ -342,6 +342,7 @@ module _ (g : Geometry) (s : State) (l : Lists) (who : ℕ) (e : ErrandFields) (
   so-shown i (owns place k) of so = (so.0, owned-shown i place so.0 so.1, so.2)
   so-shown i (owns_all place n) of so = owned-shown i place n so
   so-shown i (looked c) of so = subst (λ e. EndsWith (own i e) (Looked i c)) (sym go.history) so
+  so-shown i (refused c) of so = subst (λ e. EndsRefused (own i e) i c) (sym go.history) so
 
   listed-shown : IsListed g s.word l → IsListed g s'.word (with_available l ys)
   listed-shown = listed-anew g s.word s'.word l ys (λ n is differ. go.word n (list-shown n is differ)) go.stacked go.exist

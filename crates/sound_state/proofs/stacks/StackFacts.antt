@@ -43,7 +43,7 @@ use Rattle.sound_state.specs.Guards.{IsGuarded, Guards, IsGuard, IsHazard, passe
 use Rattle.sound_state.specs.Holdings.{holds_of}
 use Rattle.sound_state.specs.Keepers.{IsKept, IsWithout, IsKeptAs}
 use Rattle.sound_state.specs.Lists.{Lists}
-use Rattle.sound_state.specs.Recalls.{Recall, IsPopped, IsLocated, IsTopStill, IsRemembered, IsSo, IsOwned, recalls_of, list_of, block_recalls, onward_recalls, stack_recalls, desc_recalls, partial_recalls, large_recalls, bound_for, located, bound_at, pops, links, tops, nexts, tops_exist, says, made, in_use, emptied, noted, owns, owns_all, looked}
+use Rattle.sound_state.specs.Recalls.{Recall, EndsRefused, IsPopped, IsLocated, IsTopStill, IsRemembered, IsSo, IsOwned, recalls_of, list_of, block_recalls, onward_recalls, stack_recalls, resumed_recalls, desc_recalls, partial_recalls, large_recalls, bound_for, located, bound_at, pops, links, tops, nexts, tops_exist, says, made, in_use, emptied, noted, owns, owns_all, looked, refused}
 use Rattle.sound_state.specs.Sound.{IsSoundWith, IsOwnErrand}
 use Rattle.sound_state.specs.Sums.{sum_below}
 use Rattle.sound_state.specs.Superblocks.{AreChained, IsChained, info_or_zero, live_at, is_there, anchor_for, info_for, superblock_of, away_of, is_bound}
@@ -104,8 +104,11 @@ block-timely p = grind (arith)
 onward-timely : (s : SeatFields) (o : Onward) → are_timely (onward_recalls s o) ≡ true
 onward-timely s o = grind (arith)
 
+resumed-timely : (s : SeatFields) (o : Onward) → are_timely (resumed_recalls s o) ≡ true
+resumed-timely s o = grind (arith)
+
 desc-timely : (p : DescPoint) (o : Onward) → are_timely (desc_recalls p o) ≡ true
-desc-timely p o = grind (arith)
+desc-timely p o = grind (arith, resumed-timely)
 
 partial-timely : (p : PartialPoint) (o : Onward) → are_timely (partial_recalls p o) ≡ true
 partial-timely p o = grind (arith)
@@ -267,6 +270,7 @@ so-restacked g s l who e s' l' h i (noted d next) timely so = λ on. h.word (nam
 so-restacked g s l who e s' l' h i (owns place k) timely so = (so.0, owned-restacked g s l who e s' l' h i place so.0 so.1, so.2)
 so-restacked g s l who e s' l' h i (owns_all place n) timely so = owned-restacked g s l who e s' l' h i place n so
 so-restacked g s l who e s' l' h i (looked c) timely so = subst (λ e. EndsWith (own i e) (Looked i c)) (sym h.history) so
+so-restacked g s l who e s' l' h i (refused c) timely so = subst (λ e. EndsRefused (own i e) i c) (sym h.history) so
 
 kept-restacked :
     (g : Geometry) (s : State) (l : Lists) (who : ℕ) (e : ErrandFields) (s' : State) (l' : Lists) → Restacks g s l who e s' l'

@@ -42,7 +42,7 @@ use Rattle.sound_state.specs.Superblocks.{anchor_for, kept_among, reserved_among
 use Rattle.sound_state.specs.Turns.{one_if, in_turn, has_frame, has_partial, has_refused, is_discarding_at, pops_left}
 use Rattle.sound_state.specs.Keepers.{IsKeptAs, IsWithout}
 use Rattle.sound_state.specs.Lists.{Lists}
-use Rattle.sound_state.specs.Recalls.{IsSo, IsOwned, emptied, list_of, recalls_of}
+use Rattle.sound_state.specs.Recalls.{IsSo, IsOwned, emptied, list_of, recalls_of, resumed_recalls}
 use Rattle.sound_state.specs.Sound.{IsSoundWithoutCounts, IsSoundWith}
 use Rattle.sound_state.specs.Stock.{waits_in, stock_among}
 use Rattle.sound_state.proofs.shared.PointLemmas.{kept_places, fits-at, kept-at}
@@ -129,16 +129,16 @@ active-bare : (seat : SeatFields) (o : Onward) → StandsBare (Block (block.Load
 unfolding holds_of recalls_of
 active-bare seat o = grind (arith)
 
-scan-bare : (seat : SeatFields) (o : Onward) → StandsBare (Desc (desc.ReadHazard seat no_words 0) o)
+scan-bare : (seat : SeatFields) (o : Onward) → resumed_recalls seat o ≡ [] → StandsBare (Desc (desc.ReadHazard seat no_words 0) o)
 unfolding holds_of recalls_of
-scan-bare seat o = record {
+scan-bare seat o is = record {
   kept = refl;
   credits = refl;
   frames = refl;
   hands = refl;
   frees = refl;
   hazard = refl;
-  recalls = refl;
+  recalls = is;
   pushed = refl;
   passed = refl;
   unread = λ k below. unread-none HELD_MOST k;
@@ -376,7 +376,7 @@ discard-exchanges g s l who seat i h words d sound old has at word =
           retires (Desc (desc.ReadHazard seat no_words 0) (onward.Turn words)) a.turns
           (record {
             settles = settle-full a x seat d (onward.Turn words) next full;
-            bare = scan-bare seat (onward.Turn words);
+            bare = scan-bare seat (onward.Turn words) refl;
             full = λ spare. full-list g s l who p old has at refl full;
             turns = grind (arith);
           })
@@ -434,7 +434,7 @@ retire-exchanges g s l who seat i h d sound old has at word =
           retires (Desc (desc.ReadHazard seat no_words 0) onward.EndFree) a.turns
           (record {
             settles = settle-full a x seat d onward.EndFree next full;
-            bare = scan-bare seat onward.EndFree;
+            bare = scan-bare seat onward.EndFree refl;
             full = λ spare. full-list g s l who p old has at refl full;
             turns = grind (arith);
           })

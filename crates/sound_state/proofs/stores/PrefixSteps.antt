@@ -149,11 +149,12 @@ idle-may :
     → TurnGoes (s.errand who).point Idle
     → ((q : ℕ) → HoldsException (holds_of (s.errand who).point) q → IsSaidAt g s l q)
     → MayGoOn g s l who (s.errand who) (at_point (s.errand who) x Idle)
+unfolding recalls_of
 idle-may g s l who x sound has word after still turn said =
     let e = s.errand who in
     let own = sound.errands who has in
     nothing-may g s l who e (at_point e x Idle) idle-nothing (settled-own g who e x (at_point e x Idle) own word after) (sound.kept.retired who has)
-    (λ spare. let bad : ⊥ = omega (arith, spare) in absurd bad) said
+    (λ spare. let bad : ⊥ = omega (arith, spare) in absurd bad) (All-nil (IsSo g s l who)) said
     (record {
       own_turns = omega (arith, sound.turned.own_turns who has, turn.under_way);
       own_lost =

@@ -30,7 +30,7 @@ use Rattle.sound_state.specs.Guards.{IsGuarded, Guards}
 use Rattle.sound_state.specs.Holdings.{Status, reserving, waiting, partly_used, on_its_way, holds_of}
 use Rattle.sound_state.specs.Keepers.{IsKept, IsPartlyUsed, IsActive, IsKeptAs, word_keeps, errand_has, full_keeps}
 use Rattle.sound_state.specs.Lists.{Lists, IsListed}
-use Rattle.sound_state.specs.Recalls.{Recall, IsPopped, IsLocated, IsTopStill, IsSo, IsOwned, recalls_of, bound_for, located, bound_at, pops, links, tops, nexts, tops_exist, says, made, in_use, emptied, noted, owns, owns_all, looked}
+use Rattle.sound_state.specs.Recalls.{Recall, IsPopped, IsLocated, IsTopStill, IsSo, IsOwned, recalls_of, bound_for, located, bound_at, pops, links, tops, nexts, tops_exist, says, made, in_use, emptied, noted, owns, owns_all, looked, refused}
 use Rattle.sound_state.specs.Sound.{IsSoundWith}
 use Rattle.sound_state.specs.Stock.{IsStocked, word_stock, full_stock}
 use Rattle.sound_state.specs.Sums.{sum_below, words_sum, callers_sum}
@@ -262,6 +262,7 @@ so-between g s l w i (noted d next) kept still so = λ on. still on ∙ so on
 so-between g s l w i (owns place k) kept still so = (so.0, owned-between s w i place so.0 so.1, so.2)
 so-between g s l w i (owns_all place n) kept still so = owned-between s w i place n so
 so-between g s l w i (looked c) kept still so = so
+so-between g s l w i (refused c) kept still so = so
 
 -- a stack whose indexes have the same next words is the same list
 pub stacked-agrees :

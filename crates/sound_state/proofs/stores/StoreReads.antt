@@ -35,7 +35,7 @@ use Rattle.errand_steps.specs.Fits.{FitsPoint}
 use Rattle.errand_steps.specs.Steps.{State}
 use Rattle.sound_state.specs.Holdings.{Status, on_its_way}
 use Rattle.sound_state.specs.Lists.{Lists}
-use Rattle.sound_state.specs.Recalls.{IsSo, IsTopStill, recalls_of, onward_recalls, stack_recalls, desc_recalls, block_recalls, partial_recalls, large_recalls, list_of}
+use Rattle.sound_state.specs.Recalls.{IsSo, IsTopStill, recalls_of, onward_recalls, stack_recalls, resumed_recalls, desc_recalls, block_recalls, partial_recalls, large_recalls, list_of}
 use Rattle.sound_state.specs.Sound.{IsSoundWith}
 use Rattle.sound_state.specs.Superblocks.{info_or_zero}
 use Rattle.sound_state.proofs.shared.PointLemmas.{fits-at}
@@ -234,13 +234,18 @@ said-stack g s l w i n (stack.StoreBelow seat pile j head) o h fits so off = (tt
 said-stack g s l w i n (stack.PushTop seat pile j head) o h fits so off = (h.others (next_name pile j) off.link, (tt, said-onward g s l w seat o))
 said-stack g s l w i n p o h fits so off = tt
 
+said-resumed :
+    (g : Geometry) (s : State) (l : Lists) (w : WordName → ℕ) (seat : SeatFields) (o : Onward)
+    → AllByRecursion (IsStillSaid g s l w) (resumed_recalls seat o)
+said-resumed g s l w seat o = grind (arith)
+
 said-desc :
     (g : Geometry) (s : State) (l : Lists) (w : WordName → ℕ) (n : WordName) (p : DescPoint) (o : Onward) → IsKeeping g s l n w
     → IsUnread s w n (point.Desc p o) → AllByRecursion (IsStillSaid g s l w) (desc_recalls p o)
 said-desc g s l w n (desc.PopDesc seat d next) o h off = (λ on. h.links.available d on, (tt, tt))
 said-desc g s l w n (desc.ClearHazard seat) o h off = said-onward g s l w seat o
-said-desc g s l w n (desc.PushDesc seat d top) o h off = (h.others (name.Next d) off.link, tt)
-said-desc g s l w n p o h off = grind (arith)
+said-desc g s l w n (desc.PushDesc seat d top) o h off = (h.others (name.Next d) off.link, said-resumed g s l w seat o)
+said-desc g s l w n p o h off = grind (arith, said-resumed)
 
 said-partial :
     (g : Geometry) (s : State) (l : Lists) (w : WordName → ℕ) (n : WordName) (p : PartialPoint) (o : Onward) → IsUnread s w n (point.Partial p o)

@@ -1,6 +1,6 @@
 -- A look that finds no partial superblock, and a refusal for want of a frame, keep the state sound.
 use Rattle.sound_state.proofs.quiet.QuietStacks.{confirm_empty_lost-sound}
-use Rattle.std.proofs.Common.{ℕ, true, false, cond, Some, ◌≡◌, ◌<◌, ◌≤◌, ◌+◌, ◌^◌, List, [], ◌∷◌, ◌++◌, refl, arith, ap, sym, subst, inl, inr, ◌∙◌, eq-eqb, ne_eqb}
+use Rattle.std.proofs.Common.{ℕ, true, false, cond, Some, ◌≡◌, ◌<◌, ◌≤◌, ◌+◌, ◌^◌, List, [], ◌∷◌, ◌++◌, refl, arith, ap, sym, subst, inl, inr, ◌∙◌, eq-eqb, ne_eqb, append_assoc}
 use Rattle.std.specs.Prelude.{◌==◌, ◌&&◌, not, if◌then◌else◌, All, IsTrue, count_by, nat_le}
 use Rattle.std.proofs.lemmas.Bool.{cases_eq, cases_Bool, cond-true, cond-false}
 use Rattle.std.proofs.lemmas.Option.{none-some}
@@ -22,8 +22,11 @@ use Rattle.stack_parts.specs.Fits.{IsBare}
 use Rattle.stack_parts.specs.Piles.{head_name}
 use Rattle.stack_parts.specs.Stacks.{Stacked, next_in}
 use Rattle.hazard_parts.specs.declared.point.DescPoint.TheVariants as desc
+use Rattle.pool_model.specs.declared.event.Event.{Event}
 use Rattle.pool_model.specs.declared.event.Event.TheVariants.{Looked, Refuse}
+use Rattle.pool_model.specs.Histories.{own, EndsWith}
 use Rattle.pool_model.specs.Legal.{IsRefusable}
+use Rattle.pool_model.proofs.HistoryLemmas.{own-append}
 use Rattle.errand_steps.specs.declared.next.Next.TheVariants.{At, Retire}
 use Rattle.errand_steps.specs.declared.onward.Onward.{Onward}
 use Rattle.errand_steps.specs.declared.onward.Onward.TheVariants as onward
@@ -41,7 +44,7 @@ use Rattle.sound_state.specs.Guards.{IsHazard}
 use Rattle.sound_state.specs.Holdings.{Status, clear, holds_of, waiting, reserving, on_its_way, partly_used}
 use Rattle.sound_state.specs.Keepers.{IsWithout, IsKeptAs}
 use Rattle.sound_state.specs.Lists.{Lists}
-use Rattle.sound_state.specs.Recalls.{IsSo, IsOwned, recalls_of, looked}
+use Rattle.sound_state.specs.Recalls.{IsSo, IsOwned, EndsRefused, recalls_of, looked, refused}
 use Rattle.sound_state.specs.Sound.{IsSoundWithoutCounts, IsSoundWith}
 use Rattle.sound_state.specs.Stock.{errand_stock}
 use Rattle.sound_state.specs.Turns.{one_if, in_turn, has_frame, has_partial, has_refused, is_discarding_at, pops_left, gives_small, refuses_small}
@@ -281,9 +284,9 @@ refused-may :
     (g : Geometry) (s : State) (l : Lists) (who : ℕ) (x : Found) (q : Point) (words d class : ℕ) → IsSoundWith g s l → who < g.callers
     → x.value < 2 ^ 64 → settle_of (s.errand who) x ≡ retired_at (s.errand who) x d q → counts_cleared (s.errand who).point x ≡ false
     → nat_le words SMALL_MOST ≡ true → Lets (s.errand who).point q d class on_its_way clear → TurnRefused (s.errand who).point q
-    → (spare_of q ≡ 1 → is_full (s.errand who) ≡ true)
+    → (spare_of q ≡ 1 → is_full (s.errand who) ≡ true) → All (IsSo g (told_state s (Refuse who words)) l who) (recalls_of q)
     → MayGoOn g (told_state s (Refuse who words)) l who (s.errand who) (retired_at (s.errand who) x d q)
-refused-may g s l who x q words d class old has word after still small to turn full =
+refused-may g s l who x q words d class old has word after still small to turn full so =
     let e = s.errand who in
     let event = Refuse who words in
     let gives = counted-not (gives_small who) s.history event refl in
@@ -292,7 +295,7 @@ refused-may g s l who x q words d class old has word after still small to turn f
     let on_way : IsWithout s d =
     subst (λ held. All (λ k. IsKeptAs s k.status k.desc k.class) held.kept) to.before (old.kept.errand who has) 0
     (record { desc = d; class = class; status = on_its_way }) (omega arith) in
-    retired-may g s (s.history ++ event ∷ []) l who x d class on_its_way clear q old has word after to full on_way
+    retired-may g s (s.history ++ event ∷ []) l who x d class on_its_way clear q old has word after to full on_way so
     (record {
       own_turns = omega (arith, old.turned.own_turns who has, turn.under_way, gives);
       own_lost =
@@ -313,20 +316,33 @@ refused-tells :
     (g : Geometry) (s : State) (l : Lists) (who : ℕ) (x : Found) (q : Point) (words d class : ℕ) → IsSoundWith g s l → who < g.callers
     → x.value < 2 ^ 64 → settle_of (s.errand who) x ≡ retired_at (s.errand who) x d q → counts_cleared (s.errand who).point x ≡ false
     → nat_le words SMALL_MOST ≡ true → Lets (s.errand who).point q d class on_its_way clear → TurnRefused (s.errand who).point q
-    → (spare_of q ≡ 1 → is_full (s.errand who) ≡ true)
+    → (spare_of q ≡ 1 → is_full (s.errand who) ≡ true) → All (IsSo g (told_state s (Refuse who words)) l who) (recalls_of q)
     → TellsOn g s l who (Refuse who words) (retired_at (s.errand who) x d q)
-refused-tells g s l who x q words d class old has word after still small to turn full =
+refused-tells g s l who x q words d class old has word after still small to turn full so =
     let e = s.errand who in
     let bare : s.word (name.Hazard who) ≡ 0 =
     subst (λ held. IsHazard held.hazard (s.word (name.Hazard who))) to.before (old.guarded.words who has) in
     record {
       told = refused-told g who words;
       weigh = refused-weigh e x q d class to;
-      may = refused-may g s l who x q words d class old has word after still small to turn full;
+      may = refused-may g s l who x q words d class old has word after still small to turn full so;
       guards = nothing-guards g (told_state s (Refuse who words)) who q (retired_at e x d q).retired (s.word (name.Hazard who)) to.bare bare;
       cleared = ap (λ b. raised b e.cleared) still;
       stock = refused-room g s l who x q d class old to;
     }
+
+-- a refusal behind a look: the caller's last two events
+refused-ends :
+    (who : ℕ) (history : List Event) (words class : ℕ) → need_of words ≡ Small class → EndsWith (own who history) (Looked who class)
+    → EndsRefused (own who (history ++ Refuse who words ∷ [])) who class
+refused-ends who history words class served ends =
+    let last : own who (history ++ Refuse who words ∷ []) ≡ own who history ++ Refuse who words ∷ [] =
+    own-append who history (Refuse who words ∷ []) ∙ rw (eq-eqb who who refl) refl in (
+      ends.0,
+      words,
+      served,
+      last ∙ ap (λ xs. xs ++ Refuse who words ∷ []) ends.1 ∙ append_assoc ends.0 (Looked who class ∷ []) (Refuse who words ∷ []),
+    )
 
 -- a refusal for want of a frame
 pub confirm_no_frame-sound :
@@ -363,7 +379,10 @@ confirm_no_frame-sound g s who s' seat h words d sound has at same step =
           refused-tells g s l who x (scanning seat) words d seat.class old has (old.words (name_at s who)) after cleared small
           (subst (λ r. Lets r (scanning seat) d seat.class on_its_way clear) (sym at)
           (refused-lets seat h words d (scanning seat) (scan-nothing seat onward.Refuse)))
-          (subst (λ r. TurnRefused r (scanning seat)) (sym at) (refused-scan seat h words d)) (λ spare. full))
+          (subst (λ r. TurnRefused r (scanning seat)) (sym at) (refused-scan seat h words d)) (λ spare. full)
+          (All-cons (IsSo g (told_state s event) l who) (refused seat.class) []
+          (refused-ends who s.history words seat.class served (so-at g s l who p old has at 0 (looked seat.class) (omega arith)))
+          (All-nil (IsSo g (told_state s event) l who))))
           step
       | inr few ↦
           let after = settle-end e x seat d onward.Refuse next few reply.Refused refl in
@@ -372,7 +391,7 @@ confirm_no_frame-sound g s who s' seat h words d sound has at same step =
           refused-tells g s l who x Idle words d seat.class old has (old.words (name_at s who)) after cleared small
           (subst (λ r. Lets r Idle d seat.class on_its_way clear) (sym at) (refused-lets seat h words d Idle idle-nothing))
           (subst (λ r. TurnRefused r Idle) (sym at) (refused-idle seat h words d))
-          (λ spare. let bad : ⊥ = omega (arith, spare) in absurd bad))
+          (λ spare. let bad : ⊥ = omega (arith, spare) in absurd bad) (All-nil (IsSo g (told_state s event) l who)))
           step
     ]
 

@@ -17,7 +17,7 @@ use Rattle.sound_state.specs.Guards.{IsGuarded}
 use Rattle.sound_state.specs.Holdings.{Status, reserving, waiting, partly_used, on_its_way}
 use Rattle.sound_state.specs.Keepers.{IsKept, IsPartlyUsed, IsActive, IsKeptAs}
 use Rattle.sound_state.specs.Lists.{Lists}
-use Rattle.sound_state.specs.Recalls.{Recall, IsOwned, IsPopped, IsSo, bound_for, located, bound_at, pops, links, tops, nexts, tops_exist, says, made, in_use, emptied, noted, owns, owns_all, looked}
+use Rattle.sound_state.specs.Recalls.{Recall, EndsRefused, IsOwned, IsPopped, IsSo, bound_for, located, bound_at, pops, links, tops, nexts, tops_exist, says, made, in_use, emptied, noted, owns, owns_all, looked, refused}
 use Rattle.sound_state.specs.Sound.{IsSoundWith}
 use Rattle.sound_state.specs.Superblocks.{IsChained, superblock_of}
 use Rattle.sound_state.specs.Ties.{IsLive, IsExcepted, IsTied}
@@ -90,6 +90,8 @@ told-so g s l who event h i differ (owns place k) so = (so.0, told-owned g s who
 told-so g s l who event h i differ (owns_all place n) so = told-owned g s who event h i place n so
 told-so g s l who event h i differ (looked c) so =
     subst (λ e. EndsWith e (Looked i c)) (sym (told-own i s.history event (λ e. differ (sym e ∙ h.caller)))) so
+told-so g s l who event h i differ (refused c) so =
+    subst (λ e. EndsRefused e i c) (sym (told-own i s.history event (λ e. differ (sym e ∙ h.caller)))) so
 
 -- each descriptor stands where it stood
 partly-told : (s : State) (event : Event) (d c : ℕ) → IsPartlyUsed s d c → IsPartlyUsed (told_state s event) d c
