@@ -3,6 +3,7 @@ pub mod EveryStep
 pub mod ReachLemmas
 pub mod RunLemmas
 pub mod anchors
+pub mod answers
 pub mod beginnings
 pub mod counts
 pub mod descriptors

@@ -1,4 +1,5 @@
 pub mod Alone
+pub mod Answers
 pub mod Consequences
 pub mod Contention
 pub mod Expectations

@@ -10,6 +10,7 @@ ghost use Rattle.errand_steps.specs.Steps.{State, Step, Run};
 ghost use Rattle.sound_state.specs.Runs.{Call, Begins, Move, Reaches};
 ghost use Rattle.sound_state.specs.Sound.{IsSound, IsSoundWithoutCounts, TellsCounted};
 
+pub mod answers;
 pub mod consequences;
 pub mod endings;
 pub mod guards;

@@ -332,7 +332,7 @@ refused-tells g s l who x q words d class old has word after still small to turn
     }
 
 -- a refusal behind a look: the caller's last two events
-refused-ends :
+pub refused-ends :
     (who : ℕ) (history : List Event) (words class : ℕ) → need_of words ≡ Small class → EndsWith (own who history) (Looked who class)
     → EndsRefused (own who (history ++ Refuse who words ∷ [])) who class
 refused-ends who history words class served ends =

@@ -1,0 +1,4 @@
+pub mod AnswerCourses
+pub mod AnswerPoints
+pub mod LargeAnswers
+pub mod StepAnswers
