@@ -3,3 +3,4 @@ pub mod StepLemmas
 pub mod FirstLemmas
 pub mod AdvanceLemmas
 pub mod ToldLemmas
+pub mod MeantLemmas

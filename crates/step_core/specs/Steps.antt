@@ -4,8 +4,10 @@ use Rattle.word_plan.specs.Actions.{after_action}
 use Rattle.word_plan.specs.Table.{Exists, word_index}
 use Rattle.errand_steps.specs.declared.reply.Progress.{Progress}
 use Rattle.errand_steps.specs.declared.reply.Progress.TheVariants as progress
+use Rattle.errand_steps.specs.declared.reply.Reply.{Reply}
 use Rattle.errand_steps.specs.Errands.{one_more, settle_of, answer_of}
 use Rattle.errand_steps.specs.Steps.{State, Step, Run, with_event, action_at, name_at, word_at, found_at, event_at}
+use Rattle.sound_state.specs.Answers.{IsMeant}
 use Rattle.step_core.specs.declared.machine.NextStep.{NextStep}
 use Rattle.step_core.specs.Cores.{CoreFields, errand_at, state_of}
 
@@ -27,6 +29,11 @@ pub record IsStepped (c : CoreFields) (who : ℕ) (answer : Progress) (after : C
   pub exact : after ≡ stepped c who
   pub answers : answer ≡ answer_of (errand_at c.errands who) (found_at (state_of c) who)
   pub some : answer ≢ progress.Idle
+
+-- where the step ends a call, what it answers is so
+abbrev pub AnswersSo : CoreFields → ℕ → Progress → CoreFields → Type 0
+AnswersSo c who answer after =
+    (reply : Reply) → answer ≡ progress.Done reply → IsMeant c.geometry (state_of c) who reply (state_of after)
 
 -- what a caller's next step will do
 pub record IsNext (c : CoreFields) (who : ℕ) (n : NextStep) : Type 0 where

@@ -14,7 +14,7 @@ ghost use Rattle.step_core.specs.Cores.{errand_at, with_errand, IsCore, OwnsBloc
 ghost use Rattle.errand_steps.specs.Openings.{opening};
 ghost use Rattle.step_core.specs.Openings.{first_words, IsOpened};
 ghost use Rattle.errand_steps.specs.Steps.{with_event, Turn, Run};
-ghost use Rattle.step_core.specs.Steps.{IsStepped, IsNext, RunsPart, counted};
+ghost use Rattle.step_core.specs.Steps.{IsStepped, IsNext, AnswersSo, RunsPart, counted};
 
 use crate::first::{first_errands, first_table};
 use errand_steps::errand::{Errand, answer, event, plan};
@@ -167,13 +167,15 @@ impl Core {
         self.errands[seat as usize].begin_take(shelf);
     }
 
-    /// Makes one step of the caller, and says what it came to; none where the caller is idle.
+    /// Makes one step of the caller, and says what it came to; none where the caller is idle. Where the
+    /// step ends a call, its answer is so: a block that it gives is the caller's, and so on.
     pub fn advance(&mut self, seat: u32) -> Result<Progress, AllocError>
         requires { seat < self.old.geometry.callers }
         ensures idle { IfOk result (λ progress. IsIdle (errand_at self.old.errands seat)
             → (progress ≡ Progress.Idle) × (self.new ≡ self.old)) }
         ensures busy { IfOk result (λ progress. IsBusy (errand_at self.old.errands seat)
             → IsStepped self.old seat progress self.new) }
+        ensures meant { IfOk result (λ progress. AnswersSo self.old seat progress self.new) }
         ensures geometry { self.new.geometry ≡ self.old.geometry }
         ensures err { OnErr result (self.new ≡ self.old) }
     {
@@ -189,6 +191,7 @@ impl Core {
         requires seat { seat < self.old.geometry.callers }
         requires busy { IsBusy (errand_at self.old.errands seat) }
         ensures ok { IfOk result (λ progress. IsStepped self.old seat progress self.new) }
+        ensures meant { IfOk result (λ progress. AnswersSo self.old seat progress self.new) }
         ensures geometry { self.new.geometry ≡ self.old.geometry }
         ensures err { OnErr result (self.new ≡ self.old) }
     {

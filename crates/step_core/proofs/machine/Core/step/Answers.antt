@@ -1,7 +1,9 @@
 -- The step made on the lists is the step of the state, and keeps the machine's rule.
-use Rattle.std.proofs.Common.{arith}
+use Rattle.std.proofs.Common.{arith, subst}
 use Rattle.std.proofs.lemmas.Grind.{common_steps}
+use Rattle.step_core.specs.Cores.{IsCore}
 use Rattle.step_core.proofs.AdvanceLemmas.{next-within, step-made}
+use Rattle.step_core.proofs.MeantLemmas.{step-meant}
 use Rattle.step_core.proofs.machine.Core.step.Goals as goal
 
 pub index_mut-requires : goal.index_mut-requires
@@ -21,6 +23,14 @@ invariant_of-self-2 c =
 
 pub returns-clause-ok : goal.returns-clause-ok
 returns-clause-ok c =
+    (step-made _ c.args.self.now c.args.seat c.next_step-next.result c.index_mut-2.result.now c.go_on.new.self
+    c.add_event.new.events.items c.saturating_add-self-inside.result c.self.invariant c.self.view_is c.requires.seat c.requires.busy
+    c.next_step-next.ensures c.index_mut-2.ensures.value c.go_on.ensures c.in_ok-add_event.ensures.ok
+    c.saturating_add-self-inside.ensures).is
+
+pub returns-clause-meant : goal.returns-clause-meant
+returns-clause-meant c =
+    step-meant c.args.self.now c.args.seat c.next_step-next.result.progress _ (subst IsCore c.self.view_is c.self.invariant) c.requires.seat
     (step-made _ c.args.self.now c.args.seat c.next_step-next.result c.index_mut-2.result.now c.go_on.new.self
     c.add_event.new.events.items c.saturating_add-self-inside.result c.self.invariant c.self.view_is c.requires.seat c.requires.busy
     c.next_step-next.ensures c.index_mut-2.ensures.value c.go_on.ensures c.in_ok-add_event.ensures.ok

@@ -1,0 +1,20 @@
+-- What a step of the machine answers is so.
+use Rattle.std.proofs.Common.{ℕ, ◌<◌, sym, ◌∙◌}
+use Rattle.errand_steps.specs.declared.reply.Progress.{Progress}
+use Rattle.sound_state.specs.Sound.{IsSound}
+use Rattle.sound_state.proofs.CountedLemmas.{without-counts}
+use Rattle.sound_state.proofs.answers.StepAnswers.{answers-meant}
+use Rattle.step_core.specs.Cores.{CoreFields, IsCore, state_of}
+use Rattle.step_core.specs.Steps.{AnswersSo, IsStepped}
+
+-- a machine is sound
+core-sound : (c : CoreFields) → IsCore c → IsSound c.geometry (state_of c)
+core-sound c core = core.sound
+
+pub step-meant :
+    (c : CoreFields) (who : ℕ) (answer : Progress) (after : CoreFields) → IsCore c → who < c.geometry.callers
+    → IsStepped c who answer after → AnswersSo c who answer after
+step-meant c who answer after core has stepped =
+    λ reply is.
+    answers-meant c.geometry (state_of c) who reply (state_of after) (without-counts c.geometry (state_of c) (core-sound c core)) has
+    stepped.step (sym stepped.answers ∙ is)
