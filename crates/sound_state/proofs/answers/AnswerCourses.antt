@@ -79,7 +79,7 @@ course-end e (Retire s d o) r is = retired-end e s d o r is
 course-end e (Pick s held o) r is = picked-end e s o _ r is
 course-end e (Unlist s d o) r is = resumed-end e s o r is
 
--- the answer of a step
+-- what the answer of a step tells
 pub answer-ends : (e : ErrandFields) (x : Found) (r : Reply) → answer_of e x ≡ Done r → EndsBy e (next_of e.point x) r
 unfolding answer_of course_of
 answer-ends e x r is = course-end e (next_of e.point x) r (told-end _ _ _ r is)
