@@ -5,12 +5,8 @@ use Rattle.errand_steps.specs.Steps.{State}
 use Rattle.sound_state.specs.Runs.{Call, alloc, free, write, read, put, take, Begins, Move, begins, steps, Moved, Reaches}
 use Rattle.pool_model.specs.Legal.{IsLegal}
 use Rattle.sound_state.specs.Sound.{IsSound, IsSoundWithoutCounts}
-use Rattle.sound_state.specs.Wins.{Wins, no_wins, wins_after}
-use Rattle.sound_state.specs.Won.{IsWon}
 use Rattle.sound_state.proofs.CountedLemmas.{without-counts, with-counts, steps-counted}
 use Rattle.sound_state.proofs.beginnings.BegunLemmas.{alloc-sound, free-sound, write-sound, read-sound, put-sound, take-sound}
-use Rattle.sound_state.proofs.wins.BegunWins.{begins-won}
-use Rattle.sound_state.proofs.wins.WonSteps.{steps-won}
 
 -- a call that begins
 pub begins-sound :
@@ -38,7 +34,7 @@ begins-counted g s who call s' sound has b =
     (subst (λ t. IsLegal g t.history) (sym b.after) sound.legal)
 
 -- a call that begins, or a step
-moved-sound : (g : Geometry) (s : State) (move : Move) (s' : State) → IsSound g s → Moved g s move s' → IsSound g s'
+pub moved-sound : (g : Geometry) (s : State) (move : Move) (s' : State) → IsSound g s → Moved g s move s' → IsSound g s'
 moved-sound g s (begins who call) s' sound moved = begins-counted g s who call s' sound moved.0 moved.1
 moved-sound g s (steps who) s' sound moved = steps-counted g s who s' sound moved.0 moved.1
 
@@ -52,23 +48,3 @@ reached-keeps g P keeps s (move ∷ rest) s' holds reached =
 
 pub reached-sound : (g : Geometry) (s : State) (moves : List Move) (s' : State) → IsSound g s → Reaches g s moves s' → IsSound g s'
 reached-sound g s moves s' sound reached = reached-keeps g (IsSound g) (moved-sound g) s moves s' sound reached
-
--- the state is sound, and there is a list of what was won in it
-abbrev WinsSoundly : Geometry → State → Type 0
-WinsSoundly g s = IsSound g s × (w : Wins) × IsWon g s w
-
-moved-won : (g : Geometry) (s : State) (move : Move) (s' : State) → WinsSoundly g s → Moved g s move s' → WinsSoundly g s'
-moved-won g s (begins who call) s' (sound, w, won) moved =
-    (begins-counted g s who call s' sound moved.0 moved.1, w, begins-won g s w who call s' won moved.0 moved.1)
-moved-won g s (steps who) s' (sound, w, won) moved = (
-  steps-counted g s who s' sound moved.0 moved.1,
-  wins_after s who w,
-  steps-won g s w who s' (without-counts g s sound) won moved.0 moved.1,
-)
-
-pub reached-won :
-    (g : Geometry) (s : State) (moves : List Move) (s' : State) → IsSound g s → IsWon g s no_wins → Reaches g s moves s'
-    → (w : Wins) × IsWon g s' w
-reached-won g s moves s' sound won reached =
-    let all : WinsSoundly g s' = reached-keeps g (WinsSoundly g) (moved-won g) s moves s' (sound, no_wins, won) reached in
-    (all.1, all.2)

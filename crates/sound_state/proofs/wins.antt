@@ -12,6 +12,7 @@ pub mod InstallPoints
 pub mod InstallWins
 pub mod LargeExpects
 pub mod LossLemmas
+pub mod MadeLemmas
 pub mod NoteLemmas
 pub mod PartialExpects
 pub mod SameNames

@@ -10,6 +10,7 @@ pub mod Holdings
 pub mod Installs
 pub mod Keepers
 pub mod Lists
+pub mod Made
 pub mod Recalls
 pub mod Runs
 pub mod Sound
