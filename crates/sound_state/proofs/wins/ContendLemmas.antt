@@ -116,7 +116,7 @@ own-most g s who w old =
     ]
 
 -- where it counts as lost the own pair was dirty, and is clean
-was-dirty :
+pub was-dirty :
     (g : Geometry) (s : State) (who : ℕ) (w : Wins) → who < g.callers → IsNoted g s w → LosesOn (s.errand who).point (word_at s who)
     → counts_lost (s.errand who).point (found_at s who) ≡ true → is_dirty w who (name_at s who) ≡ true
 was-dirty g s who w has old loses lost =
@@ -190,6 +190,36 @@ lost-after g s who s' has step = callers-moved g lost_of s.errand who (settle_of
 
 raised-most : (n : ℕ) → raised true n ≤ n + 1
 raised-most n = omega arith
+
+-- a win adds to the dirty pairs at most one of each other caller, and what counts as lost takes one off
+pub pairs-after :
+    (g : Geometry) (s : State) (who : ℕ) (w : Wins) → who < g.callers → Exists g (name_at s who) → LosesOn (s.errand who).point (word_at s who)
+    → IsNoted g s w
+    → dirty_pairs g (wins_after s who w) + one_if (counts_lost (s.errand who).point (found_at s who))
+    ≤ dirty_pairs g w + (g.callers - 1) * one_if (counts_won (action_at s who) (found_at s who))
+pairs-after g s who w has exists loses noted =
+    let e = s.errand who in
+    let pairs = pairs-changed g s who w exists noted in
+    elim (cases_Bool (counts_won (action_at s who) (found_at s who))) [
+      | inl won ↦
+          let product : (g.callers - 1) * one_if (counts_won (action_at s who) (found_at s who)) ≡ g.callers - 1 =
+          rw won (omega arith) in
+          omega (arith, pairs, product, on-won g s who w has won, ap one_if (won-not-lost e.point (found_at s who) won))
+      | inr none ↦
+          let own = on-none g s who w has noted none in
+          elim (cases_Bool (counts_lost e.point (found_at s who))) [
+            | inl lost ↦
+                omega (
+                  arith,
+                  pairs,
+                  own,
+                  ap one_if lost,
+                  ap one_if (was-dirty g s who w has noted loses lost),
+                  ap one_if (now-clean s who w lost),
+                )
+            | inr kept ↦ omega (arith, pairs, own, ap one_if kept, own-most g s who w noted)
+          ]
+    ]
 
 -- one more win allows for each other caller one more
 won-most :

@@ -1,5 +1,5 @@
 -- Every step keeps what was won, noted and lost.
-use Rattle.std.proofs.Common.{ℕ, true, ◌≡◌, ◌≢◌, ◌<◌, ◌^◌, List, [], ◌∷◌, arith, subst, refl}
+use Rattle.std.proofs.Common.{ℕ, true, ◌≡◌, ◌≢◌, ◌<◌, ◌≤◌, ◌+◌, ◌-◌, ◌*◌, ◌^◌, List, [], ◌∷◌, arith, subst, refl}
 use Rattle.std.specs.Prelude.{◌==◌, not, Any}
 use Rattle.std.proofs.lemmas.List.Elements.{All-nil}
 use Rattle.heap_geometry.specs.declared.geometry.Geometry.{Geometry}
@@ -8,19 +8,22 @@ use Rattle.word_plan.specs.Actions.{name_of}
 use Rattle.word_plan.specs.Table.{Exists}
 use Rattle.errand_steps.specs.declared.point.Point.{Point}
 use Rattle.errand_steps.specs.declared.point.Point.TheVariants.{Idle, Block, Stack, Desc, Partial, Large}
-use Rattle.errand_steps.specs.Errands.{counts_lost}
+use Rattle.errand_steps.specs.Errands.{counts_lost, counts_won}
 use Rattle.errand_steps.specs.Fits.{FitsPoint}
 use Rattle.errand_steps.specs.Nexts.{next_of}
 use Rattle.errand_steps.specs.Points.{plan_point_of}
 use Rattle.errand_steps.specs.Steps.{State, Step, action_at, name_at, word_at, found_at}
 use Rattle.errand_steps.proofs.PlanLemmas.{plan-exists}
+use Rattle.sound_state.specs.Contention.{IsDirty, dirty_pairs}
 use Rattle.sound_state.specs.Expectations.{Expected, expects_of}
-use Rattle.sound_state.specs.Sound.{IsSoundWithoutCounts}
+use Rattle.sound_state.specs.Sound.{IsSound, IsSoundWithoutCounts}
+use Rattle.sound_state.specs.Turns.{one_if}
 use Rattle.sound_state.specs.Wins.{Wins, wins_after}
 use Rattle.sound_state.specs.Won.{IsWon}
-use Rattle.sound_state.proofs.shared.PointLemmas.{fits-at}
+use Rattle.sound_state.proofs.CountedLemmas.{without-counts}
+use Rattle.sound_state.proofs.shared.PointLemmas.{exists-at, fits-at}
 use Rattle.sound_state.proofs.wins.BlockExpects.{block-expects}
-use Rattle.sound_state.proofs.wins.ContendLemmas.{step-contended}
+use Rattle.sound_state.proofs.wins.ContendLemmas.{pairs-after, step-contended, was-dirty}
 use Rattle.sound_state.proofs.wins.DescExpects.{desc-expects}
 use Rattle.sound_state.proofs.wins.ExpectLemmas.{any-first, lost-differs}
 use Rattle.sound_state.proofs.wins.InstallWins.{step-installed}
@@ -88,3 +91,18 @@ steps-won g s w who s' sound won has step =
       contended = step-contended g s who s' w has exists step (loses-on e.point (word_at s who)) won.noted won.contended;
       installed = step-installed g s w who s' has (fits-at g s l who e.point old has refl) step won.installed expects;
     }
+
+-- the pair of who loses was dirty
+pub lost-dirty :
+    (g : Geometry) (s : State) (w : Wins) (who : ℕ) → IsWon g s w → who < g.callers → counts_lost (s.errand who).point (found_at s who) ≡ true
+    → IsDirty w who (name_at s who)
+lost-dirty g s w who won has lost = was-dirty g s who w has won.noted (loses-on (s.errand who).point (word_at s who)) lost
+
+-- and so the dirty pairs change with what is won and lost
+pub step-pairs :
+    (g : Geometry) (s : State) (w : Wins) (who : ℕ) → IsSound g s → IsWon g s w → who < g.callers
+    → dirty_pairs g (wins_after s who w) + one_if (counts_lost (s.errand who).point (found_at s who))
+    ≤ dirty_pairs g w + (g.callers - 1) * one_if (counts_won (action_at s who) (found_at s who))
+step-pairs g s w who sound won has =
+    let p = (s.errand who).point in
+    pairs-after g s who w has (exists-at g s who p (without-counts g s sound) has refl) (loses-on p (word_at s who)) won.noted

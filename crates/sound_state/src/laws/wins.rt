@@ -1,17 +1,19 @@
 //! Laws of what callers win from each other, and of what that bounds.
 
-ghost use Rattle.std.specs.Prelude.{ℕ, List, [], ◌∷◌, ◌++◌, ◌≡◌, ◌<◌, ◌≤◌, ◌+◌, ◌-◌, ◌*◌, ◌^◌, count_by};
+ghost use Rattle.std.specs.Prelude.{ℕ, List, [], ◌∷◌, ◌++◌, ◌≡◌, ◌<◌, ◌≤◌, ◌+◌, ◌-◌, ◌*◌, ◌^◌, true, length, count_by};
 ghost use Rattle.heap_geometry.specs.declared.geometry.Geometry.{Geometry};
 ghost use Rattle.heap_geometry.specs.declared.limits.TheConstants.{CLASSES};
 ghost use Rattle.heap_geometry.specs.Geometry.{IsChecked};
 ghost use Rattle.errand_steps.specs.Openings.{opening, installed, IsOpening};
-ghost use Rattle.errand_steps.specs.Steps.{State, Step};
-ghost use Rattle.sound_state.specs.Contention.{lost_of, won_of};
+ghost use Rattle.errand_steps.specs.Errands.{counts_lost, counts_won};
+ghost use Rattle.errand_steps.specs.Steps.{State, Step, action_at, name_at, found_at};
+ghost use Rattle.sound_state.specs.Contention.{IsDirty, dirty_pairs, lost_of, won_of};
+ghost use Rattle.sound_state.specs.Installs.{installs_by, installs_against, errand_offers};
 ghost use Rattle.sound_state.specs.Made.{ReachesWith, made_by};
 ghost use Rattle.sound_state.specs.Runs.{Call, Begins, Move, Moved, Reaches};
 ghost use Rattle.sound_state.specs.Sound.{IsSound};
 ghost use Rattle.sound_state.specs.Sums.{callers_sum};
-ghost use Rattle.sound_state.specs.Turns.{is_small_alloc, refuses_small, turn_unanswered};
+ghost use Rattle.sound_state.specs.Turns.{one_if, gives_small, refuses_small, is_small_alloc, errand_discards, turn_unanswered};
 ghost use Rattle.sound_state.specs.Wins.{Wins, no_wins, wins_after};
 ghost use Rattle.sound_state.specs.Won.{IsWon};
 
@@ -65,18 +67,49 @@ pub fn reached_states_have_wins()
         → class < CLASSES → IsOpening g (installed g class) s → ReachesWith g s no_wins moves after w → IsWon g after w }
 {}
 
-/// The exchanges that callers lost are at most those that they won, times the other callers, as long as
-/// no count of won ones stands at its end.
+/// A caller loses only where another one has won since: its pair with the word of the step was dirty
+/// before. And the step uses that pair up, while a win makes at most one pair of each other caller
+/// dirty.
+pub fn lost_exchanges_were_dirty()
+    ensures dirty { (g : Geometry) (s : State) (w : Wins) (who : ℕ) → IsWon g s w → who < g.callers
+        → counts_lost (s.errand who).point (found_at s who) ≡ true → IsDirty w who (name_at s who) }
+    ensures used { (g : Geometry) (s : State) (w : Wins) (who : ℕ) → IsSound g s → IsWon g s w → who < g.callers
+        → dirty_pairs g (wins_after s who w) + one_if (counts_lost (s.errand who).point (found_at s who))
+        ≤ dirty_pairs g w + (g.callers - 1) * one_if (counts_won (action_at s who) (found_at s who)) }
+{}
+
+/// The exchanges that callers lost are, with the pairs that are dirty, at most the wins of the list times
+/// the other callers. So they are at most those that the callers won, times the other callers, as long
+/// as no count of won ones stands at its end.
 pub fn losses_are_bounded()
-    ensures { (g : Geometry) (s : State) (w : Wins) → IsWon g s w
+    ensures list { (g : Geometry) (s : State) (w : Wins) → IsWon g s w
+        → callers_sum g lost_of s.errand + dirty_pairs g w ≤ (g.callers - 1) * length w.list }
+    ensures won { (g : Geometry) (s : State) (w : Wins) → IsWon g s w
         → ((who : ℕ) → who < g.callers → (s.errand who).won < 2 ^ 64 - 1)
         → callers_sum g lost_of s.errand ≤ (g.callers - 1) * callers_sum g won_of s.errand }
 {}
 
-/// A caller takes no more turns than small blocks were given to any caller and small needs were refused
-/// to itself, and the turn that has no answer yet.
-pub fn turns_are_bounded()
+/// A caller installs at most as often as it is given a small block, and one time less while it has such
+/// a block and offers what it reserved beside.
+pub fn installs_are_bounded()
     ensures { (g : Geometry) (s : State) (w : Wins) (who : ℕ) → IsWon g s w → who < g.callers
+        → count_by (installs_by who) w.list + errand_offers (s.errand who) ≤ count_by (gives_small who) s.history }
+{}
+
+/// Beside the turns that gave it a small block or refused it a small need, and the one that has no answer
+/// yet, a caller takes no more turns than others installed, and no more than it lost exchanges itself.
+/// So all its turns are at most the small blocks given to any caller, the small needs refused to itself,
+/// and the turn that has no answer yet.
+pub fn turns_are_bounded()
+    ensures list { (g : Geometry) (s : State) (w : Wins) (who : ℕ) → IsWon g s w → who < g.callers
+        → (s.errand who).turns
+        ≤ count_by (gives_small who) s.history + count_by (refuses_small who) s.history
+        + count_by (installs_against who) w.list + turn_unanswered (s.errand who) }
+    ensures lost { (g : Geometry) (s : State) (who : ℕ) → IsSound g s → who < g.callers
+        → (s.errand who).turns + errand_discards (s.errand who)
+        ≤ count_by (gives_small who) s.history + count_by (refuses_small who) s.history
+        + (s.errand who).lost + turn_unanswered (s.errand who) }
+    ensures given { (g : Geometry) (s : State) (w : Wins) (who : ℕ) → IsWon g s w → who < g.callers
         → (s.errand who).turns
         ≤ count_by is_small_alloc s.history + count_by (refuses_small who) s.history + turn_unanswered (s.errand who) }
 {}
