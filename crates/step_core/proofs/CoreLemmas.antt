@@ -1,23 +1,90 @@
 -- The machine's rule is kept.
-use Rattle.std.proofs.Common.{ℕ, ◌≡◌, ◌<◌, refl, arith, ap, sym, ◌∙◌, subst, List, length, slice_set, slice_index, slice_index_or}
+use Rattle.std.proofs.Common.{ℕ, ◌≡◌, ◌<◌, refl, arith, ap, sym, ◌∙◌, subst, inl, inr, List, [], ◌∷◌, ◌++◌, length, slice_set, slice_index, slice_index_or}
 use Rattle.std.proofs.lemmas.List.{get_or-set_same, get_or-set_other, get_or_read, length-set}
 use Rattle.heap_geometry.specs.declared.geometry.Geometry.{Geometry}
 use Rattle.heap_geometry.specs.declared.need.Need.{Need}
+use Rattle.heap_geometry.specs.Geometry.{IsChecked}
 use Rattle.word_plan.specs.declared.name.WordName.{WordName}
 use Rattle.word_plan.specs.Table.{Exists, word_index}
 use Rattle.word_plan.specs.Words.{word_in}
 use Rattle.word_plan.proofs.TableLemmas.{word_index-within}
 use Rattle.word_plan.proofs.WordLemmas.{word_in-there}
 use Rattle.errand_steps.specs.Begins.{IsHeapBlock, IsIdle}
-use Rattle.errand_steps.specs.Errands.{ErrandFields}
-use Rattle.errand_steps.specs.Steps.{Moves}
-use Rattle.sound_state.specs.Runs.{Call, Begins, MayBegin, begun_by}
-use Rattle.sound_state.specs.Sound.{IsOwnErrand}
+use Rattle.errand_steps.specs.Errands.{ErrandFields, one_more}
+use Rattle.errand_steps.specs.Openings.{opening, installed}
+use Rattle.errand_steps.specs.Steps.{State, Step, Moves}
+use Rattle.sound_state.specs.Runs.{Call, Begins, MayBegin, begins, steps, begun_by, is_step}
+use Rattle.sound_state.specs.Sound.{IsSound, IsOwnErrand}
+use Rattle.sound_state.specs.Wins.{no_wins, wins_after}
+use Rattle.sound_state.specs.Won.{IsWon}
 use Rattle.sound_state.proofs.CountedLemmas.{without-counts}
-use Rattle.sound_state.proofs.ReachLemmas.{begins-counted}
+use Rattle.sound_state.proofs.ReachLemmas.{reached-sound}
 use Rattle.sound_state.proofs.beginnings.BegunLemmas.{owned-block}
-use Rattle.sound_state.proofs.wins.BegunWins.{begins-won}
-use Rattle.step_core.specs.Cores.{CoreFields, IsCore, OwnsBlock, errand_at, no_errand, state_of, with_errand}
+use Rattle.sound_state.proofs.beginnings.InstalledLemmas.{installed-sound}
+use Rattle.sound_state.proofs.beginnings.OpeningLemmas.{opening-sound}
+use Rattle.sound_state.proofs.wins.CountLemmas.{count-append}
+use Rattle.sound_state.proofs.wins.FirstWins.{first-won}
+use Rattle.sound_state.proofs.wins.MadeLemmas.{made-reached, made-more, made-won}
+use Rattle.step_core.specs.Cores.{CoreFields, IsCore, IsFirst, IsReached, OwnsBlock, errand_at, no_errand, state_of, with_errand}
+
+-- the state before the first step is sound, and nothing is won in it
+first-sound : (g : Geometry) (s : State) → IsChecked g → IsFirst g s → IsSound g s
+first-sound g s checked first =
+    elim first [
+      | inl opens ↦ opening-sound g s checked opens
+      | inr has ↦ installed-sound g has.0 s checked has.1 has.2
+    ]
+
+first-none : (g : Geometry) (s : State) → IsFirst g s → IsWon g s no_wins
+first-none g s first =
+    elim first [
+      | inl opens ↦ first-won g (opening g) s opens
+      | inr has ↦ first-won g (installed g has.0) s has.2
+    ]
+
+-- so the state that was reached is sound, and what the run's steps won and noted keeps its bounds
+pub run-sound : (g : Geometry) (s : State) (made : ℕ) → IsReached g s made → IsSound g s
+run-sound g s made run =
+    reached-sound g run.first run.moves s (first-sound g run.first run.checked run.opens)
+    (made-reached g run.first no_wins run.moves s run.wins run.reaches)
+
+pub run-won : (g : Geometry) (s : State) (made : ℕ) (run : IsReached g s made) → IsWon g s run.wins
+run-won g s made run =
+    made-won g run.first no_wins run.moves s run.wins (first-sound g run.first run.checked run.opens)
+    (first-none g run.first run.opens) run.reaches
+
+-- the machine is sound
+pub core-sound : (c : CoreFields) → IsCore c → IsSound c.geometry (state_of c)
+core-sound c core = run-sound c.geometry (state_of c) c.steps core.run
+
+-- a run with a call that begins, and with one more step
+pub run-begun :
+    (g : Geometry) (s : State) (made who : ℕ) (call : Call) (s' : State) → IsReached g s made → who < g.callers → Begins s who call s'
+    → IsReached g s' made
+run-begun g s made who call s' run has begins' =
+    record {
+      checked = run.checked;
+      first = run.first;
+      opens = run.opens;
+      moves = run.moves ++ begins who call ∷ [];
+      wins = run.wins;
+      reaches = made-more g run.first no_wins run.moves s run.wins (begins who call) s' run.reaches (has, begins');
+      steps = omega (arith, run.steps, count-append is_step run.moves (begins who call ∷ []));
+    }
+
+pub run-stepped :
+    (g : Geometry) (s : State) (made who : ℕ) (s' : State) → IsReached g s made → who < g.callers → Step s who s'
+    → IsReached g s' (one_more made)
+run-stepped g s made who s' run has step =
+    record {
+      checked = run.checked;
+      first = run.first;
+      opens = run.opens;
+      moves = run.moves ++ steps who ∷ [];
+      wins = wins_after s who run.wins;
+      reaches = made-more g run.first no_wins run.moves s run.wins (steps who) s' run.reaches (has, step);
+      steps = omega (arith, run.steps, count-append is_step run.moves (steps who ∷ []));
+    }
 
 -- a write to the list of errands moves one of them
 pub moves-set :
@@ -46,7 +113,14 @@ errand-own c value who x core view below read =
     let callers : c.geometry.callers ≡ value.geometry.callers = ap (λ (v : CoreFields). v.geometry.callers) view in
     let below' : who < c.geometry.callers = omega (arith, callers) in
     let P : ErrandFields → Type 0 = IsOwnErrand c.geometry who in
-    subst P (sym (get_or_read c.errands who x (omega (arith, core.errands)) read no_errand)) (core.sound.parts.1.errands who below')
+    subst P (sym (get_or_read c.errands who x (omega (arith, core.errands)) read no_errand)) ((core-sound c core).parts.1.errands who below')
+
+-- so a word of its heap is one of the machine's
+pub errand-heap :
+    (c value : CoreFields) (who : ℕ) (x : ErrandFields) (name : WordName) → IsCore c → c ≡ value → who < value.geometry.callers
+    → x ≡ slice_index_or c.errands who x → Exists x.geometry name → Exists c.geometry name
+errand-heap c value who x name core view below read is =
+    subst (λ g. Exists g name) (errand-own c value who x core view below read).geometry is
 
 -- the rule is kept where the caller's errand has begun a call
 pub core-begun :
@@ -58,7 +132,7 @@ core-begun c value who call x e core view below read idle may begun =
     let mine : V c = subst V (sym view) (below, idle, may) in
     let within : who < length c.errands = omega (arith, core.errands, mine.0) in
     let here : x ≡ errand_at c.errands who = get_or_read c.errands who x within read no_errand in
-    let begins : Begins (state_of c) who call (state_of (with_errand c who e)) = record {
+    let begun_so : Begins (state_of c) who call (state_of (with_errand c who e)) = record {
       idle = mine.1;
       may = mine.2;
       errands = errand_at (slice_set c.errands who e);
@@ -70,8 +144,7 @@ core-begun c value who call x e core view below read idle may begun =
     record {
       words = core.words;
       errands = length-set c.errands who e ∙ core.errands;
-      sound = begins-counted c.geometry (state_of c) who call (state_of (with_errand c who e)) core.sound mine.0 begins;
-      won = (core.won.0, begins-won c.geometry (state_of c) core.won.0 who call (state_of (with_errand c who e)) core.won.1 mine.0 begins);
+      run = run-begun c.geometry (state_of c) c.steps who call (state_of (with_errand c who e)) core.run mine.0 begun_so;
     }
 
 -- the caller's block is one of its errand's heap
@@ -84,7 +157,7 @@ block-begun c value who place need x core view below read owned =
     let mine : OwnsBlock c who place need = subst O (sym view) owned in
     let P : Geometry → Type 0 = λ g. IsHeapBlock g place need in
     subst P (sym own.geometry)
-    (owned-block c.geometry (state_of c) who place need (without-counts c.geometry (state_of c) core.sound) (record { block = mine }))
+    (owned-block c.geometry (state_of c) who place need (without-counts c.geometry (state_of c) (core-sound c core)) (record { block = mine }))
 
 -- the word that is read at a name's place is that of the name
 pub word-read :

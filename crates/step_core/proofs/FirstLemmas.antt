@@ -17,11 +17,9 @@ use Rattle.word_plan.proofs.WordLemmas.{word_in-there}
 use Rattle.word_plan.specs.declared.name.WordName.{WordName}
 use Rattle.errand_steps.specs.Errands.{ErrandFields, open_errand}
 use Rattle.errand_steps.specs.Openings.{opening, installed, IsOpening}
+use Rattle.errand_steps.specs.Steps.{State}
 use Rattle.sound_state.specs.Wins.{no_wins}
-use Rattle.sound_state.proofs.beginnings.InstalledLemmas.{installed-sound}
-use Rattle.sound_state.proofs.beginnings.OpeningLemmas.{opening-sound}
-use Rattle.sound_state.proofs.wins.FirstWins.{first-won}
-use Rattle.step_core.specs.Cores.{IsCore, no_errand, state_of}
+use Rattle.step_core.specs.Cores.{IsCore, IsFirst, IsReached, no_errand, state_of}
 use Rattle.step_core.specs.Firsts.{AreErrands, IsTable}
 use Rattle.step_core.specs.Openings.{first_words}
 
@@ -91,27 +89,33 @@ core-opening g first words errands steps table are = record {
   history = refl;
 }
 
+-- the run of a machine that has made none
+run-none : (g : Geometry) (s : State) → IsChecked g → IsFirst g s → IsReached g s 0
+run-none g s checked opens = record {
+  checked = checked;
+  first = s;
+  opens = opens;
+  moves = [];
+  wins = no_wins;
+  reaches = (refl, refl);
+  steps = refl;
+}
+
 -- the rule of a machine that has made no step
 pub core-opened :
-    (g : Geometry) (installed : Option ℕ) (words : List ℕ) (errands : List ErrandFields) (steps : ℕ) → IsChecked g
+    (g : Geometry) (installed : Option ℕ) (words : List ℕ) (errands : List ErrandFields) → IsChecked g
     → IfSome installed (λ class. class < CLASSES) → IsTable g (first_words g installed) (word_count g) words → AreErrands g g.callers errands
-    → IsCore (record { geometry = g; words = words; errands = errands; events = []; steps = steps })
-core-opened g None words errands steps checked has table are =
-    let first = core-opening g (opening g) words errands steps table are in
-    record {
-      words = table.all;
-      errands = are.all;
-      sound = opening-sound g _ checked first;
-      won = (no_wins, first-won g (opening g) _ first);
-    }
-core-opened g (Some class) words errands steps checked has table are =
-    let first = core-opening g (installed g class) words errands steps table are in
-    record {
-      words = table.all;
-      errands = are.all;
-      sound = installed-sound g class _ checked has first;
-      won = (no_wins, first-won g (installed g class) _ first);
-    }
+    → IsCore (record { geometry = g; words = words; errands = errands; events = []; steps = 0 })
+core-opened g None words errands checked has table are = record {
+  words = table.all;
+  errands = are.all;
+  run = run-none g _ checked (inl (core-opening g (opening g) words errands 0 table are));
+}
+core-opened g (Some class) words errands checked has table are = record {
+  words = table.all;
+  errands = are.all;
+  run = run-none g _ checked (inr (class, has, core-opening g (installed g class) words errands 0 table are));
+}
 
 -- a heap has descriptors
 pub descriptors-some : (g : Geometry) → IsChecked g → 0 < descriptor_count g

@@ -1,20 +1,15 @@
 -- A step of the lists is a step of the state; steps are determined; and runs follow one another.
-use Rattle.std.proofs.Common.{ℕ, zero, suc, take, ◌≡◌, ◌<◌, ◌+◌, refl, arith, ap, sym, ◌∙◌, subst, List, [], ◌∷◌, ◌++◌, length, inl, inr, slice_index}
-use Rattle.std.proofs.lemmas.Bool.{cases_eq}
+use Rattle.std.proofs.Common.{ℕ, zero, suc, take, ◌≡◌, ◌<◌, ◌+◌, refl, arith, ap, sym, ◌∙◌, subst, List, [], ◌∷◌, ◌++◌, length, slice_index}
 use Rattle.std.proofs.lemmas.List.{length-set, take_more}
-use Rattle.word_plan.specs.declared.name.WordName.{WordName}
 use Rattle.word_plan.specs.Table.{Exists}
-use Rattle.word_plan.proofs.NameLemmas.{cases_name}
 use Rattle.word_plan.proofs.WordLemmas.{Writes-set}
 use Rattle.errand_steps.specs.Begins.{IsBusy}
 use Rattle.errand_steps.specs.Errands.{one_more}
 use Rattle.step_core.specs.Cores.{CoreFields, IsCore, errand_at, state_of}
 use Rattle.errand_steps.specs.Steps.{State, Step, Turn, Run, IsSame, name_at}
 use Rattle.step_core.specs.Steps.{stepped, counted}
-use Rattle.sound_state.specs.Wins.{wins_after}
-use Rattle.sound_state.proofs.CountedLemmas.{without-counts, steps-counted}
-use Rattle.sound_state.proofs.wins.WonSteps.{steps-won}
-use Rattle.step_core.proofs.CoreLemmas.{moves-set}
+use Rattle.sound_state.proofs.wins.MadeLemmas.{step-one}
+use Rattle.step_core.proofs.CoreLemmas.{moves-set, run-stepped}
 
 -- what a step makes of the lists is a step of the state
 pub step-stepped :
@@ -48,40 +43,13 @@ core-stepped c who core below busy is =
     record {
       words = lists.0 ∙ core.words;
       errands = lists.1 ∙ core.errands;
-      sound = steps-counted c.geometry before who after core.sound below step;
-      won = (
-        wins_after before who core.won.0,
-        steps-won c.geometry before core.won.0 who after (without-counts c.geometry before core.sound) core.won.1 below step,
-      );
+      run = run-stepped c.geometry before c.steps who after core.run below step;
     }
-
--- the word after a step
-word-determined :
-    (s a b : State) (who : ℕ) → Step s who a → Step s who b → (name : WordName) → a.word name ≡ b.word name
-word-determined s a b who first second name =
-    elim (cases_name name (name_at s who)) [
-      | inl same ↦
-          ap a.word same ∙ (first.word.here ∙ (sym second.word.here ∙ ap b.word (sym same)))
-      | inr differ ↦ first.word.elsewhere name differ ∙ sym (second.word.elsewhere name differ)
-    ]
-
-errand-determined :
-    (s a b : State) (who : ℕ) → Step s who a → Step s who b → (other : ℕ) → a.errand other ≡ b.errand other
-errand-determined s a b who first second other =
-    elim (cases_eq other who) [
-      | inl same ↦
-          ap a.errand same ∙ (first.errand.here ∙ (sym second.errand.here ∙ ap b.errand (sym same)))
-      | inr differ ↦ first.errand.elsewhere other differ ∙ sym (second.errand.elsewhere other differ)
-    ]
 
 -- a step is determined by the state before it
 pub step-determined : (s a b : State) (who : ℕ) → Step s who a → Step s who b → IsSame a b
 step-determined s a b who first second =
-    record {
-      word = word-determined s a b who first second;
-      errand = errand-determined s a b who first second;
-      history = first.history ∙ sym second.history;
-    }
+    subst (IsSame a) (step-one s a b who first second) (record { word = λ name. refl; errand = λ other. refl; history = refl })
 
 -- two runs, one after the other
 abbrev pub Runs : State → List ℕ → List ℕ → ℕ → State → Type 0

@@ -1,17 +1,20 @@
 -- What the machine holds, and the rule that it keeps.
-use Rattle.std.specs.Prelude.{ℕ, ◌≡◌, List, Some, length, slice_index_or, slice_set}
+use Rattle.std.specs.Prelude.{ℕ, ◌≡◌, ◌<◌, ◌-◌, ◌^◌, ◌⊎◌, min, List, Some, length, count_by, slice_index_or, slice_set}
 use Rattle.heap_geometry.specs.declared.geometry.Geometry.{Geometry}
+use Rattle.heap_geometry.specs.declared.limits.TheConstants.{CLASSES}
 use Rattle.heap_geometry.specs.declared.need.Need.{Need}
+use Rattle.heap_geometry.specs.Geometry.{IsChecked}
 use Rattle.word_plan.specs.Counts.{word_count}
 use Rattle.word_plan.specs.Words.{word_in}
 use Rattle.pool_model.specs.declared.event.Event.{Event}
 use Rattle.pool_model.specs.declared.owner.Owner.TheVariants.{Caller}
 use Rattle.pool_model.specs.Pool.{Block, block_at, pool_of}
 use Rattle.errand_steps.specs.Errands.{ErrandFields, open_errand}
+use Rattle.errand_steps.specs.Openings.{opening, installed, IsOpening}
 use Rattle.errand_steps.specs.Steps.{State}
-use Rattle.sound_state.specs.Sound.{IsSound}
-use Rattle.sound_state.specs.Wins.{Wins}
-use Rattle.sound_state.specs.Won.{IsWon}
+use Rattle.sound_state.specs.Made.{ReachesWith}
+use Rattle.sound_state.specs.Runs.{Move, is_step}
+use Rattle.sound_state.specs.Wins.{Wins, no_wins}
 
 -- the heap's numbers, the table of its words, the errand of each caller, the events so far, and how many steps were made
 pub record CoreFields : Type 0 where
@@ -37,12 +40,25 @@ with_errand c who e = record c { errands = slice_set c.errands who e }
 abbrev pub state_of : CoreFields → State
 state_of c = record { word = word_in c.geometry c.words; errand = errand_at c.errands; history = c.events }
 
--- each caller has its errand, all words of the table are there; the state is sound, and there is a list of what was won in it
+-- no step is made: the heap is as it opens, or has a superblock of some class installed
+abbrev pub IsFirst : Geometry → State → Type 0
+IsFirst g s = IsOpening g (opening g) s ⊎ ((class : ℕ) × (class < CLASSES) × IsOpening g (installed g class) s)
+
+-- callers' moves have led to the state from one in which no step was made, with so many steps among them, as a count of 64 bits has it; and these are the wins and the notes that their steps made
+pub record IsReached (g : Geometry) (s : State) (made : ℕ) : Type 0 where
+  pub checked : IsChecked g
+  pub first : State
+  pub opens : IsFirst g first
+  pub moves : List Move
+  pub wins : Wins
+  pub reaches : ReachesWith g first no_wins moves s wins
+  pub steps : made ≡ min (count_by is_step moves) (2 ^ 64 - 1)
+
+-- each caller has its errand, all words of the table are there; and moves of the callers have reached the state, with as many steps as are counted
 pub record IsCore (c : CoreFields) : Type 0 where
   pub words : length c.words ≡ word_count c.geometry
   pub errands : length c.errands ≡ c.geometry.callers
-  pub sound : IsSound c.geometry (state_of c)
-  pub won : (w : Wins) × IsWon c.geometry (state_of c) w
+  pub run : IsReached c.geometry (state_of c) c.steps
 
 -- the caller owns the live block at the place, and that serves this need
 abbrev pub OwnsBlock : CoreFields → ℕ → ℕ → Need → Type 0

@@ -1,18 +1,19 @@
 //! Laws of the machine: theorems about the definitions, on functions that do nothing; and a machine
 //! to begin with whose first superblock is in use.
 
-ghost use Rattle.std.specs.Prelude.{ℕ, List, ◌≡◌, ◌<◌, ◌≤◌, ◌+◌, ◌-◌, ◌*◌, ◌^◌, ◌++◌, ◌↔◌, IfOk, count_by};
+ghost use Rattle.std.specs.Prelude.{ℕ, List, ◌≡◌, ◌<◌, ◌≤◌, ◌+◌, ◌-◌, ◌*◌, ◌^◌, ◌++◌, ◌↔◌, IfOk, length, count_by};
 ghost use Rattle.heap_geometry.specs.Geometry.{IsChecked};
 ghost use Rattle.heap_geometry.specs.declared.limits.TheConstants.{CLASSES};
 ghost use Rattle.word_plan.specs.Actions.{name_of};
 ghost use Rattle.word_plan.specs.Table.{Exists};
 ghost use Rattle.errand_steps.specs.Begins.{IsBusy};
 ghost use Rattle.errand_steps.specs.Errands.{plan_of};
-ghost use Rattle.sound_state.specs.Contention.{lost_of, won_of};
+ghost use Rattle.sound_state.specs.Contention.{dirty_pairs, lost_of, won_of};
+ghost use Rattle.sound_state.specs.Installs.{installs_by, installs_against, errand_offers};
 ghost use Rattle.sound_state.specs.Sound.{IsSound};
 ghost use Rattle.sound_state.specs.Sums.{callers_sum};
-ghost use Rattle.sound_state.specs.Turns.{is_small_alloc, refuses_small, turn_unanswered};
-ghost use Rattle.step_core.specs.Cores.{CoreFields, IsCore, errand_at, state_of};
+ghost use Rattle.sound_state.specs.Turns.{gives_small, refuses_small, is_small_alloc, errand_discards, turn_unanswered};
+ghost use Rattle.step_core.specs.Cores.{CoreFields, IsCore, IsReached, errand_at, state_of};
 ghost use Rattle.errand_steps.specs.Openings.{installed};
 ghost use Rattle.step_core.specs.Openings.{IsOpened};
 ghost use Rattle.errand_steps.specs.Steps.{State, Step, Run, IsSame};
@@ -32,12 +33,28 @@ pub fn open_installed(alloc: Global, geometry: Geometry, class: u8) -> Result<Co
     Core::open_with(alloc, geometry, Some(class))
 }
 
-/// What the type keeps of every machine, from its opening on and whatever its callers did: its state is
-/// sound; its callers lost no more exchanges than they won, times the other callers, as long as no
-/// count of won ones stands at its end; and a caller took no more turns than small blocks were given to
-/// any caller and small needs were refused to itself, and the turn that has no answer yet.
+/// What the type keeps of every machine, from its opening on and whatever its callers did. Its state is
+/// sound, and moves of its callers have reached it, with as many steps as it counts. The list is what
+/// the steps of such a run won, and these bounds hold of it: the lost exchanges and the dirty pairs are
+/// at most its length times the other callers; a caller installs at most as often as it is given a small
+/// block; and beside the turns that were answered it takes at most one for each install of another.
+/// Without the list: the callers lost no more exchanges than they won, times the other callers, as long
+/// as no count of won ones stands at its end; and a caller took no more turns than small blocks were
+/// given to any caller and small needs were refused to itself, and the turn that has no answer yet; nor
+/// more than were given or refused to itself, and exchanges that it lost, and that turn.
 pub fn machines_are_sound()
     ensures sound { (c : CoreFields) → IsCore c → IsSound c.geometry (state_of c) }
+    ensures reached { (c : CoreFields) → IsCore c → IsReached c.geometry (state_of c) c.steps }
+    ensures losses { (c : CoreFields) (run : IsReached c.geometry (state_of c) c.steps)
+        → callers_sum c.geometry lost_of (errand_at c.errands) + dirty_pairs c.geometry run.wins
+        ≤ (c.geometry.callers - 1) * length run.wins.list }
+    ensures installs { (c : CoreFields) (run : IsReached c.geometry (state_of c) c.steps) (who : ℕ) → who < c.geometry.callers
+        → count_by (installs_by who) run.wins.list + errand_offers (errand_at c.errands who)
+        ≤ count_by (gives_small who) c.events }
+    ensures met { (c : CoreFields) (run : IsReached c.geometry (state_of c) c.steps) (who : ℕ) → who < c.geometry.callers
+        → (errand_at c.errands who).turns
+        ≤ count_by (gives_small who) c.events + count_by (refuses_small who) c.events
+        + count_by (installs_against who) run.wins.list + turn_unanswered (errand_at c.errands who) }
     ensures contended { (c : CoreFields) → IsCore c
         → ((who : ℕ) → who < c.geometry.callers → (errand_at c.errands who).won < 2 ^ 64 - 1)
         → callers_sum c.geometry lost_of (errand_at c.errands)
@@ -46,6 +63,10 @@ pub fn machines_are_sound()
         → (errand_at c.errands who).turns
         ≤ count_by is_small_alloc c.events + count_by (refuses_small who) c.events
         + turn_unanswered (errand_at c.errands who) }
+    ensures lost { (c : CoreFields) (who : ℕ) → IsCore c → who < c.geometry.callers
+        → (errand_at c.errands who).turns + errand_discards (errand_at c.errands who)
+        ≤ count_by (gives_small who) c.events + count_by (refuses_small who) c.events
+        + (errand_at c.errands who).lost + turn_unanswered (errand_at c.errands who) }
 {}
 
 /// A step is determined by the state before it.

@@ -1,13 +1,32 @@
+use Rattle.std.proofs.Common.{arith}
 use Rattle.sound_state.proofs.wins.LossLemmas.{losses-bounded}
 use Rattle.sound_state.proofs.wins.TurnBounds.{turns-bounded}
 use Rattle.step_core.specs.Cores.{state_of}
+use Rattle.step_core.proofs.CoreLemmas.{core-sound, run-won}
 use Rattle.step_core.proofs.laws.machines_are_sound.Goals as goal
 
 pub returns-clause-sound : goal.returns-clause-sound
-returns-clause-sound c = λ c core. core.sound
+returns-clause-sound c = core-sound
+
+pub returns-clause-reached : goal.returns-clause-reached
+returns-clause-reached c = λ c core. core.run
+
+pub returns-clause-losses : goal.returns-clause-losses
+returns-clause-losses c = λ c run. omega (arith, (run-won c.geometry (state_of c) c.steps run).contended.most)
+
+pub returns-clause-installs : goal.returns-clause-installs
+returns-clause-installs c = λ c run who has. (run-won c.geometry (state_of c) c.steps run).installed.own who has
+
+pub returns-clause-met : goal.returns-clause-met
+returns-clause-met c = λ c run who has. (run-won c.geometry (state_of c) c.steps run).installed.turns who has
 
 pub returns-clause-contended : goal.returns-clause-contended
-returns-clause-contended c = λ c core below. losses-bounded c.geometry (state_of c) core.won.0 core.won.1 below
+returns-clause-contended c =
+    λ c core below. losses-bounded c.geometry (state_of c) core.run.wins (run-won c.geometry (state_of c) c.steps core.run) below
 
 pub returns-clause-turns : goal.returns-clause-turns
-returns-clause-turns c = λ c who core has. turns-bounded c.geometry (state_of c) core.won.0 who core.won.1 has
+returns-clause-turns c =
+    λ c who core has. turns-bounded c.geometry (state_of c) core.run.wins who (run-won c.geometry (state_of c) c.steps core.run) has
+
+pub returns-clause-lost : goal.returns-clause-lost
+returns-clause-lost c = λ c who core has. (core-sound c core).parts.1.turned.own_lost who has

@@ -1,7 +1,23 @@
-use Rattle.std.proofs.Common.{ap, ◌∙◌}
+use Rattle.std.proofs.Common.{ap, ◌∙◌, subst, sym}
 use Rattle.word_plan.specs.Actions.{after_action, found_by}
+use Rattle.word_plan.specs.Table.{Exists}
+use Rattle.step_core.specs.Cores.{CoreFields}
 use Rattle.step_core.proofs.AdvanceLemmas.{next-made}
+use Rattle.step_core.proofs.CoreLemmas.{errand-heap}
 use Rattle.step_core.proofs.machine.Core.next_step.Goals as goal
+
+pub index-requires : goal.index-requires
+index-requires c =
+    errand-heap _ c.args.self.now c.args.seat c.index-errand.result.now c.name_of-name.result c.self.invariant c.self.view_is
+    c.requires.seat c.index-errand.ensures
+    (subst (Exists c.index-errand.result.now.geometry) (sym c.name_of-name.ensures) c.plan-action.ensures.exists)
+
+pub word-requires : goal.word-requires
+word-requires c =
+    subst (λ (v : CoreFields). Exists v.geometry c.name_of-name.result) c.self.view_is
+    (errand-heap _ c.args.self.now c.args.seat c.index-errand.result.now c.name_of-name.result c.self.invariant c.self.view_is
+    c.requires.seat c.index-errand.ensures
+    (subst (Exists c.index-errand.result.now.geometry) (sym c.name_of-name.ensures) c.plan-action.ensures.exists))
 
 pub returns : goal.returns
 returns c =

@@ -23,5 +23,5 @@ invariant_of-result c =
     let T : Geometry → Type 0 = λ g. IsTable g (first_words g c.args.installed) (word_count g) c.in_ok-words.words.items in
     let table : T c.args.geometry = subst T c.new-layout.ensures c.in_ok-words.ensures in
     rw (c.new-layout.ensures, c.new.ensures.items)
-    (core-opened c.args.geometry c.args.installed c.in_ok-words.words.items c.in_ok-errands.errands.items 0 c.requires.checked
+    (core-opened c.args.geometry c.args.installed c.in_ok-words.words.items c.in_ok-errands.errands.items c.requires.checked
     c.requires.class table c.in_ok-errands.ensures)
