@@ -8,6 +8,7 @@ pub mod LeftDefs
 pub mod LeftMost
 pub mod LeftSteps
 pub mod PartialLeft
+pub mod RunsShort
 pub mod SettleLeft
 pub mod StackLeft
 pub mod StaleLemmas

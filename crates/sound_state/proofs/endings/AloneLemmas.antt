@@ -40,7 +40,7 @@ alone-falls g s who s' sound has step =
     let after = steps-counted g s who s' sound has step in
     let stale = alone-stale g s who s' sound has step in
     let clear = clearings-fall g s who s' (without-counts g s sound) (without-counts g s' after) has step in
-    let most : steps_left g (s'.errand who).point ≤ CALL_STEPS =
+    let most : steps_left g (s'.errand who).point < CALL_STEPS =
     left-most g who (s'.errand who).point after.checked (fits-at g s' after.parts.0 who (s'.errand who).point after.parts.1 has refl) in
     elim (steps-go_on g s who s' (without-counts g s sound) has step) [
       | inl lost ↦ omega (arith, stale, clear, most, ap one_if lost)

@@ -1,5 +1,5 @@
 -- No point leaves more steps than a call makes between two lost exchanges.
-use Rattle.std.proofs.Common.{ℕ, ◌≤◌, arith}
+use Rattle.std.proofs.Common.{ℕ, ◌<◌, ◌≤◌, arith}
 use Rattle.heap_geometry.specs.declared.geometry.Geometry.{Geometry}
 use Rattle.heap_geometry.specs.declared.limits.TheConstants.{CALL_STEPS}
 use Rattle.heap_geometry.specs.Geometry.{IsChecked}
@@ -95,7 +95,7 @@ large-most : (p : LargePoint) → large_left p ≤ 3
 large-most p = grind arith
 
 -- at each point
-pub left-most : (g : Geometry) (who : ℕ) (p : Point) → IsChecked g → FitsPoint g who p → steps_left g p ≤ CALL_STEPS
+pub left-most : (g : Geometry) (who : ℕ) (p : Point) → IsChecked g → FitsPoint g who p → steps_left g p < CALL_STEPS
 unfolding steps_left
 left-most g who Idle checked fits = omega arith
 left-most g who (Block p o) checked fits = omega (arith, block-most g p checked)

@@ -1,12 +1,13 @@
 //! Laws of how calls come to their ends.
 
-ghost use Rattle.std.specs.Prelude.{ℕ, ◌<◌, ◌≤◌, ◌+◌, replicate};
+ghost use Rattle.std.specs.Prelude.{ℕ, ◌≡◌, ◌<◌, ◌≤◌, ◌+◌, ◌-◌, ◌*◌, ◌^◌, List, count_by, replicate};
 ghost use Rattle.heap_geometry.specs.declared.geometry.Geometry.{Geometry};
 ghost use Rattle.heap_geometry.specs.declared.limits.TheConstants.{CALL_STEPS};
 ghost use Rattle.errand_steps.specs.Begins.{IsIdle};
 ghost use Rattle.errand_steps.specs.Errands.{counts_lost};
 ghost use Rattle.errand_steps.specs.Steps.{State, Step, Run, found_at};
 ghost use Rattle.sound_state.specs.Alone.{alone_left, stale_words};
+ghost use Rattle.sound_state.specs.Runs.{Move, Reaches, is_begin_of, is_step_of};
 ghost use Rattle.sound_state.specs.Sound.{IsSound};
 ghost use Rattle.sound_state.specs.StepsLeft.{GoesOn, steps_left};
 ghost use Rattle.sound_state.specs.Turns.{one_if};
@@ -22,7 +23,27 @@ pub fn steps_go_on()
 /// `steps_go_on` says, it makes at most that many between two steps that lose or clear.
 pub fn calls_are_short()
     ensures { (g : Geometry) (s : State) (who : ℕ) → IsSound g s → who < g.callers
-        → steps_left g (s.errand who).point ≤ CALL_STEPS }
+        → steps_left g (s.errand who).point < CALL_STEPS }
+{}
+
+/// So it is in a run of moves of any callers, in whatever order. A caller that begins no call in it makes
+/// fewer than `CALL_STEPS` steps, and at most `CALL_STEPS` more for each exchange that it loses and each
+/// empty superblock that it clears; each call that it begins allows for as many. Its count of lost
+/// exchanges may not stand at its end, where it shows no more of them; its count of cleared ones never
+/// does.
+pub fn calls_are_short_beside_others()
+    ensures call { (g : Geometry) (s : State) (moves : List Move) (after : State) (who : ℕ) → IsSound g s → who < g.callers
+        → Reaches g s moves after → (after.errand who).lost < 2 ^ 64 - 1 → count_by (is_begin_of who) moves ≡ 0
+        → count_by (is_step_of who) moves
+        < CALL_STEPS * (1 + ((after.errand who).lost - (s.errand who).lost) + ((after.errand who).cleared - (s.errand who).cleared)) }
+    ensures calls { (g : Geometry) (s : State) (moves : List Move) (after : State) (who : ℕ) → IsSound g s → who < g.callers
+        → Reaches g s moves after → (after.errand who).lost < 2 ^ 64 - 1
+        → count_by (is_step_of who) moves + steps_left g (after.errand who).point
+        ≤ steps_left g (s.errand who).point + CALL_STEPS * (count_by (is_begin_of who) moves
+        + ((after.errand who).lost - (s.errand who).lost) + ((after.errand who).cleared - (s.errand who).cleared)) }
+    ensures counts { (g : Geometry) (s : State) (moves : List Move) (after : State) (who : ℕ) → IsSound g s → who < g.callers
+        → Reaches g s moves after
+        → ((s.errand who).lost ≤ (after.errand who).lost) × ((s.errand who).cleared ≤ (after.errand who).cleared) }
 {}
 
 /// A caller that moves alone ends its call, wherever the others stopped: each of its steps leaves fewer

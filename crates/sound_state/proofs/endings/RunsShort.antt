@@ -1,0 +1,241 @@
+-- In a run of many callers each makes few steps between those that lose or clear.
+use Rattle.std.proofs.Common.{ℕ, Bool, true, false, ◌≡◌, ◌<◌, ◌≤◌, ◌+◌, ◌-◌, ◌*◌, ◌^◌, List, [], ◌∷◌, refl, arith, ap, sym, subst, inl, inr}
+use Rattle.std.specs.Prelude.{◌==◌, count_by}
+use Rattle.std.proofs.lemmas.Bool.{cases_eq, cond_both, eq-eqb, ne_eqb}
+use Rattle.heap_geometry.specs.declared.geometry.Geometry.{Geometry}
+use Rattle.heap_geometry.specs.declared.limits.TheConstants.{CALL_STEPS}
+use Rattle.heap_geometry.specs.declared.need.Need.{Need}
+use Rattle.heap_geometry.specs.declared.need.Need.TheVariants.{Small, Large, TooLarge}
+use Rattle.heap_geometry.specs.Need.{need_of}
+use Rattle.errand_steps.specs.Begins.{begins_alloc, alloc_begun, free_begun, write_begun, read_begun, put_begun, take_begun}
+use Rattle.errand_steps.specs.Errands.{ErrandFields, is_spent, raised, settle_of, counts_lost, counts_cleared}
+use Rattle.errand_steps.specs.Steps.{State, Step, found_at}
+use Rattle.sound_state.specs.Runs.{Call, alloc, free, write, read, put, take, Begins, begun_by, Move, begins, steps, Moved, Reaches, is_step_of, is_begin_of}
+use Rattle.sound_state.specs.Sound.{IsSound}
+use Rattle.sound_state.specs.StepsLeft.{steps_left}
+use Rattle.sound_state.specs.Turns.{one_if}
+use Rattle.sound_state.proofs.CountedLemmas.{without-counts}
+use Rattle.sound_state.proofs.ReachLemmas.{moved-sound}
+use Rattle.sound_state.proofs.endings.LeftMost.{left-most}
+use Rattle.sound_state.proofs.endings.LeftSteps.{steps-go_on}
+use Rattle.sound_state.proofs.shared.PointLemmas.{fits-at}
+use Rattle.sound_state.proofs.shared.TagLemmas.{cleared-below}
+use Rattle.sound_state.proofs.wins.CountLemmas.{count-append}
+
+-- what a caller does, so many steps and begun calls, is paid by the steps that it had left, by what it begins, and by what it loses and clears
+record Spends (g : Geometry) (e f : ErrandFields) (made begun : ℕ) : Type 0 where
+  paid :
+      made + steps_left g f.point + CALL_STEPS * (e.lost + e.cleared)
+      ≤ steps_left g e.point + CALL_STEPS * (begun + f.lost + f.cleared)
+
+-- the counts of a caller grow
+record Grows (e f : ErrandFields) : Type 0 where
+  lost : e.lost ≤ f.lost
+  cleared : e.cleared ≤ f.cleared
+
+-- a call that begins leaves both counts
+same-counts : (e : ErrandFields) (words : ℕ) (n : Need) → ((begins_alloc e words n).lost ≡ e.lost) × ((begins_alloc e words n).cleared ≡ e.cleared)
+same-counts e words (Small class) =
+    cond_both (is_spent e) e _ (λ f. (f.lost ≡ e.lost) × (f.cleared ≡ e.cleared)) (λ spent. (refl, refl)) (λ left. (refl, refl))
+same-counts e words (Large units) = (refl, refl)
+same-counts e words TooLarge = (refl, refl)
+
+begun-counts : (e : ErrandFields) (call : Call) → ((begun_by e call).lost ≡ e.lost) × ((begun_by e call).cleared ≡ e.cleared)
+unfolding alloc_begun free_begun write_begun read_begun put_begun take_begun
+begun-counts e (alloc words) = same-counts e words (need_of words)
+begun-counts e (free place need) = (refl, refl)
+begun-counts e (write place need i value) = (refl, refl)
+begun-counts e (read place need i) = (refl, refl)
+begun-counts e (put place need shelf) = (refl, refl)
+begun-counts e (take shelf) = (refl, refl)
+
+-- a count of 64 bits doesn't fall, and rises by one below its end
+raised-least : (b : Bool) (n : ℕ) → n < 2 ^ 64 → n ≤ raised b n
+raised-least true n below = omega arith
+raised-least false n below = omega arith
+
+raised-up : (n : ℕ) → raised true n < 2 ^ 64 - 1 → raised true n ≡ n + 1
+raised-up n below = omega arith
+
+-- fewer steps than the most are left
+most-left : (g : Geometry) (s : State) (who : ℕ) → IsSound g s → who < g.callers → steps_left g (s.errand who).point < CALL_STEPS
+most-left g s who sound has =
+    left-most g who (s.errand who).point sound.checked (fits-at g s sound.parts.0 who (s.errand who).point sound.parts.1 has refl)
+
+-- the counts after a step of the caller
+step-counts :
+    (s : State) (who : ℕ) (s' : State) → Step s who s'
+    → ((s'.errand who).lost ≡ raised (counts_lost (s.errand who).point (found_at s who)) (s.errand who).lost)
+    × ((s'.errand who).cleared ≡ raised (counts_cleared (s.errand who).point (found_at s who)) (s.errand who).cleared)
+unfolding settle_of
+step-counts s who s' step = (ap (λ e. e.lost) step.errand.here, ap (λ e. e.cleared) step.errand.here)
+
+step-grows :
+    (g : Geometry) (s : State) (who : ℕ) (s' : State) → IsSound g s → who < g.callers → Step s who s' → Grows (s.errand who) (s'.errand who)
+step-grows g s who s' sound has step =
+    let counts = step-counts s who s' step in
+    let own = sound.parts.1.errands who has in
+    let clear = cleared-below g s (without-counts g s sound) who has in
+    record {
+      lost = omega (arith, counts.0, raised-least (counts_lost (s.errand who).point (found_at s who)) (s.errand who).lost own.lost);
+      cleared =
+          omega (
+            arith,
+            counts.1,
+            raised-least (counts_cleared (s.errand who).point (found_at s who)) (s.errand who).cleared (omega (arith, clear)),
+          );
+    }
+
+-- a step of the caller is paid
+step-spends :
+    (g : Geometry) (s : State) (who : ℕ) (s' : State) → IsSound g s → IsSound g s' → who < g.callers → Step s who s'
+    → (s'.errand who).lost < 2 ^ 64 - 1 → Spends g (s.errand who) (s'.errand who) 1 0
+step-spends g s who s' sound sound' has step below =
+    let counts = step-counts s who s' step in
+    let grows = step-grows g s who s' sound has step in
+    let more_lost = grows.lost in
+    let more_cleared = grows.cleared in
+    let most = most-left g s' who sound' has in
+    let clear = cleared-below g s' (without-counts g s' sound') who has in
+    elim (steps-go_on g s who s' (without-counts g s sound) has step) [
+      | inl lost ↦
+          let is : (s'.errand who).lost ≡ raised true (s.errand who).lost =
+          subst (λ b. (s'.errand who).lost ≡ raised b (s.errand who).lost) lost counts.0 in
+          let up : (s'.errand who).lost ≡ (s.errand who).lost + 1 = omega (arith, is, below) in
+          record { paid = omega (arith, up, most, more_cleared) }
+      | inr rest ↦
+          elim rest [
+            | inl clears ↦
+                let is : (s'.errand who).cleared ≡ raised true (s.errand who).cleared =
+                subst (λ b. (s'.errand who).cleared ≡ raised b (s.errand who).cleared) clears counts.1 in
+                let up : (s'.errand who).cleared ≡ (s.errand who).cleared + 1 = omega (arith, is, clear) in
+                record { paid = omega (arith, up, most, more_lost) }
+            | inr fewer ↦ record { paid = omega (arith, fewer, more_lost, more_cleared) }
+          ]
+    ]
+
+-- where the caller does nothing, nothing is spent
+same-spends : (g : Geometry) (e f : ErrandFields) → f ≡ e → Spends g e f 0 0
+same-spends g e f is = record { paid = rw is (omega arith) }
+
+same-grows : (e f : ErrandFields) → f ≡ e → Grows e f
+same-grows e f is = record { lost = omega (arith, ap (λ x. x.lost) is); cleared = omega (arith, ap (λ x. x.cleared) is) }
+
+-- the errand after a call of its own
+begun-errand :
+    (g : Geometry) (s : State) (who : ℕ) (call : Call) (s' : State) → Begins s who call s' → s'.errand who ≡ begun_by (s.errand who) call
+begun-errand g s who call s' b = subst (λ t. t.errand who ≡ begun_by (s.errand who) call) (sym b.after) b.moves.here
+
+-- a move of any caller lets both counts grow
+move-grows :
+    (g : Geometry) (s : State) (move : Move) (s' : State) (who : ℕ) → IsSound g s → who < g.callers → Moved g s move s'
+    → Grows (s.errand who) (s'.errand who)
+move-grows g s (begins k call) s' who sound has moved =
+    elim (cases_eq who k) [
+      | inl is ↦
+          let own : Begins s who call s' = subst (λ i. Begins s i call s') (sym is) moved.1 in
+          let same = begun-counts (s.errand who) call in
+          let here = begun-errand g s who call s' own in
+          record {
+            lost = omega (arith, same.0, ap (λ e. e.lost) here);
+            cleared = omega (arith, same.1, ap (λ e. e.cleared) here);
+          }
+      | inr other ↦
+          same-grows (s.errand who) (s'.errand who)
+          (subst (λ t. t.errand who ≡ s.errand who) (sym moved.1.after) (moved.1.moves.elsewhere who other))
+    ]
+move-grows g s (steps k) s' who sound has moved =
+    elim (cases_eq who k) [
+      | inl is ↦ step-grows g s who s' sound has (subst (λ i. Step s i s') (sym is) moved.1)
+      | inr other ↦ same-grows (s.errand who) (s'.errand who) (moved.1.errand.elsewhere who other)
+    ]
+
+-- and is paid
+move-spends :
+    (g : Geometry) (s : State) (move : Move) (s' : State) (who : ℕ) → IsSound g s → who < g.callers → Moved g s move s'
+    → (s'.errand who).lost < 2 ^ 64 - 1
+    → Spends g (s.errand who) (s'.errand who) (one_if (is_step_of who move)) (one_if (is_begin_of who move))
+move-spends g s (begins k call) s' who sound has moved below =
+    elim (cases_eq who k) [
+      | inl is ↦
+          let most = most-left g s' who (moved-sound g s (begins k call) s' sound moved) has in
+          let grows = move-grows g s (begins k call) s' who sound has moved in
+          let one : one_if (k == who) ≡ 1 = ap one_if (eq-eqb k who (sym is)) in
+          record { paid = omega (arith, one, most, grows.lost, grows.cleared) }
+      | inr other ↦
+          let none : one_if (k == who) ≡ 0 = ap one_if (ne_eqb k who (λ is. other (sym is))) in
+          let same =
+          same-spends g (s.errand who) (s'.errand who)
+          (subst (λ t. t.errand who ≡ s.errand who) (sym moved.1.after) (moved.1.moves.elsewhere who other)) in
+          record { paid = omega (arith, none, same.paid) }
+    ]
+move-spends g s (steps k) s' who sound has moved below =
+    elim (cases_eq who k) [
+      | inl is ↦
+          let one : one_if (k == who) ≡ 1 = ap one_if (eq-eqb k who (sym is)) in
+          let spends =
+          step-spends g s who s' sound (moved-sound g s (steps k) s' sound moved) has (subst (λ i. Step s i s') (sym is) moved.1) below in
+          record { paid = omega (arith, one, spends.paid) }
+      | inr other ↦
+          let none : one_if (k == who) ≡ 0 = ap one_if (ne_eqb k who (λ is. other (sym is))) in
+          let same = same-spends g (s.errand who) (s'.errand who) (moved.1.errand.elsewhere who other) in
+          record { paid = omega (arith, none, same.paid) }
+    ]
+
+-- a run lets both counts grow
+run-grows :
+    (g : Geometry) (s : State) (moves : List Move) (s' : State) (who : ℕ) → IsSound g s → who < g.callers → Reaches g s moves s'
+    → Grows (s.errand who) (s'.errand who)
+run-grows g s [] s' who sound has reached = same-grows (s.errand who) (s'.errand who) (ap (λ t. t.errand who) reached)
+run-grows g s (move ∷ rest) s' who sound has (next, moved, reached) =
+    let first = move-grows g s move next who sound has moved in
+    let others = run-grows g next rest s' who (moved-sound g s move next sound moved) has reached in
+    record { lost = omega (arith, first.lost, others.lost); cleared = omega (arith, first.cleared, others.cleared) }
+
+pub counts-grow :
+    (g : Geometry) (s : State) (moves : List Move) (s' : State) (who : ℕ) → IsSound g s → who < g.callers → Reaches g s moves s'
+    → ((s.errand who).lost ≤ (s'.errand who).lost) × ((s.errand who).cleared ≤ (s'.errand who).cleared)
+counts-grow g s moves s' who sound has reached =
+    let grows = run-grows g s moves s' who sound has reached in
+    (grows.lost, grows.cleared)
+
+-- and is paid
+run-pays :
+    (g : Geometry) (s : State) (moves : List Move) (s' : State) (who : ℕ) → IsSound g s → who < g.callers → Reaches g s moves s'
+    → (s'.errand who).lost < 2 ^ 64 - 1
+    → Spends g (s.errand who) (s'.errand who) (count_by (is_step_of who) moves) (count_by (is_begin_of who) moves)
+run-pays g s [] s' who sound has reached below = same-spends g (s.errand who) (s'.errand who) (ap (λ t. t.errand who) reached)
+run-pays g s (move ∷ rest) s' who sound has (next, moved, reached) below =
+    let sound' = moved-sound g s move next sound moved in
+    let grows = run-grows g next rest s' who sound' has reached in
+    let first = move-spends g s move next who sound has moved (omega (arith, below, grows.lost)) in
+    let others = run-pays g next rest s' who sound' has reached below in
+    record {
+      paid =
+          omega (
+            arith,
+            first.paid,
+            others.paid,
+            count-append (is_step_of who) (move ∷ []) rest,
+            count-append (is_begin_of who) (move ∷ []) rest,
+          );
+    }
+
+pub run-spent :
+    (g : Geometry) (s : State) (moves : List Move) (s' : State) (who : ℕ) → IsSound g s → who < g.callers → Reaches g s moves s'
+    → (s'.errand who).lost < 2 ^ 64 - 1
+    → count_by (is_step_of who) moves + steps_left g (s'.errand who).point
+    ≤ steps_left g (s.errand who).point + CALL_STEPS * (count_by (is_begin_of who) moves
+    + ((s'.errand who).lost - (s.errand who).lost) + ((s'.errand who).cleared - (s.errand who).cleared))
+run-spent g s moves s' who sound has reached below =
+    let grows = run-grows g s moves s' who sound has reached in
+    omega (arith, grows.lost, grows.cleared, (run-pays g s moves s' who sound has reached below).paid)
+
+-- so within a call it makes fewer than the most, but for what it loses and clears
+pub run-short :
+    (g : Geometry) (s : State) (moves : List Move) (s' : State) (who : ℕ) → IsSound g s → who < g.callers → Reaches g s moves s'
+    → (s'.errand who).lost < 2 ^ 64 - 1 → count_by (is_begin_of who) moves ≡ 0
+    → count_by (is_step_of who) moves
+    < CALL_STEPS * (1 + ((s'.errand who).lost - (s.errand who).lost) + ((s'.errand who).cleared - (s.errand who).cleared))
+run-short g s moves s' who sound has reached below none =
+    omega (arith, none, run-spent g s moves s' who sound has reached below, most-left g s who sound has)
