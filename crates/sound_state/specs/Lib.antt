@@ -11,6 +11,7 @@ pub mod Installs
 pub mod Keepers
 pub mod Lists
 pub mod Made
+pub mod Moves
 pub mod Recalls
 pub mod Runs
 pub mod Sound

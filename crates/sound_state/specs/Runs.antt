@@ -1,5 +1,5 @@
 -- What callers may do, and which states that reaches.
-use Rattle.std.specs.Prelude.{ℕ, Bool, true, false, ◌≡◌, ◌<◌, ◌^◌, ◌==◌, List, [], ◌∷◌}
+use Rattle.std.specs.Prelude.{ℕ, ◌≡◌, ◌<◌, ◌^◌, List, [], ◌∷◌}
 use Rattle.heap_geometry.specs.declared.geometry.Geometry.{Geometry}
 use Rattle.heap_geometry.specs.declared.limits.TheConstants.{SHELVES}
 use Rattle.heap_geometry.specs.declared.need.Need.{Need}
@@ -58,16 +58,3 @@ Moved g s (steps who) s' = (who < g.callers) × Step s who s'
 abbrev pub Reaches : Geometry → State → List Move → State → Type 0
 Reaches g s [] s' = s' ≡ s
 Reaches g s (move ∷ rest) s' = (next : State) × Moved g s move next × Reaches g next rest s'
-
--- whether the move is a step; whether it is one of this caller; and whether this caller begins a call by it
-abbrev pub is_step : Move → Bool
-is_step (begins who call) = false
-is_step (steps who) = true
-
-abbrev pub is_step_of : ℕ → Move → Bool
-is_step_of who (begins other call) = false
-is_step_of who (steps other) = other == who
-
-abbrev pub is_begin_of : ℕ → Move → Bool
-is_begin_of who (begins other call) = other == who
-is_begin_of who (steps other) = false

@@ -13,7 +13,8 @@ use Rattle.errand_steps.specs.Begins.{IsHeapBlock, IsIdle}
 use Rattle.errand_steps.specs.Errands.{ErrandFields, one_more}
 use Rattle.errand_steps.specs.Openings.{opening, installed}
 use Rattle.errand_steps.specs.Steps.{State, Step, Moves}
-use Rattle.sound_state.specs.Runs.{Call, Begins, MayBegin, begins, steps, begun_by, is_step}
+use Rattle.sound_state.specs.Moves.{is_step}
+use Rattle.sound_state.specs.Runs.{Call, Begins, MayBegin, begins, steps, begun_by}
 use Rattle.sound_state.specs.Sound.{IsSound, IsOwnErrand}
 use Rattle.sound_state.specs.Wins.{no_wins, wins_after}
 use Rattle.sound_state.specs.Won.{IsWon}

@@ -13,7 +13,8 @@ use Rattle.errand_steps.specs.Errands.{ErrandFields, open_errand}
 use Rattle.errand_steps.specs.Openings.{opening, installed, IsOpening}
 use Rattle.errand_steps.specs.Steps.{State}
 use Rattle.sound_state.specs.Made.{ReachesWith}
-use Rattle.sound_state.specs.Runs.{Move, is_step}
+use Rattle.sound_state.specs.Moves.{is_step}
+use Rattle.sound_state.specs.Runs.{Move}
 use Rattle.sound_state.specs.Wins.{Wins, no_wins}
 
 -- the heap's numbers, the table of its words, the errand of each caller, the events so far, and how many steps were made

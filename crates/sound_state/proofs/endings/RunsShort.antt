@@ -10,7 +10,8 @@ use Rattle.heap_geometry.specs.Need.{need_of}
 use Rattle.errand_steps.specs.Begins.{begins_alloc, alloc_begun, free_begun, write_begun, read_begun, put_begun, take_begun}
 use Rattle.errand_steps.specs.Errands.{ErrandFields, is_spent, raised, settle_of, counts_lost, counts_cleared}
 use Rattle.errand_steps.specs.Steps.{State, Step, found_at}
-use Rattle.sound_state.specs.Runs.{Call, alloc, free, write, read, put, take, Begins, begun_by, Move, begins, steps, Moved, Reaches, is_step_of, is_begin_of}
+use Rattle.sound_state.specs.Moves.{is_step_of, is_begin_of}
+use Rattle.sound_state.specs.Runs.{Call, alloc, free, write, read, put, take, Begins, begun_by, Move, begins, steps, Moved, Reaches}
 use Rattle.sound_state.specs.Sound.{IsSound}
 use Rattle.sound_state.specs.StepsLeft.{steps_left}
 use Rattle.sound_state.specs.Turns.{one_if}
