@@ -1,5 +1,6 @@
 -- The machine's rule is kept.
-use Rattle.std.proofs.Common.{ℕ, ◌≡◌, ◌<◌, refl, arith, ap, sym, ◌∙◌, subst, inl, inr, List, [], ◌∷◌, ◌++◌, length, slice_set, slice_index, slice_index_or}
+use Rattle.std.proofs.Common.{ℕ, ◌≡◌, ◌<◌, ◌-◌, ◌^◌, refl, arith, ap, sym, ◌∙◌, subst, inl, inr, List, [], ◌∷◌, ◌++◌, length, slice_set, slice_index, slice_index_or}
+use Rattle.std.specs.Prelude.{min, count_by}
 use Rattle.std.proofs.lemmas.List.{get_or-set_same, get_or-set_other, get_or_read, length-set}
 use Rattle.heap_geometry.specs.declared.geometry.Geometry.{Geometry}
 use Rattle.heap_geometry.specs.declared.need.Need.{Need}
@@ -10,13 +11,14 @@ use Rattle.word_plan.specs.Words.{word_in}
 use Rattle.word_plan.proofs.TableLemmas.{word_index-within}
 use Rattle.word_plan.proofs.WordLemmas.{word_in-there}
 use Rattle.errand_steps.specs.Begins.{IsHeapBlock, IsIdle}
-use Rattle.errand_steps.specs.Errands.{ErrandFields, one_more}
+use Rattle.errand_steps.specs.Errands.{ErrandFields}
 use Rattle.errand_steps.specs.Openings.{opening, installed}
-use Rattle.errand_steps.specs.Steps.{State, Step, Moves}
+use Rattle.errand_steps.specs.Steps.{State, Moves}
+use Rattle.sound_state.specs.Made.{made_by}
 use Rattle.sound_state.specs.Moves.{is_step}
-use Rattle.sound_state.specs.Runs.{Call, Begins, MayBegin, begins, steps, begun_by}
+use Rattle.sound_state.specs.Runs.{Call, Begins, MayBegin, Move, Moved, begins, steps, begun_by}
 use Rattle.sound_state.specs.Sound.{IsSound, IsOwnErrand}
-use Rattle.sound_state.specs.Wins.{no_wins, wins_after}
+use Rattle.sound_state.specs.Wins.{no_wins}
 use Rattle.sound_state.specs.Won.{IsWon}
 use Rattle.sound_state.proofs.CountedLemmas.{without-counts}
 use Rattle.sound_state.proofs.ReachLemmas.{reached-sound}
@@ -26,7 +28,7 @@ use Rattle.sound_state.proofs.beginnings.OpeningLemmas.{opening-sound}
 use Rattle.sound_state.proofs.wins.CountLemmas.{count-append}
 use Rattle.sound_state.proofs.wins.FirstWins.{first-won}
 use Rattle.sound_state.proofs.wins.MadeLemmas.{made-reached, made-more, made-won}
-use Rattle.step_core.specs.Cores.{CoreFields, IsCore, IsFirst, IsReached, OwnsBlock, errand_at, no_errand, state_of, with_errand}
+use Rattle.step_core.specs.Cores.{CoreFields, IsCore, IsFirst, IsLonger, IsReached, OwnsBlock, errand_at, made_with, no_errand, state_of, with_errand}
 
 -- the state before the first step is sound, and nothing is won in it
 first-sound : (g : Geometry) (s : State) → IsChecked g → IsFirst g s → IsSound g s
@@ -58,34 +60,33 @@ run-won g s made run =
 pub core-sound : (c : CoreFields) → IsCore c → IsSound c.geometry (state_of c)
 core-sound c core = run-sound c.geometry (state_of c) c.steps core.run
 
--- a run with a call that begins, and with one more step
-pub run-begun :
-    (g : Geometry) (s : State) (made who : ℕ) (call : Call) (s' : State) → IsReached g s made → who < g.callers → Begins s who call s'
-    → IsReached g s' made
-run-begun g s made who call s' run has begins' =
-    record {
-      checked = run.checked;
-      first = run.first;
-      opens = run.opens;
-      moves = run.moves ++ begins who call ∷ [];
-      wins = run.wins;
-      reaches = made-more g run.first no_wins run.moves s run.wins (begins who call) s' run.reaches (has, begins');
-      steps = omega (arith, run.steps, count-append is_step run.moves (begins who call ∷ []));
-    }
+-- the steps of a run with one more move
+counted-more :
+    (made : ℕ) (moves : List Move) (move : Move) → made ≡ min (count_by is_step moves) (2 ^ 64 - 1)
+    → made_with made move ≡ min (count_by is_step (moves ++ move ∷ [])) (2 ^ 64 - 1)
+counted-more made moves (begins who call) is = omega (arith, is, count-append is_step moves (begins who call ∷ []))
+counted-more made moves (steps who) is = omega (arith, is, count-append is_step moves (steps who ∷ []))
 
-pub run-stepped :
-    (g : Geometry) (s : State) (made who : ℕ) (s' : State) → IsReached g s made → who < g.callers → Step s who s'
-    → IsReached g s' (one_more made)
-run-stepped g s made who s' run has step =
-    record {
-      checked = run.checked;
-      first = run.first;
-      opens = run.opens;
-      moves = run.moves ++ steps who ∷ [];
-      wins = wins_after s who run.wins;
-      reaches = made-more g run.first no_wins run.moves s run.wins (steps who) s' run.reaches (has, step);
-      steps = omega (arith, run.steps, count-append is_step run.moves (steps who ∷ []));
-    }
+-- a run with one more move
+pub run-more :
+    (g : Geometry) (s : State) (made : ℕ) (move : Move) (s' : State) → IsReached g s made → Moved g s move s'
+    → IsReached g s' (made_with made move)
+run-more g s made move s' run moved = record {
+  checked = run.checked;
+  first = run.first;
+  opens = run.opens;
+  moves = run.moves ++ move ∷ [];
+  wins = made_by s move run.wins;
+  reaches = made-more g run.first no_wins run.moves s run.wins move s' run.reaches moved;
+  steps = counted-more made run.moves move run.steps;
+}
+
+pub run-longer :
+    (g : Geometry) (s s' : State) (made : ℕ) (run : IsReached g s made) (move : Move) → Moved g s move s'
+    → (next : IsReached g s' (made_with made move)) × IsLonger g s s' made (made_with made move) run move next
+unfolding run-more
+run-longer g s s' made run move moved =
+    (run-more g s made move s' run moved, record { first = refl; moves = refl; wins = refl })
 
 -- a write to the list of errands moves one of them
 pub moves-set :
@@ -145,7 +146,7 @@ core-begun c value who call x e core view below read idle may begun =
     record {
       words = core.words;
       errands = length-set c.errands who e ∙ core.errands;
-      run = run-begun c.geometry (state_of c) c.steps who call (state_of (with_errand c who e)) core.run mine.0 begun_so;
+      run = run-more c.geometry (state_of c) c.steps (begins who call) (state_of (with_errand c who e)) core.run (mine.0, begun_so);
     }
 
 -- the caller's block is one of its errand's heap

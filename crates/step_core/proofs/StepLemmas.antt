@@ -8,8 +8,9 @@ use Rattle.errand_steps.specs.Errands.{one_more}
 use Rattle.step_core.specs.Cores.{CoreFields, IsCore, errand_at, state_of}
 use Rattle.errand_steps.specs.Steps.{State, Step, Turn, Run, IsSame, name_at}
 use Rattle.step_core.specs.Steps.{stepped, counted}
+use Rattle.sound_state.specs.Runs.{steps}
 use Rattle.sound_state.proofs.wins.MadeLemmas.{step-one}
-use Rattle.step_core.proofs.CoreLemmas.{moves-set, run-stepped}
+use Rattle.step_core.proofs.CoreLemmas.{moves-set, run-more}
 
 -- what a step makes of the lists is a step of the state
 pub step-stepped :
@@ -43,7 +44,7 @@ core-stepped c who core below busy is =
     record {
       words = lists.0 ∙ core.words;
       errands = lists.1 ∙ core.errands;
-      run = run-stepped c.geometry before c.steps who after core.run below step;
+      run = run-more c.geometry before c.steps (steps who) after core.run (below, step);
     }
 
 -- a step is determined by the state before it

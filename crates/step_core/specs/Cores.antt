@@ -1,5 +1,5 @@
 -- What the machine holds, and the rule that it keeps.
-use Rattle.std.specs.Prelude.{ℕ, ◌≡◌, ◌<◌, ◌-◌, ◌^◌, ◌⊎◌, min, List, Some, length, count_by, slice_index_or, slice_set}
+use Rattle.std.specs.Prelude.{ℕ, ◌≡◌, ◌<◌, ◌-◌, ◌^◌, ◌⊎◌, ◌++◌, min, if◌then◌else◌, List, [], ◌∷◌, Some, length, count_by, slice_index_or, slice_set}
 use Rattle.heap_geometry.specs.declared.geometry.Geometry.{Geometry}
 use Rattle.heap_geometry.specs.declared.limits.TheConstants.{CLASSES}
 use Rattle.heap_geometry.specs.declared.need.Need.{Need}
@@ -9,10 +9,10 @@ use Rattle.word_plan.specs.Words.{word_in}
 use Rattle.pool_model.specs.declared.event.Event.{Event}
 use Rattle.pool_model.specs.declared.owner.Owner.TheVariants.{Caller}
 use Rattle.pool_model.specs.Pool.{Block, block_at, pool_of}
-use Rattle.errand_steps.specs.Errands.{ErrandFields, open_errand}
+use Rattle.errand_steps.specs.Errands.{ErrandFields, one_more, open_errand}
 use Rattle.errand_steps.specs.Openings.{opening, installed, IsOpening}
 use Rattle.errand_steps.specs.Steps.{State}
-use Rattle.sound_state.specs.Made.{ReachesWith}
+use Rattle.sound_state.specs.Made.{ReachesWith, made_by}
 use Rattle.sound_state.specs.Moves.{is_step}
 use Rattle.sound_state.specs.Runs.{Move}
 use Rattle.sound_state.specs.Wins.{Wins, no_wins}
@@ -54,6 +54,16 @@ pub record IsReached (g : Geometry) (s : State) (made : ℕ) : Type 0 where
   pub wins : Wins
   pub reaches : ReachesWith g first no_wins moves s wins
   pub steps : made ≡ min (count_by is_step moves) (2 ^ 64 - 1)
+
+-- so many steps, with those of one more move
+abbrev pub made_with : ℕ → Move → ℕ
+made_with made move = if is_step move then one_more made else made
+
+-- the second run is the first one with this move behind it, and its wins are what that move makes of the first one's
+pub record IsLonger (g : Geometry) (s s' : State) (made made' : ℕ) (run : IsReached g s made) (move : Move) (next : IsReached g s' made') : Type 0 where
+  pub first : next.first ≡ run.first
+  pub moves : next.moves ≡ run.moves ++ move ∷ []
+  pub wins : next.wins ≡ made_by s move run.wins
 
 -- each caller has its errand, all words of the table are there; and moves of the callers have reached the state, with as many steps as are counted
 pub record IsCore (c : CoreFields) : Type 0 where

@@ -2,6 +2,7 @@
 //! to begin with whose first superblock is in use.
 
 ghost use Rattle.std.specs.Prelude.{ℕ, List, ◌≡◌, ◌<◌, ◌≤◌, ◌+◌, ◌-◌, ◌*◌, ◌^◌, ◌++◌, ◌↔◌, IfOk, length, count_by};
+ghost use Rattle.heap_geometry.specs.declared.geometry.Geometry.{Geometry};
 ghost use Rattle.heap_geometry.specs.Geometry.{IsChecked};
 ghost use Rattle.heap_geometry.specs.declared.limits.TheConstants.{CLASSES};
 ghost use Rattle.word_plan.specs.Actions.{name_of};
@@ -10,10 +11,11 @@ ghost use Rattle.errand_steps.specs.Begins.{IsBusy};
 ghost use Rattle.errand_steps.specs.Errands.{plan_of};
 ghost use Rattle.sound_state.specs.Contention.{dirty_pairs, lost_of, won_of};
 ghost use Rattle.sound_state.specs.Installs.{installs_by, installs_against, errand_offers};
+ghost use Rattle.sound_state.specs.Runs.{Move, Moved};
 ghost use Rattle.sound_state.specs.Sound.{IsSound};
 ghost use Rattle.sound_state.specs.Sums.{callers_sum};
 ghost use Rattle.sound_state.specs.Turns.{gives_small, refuses_small, is_small_alloc, errand_discards, turn_unanswered};
-ghost use Rattle.step_core.specs.Cores.{CoreFields, IsCore, IsReached, errand_at, state_of};
+ghost use Rattle.step_core.specs.Cores.{CoreFields, IsCore, IsLonger, IsReached, errand_at, made_with, state_of};
 ghost use Rattle.errand_steps.specs.Openings.{installed};
 ghost use Rattle.step_core.specs.Openings.{IsOpened};
 ghost use Rattle.errand_steps.specs.Steps.{State, Step, Run, IsSame};
@@ -67,6 +69,13 @@ pub fn machines_are_sound()
         → (errand_at c.errands who).turns + errand_discards (errand_at c.errands who)
         ≤ count_by (gives_small who) c.events + count_by (refuses_small who) c.events
         + (errand_at c.errands who).lost + turn_unanswered (errand_at c.errands who) }
+{}
+
+/// A run goes on with each call that begins and each step: it has that move behind it, and the list has
+/// one more where the step wins.
+pub fn runs_go_on()
+    ensures { (g : Geometry) (s after : State) (made : ℕ) (run : IsReached g s made) (move : Move) → Moved g s move after
+        → (next : IsReached g after (made_with made move)) × IsLonger g s after made (made_with made move) run move next }
 {}
 
 /// A step is determined by the state before it.
