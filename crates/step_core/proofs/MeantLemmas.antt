@@ -1,15 +1,11 @@
 -- What a step of the machine answers is so.
 use Rattle.std.proofs.Common.{ℕ, ◌<◌, sym, ◌∙◌}
 use Rattle.errand_steps.specs.declared.reply.Progress.{Progress}
-use Rattle.sound_state.specs.Sound.{IsSound}
 use Rattle.sound_state.proofs.CountedLemmas.{without-counts}
 use Rattle.sound_state.proofs.answers.StepAnswers.{answers-meant}
 use Rattle.step_core.specs.Cores.{CoreFields, IsCore, state_of}
+use Rattle.step_core.proofs.CoreLemmas.{core-sound}
 use Rattle.step_core.specs.Steps.{AnswersSo, IsStepped}
-
--- a machine is sound
-core-sound : (c : CoreFields) → IsCore c → IsSound c.geometry (state_of c)
-core-sound c core = core.sound
 
 pub step-meant :
     (c : CoreFields) (who : ℕ) (answer : Progress) (after : CoreFields) → IsCore c → who < c.geometry.callers
