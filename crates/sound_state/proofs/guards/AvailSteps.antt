@@ -23,7 +23,7 @@ use Rattle.errand_steps.specs.Steps.{State, Step, name_at}
 use Rattle.sound_state.specs.Guarding.{IsAvailable}
 use Rattle.sound_state.specs.Keepers.{errand_has}
 use Rattle.sound_state.specs.Lists.{Lists}
-use Rattle.sound_state.specs.Recalls.{IsSo, recalls_of, noted, says, looked}
+use Rattle.sound_state.specs.Recalls.{IsSo, recalls_of, resumed_recalls, noted, says, looked}
 use Rattle.sound_state.specs.Sound.{IsSoundWithoutCounts, IsSoundWith}
 use Rattle.sound_state.specs.Sums.{callers_sum}
 use Rattle.sound_state.proofs.counts.PartUsedLemmas.{occurring-all}
@@ -88,7 +88,7 @@ pushed-below :
 unfolding recalls_of
 pushed-below g s l who d top seat o old has at =
     let so = so-at g s l who (point.Desc (desc.PushDesc seat d top) o) old has at in
-    (All-head (IsSo g s l who) (says (name.Next d) top) [] so).1
+    (All-head (IsSo g s l who) (says (name.Next d) top) (resumed_recalls seat o) so).1
 
 -- after a pop the list is the rest of the one before it
 popped-gains :
