@@ -1,4 +1,5 @@
 pub mod Begins
+pub mod Calls
 pub mod Errands
 pub mod Events
 pub mod Fits

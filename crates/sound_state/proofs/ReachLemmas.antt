@@ -1,8 +1,9 @@
 -- Every state that callers reach is sound.
 use Rattle.std.proofs.Common.{ℕ, ◌<◌, List, [], ◌∷◌, sym, subst}
 use Rattle.heap_geometry.specs.declared.geometry.Geometry.{Geometry}
+use Rattle.errand_steps.specs.Calls.{Call, alloc, free, write, read, put, take}
 use Rattle.errand_steps.specs.Steps.{State}
-use Rattle.sound_state.specs.Runs.{Call, alloc, free, write, read, put, take, Begins, Move, begins, steps, Moved, Reaches}
+use Rattle.sound_state.specs.Runs.{Begins, Move, begins, steps, Moved, Reaches}
 use Rattle.pool_model.specs.Legal.{IsLegal}
 use Rattle.sound_state.specs.Sound.{IsSound, IsSoundWithoutCounts}
 use Rattle.sound_state.proofs.CountedLemmas.{without-counts, with-counts, steps-counted}

@@ -5,9 +5,10 @@ ghost use Rattle.heap_geometry.specs.declared.geometry.Geometry.{Geometry};
 ghost use Rattle.heap_geometry.specs.declared.limits.TheConstants.{CLASSES};
 ghost use Rattle.heap_geometry.specs.Geometry.{IsChecked};
 ghost use Rattle.pool_model.specs.Legal.{IsLegal};
+ghost use Rattle.errand_steps.specs.Calls.{Call};
 ghost use Rattle.errand_steps.specs.Openings.{opening, installed, IsOpening};
 ghost use Rattle.errand_steps.specs.Steps.{State, Step, Run};
-ghost use Rattle.sound_state.specs.Runs.{Call, Begins, Move, Reaches};
+ghost use Rattle.sound_state.specs.Runs.{Begins, Move, Reaches};
 ghost use Rattle.sound_state.specs.Sound.{IsSound, IsSoundWithoutCounts, TellsCounted};
 
 pub mod answers;

@@ -11,12 +11,13 @@ use Rattle.word_plan.specs.Words.{word_in}
 use Rattle.word_plan.proofs.TableLemmas.{word_index-within}
 use Rattle.word_plan.proofs.WordLemmas.{word_in-there}
 use Rattle.errand_steps.specs.Begins.{IsHeapBlock, IsIdle}
+use Rattle.errand_steps.specs.Calls.{Call, begun_by}
 use Rattle.errand_steps.specs.Errands.{ErrandFields}
 use Rattle.errand_steps.specs.Openings.{opening, installed}
 use Rattle.errand_steps.specs.Steps.{State, Moves}
 use Rattle.sound_state.specs.Made.{made_by}
 use Rattle.sound_state.specs.Moves.{is_step}
-use Rattle.sound_state.specs.Runs.{Call, Begins, MayBegin, Move, Moved, begins, steps, begun_by}
+use Rattle.sound_state.specs.Runs.{Begins, MayBegin, Move, Moved, begins, steps}
 use Rattle.sound_state.specs.Sound.{IsSound, IsOwnErrand}
 use Rattle.sound_state.specs.Wins.{no_wins}
 use Rattle.sound_state.specs.Won.{IsWon}

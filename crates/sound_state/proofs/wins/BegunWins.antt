@@ -9,12 +9,13 @@ use Rattle.heap_geometry.specs.declared.need.Need.{Need}
 use Rattle.heap_geometry.specs.declared.need.Need.TheVariants.{Small, Large, TooLarge}
 use Rattle.heap_geometry.specs.Need.{need_of}
 use Rattle.errand_steps.specs.Begins.{IsIdle, begins_alloc, alloc_begun, free_begun, write_begun, read_begun, put_begun, take_begun}
+use Rattle.errand_steps.specs.Calls.{Call, alloc, free, begun_by}
 use Rattle.errand_steps.specs.Errands.{ErrandFields, is_spent}
 use Rattle.errand_steps.specs.Steps.{State, Moves}
 use Rattle.sound_state.specs.Contention.{is_by, IsExpected, lost_of}
 use Rattle.sound_state.specs.Expectations.{expects_of}
 use Rattle.sound_state.specs.Installs.{IsMet, installs_by, installs_against, is_seeking, errand_offers}
-use Rattle.sound_state.specs.Runs.{Call, alloc, free, Begins, begun_by}
+use Rattle.sound_state.specs.Runs.{Begins}
 use Rattle.sound_state.specs.Sound.{with_errands}
 use Rattle.sound_state.specs.Turns.{gives_small, refuses_small, turn_unanswered, errand_discards}
 use Rattle.sound_state.specs.Wins.{Wins}

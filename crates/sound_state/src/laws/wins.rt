@@ -4,13 +4,14 @@ ghost use Rattle.std.specs.Prelude.{ℕ, List, [], ◌∷◌, ◌++◌, ◌≡�
 ghost use Rattle.heap_geometry.specs.declared.geometry.Geometry.{Geometry};
 ghost use Rattle.heap_geometry.specs.declared.limits.TheConstants.{CLASSES};
 ghost use Rattle.heap_geometry.specs.Geometry.{IsChecked};
+ghost use Rattle.errand_steps.specs.Calls.{Call};
 ghost use Rattle.errand_steps.specs.Openings.{opening, installed, IsOpening};
 ghost use Rattle.errand_steps.specs.Errands.{counts_lost, counts_won};
 ghost use Rattle.errand_steps.specs.Steps.{State, Step, action_at, name_at, found_at};
 ghost use Rattle.sound_state.specs.Contention.{IsDirty, dirty_pairs, lost_of, won_of};
 ghost use Rattle.sound_state.specs.Installs.{installs_by, installs_against, errand_offers};
 ghost use Rattle.sound_state.specs.Made.{ReachesWith, made_by};
-ghost use Rattle.sound_state.specs.Runs.{Call, Begins, Move, Moved, Reaches};
+ghost use Rattle.sound_state.specs.Runs.{Begins, Move, Moved, Reaches};
 ghost use Rattle.sound_state.specs.Sound.{IsSound};
 ghost use Rattle.sound_state.specs.Sums.{callers_sum};
 ghost use Rattle.sound_state.specs.Turns.{one_if, gives_small, refuses_small, is_small_alloc, errand_discards, turn_unanswered};

@@ -1,4 +1,4 @@
-use Rattle.sound_state.specs.Runs.{alloc}
+use Rattle.errand_steps.specs.Calls.{alloc}
 use Rattle.step_core.proofs.CoreLemmas.{core-begun}
 use Rattle.step_core.proofs.machine.Core.begin_alloc.Goals as goal
 

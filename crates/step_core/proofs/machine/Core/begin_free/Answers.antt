@@ -1,4 +1,4 @@
-use Rattle.sound_state.specs.Runs.{free}
+use Rattle.errand_steps.specs.Calls.{free}
 use Rattle.step_core.proofs.CoreLemmas.{block-begun, core-begun}
 use Rattle.step_core.proofs.machine.Core.begin_free.Goals as goal
 

@@ -1,4 +1,4 @@
-use Rattle.sound_state.specs.Runs.{put}
+use Rattle.errand_steps.specs.Calls.{put}
 use Rattle.step_core.proofs.CoreLemmas.{block-begun, core-begun}
 use Rattle.step_core.proofs.machine.Core.begin_put.Goals as goal
 

@@ -1,4 +1,4 @@
-use Rattle.sound_state.specs.Runs.{read}
+use Rattle.errand_steps.specs.Calls.{read}
 use Rattle.step_core.proofs.CoreLemmas.{block-begun, core-begun}
 use Rattle.step_core.proofs.machine.Core.begin_read.Goals as goal
 

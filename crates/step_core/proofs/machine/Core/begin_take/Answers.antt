@@ -1,4 +1,4 @@
-use Rattle.sound_state.specs.Runs.{take}
+use Rattle.errand_steps.specs.Calls.{take}
 use Rattle.step_core.proofs.CoreLemmas.{core-begun}
 use Rattle.step_core.proofs.machine.Core.begin_take.Goals as goal
 

@@ -1,5 +1,5 @@
 use Rattle.std.proofs.Common.{arith}
-use Rattle.sound_state.specs.Runs.{write}
+use Rattle.errand_steps.specs.Calls.{write}
 use Rattle.step_core.proofs.CoreLemmas.{block-begun, core-begun}
 use Rattle.step_core.proofs.machine.Core.begin_write.Goals as goal
 
