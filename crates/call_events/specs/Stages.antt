@@ -1,0 +1,91 @@
+-- How far a call is at each point, by the events that are still to come.
+use Rattle.std.specs.Prelude.{ℕ, Bool, true, false}
+use Rattle.heap_geometry.specs.Place.{block_place}
+use Rattle.heap_geometry.specs.declared.need.Need.{Need}
+use Rattle.heap_geometry.specs.declared.need.Need.TheVariants.{Small, Large}
+use Rattle.word_plan.specs.Seats.{SeatFields}
+use Rattle.word_plan.specs.declared.seat.Site.{Site}
+use Rattle.superblock_parts.specs.declared.point.BlockPoint.{BlockPoint}
+use Rattle.superblock_parts.specs.declared.point.BlockPoint.TheVariants as block
+use Rattle.superblock_parts.specs.Points.{seat_of_block}
+use Rattle.stack_parts.specs.Points.{seat_of_stack}
+use Rattle.hazard_parts.specs.Points.{seat_of_desc}
+use Rattle.partial_parts.specs.Points.{seat_of_partial}
+use Rattle.large_parts.specs.declared.point.LargePoint.{LargePoint}
+use Rattle.large_parts.specs.declared.point.LargePoint.TheVariants as large
+use Rattle.errand_steps.specs.declared.onward.Onward.{Onward}
+use Rattle.errand_steps.specs.declared.onward.Onward.TheVariants as onward
+use Rattle.errand_steps.specs.declared.point.Point.{Point}
+use Rattle.errand_steps.specs.declared.point.Point.TheVariants as point
+use Rattle.errand_steps.specs.Points.{asked}
+
+-- how far a call is: it asks for so many words of a class, and has it found no partial superblock in this turn; it asks for so many words of a run of units; it is refused; it is given the block at a place; it frees that block; it has freed one; it writes a usable word; it reads one; it puts a block on a shelf; it takes one from there; or there is none
+pub data Stage : Type 0 where
+  asking : (words class : ℕ) (looked : Bool) → Stage
+  asking_run : (words units : ℕ) → Stage
+  refused : Stage
+  given : (place : ℕ) (need : Need) → Stage
+  freeing : (place : ℕ) (need : Need) → Stage
+  freed : Stage
+  writing : (place i value : ℕ) → Stage
+  reading : (place i : ℕ) → Stage
+  putting : (place : ℕ) (need : Need) (shelf : ℕ) → Stage
+  taking : (shelf : ℕ) → Stage
+  none : Stage
+
+-- a block of a superblock is handed out; it is freed
+abbrev pub block_given : Site → ℕ → Stage
+block_given at i = given (block_place at.frame at.seat.class i) (Small at.seat.class)
+
+abbrev pub block_freeing : Site → ℕ → Stage
+block_freeing at i = freeing (block_place at.frame at.seat.class i) (Small at.seat.class)
+
+-- in a superblock
+abbrev pub block_stage : BlockPoint → Onward → Stage
+block_stage (block.StorePrefix at i) o = block_given at i
+block_stage (block.InstallCredits at i more) o = block_given at i
+block_stage (block.LoadReturn at i more) o = block_given at i
+block_stage (block.ReturnCredits at i more a) o = block_given at i
+block_stage (block.LoadPrefix s frame i) o = freeing (block_place frame s.class i) (Small s.class)
+block_stage (block.LoadPushAnchor at i guarded) o = block_freeing at i
+block_stage (block.StoreGuard at i a) o = block_freeing at i
+block_stage (block.LoadOwner at i a) o = block_freeing at i
+block_stage (block.StoreLink at i a guarded heap) o = block_freeing at i
+block_stage (block.PushBlock at i a guarded heap) o = block_freeing at i
+block_stage p o = asking (asked o) (seat_of_block p).class false
+
+-- at a stack, at the descriptors and at a partial superblock, by what the caller goes on with; and has an allocation that goes on in a superblock looked
+abbrev pub onward_stage : Bool → SeatFields → Onward → Stage
+onward_stage looked s (onward.Alloc words) = asking words s.class looked
+onward_stage looked s (onward.TakeFrame words d) = asking words s.class true
+onward_stage looked s (onward.GiveBlock words at i) = block_given at i
+onward_stage looked s (onward.Discard words d) = asking words s.class false
+onward_stage looked s (onward.Turn words) = asking words s.class false
+onward_stage looked s (onward.Look words) = asking words s.class false
+onward_stage looked s onward.Refuse = refused
+onward_stage looked s onward.Nothing = none
+onward_stage looked s o = freed
+
+-- at a large block, a usable word or a shelf
+abbrev pub large_stage : LargePoint → Onward → Stage
+large_stage (large.LoadUnits w) o = asking_run (asked o) w.units
+large_stage (large.TakeRun w bits) o = asking_run (asked o) w.units
+large_stage (large.StoreRunPrefix place run) o = given place (Large run.units)
+large_stage (large.LoadRunPrefix place run) o = freeing place (Large run.units)
+large_stage (large.FreeRun place run) o = freeing place (Large run.units)
+large_stage (large.StoreWord place i value) o = writing place i value
+large_stage (large.LoadWord place i) o = reading place i
+large_stage (large.PutBlock shelf place need) o = putting place need shelf
+large_stage (large.LoadShelf shelf) o = taking shelf
+large_stage (large.TakeBlock shelf place need) o = taking shelf
+large_stage (large.ConfirmNothing shelf) o = taking shelf
+large_stage p o = none
+
+-- at any point
+abbrev pub stage_of : Point → Stage
+stage_of point.Idle = none
+stage_of (point.Block p o) = block_stage p o
+stage_of (point.Stack p o) = onward_stage false (seat_of_stack p) o
+stage_of (point.Desc p o) = onward_stage true (seat_of_desc p) o
+stage_of (point.Partial p o) = onward_stage false (seat_of_partial p) o
+stage_of (point.Large p o) = large_stage p o
