@@ -1,15 +1,17 @@
 -- A call that is under way can still end.
-use Rattle.std.proofs.Common.{ℕ, ◌≡◌, List, [], ◌∷◌, ◌++◌, Some, refl, sym, append-nil}
+use Rattle.std.proofs.Common.{ℕ, ◌≡◌, List, [], ◌∷◌, ◌++◌, Some, false, refl, sym, append-nil, arith}
 use Rattle.pool_model.specs.Calls.{Ended, EventsOf, EventsSoFar, alloc_given, alloc_refused, alloc_spent, wrote, put_full, take_missed}
 use Rattle.pool_model.specs.Calls as ended
 use Rattle.pool_model.specs.declared.event.Event.{Event}
 use Rattle.pool_model.specs.declared.event.Event.TheVariants as event
 use Rattle.errand_steps.specs.Calls.{Call, alloc, free, write, read, put, take}
+use Rattle.errand_steps.specs.Points.{is_idle}
+use Rattle.errand_steps.specs.declared.point.Point.{Point}
 use Rattle.errand_steps.specs.declared.reply.Reply.{Reply}
 use Rattle.errand_steps.specs.declared.reply.Reply.TheVariants as reply
 use Rattle.call_events.specs.Ends.{end_of}
 use Rattle.call_events.specs.Stages.{Stage, asking, asking_run, refused, given, freeing, freed, writing, reading, putting, taking}
-use Rattle.call_events.specs.UnderWay.{SoFar}
+use Rattle.call_events.specs.UnderWay.{SoFar, IsUnderWay}
 use Rattle.call_events.proofs.EventLists.{spending, refusing-run}
 use Rattle.call_events.proofs.SoFarLemmas.{one-event}
 
@@ -42,3 +44,7 @@ can-end who (read p n j) (reading q i) es so = (reply.Word 0, ended.read, refl, 
 can-end who (put p n k) (putting q m h) es so = (reply.Full 0, put_full, refl, all-there who put_full es so.3)
 can-end who (take k) (taking h) es so = (reply.Missed 0 0, take_missed, refl, all-there who take_missed es so.1)
 can-end who call stage es so = absurd so
+
+-- its caller is busy
+pub way-busy : (who : ℕ) (call : Call) (p : Point) (es : List Event) → IsUnderWay who call p es → is_idle p ≡ false
+way-busy who call p es so = grind (arith)

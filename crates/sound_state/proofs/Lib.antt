@@ -10,6 +10,7 @@ pub mod descriptors
 pub mod discards
 pub mod endings
 pub mod guards
+pub mod events
 pub mod hazards
 pub mod installs
 pub mod large

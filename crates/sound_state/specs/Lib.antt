@@ -1,5 +1,6 @@
 pub mod Alone
 pub mod Answers
+pub mod Calls
 pub mod Consequences
 pub mod Contention
 pub mod Expectations

@@ -12,6 +12,7 @@ ghost use Rattle.sound_state.specs.Runs.{Begins, Move, Reaches};
 ghost use Rattle.sound_state.specs.Sound.{IsSound, IsSoundWithoutCounts, TellsCounted};
 
 pub mod answers;
+pub mod calls;
 pub mod consequences;
 pub mod endings;
 pub mod guards;

@@ -275,7 +275,7 @@ owned-block g s who place n sound owned =
     subst (λ m. IsHeapBlock g place m) owned.block.3 (subst (λ p. IsHeapBlock g p b.need) at (formed.need, formed.place))
 
 -- so it is one of the heap that the caller's errand is in
-errand-block :
+pub errand-block :
     (g : Geometry) (s : State) (who place : ℕ) (n : Need) → IsSoundWithoutCounts g s → who < g.callers → IsOwned s who place n
     → IsHeapBlock (s.errand who).geometry place n
 errand-block g s who place n sound has owned =

@@ -1,0 +1,25 @@
+-- A step adds an event to its caller's own, and none to another's.
+use Rattle.std.proofs.Common.{ℕ, ◌≡◌, ◌≢◌, List, [], ◌∷◌, ◌++◌, Option, Some, None, refl, ◌∙◌, sym, append_assoc, eq-eqb}
+use Rattle.pool_model.specs.declared.event.Event.{Event}
+use Rattle.pool_model.specs.Histories.{own, caller_of}
+use Rattle.pool_model.proofs.HistoryLemmas.{own-append}
+use Rattle.errand_steps.specs.Steps.{with_event}
+use Rattle.sound_state.proofs.tellings.TellLemmas.{told-own}
+
+pub own-with_event :
+    (who : ℕ) (history : List Event) (event : Option Event) → ((e : Event) → event ≡ Some e → caller_of e ≡ who)
+    → own who (with_event history event) ≡ with_event (own who history) event
+own-with_event who history None is = refl
+own-with_event who history (Some e) is = own-append who history (e ∷ []) ∙ rw (eq-eqb (caller_of e) who (is e refl)) refl
+
+pub own-of_others :
+    (who other : ℕ) (history : List Event) (event : Option Event) → ((e : Event) → event ≡ Some e → caller_of e ≡ other) → other ≢ who
+    → own who (with_event history event) ≡ own who history
+own-of_others who other history None is apart = refl
+own-of_others who other history (Some e) is apart = told-own who history e (λ same. apart (sym (is e refl) ∙ same))
+
+-- an event behind what was added
+pub added-event :
+    (before added : List Event) (event : Option Event) → with_event (before ++ added) event ≡ before ++ with_event added event
+added-event before added None = refl
+added-event before added (Some e) = append_assoc before added (e ∷ [])
