@@ -10,5 +10,6 @@ pub mod LeftSteps
 pub mod PartialLeft
 pub mod RunsShort
 pub mod SettleLeft
+pub mod SomeLeft
 pub mod StackLeft
 pub mod StaleLemmas

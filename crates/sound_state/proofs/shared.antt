@@ -2,6 +2,7 @@ pub mod AlikeLemmas
 pub mod BoundLemmas
 pub mod CallerLemmas
 pub mod CreditLemmas
+pub mod ClearedLemmas
 pub mod FrameLemmas
 pub mod GivenBlocks
 pub mod GuardEffects
@@ -26,6 +27,7 @@ pub mod SuperblockEffects
 pub mod TagLemmas
 pub mod TallyLemmas
 pub mod TieLemmas
+pub mod TotalLemmas
 pub mod TurnEffects
 pub mod WeighLemmas
 pub mod WeightSums

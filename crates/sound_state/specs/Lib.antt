@@ -22,6 +22,7 @@ pub mod Sums
 pub mod Superblocks
 pub mod Tags
 pub mod Ties
+pub mod Totals
 pub mod Turns
 pub mod Wins
 pub mod Won

@@ -17,6 +17,7 @@ pub mod consequences;
 pub mod endings;
 pub mod guards;
 pub mod tags;
+pub mod sums;
 pub mod wins;
 
 /// A state before the first step is sound: every frame is free, every descriptor available, and

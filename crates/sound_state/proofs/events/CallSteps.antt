@@ -1,5 +1,5 @@
 -- One move of any caller, seen by a caller that is in a call.
-use Rattle.std.proofs.Common.{ℕ, ◌≡◌, ◌≢◌, ◌<◌, ◌^◌, List, [], ◌++◌, Some, inl, inr, refl, sym, ap, ◌∙◌, subst, append-nil}
+use Rattle.std.proofs.Common.{ℕ, ◌≡◌, ◌≢◌, ◌<◌, List, [], ◌++◌, Some, inl, inr, refl, sym, ap, ◌∙◌, subst, append-nil}
 use Rattle.std.proofs.lemmas.Bool.{cases_eq, true≢false}
 use Rattle.heap_geometry.specs.declared.geometry.Geometry.{Geometry}
 use Rattle.pool_model.specs.declared.event.Event.{Event}
@@ -17,7 +17,7 @@ use Rattle.call_events.specs.UnderWay.{IsUnderWay, IsAboutBlock}
 use Rattle.call_events.proofs.AnswerLemmas.{step-goes_on, step-ends}
 use Rattle.call_events.proofs.BeginsLemmas.{call-begins}
 use Rattle.call_events.proofs.EndLemmas.{way-busy}
-use Rattle.sound_state.specs.Calls.{IsInCall, HasEndedCall, IsNoBegin}
+use Rattle.sound_state.specs.Calls.{IsInCall, HasEndedCall}
 use Rattle.sound_state.specs.Runs.{Begins, MayBegin, Move, begins, steps, Moved}
 use Rattle.sound_state.specs.Sound.{IsSound}
 use Rattle.sound_state.proofs.CountedLemmas.{without-counts}
@@ -50,7 +50,7 @@ begins-in_call g s who call s' sound has b busy =
       added = [];
       events = ap (λ (t : State). own who t.history) b.after ∙ sym (append-nil (own who s.history));
       under_way = subst (λ (e : ErrandFields). IsUnderWay who call e.point []) (sym here)
-      (subst (λ (i : ℕ). IsUnderWay i call (begun_by (s.errand who) call).point []) mine way);
+          (subst (λ (i : ℕ). IsUnderWay i call (begun_by (s.errand who) call).point []) mine way);
     }
 
 -- a step of the caller itself
@@ -76,7 +76,7 @@ step-in_call g s who call before s' sound has now step busy =
       added = with_event now.added (event_at s who);
       events = own-events s who s' before now.added step now.events;
       under_way = subst (λ (f : ErrandFields). IsUnderWay who call f.point (with_event now.added (event_at s who))) (sym here)
-      (subst (λ (i : ℕ). IsUnderWay i call (settle_of e x).point (with_event now.added (event_of i e.point x))) mine goes);
+          (subst (λ (i : ℕ). IsUnderWay i call (settle_of e x).point (with_event now.added (event_of i e.point x))) mine goes);
     }
 
 pub step-ends_call :

@@ -149,7 +149,7 @@ framed-after g before (Take caller shelf place) allowed = omega (arith, framed-c
 framed-after g before (TakeNone caller shelf) allowed = omega arith
 
 -- no more small blocks are freed than given
-small-freed : (g : Geometry) (history : List Event) → IsLegalWithoutCounts g history
+pub small-freed : (g : Geometry) (history : List Event) → IsLegalWithoutCounts g history
     → sum_by (framed g) (pool_of history) + count_by (is_small_free g) history ≤ count_by is_small_alloc history
 small-freed g history legal =
     kept (IsLegalEventWithoutCounts g)
@@ -164,7 +164,7 @@ small-freed g history legal =
     omega arith) legal (omega arith)
 
 -- all turns are within the limits
-turns-most : (g : Geometry) (s : State) (l : Lists) → IsChecked g → IsSoundWith g s l → callers_sum g turns_of s.errand ≤ MAX_CALLERS * MAX_TURNS
+pub turns-most : (g : Geometry) (s : State) (l : Lists) → IsChecked g → IsSoundWith g s l → callers_sum g turns_of s.errand ≤ MAX_CALLERS * MAX_TURNS
 unfolding callers_sum
 turns-most g s l checked sound =
     let own : sum_below g.callers (λ who. turns_of (s.errand who)) ≤ g.callers * g.turn_limit =
@@ -175,7 +175,7 @@ turns-most g s l checked sound =
     omega (arith, mul-le g.callers g.turn_limit MAX_CALLERS MAX_TURNS checked.callers.1 checked.turn_limit.1)
 
 -- no more small blocks are given than turns begun
-given-most : (g : Geometry) (s : State) (l : Lists) → IsLegalWithoutCounts g s.history → IsSoundWith g s l
+pub given-most : (g : Geometry) (s : State) (l : Lists) → IsLegalWithoutCounts g s.history → IsSoundWith g s l
     → count_by is_small_alloc s.history ≤ callers_sum g turns_of s.errand
 unfolding callers_sum
 given-most g s l legal sound =

@@ -23,7 +23,7 @@ ghost use Rattle.sound_state.specs.Stock.{waits_in};
 ghost use Rattle.sound_state.specs.Sums.{callers_sum};
 ghost use Rattle.sound_state.specs.Superblocks.{IsChained, anchor_for, info_for, is_bound, superblock_of, free_chain};
 ghost use Rattle.sound_state.specs.Ties.{IsLive};
-ghost use Rattle.sound_state.specs.Turns.{is_small_alloc, is_small_free, turn_unframed, turns_of};
+ghost use Rattle.sound_state.specs.Turns.{is_small_alloc, is_small_free, turn_unframed, turns_of, cleared_of};
 
 /// Every tag has room for one more pop: the sum is not cut. An anchor's tag is at most the small blocks that
 /// were given; the tag of the frames at most the turns that all callers took, less those under way that
@@ -46,6 +46,17 @@ pub fn tags_stay_below()
         → (class : ℕ) → class < CLASSES
         → (head_of (s.word (name.ListHead class))).tag
         ≤ callers_sum g turns_of s.errand + 3 * count_by (is_small_free g) s.history }
+{}
+
+/// All callers together took at most as many empty superblocks for partial ones as they began turns.
+/// So no count of them comes near its end.
+pub fn cleared_counts_stay_below()
+    ensures together { (g : Geometry) (s : State) → IsSoundWithoutCounts g s
+        → callers_sum g cleared_of s.errand ≤ callers_sum g turns_of s.errand }
+    ensures each { (g : Geometry) (s : State) (who : ℕ) → IsSoundWithoutCounts g s → who < g.callers
+        → (s.errand who).cleared ≤ g.callers * g.turn_limit }
+    ensures below { (g : Geometry) (s : State) (who : ℕ) → IsSoundWithoutCounts g s → who < g.callers
+        → (s.errand who).cleared < 2 ^ 42 }
 {}
 
 /// Two live blocks have no word in common. A live small block is a block of a superblock and none of

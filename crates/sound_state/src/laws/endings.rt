@@ -3,7 +3,7 @@
 ghost use Rattle.std.specs.Prelude.{ℕ, ◌≡◌, ◌<◌, ◌≤◌, ◌+◌, ◌-◌, ◌*◌, ◌^◌, List, count_by, replicate};
 ghost use Rattle.heap_geometry.specs.declared.geometry.Geometry.{Geometry};
 ghost use Rattle.heap_geometry.specs.declared.limits.TheConstants.{CALL_STEPS};
-ghost use Rattle.errand_steps.specs.Begins.{IsIdle};
+ghost use Rattle.errand_steps.specs.Begins.{IsIdle, IsBusy};
 ghost use Rattle.errand_steps.specs.Errands.{counts_lost};
 ghost use Rattle.errand_steps.specs.Steps.{State, Step, Run, found_at};
 ghost use Rattle.sound_state.specs.Alone.{alone_left, stale_words};
@@ -45,6 +45,12 @@ pub fn calls_are_short_beside_others()
     ensures counts { (g : Geometry) (s : State) (moves : List Move) (after : State) (who : ℕ) → IsSound g s → who < g.callers
         → Reaches g s moves after
         → ((s.errand who).lost ≤ (after.errand who).lost) × ((s.errand who).cleared ≤ (after.errand who).cleared) }
+{}
+
+/// A caller that is in a call has a step left to make.
+pub fn calls_have_a_step_left()
+    ensures { (g : Geometry) (s : State) (who : ℕ) → IsSound g s → who < g.callers → IsBusy (s.errand who)
+        → 0 < steps_left g (s.errand who).point }
 {}
 
 /// A caller that moves alone ends its call, wherever the others stopped: each of its steps leaves fewer

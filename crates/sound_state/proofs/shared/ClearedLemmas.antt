@@ -1,0 +1,39 @@
+-- Cleared counts are at most the turns.
+use Rattle.std.proofs.Common.{ℕ, ◌<◌, ◌≤◌, ◌*◌, ◌^◌, arith, ap}
+use Rattle.heap_geometry.specs.declared.geometry.Geometry.{Geometry}
+use Rattle.errand_steps.specs.Steps.{State}
+use Rattle.sound_state.specs.Lists.{Lists}
+use Rattle.sound_state.specs.Sound.{IsSoundWith, IsSoundWithoutCounts}
+use Rattle.sound_state.specs.Sums.{callers_sum}
+use Rattle.sound_state.specs.Turns.{cleared_of, turns_of}
+use Rattle.sound_state.proofs.shared.SumLemmas.{sum-most, term-sum}
+use Rattle.sound_state.proofs.shared.TagLemmas.{small-freed, given-most, turns-most}
+
+pub cleared-together : (g : Geometry) (s : State) → IsSoundWithoutCounts g s → callers_sum g cleared_of s.errand ≤ callers_sum g turns_of s.errand
+cleared-together g s sound =
+    let l : Lists = sound.parts.0 in
+    let is : IsSoundWith g s l = sound.parts.1 in
+    omega (arith, is.turned.emptied, small-freed g s.history sound.legal, given-most g s l sound.legal is)
+
+-- one caller's count
+cleared-one : (g : Geometry) (s : State) (who : ℕ) → who < g.callers → (s.errand who).cleared ≤ callers_sum g cleared_of s.errand
+unfolding callers_sum
+cleared-one g s who has = term-sum g.callers (λ i. cleared_of (s.errand i)) who has
+
+-- all turns
+turns-limited : (g : Geometry) (s : State) → IsSoundWithoutCounts g s → callers_sum g turns_of s.errand ≤ g.callers * g.turn_limit
+unfolding callers_sum
+turns-limited g s sound =
+    sum-most g.callers (λ who. turns_of (s.errand who)) g.turn_limit
+    (λ who has.
+    let own = sound.parts.1.errands who has in
+    let limit = ap (λ (o : Geometry). o.turn_limit) own.geometry in
+    omega (arith, own.rule.turns, limit))
+
+pub cleared-each : (g : Geometry) (s : State) (who : ℕ) → IsSoundWithoutCounts g s → who < g.callers → (s.errand who).cleared ≤ g.callers * g.turn_limit
+cleared-each g s who sound has =
+    omega (arith, cleared-one g s who has, cleared-together g s sound, turns-limited g s sound)
+
+pub cleared-far : (g : Geometry) (s : State) (who : ℕ) → IsSoundWithoutCounts g s → who < g.callers → (s.errand who).cleared < 2 ^ 42
+cleared-far g s who sound has =
+    omega (arith, cleared-one g s who has, cleared-together g s sound, turns-most g s sound.parts.0 sound.checked sound.parts.1)
