@@ -1,5 +1,6 @@
 pub mod AnswerLemmas
 pub mod BeginLemmas
+pub mod BlindLemmas
 pub mod EnterLemmas
 pub mod ErrandLemmas
 pub mod EventLemmas
@@ -7,4 +8,5 @@ pub mod NextLemmas
 pub mod OnwardLemmas
 pub mod PlanLemmas
 pub mod RetiredLemmas
+pub mod SpentLemmas
 pub mod StepLemmas

@@ -4,6 +4,7 @@ pub mod Errands
 pub mod Events
 pub mod Fits
 pub mod Nexts
+pub mod Offers
 pub mod Onwards
 pub mod Openings
 pub mod Points

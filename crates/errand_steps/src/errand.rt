@@ -12,6 +12,7 @@ ghost use Rattle.word_plan.specs.Table.{Exists};
 ghost use Rattle.errand_steps.specs.Begins.{IsBusy, IsHeapBlock};
 ghost use Rattle.errand_steps.specs.Errands.{IsErrand, open_errand, plan_of, course_of, settle_of, answer_of, after_list, after_turn, picked, turned, begins_turn, point_after, list_after, IsListable, is_full, is_spent, told, going_on};
 ghost use Rattle.errand_steps.specs.Events.{event_of};
+ghost use Rattle.errand_steps.specs.Offers.{offered_at};
 ghost use Rattle.errand_steps.specs.Points.{is_idle};
 
 use crate::count::{counts_cleared, counts_lost, counts_won, raised};
@@ -19,11 +20,12 @@ use crate::enter::{next_of, plan_point, resumed};
 use crate::next::Next;
 use crate::onward::Onward;
 use crate::point::Point;
-use crate::reply::{Progress, Reply};
+use crate::reply::{Offer, Progress, Reply};
 use hazard_parts::limits::HELD_MOST;
 use hazard_parts::point::DescPoint;
 use hazard_parts::retired::Retired;
 use heap_geometry::geometry::Geometry;
+use large_parts::point::LargePoint;
 use pool_model::event::Event;
 use std::marker::Model;
 use superblock_parts::point::BlockPoint;
@@ -87,6 +89,20 @@ impl Errand {
         ensures { result ≡ is_idle self.now.point }
     {
         matches!(self.point, Point::Idle)
+    }
+
+    /// The block of a put that is under way, which its caller has back where the shelf is full; `None`
+    /// in any other call, and in none.
+    pub fn offered(&self) -> Option<Offer>
+        ensures { result ≡ offered_at self.now.point }
+    {
+        match self.point {
+            Point::Large {
+                at: LargePoint::PutBlock { place, need, .. },
+                ..
+            } => Some(Offer { place, need }),
+            _ => None,
+        }
     }
 
     /// How many turns the caller has begun, at most the turn limit.

@@ -7,11 +7,15 @@ ghost use Rattle.pool_model.specs.declared.event.Event.{Event};
 ghost use Rattle.pool_model.specs.declared.event.Event.TheVariants.{Alloc};
 ghost use Rattle.word_plan.specs.Actions.{name_of};
 ghost use Rattle.word_plan.specs.Table.{Exists};
+ghost use Rattle.word_plan.specs.declared.action.Action.TheVariants.{Store};
 ghost use Rattle.word_plan.specs.declared.action.Found.{Found};
-ghost use Rattle.errand_steps.specs.Begins.{IsBusy, IsIdle, IsHeapBlock};
+ghost use Rattle.word_plan.specs.declared.name.WordName.{WordName};
+ghost use Rattle.errand_steps.specs.Begins.{IsBusy, IsIdle, IsHeapBlock, alloc_answer};
 ghost use Rattle.errand_steps.specs.Errands.{ErrandFields, IsErrand, plan_of, settle_of, answer_of, counts_lost, counts_cleared};
 ghost use Rattle.errand_steps.specs.Events.{event_of};
+ghost use Rattle.errand_steps.specs.declared.reply.Begun.TheVariants as begun;
 ghost use Rattle.errand_steps.specs.declared.reply.Reply.{Reply};
+ghost use Rattle.errand_steps.specs.declared.reply.Reply.TheVariants.{Spent};
 ghost use Rattle.errand_steps.specs.declared.reply.Progress.TheVariants.{Lost, Cleared, Done};
 
 /// An errand acts on a word that its heap has, and keeps its rule whatever it finds. So everything
@@ -39,4 +43,22 @@ pub fn answers_tell_what_came_to_pass()
         → (answer_of e x ≡ Lost) ↔ ((counts_lost e.point x ≡ true) × IsBusy (settle_of e x)) }
     ensures cleared { (e : ErrandFields) (x : Found) → IsBusy e
         → (answer_of e x ≡ Cleared) ↔ ((counts_cleared e.point x ≡ true) × IsBusy (settle_of e x)) }
+{}
+
+/// A store tells its caller nothing: whatever the word was, the same errand follows, and the step
+/// answers the same.
+pub fn stores_are_blind()
+    ensures errand { (e : ErrandFields) (name : WordName) (new : ℕ) (x y : Found)
+        → plan_of e ≡ Store name new → settle_of e x ≡ settle_of e y }
+    ensures answer { (e : ErrandFields) (name : WordName) (new : ℕ) (x y : Found)
+        → plan_of e ≡ Store name new → answer_of e x ≡ answer_of e y }
+{}
+
+/// An allocation answers that its caller has no turn left only where that has begun as many as its
+/// heap allows; and it begins none then.
+pub fn spent_is_at_the_limit()
+    ensures ends { (e : ErrandFields) (x : Found) → answer_of e x ≡ Done Spent
+        → (e.turns ≡ e.geometry.turn_limit) × ((settle_of e x).turns ≡ e.geometry.turn_limit) }
+    ensures begins { (e : ErrandFields) (words : ℕ) → alloc_answer e words ≡ begun.Spent
+        → e.turns ≡ e.geometry.turn_limit }
 {}

@@ -54,3 +54,10 @@ pub enum Progress {
     /// The call has ended.
     Done(Reply),
 }
+
+/// The block that a put offers to its shelf. `place` is the arena word of its prefix word.
+#[derive(Clone, Copy, Debug, PartialEq, Eq)]
+pub struct Offer {
+    pub place: u32,
+    pub need: Need,
+}

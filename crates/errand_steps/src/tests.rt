@@ -1,5 +1,5 @@
 use crate::errand::{Errand, answer, event, plan, settle};
-use crate::reply::{Begun, Progress, Reply};
+use crate::reply::{Begun, Offer, Progress, Reply};
 use heap_geometry::geometry::Geometry;
 use heap_geometry::need::Need;
 use pool_model::event::Event;
@@ -215,7 +215,13 @@ fn calls_begin_at_their_words(rt: HostRuntime) {
     assert_eq!(rt; told, Some((action, None, Progress::Done(Reply::Word(7)))));
 
     let mut errand = Errand::open(0, GEOMETRY);
+    assert_eq!(rt; errand.offered(), None);
     errand.begin_put(2048, Need::Large(1), 4);
+    let offer = Offer {
+        place: 2048,
+        need: Need::Large(1),
+    };
+    assert_eq!(rt; errand.offered(), Some(offer));
     let put = Event::Put {
         caller: 0,
         place: 2048,
