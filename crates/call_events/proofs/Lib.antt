@@ -6,5 +6,6 @@ pub mod EndLemmas
 pub mod EventLists
 pub mod LargeEvents
 pub mod LeadsDefs
+pub mod OfferLemmas
 pub mod PartEvents
 pub mod SoFarLemmas

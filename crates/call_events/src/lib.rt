@@ -3,18 +3,21 @@
 #![tactic(auto)]
 
 ghost use Rattle.std.specs.Prelude.{ℕ, ◌≡◌, ◌<◌, ◌^◌, List, [], Some, false};
+ghost use Rattle.heap_geometry.specs.declared.need.Need.{Need};
 ghost use Rattle.word_plan.specs.Actions.{is_won};
 ghost use Rattle.word_plan.specs.declared.action.Found.{Found};
 ghost use Rattle.pool_model.specs.Calls.{Ended, EventsOf, EventsSoFar, alloc_too_large, alloc_spent};
 ghost use Rattle.pool_model.specs.declared.event.Event.{Event};
 ghost use Rattle.errand_steps.specs.Begins.{IsIdle, IsBusy, alloc_answer};
-ghost use Rattle.errand_steps.specs.Calls.{Call, alloc, begun_by};
+ghost use Rattle.errand_steps.specs.Calls.{Call, alloc, put, begun_by};
 ghost use Rattle.errand_steps.specs.Errands.{ErrandFields, IsErrand, plan_of, settle_of, answer_of};
 ghost use Rattle.errand_steps.specs.Events.{event_of};
+ghost use Rattle.errand_steps.specs.Offers.{offered_at};
 ghost use Rattle.errand_steps.specs.Steps.{with_event};
 ghost use Rattle.errand_steps.specs.Points.{is_idle};
 ghost use Rattle.errand_steps.specs.declared.point.Point.{Point};
 ghost use Rattle.errand_steps.specs.declared.reply.Begun.TheVariants as begun;
+ghost use Rattle.errand_steps.specs.declared.reply.Offer.{Offer};
 ghost use Rattle.errand_steps.specs.declared.reply.Reply.{Reply};
 ghost use Rattle.errand_steps.specs.declared.reply.Progress.TheVariants.{Done};
 ghost use Rattle.call_events.specs.Ends.{end_of, HasEnded};
@@ -52,4 +55,15 @@ pub fn calls_under_way_can_end()
     ensures so_far { (who : ℕ) (call : Call) (point : Point) (events : List Event)
         → IsUnderWay who call point events
         → (reply : Reply) × (end : Ended) × (end_of call reply ≡ Some end) × EventsSoFar who end events }
+{}
+
+/// A put that is under way offers the block that it began with, and no other call offers one. So where
+/// the shelf is full its caller has its own block back.
+pub fn puts_offer_their_block()
+    ensures puts { (who place : ℕ) (need : Need) (shelf : ℕ) (point : Point) (events : List Event)
+        → IsUnderWay who (put place need shelf) point events
+        → offered_at point ≡ Some (record { place = place; need = need }) }
+    ensures others { (who : ℕ) (call : Call) (point : Point) (events : List Event) (offer : Offer)
+        → IsUnderWay who call point events → offered_at point ≡ Some offer
+        → (shelf : ℕ) × (call ≡ put offer.place offer.need shelf) }
 {}
