@@ -1,5 +1,5 @@
 -- A call that begins has added no event.
-use Rattle.std.proofs.Common.{ℕ, ◌≡◌, inl, inr, [], refl, sym, ◌∙◌, arith}
+use Rattle.std.proofs.Common.{ℕ, ◌≡◌, ◌≢◌, inl, inr, [], refl, sym, ◌∙◌, arith}
 use Rattle.std.proofs.lemmas.Bool.{cases_Bool, true≢false}
 use Rattle.heap_geometry.specs.declared.need.Need.{Need}
 use Rattle.heap_geometry.specs.declared.need.Need.TheVariants.{Small, Large, TooLarge}
@@ -67,3 +67,27 @@ pub spent-begins :
     → (alloc_begun e words ≡ e) × IsSpending e.caller (need_of words) []
 unfolding alloc_begun
 spent-begins e words answers = (spent-stays e words (need_of words) answers, spent-small e (need_of words) answers)
+
+-- an allocation that starts, and every other call
+start-busy : (e : ErrandFields) (words : ℕ) (need : Need) → begins_with e need ≡ begun.Started → IsBusy (begins_alloc e words need)
+start-busy e words need answers = grind (arith)
+
+pub started-busy : (e : ErrandFields) (words : ℕ) → begins_with e (need_of words) ≡ begun.Started → IsBusy (alloc_begun e words)
+unfolding alloc_begun
+started-busy e words answers = start-busy e words (need_of words) answers
+
+free-busy : (e : ErrandFields) (place : ℕ) (need : Need) → IsHeapBlock e.geometry place need → IsBusy (free_begun e place need)
+unfolding free_begun
+free-busy e place (Small class) block = refl
+free-busy e place (Large units) block = refl
+free-busy e place TooLarge block = absurd block.1
+
+pub other-busy :
+    (e : ErrandFields) (call : Call) → IsAboutBlock e.geometry call → ((words : ℕ) → call ≢ alloc words) → IsBusy (begun_by e call)
+unfolding write_begun read_begun put_begun take_begun
+other-busy e (alloc words) about other = absurd (other words refl)
+other-busy e (free place need) about other = free-busy e place need about
+other-busy e (write place need i value) about other = refl
+other-busy e (read place need i) about other = refl
+other-busy e (put place need shelf) about other = refl
+other-busy e (take shelf) about other = refl

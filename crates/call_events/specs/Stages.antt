@@ -1,4 +1,4 @@
--- How far a call is at each point, by the events that are still to come.
+-- How far a call is at each point, as far as its events show it.
 use Rattle.std.specs.Prelude.{ℕ, Bool, true, false}
 use Rattle.heap_geometry.specs.Place.{block_place}
 use Rattle.heap_geometry.specs.declared.need.Need.{Need}
@@ -19,7 +19,7 @@ use Rattle.errand_steps.specs.declared.point.Point.{Point}
 use Rattle.errand_steps.specs.declared.point.Point.TheVariants as point
 use Rattle.errand_steps.specs.Points.{asked}
 
--- how far a call is: it asks for so many words of a class, and has it found no partial superblock in this turn; it asks for so many words of a run of units; it is refused; it is given the block at a place; it frees that block; it has freed one; it writes a usable word; it reads one; it puts a block on a shelf; it takes one from there; or there is none
+-- how far a call is: it asks for words of a class (and has looked, where it found no partial superblock in this turn), or for words of a run; it is refused, or given a block; it frees a block, or has freed it; it writes a usable word, or reads one; it puts a block on a shelf, or takes one from there; or there is no call
 pub data Stage : Type 0 where
   asking : (words class : ℕ) (looked : Bool) → Stage
   asking_run : (words units : ℕ) → Stage
@@ -54,7 +54,7 @@ block_stage (block.StoreLink at i a guarded heap) o = block_freeing at i
 block_stage (block.PushBlock at i a guarded heap) o = block_freeing at i
 block_stage p o = asking (asked o) (seat_of_block p).class false
 
--- at a stack, at the descriptors and at a partial superblock, by what the caller goes on with; and has an allocation that goes on in a superblock looked
+-- at a stack, at the descriptors and at a partial superblock it is what the caller goes on with; an allocation has looked where its part says so, or where it takes a frame
 abbrev pub onward_stage : Bool → SeatFields → Onward → Stage
 onward_stage looked s (onward.Alloc words) = asking words s.class looked
 onward_stage looked s (onward.TakeFrame words d) = asking words s.class true

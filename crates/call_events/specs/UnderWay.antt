@@ -16,7 +16,7 @@ abbrev pub HasLooked : ℕ → ℕ → Bool → List Event → Type 0
 HasLooked who class false events = (count : ℕ) × (events ≡ looks who class count)
 HasLooked who class true events = (count : ℕ) × (events ≡ looks who class (suc count))
 
--- the call is at this stage, and these are its caller's events since it began; other calls never are
+-- the call is at this stage, and these are its caller's events since it began; no other stage is one of the call
 abbrev pub SoFar : ℕ → Call → Stage → List Event → Type 0
 SoFar who (alloc n) (asking words class looked) events = (words ≡ n) × (need_of n ≡ Small class) × HasLooked who class looked events
 SoFar who (alloc n) (asking_run words units) events = (words ≡ n) × (need_of n ≡ Large units) × (events ≡ [])

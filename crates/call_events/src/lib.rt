@@ -2,7 +2,7 @@
 //! and at its end all, of the events of a call that ends so.
 #![tactic(auto)]
 
-ghost use Rattle.std.specs.Prelude.{ℕ, ◌≡◌, ◌<◌, ◌^◌, List, [], Some, false};
+ghost use Rattle.std.specs.Prelude.{ℕ, ◌≡◌, ◌≢◌, ◌<◌, ◌^◌, List, [], Some, false};
 ghost use Rattle.heap_geometry.specs.declared.need.Need.{Need};
 ghost use Rattle.word_plan.specs.Actions.{is_won};
 ghost use Rattle.word_plan.specs.declared.action.Found.{Found};
@@ -23,11 +23,15 @@ ghost use Rattle.errand_steps.specs.declared.reply.Progress.TheVariants.{Done};
 ghost use Rattle.call_events.specs.Ends.{end_of, HasEnded};
 ghost use Rattle.call_events.specs.UnderWay.{IsUnderWay, IsAboutBlock};
 
-/// A caller in no call that begins one has added no event of it. An allocation that nothing begins
-/// for has ended with none.
+/// A caller in no call that begins one has added no event of it. Every call begins, but for an
+/// allocation that answers that none does; that one has ended, without an event.
 pub fn calls_begin_without_events()
     ensures begins { (e : ErrandFields) (call : Call) → IsIdle e → IsAboutBlock e.geometry call
         → IsBusy (begun_by e call) → IsUnderWay e.caller call (begun_by e call).point [] }
+    ensures started { (e : ErrandFields) (words : ℕ) → alloc_answer e words ≡ begun.Started
+        → IsBusy (begun_by e (alloc words)) }
+    ensures others { (e : ErrandFields) (call : Call) → IsAboutBlock e.geometry call
+        → ((words : ℕ) → call ≢ alloc words) → IsBusy (begun_by e call) }
     ensures too_large { (e : ErrandFields) (words : ℕ) → alloc_answer e words ≡ begun.TooLarge
         → (begun_by e (alloc words) ≡ e) × EventsOf e.caller alloc_too_large [] }
     ensures spent { (e : ErrandFields) (words : ℕ) → alloc_answer e words ≡ begun.Spent
