@@ -1,5 +1,5 @@
 -- A caller's events since it began a call.
-use Rattle.std.specs.Prelude.{ℕ, ◌≡◌, ◌≢◌, List, ◌++◌, All}
+use Rattle.std.specs.Prelude.{ℕ, ◌≡◌, List, ◌++◌}
 use Rattle.pool_model.specs.declared.event.Event.{Event}
 use Rattle.pool_model.specs.Histories.{own}
 use Rattle.errand_steps.specs.declared.reply.Reply.{Reply}
@@ -7,7 +7,6 @@ use Rattle.errand_steps.specs.Calls.{Call}
 use Rattle.errand_steps.specs.Steps.{State}
 use Rattle.call_events.specs.Ends.{HasEnded}
 use Rattle.call_events.specs.UnderWay.{IsUnderWay}
-use Rattle.sound_state.specs.Runs.{Move, begins, steps}
 
 -- a caller whose own events were these when it began this call is in it: what it added since are the call's events so far
 pub record IsInCall (who : ℕ) (call : Call) (before : List Event) (s : State) : Type 0 where
@@ -20,11 +19,3 @@ pub record HasEndedCall (who : ℕ) (call : Call) (before : List Event) (reply :
   pub added : List Event
   pub events : own who s.history ≡ before ++ added
   pub ended : HasEnded who call reply added
-
--- the move isn't the begin of a call of this caller; none of the moves is
-abbrev pub IsNoBegin : ℕ → Move → Type 0
-IsNoBegin who (begins other call) = other ≢ who
-IsNoBegin who (steps other) = Unit {0}
-
-abbrev pub BeginsNothing : ℕ → List Move → Type 0
-BeginsNothing who moves = All (IsNoBegin who) moves

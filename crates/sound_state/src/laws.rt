@@ -16,8 +16,8 @@ pub mod calls;
 pub mod consequences;
 pub mod endings;
 pub mod guards;
-pub mod tags;
 pub mod sums;
+pub mod tags;
 pub mod wins;
 
 /// A state before the first step is sound: every frame is free, every descriptor available, and

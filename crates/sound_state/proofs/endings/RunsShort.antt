@@ -2,16 +2,18 @@
 use Rattle.std.proofs.Common.{ℕ, Bool, true, false, ◌≡◌, ◌<◌, ◌≤◌, ◌+◌, ◌-◌, ◌*◌, ◌^◌, List, [], ◌∷◌, refl, arith, ap, sym, subst, inl, inr}
 use Rattle.std.specs.Prelude.{◌==◌, count_by}
 use Rattle.std.proofs.lemmas.Bool.{cases_eq, cond_both, eq-eqb, ne_eqb}
+use Rattle.std.proofs.lemmas.List.Elements.{All-head, All-tail}
 use Rattle.heap_geometry.specs.declared.geometry.Geometry.{Geometry}
 use Rattle.heap_geometry.specs.declared.limits.TheConstants.{CALL_STEPS}
 use Rattle.heap_geometry.specs.declared.need.Need.{Need}
 use Rattle.heap_geometry.specs.declared.need.Need.TheVariants.{Small, Large, TooLarge}
 use Rattle.heap_geometry.specs.Need.{need_of}
 use Rattle.errand_steps.specs.Begins.{begins_alloc, alloc_begun, free_begun, write_begun, read_begun, put_begun, take_begun}
+use Rattle.errand_steps.specs.Calls.{Call, alloc, free, write, read, put, take, begun_by}
 use Rattle.errand_steps.specs.Errands.{ErrandFields, is_spent, raised, settle_of, counts_lost, counts_cleared}
 use Rattle.errand_steps.specs.Steps.{State, Step, found_at}
-use Rattle.sound_state.specs.Moves.{is_step_of, is_begin_of}
-use Rattle.sound_state.specs.Runs.{Call, alloc, free, write, read, put, take, Begins, begun_by, Move, begins, steps, Moved, Reaches}
+use Rattle.sound_state.specs.Moves.{is_step_of, is_begin_of, BeginsNothing, IsNoBegin}
+use Rattle.sound_state.specs.Runs.{Begins, Move, begins, steps, Moved, Reaches}
 use Rattle.sound_state.specs.Sound.{IsSound}
 use Rattle.sound_state.specs.StepsLeft.{steps_left}
 use Rattle.sound_state.specs.Turns.{one_if}
@@ -232,11 +234,25 @@ run-spent g s moves s' who sound has reached below =
     let grows = run-grows g s moves s' who sound has reached in
     omega (arith, grows.lost, grows.cleared, (run-pays g s moves s' who sound has reached below).paid)
 
+-- a caller that begins nothing begins no call
+begun-none : (who : ℕ) (moves : List Move) → BeginsNothing who moves → count_by (is_begin_of who) moves ≡ 0
+begun-none who [] none = refl
+begun-none who (begins other call ∷ rest) none =
+    let apart = ne_eqb other who (All-head (IsNoBegin who) (begins other call) rest none) in
+    let others = begun-none who rest (All-tail (IsNoBegin who) (begins other call) rest none) in
+    omega (arith, count-append (is_begin_of who) (begins other call ∷ []) rest, others, ap one_if apart)
+begun-none who (steps other ∷ rest) none =
+    omega (
+      arith,
+      count-append (is_begin_of who) (steps other ∷ []) rest,
+      begun-none who rest (All-tail (IsNoBegin who) (steps other) rest none),
+    )
+
 -- so within a call it makes fewer than the most, but for what it loses and clears
 pub run-short :
     (g : Geometry) (s : State) (moves : List Move) (s' : State) (who : ℕ) → IsSound g s → who < g.callers → Reaches g s moves s'
-    → (s'.errand who).lost < 2 ^ 64 - 1 → count_by (is_begin_of who) moves ≡ 0
+    → (s'.errand who).lost < 2 ^ 64 - 1 → BeginsNothing who moves
     → count_by (is_step_of who) moves
     < CALL_STEPS * (1 + ((s'.errand who).lost - (s.errand who).lost) + ((s'.errand who).cleared - (s.errand who).cleared))
 run-short g s moves s' who sound has reached below none =
-    omega (arith, none, run-spent g s moves s' who sound has reached below, most-left g s who sound has)
+    omega (arith, begun-none who moves none, run-spent g s moves s' who sound has reached below, most-left g s who sound has)

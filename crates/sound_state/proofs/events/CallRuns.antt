@@ -12,7 +12,8 @@ use Rattle.errand_steps.specs.Calls.{Call}
 use Rattle.errand_steps.specs.Errands.{answer_of}
 use Rattle.errand_steps.specs.Points.{is_idle}
 use Rattle.errand_steps.specs.Steps.{State, Step, found_at}
-use Rattle.sound_state.specs.Calls.{IsInCall, HasEndedCall, IsNoBegin, BeginsNothing}
+use Rattle.sound_state.specs.Calls.{IsInCall, HasEndedCall}
+use Rattle.sound_state.specs.Moves.{IsNoBegin, BeginsNothing}
 use Rattle.sound_state.specs.Runs.{Begins, Move, begins, steps, Moved, Reaches}
 use Rattle.sound_state.specs.Sound.{IsSound}
 use Rattle.sound_state.proofs.ReachLemmas.{moved-sound, reached-sound}

@@ -8,6 +8,7 @@ use Rattle.heap_geometry.specs.declared.need.Need.TheVariants.{Small, Large, Too
 use Rattle.heap_geometry.specs.Need.{need_of}
 use Rattle.errand_steps.specs.declared.point.Point.{Point}
 use Rattle.errand_steps.specs.Begins.{IsIdle, begins_alloc, alloc_begun, free_point, free_begun, write_begun, read_begun, put_begun, take_begun}
+use Rattle.errand_steps.specs.Calls.{Call, alloc, free, write, read, put, take, begun_by}
 use Rattle.errand_steps.specs.Errands.{ErrandFields, is_spent}
 use Rattle.errand_steps.specs.Fits.{pushed_by}
 use Rattle.errand_steps.specs.Points.{is_idle}
@@ -15,7 +16,7 @@ use Rattle.errand_steps.specs.Steps.{State}
 use Rattle.sound_state.specs.Guarding.{IsAvailable, IsGuardedBy, LeavesHazard, ReachesUnstored}
 use Rattle.sound_state.specs.Guards.{Guards, passed_by}
 use Rattle.sound_state.specs.Lists.{IsListed}
-use Rattle.sound_state.specs.Runs.{Call, alloc, free, write, read, put, take, begun_by, Begins, Move, begins, steps, Moved}
+use Rattle.sound_state.specs.Runs.{Begins, Move, begins, steps, Moved}
 use Rattle.sound_state.specs.Sound.{IsSoundWithoutCounts, with_errands}
 use Rattle.sound_state.proofs.guards.AvailSteps.{available-stepped}
 use Rattle.sound_state.proofs.guards.GuardSettles.{HasNoted}

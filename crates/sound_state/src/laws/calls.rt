@@ -10,7 +10,8 @@ ghost use Rattle.errand_steps.specs.Begins.{IsIdle, IsBusy};
 ghost use Rattle.errand_steps.specs.Calls.{Call};
 ghost use Rattle.errand_steps.specs.Errands.{answer_of};
 ghost use Rattle.errand_steps.specs.Steps.{State, Step, found_at};
-ghost use Rattle.sound_state.specs.Calls.{IsInCall, HasEndedCall, BeginsNothing};
+ghost use Rattle.sound_state.specs.Calls.{IsInCall, HasEndedCall};
+ghost use Rattle.sound_state.specs.Moves.{BeginsNothing};
 ghost use Rattle.sound_state.specs.Runs.{Begins, Move, Moved, Reaches};
 ghost use Rattle.sound_state.specs.Sound.{IsSound};
 

@@ -7,7 +7,7 @@ ghost use Rattle.errand_steps.specs.Begins.{IsIdle, IsBusy};
 ghost use Rattle.errand_steps.specs.Errands.{counts_lost};
 ghost use Rattle.errand_steps.specs.Steps.{State, Step, Run, found_at};
 ghost use Rattle.sound_state.specs.Alone.{alone_left, stale_words};
-ghost use Rattle.sound_state.specs.Moves.{is_begin_of, is_step_of};
+ghost use Rattle.sound_state.specs.Moves.{BeginsNothing, is_begin_of, is_step_of};
 ghost use Rattle.sound_state.specs.Runs.{Move, Reaches};
 ghost use Rattle.sound_state.specs.Sound.{IsSound};
 ghost use Rattle.sound_state.specs.StepsLeft.{GoesOn, steps_left};
@@ -34,7 +34,7 @@ pub fn calls_are_short()
 /// does.
 pub fn calls_are_short_beside_others()
     ensures call { (g : Geometry) (s : State) (moves : List Move) (after : State) (who : ℕ) → IsSound g s → who < g.callers
-        → Reaches g s moves after → (after.errand who).lost < 2 ^ 64 - 1 → count_by (is_begin_of who) moves ≡ 0
+        → Reaches g s moves after → (after.errand who).lost < 2 ^ 64 - 1 → BeginsNothing who moves
         → count_by (is_step_of who) moves
         < CALL_STEPS * (1 + ((after.errand who).lost - (s.errand who).lost) + ((after.errand who).cleared - (s.errand who).cleared)) }
     ensures calls { (g : Geometry) (s : State) (moves : List Move) (after : State) (who : ℕ) → IsSound g s → who < g.callers
