@@ -9,6 +9,7 @@ pub mod LeftMost
 pub mod LeftSteps
 pub mod PartialLeft
 pub mod RunsShort
+pub mod RunsAlone
 pub mod SettleLeft
 pub mod SomeLeft
 pub mod StackLeft

@@ -31,4 +31,4 @@ clearings g s who =
 
 -- how many steps it makes at most until its call ends, where no other caller moves
 abbrev pub alone_left : Geometry → State → ℕ → ℕ
-alone_left g s who = (stale_words g s who + clearings g s who) * (CALL_STEPS + 1) + steps_left g (s.errand who).point
+alone_left g s who = (stale_words g s who + clearings g s who) * CALL_STEPS + steps_left g (s.errand who).point

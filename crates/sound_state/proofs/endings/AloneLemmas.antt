@@ -1,15 +1,16 @@
 -- A caller that moves alone comes to the end of its call.
-use Rattle.std.proofs.Common.{ℕ, zero, suc, ◌<◌, ◌≤◌, ◌+◌, refl, arith, ap, inl, inr}
+use Rattle.std.proofs.Common.{ℕ, zero, suc, true, false, ◌≡◌, ◌<◌, ◌≤◌, ◌+◌, refl, arith, ap, inl, inr}
 use Rattle.std.specs.Prelude.{◌==◌, if◌then◌else◌, replicate}
 use Rattle.std.proofs.lemmas.Bool.{cases_Bool, cond-true, cond-false, eq-eqb, ne_eqb}
 use Rattle.heap_geometry.specs.declared.geometry.Geometry.{Geometry}
 use Rattle.heap_geometry.specs.declared.limits.TheConstants.{CALL_STEPS}
+use Rattle.word_plan.specs.declared.name.WordName.{WordName}
 use Rattle.word_plan.specs.Actions.{after_action}
 use Rattle.errand_steps.specs.Begins.{IsBusy, IsIdle}
 use Rattle.errand_steps.specs.Errands.{counts_lost, settle_of}
 use Rattle.errand_steps.specs.Points.{is_idle}
 use Rattle.errand_steps.specs.Steps.{State, Step, Run, with_event, action_at, name_at, word_at, found_at, event_at}
-use Rattle.sound_state.specs.Alone.{stale_words, alone_left}
+use Rattle.sound_state.specs.Alone.{is_stale, stale_words, alone_left}
 use Rattle.sound_state.specs.Sound.{IsSound}
 use Rattle.sound_state.specs.StepsLeft.{steps_left}
 use Rattle.sound_state.specs.Turns.{one_if}
@@ -18,7 +19,7 @@ use Rattle.sound_state.proofs.CountedLemmas.{without-counts, steps-counted}
 use Rattle.sound_state.proofs.endings.ClearLemmas.{clearings-fall}
 use Rattle.sound_state.proofs.endings.LeftMost.{left-most}
 use Rattle.sound_state.proofs.endings.LeftSteps.{steps-go_on}
-use Rattle.sound_state.proofs.endings.StaleLemmas.{stale-falls}
+use Rattle.sound_state.proofs.endings.StaleLemmas.{stale-kept, lost-met, stale-here, stale-falls}
 use Rattle.sound_state.proofs.shared.PointLemmas.{exists-at, fits-at}
 use Rattle.sound_state.proofs.wins.SameNames.{same-name-refl, same-name-differs}
 use Rattle.sound_state.proofs.wins.WonSteps.{expects-after, loses-on}
@@ -31,6 +32,21 @@ alone-stale g s who s' sound has step =
     let plain = without-counts g s sound in
     let p = (s.errand who).point in
     stale-falls g s who s' (exists-at g s who p plain has refl) step (expects-after g s who plain has) (loses-on p (word_at s who))
+
+-- none becomes stale, its own is not stale after it, and was so where it lost
+pub stale-before :
+    (g : Geometry) (s : State) (who : ℕ) (s' : State) (m : WordName) → IsSound g s → who < g.callers → Step s who s' → is_stale s' who m ≡ true
+    → is_stale s who m ≡ true
+stale-before g s who s' m sound has step = stale-kept s who s' m step (expects-after g s who (without-counts g s sound) has)
+
+pub stale-seen :
+    (g : Geometry) (s : State) (who : ℕ) (s' : State) → IsSound g s → who < g.callers → Step s who s' → is_stale s' who (name_at s who) ≡ false
+stale-seen g s who s' sound has step = stale-here s who s' step (expects-after g s who (without-counts g s sound) has)
+
+pub lost-meets :
+    (g : Geometry) (s : State) (who : ℕ) → IsSound g s → who < g.callers → counts_lost (s.errand who).point (found_at s who) ≡ true
+    → is_stale s who (name_at s who) ≡ true
+lost-meets g s who sound has = lost-met s who (loses-on (s.errand who).point (word_at s who))
 
 -- fewer steps are left
 pub alone-falls :
@@ -49,7 +65,7 @@ alone-falls g s who s' sound has step =
     ]
 
 -- a caller that is in a call can make its step
-step-there : (s : State) (who : ℕ) → IsBusy (s.errand who) → (s' : State) × Step s who s'
+pub step-there : (s : State) (who : ℕ) → IsBusy (s.errand who) → (s' : State) × Step s who s'
 step-there s who busy =
     let n = name_at s who in
     let new = after_action (action_at s who) (word_at s who) in

@@ -1,12 +1,14 @@
 -- A step of a caller makes no word stale for it, and one that is lost finds a stale word, which is stale no more.
 use Rattle.std.proofs.Common.{ℕ, Bool, true, false, ◌≡◌, ◌≢◌, ◌<◌, ◌≤◌, ◌+◌, refl, arith, ap, sym, subst, inl, inr, ◌∙◌}
-use Rattle.std.specs.Prelude.{◌==◌, not, if◌then◌else◌, Any}
-use Rattle.std.proofs.lemmas.Bool.{cases_eq, cases_Bool, cond-true, cond-false, eq-eqb, ne_eqb, and_parts, and_from}
+use Rattle.std.specs.Prelude.{◌==◌, not, if◌then◌else◌, [], Any}
+use Rattle.std.specs.List.{list_any}
+use Rattle.std.proofs.lemmas.Bool.{cases_eq, cases_Bool, cond-true, cond-false, eq-eqb, ne_eqb, and_parts, and_from, true≢false}
 use Rattle.std.proofs.lemmas.List.Folds.{Any-from_list_any, list_any-from_Any}
 use Rattle.heap_geometry.specs.declared.geometry.Geometry.{Geometry}
 use Rattle.word_plan.specs.declared.name.WordName.{WordName}
 use Rattle.word_plan.specs.Counts.{word_count}
 use Rattle.word_plan.specs.Table.{Exists, word_index, word_name}
+use Rattle.word_plan.proofs.NameLemmas.{cases_name}
 use Rattle.word_plan.proofs.TableLemmas.{word_index-within, word_index-word_name, word_name-word_index}
 use Rattle.errand_steps.specs.Errands.{counts_lost, settle_of}
 use Rattle.errand_steps.specs.Steps.{State, Step, action_at, name_at, word_at, found_at}
@@ -15,7 +17,7 @@ use Rattle.sound_state.specs.Expectations.{Expected, expects_of}
 use Rattle.sound_state.specs.Sums.{sum_below}
 use Rattle.sound_state.specs.Turns.{one_if}
 use Rattle.sound_state.specs.Wins.{same_name}
-use Rattle.sound_state.proofs.shared.SumLemmas.{sum-change, sum-least}
+use Rattle.sound_state.proofs.shared.SumLemmas.{sum-change, sum-least, sum-none}
 use Rattle.sound_state.proofs.wins.ExpectLemmas.{some-all}
 use Rattle.sound_state.proofs.wins.NoteLemmas.{ExpectsAfter}
 use Rattle.sound_state.proofs.wins.SameNames.{same-name-is, same-name-one}
@@ -64,7 +66,7 @@ stale-apart s who s' m step expects apart stale =
     ]
 
 -- the step's word is stale no more
-stale-here :
+pub stale-here :
     (s : State) (who : ℕ) (s' : State) → Step s who s' → ExpectsAfter s who → is_stale s' who (name_at s who) ≡ false
 stale-here s who s' step expects =
     elim (cases_Bool (is_stale s' who (name_at s who))) [
@@ -74,12 +76,26 @@ stale-here s who s' step expects =
       | inr isnt ↦ isnt
     ]
 
+-- so none becomes stale
+pub stale-kept :
+    (s : State) (who : ℕ) (s' : State) (m : WordName) → Step s who s' → ExpectsAfter s who → is_stale s' who m ≡ true → is_stale s who m ≡ true
+stale-kept s who s' m step expects stale =
+    elim (cases_name m (name_at s who)) [
+      | inl here ↦ absurd (true≢false (sym (ap (is_stale s' who) (sym here) ∙ stale) ∙ stale-here s who s' step expects))
+      | inr apart ↦ stale-apart s who s' m step expects apart stale
+    ]
+
 -- a step that counts as lost finds its word stale
+pub lost-met :
+    (s : State) (who : ℕ) → LosesOn (s.errand who).point (word_at s who) → counts_lost (s.errand who).point (found_at s who) ≡ true
+    → is_stale s who (name_at s who) ≡ true
+lost-met s who loses lost = stale-by s who (name_at s who) (loses lost)
+
 lost-stale : (s : State) (who : ℕ) → LosesOn (s.errand who).point (word_at s who) → one_if (counts_lost (s.errand who).point (found_at s who)) ≤ one_if (is_stale s who (name_at s who))
 lost-stale s who loses =
     elim (cases_Bool (counts_lost (s.errand who).point (found_at s who))) [
       | inl lost ↦
-          let stale : is_stale s who (name_at s who) ≡ true = stale-by s who (name_at s who) (loses lost) in
+          let stale : is_stale s who (name_at s who) ≡ true = lost-met s who loses lost in
           omega (arith, ap one_if lost, ap one_if stale)
       | inr isnt ↦ omega (arith, ap one_if isnt)
     ]
@@ -120,3 +136,8 @@ stale-falls g s who s' exists step expects loses =
           )
     ]) in
     omega (arith, changed, zero_here, least, here, lost-stale s who loses)
+
+-- who expects nothing has no stale word
+pub none-stale : (g : Geometry) (s : State) (who : ℕ) → expects_of (s.errand who).point ≡ [] → stale_words g s who ≡ 0
+none-stale g s who none =
+    sum-none (word_count g) (λ k. one_if (is_stale s who (word_name g k))) (λ k lt. ap (λ es. one_if (list_any (is_stale_by s (word_name g k)) es)) none)

@@ -76,6 +76,10 @@ call-begins e (alloc words) idle = alloc-begins e words (need_of words) idle
 call-begins e (free place need) idle = free-begins e place need idle
 call-begins e call idle = grind (arith)
 
+-- so it expects nothing
+pub begun-expects : (e : ErrandFields) (call : Call) → IsIdle e → expects_of (begun_by e call).point ≡ []
+begun-expects e call idle = (call-begins e call idle).expects
+
 -- an idle caller is in no turn
 idle-answered : (e : ErrandFields) → IsIdle e → turn_unanswered e ≡ 0
 idle-answered e idle = rw (idle-is e.point idle) refl

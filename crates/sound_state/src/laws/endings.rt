@@ -1,14 +1,16 @@
 //! Laws of how calls come to their ends.
 
-ghost use Rattle.std.specs.Prelude.{ℕ, ◌≡◌, ◌<◌, ◌≤◌, ◌+◌, ◌-◌, ◌*◌, ◌^◌, List, count_by, replicate};
+ghost use Rattle.std.specs.Prelude.{ℕ, ◌≡◌, ◌<◌, ◌≤◌, ◌+◌, ◌-◌, ◌*◌, ◌^◌, List, count_by, replicate, true, false, []};
 ghost use Rattle.heap_geometry.specs.declared.geometry.Geometry.{Geometry};
 ghost use Rattle.heap_geometry.specs.declared.limits.TheConstants.{CALL_STEPS};
 ghost use Rattle.errand_steps.specs.Begins.{IsIdle, IsBusy};
-ghost use Rattle.errand_steps.specs.Errands.{counts_lost};
-ghost use Rattle.errand_steps.specs.Steps.{State, Step, Run, found_at};
-ghost use Rattle.sound_state.specs.Alone.{alone_left, stale_words};
+ghost use Rattle.errand_steps.specs.Errands.{counts_lost, ErrandFields};
+ghost use Rattle.errand_steps.specs.Steps.{State, Step, Run, found_at, name_at};
+ghost use Rattle.sound_state.specs.Alone.{alone_left, stale_words, clearings, is_stale};
 ghost use Rattle.sound_state.specs.Moves.{BeginsNothing, is_begin_of, is_step_of};
-ghost use Rattle.sound_state.specs.Runs.{Move, Reaches};
+ghost use Rattle.sound_state.specs.Runs.{Move, Reaches, Call, begun_by};
+ghost use Rattle.word_plan.specs.declared.name.WordName.{WordName};
+ghost use Rattle.sound_state.specs.Expectations.{expects_of};
 ghost use Rattle.sound_state.specs.Sound.{IsSound};
 ghost use Rattle.sound_state.specs.StepsLeft.{GoesOn, steps_left};
 ghost use Rattle.sound_state.specs.Turns.{one_if};
@@ -20,8 +22,8 @@ pub fn steps_go_on()
         → IsSound g s → who < g.callers → Step s who after → GoesOn g s who after }
 {}
 
-/// No call has more than `CALL_STEPS` steps left, however many frames, heaps and callers there are. So, as
-/// `steps_go_on` says, it makes at most that many between two steps that lose or clear.
+/// Every call has fewer than `CALL_STEPS` steps left, however many frames, heaps and callers there are. So,
+/// as `steps_go_on` says, it makes fewer than that many between two steps that lose or clear.
 pub fn calls_are_short()
     ensures { (g : Geometry) (s : State) (who : ℕ) → IsSound g s → who < g.callers
         → steps_left g (s.errand who).point < CALL_STEPS }
@@ -45,7 +47,6 @@ pub fn calls_are_short_beside_others()
     ensures counts { (g : Geometry) (s : State) (moves : List Move) (after : State) (who : ℕ) → IsSound g s → who < g.callers
         → Reaches g s moves after
         → ((s.errand who).lost ≤ (after.errand who).lost) × ((s.errand who).cleared ≤ (after.errand who).cleared) }
-{}
 
 /// A caller that is in a call has a step left to make.
 pub fn calls_have_a_step_left()
@@ -53,16 +54,56 @@ pub fn calls_have_a_step_left()
         → 0 < steps_left g (s.errand who).point }
 {}
 
+/// No step makes a word stale for its own caller. A step that loses meets a stale word; the word that a
+/// step is on is not stale after it.
+pub fn lost_steps_meet_stale_words()
+    ensures stale { (g : Geometry) (s : State) (who : ℕ) (after : State) (word : WordName) → IsSound g s
+        → who < g.callers → Step s who after → is_stale after who word ≡ true → is_stale s who word ≡ true }
+    ensures met { (g : Geometry) (s : State) (who : ℕ) → IsSound g s → who < g.callers
+        → counts_lost (s.errand who).point (found_at s who) ≡ true → is_stale s who (name_at s who) ≡ true }
+    ensures seen { (g : Geometry) (s : State) (who : ℕ) (after : State) → IsSound g s → who < g.callers
+        → Step s who after → is_stale after who (name_at s who) ≡ false }
+    ensures falls { (g : Geometry) (s : State) (who : ℕ) (after : State) → IsSound g s → who < g.callers
+        → Step s who after
+        → stale_words g after who + one_if (counts_lost (s.errand who).point (found_at s who)) ≤ stale_words g s who }
+{}
+
+/// A call that has just begun expects nothing, whatever the others do meanwhile. So no word is stale for it.
+pub fn begun_calls_expect_nothing()
+    ensures expects { (e : ErrandFields) (call : Call) → IsIdle e → expects_of (begun_by e call).point ≡ [] }
+    ensures stale { (g : Geometry) (s : State) (who : ℕ) (e : ErrandFields) (call : Call) → IsIdle e
+        → s.errand who ≡ begun_by e call → stale_words g s who ≡ 0 }
+{}
+
 /// A caller that moves alone ends its call, wherever the others stopped: each of its steps leaves fewer
-/// to do. A step that loses meets a word that is stale for its caller, and leaves it one fewer; no step
-/// makes a word stale for its own caller.
+/// to do, and as many turns as it has steps left end the call.
 pub fn alone_calls_end()
+    ensures falls { (g : Geometry) (s : State) (who : ℕ) (after : State) → IsSound g s → who < g.callers
+        → Step s who after → alone_left g after who < alone_left g s who }
     ensures ends { (g : Geometry) (s : State) (who : ℕ) → IsSound g s → who < g.callers
         → (n : ℕ) × (after : State) × (n ≤ alone_left g s who) × Run s (replicate n who) n after
         × IsIdle (after.errand who) }
-    ensures falls { (g : Geometry) (s : State) (who : ℕ) (after : State) → IsSound g s → who < g.callers
-        → Step s who after → alone_left g after who < alone_left g s who }
-    ensures stale { (g : Geometry) (s : State) (who : ℕ) (after : State) → IsSound g s → who < g.callers
-        → Step s who after
-        → stale_words g after who + one_if (counts_lost (s.errand who).point (found_at s who)) ≤ stale_words g s who }
+    ensures every { (g : Geometry) (s : State) (who turns n : ℕ) (after : State) → IsSound g s → who < g.callers
+        → Run s (replicate turns who) n after → alone_left g s who ≤ turns → IsIdle (after.errand who) }
+{}
+
+/// What a caller's own turns come to, however many there are, while no other one moves. It makes fewer than
+/// `CALL_STEPS` steps, and at most that many more for each exchange that it loses and each empty superblock
+/// that it clears, where its count of lost exchanges does not stand still. It loses no more often than words
+/// were stale for it, and clears no more superblocks than were left to clear.
+pub fn alone_runs_are_short()
+    ensures left { (g : Geometry) (s : State) (who turns n : ℕ) (after : State) → IsSound g s → who < g.callers
+        → Run s (replicate turns who) n after → n + alone_left g after who ≤ alone_left g s who }
+    ensures few { (g : Geometry) (s : State) (who turns n : ℕ) (after : State) → IsSound g s → who < g.callers
+        → Run s (replicate turns who) n after → (after.errand who).lost + 1 < 2 ^ 64
+        → n < CALL_STEPS * (1 + ((after.errand who).lost - (s.errand who).lost)
+        + ((after.errand who).cleared - (s.errand who).cleared)) }
+    ensures lost { (g : Geometry) (s : State) (who turns n : ℕ) (after : State) → IsSound g s → who < g.callers
+        → Run s (replicate turns who) n after
+        → ((s.errand who).lost ≤ (after.errand who).lost)
+        × ((after.errand who).lost + stale_words g after who ≤ (s.errand who).lost + stale_words g s who) }
+    ensures cleared { (g : Geometry) (s : State) (who turns n : ℕ) (after : State) → IsSound g s → who < g.callers
+        → Run s (replicate turns who) n after
+        → ((s.errand who).cleared ≤ (after.errand who).cleared)
+        × ((after.errand who).cleared + clearings g after who ≤ (s.errand who).cleared + clearings g s who) }
 {}

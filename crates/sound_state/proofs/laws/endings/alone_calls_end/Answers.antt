@@ -1,13 +1,14 @@
 use Rattle.std.proofs.Common.{arith}
 use Rattle.sound_state.specs.Alone.{alone_left}
-use Rattle.sound_state.proofs.endings.AloneLemmas.{alone-falls, alone-stale, ends-within}
+use Rattle.sound_state.proofs.endings.AloneLemmas.{alone-falls, ends-within}
+use Rattle.sound_state.proofs.endings.RunsAlone.{ends-alone}
 use Rattle.sound_state.proofs.laws.endings.alone_calls_end.Goals as goal
-
-pub returns-clause-ends : goal.returns-clause-ends
-returns-clause-ends c = λ g s who sound has. ends-within g (alone_left g s who) s who sound has (omega arith)
 
 pub returns-clause-falls : goal.returns-clause-falls
 returns-clause-falls c = alone-falls
 
-pub returns-clause-stale : goal.returns-clause-stale
-returns-clause-stale c = alone-stale
+pub returns-clause-ends : goal.returns-clause-ends
+returns-clause-ends c = λ g s who sound has. ends-within g (alone_left g s who) s who sound has (omega arith)
+
+pub returns-clause-every : goal.returns-clause-every
+returns-clause-every c = λ g s who turns n after sound has run left. ends-alone g turns s who n after sound has left run

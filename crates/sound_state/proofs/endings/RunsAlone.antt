@@ -1,0 +1,152 @@
+-- What a caller's own turns come to, however many there are.
+use Rattle.std.proofs.Common.{ℕ, zero, suc, Bool, true, false, ◌≡◌, ◌<◌, ◌≤◌, ◌+◌, ◌*◌, ◌^◌, ◌⊎◌, refl, arith, ap, sym, subst, inl, inr, ◌∙◌}
+use Rattle.std.specs.Prelude.{replicate}
+use Rattle.std.proofs.lemmas.Bool.{cases_Bool, true≢false}
+use Rattle.heap_geometry.specs.declared.geometry.Geometry.{Geometry}
+use Rattle.heap_geometry.specs.declared.limits.TheConstants.{CALL_STEPS}
+use Rattle.errand_steps.specs.Begins.{IsIdle}
+use Rattle.errand_steps.specs.Errands.{ErrandFields, counts_lost, counts_cleared, raised, settle_of}
+use Rattle.errand_steps.specs.Points.{is_idle}
+use Rattle.errand_steps.specs.Steps.{State, Step, Run, found_at}
+use Rattle.sound_state.specs.Alone.{stale_words, clearings, alone_left}
+use Rattle.sound_state.specs.Sound.{IsSound}
+use Rattle.sound_state.specs.StepsLeft.{steps_left}
+use Rattle.sound_state.specs.Turns.{one_if}
+use Rattle.sound_state.proofs.CountedLemmas.{without-counts, steps-counted}
+use Rattle.sound_state.proofs.endings.AloneLemmas.{alone-falls, alone-stale, step-there}
+use Rattle.sound_state.proofs.endings.ClearLemmas.{clearings-fall}
+use Rattle.sound_state.proofs.endings.LeftMost.{left-most}
+use Rattle.sound_state.proofs.endings.LeftSteps.{steps-go_on}
+use Rattle.sound_state.proofs.shared.PointLemmas.{fits-at}
+use Rattle.sound_state.proofs.shared.StepLemmas.{raised-least}
+use Rattle.sound_state.proofs.shared.TagLemmas.{cleared-below}
+
+-- so many steps of a caller lead from the first state to the second: what it lost and cleared, and what is left
+pub record LeadsAlone (g : Geometry) (s : State) (who n : ℕ) (s' : State) : Type 0 where
+  pub left : n + alone_left g s' who ≤ alone_left g s who
+  pub lost : (s.errand who).lost ≤ (s'.errand who).lost
+  pub met : (s'.errand who).lost + stale_words g s' who ≤ (s.errand who).lost + stale_words g s who
+  pub cleared : (s.errand who).cleared ≤ (s'.errand who).cleared
+  pub emptied : (s'.errand who).cleared + clearings g s' who ≤ (s.errand who).cleared + clearings g s who
+  pub few :
+      (s'.errand who).lost + 1 < 2 ^ 64
+      → n + CALL_STEPS * ((s.errand who).lost + (s.errand who).cleared) + steps_left g (s'.errand who).point
+      ≤ CALL_STEPS * ((s'.errand who).lost + (s'.errand who).cleared) + steps_left g (s.errand who).point
+
+-- no steps
+stays-alone : (g : Geometry) (s : State) (who : ℕ) → LeadsAlone g s who 0 s
+stays-alone g s who = record {
+  left = omega arith;
+  lost = omega arith;
+  met = omega arith;
+  cleared = omega arith;
+  emptied = omega arith;
+  few = λ room. omega arith;
+}
+
+-- some, and then some more
+then-alone :
+    (g : Geometry) (s : State) (who n : ℕ) (t : State) (m : ℕ) (s' : State) → LeadsAlone g s who n t → LeadsAlone g t who m s'
+    → LeadsAlone g s who (n + m) s'
+then-alone g s who n t m s' a b = record {
+  left = omega (arith, a.left, b.left);
+  lost = omega (arith, a.lost, b.lost);
+  met = omega (arith, a.met, b.met);
+  cleared = omega (arith, a.cleared, b.cleared);
+  emptied = omega (arith, a.emptied, b.emptied);
+  few = λ room. let early : (t.errand who).lost + 1 < 2 ^ 64 = omega (arith, room, b.lost) in omega (arith, a.few early, b.few room);
+}
+
+-- a count that rises goes up by no more than one, and by one where it does not stand at its end
+raised-most : (b : Bool) (n : ℕ) → raised b n ≤ n + one_if b
+raised-most b n = grind (arith)
+
+raised-one : (b : Bool) (n : ℕ) → raised b n + 1 < 2 ^ 64 → raised b n ≡ n + one_if b
+raised-one b n room = grind (arith, room)
+
+raised-up : (b : Bool) (n : ℕ) → n + 1 < 2 ^ 64 → raised b n ≡ n + one_if b
+raised-up b n room = grind (arith, room)
+
+-- the counts after a step
+lost-after : (s : State) (who : ℕ) (s' : State) → Step s who s' → (s'.errand who).lost ≡ raised (counts_lost (s.errand who).point (found_at s who)) (s.errand who).lost
+unfolding settle_of
+lost-after s who s' step = ap (λ e. e.lost) step.errand.here
+
+cleared-after : (s : State) (who : ℕ) (s' : State) → Step s who s' → (s'.errand who).cleared ≡ raised (counts_cleared (s.errand who).point (found_at s who)) (s.errand who).cleared
+unfolding settle_of
+cleared-after s who s' step = ap (λ e. e.cleared) step.errand.here
+
+-- one step
+step-alone : (g : Geometry) (s : State) (who : ℕ) (s' : State) → IsSound g s → who < g.callers → Step s who s' → LeadsAlone g s who 1 s'
+step-alone g s who s' sound has step =
+    let e = s.errand who in
+    let plain = without-counts g s sound in
+    let after = steps-counted g s who s' sound has step in
+    let b = counts_lost e.point (found_at s who) in
+    let c = counts_cleared e.point (found_at s who) in
+    let lost = lost-after s who s' step in
+    let cleared : (s'.errand who).cleared ≡ e.cleared + one_if c =
+    cleared-after s who s' step ∙ raised-up c e.cleared (cleared-below g s plain who has) in
+    let most : steps_left g (s'.errand who).point < CALL_STEPS =
+    left-most g who (s'.errand who).point after.checked (fits-at g s' after.parts.0 who (s'.errand who).point after.parts.1 has refl) in
+    record {
+      left = omega (arith, alone-falls g s who s' sound has step);
+      lost = omega (arith, lost, raised-least b e.lost (sound.parts.1.errands who has).lost);
+      met = omega (arith, lost, raised-most b e.lost, alone-stale g s who s' sound has step);
+      cleared = omega (arith, cleared);
+      emptied = omega (arith, cleared, clearings-fall g s who s' plain (without-counts g s' after) has step);
+      few = λ room.
+          let up : (s'.errand who).lost ≡ e.lost + one_if b = lost ∙ raised-one b e.lost (omega (arith, room, lost)) in
+          elim (steps-go_on g s who s' plain has step) [
+            | inl loses ↦ omega (arith, up, cleared, most, ap one_if loses)
+            | inr rest ↦
+                elim rest [ inl clears ↦ omega (arith, up, cleared, most, ap one_if clears) | inr fewer ↦ omega (arith, up, cleared, fewer) ]
+          ];
+    }
+
+-- any turns
+pub runs-alone :
+    (g : Geometry) (turns : ℕ) (s : State) (who n : ℕ) (s' : State) → IsSound g s → who < g.callers → Run s (replicate turns who) n s'
+    → LeadsAlone g s who n s'
+runs-alone g zero s who n s' sound has run =
+    subst (λ t. LeadsAlone g s who n t) (sym run.1) (subst (λ k. LeadsAlone g s who k s) (sym run.0) (stays-alone g s who))
+runs-alone g (suc turns) s who n s' sound has (t, first, others, turn, run, total) =
+    elim turn [
+      | inl idle ↦
+          let here : Run s (replicate turns who) others s' = subst (λ u. Run u (replicate turns who) others s') idle.2 run in
+          let same : others ≡ n = omega (arith, total, idle.1) in
+          subst (λ k. LeadsAlone g s who k s') same (runs-alone g turns s who others s' sound has here)
+      | inr one ↦
+          let same : 1 + others ≡ n = omega (arith, total, one.1) in
+          subst (λ k. LeadsAlone g s who k s') same
+          (then-alone g s who 1 t others s' (step-alone g s who t sound has one.0)
+          (runs-alone g turns t who others s' (steps-counted g s who t sound has one.0) has run))
+    ]
+
+-- a caller that is in no call stays so
+idle-stays :
+    (turns : ℕ) (s : State) (who n : ℕ) (s' : State) → IsIdle (s.errand who) → Run s (replicate turns who) n s' → IsIdle (s'.errand who)
+idle-stays zero s who n s' idle run = subst (λ t. IsIdle (t.errand who)) (sym run.1) idle
+idle-stays (suc turns) s who n s' idle (t, first, others, turn, run, total) =
+    elim turn [
+      | inl none ↦ idle-stays turns s who others s' idle (subst (λ u. Run u (replicate turns who) others s') none.2 run)
+      | inr one ↦ absurd (true≢false (sym idle ∙ one.0.busy))
+    ]
+
+-- as many turns as are left end its call
+pub ends-alone :
+    (g : Geometry) (turns : ℕ) (s : State) (who n : ℕ) (s' : State) → IsSound g s → who < g.callers → alone_left g s who ≤ turns
+    → Run s (replicate turns who) n s' → IsIdle (s'.errand who)
+ends-alone g zero s who n s' sound has left run =
+    subst (λ t. IsIdle (t.errand who)) (sym run.1)
+    (elim (cases_Bool (is_idle (s.errand who).point)) [
+      | inl idle ↦ idle
+      | inr busy ↦ let (t, step) = step-there s who busy in absurd (omega (arith, left, alone-falls g s who t sound has step))
+    ])
+ends-alone g (suc turns) s who n s' sound has left (t, first, others, turn, run, total) =
+    elim turn [
+      | inl idle ↦ idle-stays turns s who others s' idle.0 (subst (λ u. Run u (replicate turns who) others s') idle.2 run)
+      | inr one ↦
+          ends-alone g turns t who others s' (steps-counted g s who t sound has one.0) has
+          (omega (arith, left, alone-falls g s who t sound has one.0)) run
+    ]
