@@ -1,8 +1,10 @@
 pub mod AloneLemmas
+pub mod AvailableLemmas
 pub mod BlockFinds
 pub mod BlockLeft
 pub mod ClearLemmas
 pub mod DescLeft
+pub mod EmptiedLemmas
 pub mod LargeLeft
 pub mod LeftDefs
 pub mod LeftMost
@@ -14,3 +16,6 @@ pub mod SettleLeft
 pub mod SomeLeft
 pub mod StackLeft
 pub mod StaleLemmas
+pub mod StaleMost
+pub mod TurnAway
+pub mod TurnWords

@@ -128,7 +128,7 @@ resumed-turns e seat d top (onward.Turn words) is below = turn-resumes (is_spent
 resumed-turns e seat d top o is below = grind (arith, is)
 
 -- a list without one that it contains has it once less
-occurs-without : (d k : ℕ) (xs : List ℕ) → Contains xs d → occurs k xs ≡ (if d == k then 1 else 0) + occurs k (without d xs)
+pub occurs-without : (d k : ℕ) (xs : List ℕ) → Contains xs d → occurs k xs ≡ (if d == k then 1 else 0) + occurs k (without d xs)
 occurs-without d k [] (i, within, is) = let bad : ⊥ = omega (arith, within) in absurd bad
 occurs-without d k (x ∷ xs) (zero, within, is) =
     let found : (x == d) ≡ true = eq-eqb x d is in

@@ -40,7 +40,7 @@ use Rattle.sound_state.proofs.quiet.QuietLemmas.{found_from}
 use Rattle.sound_state.proofs.shared.StepLemmas.{PointStands, TurnGoes, at_point, may-after}
 
 -- a stack whose top names a descriptor begins with it
-first-of :
+pub first-of :
     (next : ℕ → ℕ) (d : ℕ) (xs : List ℕ) → Stacked next (d + 1) xs → (ys : List ℕ) × (xs ≡ d ∷ ys) × Stacked next (next d) ys
 first-of next d [] stack = let bad : ⊥ = omega (arith, stack) in absurd bad
 first-of next d (x ∷ xs) stack =

@@ -16,7 +16,7 @@ use Rattle.sound_state.specs.StepsLeft.{steps_left}
 use Rattle.sound_state.specs.Turns.{one_if}
 use Rattle.sound_state.specs.Wins.{same_name}
 use Rattle.sound_state.proofs.CountedLemmas.{without-counts, steps-counted}
-use Rattle.sound_state.proofs.endings.ClearLemmas.{clearings-fall}
+use Rattle.sound_state.proofs.endings.EmptiedLemmas.{clearings-fall}
 use Rattle.sound_state.proofs.endings.LeftMost.{left-most}
 use Rattle.sound_state.proofs.endings.LeftSteps.{steps-go_on}
 use Rattle.sound_state.proofs.endings.StaleLemmas.{stale-kept, lost-met, stale-here, stale-falls}

@@ -1,6 +1,6 @@
--- How often an allocation may clear: never more often than superblocks were emptied, and once less after it did.
-use Rattle.std.proofs.Common.{ℕ, Bool, true, false, Option, Some, None, ◌≡◌, ◌<◌, ◌≤◌, ◌+◌, ◌⊎◌, List, refl, arith, ap, sym, subst, inl, inr, ◌∙◌}
-use Rattle.std.specs.Prelude.{◌-◌, ◌^◌, if◌then◌else◌, count_by}
+-- A caller that is in a turn after a step, or clears by it, was in one before it, for the same class.
+use Rattle.std.proofs.Common.{ℕ, true, Option, Some, None, ◌≡◌, ◌⊎◌, refl, arith, sym, subst, inl, inr, ◌∙◌}
+use Rattle.std.specs.Prelude.{if◌then◌else◌}
 use Rattle.std.proofs.lemmas.Bool.{cases_Bool, true≢false}
 use Rattle.heap_geometry.specs.declared.geometry.Geometry.{Geometry}
 use Rattle.word_plan.specs.declared.action.Found.{Found}
@@ -17,34 +17,17 @@ use Rattle.partial_parts.specs.declared.point.PartialPoint.{PartialPoint}
 use Rattle.partial_parts.specs.Points.{settle_partial_of}
 use Rattle.large_parts.specs.declared.point.LargePoint.{LargePoint}
 use Rattle.large_parts.specs.Points.{settle_large_of}
-use Rattle.pool_model.specs.declared.event.Event.{Event}
 use Rattle.errand_steps.specs.declared.next.Next.{Next}
 use Rattle.errand_steps.specs.declared.next.Next.TheVariants.{At, End, Turn, Retire, Pick, Unlist}
 use Rattle.errand_steps.specs.declared.onward.Onward.{Onward}
 use Rattle.errand_steps.specs.declared.point.Point.{Point}
 use Rattle.errand_steps.specs.declared.point.Point.TheVariants.{Idle, Block, Stack, Desc, Partial, Large}
-use Rattle.errand_steps.specs.Errands.{ErrandFields, counts_cleared, raised, settle_of, course_of, point_after, after_turn, after_list, picked, is_full, no_words}
-use Rattle.errand_steps.specs.Events.{event_of}
+use Rattle.errand_steps.specs.Errands.{ErrandFields, counts_cleared, settle_of, course_of, point_after, after_turn, after_list, picked, turned, is_full, no_words}
 use Rattle.errand_steps.specs.Fits.{FitsPoint, FitsInBlock, FitsInStack, FitsInDesc, FitsInPartial}
 use Rattle.errand_steps.specs.Nexts.{next_of, enter_block, enter_stack, enter_desc, enter_partial, enter_large, resumed}
-use Rattle.errand_steps.specs.Steps.{State, Step, found_at, event_at, with_event}
-use Rattle.sound_state.specs.Alone.{clearings}
-use Rattle.sound_state.specs.Sound.{IsSoundWithoutCounts}
-use Rattle.sound_state.specs.Sums.{callers_sum}
-use Rattle.sound_state.specs.Turns.{in_turn, is_onward_giving, is_small_free, cleared_of, one_if}
-use Rattle.sound_state.proofs.shared.PointLemmas.{fits-at}
-use Rattle.sound_state.proofs.shared.SumLemmas.{callers-moved}
-use Rattle.sound_state.proofs.shared.TagLemmas.{cleared-below}
-use Rattle.sound_state.proofs.tellings.TellLemmas.{counted-not}
-
--- the caller is in a turn where it goes on
-abbrev next_turn : Next → Bool
-next_turn (At p) = in_turn p
-next_turn (End r) = false
-next_turn (Turn s need) = true
-next_turn (Retire s d o) = is_onward_giving o
-next_turn (Pick s held o) = is_onward_giving o
-next_turn (Unlist s d o) = is_onward_giving o
+use Rattle.sound_state.specs.Alone.{class_at}
+use Rattle.sound_state.specs.Turns.{in_turn, is_onward_giving}
+use Rattle.sound_state.proofs.endings.TurnWords.{next_turn, next_class, point-class}
 
 -- it was in one before
 block-turn : (g : Geometry) (who : ℕ) (p : BlockPoint) (o : Onward) (x : Found) → FitsInBlock g who p o → next_turn (enter_block (settle_block_of p x) o) ≡ true → in_turn (Block p o) ≡ true
@@ -63,18 +46,9 @@ large-turn : (g : Geometry) (p : LargePoint) (o : Onward) (x : Found) → next_t
 large-turn g p o x is = grind (arith, is)
 
 -- a caller that clears is in a turn
-clears-turn : (g : Geometry) (who : ℕ) (p : Point) (x : Found) → FitsPoint g who p → counts_cleared p x ≡ true → in_turn p ≡ true
+pub clears-turn : (g : Geometry) (who : ℕ) (p : Point) (x : Found) → FitsPoint g who p → counts_cleared p x ≡ true → in_turn p ≡ true
 clears-turn g who (Partial p o) x fits is = grind (arith, fits.goes, is)
 clears-turn g who p x fits is = grind (arith, is)
-
--- in a turn nothing is freed
-abbrev frees_of : Geometry → Option Event → Bool
-frees_of g None = false
-frees_of g (Some e) = is_small_free g e
-
-turn-frees : (g : Geometry) (who : ℕ) (p : Point) (x : Found) → in_turn p ≡ true → frees_of g (event_of who p x) ≡ false
-unfolding event_of
-turn-frees g who p x is = grind (arith, is)
 
 -- so it was in one, whatever its retired list says
 listed-turn : (e : ErrandFields) (s : SeatFields) (o : Onward) → in_turn (point_after (after_turn e (resumed s o))) ≡ true → is_onward_giving o ≡ true
@@ -110,74 +84,54 @@ next-turn g who (Desc p o) x fits is = desc-turn g who p o x fits is
 next-turn g who (Partial p o) x fits is = partial-turn g who p o x fits is
 next-turn g who (Large p o) x fits is = large-turn g p o x is
 
-turn-before :
+pub turn-before :
     (g : Geometry) (who : ℕ) (e : ErrandFields) (x : Found) → FitsPoint g who e.point → in_turn (settle_of e x).point ≡ true
     → in_turn e.point ≡ true
 unfolding settle_of course_of
 turn-before g who e x fits is =
     elim (settled-turn e (next_of e.point x) is) [ inl goes ↦ next-turn g who e.point x fits goes | inr was ↦ was ]
 
--- nothing is freed by a step in a turn
-freed-same :
-    (g : Geometry) (history : List Event) (o : Option Event) → frees_of g o ≡ false
-    → count_by (is_small_free g) (with_event history o) ≡ count_by (is_small_free g) history
-freed-same g history None none = refl
-freed-same g history (Some e) none = counted-not (is_small_free g) history e none
+-- and the class that it is at work on is the same
+listed-class :
+    (e : ErrandFields) (s : SeatFields) (o : Onward) → in_turn (point_after (after_turn e (resumed s o))) ≡ true
+    → class_at (point_after (after_turn e (resumed s o))) ≡ s.class
+listed-class e s o is = grind (arith, is)
 
-one-raised : (b : Bool) (n : ℕ) → n + 1 < 2 ^ 64 → raised b n ≡ n + one_if b
-one-raised b n below = grind (arith, below)
+picked-class :
+    (e : ErrandFields) (s : SeatFields) (o : Onward) (d : Option ℕ) → (is_onward_giving o ≡ true → s.class ≡ class_at e.point)
+    → in_turn (point_after (after_turn e (picked e s o d))) ≡ true → class_at (point_after (after_turn e (picked e s o d))) ≡ class_at e.point
+picked-class e s o None same is = refl
+picked-class e s o (Some d) same is = same is
 
-cond-most : (b : Bool) (n : ℕ) → (if b then n else 0) ≤ n
-cond-most b n = grind (arith)
+turned-class :
+    (e : ErrandFields) (s : SeatFields) (need : ℕ) → in_turn (point_after (turned e s need)) ≡ true → class_at (point_after (turned e s need)) ≡ s.class
+turned-class e s need is = grind (arith, is)
 
-not-turn : (b : Bool) → (b ≡ true → ⊥) → b ≡ false
-not-turn true isnt = absurd (isnt refl)
-not-turn false isnt = refl
-
--- what is cleared by the step, and what was freed before it where it clears or is in a turn after it
-record Clears (g : Geometry) (s : State) (who : ℕ) (s' : State) : Type 0 where
-  cleared : callers_sum g cleared_of s'.errand ≡ callers_sum g cleared_of s.errand + one_if (counts_cleared (s.errand who).point (found_at s who))
-  freed : in_turn (s.errand who).point ≡ true → count_by (is_small_free g) s'.history ≡ count_by (is_small_free g) s.history
-  most : callers_sum g cleared_of s'.errand ≤ count_by (is_small_free g) s'.history
-  turn : in_turn (s'.errand who).point ≡ true → in_turn (s.errand who).point ≡ true
-  clears : counts_cleared (s.errand who).point (found_at s who) ≡ true → in_turn (s.errand who).point ≡ true
-
-step-clears :
-    (g : Geometry) (s : State) (who : ℕ) (s' : State) → IsSoundWithoutCounts g s → IsSoundWithoutCounts g s' → who < g.callers → Step s who s'
-    → Clears g s who s'
-unfolding settle_of
-step-clears g s who s' sound after has step =
-    let e = s.errand who in
-    let x = found_at s who in
-    let fits = fits-at g s sound.parts.0 who e.point sound.parts.1 has refl in
-    let rises : raised (counts_cleared e.point x) e.cleared ≡ e.cleared + one_if (counts_cleared e.point x) =
-    one-raised (counts_cleared e.point x) e.cleared (cleared-below g s sound who has) in
-    record {
-      cleared = omega (arith, callers-moved g cleared_of s.errand who (settle_of e x) s'.errand has step.errand, rises);
-      freed = λ turn.
-          ap (count_by (is_small_free g)) step.history
-          ∙ freed-same g s.history (event_at s who) (turn-frees g who e.point x turn);
-      most = omega (arith, after.parts.1.turned.emptied);
-      turn = λ turn. turn-before g who e x fits (ap (λ f. in_turn f.point) (sym step.errand.here) ∙ turn);
-      clears = λ clears. clears-turn g who e.point x fits clears;
-    }
-
--- so it may clear as often as before, and once less where it cleared
-pub clearings-fall :
-    (g : Geometry) (s : State) (who : ℕ) (s' : State) → IsSoundWithoutCounts g s → IsSoundWithoutCounts g s' → who < g.callers → Step s who s'
-    → clearings g s' who + one_if (counts_cleared (s.errand who).point (found_at s who)) ≤ clearings g s who
-clearings-fall g s who s' sound after has step =
-    let c = step-clears g s who s' sound after has step in
-    elim (cases_Bool (in_turn (s.errand who).point)) [
-      | inl turn ↦
-          let before : clearings g s who ≡ count_by (is_small_free g) s.history - callers_sum g cleared_of s.errand = rw turn refl in
-          let later : clearings g s' who ≤ count_by (is_small_free g) s'.history - callers_sum g cleared_of s'.errand =
-          cond-most (in_turn (s'.errand who).point) (count_by (is_small_free g) s'.history - callers_sum g cleared_of s'.errand) in
-          omega (arith, before, later, c.cleared, c.freed turn, c.most)
-      | inr isnt ↦
-          let still : in_turn (s'.errand who).point ≡ false = not-turn (in_turn (s'.errand who).point) (λ is. true≢false (sym (c.turn is) ∙ isnt)) in
-          let none : counts_cleared (s.errand who).point (found_at s who) ≡ false =
-          not-turn (counts_cleared (s.errand who).point (found_at s who)) (λ is. true≢false (sym (c.clears is) ∙ isnt)) in
-          let zero_after : clearings g s' who ≡ 0 = rw still refl in
-          omega (arith, zero_after, ap one_if none)
+settled-class :
+    (e : ErrandFields) (n : Next) → (next_turn n ≡ true → next_class n ≡ class_at e.point)
+    → in_turn (point_after (after_turn e (after_list e n))) ≡ true
+    → class_at (point_after (after_turn e (after_list e n))) ≡ class_at e.point
+settled-class e (At p) same is = same is
+settled-class e (End r) same is = absurd (true≢false (sym is))
+settled-class e (Turn s need) same is = turned-class e s need is ∙ same refl
+settled-class e (Retire s d o) same is =
+    elim (cases_Bool (is_full e)) [
+      | inl full ↦
+          let went : is_onward_giving o ≡ true =
+          subst (λ b. in_turn (point_after (after_turn e (if b then At (Desc (desc.ReadHazard s no_words 0) o) else resumed s o))) ≡ true) full is in
+          subst (λ b. class_at (point_after (after_turn e (if b then At (Desc (desc.ReadHazard s no_words 0) o) else resumed s o))) ≡ class_at e.point)
+          (sym full) (same went)
+      | inr room ↦
+          let went : in_turn (point_after (after_turn e (resumed s o))) ≡ true =
+          subst (λ b. in_turn (point_after (after_turn e (if b then At (Desc (desc.ReadHazard s no_words 0) o) else resumed s o))) ≡ true) room is in
+          subst (λ b. class_at (point_after (after_turn e (if b then At (Desc (desc.ReadHazard s no_words 0) o) else resumed s o))) ≡ class_at e.point)
+          (sym room) (listed-class e s o went ∙ same (listed-turn e s o went))
     ]
+settled-class e (Pick s held o) same is = picked-class e s o (first_unheld held e.retired) same is
+settled-class e (Unlist s d o) same is = listed-class e s o is ∙ same (listed-turn e s o is)
+
+pub class-before :
+    (g : Geometry) (who : ℕ) (e : ErrandFields) (x : Found) → FitsPoint g who e.point → in_turn (settle_of e x).point ≡ true
+    → class_at (settle_of e x).point ≡ class_at e.point
+unfolding settle_of course_of
+class-before g who e x fits is = settled-class e (next_of e.point x) (λ turn. point-class g who e.point x fits turn) is

@@ -1,11 +1,11 @@
 -- What a caller's own turns come to, however many there are.
-use Rattle.std.proofs.Common.{ℕ, zero, suc, Bool, true, false, ◌≡◌, ◌<◌, ◌≤◌, ◌+◌, ◌*◌, ◌^◌, ◌⊎◌, refl, arith, ap, sym, subst, inl, inr, ◌∙◌}
+use Rattle.std.proofs.Common.{ℕ, zero, suc, Bool, ◌≡◌, ◌<◌, ◌≤◌, ◌+◌, ◌*◌, ◌^◌, refl, arith, ap, sym, subst, inl, inr, ◌∙◌}
 use Rattle.std.specs.Prelude.{replicate}
 use Rattle.std.proofs.lemmas.Bool.{cases_Bool, true≢false}
 use Rattle.heap_geometry.specs.declared.geometry.Geometry.{Geometry}
 use Rattle.heap_geometry.specs.declared.limits.TheConstants.{CALL_STEPS}
 use Rattle.errand_steps.specs.Begins.{IsIdle}
-use Rattle.errand_steps.specs.Errands.{ErrandFields, counts_lost, counts_cleared, raised, settle_of}
+use Rattle.errand_steps.specs.Errands.{counts_lost, counts_cleared, raised, settle_of}
 use Rattle.errand_steps.specs.Points.{is_idle}
 use Rattle.errand_steps.specs.Steps.{State, Step, Run, found_at}
 use Rattle.sound_state.specs.Alone.{stale_words, clearings, alone_left}
@@ -14,7 +14,7 @@ use Rattle.sound_state.specs.StepsLeft.{steps_left}
 use Rattle.sound_state.specs.Turns.{one_if}
 use Rattle.sound_state.proofs.CountedLemmas.{without-counts, steps-counted}
 use Rattle.sound_state.proofs.endings.AloneLemmas.{alone-falls, alone-stale, step-there}
-use Rattle.sound_state.proofs.endings.ClearLemmas.{clearings-fall}
+use Rattle.sound_state.proofs.endings.EmptiedLemmas.{clearings-fall}
 use Rattle.sound_state.proofs.endings.LeftMost.{left-most}
 use Rattle.sound_state.proofs.endings.LeftSteps.{steps-go_on}
 use Rattle.sound_state.proofs.shared.PointLemmas.{fits-at}

@@ -98,7 +98,7 @@ pushed-has e p seat Frames i o at holds =
 pushed-has e p seat Partials i o at holds =
     has-at e p partly_used i at (subst (λ h. 1 ≤ kept_among partly_used i h.kept) (sym holds) (grind (arith, eq-eqb i i refl)))
 
-retired-has : (e : ErrandFields) (p : Point) (d : ℕ) → IsErrand e → e.point ≡ p → pushed_by p ≡ Some d → 1 ≤ errand_has d e
+pub retired-has : (e : ErrandFields) (p : Point) (d : ℕ) → IsErrand e → e.point ≡ p → pushed_by p ≡ Some d → 1 ≤ errand_has d e
 retired-has e p d rule at pushes =
     let has : Contains e.retired d = subst (λ o. IfSome o (λ d. Contains e.retired d)) (ap pushed_by at ∙ pushes) rule.pushed in
     omega (arith, contains-occurs e.retired d has)

@@ -4,16 +4,18 @@ ghost use Rattle.std.specs.Prelude.{ℕ, ◌≡◌, ◌<◌, ◌≤◌, ◌+◌,
 ghost use Rattle.heap_geometry.specs.declared.geometry.Geometry.{Geometry};
 ghost use Rattle.heap_geometry.specs.declared.limits.TheConstants.{CALL_STEPS};
 ghost use Rattle.errand_steps.specs.Begins.{IsIdle, IsBusy};
-ghost use Rattle.errand_steps.specs.Errands.{counts_lost, ErrandFields};
+ghost use Rattle.errand_steps.specs.Errands.{counts_lost, ErrandFields, counts_cleared};
 ghost use Rattle.errand_steps.specs.Steps.{State, Step, Run, found_at, name_at};
-ghost use Rattle.sound_state.specs.Alone.{alone_left, stale_words, clearings, is_stale};
+ghost use Rattle.sound_state.specs.Alone.{alone_left, stale_words, clearings, is_stale, available_in, empty_for};
 ghost use Rattle.sound_state.specs.Moves.{BeginsNothing, is_begin_of, is_step_of};
 ghost use Rattle.sound_state.specs.Runs.{Move, Reaches, Call, begun_by};
 ghost use Rattle.word_plan.specs.declared.name.WordName.{WordName};
 ghost use Rattle.sound_state.specs.Expectations.{expects_of};
+ghost use Rattle.word_plan.specs.Counts.{descriptor_count};
+ghost use Rattle.sound_state.specs.Lists.{Lists, IsListed};
 ghost use Rattle.sound_state.specs.Sound.{IsSound};
 ghost use Rattle.sound_state.specs.StepsLeft.{GoesOn, steps_left};
-ghost use Rattle.sound_state.specs.Turns.{one_if};
+ghost use Rattle.sound_state.specs.Turns.{one_if, in_turn};
 
 /// A step of a call loses, clears an empty superblock, or leaves fewer steps to do. So it never meets a
 /// word that it does not expect, at which it would be made again.
@@ -68,11 +70,30 @@ pub fn lost_steps_meet_stale_words()
         → stale_words g after who + one_if (counts_lost (s.errand who).point (found_at s who)) ≤ stale_words g s who }
 {}
 
+/// No more than two words are ever stale for a caller.
+pub fn stale_words_are_few()
+    ensures { (g : Geometry) (s : State) (who : ℕ) → stale_words g s who ≤ 2 }
+{}
+
 /// A call that has just begun expects nothing, whatever the others do meanwhile. So no word is stale for it.
 pub fn begun_calls_expect_nothing()
     ensures expects { (e : ErrandFields) (call : Call) → IsIdle e → expects_of (begun_by e call).point ≡ [] }
     ensures stale { (g : Geometry) (s : State) (who : ℕ) (e : ErrandFields) (call : Call) → IsIdle e
         → s.errand who ≡ begun_by e call → stale_words g s who ≡ 0 }
+{}
+
+/// A step of an allocation's turn leaves no more EMPTY superblocks out for any class: it empties none, and
+/// brings none back whose descriptor was away. One that clears leaves one fewer for its own class. The
+/// available descriptors, which don't count there, are those of the list that the head and the next words make.
+pub fn turns_empty_no_superblock()
+    ensures kept { (g : Geometry) (s : State) (who : ℕ) (after : State) (class d : ℕ) → IsSound g s
+        → who < g.callers → in_turn (s.errand who).point ≡ true → Step s who after → d < descriptor_count g
+        → empty_for g after class d ≤ empty_for g s class d }
+    ensures falls { (g : Geometry) (s : State) (who : ℕ) (after : State) → IsSound g s → who < g.callers
+        → Step s who after
+        → clearings g after who + one_if (counts_cleared (s.errand who).point (found_at s who)) ≤ clearings g s who }
+    ensures available { (g : Geometry) (s : State) (l : Lists) → IsSound g s → IsListed g s.word l
+        → available_in g s ≡ l.available }
 {}
 
 /// A caller that moves alone ends its call, wherever the others stopped: each of its steps leaves fewer
@@ -94,6 +115,8 @@ pub fn alone_calls_end()
 pub fn alone_runs_are_short()
     ensures left { (g : Geometry) (s : State) (who turns n : ℕ) (after : State) → IsSound g s → who < g.callers
         → Run s (replicate turns who) n after → n + alone_left g after who ≤ alone_left g s who }
+    ensures most { (g : Geometry) (s : State) (who : ℕ) → IsSound g s → who < g.callers
+        → alone_left g s who < CALL_STEPS * (1 + stale_words g s who + clearings g s who) }
     ensures few { (g : Geometry) (s : State) (who turns n : ℕ) (after : State) → IsSound g s → who < g.callers
         → Run s (replicate turns who) n after → (after.errand who).lost + 1 < 2 ^ 64
         → n < CALL_STEPS * (1 + ((after.errand who).lost - (s.errand who).lost)

@@ -7,6 +7,14 @@ use Rattle.sound_state.proofs.laws.endings.alone_runs_are_short.Goals as goal
 pub returns-clause-left : goal.returns-clause-left
 returns-clause-left c = λ g s who turns n after sound has run. (runs-alone g turns s who n after sound has run).left
 
+pub returns-clause-most : goal.returns-clause-most
+returns-clause-most c =
+    λ g s who sound has.
+    omega (
+      arith,
+      left-most g who (s.errand who).point sound.checked (fits-at g s sound.parts.0 who (s.errand who).point sound.parts.1 has refl),
+    )
+
 pub returns-clause-few : goal.returns-clause-few
 returns-clause-few c =
     λ g s who turns n after sound has run room.

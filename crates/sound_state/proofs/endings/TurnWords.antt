@@ -1,0 +1,209 @@
+-- What a step of an allocation's turn writes of a descriptor: few do, and none puts one back to the superblocks.
+use Rattle.std.proofs.Common.{ℕ, Bool, true, false, ◌≡◌, ◌≢◌, ◌≤◌, refl, arith}
+use Rattle.std.specs.Prelude.{◌==◌, if◌then◌else◌}
+use Rattle.heap_geometry.specs.declared.geometry.Geometry.{Geometry}
+use Rattle.word_plan.specs.declared.action.Found.{Found}
+use Rattle.word_plan.specs.declared.name.WordName.{WordName}
+use Rattle.word_plan.specs.declared.name.WordName.TheVariants as name
+use Rattle.word_plan.specs.Actions.{name_of, after_action}
+use Rattle.word_plan.specs.Seats.{SeatFields}
+use Rattle.superblock_parts.specs.declared.point.BlockPoint.{BlockPoint}
+use Rattle.superblock_parts.specs.declared.point.BlockPoint.TheVariants as block
+use Rattle.superblock_parts.specs.Points.{settle_block_of, seat_of_block}
+use Rattle.stack_parts.specs.declared.point.StackPoint.{StackPoint}
+use Rattle.stack_parts.specs.Points.{settle_stack_of, seat_of_stack}
+use Rattle.hazard_parts.specs.declared.point.DescPoint.{DescPoint}
+use Rattle.hazard_parts.specs.declared.point.DescPoint.TheVariants as desc
+use Rattle.hazard_parts.specs.Points.{settle_desc_of, seat_of_desc}
+use Rattle.partial_parts.specs.declared.point.PartialPoint.{PartialPoint}
+use Rattle.partial_parts.specs.declared.point.PartialPoint.TheVariants as partial
+use Rattle.partial_parts.specs.Points.{settle_partial_of, seat_of_partial}
+use Rattle.large_parts.specs.declared.point.LargePoint.{LargePoint}
+use Rattle.large_parts.specs.Points.{settle_large_of}
+use Rattle.errand_steps.specs.declared.next.Next.{Next}
+use Rattle.errand_steps.specs.declared.next.Next.TheVariants.{At, End, Turn, Retire, Pick, Unlist}
+use Rattle.errand_steps.specs.declared.onward.Onward.{Onward}
+use Rattle.errand_steps.specs.declared.point.Point.{Point}
+use Rattle.errand_steps.specs.declared.point.Point.TheVariants.{Idle, Block, Stack, Desc, Partial, Large}
+use Rattle.errand_steps.specs.Fits.{FitsPoint, FitsInBlock, FitsInStack, FitsInDesc, FitsInPartial}
+use Rattle.errand_steps.specs.Nexts.{next_of, enter_block, enter_stack, enter_desc, enter_partial, enter_large}
+use Rattle.errand_steps.specs.Points.{plan_point_of}
+use Rattle.sound_state.specs.Alone.{class_at}
+use Rattle.sound_state.specs.Holdings.{on_its_way, holds_of}
+use Rattle.sound_state.specs.Superblocks.{kept_among}
+use Rattle.sound_state.specs.Turns.{in_turn, is_onward_giving}
+
+-- the words that say where a descriptor is, and in what state its superblock is
+abbrev pub tells : WordName → Bool
+tells (name.Anchor d) = true
+tells (name.Next d) = true
+tells (name.Info d) = true
+tells name.DescHead = true
+tells n = false
+
+-- the points of a turn that write one
+abbrev pub writes_in_block : BlockPoint → Bool
+writes_in_block (block.PopBlock at share a prefix) = true
+writes_in_block (block.StoreInfo at) = true
+writes_in_block (block.StoreAnchor at) = true
+writes_in_block p = false
+
+abbrev pub writes_in_desc : DescPoint → Bool
+writes_in_desc (desc.PopDesc s d next) = true
+writes_in_desc (desc.StoreNextDesc s d top) = true
+writes_in_desc (desc.PushDesc s d top) = true
+writes_in_desc p = false
+
+abbrev pub writes_in_partial : PartialPoint → Bool
+writes_in_partial (partial.StoreOwner at) = true
+writes_in_partial (partial.Grant at a) = true
+writes_in_partial p = false
+
+abbrev pub writes_told : Point → Bool
+writes_told (Block p o) = writes_in_block p
+writes_told (Desc p o) = writes_in_desc p
+writes_told (Partial p o) = writes_in_partial p
+writes_told p = false
+
+-- at all others such a word stays
+pub told-stays :
+    (g : Geometry) (who : ℕ) (p : Point) (v : ℕ) → FitsPoint g who p → in_turn p ≡ true → writes_told p ≡ false
+    → tells (name_of (plan_point_of p)) ≡ true → after_action (plan_point_of p) v ≡ v
+unfolding plan_point_of
+told-stays g who Idle v fits turn none told = grind (arith, turn)
+told-stays g who (Block p o) v fits turn none told = grind (arith, turn, none, told)
+told-stays g who (Stack p o) v fits turn none told = grind (arith, turn, fits.goes, told)
+told-stays g who (Desc p o) v fits turn none told = grind (arith, turn, none, told)
+told-stays g who (Partial p o) v fits turn none told = grind (arith, turn, none, fits.goes, told)
+told-stays g who (Large p o) v fits turn none told = grind (arith, turn)
+
+-- how often a descriptor is on its way where a caller goes on, or retired there
+abbrev pub next_ways : ℕ → Next → ℕ
+next_ways d (At q) = kept_among on_its_way d (holds_of q).kept
+next_ways d (Retire s k o) = if k == d then 1 else 0
+next_ways d n = 0
+
+-- the store of a new superblock's anchor, after which its descriptor is out
+abbrev pub puts_out : Point → Bool
+puts_out (Block (block.StoreAnchor at) o) = true
+puts_out p = false
+
+-- at all other points of a turn a descriptor on its way stays so, or is retired
+block-ways :
+    (g : Geometry) (who : ℕ) (p : BlockPoint) (o : Onward) (x : Found) (d : ℕ) → FitsInBlock g who p o → puts_out (Block p o) ≡ false
+    → in_turn (Block p o) ≡ true → kept_among on_its_way d (holds_of (Block p o)).kept ≤ next_ways d (enter_block (settle_block_of p x) o)
+unfolding holds_of
+block-ways g who p o x d fits out turn = grind (arith, fits.inside, fits.goes, out, turn)
+
+stack-ways :
+    (g : Geometry) (who : ℕ) (p : StackPoint) (o : Onward) (x : Found) (d : ℕ) → FitsInStack g who p o → in_turn (Stack p o) ≡ true
+    → kept_among on_its_way d (holds_of (Stack p o)).kept ≤ next_ways d (enter_stack (settle_stack_of p x) o)
+unfolding holds_of
+stack-ways g who p o x d fits turn = grind (arith, fits.inside, fits.goes, turn)
+
+desc-ways :
+    (g : Geometry) (who : ℕ) (p : DescPoint) (o : Onward) (x : Found) (d : ℕ) → FitsInDesc g who p o → in_turn (Desc p o) ≡ true
+    → kept_among on_its_way d (holds_of (Desc p o)).kept ≤ next_ways d (enter_desc (settle_desc_of p x) o)
+unfolding holds_of
+desc-ways g who p o x d fits turn = grind (arith, fits.inside, fits.goes, turn)
+
+partial-ways :
+    (g : Geometry) (who : ℕ) (p : PartialPoint) (o : Onward) (x : Found) (d : ℕ) → FitsInPartial g who p o → in_turn (Partial p o) ≡ true
+    → kept_among on_its_way d (holds_of (Partial p o)).kept ≤ next_ways d (enter_partial (settle_partial_of p x) o)
+unfolding holds_of
+partial-ways g who p o x d fits turn = grind (arith, fits.inside, fits.goes, turn)
+
+pub point-ways :
+    (g : Geometry) (who : ℕ) (p : Point) (x : Found) (d : ℕ) → FitsPoint g who p → puts_out p ≡ false → in_turn p ≡ true
+    → kept_among on_its_way d (holds_of p).kept ≤ next_ways d (next_of p x)
+unfolding next_of
+point-ways g who Idle x d fits out turn = absurd (grind (arith, turn))
+point-ways g who (Block p o) x d fits out turn = block-ways g who p o x d fits out turn
+point-ways g who (Stack p o) x d fits out turn = stack-ways g who p o x d fits turn
+point-ways g who (Desc p o) x d fits out turn = desc-ways g who p o x d fits turn
+point-ways g who (Partial p o) x d fits out turn = partial-ways g who p o x d fits turn
+point-ways g who (Large p o) x d fits out turn = absurd (grind (arith, turn))
+
+-- only a won push takes a descriptor off a retired list
+abbrev pub pushes_desc : Point → Bool
+pushes_desc (Desc (desc.PushDesc s d top) o) = true
+pushes_desc p = false
+
+pub none-unlisted :
+    (g : Geometry) (who : ℕ) (p : Point) (x : Found) (seat : SeatFields) (k : ℕ) (onward : Onward) → FitsPoint g who p → in_turn p ≡ true
+    → pushes_desc p ≡ false → next_of p x ≢ Unlist seat k onward
+unfolding next_of
+none-unlisted g who Idle x seat k onward fits turn other is = grind (arith, turn)
+none-unlisted g who (Block p o) x seat k onward fits turn other is = grind (arith, is)
+none-unlisted g who (Stack p o) x seat k onward fits turn other is = grind (arith, is)
+none-unlisted g who (Desc p o) x seat k onward fits turn other is = grind (arith, fits.inside, other, is)
+none-unlisted g who (Partial p o) x seat k onward fits turn other is = grind (arith, is)
+none-unlisted g who (Large p o) x seat k onward fits turn other is = grind (arith, turn)
+
+-- a point that writes no such word does neither
+pub quiet-points : (p : Point) → writes_told p ≡ false → (puts_out p ≡ false) × (pushes_desc p ≡ false)
+quiet-points p none = (grind (arith, none), grind (arith, none))
+
+-- the caller is in a turn where it goes on
+abbrev pub next_turn : Next → Bool
+next_turn (At p) = in_turn p
+next_turn (End r) = false
+next_turn (Turn s need) = true
+next_turn (Retire s d o) = is_onward_giving o
+next_turn (Pick s held o) = is_onward_giving o
+next_turn (Unlist s d o) = is_onward_giving o
+
+-- the class that a caller is at work on where it goes on
+abbrev pub next_class : Next → ℕ
+next_class (At q) = class_at q
+next_class (End r) = 0
+next_class (Turn s words) = s.class
+next_class (Retire s d o) = s.class
+next_class (Pick s held o) = s.class
+next_class (Unlist s d o) = s.class
+
+-- which stays, while the turn does
+block-class :
+    (g : Geometry) (who : ℕ) (p : BlockPoint) (o : Onward) (x : Found) → FitsInBlock g who p o
+    → next_turn (enter_block (settle_block_of p x) o) ≡ true → next_class (enter_block (settle_block_of p x) o) ≡ (seat_of_block p).class
+block-class g who (block.LoadActive s) o x fits turn = grind (arith, fits, turn)
+block-class g who (block.TakeCredit s d credits) o x fits turn = grind (arith, fits, turn)
+block-class g who (block.LoadInfo s d share) o x fits turn = grind (arith, fits, turn)
+block-class g who (block.LoadAnchor at share) o x fits turn = grind (arith, fits, turn)
+block-class g who (block.LoadLink at share a) o x fits turn = grind (arith, fits, turn)
+block-class g who (block.PopBlock at share a prefix) o x fits turn = grind (arith, fits, turn)
+block-class g who (block.InstallSuperblock at) o x fits turn = grind (arith, fits, turn)
+block-class g who (block.LinkBlock at i) o x fits turn = grind (arith, fits, turn)
+block-class g who (block.StoreInfo at) o x fits turn = grind (arith, fits, turn)
+block-class g who (block.StoreAnchor at) o x fits turn = grind (arith, fits, turn)
+block-class g who p o x fits turn = grind (arith, fits, turn)
+
+stack-class :
+    (g : Geometry) (who : ℕ) (p : StackPoint) (o : Onward) (x : Found) → FitsInStack g who p o
+    → next_turn (enter_stack (settle_stack_of p x) o) ≡ true → next_class (enter_stack (settle_stack_of p x) o) ≡ (seat_of_stack p).class
+stack-class g who p o x fits turn = grind (arith, fits.goes, turn)
+
+desc-class :
+    (g : Geometry) (who : ℕ) (p : DescPoint) (o : Onward) (x : Found) → FitsInDesc g who p o
+    → next_turn (enter_desc (settle_desc_of p x) o) ≡ true → next_class (enter_desc (settle_desc_of p x) o) ≡ (seat_of_desc p).class
+desc-class g who p o x fits turn = grind (arith, fits.goes, turn)
+
+partial-class :
+    (g : Geometry) (who : ℕ) (p : PartialPoint) (o : Onward) (x : Found) → FitsInPartial g who p o
+    → next_turn (enter_partial (settle_partial_of p x) o) ≡ true → next_class (enter_partial (settle_partial_of p x) o) ≡ (seat_of_partial p).class
+partial-class g who p o x fits turn = grind (arith, fits.goes, turn)
+
+large-class :
+    (p : LargePoint) (o : Onward) (x : Found) → next_turn (enter_large (settle_large_of p x) o) ≡ true
+    → next_class (enter_large (settle_large_of p x) o) ≡ 0
+large-class p o x turn = grind (arith, turn)
+
+pub point-class :
+    (g : Geometry) (who : ℕ) (p : Point) (x : Found) → FitsPoint g who p → next_turn (next_of p x) ≡ true → next_class (next_of p x) ≡ class_at p
+unfolding next_of
+point-class g who Idle x fits turn = refl
+point-class g who (Block p o) x fits turn = block-class g who p o x fits turn
+point-class g who (Stack p o) x fits turn = stack-class g who p o x fits turn
+point-class g who (Desc p o) x fits turn = desc-class g who p o x fits turn
+point-class g who (Partial p o) x fits turn = partial-class g who p o x fits turn
+point-class g who (Large p o) x fits turn = large-class p o x turn
