@@ -1,5 +1,5 @@
 -- The steps of the machine.
-use Rattle.std.specs.Prelude.{ℕ, zero, suc, ◌≡◌, ◌≢◌, ◌<◌, List, length, take, slice_set}
+use Rattle.std.specs.Prelude.{ℕ, zero, suc, ◌≡◌, ◌≢◌, ◌<◌, List, length, take, replicate, slice_set}
 use Rattle.word_plan.specs.Actions.{after_action}
 use Rattle.word_plan.specs.Table.{Exists, word_index}
 use Rattle.errand_steps.specs.declared.reply.Progress.{Progress}
@@ -52,3 +52,7 @@ counted before (suc times) = one_more (counted before times)
 -- turns of a beginning of these callers, but not of all of them, which make so many steps
 abbrev pub RunsPart : State → List ℕ → ℕ → State → Type 0
 RunsPart s seats n s' = (turns : ℕ) × (turns < length seats) × Run s (take turns seats) n s'
+
+-- so many steps of one caller, and none of any other
+abbrev pub RunsAlone : CoreFields → ℕ → ℕ → CoreFields → Type 0
+RunsAlone c who n c' = Run (state_of c) (replicate n who) n (state_of c') × (c'.steps ≡ counted c.steps n)

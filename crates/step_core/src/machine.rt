@@ -1,10 +1,10 @@
 //! The machine.
 
-ghost use Rattle.std.specs.Prelude.{◌≡◌, ◌<◌, ◌≤◌, All, OnOk, OnErr, IfOk, IfSome};
+ghost use Rattle.std.specs.Prelude.{◌≡◌, ◌<◌, ◌≤◌, ◌+◌, ◌-◌, ◌*◌, ◌^◌, All, Ok, OnOk, OnErr, IfOk, IfSome};
 ghost use Rattle.std.specs.Result.{IfErr};
 ghost use Rattle.heap_geometry.specs.Geometry.{IsChecked};
 ghost use Rattle.heap_geometry.specs.Need.{usable_words};
-ghost use Rattle.heap_geometry.specs.declared.limits.TheConstants.{CLASSES, SHELVES};
+ghost use Rattle.heap_geometry.specs.declared.limits.TheConstants.{CALL_STEPS, CLASSES, SHELVES};
 ghost use Rattle.word_plan.specs.Actions.{name_of};
 ghost use Rattle.word_plan.specs.Table.{Exists};
 ghost use Rattle.word_plan.specs.Words.{word_in};
@@ -14,7 +14,10 @@ ghost use Rattle.step_core.specs.Cores.{errand_at, with_errand, IsCore, OwnsBloc
 ghost use Rattle.errand_steps.specs.Openings.{opening};
 ghost use Rattle.step_core.specs.Openings.{first_words, IsOpened};
 ghost use Rattle.errand_steps.specs.Steps.{with_event, Turn, Run};
-ghost use Rattle.step_core.specs.Steps.{IsStepped, IsNext, AnswersSo, RunsPart, counted};
+ghost use Rattle.step_core.specs.Steps.{IsStepped, IsNext, AnswersSo, RunsPart, counted, RunsAlone};
+ghost use Rattle.errand_steps.specs.Errands.{ErrandFields};
+ghost use Rattle.sound_state.specs.Alone.{clearings, stale_words};
+ghost use Rattle.sound_state.specs.Runs.{Call, begun_by};
 
 use crate::first::{first_errands, first_table};
 use errand_steps::errand::{Errand, answer, event, plan};
@@ -235,6 +238,45 @@ impl Core {
         for seat in seats {
             match self.turn(u32::from(*seat)) {
                 Ok(made) => steps += made,
+                Err(_) => return Err(Stopped { steps }),
+            }
+        }
+        Ok(steps)
+    }
+
+    /// Makes steps of this caller alone until its call has ended, wherever the others stopped, and answers
+    /// how many; none where it is in no call. It loses no more exchanges than words are stale for it, so
+    /// none in a call that has made no step, and clears no more superblocks than are EMPTY and out for its
+    /// class; between two of these it makes fewer than `CALL_STEPS` steps.
+    pub fn run_alone(&mut self, seat: u32) -> Result<u64, Stopped>
+        requires { seat < self.old.geometry.callers }
+        ensures ok { IfOk result (λ steps. RunsAlone self.old seat steps self.new
+            × IsIdle (errand_at self.new.errands seat)) }
+        ensures err { IfErr result (λ stopped. RunsAlone self.old seat stopped.steps self.new
+            × IsBusy (errand_at self.new.errands seat)) }
+        ensures idle { IsIdle (errand_at self.old.errands seat) → (result ≡ Ok 0) × (self.new ≡ self.old) }
+        ensures bound { IfOk result (λ steps. steps
+            < CALL_STEPS * (1 + stale_words self.old.geometry (state_of self.old) seat
+            + clearings self.old.geometry (state_of self.old) seat)) }
+        ensures few { IfOk result (λ steps. (errand_at self.new.errands seat).lost + 1 < 2 ^ 64
+            → steps < CALL_STEPS * (1 + ((errand_at self.new.errands seat).lost - (errand_at self.old.errands seat).lost)
+            + ((errand_at self.new.errands seat).cleared - (errand_at self.old.errands seat).cleared))) }
+        ensures lost { ((errand_at self.old.errands seat).lost ≤ (errand_at self.new.errands seat).lost)
+            × ((errand_at self.new.errands seat).lost
+            ≤ (errand_at self.old.errands seat).lost + stale_words self.old.geometry (state_of self.old) seat) }
+        ensures first { (e : ErrandFields) (call : Call) → IsIdle e → errand_at self.old.errands seat ≡ begun_by e call
+            → (errand_at self.new.errands seat).lost ≡ (errand_at self.old.errands seat).lost }
+        ensures cleared { ((errand_at self.old.errands seat).cleared ≤ (errand_at self.new.errands seat).cleared)
+            × ((errand_at self.new.errands seat).cleared
+            ≤ (errand_at self.old.errands seat).cleared + clearings self.old.geometry (state_of self.old) seat) }
+        ensures geometry { self.new.geometry ≡ self.old.geometry }
+    {
+        // What the type keeps of the machine bounds the loop.
+        let _ = &self.layout;
+        let mut steps = 0;
+        while !self.idle(seat) {
+            match self.step(seat) {
+                Ok(_) => steps += 1,
                 Err(_) => return Err(Stopped { steps }),
             }
         }

@@ -1,6 +1,6 @@
 -- How often an allocation may clear: no more superblocks than are EMPTY and out for its class, and one less after it did.
 use Rattle.std.proofs.Common.{ℕ, zero, suc, Bool, true, false, ◌≡◌, ◌<◌, ◌≤◌, ◌+◌, [], refl, arith, ap, sym, subst, inl, inr, ◌∙◌}
-use Rattle.std.specs.Prelude.{◌==◌, ◌&&◌}
+use Rattle.std.specs.Prelude.{◌==◌, ◌&&◌, if◌then◌else◌}
 use Rattle.std.proofs.lemmas.Bool.{cases_eq, cases_Bool, true≢false, eq-eqb, cond-true}
 use Rattle.std.proofs.lemmas.List.Elements.{All-head}
 use Rattle.heap_geometry.specs.declared.geometry.Geometry.{Geometry}
@@ -69,7 +69,7 @@ out-none g s l class d old isnt =
     one-test (away_in g s d) (is_empty (anchor_for s d).state) (info_for s d).class class
     (λ near empty of. isnt (record { near = sym (away-is g s l d old) ∙ near; empty = empty; of = of }))
 
-one-most : (b : Bool) → one_if b ≤ 1
+pub one-most : (b : Bool) → one_if b ≤ 1
 one-most true = omega arith
 one-most false = omega arith
 
@@ -166,6 +166,10 @@ emptied-falls g s who s' sound after has turn step =
           )
       | inr not ↦ omega (arith, ap one_if not, sum-least (descriptor_count g) (empty_for g s' c) (empty_for g s c) least)
     ]
+
+-- what is counted in a turn alone is no more than it
+pub cond-most : (b : Bool) (n : ℕ) → (if b then n else 0) ≤ n
+cond-most b n = grind (arith)
 
 not-turn : (b : Bool) → (b ≡ true → ⊥) → b ≡ false
 not-turn true isnt = absurd (isnt refl)

@@ -1,24 +1,28 @@
 -- What a caller's own turns come to, however many there are.
 use Rattle.std.proofs.Common.{ℕ, zero, suc, Bool, ◌≡◌, ◌<◌, ◌≤◌, ◌+◌, ◌*◌, ◌^◌, refl, arith, ap, sym, subst, inl, inr, ◌∙◌}
-use Rattle.std.specs.Prelude.{replicate}
+use Rattle.std.specs.Prelude.{◌-◌, replicate}
 use Rattle.std.proofs.lemmas.Bool.{cases_Bool, true≢false}
 use Rattle.heap_geometry.specs.declared.geometry.Geometry.{Geometry}
 use Rattle.heap_geometry.specs.declared.limits.TheConstants.{CALL_STEPS}
+use Rattle.word_plan.specs.Counts.{descriptor_count}
+use Rattle.word_plan.proofs.CountLemmas.{descriptor_count_within}
 use Rattle.errand_steps.specs.Begins.{IsIdle}
 use Rattle.errand_steps.specs.Errands.{counts_lost, counts_cleared, raised, settle_of}
 use Rattle.errand_steps.specs.Points.{is_idle}
 use Rattle.errand_steps.specs.Steps.{State, Step, Run, found_at}
-use Rattle.sound_state.specs.Alone.{stale_words, clearings, alone_left}
+use Rattle.sound_state.specs.Alone.{stale_words, empty_for, emptied_for, class_at, clearings, alone_left}
 use Rattle.sound_state.specs.Sound.{IsSound}
 use Rattle.sound_state.specs.StepsLeft.{steps_left}
-use Rattle.sound_state.specs.Turns.{one_if}
+use Rattle.sound_state.specs.Turns.{one_if, in_turn}
 use Rattle.sound_state.proofs.CountedLemmas.{without-counts, steps-counted}
 use Rattle.sound_state.proofs.endings.AloneLemmas.{alone-falls, alone-stale, step-there}
-use Rattle.sound_state.proofs.endings.EmptiedLemmas.{clearings-fall}
+use Rattle.sound_state.proofs.endings.EmptiedLemmas.{one-most, cond-most, clearings-fall}
 use Rattle.sound_state.proofs.endings.LeftMost.{left-most}
 use Rattle.sound_state.proofs.endings.LeftSteps.{steps-go_on}
+use Rattle.sound_state.proofs.endings.StaleMost.{stale-most}
 use Rattle.sound_state.proofs.shared.PointLemmas.{fits-at}
 use Rattle.sound_state.proofs.shared.StepLemmas.{raised-least}
+use Rattle.sound_state.proofs.shared.SumLemmas.{sum-most}
 use Rattle.sound_state.proofs.shared.TagLemmas.{cleared-below}
 
 -- so many steps of a caller lead from the first state to the second: what it lost and cleared, and what is left
@@ -124,7 +128,7 @@ runs-alone g (suc turns) s who n s' sound has (t, first, others, turn, run, tota
     ]
 
 -- a caller that is in no call stays so
-idle-stays :
+pub idle-stays :
     (turns : ℕ) (s : State) (who n : ℕ) (s' : State) → IsIdle (s.errand who) → Run s (replicate turns who) n s' → IsIdle (s'.errand who)
 idle-stays zero s who n s' idle run = subst (λ t. IsIdle (t.errand who)) (sym run.1) idle
 idle-stays (suc turns) s who n s' idle (t, first, others, turn, run, total) =
@@ -150,3 +154,33 @@ ends-alone g (suc turns) s who n s' sound has left (t, first, others, turn, run,
           ends-alone g turns t who others s' (steps-counted g s who t sound has one.0) has
           (omega (arith, left, alone-falls g s who t sound has one.0)) run
     ]
+
+-- fewer than a call's steps, and as many more for each stale word and each superblock to clear
+pub alone-most :
+    (g : Geometry) (s : State) (who : ℕ) → IsSound g s → who < g.callers
+    → alone_left g s who < CALL_STEPS * (1 + stale_words g s who + clearings g s who)
+alone-most g s who sound has =
+    omega (
+      arith,
+      left-most g who (s.errand who).point sound.checked (fits-at g s sound.parts.0 who (s.errand who).point sound.parts.1 has refl),
+    )
+
+-- so many steps fit a count
+clearings-most : (g : Geometry) (s : State) (who : ℕ) → clearings g s who ≤ descriptor_count g
+clearings-most g s who =
+    let each : emptied_for g s (class_at (s.errand who).point) ≤ descriptor_count g * 1 =
+    sum-most (descriptor_count g) (empty_for g s (class_at (s.errand who).point)) 1 (λ d lt. one-most _) in
+    omega (arith, each, cond-most (in_turn (s.errand who).point) (emptied_for g s (class_at (s.errand who).point)))
+
+pub alone-below : (g : Geometry) (s : State) (who : ℕ) → IsSound g s → who < g.callers → alone_left g s who < 2 ^ 64
+alone-below g s who sound has =
+    omega (arith, alone-most g s who sound has, stale-most g s who, clearings-most g s who, descriptor_count_within g sound.checked)
+
+-- and for each exchange that was lost and each superblock that was cleared
+pub leads-few :
+    (g : Geometry) (s : State) (who n : ℕ) (s' : State) → IsSound g s → who < g.callers → LeadsAlone g s who n s'
+    → (s'.errand who).lost + 1 < 2 ^ 64
+    → n < CALL_STEPS * (1 + ((s'.errand who).lost - (s.errand who).lost) + ((s'.errand who).cleared - (s.errand who).cleared))
+leads-few g s who n s' sound has leads room =
+    let most = left-most g who (s.errand who).point sound.checked (fits-at g s sound.parts.0 who (s.errand who).point sound.parts.1 has refl) in
+    omega (arith, most, leads.lost, leads.cleared, leads.few room)

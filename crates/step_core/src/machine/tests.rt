@@ -87,6 +87,15 @@ fn run(core: &mut Core, seats: &[u8]) -> Option<Result<u64, Stopped>> {
     }
 }
 
+/// Steps of the seat alone to the end of its call, where the heap has it.
+fn alone(core: &mut Core, seat: u32) -> Option<Result<u64, Stopped>> {
+    if seat < core.layout.geometry().callers {
+        Some(core.run_alone(seat))
+    } else {
+        None
+    }
+}
+
 /// What is told of the block at a place after one more event.
 fn told_after(live: Option<(Need, Owner)>, event: Event, place: u32) -> Option<(Need, Owner)>
     ensures { result ≡ told_after live event place }
@@ -204,6 +213,32 @@ fn complete(
     }
 }
 
+/// Steps of seat 0 to the end of its call, as long as there are any; how many are left then.
+fn spend(core: &mut Core, steps: u64) -> Result<u64, AllocError> {
+    let mut left = steps;
+    for _ in 0..steps {
+        if !can_begin(core, 0) {
+            let _ = turn(core, 0)?;
+            left = left.saturating_sub(1);
+        }
+    }
+    Ok(left)
+}
+
+/// Seat 0 allocates two blocks of 1,023 words and frees both; after so many steps it makes no more.
+fn stop_after(core: &mut Core, steps: u64) -> Result<(), AllocError> {
+    let block = Need::Small(9);
+    let _ = begin(core, 0, 1023);
+    let left = spend(core, steps)?;
+    let _ = begin(core, 0, 1023);
+    let left = spend(core, left)?;
+    let _ = call(core, 0, 0, block, Request::Free);
+    let left = spend(core, left)?;
+    let _ = call(core, 0, 1024, block, Request::Free);
+    let _ = spend(core, left)?;
+    Ok(())
+}
+
 /// Begins to take from a shelf, where caller 0 is idle.
 fn take(core: &mut Core, shelf: u8) -> bool {
     let can = can_begin(core, 0) && shelf < SHELVES;
@@ -230,6 +265,20 @@ fn counts(core: &Core, seat: u32) -> Option<(u64, u64, u64, u64)> {
 /// The last event.
 fn last(core: &Core) -> Option<Event> {
     core.events().last().copied()
+}
+
+/// The place of the block that the last event gives to this caller for this need, where it gives one.
+fn place_given(core: &Core, to: u32, words: u32) -> Option<u32> {
+    match last(core) {
+        Some(
+            Event::Alloc {
+                caller,
+                need,
+                place,
+            },
+        ) if caller == to && need == words => Some(place),
+        _ => None,
+    }
 }
 
 fn given(place: u32, need: Need) -> Option<Reply> {
@@ -424,5 +473,34 @@ fn turns_of_an_idle_seat_are_no_steps(rt: HostRuntime) -> Result<(), Fail> {
         },
     ];
     assert_eq!(rt; core.events(), events.as_slice());
+    Ok(())
+}
+
+// Seat 0 stops for ever after each of its 44 steps. Wherever that is, seat 1 alone is given a block and
+// frees it, in as many steps, and loses no exchange.
+#[test]
+fn a_caller_ends_its_calls_wherever_another_stopped(rt: HostRuntime) -> Result<(), Fail> {
+    for stop in 0..45 {
+        let mut core = Core::open(rt.alloc(), heap(2, 0, 2, 9))?;
+        stop_after(&mut core, stop)?;
+        assert_eq!(rt; core.steps(), stop);
+        assert_eq!(rt;
+            begin(&mut core, 1, 1),
+            Some(Begun::Started),
+            "after {stop}"
+        );
+        assert_eq!(rt; alone(&mut core, 1), Some(Ok(1041)), "after {stop}");
+        let place = place_given(&core, 1, 1).unwrap_or(u32::MAX);
+        let freed = call(&mut core, 1, place, Need::Small(0), Request::Free);
+        assert!(rt; freed, "after {stop}");
+        assert_eq!(rt; alone(&mut core, 1), Some(Ok(4)), "after {stop}");
+        assert_eq!(rt;
+            last(&core),
+            Some(Event::Free { caller: 1, place }),
+            "after {stop}"
+        );
+        assert_eq!(rt; counts(&core, 1), Some((1, 4, 0, 0)), "after {stop}");
+        assert_eq!(rt; alone(&mut core, 1), Some(Ok(0)), "after {stop}");
+    }
     Ok(())
 }
