@@ -10,7 +10,7 @@ use Rattle.errand_steps.specs.Steps.{State, Step, Run}
 use Rattle.errand_steps.specs.declared.reply.Progress.{Progress}
 use Rattle.sound_state.specs.Alone.{alone_left, clearings, stale_words}
 use Rattle.sound_state.specs.Expectations.{expects_of}
-use Rattle.sound_state.specs.Runs.{Call, begun_by}
+use Rattle.errand_steps.specs.Calls.{Call, begun_by}
 use Rattle.sound_state.specs.Sound.{IsSound}
 use Rattle.sound_state.proofs.RunLemmas.{runs-sound}
 use Rattle.sound_state.proofs.endings.AloneLemmas.{alone-falls}

@@ -9,6 +9,7 @@ ghost use Rattle.word_plan.specs.Actions.{name_of};
 ghost use Rattle.word_plan.specs.Table.{Exists};
 ghost use Rattle.word_plan.specs.Words.{word_in};
 ghost use Rattle.errand_steps.specs.Begins.{IsIdle, IsBusy, alloc_begun, alloc_answer, free_begun, write_begun, read_begun, put_begun, take_begun};
+ghost use Rattle.errand_steps.specs.Calls.{Call, begun_by};
 ghost use Rattle.errand_steps.specs.Points.{is_idle};
 ghost use Rattle.step_core.specs.Cores.{errand_at, with_errand, IsCore, OwnsBlock, state_of};
 ghost use Rattle.errand_steps.specs.Openings.{opening};
@@ -17,7 +18,6 @@ ghost use Rattle.errand_steps.specs.Steps.{with_event, Turn, Run};
 ghost use Rattle.step_core.specs.Steps.{IsStepped, IsNext, AnswersSo, RunsPart, counted, RunsAlone};
 ghost use Rattle.errand_steps.specs.Errands.{ErrandFields};
 ghost use Rattle.sound_state.specs.Alone.{clearings, stale_words};
-ghost use Rattle.sound_state.specs.Runs.{Call, begun_by};
 
 use crate::first::{first_errands, first_table};
 use errand_steps::errand::{Errand, answer, event, plan};

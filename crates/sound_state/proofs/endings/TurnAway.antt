@@ -47,7 +47,7 @@ use Rattle.errand_steps.specs.Points.{plan_point_of, asked}
 use Rattle.errand_steps.specs.Steps.{State, Step, name_at, word_at, found_at}
 use Rattle.sound_state.specs.Holdings.{on_its_way, keep, making, holds_of}
 use Rattle.sound_state.specs.Lists.{Lists}
-use Rattle.sound_state.specs.Recalls.{IsSo, noted, looked, located, says, recalls_of}
+use Rattle.sound_state.specs.Recalls.{IsSo, noted, looked, located, says, recalls_of, resumed_recalls}
 use Rattle.sound_state.specs.Sound.{IsSoundWithoutCounts, IsSoundWith}
 use Rattle.sound_state.specs.Superblocks.{anchor_for, info_for, info_or_zero, errand_away, errand_keeps, away_of, kept_among}
 use Rattle.sound_state.specs.Keepers.{errand_has}
@@ -411,7 +411,7 @@ push_desc-leaves g s l who s' l' seat k top o old new has stands step =
     elim (cases_eq (s.word name.DescHead) top) [
       | inl won ↦
           let is_won : (s.word name.DescHead == top) ≡ true = eq-eqb (s.word name.DescHead) top won in
-          let link : s.word (name.Next k) ≡ top = (All-head (IsSo g s l who) (says (name.Next k) top) [] (so-at g s l who p old has stands)).1 in
+          let link : s.word (name.Next k) ≡ top = (All-head (IsSo g s l who) (says (name.Next k) top) (resumed_recalls seat o) (so-at g s l who p old has stands)).1 in
           let head : s'.word name.DescHead ≡ k + 1 = w.here ∙ rw is_won refl in
           let after : Stacked (next_in s.word Partials) (k + 1) l'.available =
           subst (λ f. Stacked f (k + 1) l'.available) nexts

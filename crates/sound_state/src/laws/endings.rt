@@ -4,11 +4,12 @@ ghost use Rattle.std.specs.Prelude.{ℕ, ◌≡◌, ◌<◌, ◌≤◌, ◌+◌,
 ghost use Rattle.heap_geometry.specs.declared.geometry.Geometry.{Geometry};
 ghost use Rattle.heap_geometry.specs.declared.limits.TheConstants.{CALL_STEPS};
 ghost use Rattle.errand_steps.specs.Begins.{IsIdle, IsBusy};
+ghost use Rattle.errand_steps.specs.Calls.{Call, begun_by};
 ghost use Rattle.errand_steps.specs.Errands.{counts_lost, ErrandFields, counts_cleared};
 ghost use Rattle.errand_steps.specs.Steps.{State, Step, Run, found_at, name_at};
 ghost use Rattle.sound_state.specs.Alone.{alone_left, stale_words, clearings, is_stale, available_in, empty_for};
 ghost use Rattle.sound_state.specs.Moves.{BeginsNothing, is_begin_of, is_step_of};
-ghost use Rattle.sound_state.specs.Runs.{Move, Reaches, Call, begun_by};
+ghost use Rattle.sound_state.specs.Runs.{Move, Reaches};
 ghost use Rattle.word_plan.specs.declared.name.WordName.{WordName};
 ghost use Rattle.sound_state.specs.Expectations.{expects_of};
 ghost use Rattle.word_plan.specs.Counts.{descriptor_count};
@@ -49,6 +50,7 @@ pub fn calls_are_short_beside_others()
     ensures counts { (g : Geometry) (s : State) (moves : List Move) (after : State) (who : ℕ) → IsSound g s → who < g.callers
         → Reaches g s moves after
         → ((s.errand who).lost ≤ (after.errand who).lost) × ((s.errand who).cleared ≤ (after.errand who).cleared) }
+{}
 
 /// A caller that is in a call has a step left to make.
 pub fn calls_have_a_step_left()

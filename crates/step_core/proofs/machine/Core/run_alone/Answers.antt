@@ -1,7 +1,11 @@
 use Rattle.std.proofs.Common.{arith, sym, subst}
-use Rattle.step_core.specs.Cores.{CoreFields}
-use Rattle.step_core.proofs.AloneLemmas.{IsSoFar, so-far-falls, so-far-room, so-far-next, so-far-bound, so-far-few, so-far-lost, so-far-first, so-far-cleared}
+use Rattle.step_core.specs.Cores.{CoreFields, IsCore}
+use Rattle.step_core.proofs.AloneLemmas.{IsSoFar, none-so-far, so-far-falls, so-far-room, so-far-next, so-far-bound, so-far-few, so-far-lost, so-far-first, so-far-cleared}
+use Rattle.step_core.proofs.CoreLemmas.{core-sound}
 use Rattle.step_core.proofs.machine.Core.run_alone.Goals as goal
+
+pub loop-self-init : goal.loop-self-init
+loop-self-init c = none-so-far c.args.self.now c.args.seat (core-sound c.args.self.now (subst IsCore c.self.view_is c.self.invariant))
 
 pub overflow_add-steps : goal.overflow_add-steps
 overflow_add-steps c =
