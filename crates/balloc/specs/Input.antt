@@ -1,17 +1,47 @@
--- What is taken from a source.
-use Rattle.std.specs.Prelude.{ℕ, ◌≡◌, ◌<◌, ◌≤◌, List, Option, IfSome, length}
+-- What is taken from a source, and by which reads.
+use Rattle.std.specs.Prelude.{ℕ, ◌≡◌, ◌+◌, ◌<◌, ◌≤◌, ◌∷◌, List, [], Option, IfSome, Result, Ok, Err, length, sum}
 use Rattle.std.specs.Io.KnownBytes.{Consumes}
+use Rattle.edge_io.specs.declared.faults.Failed.{Failed}
 
--- these bytes, not more than so many, were taken from a source that had `before` left and has `after` left now: all that it had
-pub record TakesAll (most : ℕ) (before after : Option (List ℕ)) (bytes : List ℕ) : Type 0 where
-  pub taken : Consumes before after bytes
-  pub within : length bytes ≤ most
-  pub whole : IfSome before (λ all. bytes ≡ all)
+module _ {S : Type 0} (gave : S → ℕ → Result ℕ Failed → S → Type 0) (most : ℕ) where
+  -- reads led from one state of the source to another and brought these many bytes each, the last one first: each read was offered a buffer
+  -- of 4,096 bytes, and was made while not more than `most` bytes were there
+  abbrev pub Brings : S → List ℕ → S → Type 0
+  Brings from [] now = now ≡ from
+  Brings from (count ∷ counts) now =
+      (before : S) × Brings from counts before × (sum counts ≤ most) × (0 < count) × gave before 4096 (Ok count) now
 
--- not more than so many bytes were taken
-abbrev pub TakesSome : ℕ → Option (List ℕ) → Option (List ℕ) → Type 0
-TakesSome most before after = (bytes : List ℕ) × (length bytes ≤ most) × Consumes before after bytes
+  -- so many reads brought bytes, at most `most + 1` of them
+  abbrev pub TakesFirst : S → List ℕ → S → Type 0
+  TakesFirst from counts now = Brings from counts now × (length counts ≤ most + 1)
 
--- more bytes were taken
-abbrev pub TakesMore : ℕ → Option (List ℕ) → Option (List ℕ) → Type 0
-TakesMore most before after = (bytes : List ℕ) × (most < length bytes) × Consumes before after bytes
+module _ {S : Type 0} (left : S → Option (List ℕ)) (gave : S → ℕ → Result ℕ Failed → S → Type 0) (most : ℕ) where
+  -- these bytes were taken, not more than `most`, and then one read more was made, which answered so and took none: at most `most + 1` reads
+  pub record TakesUntil (answer : Result ℕ Failed) (from now : S) (bytes : List ℕ) : Type 0 where
+    pub counts : List ℕ
+    pub before : S
+    pub reads : Brings gave most from counts before
+    pub last : gave before 4096 answer now
+    pub total : sum counts ≡ length bytes
+    pub within : length bytes ≤ most
+    pub calls : length counts + 1 ≤ most + 1
+    pub taken : Consumes (left from) (left now) bytes
+
+  -- these bytes were taken: all that the source had, up to a read that answered 0
+  pub record TakesAll (from now : S) (bytes : List ℕ) : Type 0 where
+    pub until : TakesUntil (Ok 0) from now bytes
+    pub whole : IfSome (left from) (λ all. bytes ≡ all)
+
+  -- not more than `most` bytes were taken, up to a read that failed
+  abbrev pub TakesSome : S → S → Type 0
+  TakesSome from now = (bytes : List ℕ) × (failure : Failed) × TakesUntil (Err failure) from now bytes
+
+  -- more than `most` bytes were taken, by 4,096 at most, and no read was made once they were there
+  pub record TakesMore (from now : S) : Type 0 where
+    pub counts : List ℕ
+    pub bytes : List ℕ
+    pub reads : TakesFirst gave most from counts now
+    pub total : sum counts ≡ length bytes
+    pub more : most < length bytes
+    pub further : length bytes ≤ most + 4096
+    pub taken : Consumes (left from) (left now) bytes

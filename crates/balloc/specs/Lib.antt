@@ -1,4 +1,5 @@
 pub mod Command
 pub mod Input
+pub mod Output
 pub mod Answers
 pub mod Runs

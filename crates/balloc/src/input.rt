@@ -1,13 +1,13 @@
 //! Reading the whole input.
 
-ghost use Rattle.std.specs.Prelude.{IfOk, IsErrOf};
+ghost use Rattle.std.specs.Prelude.{ℕ, List, IfOk, IsErrOf};
 ghost use Rattle.edge_io.specs.Faults.{FaultsRose};
-ghost use Rattle.balloc.specs.Input.{TakesAll, TakesMore, TakesSome};
+ghost use Rattle.balloc.specs.Input.{TakesAll, TakesFirst, TakesMore, TakesSome};
 
 use edge_io::source::Source;
 use std::alloc::{AllocError, Global};
 
-/// The bytes that one read may bring at the most.
+/// The bytes that each read is offered room for.
 const BUFFER_BYTES: usize = 4096;
 
 /// Why an input was not read to its end.
@@ -20,16 +20,18 @@ pub enum ReadStop {
     OutOfMemory,
 }
 
-/// Reads until the source ends, or until more than `most` bytes were taken.
+/// Reads until the source ends, or until more than `most` bytes were taken: at most `most + 1` reads.
 pub fn read_input<S: Source>(
     alloc: Global,
     source: &mut S,
     most: usize,
 ) -> Result<Vec<u8>, ReadStop>
-    ensures whole { IfOk result (λ bytes. TakesAll most (S.left source.old) (S.left source.new) bytes.items) }
-    ensures many { IsErrOf result ReadStop.TooMany → TakesMore most (S.left source.old) (S.left source.new) }
+    ensures whole { IfOk result (λ bytes. TakesAll S.left S.gave most source.old source.new bytes.items) }
+    ensures many { IsErrOf result ReadStop.TooMany → TakesMore S.left S.gave most source.old source.new }
     ensures fault { IsErrOf result ReadStop.Fault → FaultsRose (S.faults source.old) (S.faults source.new)
-        × TakesSome most (S.left source.old) (S.left source.new) }
+        × TakesSome S.left S.gave most source.old source.new }
+    ensures memory { IsErrOf result ReadStop.OutOfMemory
+        → (counts : List ℕ) × TakesFirst S.gave most source.old counts source.new }
 {
     let mut bytes = Vec::new(alloc);
     let mut buffer = [0; BUFFER_BYTES];

@@ -4,7 +4,7 @@
 use edge_io::gate::NoGate;
 use edge_io::real::{StdSink, StdSource};
 use run::run;
-use status::OUT_OF_MEMORY;
+use status::{code_of, status_without_words};
 use std::alloc::Global;
 use std::process::ExitCode;
 use std::rt::Env;
@@ -31,8 +31,9 @@ fn words<R: Env + AllocGlobal>(rt: &R, alloc: Global) -> io::Result<Vec<String>>
 
 fn main(rt: HostRuntime) -> ExitCode {
     let alloc = rt.alloc();
-    let Ok(words) = words(&rt, alloc) else {
-        return ExitCode::from(OUT_OF_MEMORY);
+    let words = match words(&rt, alloc) {
+        Ok(words) => words,
+        Err(error) => return code_of(status_without_words(error.kind())),
     };
     let mut source = StdSource::new(rt.reader());
     let mut sink = StdSink::new(io::writer(&rt));
@@ -44,5 +45,5 @@ fn main(rt: HostRuntime) -> ExitCode {
         &mut sink,
         &NoGate,
     );
-    ExitCode::from(ended.status)
+    code_of(ended.status)
 }

@@ -1,13 +1,12 @@
 //! The top call: from the words and the input to the answer and the status.
 
 ghost use Rattle.std.specs.Prelude.{◌≡◌, ◌≢◌, ◌⊎◌, None, map, string_bytes};
-ghost use Rattle.std.specs.Io.KnownBytes.{Keeps};
 ghost use Rattle.edge_io.specs.Faults.{FaultsRose};
 ghost use Rattle.balloc.specs.Answers.{IsRefusal, IsReport};
 ghost use Rattle.balloc.specs.Command.{IsCommand};
 ghost use Rattle.balloc.specs.Input.{TakesMore, TakesSome};
 ghost use Rattle.balloc.specs.declared.status.TheConstants.{REPORTED, REFUSED};
-ghost use Rattle.balloc.specs.Runs.{IsAnswer, IsStatus, Writes, WritesPart};
+ghost use Rattle.balloc.specs.Runs.{IsAnswer, IsStatus, ReadsInVain, Writes, WritesPart};
 
 use crate::answer::{Answer, answer_to};
 use crate::closing::Closing;
@@ -52,27 +51,32 @@ pub fn run<R: Threads + Wait + Sync, S: Source, K: Sink, G: Gate + Sync>(
     gate: &G,
 ) -> Ended
     ensures known { IsStatus result.status }
-    ensures usage { result.status ≡ USAGE
-        → (¬ IsCommand (map string_bytes words.now)) × Keeps (S.left source.old) (S.left source.new) }
+
+    // Where the words are no command, neither edge is called.
+    ensures usage { result.status ≡ USAGE → (¬ IsCommand (map string_bytes words.now)) × (source.new ≡ source.old) }
     ensures unknown { (¬ IsCommand (map string_bytes words.now))
         → (result.status ≡ USAGE) ⊎ (result.status ≡ OUT_OF_MEMORY) }
 
-    // But for a report and a refusal, of which a part may be written, nothing is written and no heap is left.
+    // But for a report and a refusal, of which a part may be written, the sink is not called and no heap is left.
     ensures silent { result.status ≢ REPORTED → result.status ≢ REFUSED → result.status ≢ WRITE_FAULT
-        → Keeps (K.holds sink.old) (K.holds sink.new) × (result.closed ≡ None) }
+        → (sink.new ≡ sink.old) × (result.closed ≡ None) }
 
+    // Each read is offered 4,096 bytes, at most `MAX_INPUT + 1` reads are made, and none after the last one that is told.
     ensures read_fault { result.status ≡ READ_FAULT → FaultsRose (S.faults source.old) (S.faults source.new)
-        × TakesSome MAX_INPUT (S.left source.old) (S.left source.new) }
-    ensures too_many { result.status ≡ TOO_MANY → TakesMore MAX_INPUT (S.left source.old) (S.left source.new) }
+        × TakesSome S.left S.gave MAX_INPUT source.old source.new }
+    ensures too_many { result.status ≡ TOO_MANY → TakesMore S.left S.gave MAX_INPUT source.old source.new }
+    ensures in_vain { result.status ≡ OUT_OF_MEMORY → ReadsInVain S.left S.gave source.old source.new }
+
+    // Each write is offered all that is left of the text, and a write that fails is the last one.
     ensures refused { result.status ≡ REFUSED
-        → Writes IsRefusal (S.left source.old) (S.left source.new) result.closed (K.holds sink.old) (K.holds sink.new) }
+        → Writes S.left S.gave source.old source.new K.holds K.wrote sink.old sink.new IsRefusal result.closed }
     ensures write_fault { result.status ≡ WRITE_FAULT → FaultsRose (K.faults sink.old) (K.faults sink.new)
-        × (WritesPart IsReport (S.left source.old) (S.left source.new) result.closed (K.holds sink.old) (K.holds sink.new)
-        ⊎ WritesPart IsRefusal (S.left source.old) (S.left source.new) result.closed (K.holds sink.old) (K.holds sink.new)) }
+        × (WritesPart S.left S.gave source.old source.new K.holds K.wrote sink.old sink.new IsReport result.closed
+        ⊎ WritesPart S.left S.gave source.old source.new K.holds K.wrote sink.old sink.new IsRefusal result.closed) }
 
     // The headline: the report is the defined text of the trace and the closed heap's history.
     ensures reported { result.status ≡ REPORTED
-        → Writes IsReport (S.left source.old) (S.left source.new) result.closed (K.holds sink.old) (K.holds sink.new) }
+        → Writes S.left S.gave source.old source.new K.holds K.wrote sink.old sink.new IsReport result.closed }
 
     // Where the words are a command and no edge failed, the run gives its answer.
     ensures complete { IsCommand (map string_bytes words.now)

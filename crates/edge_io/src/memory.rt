@@ -44,10 +44,13 @@ impl MemorySource {
 
 impl Source for MemorySource {
     ghost use Rattle.std.specs.Prelude.{Some};
+    ghost use Rattle.edge_io.specs.Memory.{MemoryGave};
 
     ghost left = { λ s. Some s.left };
 
     ghost faults = { λ s. s.calls.faults };
+
+    ghost gave = { MemoryGave };
 
     fn read(&mut self, buf: &mut [u8]) -> Result<usize, Failed>
         ensures fails { IsErr result ↔ IsListed self.old.calls }
@@ -121,10 +124,13 @@ impl MemorySink {
 
 impl Sink for MemorySink {
     ghost use Rattle.std.specs.Prelude.{Some};
+    ghost use Rattle.edge_io.specs.Memory.{MemoryWrote};
 
     ghost holds = { λ s. Some s.holds };
 
     ghost faults = { λ s. s.calls.faults };
+
+    ghost wrote = { MemoryWrote };
 
     fn write(&mut self, piece: &[u8]) -> Result<usize, Failed>
         ensures fails { IsErr result ↔ ((length self.old.holds ≡ self.old.room) ⊎ IsListed self.old.calls) }

@@ -31,6 +31,8 @@ impl<R: Read> Source for StdSource<R> {
 
     ghost faults = { λ s. s.faults };
 
+    ghost gave = { λ old _ outcome new. read_faults new ≡ faults_after (read_faults old) outcome };
+
     fn read(&mut self, buf: &mut [u8]) -> Result<usize, Failed>
         ensures within { IfOk result (λ n. n ≤ length buf.new) }
         ensures never_falls { read_faults self.old ≤ read_faults self.new }
@@ -69,6 +71,8 @@ impl<W: Write> Sink for StdSink<W> {
     ghost holds = { λ _. None };
 
     ghost faults = { λ s. s.faults };
+
+    ghost wrote = { λ old _ outcome new. write_faults new ≡ faults_after (write_faults old) outcome };
 
     fn write(&mut self, piece: &[u8]) -> Result<usize, Failed>
         ensures within { IfOk result (λ n. n ≤ length piece.now) }

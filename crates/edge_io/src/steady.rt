@@ -32,11 +32,13 @@ impl SteadySource {
 }
 
 impl Source for SteadySource {
-    ghost use Rattle.std.specs.Prelude.{Some};
+    ghost use Rattle.std.specs.Prelude.{◌≡◌, Some, Ok, min, length};
 
     ghost left = { λ s. Some s };
 
     ghost faults = { λ _. 0 };
+
+    ghost gave = { λ old room outcome _. outcome ≡ Ok (min (length old) room) };
 
     fn read(&mut self, buf: &mut [u8]) -> Result<usize, Failed>
         ensures count { result ≡ Ok (min (length self.old) (length buf.old)) }

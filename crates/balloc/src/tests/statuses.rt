@@ -3,11 +3,14 @@
 use super::{ROOM, run_between, wide_sink};
 use crate::status::{READ_FAULT, REFUSED, REPORTED, TOO_MANY, USAGE, WRITE_FAULT};
 use edge_io::memory::{MemorySink, MemorySource};
+use edge_io::sink::Sink;
+use edge_io::source::Source;
 use edge_io::steady::SteadySource;
 use std::test::Fail;
 use trace_text::limits::MAX_INPUT;
 
-/// Words that are no command. Each edge would fail at its first call, and none is made.
+/// Words that are no command. The first call of each edge is the test's own: it is the one that fails,
+/// and all bytes are there at the second.
 #[test]
 fn other_words_are_no_command(rt: HostRuntime) -> Result<(), Fail> {
     let alloc = rt.alloc();
@@ -25,13 +28,22 @@ fn other_words_are_no_command(rt: HostRuntime) -> Result<(), Fail> {
         "replay replay replay replay replay",
     ];
     for line in lines {
-        let input = b"heap 4 1 2\nend\n".to_vec(alloc)?;
-        let mut source = MemorySource::new(input, ROOM, [1].to_vec(alloc)?);
+        let input = b"heap 4 1 2\nend\n";
+        let mut buffer = [0; ROOM];
+        let mut source = MemorySource::new(input.to_vec(alloc)?, ROOM, [1].to_vec(alloc)?);
         let mut sink = MemorySink::new(alloc, ROOM, ROOM, [1].to_vec(alloc)?)?;
         let ended = run_between(&rt, alloc, line, &mut source, &mut sink)?;
         assert_eq!(rt; ended.status, USAGE, "{line}");
         assert!(rt; ended.closed.is_none(), "{line}");
         assert!(rt; sink.bytes().is_empty(), "{line}");
+        assert!(rt; source.read(&mut buffer).is_err(), "{line}");
+        assert_eq!(rt; source.read(&mut buffer).ok(), Some(input.len()), "{line}");
+        assert!(rt; sink.write(input.as_slice()).is_err(), "{line}");
+        assert_eq!(rt;
+            sink.write(input.as_slice()).ok(),
+            Some(input.len()),
+            "{line}"
+        );
     }
     Ok(())
 }

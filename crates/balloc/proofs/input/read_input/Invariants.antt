@@ -1,5 +1,6 @@
-use Rattle.std.proofs.Common.{◌≤◌, ◌-◌, ◌+◌, vec_len, length, ◌≡◌}
+use Rattle.std.proofs.Common.{ℕ, List, sum, ◌≤◌, ◌-◌, ◌+◌, vec_len, length, ◌≡◌}
 use Rattle.balloc.specs.declared.input.TheConstants.{BUFFER_BYTES}
+use Rattle.balloc.specs.Input.{Brings}
 use Rattle.std.specs.Io.KnownBytes.{Consumes}
 use Rattle.balloc.proofs.input.read_input.Given as goal
 
@@ -7,6 +8,10 @@ abbrev pub invariant-loop-buffer : goal.invariant-loop-buffer
 invariant-loop-buffer g l =
     record {
       buffer : length l.buffer ≡ BUFFER_BYTES;
+      counts : List ℕ;
+      total : sum counts ≡ vec_len l.bytes;
+      reads : Brings g.S.Source.gave l.most l.fn.source counts l.source;
+      further : vec_len l.bytes ≤ l.most + BUFFER_BYTES;
       taken : Consumes (g.S.Source.left l.fn.source) (g.S.Source.left l.source) l.bytes.items;
       faults : g.S.Source.faults l.fn.source ≤ g.S.Source.faults l.source;
     }

@@ -16,3 +16,10 @@ returns-in-Ok-write_text-clause-complete g c is source sink =
 
 pub returns-clause-known : goal.returns-clause-known
 returns-clause-known g c = (4, lit< tt, refl)
+
+pub returns-in-Ok-write_text-clause-known : goal.returns-in-Ok-write_text-clause-known
+returns-in-Ok-write_text-clause-known g c =
+    elim c.in-Ok-answer_to.ensures [
+      | inl h ↦ rw h.0 (0, lit< tt, refl)
+      | inr h ↦ rw h.0 (2, lit< tt, refl)
+    ]
