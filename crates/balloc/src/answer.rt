@@ -7,6 +7,7 @@ ghost use Rattle.balloc.specs.Answers.{IsAnswerTo, IsReplayed, refusal_line};
 
 use crate::closing::Closing;
 use crate::status::{REFUSED, REPORTED};
+use edge_io::gate::Gate;
 use lane_runner::live::live_count;
 use lane_runner::replay::replay;
 use lane_runner::report::report;
@@ -34,11 +35,11 @@ struct Report {
 }
 
 /// Replays a trace, and reports it.
-fn report_of(alloc: Global, trace: &Trace) -> Result<Report, AllocError>
+fn report_of<G: Gate>(alloc: Global, gate: &G, trace: &Trace) -> Result<Report, AllocError>
     requires { IsTrace trace.now }
-    ensures { IfOk result (λ report. IsReplayed trace.now report.closing report.text.items) }
+    ensures { IfOk result (λ report. IsReplayed (G.passed gate.now) trace.now report.closing report.text.items) }
 {
-    let replayed = replay(alloc, trace)?;
+    let replayed = replay(alloc, gate, trace)?;
     let outcomes = replayed.outcomes.as_slice();
     let (live, words) = live_count(trace, outcomes);
     let text = report(alloc, trace, outcomes, live, words)?;
@@ -59,14 +60,14 @@ fn refusal(alloc: Global, number: u32, cause: u8) -> Result<Vec<u8>, AllocError>
     Ok(text.into_bytes())
 }
 
-/// The answer to the bytes of an input.
-pub fn answer_to(alloc: Global, bytes: &[u8]) -> Result<Answer, AllocError>
+/// The answer to the bytes of an input. Each operation of a trace passes the gate before it begins.
+pub fn answer_to<G: Gate>(alloc: Global, gate: &G, bytes: &[u8]) -> Result<Answer, AllocError>
     requires { length bytes.now ≤ MAX_INPUT }
-    ensures { IfOk result (λ answer. IsAnswerTo bytes.now answer.status answer.closed answer.text.items) }
+    ensures { IfOk result (λ answer. IsAnswerTo (G.passed gate.now) bytes.now answer.status answer.closed answer.text.items) }
 {
     match read_trace(alloc, bytes) {
         Ok(trace) => {
-            let Report { text, closing } = report_of(alloc, &trace)?;
+            let Report { text, closing } = report_of(alloc, gate, &trace)?;
             Ok(Answer {
                 status: REPORTED,
                 text,

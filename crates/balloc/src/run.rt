@@ -71,12 +71,13 @@ pub fn run<R: Threads + Wait + Sync, S: Source, K: Sink, G: Gate + Sync>(
     ensures refused { result.status ≡ REFUSED
         → Writes S.left S.gave source.old source.new K.holds K.wrote sink.old sink.new IsRefusal result.closed }
     ensures write_fault { result.status ≡ WRITE_FAULT → FaultsRose (K.faults sink.old) (K.faults sink.new)
-        × (WritesPart S.left S.gave source.old source.new K.holds K.wrote sink.old sink.new IsReport result.closed
+        × (WritesPart S.left S.gave source.old source.new K.holds K.wrote sink.old sink.new (IsReport (G.passed gate.now)) result.closed
         ⊎ WritesPart S.left S.gave source.old source.new K.holds K.wrote sink.old sink.new IsRefusal result.closed) }
 
-    // The headline: the report is the defined text of the trace and the closed heap's history.
+    // The headline: the report is the defined text of the trace and the closed heap's history, and each operation
+    // of the trace passed the gate.
     ensures reported { result.status ≡ REPORTED
-        → Writes S.left S.gave source.old source.new K.holds K.wrote sink.old sink.new IsReport result.closed }
+        → Writes S.left S.gave source.old source.new K.holds K.wrote sink.old sink.new (IsReport (G.passed gate.now)) result.closed }
 
     // Where the words are a command and no edge failed, the run gives its answer.
     ensures complete { IsCommand (map string_bytes words.now)
@@ -84,7 +85,6 @@ pub fn run<R: Threads + Wait + Sync, S: Source, K: Sink, G: Gate + Sync>(
         → IsAnswer result.status }
 {
     let _ = rt;
-    let _ = gate;
     match read_words(alloc, words) {
         Ok(Command::Replay) => {}
         Err(NoCommand::Usage) => return ended_early(USAGE),
@@ -96,7 +96,7 @@ pub fn run<R: Threads + Wait + Sync, S: Source, K: Sink, G: Gate + Sync>(
         Err(ReadStop::TooMany) => return ended_early(TOO_MANY),
         Err(ReadStop::OutOfMemory) => return ended_early(OUT_OF_MEMORY),
     };
-    let Ok(answer) = answer_to(alloc, bytes.as_slice()) else {
+    let Ok(answer) = answer_to(alloc, gate, bytes.as_slice()) else {
         return ended_early(OUT_OF_MEMORY);
     };
     let Answer {

@@ -12,3 +12,4 @@ mod RunLemmas
 mod FitLemmas
 mod ReportLemmas
 mod LanesLemmas
+mod ReplayLemmas

@@ -57,6 +57,11 @@ lanes_freed f (operations ∷ lanes) [] = 0
 lanes_freed f (operations ∷ lanes) (results ∷ outcomes) =
     lane_freed f (replicate REGISTERS None) operations results + lanes_freed f lanes outcomes
 
+-- what the blocks count that lanes were given, less what those count that they freed; each of the two is at most the greatest number of 128 bits,
+-- and the difference at most `most`
+abbrev pub live_of : (ℕ → ℕ) → ℕ → List (List Op) → List (List Outcome) → ℕ
+live_of f most lanes outcomes = min (min (lanes_given f lanes outcomes) (2 ^ 128 - 1) - min (lanes_freed f lanes outcomes) (2 ^ 128 - 1)) most
+
 -- a number has grown by so much, or both it and what it should be are past the most that is counted
 abbrev pub Grows : ℕ → ℕ → ℕ → Type 0
 Grows old new more = min new (2 ^ 128 - 1) ≡ min (old + more) (2 ^ 128 - 1)

@@ -4,3 +4,4 @@ pub mod Fits
 pub mod Report
 pub mod LaneCounts
 pub mod Standing
+pub mod Replays

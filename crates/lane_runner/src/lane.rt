@@ -1,6 +1,6 @@
 //! One lane of a trace, operation by operation, over a plain pool.
 
-ghost use Rattle.std.specs.Prelude.{ℕ, ◌≡◌, ◌<◌, ◌≤◌, ◌++◌, ◌^◌, ◌%◌, [], IfOk, OnOk, map, sum};
+ghost use Rattle.std.specs.Prelude.{ℕ, ◌≡◌, ◌<◌, ◌≤◌, ◌++◌, ◌-◌, ◌^◌, ◌%◌, [], IfOk, OnOk, map, min, sum};
 ghost use Rattle.std.specs.List.{All, range_with_len};
 ghost use Rattle.pool_model.specs.Histories.{own};
 ghost use Rattle.pool_model.specs.Pool.{pool_of, block_at};
@@ -11,10 +11,12 @@ ghost use Rattle.trace_text.specs.declared.trace.Op.{Op};
 ghost use Rattle.trace_text.specs.declared.trace.Op.TheVariants as op;
 ghost use Rattle.trace_text.specs.Traces.{IsOp};
 ghost use Rattle.lane_runner.specs.Lane.{State, filling};
+ghost use Rattle.lane_runner.specs.Replays.{LanePassed};
 ghost use Rattle.lane_runner.specs.Standing.{OwnsWords, HoldsOwn, IsStanding, Operates, Runs};
 
 use crate::outcome::Outcome;
 use crate::registers::{Held, Registers};
+use edge_io::gate::Gate;
 use pool_model::plain::PlainPool;
 use pool_model::plain::answers::{PlainAlloc, PlainPut, PlainTake};
 use std::alloc::{AllocError, Global};
@@ -201,9 +203,21 @@ fn operate(
     }
 }
 
-/// Runs a lane that has no events yet to its end.
-pub fn run_lane(
+/// The number by which a gate is told of an operation.
+fn number_of(op: usize) -> u32
+    ensures { result ≡ min op (2 ^ 32 - 1) }
+{
+    if op < u32::MAX as usize {
+        op as u32
+    } else {
+        u32::MAX
+    }
+}
+
+/// Runs a lane that has no events yet to its end. Each operation passes the gate before it begins.
+pub fn run_lane<G: Gate>(
     alloc: Global,
+    gate: &G,
     pool: &mut PlainPool,
     caller: u32,
     operations: &[Op],
@@ -213,10 +227,12 @@ pub fn run_lane(
     requires legal { IsLegal pool.old.geometry pool.old.events }
     requires operations { All IsOp operations.now }
     ensures ran { IfOk result (λ outcomes. Runs pool.old pool.new caller operations.now outcomes.items) }
+    ensures passed { OnOk result (LanePassed (G.passed gate.now) caller operations.now) }
 {
     let mut registers = Registers::new();
     let mut outcomes = Vec::with_capacity(alloc, operations.len())?;
-    for operation in operations {
+    for (op, operation) in operations.iter().enumerate() {
+        gate.pass(caller, number_of(op));
         let outcome = operate(pool, caller, &mut registers, operation)?;
         outcomes.push(outcome)?;
     }

@@ -8,7 +8,7 @@ ghost use Rattle.trace_text.specs.declared.limits.TheConstants.{REGISTERS};
 ghost use Rattle.trace_text.specs.Traces.{IsTrace};
 ghost use Rattle.lane_runner.specs.Fits.{OutcomesFit};
 ghost use Rattle.lane_runner.specs.Lane.{registers_after};
-ghost use Rattle.lane_runner.specs.LaneCounts.{words_given, words_freed, count_with, as_one, as_words, lane_given, lane_freed, lanes_given, lanes_freed, GrowsBy};
+ghost use Rattle.lane_runner.specs.LaneCounts.{words_given, words_freed, count_with, as_one, as_words, lane_given, lane_freed, lanes_given, lanes_freed, live_of, GrowsBy};
 
 use crate::outcome::Outcome;
 use crate::registers::{Held, Registers};
@@ -161,9 +161,13 @@ fn narrow_words(number: u128) -> u64
 /// Sums and differences that don't fit are the most that fits, or 0; where the outcomes fit a history
 /// of the trace's heap none of them is.
 pub fn live_count(trace: &Trace, outcomes: &[Vec<Outcome>]) -> (u32, u64)
-    ensures { (history : List Event) (lost : ℕ) → IsTrace trace.now → IsLegalWithoutCounts trace.now.heap history
+    ensures live { (history : List Event) (lost : ℕ) → IsTrace trace.now → IsLegalWithoutCounts trace.now.heap history
         → OutcomesFit trace.now.heap history lost trace.now.lanes (map (λ lane. lane.items) outcomes.now)
         → (result.0 ≡ length (pool_of history)) × (result.1 ≡ words_of (pool_of history)) }
+
+    // Of any trace and outcomes, also where there are more of the ones than of the others.
+    ensures blocks { result.0 ≡ live_of as_one (2 ^ 32 - 1) trace.now.lanes (map (λ lane. lane.items) outcomes.now) }
+    ensures words { result.1 ≡ live_of as_words (2 ^ 64 - 1) trace.now.lanes (map (λ lane. lane.items) outcomes.now) }
 {
     let tally = count_lanes(trace, outcomes);
     let blocks = tally.given.blocks.saturating_sub(tally.freed.blocks);

@@ -7,9 +7,11 @@ ghost use Rattle.trace_text.specs.Traces.{IsOp, IsTrace};
 use crate::live::live_count;
 use crate::replay::replay;
 use crate::report::report;
+use edge_io::gate::{Gate, NoGate};
 use heap_geometry::geometry::Geometry;
 use heap_geometry::limits::{LARGE_MOST, MAX_TURNS, SHELVES};
 use std::alloc::{AllocError, Global};
+use std::cell::Cell;
 use std::test::Fail;
 use trace_text::limits::{MAX_LANES, REGISTERS};
 use trace_text::trace::{Lanes, Op, Orders, Trace};
@@ -83,9 +85,10 @@ fn trace_of(
     }))
 }
 
-/// The report of these lanes, and no text where they are no trace's.
-fn reported(
+/// The report of these lanes, which pass a gate, and no text where they are no trace's.
+fn reported_through<G: Gate>(
     alloc: Global,
+    gate: &G,
     frames: u32,
     units: u32,
     lanes: &[&[Op]],
@@ -93,10 +96,42 @@ fn reported(
     let Some(trace) = trace_of(alloc, frames, units, lanes)? else {
         return Ok(Vec::new(alloc));
     };
-    let replayed = replay(alloc, &trace)?;
+    let replayed = replay(alloc, gate, &trace)?;
     let outcomes = replayed.outcomes.as_slice();
     let (live, words) = live_count(&trace, outcomes);
     report(alloc, &trace, outcomes, live, words)
+}
+
+/// The report of these lanes on a heap of so many frames and units.
+fn reported(
+    alloc: Global,
+    frames: u32,
+    units: u32,
+    lanes: &[&[Op]],
+) -> Result<Vec<u8>, AllocError> {
+    reported_through(alloc, &NoGate, frames, units, lanes)
+}
+
+/// A gate that expects these operations of these lanes, in this order.
+#[derive(Drop)]
+struct Expecting<'a> {
+    expected: &'a [(u32, u32)],
+    passed: Cell<usize>,
+    wrong: Cell<bool>,
+}
+
+impl<'a> Gate for Expecting<'a> {
+    ghost use Rattle.std.specs.Prelude.{⊤};
+
+    ghost passed = { λ _ _ _. ⊤ };
+
+    fn pass(&self, lane: u32, op: u32) {
+        let passed = self.passed.get();
+        if self.expected.get(passed) != Some(&(lane, op)) {
+            self.wrong.set(true);
+        }
+        self.passed.set(passed.saturating_add(1));
+    }
 }
 
 const fn allocate(r: u16, need: u32, v: u64) -> Op {
@@ -192,5 +227,23 @@ fn a_lane_takes_what_another_put(rt: HostRuntime) -> Result<(), Fail> {
     let want =
         "heap 4 1 0 lanes 2\nlane 0\ngiven 3\nput\ngiven 3\nshelf full\nlane 1\ntook 3\nsum 33\nshelf empty\nfreed\nlive 1 words 3\n";
     assert_eq!(rt; text.as_slice(), want.as_bytes());
+    Ok(())
+}
+
+#[test]
+fn each_operation_passes_the_gate(rt: HostRuntime) -> Result<(), Fail> {
+    let first = [allocate(0, 1, 5), allocate(0, 1, 6), free(0), free(0)];
+    let second = [check(7), allocate(1, 1, 5)];
+    let gate = Expecting {
+        expected: &[(0, 0), (0, 1), (0, 2), (0, 3), (1, 0), (1, 1)],
+        passed: Cell::new(0),
+        wrong: Cell::new(false),
+    };
+    let text = reported_through(rt.alloc(), &gate, 4, 2, &[&first, &second])?;
+    let want =
+        "heap 4 1 2 lanes 2\nlane 0\ngiven 1\nskipped\nfreed\nskipped\nlane 1\nskipped\ngiven 1\nlive 1 words 1\n";
+    assert_eq!(rt; text.as_slice(), want.as_bytes());
+    assert_eq!(rt; gate.passed.get(), gate.expected.len());
+    assert!(rt; !gate.wrong.get());
     Ok(())
 }

@@ -46,6 +46,15 @@ fn blocks_are_given_filled_and_summed(rt: HostRuntime) -> Result<(), Fail> {
 }
 
 #[test]
+fn a_turn_limit_of_two_is_not_used_up(rt: HostRuntime) -> Result<(), Fail> {
+    let cases = [(
+        "heap 4 1 2 2\nlane\na 0 1 1\na 1 1 2\na 2 1 3\nend\n",
+        "heap 4 1 2 2 lanes 1\nlane 0\ngiven 1\ngiven 1\ngiven 1\nlive 3 words 3\n",
+    )];
+    all_are_reported(&rt, &cases)
+}
+
+#[test]
 fn an_arena_is_used_up(rt: HostRuntime) -> Result<(), Fail> {
     let cases = [
         // A full arena refuses.
