@@ -1,7 +1,7 @@
 -- What contracts see of the edges in memory.
-use Rattle.std.specs.Prelude.{ℕ, ◌≡◌, ◌-◌, List, Result, IfOk, length, min}
+use Rattle.std.specs.Prelude.{ℕ, ◌≡◌, ◌-◌, ◌↔◌, ◌⊎◌, List, Result, IfOk, IsErr, length, min}
 use Rattle.edge_io.specs.declared.faults.Failed.{Failed}
-use Rattle.edge_io.specs.Calls.{CallPlan, plan_after}
+use Rattle.edge_io.specs.Calls.{CallPlan, IsListed, plan_after}
 
 -- a source: the bytes not yet read, and how it answers its calls
 pub record MemoryInput : Type 0 where
@@ -14,12 +14,14 @@ pub record MemoryOutput : Type 0 where
   pub room : ℕ
   pub calls : CallPlan
 
--- a read into a buffer of so many bytes: how many of them it gave, and that it was a call
-abbrev pub MemoryGave : MemoryInput → ℕ → Result ℕ Failed → MemoryInput → Type 0
-MemoryGave old room outcome new =
-    IfOk outcome (λ n. n ≡ min (length old.left) (min room old.calls.chunk)) × (new.calls ≡ plan_after old.calls outcome)
+-- a read into a buffer of so many bytes is a call, and fails where that is listed; otherwise it gives as many bytes as it may
+pub record MemoryGave (old : MemoryInput) (room : ℕ) (outcome : Result ℕ Failed) (new : MemoryInput) : Type 0 where
+  pub calls : new.calls ≡ plan_after old.calls outcome
+  pub fails : IsErr outcome ↔ IsListed old.calls
+  pub count : IfOk outcome (λ n. n ≡ min (length old.left) (min room old.calls.chunk))
 
--- a write of a piece: how many of its bytes it took, and that it was a call
-abbrev pub MemoryWrote : MemoryOutput → List ℕ → Result ℕ Failed → MemoryOutput → Type 0
-MemoryWrote old piece outcome new =
-    IfOk outcome (λ n. n ≡ min (min (length piece) old.calls.chunk) (old.room - length old.holds)) × (new.calls ≡ plan_after old.calls outcome)
+-- a write of a piece is a call, and fails where that is listed and where no room is left; otherwise it takes as many bytes as it may
+pub record MemoryWrote (old : MemoryOutput) (piece : List ℕ) (outcome : Result ℕ Failed) (new : MemoryOutput) : Type 0 where
+  pub calls : new.calls ≡ plan_after old.calls outcome
+  pub fails : IsErr outcome ↔ ((length old.holds ≡ old.room) ⊎ IsListed old.calls)
+  pub count : IfOk outcome (λ n. n ≡ min (min (length piece) old.calls.chunk) (old.room - length old.holds))
