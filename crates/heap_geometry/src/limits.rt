@@ -34,5 +34,5 @@ pub const MAX_TURNS: u64 = 0x3f_ffff_ffff;
 /// How many places there are to hand a block over.
 pub const SHELVES: u8 = 64;
 
-/// The most atomic steps that a call makes between two lost exchanges.
+/// A call makes fewer atomic steps than this between two that lose an exchange or clear an empty superblock.
 pub const CALL_STEPS: u64 = 1100;
