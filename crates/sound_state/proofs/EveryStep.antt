@@ -46,7 +46,7 @@ use Rattle.sound_state.proofs.quiet.QuietBlocks.{load_active-sound}
 use Rattle.sound_state.proofs.quiet.QuietCredits.{take_credit-sound, install_credits-sound}
 use Rattle.sound_state.proofs.quiet.QuietDescs.{load_desc_head-sound, load_next_desc-sound, load_head_to_push-sound}
 use Rattle.sound_state.proofs.quiet.QuietPops.{load_info-sound, load_anchor-sound, load_link-sound, load_return-sound}
-use Rattle.sound_state.proofs.quiet.QuietPushes.{load_owner-sound, load_prefix-sound, load_push_anchor-sound}
+use Rattle.sound_state.proofs.quiet.QuietPushes.{load_guarded_owner-sound, load_prefix-sound, load_push_anchor-sound}
 use Rattle.sound_state.proofs.quiet.QuietPartials as partials
 use Rattle.sound_state.proofs.retirements.RetirePartials as retired
 use Rattle.sound_state.proofs.quiet.QuietEnds.{clear_ends-sound}
@@ -114,7 +114,7 @@ block-sound g s who s' (block.LoadPrefix seat frame i) o sound has at step = loa
 block-sound g s who s' (block.LoadPushAnchor site i guarded) o sound has at step =
     load_push_anchor-sound g s who s' site i guarded o sound has at step
 block-sound g s who s' (block.StoreGuard site i a) o sound has at step = store_guard-sound g s who s' site i a o sound has at step
-block-sound g s who s' (block.LoadOwner site i a) o sound has at step = load_owner-sound g s who s' site i a o sound has at step
+block-sound g s who s' (block.LoadOwner site i a) o sound has at step = load_guarded_owner-sound g s who s' site i a o sound has at step
 block-sound g s who s' (block.StoreLink site i a guarded heap) o sound has at step =
     store_link-sound g s who s' site i a guarded heap o sound has at step
 block-sound g s who s' (block.PushBlock site i a guarded heap) o sound has at step =
@@ -180,10 +180,10 @@ taken-sound g s who s' site need sound has at step =
     ]
 
 -- at the first one that was popped from the list
-first-sound :
+first-listed-sound :
     (g : Geometry) (s : State) (who : ℕ) (s' : State) (seat : SeatFields) (d : ℕ) → IsSoundWithoutCounts g s → who < g.callers
     → (s.errand who).point ≡ Partial (partial.LoadListedAnchor seat d) onward.Clear → Step s who s' → IsSoundWithoutCounts g s'
-first-sound g s who s' seat d sound has at step =
+first-listed-sound g s who s' seat d sound has at step =
     elim (cases_Bool (is_empty (anchor_for s d).state)) [
       | inl empty ↦ retired.load_first_listed_empty-sound g s who s' seat d sound has at empty step
       | inr used ↦ partials.load_first_listed-sound g s who s' seat d sound has at used step
@@ -195,7 +195,7 @@ listed-sound :
     → (s.errand who).point ≡ Partial (partial.LoadListedAnchor seat d) o → Step s who s' → IsSoundWithoutCounts g s'
 listed-sound g s who s' seat d o sound has at step =
     clearing-cases (λ o. (s.errand who).point ≡ Partial (partial.LoadListedAnchor seat d) o → IsSoundWithoutCounts g s')
-    (λ at. first-sound g s who s' seat d sound has at step)
+    (λ at. first-listed-sound g s who s' seat d sound has at step)
     (λ first at. partials.load_second-sound g s who s' seat d first sound has at step) o
     (fits-now g s who _ sound has at).goes at
 
@@ -221,7 +221,7 @@ partial-sound g s who s' (partial.Grant site a) o sound has at step =
     grant-sound g s who s' site a (asked o) sound has (at ∙ ap (Partial (partial.Grant site a)) is) step
 partial-sound g s who s' (partial.LoadOwner seat d) o sound has at step =
     finish-cases (λ o. (s.errand who).point ≡ Partial (partial.LoadOwner seat d) o → IsSoundWithoutCounts g s')
-    (λ guarded at. partials.load_owner-sound g s who s' seat d guarded sound has at step) o
+    (λ guarded at. partials.load_partial_owner-sound g s who s' seat d guarded sound has at step) o
     (fits-now g s who _ sound has at).goes at
 partial-sound g s who s' (partial.PutSlot seat d heap) o sound has at step = partials.put_slot-sound g s who s' seat d heap o sound has at step
 partial-sound g s who s' (partial.LoadHeldSlot seat d heap) o sound has at step =

@@ -7,6 +7,7 @@ use Rattle.sound_state.specs.Runs.{Begins, Move, begins, steps, Moved, Reaches}
 use Rattle.pool_model.specs.Legal.{IsLegal}
 use Rattle.sound_state.specs.Sound.{IsSound, IsSoundWithoutCounts}
 use Rattle.sound_state.proofs.CountedLemmas.{without-counts, with-counts, steps-counted}
+use Rattle.sound_state.proofs.EveryStep.{steps-sound}
 use Rattle.sound_state.proofs.beginnings.BegunLemmas.{alloc-sound, free-sound, write-sound, read-sound, put-sound, take-sound}
 
 -- a call that begins
@@ -49,3 +50,9 @@ reached-keeps g P keeps s (move ∷ rest) s' holds reached =
 
 pub reached-sound : (g : Geometry) (s : State) (moves : List Move) (s' : State) → IsSound g s → Reaches g s moves s' → IsSound g s'
 reached-sound g s moves s' sound reached = reached-keeps g (IsSound g) (moved-sound g) s moves s' sound reached
+
+-- a move of any caller keeps the state sound, but for its counts
+pub move-sound :
+    (g : Geometry) (s : State) (move : Move) (s' : State) → IsSoundWithoutCounts g s → Moved g s move s' → IsSoundWithoutCounts g s'
+move-sound g s (begins who call) s' sound moved = begins-sound g s who call s' sound moved.0 moved.1
+move-sound g s (steps who) s' sound moved = steps-sound g s who s' sound moved.0 moved.1

@@ -19,10 +19,11 @@ use Rattle.errand_steps.specs.declared.point.Point.{Point}
 use Rattle.errand_steps.specs.declared.point.Point.TheVariants.{Idle, Block, Stack, Desc, Partial, Large}
 use Rattle.errand_steps.specs.Steps.{State}
 use Rattle.sound_state.specs.Expectations.{Expected, expects_of}
+use Rattle.sound_state.specs.TurnStages.{in_turn}
 use Rattle.sound_state.specs.StepsLeft.{steps_left}
 use Rattle.sound_state.specs.Sums.{sum_below, callers_sum}
 use Rattle.sound_state.specs.Superblocks.{anchor_for, info_for, errand_away}
-use Rattle.sound_state.specs.Turns.{one_if, in_turn}
+use Rattle.sound_state.specs.Turns.{one_if}
 use Rattle.sound_state.specs.Wins.{same_name}
 
 -- a word is stale for a caller: it expects another number there than the word says

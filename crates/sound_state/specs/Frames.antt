@@ -14,12 +14,12 @@ use Rattle.sound_state.specs.Superblocks.{info_for, is_bound, waiting_of}
 abbrev pub errand_frames : ℕ → ErrandFields → ℕ
 errand_frames f e = occurs f (holds_of e.point).frames
 
--- 1 where the superblock of d fills the frame; that of one that waits is still in its caller's hand
-abbrev pub fills : Geometry → State → Lists → ℕ → ℕ → ℕ
-fills g s l f d = if is_bound g s l d && (waiting_of g s d == 0) && ((info_for s d).frame == f) then 1 else 0
+-- 1 where the superblock of d fills_frame the frame; that of one that waits is still in its caller's hand
+abbrev pub fills_frame : Geometry → State → Lists → ℕ → ℕ → ℕ
+fills_frame g s l f d = if is_bound g s l d && (waiting_of g s d == 0) && ((info_for s d).frame == f) then 1 else 0
 
 -- each frame is on the stack, in one caller's hand, or filled by one superblock
 pub record IsFramed (g : Geometry) (s : State) (l : Lists) : Type 0 where
   pub once :
       (f : ℕ) → f < g.frames
-      → occurs f l.frames + callers_sum g (errand_frames f) s.errand + sum_below (descriptor_count g) (fills g s l f) ≡ 1
+      → occurs f l.frames + callers_sum g (errand_frames f) s.errand + sum_below (descriptor_count g) (fills_frame g s l f) ≡ 1

@@ -8,10 +8,10 @@ use Rattle.errand_steps.specs.declared.point.Point.{Point}
 use Rattle.errand_steps.specs.declared.point.Point.TheVariants as point
 use Rattle.errand_steps.specs.Fits.{spare_of, pushed_by}
 use Rattle.errand_steps.specs.Steps.{State}
-use Rattle.sound_state.specs.Holdings.{Hazard, clear, left, named, guarded, owned, holds_of}
+use Rattle.sound_state.specs.Holdings.{HazardState, clear, left, named, guarded, owned, holds_of}
 
 -- the hazard word is as the caller's point asks
-abbrev pub IsHazard : Hazard → ℕ → Type 0
+abbrev pub IsHazard : HazardState → ℕ → Type 0
 IsHazard clear word = word ≡ 0
 IsHazard left word = Unit {0}
 IsHazard (named d) word = word ≡ d + 1
@@ -19,7 +19,7 @@ IsHazard (guarded d) word = word ≡ d + 1
 IsHazard owned word = Unit {0}
 
 -- whatever the hazard word names isn't reused: it was confirmed, or stored while its caller owned a block there
-abbrev pub IsGuard : Hazard → Type 0
+abbrev pub IsGuard : HazardState → Type 0
 IsGuard clear = ⊥
 IsGuard left = ⊥
 IsGuard (named d) = ⊥

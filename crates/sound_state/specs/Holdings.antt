@@ -54,13 +54,18 @@ pub record Freed : Type 0 where
   pub need : Need
   pub overwritten : Bool
 
--- what a caller's hazard word is: 0; what a lost pop left there; this descriptor, which may have been reused before it was stored; this descriptor, which isn't reused meanwhile; whatever a free stored there, which isn't reused meanwhile
-pub data Hazard : Type 0 where
-  clear : Hazard
-  left : Hazard
-  named : (d : ℕ) → Hazard
-  guarded : (d : ℕ) → Hazard
-  owned : Hazard
+-- what a caller's hazard word is, and whether it guards: whether what it names isn't reused meanwhile
+pub data HazardState : Type 0 where
+  -- 0, and guards nothing
+  clear : HazardState
+  -- anything, as a lost pop left it, and guards nothing
+  left : HazardState
+  -- this descriptor, and doesn't guard it yet: it may have been reused before it was stored
+  named : (d : ℕ) → HazardState
+  -- this descriptor, and guards it
+  guarded : (d : ℕ) → HazardState
+  -- anything, as a free stored it, and guards whatever it names
+  owned : HazardState
 
 -- what a caller holds: the blocks that it has reserved; the descriptors that it keeps; the frames in its hand; the block that it hands out, and the one that it frees; and its hazard word
 pub record Holding : Type 0 where
@@ -69,7 +74,7 @@ pub record Holding : Type 0 where
   pub frames : List ℕ
   pub hands : List Handed
   pub frees : List Freed
-  pub hazard : Hazard
+  pub hazard : HazardState
 
 abbrev pub nothing : Holding
 nothing = record { credits = []; kept = []; frames = []; hands = []; frees = []; hazard = clear }
@@ -97,17 +102,17 @@ abbrev pub block_freed : Site → ℕ → List Freed
 block_freed at i = freed (block_place at.frame at.seat.class i) (need.Small at.seat.class) true
 
 -- before a pop: who took the last credit, or was granted more than one block, keeps the descriptor
-abbrev pub before_pop : ℕ → ℕ → Share → Holding
-before_pop d class Credit = record nothing { credits = reserve d 1 }
-before_pop d class LastCredit = record nothing { credits = reserve d 1; kept = keep d class reserving }
-before_pop d class (Grant more) = record nothing {
+abbrev pub holds_before_pop : ℕ → ℕ → Share → Holding
+holds_before_pop d class Credit = record nothing { credits = reserve d 1 }
+holds_before_pop d class LastCredit = record nothing { credits = reserve d 1; kept = keep d class reserving }
+holds_before_pop d class (Grant more) = record nothing {
   credits = reserve d (more + 1);
   kept = if nat_lt 0 more then keep d class reserving else [];
 }
 
 -- after a pop, with more blocks reserved
-abbrev pub after_pop : Site → ℕ → ℕ → Holding
-after_pop at i more = record nothing {
+abbrev pub holds_after_pop : Site → ℕ → ℕ → Holding
+holds_after_pop at i more = record nothing {
   credits = reserve at.desc more;
   kept = keep at.desc at.seat.class reserving;
   hands = block_handed at i;
@@ -118,29 +123,29 @@ abbrev pub making : Site → Holding
 making at = record nothing { kept = keep at.desc at.seat.class on_its_way; frames = at.frame ∷ [] }
 
 -- a free that knows its descriptor; where it stored its hazard word the descriptor isn't reused
-abbrev pub pushing : Site → ℕ → Hazard → Holding
+abbrev pub pushing : Site → ℕ → HazardState → Holding
 pushing at i hazard = record nothing { frees = block_freed at i; hazard = hazard }
 
-abbrev pub if_stored : Bool → ℕ → Hazard
+abbrev pub if_stored : Bool → ℕ → HazardState
 if_stored stored d = if stored then guarded d else clear
 
 -- in a superblock
 abbrev pub block_holds : BlockPoint → Holding
 block_holds (block.LoadActive s) = nothing
 block_holds (block.TakeCredit s d credits) = nothing
-block_holds (block.LoadInfo s d share) = before_pop d s.class share
-block_holds (block.LoadAnchor at share) = before_pop at.desc at.seat.class share
-block_holds (block.LoadLink at share a) = before_pop at.desc at.seat.class share
-block_holds (block.PopBlock at share a prefix) = before_pop at.desc at.seat.class share
+block_holds (block.LoadInfo s d share) = holds_before_pop d s.class share
+block_holds (block.LoadAnchor at share) = holds_before_pop at.desc at.seat.class share
+block_holds (block.LoadLink at share a) = holds_before_pop at.desc at.seat.class share
+block_holds (block.PopBlock at share a prefix) = holds_before_pop at.desc at.seat.class share
 block_holds (block.StorePrefix at i) = record nothing { hands = block_handed at i }
-block_holds (block.InstallCredits at i more) = after_pop at i more
+block_holds (block.InstallCredits at i more) = holds_after_pop at i more
 block_holds (block.InstallSuperblock at) = record nothing {
   credits = reserve at.desc (new_credits at.seat.class + 1);
   kept = keep at.desc at.seat.class waiting;
   frames = at.frame ∷ [];
 }
-block_holds (block.LoadReturn at i more) = after_pop at i more
-block_holds (block.ReturnCredits at i more a) = after_pop at i more
+block_holds (block.LoadReturn at i more) = holds_after_pop at i more
+block_holds (block.ReturnCredits at i more a) = holds_after_pop at i more
 block_holds (block.LoadPrefix s frame i) = record nothing { frees = freed (block_place frame s.class i) (need.Small s.class) false }
 block_holds (block.LoadPushAnchor at i stored) = pushing at i (if_stored stored at.desc)
 block_holds (block.StoreGuard at i a) = pushing at i owned

@@ -40,11 +40,26 @@ errand_has d e =
     occurs d e.retired + errand_keeps reserving d e + errand_keeps waiting d e + errand_keeps partly_used d e
     + errand_keeps on_its_way d e
 
+-- how often d stands in the active words and the slots; in the classes' lists; among the available ones; with the callers, kept or retired
+abbrev pub in_words : Geometry → State → ℕ → ℕ
+in_words g s d = words_sum g (word_keeps d) s.word
+
+abbrev pub in_lists : Lists → ℕ → ℕ
+in_lists l d = sum_below CLASSES (λ class. occurs d (l.partials class))
+
+abbrev pub in_available : Lists → ℕ → ℕ
+in_available l d = occurs d l.available
+
+abbrev pub with_callers : Geometry → State → ℕ → ℕ
+with_callers g s d = callers_sum g (errand_has d) s.errand
+
+-- and 1 where it is FULL, and so nowhere
+abbrev pub full_nowhere : State → ℕ → ℕ
+full_nowhere s d = full_keeps (anchor_for s d).state
+
 -- in how many places d stands
 abbrev pub places_of : Geometry → State → Lists → ℕ → ℕ
-places_of g s l d =
-    words_sum g (word_keeps d) s.word + sum_below CLASSES (λ class. occurs d (l.partials class)) + occurs d l.available
-    + callers_sum g (errand_has d) s.errand + full_keeps (anchor_for s d).state
+places_of g s l d = in_words g s d + in_lists l d + in_available l d + with_callers g s d + full_nowhere s d
 
 -- a superblock of the class that is partly used, or EMPTY
 pub record IsPartlyUsed (s : State) (d c : ℕ) : Type 0 where

@@ -23,6 +23,7 @@ pub mod Superblocks
 pub mod Tags
 pub mod Ties
 pub mod Totals
+pub mod TurnStages
 pub mod Turns
 pub mod Wins
 pub mod Won

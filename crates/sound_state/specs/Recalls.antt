@@ -47,22 +47,39 @@ use Rattle.sound_state.specs.Sums.{callers_sum}
 
 -- a thing that a caller remembers
 pub data Recall : Type 0 where
+  -- d has a superblock of the class
   bound_for : (d class : ℕ) → Recall
+  -- the word of d names the frame and the class
   located : (d frame class : ℕ) → Recall
+  -- d has a superblock, and its word names the frame and the class
   bound_at : (d frame class : ℕ) → Recall
+  -- a is an anchor of d that was read for a pop
   pops : (d : ℕ) → (a : AnchorFields) → Recall
+  -- prefix is the word of a's first block: its link, while no block was popped since
   links : (d : ℕ) → (a : AnchorFields) → (prefix : ℕ) → Recall
+  -- h is a head of the stack that was read for a pop
   tops : (s : SeatFields) → (pile : Pile) → (h : HeadFields) → Recall
+  -- below is the next word of h's index, while none was popped since
   nexts : (s : SeatFields) → (pile : Pile) → (h : HeadFields) → (below : ℕ) → Recall
+  -- h's index is one that the heap has, or none
   tops_exist : (s : SeatFields) → (pile : Pile) → (h : HeadFields) → Recall
+  -- the word is this number
   says : (word_name : WordName) → (word : ℕ) → Recall
+  -- so many links of a superblock in the making are stored in the frame
   made : (frame class blocks : ℕ) → Recall
+  -- a isn't EMPTY
   in_use : (a : AnchorFields) → Recall
+  -- d is EMPTY, and neither available nor on its way
   emptied : (d : ℕ) → Recall
+  -- next is the next word of d, while d is available
   noted : (d next : ℕ) → Recall
+  -- the caller owns the block at the place, and i is one of its usable words
   owns : (place i : ℕ) → Recall
+  -- the caller owns the block at the place
   owns_all : (place : ℕ) → (need : Need) → Recall
+  -- its last event is a look for the class in vain
   looked : (class : ℕ) → Recall
+  -- its last two events are such a look and a refusal of such a need
   refused : (class : ℕ) → Recall
 
 -- the superblock at hand has this descriptor, fills this frame and is of this class

@@ -20,11 +20,14 @@ pub record Win : Type 0 where
   pub word : WordName
   pub install : Bool
 
--- what was won so far; for each caller and word how many wins there were when it last saw or changed that word, unless its own exchange there was lost since; and for each caller how many there were when it found no superblock active, in the turn that it is in
+-- the wins, and what each caller has noted of them: how many there were at a moment
 pub record Wins : Type 0 where
+  -- all wins so far, the oldest first
   pub list : List Win
+  -- for each caller and word, when it last saw or changed that word, unless its own exchange there was lost since
   pub noted : ℕ → WordName → Option ℕ
-  pub unmet : ℕ → Option ℕ
+  -- for each caller, when it found no superblock active, in the turn that it is in
+  pub found_none : ℕ → Option ℕ
 
 -- whether two names are the same
 abbrev pub same_name : WordName → WordName → Bool
@@ -60,20 +63,20 @@ win_at s who =
     then Some (record { caller = who; word = name_at s who; install = offers (s.errand who).point })
     else None
 
-abbrev pub list_after : State → ℕ → List Win → List Win
-list_after s who list = list ++ option_to_list (win_at s who)
+abbrev pub win_list_after : State → ℕ → List Win → List Win
+win_list_after s who list = list ++ option_to_list (win_at s who)
 
 -- an exchange of a number for itself changes nothing
-abbrev pub confirms : Action → Bool
-confirms (Cas word expected new) = expected == new
-confirms action = false
+abbrev pub is_self_exchange : Action → Bool
+is_self_exchange (Cas word expected new) = expected == new
+is_self_exchange action = false
 
--- what it notes of the word of that step: nothing where it lost, and that it sees or changes it now; what it confirms it has noted before
+-- what it notes of the word of that step: nothing where it lost, and that it sees or changes it now; by a self-exchange it notes nothing new
 abbrev pub note_at : State → ℕ → ℕ → Option ℕ → Option ℕ
 note_at s who wins old =
     if is_lost_exchange (action_at s who) (found_at s who)
     then None
-    else (if confirms (action_at s who) then old else Some wins)
+    else (if is_self_exchange (action_at s who) then old else Some wins)
 
 -- the turn that the caller was in has ended at this point, or begins here
 abbrev pub is_between : Point → Bool
@@ -82,26 +85,26 @@ is_between (point.Block (block.LoadActive s) o) = true
 is_between p = false
 
 -- it found no superblock active; or what it noted when it did
-abbrev pub unmet_at : Point → Found → ℕ → Option ℕ → Option ℕ
-unmet_at (point.Block (block.LoadActive s) o) x wins old = if x.value == active_word Null then Some wins else None
-unmet_at p x wins old = old
+abbrev pub found_none_by : Point → Found → ℕ → Option ℕ → Option ℕ
+found_none_by (point.Block (block.LoadActive s) o) x wins old = if x.value == active_word Null then Some wins else None
+found_none_by p x wins old = old
 
-abbrev pub unmet_after : State → ℕ → ℕ → Option ℕ → Option ℕ
-unmet_after s who wins old =
+abbrev pub found_none_after : State → ℕ → ℕ → Option ℕ → Option ℕ
+found_none_after s who wins old =
     if is_between (settle_of (s.errand who) (found_at s who)).point
     then None
-    else unmet_at (s.errand who).point (found_at s who) wins old
+    else found_none_by (s.errand who).point (found_at s who) wins old
 
 -- the wins and the notes after that step
 abbrev pub wins_after : State → ℕ → Wins → Wins
 wins_after s who w =
-    let list = list_after s who w.list in
+    let list = win_list_after s who w.list in
     let now = length list in record {
       list = list;
       noted = λ other word. if (other == who) && same_name word (name_at s who) then note_at s who now (w.noted who word) else w.noted other word;
-      unmet = λ other. if other == who then unmet_after s who now (w.unmet who) else w.unmet other;
+      found_none = λ other. if other == who then found_none_after s who now (w.found_none who) else w.found_none other;
     }
 
 -- nothing is won or noted yet
 abbrev pub no_wins : Wins
-no_wins = record { list = []; noted = λ who word. None; unmet = λ who. None }
+no_wins = record { list = []; noted = λ who word. None; found_none = λ who. None }

@@ -17,13 +17,12 @@ use Rattle.sound_state.specs.Lists.{Lists}
 use Rattle.sound_state.specs.Sound.{IsSoundWith}
 use Rattle.sound_state.specs.Sums.{words_sum, callers_sum}
 use Rattle.sound_state.specs.Superblocks.{anchor_for, info_for, is_bound, away_of, errand_away, errand_keeps, kept_among, waiting_of, word_reserves, reserved_of}
-use Rattle.sound_state.proofs.stores.InfoPlaces.{IsUnplaced, way-unplaced}
+use Rattle.sound_state.proofs.shared.UnplacedLemmas.{IsUnplaced, way-unplaced}
+use Rattle.sound_state.proofs.shared.WaitsAlone.{new_anchor-fits}
 use Rattle.sound_state.proofs.anchors.NewSuperblocks.{unbound-reserves}
-use Rattle.sound_state.proofs.pops.PopRecalls.{new_anchor-fits}
 use Rattle.sound_state.proofs.shared.SumLemmas.{callers-none, sum-least, term-sum}
-pub use Rattle.sound_state.proofs.shared.MakingWeights.{it-here, making-ways}
 use Rattle.sound_state.proofs.shared.HoldingEffects.{HoldingEffects, waits-go, ways-go, credits-go, away-goes, places-go}
-use Rattle.sound_state.proofs.shared.MakingWeights.{is_it, it-elsewhere, installing_holds, making-others, making-places, installing-waits, installing-others, installing-credits, installing-apart}
+use Rattle.sound_state.proofs.shared.MakingWeights.{is_it, it-elsewhere, installing_holds, making-others, making-places, installing-waits, installing-others, installing-credits, installing-apart, it-here, making-ways}
 use Rattle.sound_state.proofs.shared.SuperblockEffects.{AnchorEffects, anchor-still, anchors-stay, info-stays, weights-stay}
 
 -- a caller stores the anchor of its new superblock, and all else stays

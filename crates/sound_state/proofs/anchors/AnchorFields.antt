@@ -10,37 +10,37 @@ use Rattle.word_plan.specs.declared.seat.Site.{Site}
 use Rattle.superblock_parts.specs.Chains.{link_in}
 use Rattle.errand_steps.specs.Errands.{ErrandFields}
 use Rattle.errand_steps.specs.Steps.{State}
-use Rattle.sound_state.specs.Frames.{IsFramed, fills}
+use Rattle.sound_state.specs.Frames.{IsFramed, fills_frame}
 use Rattle.sound_state.specs.Lists.{Lists, IsListed}
 use Rattle.sound_state.specs.Recalls.{IsLocated, AreMade}
 use Rattle.sound_state.specs.Sound.{IsSoundWith}
 use Rattle.sound_state.specs.Superblocks.{AreChained, IsChained, info_for, is_bound, live_at, superblock_of, waiting_of}
-use Rattle.sound_state.proofs.shared.AlikeLemmas.{same-superblock}
 use Rattle.sound_state.proofs.anchors.AnchorFacts.{Anchors, anchored-holds, anchored-write, anchored-anchor, anchored-here, anchored-waits, anchored-bound, anchored-reserved, anchored-credits, anchored-none, anchored-free}
-use Rattle.sound_state.proofs.installs.InstallKept.{waiting-fills}
+use Rattle.sound_state.proofs.shared.FrameLemmas.{waiting-fills}
 use Rattle.sound_state.proofs.shared.HoldingEffects.{framed-after}
 use Rattle.sound_state.proofs.shared.MakingWeights.{it-here, it-elsewhere}
+use Rattle.sound_state.proofs.shared.ShownLemmas.{same-superblock}
 use Rattle.sound_state.proofs.shared.SuperblockEffects.{of-each, LieStill, anchor-still, info-stays, infos-stay, next-stays, size-stays, live-stays, located-live}
 use Rattle.sound_state.proofs.anchors.NewSuperblocks.{new_superblock, new-chained}
 use Rattle.sound_state.proofs.shared.ListEffects.{IsListWord, listed-kept}
 
--- what isn't bound fills no frame
+-- what isn't bound fills_frame no frame
 unbound-fill : (b : Bool) (n x f : ℕ) → (IsTrue b → ⊥) → ◌≡◌ {A = ℕ} (if b && (n == 0) && (x == f) then 1 else 0) 0
 unbound-fill true n x f none = absurd (none refl)
 unbound-fill false n x f none = refl
 
 module _ (g : Geometry) (s : State) (l : Lists) (who : ℕ) (at : Site) (e : ErrandFields) (s' : State) (h : Anchors g s l who at e s') where
-  still : LieStill s s'
-  still = anchor-still (anchored-write g s l who at e s' h)
+  anchored-lie : LieStill s s'
+  anchored-lie = anchor-still (anchored-write g s l who at e s' h)
 
-  others-wait : (d : ℕ) → d ≢ at.desc → waiting_of g s' d ≡ waiting_of g s d
-  others-wait d differ = omega (arith, anchored-waits g s l who at e s' h d, it-elsewhere at d differ)
+  anchored-others-wait : (d : ℕ) → d ≢ at.desc → waiting_of g s' d ≡ waiting_of g s d
+  anchored-others-wait d differ = omega (arith, anchored-waits g s l who at e s' h d, it-elsewhere at d differ)
 
   -- the other superblocks stay
   pub anchored-superblock : (d : ℕ) → d ≢ at.desc → superblock_of g s' d ≡ superblock_of g s d
   anchored-superblock d differ =
       same-superblock _ _ _ _ _ _ _ _ _ _ _ _ (anchored-anchor g s l who at e s' h d differ) (anchored-reserved g s l who at e s' h d differ)
-      (others-wait d differ) (next-stays still g d) (live-stays still g h.history d) (size-stays still g d)
+      (anchored-others-wait d differ) (next-stays anchored-lie g d) (live-stays anchored-lie g h.history d) (size-stays anchored-lie g d)
 
   -- the new one is as it was made
   pub anchored-new :
@@ -49,18 +49,18 @@ module _ (g : Geometry) (s : State) (l : Lists) (who : ℕ) (at : Site) (e : Err
       let d = at.desc in
       let none = anchored-none g s l who at e s' h old in
       let next =
-      next-stays still g d ∙ ap (λ x. link_in s.word x (info_for s d).class) lies.frame ∙ ap (λ x. link_in s.word at.frame x) lies.class in
+      next-stays anchored-lie g d ∙ ap (λ x. link_in s.word x (info_for s d).class) lies.frame ∙ ap (λ x. link_in s.word at.frame x) lies.class in
       same-superblock _ _ _ _ _ _ _ _ _ _ _ _ (anchored-here g s l who at e s' h)
       (omega (arith, anchored-credits g s l who at e s' h, none.0)) (omega (arith, anchored-waits g s l who at e s' h d, it-here at, none.1)) next
-      (live-stays still g h.history d ∙ fun_ext (located-live g s d at.frame at.seat.class lies))
-      (size-stays still g d ∙ ap block_count_of lies.class)
+      (live-stays anchored-lie g h.history d ∙ fun_ext (located-live g s d at.frame at.seat.class lies))
+      (size-stays anchored-lie g d ∙ ap block_count_of lies.class)
 
   -- so the chains are in order
   pub anchored-chained :
       IsSoundWith g s l → IsLocated s at.desc at.frame at.seat.class → AreMade s at.frame at.seat.class (block_count_of at.seat.class)
       → ((i : ℕ) → i < block_count_of at.seat.class → live_at s (block_place at.frame at.seat.class i) ≡ 0) → AreChained g s' l
   anchored-chained old lies links_made unlive = record {
-    infos = infos-stay still g l old.chained;
+    infos = infos-stay anchored-lie g l old.chained;
     chained = λ d has bound.
         elim (cases_eq d at.desc) [
           | inl is ↦
@@ -73,17 +73,17 @@ module _ (g : Geometry) (s : State) (l : Lists) (who : ℕ) (at : Site) (e : Err
         ];
   }
 
-  -- it waits, so it fills no frame; the frame stays in the caller's hand
+  -- it waits, so it fills_frame no frame; the frame stays in the caller's hand
   pub anchored-framed : IsSoundWith g s l → IsFramed g s' l
   anchored-framed old =
       framed-after (anchored-holds g s l who at e s' h) l
       (λ f.
       let waits : waiting_of g s' at.desc ≡ 1 =
       omega (arith, anchored-waits g s l who at e s' h at.desc, it-here at, (anchored-none g s l who at e s' h old).1) in
-      let before : fills g s l f at.desc ≡ 0 =
+      let before : fills_frame g s l f at.desc ≡ 0 =
       unbound-fill (is_bound g s l at.desc) (waiting_of g s at.desc) (info_for s at.desc).frame f (anchored-free g s l who at e s' h old).bound in
-      of-each (λ k. fills g s' l f k ≡ fills g s l f k) at.desc (waiting-fills g s' l at.desc f waits ∙ sym before)
-      (λ d differ. rw (anchored-bound g s l who at e s' h d differ, others-wait d differ, info-stays still d) refl))
+      of-each (λ k. fills_frame g s' l f k ≡ fills_frame g s l f k) at.desc (waiting-fills g s' l at.desc f waits ∙ sym before)
+      (λ d differ. rw (anchored-bound g s l who at e s' h d differ, anchored-others-wait d differ, info-stays anchored-lie d) refl))
       (λ f. refl) old.framed
 
   pub anchored-listed : IsSoundWith g s l → IsListed g s'.word l

@@ -19,9 +19,9 @@ use Rattle.sound_state.specs.Lists.{Lists}
 use Rattle.sound_state.specs.Recalls.{IsLocated}
 use Rattle.sound_state.specs.Sound.{IsSoundWith}
 use Rattle.sound_state.specs.Superblocks.{anchor_for, kept_among}
-use Rattle.sound_state.proofs.shared.AlikeLemmas.{each-caller}
 use Rattle.sound_state.proofs.anchors.AnchorFacts.{Anchors, anchored-anchor, anchored-here, anchored-info, anchored-free, anchored-has, anchored-words}
-use Rattle.sound_state.proofs.stores.InfoPlaces.{all-occurring}
+use Rattle.sound_state.proofs.shared.ListFacts.{all-occurring}
+use Rattle.sound_state.proofs.shared.ShownLemmas.{each-caller}
 
 -- the new superblock is ACTIVE, as is whatever was
 pub active-anchored :
@@ -66,14 +66,14 @@ kept_as-anchored g s l who at e s' h partly_used d c apart k = partly-anchored g
 kept_as-anchored g s l who at e s' h on_its_way d c apart k = without-anchored g s l who at e s' h d k
 
 -- what isn't kept partly used is another descriptor
-none-partly :
+others-partly :
     (d : ℕ) (ks : List Kept) → kept_among partly_used d ks ≡ 0 → AllByRecursion (λ k. k.status ≡ partly_used → k.desc ≢ d) ks
-none-partly d [] none = tt
-none-partly d (k ∷ ks) none = (
+others-partly d [] none = tt
+others-partly d (k ∷ ks) none = (
   λ partly is.
       let here : ◌≡◌ {A = ℕ} (kept_among partly_used d (k ∷ [])) 1 = rw (partly, eq-eqb k.desc d is) refl in
       let bad : ⊥ = omega (arith, here, none) in bad,
-  none-partly d ks (omega (arith, none)),
+  others-partly d ks (omega (arith, none)),
 )
 
 -- the places of the descriptors
@@ -145,6 +145,6 @@ anchored-kept g s l who at e s' h old lies =
           (λ i has.
           let ks = (holds_of (s.errand i).point).kept in
           let apart : All (λ (k : Kept). k.status ≡ partly_used → k.desc ≢ at.desc) ks =
-          All-from_recursion (λ (k : Kept). k.status ≡ partly_used → k.desc ≢ at.desc) ks (none-partly at.desc ks (free.partly i has)) in
+          All-from_recursion (λ (k : Kept). k.status ≡ partly_used → k.desc ≢ at.desc) ks (others-partly at.desc ks (free.partly i has)) in
           λ k d lt. kept_as-anchored g s l who at e s' h _ _ _ (apart k d lt) (kept.errand i has k d lt));
     }

@@ -21,12 +21,12 @@ use Rattle.sound_state.specs.Recalls.{Recall, IsPopped, IsLocated, IsEmptied, Is
 use Rattle.sound_state.specs.Sound.{IsSoundWith}
 use Rattle.sound_state.specs.Sums.{callers_sum}
 use Rattle.sound_state.specs.Superblocks.{kept_among, is_bound, errand_keeps}
-use Rattle.sound_state.proofs.discards.DiscardFacts.{is_it}
-use Rattle.sound_state.proofs.shared.RecallEffects.{IsSteady, Leaves, IsLeft, here-so, remembered-left}
+use Rattle.sound_state.proofs.shared.MakingWeights.{it-here, making-ways, is_it}
+use Rattle.sound_state.proofs.shared.RecallEffects.{IsSteadyWord, Leaves, IsLeft, here-so, remembered-left}
 use Rattle.sound_state.proofs.shared.RecallTables.{InstallsNone, IsBacked, bound-differs, backed-recalls}
 use Rattle.sound_state.proofs.shared.PointLemmas.{so-at}
 use Rattle.sound_state.proofs.shared.SumLemmas.{term-sum}
-use Rattle.sound_state.proofs.anchors.AnchorFacts.{Anchors, it-here, making-ways, anchored-anchor, anchored-bound, anchored-bound_here, anchored-ways, anchored-free}
+use Rattle.sound_state.proofs.anchors.AnchorFacts.{Anchors, anchored-anchor, anchored-bound, anchored-bound_here, anchored-ways, anchored-free}
 use Rattle.sound_state.proofs.anchors.AnchorFields.{anchored-superblock}
 use Rattle.sound_state.proofs.anchors.AnchorRests.{owned-anchored}
 
@@ -59,7 +59,7 @@ module _ (g : Geometry) (s : State) (l : Lists) (who : ℕ) (at : Site) (e : Err
   anchored-leaves : (i : ℕ) → Leaves g s l s' i
   unfolding callers_sum
   anchored-leaves i = record {
-    steady = λ n is. h.writes.elsewhere n (λ same. subst IsSteady same is);
+    steady = λ n is. h.writes.elsewhere n (λ same. subst IsSteadyWord same is);
     events = ap (own i) h.history;
     owned = owned-anchored g s l who at e s' h i;
     empty = λ d so. ap (λ x. is_empty x.state) (anchored-anchor g s l who at e s' h d (emptied-differs d so));

@@ -26,9 +26,9 @@ use Rattle.sound_state.specs.Stock.{IsStocked, waits_in, word_stock, full_stock}
 use Rattle.sound_state.specs.Sums.{sum_below}
 use Rattle.sound_state.specs.Superblocks.{anchor_for, info_for, is_bound}
 use Rattle.sound_state.specs.Ties.{IsTied, IsLive, IsExcepted}
-use Rattle.sound_state.proofs.shared.AlikeLemmas.{each-caller, Excepts}
 use Rattle.sound_state.proofs.anchors.AnchorFacts.{Anchors, anchored-holds, anchored-write, anchored-here, anchored-info, anchored-bound, anchored-free, anchored-words}
 use Rattle.sound_state.proofs.shared.GuardEffects.{guarded-clear}
+use Rattle.sound_state.proofs.shared.ShownLemmas.{each-caller, Excepts}
 use Rattle.sound_state.proofs.shared.SumLemmas.{sum-same}
 use Rattle.sound_state.proofs.shared.SuperblockEffects.{field-stays}
 use Rattle.sound_state.proofs.shared.HoldingEffects.{stock-goes}

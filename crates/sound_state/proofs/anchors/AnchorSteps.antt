@@ -1,6 +1,5 @@
 -- The store of a new superblock's anchor keeps the state sound.
-use Rattle.std.proofs.Common.{ℕ, Option, Some, None, true, false, ◌≡◌, ◌<◌, ◌≤◌, ◌+◌, [], ◌∷◌, refl, arith, ap, sym, subst, inl, ◌∙◌}
-use Rattle.std.specs.Prelude.{◌&&◌, not}
+use Rattle.std.proofs.Common.{ℕ, Option, Some, None, ◌≡◌, ◌<◌, ◌≤◌, ◌+◌, [], ◌∷◌, refl, arith, ap, sym, subst, inl, ◌∙◌}
 use Rattle.std.proofs.lemmas.List.Elements.{All-head}
 use Rattle.heap_geometry.specs.declared.geometry.Geometry.{Geometry}
 use Rattle.heap_geometry.specs.Need.{block_count_of}
@@ -30,31 +29,28 @@ use Rattle.sound_state.specs.Holdings.{holds_of}
 use Rattle.sound_state.specs.Lists.{Lists}
 use Rattle.sound_state.specs.Recalls.{IsSo, IsLocated, AreMade, recalls_of, says, made}
 use Rattle.sound_state.specs.Sound.{IsSoundWithoutCounts, IsSoundWith, IsOwnErrand}
+use Rattle.sound_state.specs.TurnStages.{turn_stage_of, lacks_partial, block_turn_stage, frame_taken}
 use Rattle.sound_state.specs.Superblocks.{info_or_zero, anchor_for, away_of, is_there, live_at}
-use Rattle.sound_state.specs.Turns.{IsTurned, one_if, in_turn, is_giving, has_frame, has_frame_block, has_partial, has_refused, is_discarding_at, pops_left, turn_unlisted, errand_pops, emptied_out}
-use Rattle.sound_state.proofs.pops.PopRecalls.{new_anchor-fits}
-use Rattle.sound_state.proofs.shared.AlikeLemmas.{each-caller}
+use Rattle.sound_state.specs.Turns.{IsTurned, one_if, pops_left, turn_unlisted, errand_pops, emptied_out}
 use Rattle.sound_state.proofs.anchors.AnchorFacts.{Anchors, anchored-anchor, anchored-here, anchored-away, anchored-home}
 use Rattle.sound_state.proofs.anchors.AnchorFields.{anchored-chained, anchored-framed, anchored-listed}
 use Rattle.sound_state.proofs.anchors.AnchorKept.{anchored-kept}
 use Rattle.sound_state.proofs.anchors.AnchorRecalls.{anchored-remembered}
 use Rattle.sound_state.proofs.anchors.AnchorRests.{anchored-stocked, anchored-guarded, anchored-tied}
-use Rattle.sound_state.proofs.stores.InfoSteps.{site-info}
-use Rattle.sound_state.proofs.stores.LoosePlaces.{is-making, live-unmade}
+use Rattle.sound_state.proofs.shared.MakingPlaces.{is-making, live-unmade}
+use Rattle.sound_state.proofs.shared.ShownLemmas.{each-caller}
+use Rattle.sound_state.proofs.shared.WaitsAlone.{new_anchor-fits}
 use Rattle.sound_state.proofs.shared.PointLemmas.{fits-at, so-at, All-rest}
-use Rattle.sound_state.proofs.quiet.QuietLemmas.{found_from}
 use Rattle.sound_state.proofs.shared.StepLemmas.{at_point, words-below, raised-least, found_from}
-use Rattle.sound_state.proofs.shared.TurnEffects.{TurnWeighs, emptied-kept, head-tag, no-event, turn-weighs, turned-after}
+use Rattle.sound_state.proofs.shared.TurnEffects.{TurnWeighs, emptied-kept, head-tag, no-event, stage-weighs, turned-after}
 use Rattle.sound_state.proofs.shared.MakingWeights.{it-here, it-elsewhere}
 use Rattle.sound_state.proofs.shared.WonEffects.{StepEffects, step-effects}
 use Rattle.sound_state.proofs.shared.SuperblockEffects.{of-each}
+use Rattle.sound_state.proofs.shared.WordFacts.{site-info}
 
 -- a caller that makes a superblock is in a turn
-making-weighs :
-    (e : ErrandFields) (b : BlockPoint) (o : Onward) → e.point ≡ Block b o → is_giving b ≡ true → has_frame_block b ≡ true
-    → TurnWeighs e 1 0 0
-making-weighs e b o at gives frame =
-    turn-weighs true false e (ap in_turn at ∙ gives) (ap has_frame at ∙ frame) (ap has_refused at) (ap is_discarding_at at)
+making-weighs : (e : ErrandFields) (b : BlockPoint) (o : Onward) → e.point ≡ Block b o → block_turn_stage b ≡ frame_taken → TurnWeighs e 1 0 0
+making-weighs e b o at is = stage-weighs frame_taken e (ap turn_stage_of at ∙ is) refl
 
 -- the tags and the turns
 anchored-turned :
@@ -64,9 +60,9 @@ anchored-turned :
     → IsSoundWith g s l → IsTurned g s' l
 anchored-turned g s l who at e s' o h before after turns lost cleared old =
     let turned = old.turned in
-    let p = making-weighs (s.errand who) (block.StoreAnchor at) o before refl refl in
-    let q = making-weighs e (block.InstallSuperblock at) o after refl refl in
-    let unlisted : turn_unlisted (s.errand who) ≡ 1 = ap (λ p. one_if (in_turn p && not (has_partial p))) before in
+    let p = making-weighs (s.errand who) (block.StoreAnchor at) o before refl in
+    let q = making-weighs e (block.InstallSuperblock at) o after refl in
+    let unlisted : turn_unlisted (s.errand who) ≡ 1 = ap (λ p. one_if (lacks_partial (turn_stage_of p))) before in
     let pops : errand_pops e ≡ 0 = ap pops_left after in
     let events = no-event g who s.history s'.history h.history in
     let home = anchored-home g s l who at e s' h old in
@@ -98,9 +94,9 @@ anchored-turned g s l who at e s' o h before after turns lost cleared old =
     })
     turned
 
-none-live : (o : Option Live) → ((b : Live) → o ≡ Some b → ⊥) → is_there o ≡ 0
-none-live None none = refl
-none-live (Some b) none = absurd (none b refl)
+no-block-there : (o : Option Live) → ((b : Live) → o ≡ Some b → ⊥) → is_there o ≡ 0
+no-block-there None none = refl
+no-block-there (Some b) none = absurd (none b refl)
 
 -- the anchor of a new superblock
 pub store_anchor-sound :
@@ -143,7 +139,7 @@ store_anchor-sound g s who s' site o sound has at step =
     } in
     let unlive : (i : ℕ) → i < block_count_of c → live_at s (block_place site.frame c i) ≡ 0 =
     λ i lt.
-    none-live (block_at (block_place site.frame c i) (pool_of s.history))
+    no-block-there (block_at (block_place site.frame c i) (pool_of s.history))
     (λ b live.
     live-unmade g s l who site.frame (block_place site.frame c i) b b.need sound old has fit.frame
     (is-making s who p site at refl) live refl (frame_of-block_place site.frame c i lt)) in

@@ -31,7 +31,7 @@ use Rattle.errand_steps.specs.declared.onward.Onward.{Onward}
 use Rattle.errand_steps.specs.declared.point.Point.{Point}
 use Rattle.errand_steps.specs.declared.point.Point.TheVariants as point
 use Rattle.errand_steps.specs.Steps.{State}
-use Rattle.sound_state.specs.Holdings.{before_pop, block_holds, stack_holds, desc_holds, partial_holds, large_holds, holds_of}
+use Rattle.sound_state.specs.Holdings.{holds_before_pop, block_holds, stack_holds, desc_holds, partial_holds, large_holds, holds_of}
 use Rattle.sound_state.specs.Keepers.{word_keeps, active_keeps}
 use Rattle.sound_state.specs.Lists.{Lists}
 use Rattle.sound_state.specs.Recalls.{IsSo, AreMade, block_recalls, recalls_of}
@@ -43,7 +43,7 @@ use Rattle.sound_state.proofs.shared.SumLemmas.{sum-none, term-sum, callers-none
 use Rattle.sound_state.proofs.shared.RecallTables.{bound-differs}
 
 -- blocks of another descriptor
-before-other : (e d class : ℕ) (share : Share) → e ≢ d → reserved_among d (before_pop e class share).credits ≡ 0
+before-other : (e d class : ℕ) (share : Share) → e ≢ d → reserved_among d (holds_before_pop e class share).credits ≡ 0
 before-other e d class Credit differ = grind (arith, ne_eqb e d differ)
 before-other e d class LastCredit differ = grind (arith, ne_eqb e d differ)
 before-other e d class (Grant more) differ = grind (arith, ne_eqb e d differ)
@@ -92,9 +92,9 @@ held-none d None none = refl
 held-none d (Some Null) none = refl
 held-none d (Some (Held e credits)) none = grind (arith, none)
 
-word-none : (d : ℕ) (n : WordName) (w : ℕ) → word_keeps d n w ≡ 0 → word_reserves d n w ≡ 0
-word-none d (name.Active heap class) w none = held-none d (active_of w) none
-word-none d n w none = refl
+word-reserves-none : (d : ℕ) (n : WordName) (w : ℕ) → word_keeps d n w ≡ 0 → word_reserves d n w ≡ 0
+word-reserves-none d (name.Active heap class) w none = held-none d (active_of w) none
+word-reserves-none d n w none = refl
 
 -- so a descriptor that isn't bound, and that no processor heap holds, has no reserved blocks
 pub unbound-reserves :
@@ -106,7 +106,7 @@ unbound-reserves g s l d old free none =
     sum-none (word_count g) (λ k. word_reserves d (word_name g k) (s.word (word_name g k)))
     (λ k lt.
     let term = term-sum (word_count g) (λ k. word_keeps d (word_name g k) (s.word (word_name g k))) k lt in
-    word-none d (word_name g k) (s.word (word_name g k)) (omega (arith, term, none))) in
+    word-reserves-none d (word_name g k) (s.word (word_name g k)) (omega (arith, term, none))) in
     let callers : callers_sum g (errand_reserves d) s.errand ≡ 0 =
     callers-none g (errand_reserves d) s.errand
     (λ i has.

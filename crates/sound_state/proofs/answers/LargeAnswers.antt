@@ -1,19 +1,17 @@
 -- What the answers mean at a large block, a usable word or a shelf.
-use Rattle.std.proofs.Common.{ℕ, true, false, Option, Some, None, [], ◌∷◌, ◌++◌, ◌≡◌, ◌≢◌, ◌<◌, ◌+◌, ◌%◌, ◌^◌, refl, arith, ap, sym, subst, inl, inr, ◌∙◌}
+use Rattle.std.proofs.Common.{ℕ, true, false, Option, Some, None, [], ◌∷◌, ◌++◌, ◌≡◌, ◌≢◌, ◌<◌, ◌+◌, refl, arith, ap, sym, subst, inl, inr, ◌∙◌}
 use Rattle.std.specs.Prelude.{◌⊎◌, ◌==◌}
 use Rattle.std.proofs.lemmas.Bool.{eqb-true, eqb-false}
 use Rattle.heap_geometry.specs.declared.geometry.Geometry.{Geometry}
 use Rattle.heap_geometry.specs.declared.limits.TheConstants.{SHELVES}
 use Rattle.heap_geometry.specs.declared.need.Need.{Need}
 use Rattle.heap_geometry.specs.declared.need.Need.TheVariants as need
-use Rattle.heap_geometry.specs.Geometry.{IsChecked}
 use Rattle.heap_geometry.specs.Need.{need_of, usable_words}
 use Rattle.packed_words.specs.declared.shelf.ShelfWord.TheVariants as lies
 use Rattle.packed_words.specs.Prefix.{prefix_of}
 use Rattle.packed_words.specs.Shelf.{shelf_of, shelf_word}
 use Rattle.packed_words.proofs.ShelfLemmas.{shelf-exact}
 use Rattle.word_plan.specs.declared.name.WordName.TheVariants as name
-use Rattle.word_plan.specs.Counts.{arena_words}
 use Rattle.large_parts.specs.declared.point.LargePoint.{LargePoint}
 use Rattle.large_parts.specs.declared.point.LargePoint.TheVariants as large
 use Rattle.large_parts.specs.Points.{first_wanted, after_take, payload_name}
@@ -46,19 +44,17 @@ use Rattle.sound_state.specs.Ties.{IsLive}
 use Rattle.sound_state.proofs.answers.AnswerCourses.{EndsBy}
 use Rattle.sound_state.proofs.answers.AnswerPoints.{either-ends, take-ends, prefix-goes-on, shelf-goes-on}
 use Rattle.sound_state.proofs.EveryStep.{steps-sound}
-use Rattle.sound_state.proofs.large.TouchShelves.{owned-or-none, shelf-fits, changes-from}
+use Rattle.sound_state.proofs.large.TouchShelves.{changes-from}
 use Rattle.sound_state.proofs.quiet.QuietLinks.{written-at}
 use Rattle.sound_state.proofs.shared.PointLemmas.{fits-now, hands-at, so-at}
+use Rattle.sound_state.proofs.shared.ShelfFacts.{owned-or-none, shelf-fits}
 use Rattle.sound_state.proofs.shared.StepLemmas.{found_from}
-
--- a word of the arena that a heap has is named uncut
-payload-uncut : (g : Geometry) (place i : ℕ) → IsChecked g → place + 1 + i < arena_words g → (place + 1 + i) % 2 ^ 32 ≡ place + 1 + i
-payload-uncut g place i checked below = omega (arith, below, checked.frames.1, checked.units.1)
+use Rattle.sound_state.proofs.shared.WordFacts.{payload-uncut}
 
 -- who allocates a run asks for words that as many units serve
-run-asked : (units : ℕ) (o : Onward) → IsRunFor units o → (words : ℕ) × (o ≡ onward.Alloc words) × (need_of words ≡ need.Large units)
-run-asked units (onward.Alloc words) goes = (words, refl, goes)
-run-asked units o goes = absurd goes
+run-for-alloc : (units : ℕ) (o : Onward) → IsRunFor units o → (words : ℕ) × (o ≡ onward.Alloc words) × (need_of words ≡ need.Large units)
+run-for-alloc units (onward.Alloc words) goes = (words, refl, goes)
+run-for-alloc units o goes = absurd goes
 
 -- a caller makes a step
 module _
@@ -72,8 +68,8 @@ module _
   pub past-stays : (p : Point) → (s.errand who).point ≡ p → event_of who p (found_from s p) ≡ None → after.history ≡ s.history
   past-stays p at none = step.history ∙ ap (with_event s.history) (event-told p None at none)
 
-  pub owned-stays : after.history ≡ s.history → (place : ℕ) (n : Need) → IsOwned s who place n → IsOwned after who place n
-  owned-stays same place n mine = record {
+  pub owned-after : after.history ≡ s.history → (place : ℕ) (n : Need) → IsOwned s who place n → IsOwned after who place n
+  owned-after same place n mine = record {
     block = (mine.block.0, ap (λ h. block_at place (pool_of h)) same ∙ mine.block.1, mine.block.2, mine.block.3);
   }
 
@@ -107,11 +103,11 @@ module _
   unfolding plan_point_of event_of holds_of
   run-meant place run o at =
       let p = Large (large.StoreRunPrefix place run) o in
-      let asked = run-asked run.units o (fits-now g s who p sound has at).goes in
+      let asked = run-for-alloc run.units o (fits-now g s who p sound has at).goes in
       let mine : IsOwned s who place (need.Large run.units) =
       hands-at g s sound.parts.0 who p sound.parts.1 has at 0 (record { place = place; need = need.Large run.units }) (omega arith) in
       let same = past-stays p at refl in
-      (asked.0, ap onward_at at ∙ asked.1, asked.2, owned-stays same place (need.Large run.units) mine)
+      (asked.0, ap onward_at at ∙ asked.1, asked.2, owned-after same place (need.Large run.units) mine)
 
   -- no run is free
   no_run-meant :
@@ -120,7 +116,7 @@ module _
   unfolding plan_point_of event_of
   no_run-meant w bits o at won none =
       let p = Large (large.TakeRun w bits) o in
-      let asked = run-asked w.units o (fits-now g s who p sound has at).goes in
+      let asked = run-for-alloc w.units o (fits-now g s who p sound has at).goes in
       let refused : event_at s who ≡ Some (Refuse who asked.0) =
       event-told p (Some (Refuse who asked.0)) at
       (rw won
@@ -137,7 +133,7 @@ module _
       let fits = fits-now g s who p sound has at in
       let mine = so-at g s sound.parts.0 who p sound.parts.1 has at 0 (owns place i) (omega arith) in
       let same = past-stays p at refl in
-      let owned = owned-stays same place mine.0 mine.1 in
+      let owned = owned-after same place mine.0 mine.1 in
       let b = owned.block.0 in
       let uncut : payload_name place i ≡ name.Arena (place + 1 + i) = ap name.Arena (payload-uncut g place i sound.checked fits.point) in
       let here : after.word (name.Arena (place + 1 + i)) ≡ s.word (payload_name place i) =
@@ -165,7 +161,7 @@ module _
       let same = past-stays p at (rw lost refl) in
       let mine : IsOwned s who place n = so-at g s sound.parts.0 who p sound.parts.1 has at 0 (owns_all place n) (omega arith) in
       elim (shelf-says k fits.point.shelf) [
-        | inl holds ↦ (k, place, n, (o, at), owned-stays same place n mine, holds-stays same k (s.word (name.Shelf k)) holds)
+        | inl holds ↦ (k, place, n, (o, at), owned-after same place n mine, holds-stays same k (s.word (name.Shelf k)) holds)
         | inr empty ↦ absurd (eqb-false (s.word (name.Shelf k)) (shelf_word lies.Nothing) lost empty.1)
       ]
 

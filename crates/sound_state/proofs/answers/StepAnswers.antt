@@ -39,10 +39,10 @@ use Rattle.sound_state.specs.Recalls.{EndsRefused, IsOwned, looked, refused, rec
 use Rattle.sound_state.specs.Sound.{IsSoundWithoutCounts}
 use Rattle.sound_state.proofs.answers.AnswerCourses.{IsResumed, EndsBy, answer-ends}
 use Rattle.sound_state.proofs.answers.AnswerPoints.{block-ends, stack-ends, desc-ends, partial-ends}
-use Rattle.sound_state.proofs.answers.LargeAnswers.{answered, event-told, freed-meant, large-meant, owned-stays, past-stays}
+use Rattle.sound_state.proofs.answers.LargeAnswers.{answered, event-told, freed-meant, large-meant, owned-after, past-stays}
+use Rattle.sound_state.proofs.shared.EventFacts.{refused-ends}
 use Rattle.sound_state.proofs.shared.PointLemmas.{fits-now, hands-at, so-at, the-alloc}
 use Rattle.sound_state.proofs.shared.StepLemmas.{found_from}
-use Rattle.sound_state.proofs.tellings.ConfirmSteps.{refused-ends}
 
 -- who has no turn left begins none
 no-turn : (e : ErrandFields) (n : Next) → is_spent e ≡ true → begins_turn e n ≡ false
@@ -52,8 +52,8 @@ no-turn e n spent = grind (arith, spent)
 module _
     (g : Geometry) (s : State) (who : ℕ) (after : State) (sound : IsSoundWithoutCounts g s) (has : who < g.callers)
     (step : Step s who after) where
-  freed : (r : Reply) → r ≡ reply.Freed → IsMeant g s who r after
-  freed r is = answered g s who after sound has step reply.Freed r is (freed-meant g s who after sound has step)
+  freed-answers : (r : Reply) → r ≡ reply.Freed → IsMeant g s who r after
+  freed-answers r is = answered g s who after sound has step reply.Freed r is (freed-meant g s who after sound has step)
 
   -- no turn is left
   spent-meant : is_spent (s.errand who) ≡ true → IsMeant g s who reply.Spent after
@@ -72,7 +72,7 @@ module _
   resumed-meant (onward.Turn words) r is refuses = answered g s who after sound has step reply.Spent r is.1 (spent-meant is.0)
   resumed-meant (onward.Look words) r is refuses = absurd is
   resumed-meant onward.Refuse r is refuses = answered g s who after sound has step reply.Refused r is (refuses refl)
-  resumed-meant o r is refuses = freed r is
+  resumed-meant o r is refuses = freed-answers r is
 
   -- a small block is given
   given-meant :
@@ -90,7 +90,7 @@ module _
         asked o,
         ap onward_at at ∙ alloc,
         subst (FitsOnward g who site.seat) alloc fits.onward,
-        owned-stays g s who after sound has step same place (Small site.seat.class) mine,
+        owned-after g s who after sound has step same place (Small site.seat.class) mine,
       )
 
   block-meant :
@@ -101,7 +101,7 @@ module _
       answered g s who after sound has step (reply.Given (block_place at.frame at.seat.class i) (Small at.seat.class)) r ends (given-meant at i o is)
   block-meant p o r at ends =
       let fits = fits-now g s who (Block p o) sound has at in
-      freed r (block-ends (s.errand who) p o (found_from s (Block p o)) r fits.inside ends)
+      freed-answers r (block-ends (s.errand who) p o (found_from s (Block p o)) r fits.inside ends)
 
   -- a small need is refused
   confirm-meant :
@@ -136,7 +136,7 @@ module _
       answered g s who after sound has step reply.Spent r spent.1 (spent-meant spent.0)
   stack-meant p o r at ends =
       let fits = fits-now g s who (Stack p o) sound has at in
-      freed r (stack-ends (s.errand who) p o (found_from s (Stack p o)) r fits.inside ends)
+      freed-answers r (stack-ends (s.errand who) p o (found_from s (Stack p o)) r fits.inside ends)
 
   -- behind the push of a retired descriptor
   push-meant :
@@ -163,7 +163,7 @@ module _
       push-meant seat d top o r at pushed.0 pushed.1
   desc-meant p o r at ends =
       let fits = fits-now g s who (Desc p o) sound has at in
-      freed r (desc-ends (s.errand who) p o (found_from s (Desc p o)) r fits.inside ends)
+      freed-answers r (desc-ends (s.errand who) p o (found_from s (Desc p o)) r fits.inside ends)
 
   point-meant :
       (p : Point) (r : Reply) → (s.errand who).point ≡ p → EndsBy (s.errand who) (next_of p (found_from s p)) r
@@ -175,7 +175,7 @@ module _
   point-meant (Desc p o) r at ends = desc-meant p o r at ends
   point-meant (Partial p o) r at ends =
       let fits = fits-now g s who (Partial p o) sound has at in
-      freed r (partial-ends (s.errand who) p o (found_from s (Partial p o)) r fits.inside fits.goes ends)
+      freed-answers r (partial-ends (s.errand who) p o (found_from s (Partial p o)) r fits.inside fits.goes ends)
   point-meant (Large p o) r at ends = large-meant g s who after sound has step p o r at ends
 
 pub answers-meant :

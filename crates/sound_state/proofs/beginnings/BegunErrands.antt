@@ -115,12 +115,12 @@ read-errand e place n i block below h idle =
     with-point e _ _ h idle (record { point = payload-within e.geometry place n i block below; goes = refl; inside = refl }) refl refl h.turns
 
 -- a block of a heap can be said by a shelf's word
-shelved-block : (g : Geometry) (place : ℕ) (n : Need) → IsChecked g → IsHeapBlock g place n → IsShelfWord (shelf.Block place n)
-shelved-block g place (Small class) checked (needs, (frame, index, has, within, is)) =
+heap-block-shelved : (g : Geometry) (place : ℕ) (n : Need) → IsChecked g → IsHeapBlock g place n → IsShelfWord (shelf.Block place n)
+heap-block-shelved g place (Small class) checked (needs, (frame, index, has, within, is)) =
     (omega (arith, block-within class index within, is, has, checked.frames.1), needs)
-shelved-block g place (Large units) checked (needs, (unit, within, is)) =
+heap-block-shelved g place (Large units) checked (needs, (unit, within, is)) =
     (omega (arith, is, within, needs.0, checked.frames.1, checked.units.1), needs)
-shelved-block g place TooLarge checked (needs, nowhere) = absurd nowhere
+heap-block-shelved g place TooLarge checked (needs, nowhere) = absurd nowhere
 
 pub put-errand :
     (e : ErrandFields) (place : ℕ) (n : Need) (k : ℕ) → IsHeapBlock e.geometry place n → k < SHELVES → IsErrand e → IsIdle e
@@ -128,7 +128,7 @@ pub put-errand :
 unfolding put_begun
 put-errand e place n k block has h idle =
     with-point e _ _ h idle
-    (record { point = record { shelf = has; block = shelved-block e.geometry place n h.geometry block }; goes = refl; inside = refl }) refl refl h.turns
+    (record { point = record { shelf = has; block = heap-block-shelved e.geometry place n h.geometry block }; goes = refl; inside = refl }) refl refl h.turns
 
 pub take-errand : (e : ErrandFields) (k : ℕ) → k < SHELVES → IsErrand e → IsIdle e → IsErrand (take_begun e k)
 unfolding take_begun

@@ -1,7 +1,7 @@
 -- A call that begins keeps the state sound.
 use Rattle.std.proofs.Common.{ℕ, false, None, ◌≡◌, ◌<◌, ◌≤◌, ◌+◌, List, [], ◌∷◌, refl, arith, sym, subst, inl, inr, ◌∙◌, ◌^◌}
 use Rattle.std.proofs.Math.Path.{fun_ext}
-use Rattle.std.specs.Prelude.{◌&&◌, not, All, length, count_by}
+use Rattle.std.specs.Prelude.{All, length, count_by}
 use Rattle.std.proofs.lemmas.Bool.{cases_eq, cases_Bool, cond-true, cond-false}
 use Rattle.std.proofs.lemmas.List.Elements.{All-nil, All-cons}
 use Rattle.std.proofs.lemmas.Option.{none-some}
@@ -31,10 +31,12 @@ use Rattle.sound_state.specs.Keepers.{IsKeptAs, IsWithout}
 use Rattle.sound_state.specs.Lists.{Lists}
 use Rattle.sound_state.specs.Recalls.{IsSo, IsOwned, recalls_of}
 use Rattle.sound_state.specs.Sound.{IsSoundWith, IsOwnErrand, IsSoundWithoutCounts, with_errands}
+use Rattle.sound_state.specs.TurnStages.{turn_stage_of, in_turn, lacks_frame, lacks_partial, lacks_answer, is_unneeded, out_of_turn}
 use Rattle.sound_state.specs.Stock.{waits_in}
-use Rattle.sound_state.specs.Turns.{gives_small, refuses_small, turn_open, turn_unanswered, errand_discards, one_if, in_turn, has_frame, has_partial, has_refused, is_discarding_at, pops_left}
+use Rattle.sound_state.specs.Turns.{gives_small, refuses_small, turn_open, turn_unanswered, errand_discards, one_if, pops_left}
 use Rattle.sound_state.proofs.beginnings.BegunErrands.{idle-is, alloc-errand, free-errand, write-errand, read-errand, put-errand, take-errand}
-use Rattle.sound_state.proofs.shared.AlikeLemmas.{MayGoOn, MayGuard, sound-alike}
+use Rattle.sound_state.proofs.shared.AlikeLemmas.{sound-alike}
+use Rattle.sound_state.proofs.shared.ShownLemmas.{MayGoOn, MayGuard}
 use Rattle.sound_state.proofs.shared.StepLemmas.{HoldsException, actives-stay}
 use Rattle.sound_state.proofs.shared.WeighLemmas.{WeighAlike, WeighMost, alike-most, weigh-alike, weigh-emptied}
 
@@ -43,7 +45,7 @@ abbrev pub freeing : List Freed → Holding
 freeing blocks = record nothing { frees = blocks }
 
 -- a point at which a caller holds nothing but these blocks that it frees, and has not looked, pushed or scanned
-pub record IsFresh (p : Point) (blocks : List Freed) : Type 0 where
+pub record HoldsOnlyFrees (p : Point) (blocks : List Freed) : Type 0 where
   pub holds : holds_of p ≡ freeing blocks
   pub waits : (class : ℕ) → waits_in class p ≡ 0
   pub pushed : pushed_by p ≡ None
@@ -53,27 +55,27 @@ pub record IsFresh (p : Point) (blocks : List Freed) : Type 0 where
   pub pops : pops_left p ≡ 0
 
 -- the point at which a call begins
-pub record Begins (g : Geometry) (s : State) (l : Lists) (who : ℕ) (p : Point) (blocks : List Freed) : Type 0 where
-  pub fresh : IsFresh p blocks
+pub record BeginsAt (g : Geometry) (s : State) (l : Lists) (who : ℕ) (p : Point) (blocks : List Freed) : Type 0 where
+  pub fresh : HoldsOnlyFrees p blocks
   pub frees : All (λ x. IsOwned s who x.place x.need) blocks
   pub so : All (IsSo g s l who) (recalls_of p)
 
 -- it takes so many turns, none or one, and is in as many
-pub record Takes (p : Point) (t before after : ℕ) : Type 0 where
+pub record TakesTurns (p : Point) (t before after : ℕ) : Type 0 where
   pub turns : after ≡ before + t
   pub under_way : one_if (in_turn p) ≡ t
-  pub discards : one_if (in_turn p && is_discarding_at p) ≡ 0
-  pub unanswered : one_if (in_turn p && not (has_refused p)) ≡ t
-  pub unframed : one_if (in_turn p && not (has_frame p)) ≡ t
-  pub unlisted : one_if (in_turn p && not (has_partial p)) ≡ t
+  pub discards : one_if (is_unneeded (turn_stage_of p)) ≡ 0
+  pub unanswered : one_if (lacks_answer (turn_stage_of p)) ≡ t
+  pub unframed : one_if (lacks_frame (turn_stage_of p)) ≡ t
+  pub unlisted : one_if (lacks_partial (turn_stage_of p)) ≡ t
 
-idle-takes : Takes Idle 0 0 0
+idle-takes : TakesTurns Idle 0 0 0
 idle-takes = record { turns = refl; under_way = refl; discards = refl; unanswered = refl; unframed = refl; unlisted = refl }
 
 -- what an idle caller weighs, and what one weighs that begins
 pub begun-weighs :
     (g : Geometry) (s : State) (l : Lists) (who : ℕ) (a : ErrandFields) (p : Point) (turns : ℕ) (blocks : List Freed) → IsIdle a
-    → Begins g s l who p blocks → (n : WordName) (w : ℕ) → WeighAlike n w w a (record a { point = p; turns = turns })
+    → BeginsAt g s l who p blocks → (n : WordName) (w : ℕ) → WeighAlike n w w a (record a { point = p; turns = turns })
 unfolding holds_of
 begun-weighs g s l who a p turns blocks idle b n w =
     let was = idle-is a.point idle in
@@ -96,15 +98,15 @@ not-excepts place (inr x) = omega (arith, x.2)
 -- a caller that begins a call may go on to it
 begun-may :
     (g : Geometry) (s : State) (l : Lists) (who : ℕ) (a : ErrandFields) (p : Point) (t turns : ℕ) (blocks : List Freed)
-    → IsSoundWith g s l → who < g.callers → s.errand who ≡ a → IsIdle a → Begins g s l who p blocks
-    → IsErrand (record a { point = p; turns = turns }) → Takes p t a.turns turns → MayGoOn g s l who a (record a { point = p; turns = turns })
+    → IsSoundWith g s l → who < g.callers → s.errand who ≡ a → IsIdle a → BeginsAt g s l who p blocks
+    → IsErrand (record a { point = p; turns = turns }) → TakesTurns p t a.turns turns → MayGoOn g s l who a (record a { point = p; turns = turns })
 unfolding holds_of
 begun-may g s l who a p t turns blocks sound has at idle b rule takes =
     let was = idle-is a.point idle in
     let own = subst (IsOwnErrand g who) at (sound.errands who has) in
     let turned : count_by (gives_small who) s.history + turn_open a ≤ a.turns =
     subst (λ e. count_by (gives_small who) s.history + turn_open e ≤ e.turns) at (sound.turned.own_turns who has) in
-    let idle_takes : Takes a.point 0 0 0 = subst (λ q. Takes q 0 0 0) (sym was) idle-takes in
+    let idle_takes : TakesTurns a.point 0 0 0 = subst (λ q. TakesTurns q 0 0 0) (sym was) idle-takes in
     record {
       rule = record { caller = own.caller; geometry = own.geometry; rule = rule; lost = own.lost };
       retired = subst (λ e. All (IsWithout s) e.retired) at (sound.kept.retired who has);
@@ -130,7 +132,7 @@ begun-may g s l who a p t turns blocks sound has at idle b rule takes =
 -- it guards nothing, nor does it push or scan
 begun-guards :
     (g : Geometry) (s : State) (l : Lists) (who : ℕ) (p : Point) (retired : List ℕ) (blocks : List Freed) → IsSoundWith g s l
-    → who < g.callers → IsIdle (s.errand who) → Begins g s l who p blocks → MayGuard g s who p retired (s.word (name.Hazard who))
+    → who < g.callers → IsIdle (s.errand who) → BeginsAt g s l who p blocks → MayGuard g s who p retired (s.word (name.Hazard who))
 unfolding holds_of
 begun-guards g s l who p retired blocks sound has idle b =
     let was = idle-is (s.errand who).point idle in
@@ -148,8 +150,8 @@ begun-guards g s l who p retired blocks sound has idle b =
 begun-sound :
     (g : Geometry) (s : State) (who : ℕ) (p : Point) (t turns : ℕ) (blocks : List Freed) (errands' : ℕ → ErrandFields)
     → IsSoundWithoutCounts g s → who < g.callers → IsIdle (s.errand who)
-    → ((l : Lists) → Begins g s l who p blocks) → IsErrand (record (s.errand who) { point = p; turns = turns })
-    → Takes p t (s.errand who).turns turns → Moves s.errand who (record (s.errand who) { point = p; turns = turns }) errands'
+    → ((l : Lists) → BeginsAt g s l who p blocks) → IsErrand (record (s.errand who) { point = p; turns = turns })
+    → TakesTurns p t (s.errand who).turns turns → Moves s.errand who (record (s.errand who) { point = p; turns = turns }) errands'
     → IsSoundWithoutCounts g (with_errands s errands')
 begun-sound g s who p t turns blocks errands' sound has idle begins rule takes moves =
     let l = sound.parts.0 in
@@ -184,8 +186,8 @@ begun-sound g s who p t turns blocks errands' sound has idle begins rule takes m
 -- a call that begins at a point without a turn
 no-turn-sound :
     (g : Geometry) (s : State) (who : ℕ) (p : Point) (blocks : List Freed) (errands' : ℕ → ErrandFields) → IsSoundWithoutCounts g s
-    → who < g.callers → IsIdle (s.errand who) → ((l : Lists) → Begins g s l who p blocks) → IsErrand (record (s.errand who) { point = p })
-    → in_turn p ≡ false → Moves s.errand who (record (s.errand who) { point = p }) errands' → IsSoundWithoutCounts g (with_errands s errands')
+    → who < g.callers → IsIdle (s.errand who) → ((l : Lists) → BeginsAt g s l who p blocks) → IsErrand (record (s.errand who) { point = p })
+    → turn_stage_of p ≡ out_of_turn → Moves s.errand who (record (s.errand who) { point = p }) errands' → IsSoundWithoutCounts g (with_errands s errands')
 no-turn-sound g s who p blocks errands' sound has idle begins rule no_turn moves =
     begun-sound g s who p 0 (s.errand who).turns blocks errands' sound has idle begins rule
     (record {
@@ -201,8 +203,8 @@ no-turn-sound g s who p blocks errands' sound has idle begins rule no_turn moves
 -- one that frees no block
 bare-sound :
     (g : Geometry) (s : State) (who : ℕ) (p : Point) (errands' : ℕ → ErrandFields) → IsSoundWithoutCounts g s → who < g.callers
-    → IsIdle (s.errand who) → IsFresh p [] → ((l : Lists) → All (IsSo g s l who) (recalls_of p)) → IsErrand (record (s.errand who) { point = p })
-    → in_turn p ≡ false → Moves s.errand who (record (s.errand who) { point = p }) errands' → IsSoundWithoutCounts g (with_errands s errands')
+    → IsIdle (s.errand who) → HoldsOnlyFrees p [] → ((l : Lists) → All (IsSo g s l who) (recalls_of p)) → IsErrand (record (s.errand who) { point = p })
+    → turn_stage_of p ≡ out_of_turn → Moves s.errand who (record (s.errand who) { point = p }) errands' → IsSoundWithoutCounts g (with_errands s errands')
 bare-sound g s who p errands' sound has idle fresh so rule no_turn moves =
     no-turn-sound g s who p [] errands' sound has idle
     (λ l. record { fresh = fresh; frees = All-nil (λ x. IsOwned s who x.place x.need); so = so l }) rule no_turn moves

@@ -13,14 +13,12 @@ use Rattle.heap_geometry.specs.Geometry.{IsChecked}
 use Rattle.heap_geometry.specs.Place.{unit_place}
 use Rattle.packed_words.specs.declared.active.ActiveWord.TheVariants.{Held}
 use Rattle.packed_words.specs.declared.anchor.State.TheVariants as phase
-use Rattle.packed_words.specs.declared.shelf.ShelfWord.TheVariants as shelf
 use Rattle.packed_words.specs.Active.{active_of}
 use Rattle.packed_words.specs.Anchor.{anchor_of}
 use Rattle.packed_words.specs.declared.widths.TheConstants.{TOP_BITS, HEAD_TAG_BITS}
 use Rattle.packed_words.specs.Fields.{bits_at}
 use Rattle.packed_words.specs.Head.{head_of}
 use Rattle.packed_words.specs.Info.{info_of}
-use Rattle.packed_words.specs.Shelf.{shelf_word}
 use Rattle.word_plan.specs.declared.limits.TheConstants.{MAX_DESCRIPTORS}
 use Rattle.word_plan.specs.declared.name.WordName.{WordName}
 use Rattle.word_plan.specs.declared.name.WordName.TheVariants as name
@@ -37,7 +35,7 @@ use Rattle.errand_steps.specs.Fits.{spare_of}
 use Rattle.errand_steps.specs.Errands.{ErrandFields, open_errand}
 use Rattle.errand_steps.specs.Openings.{next_index, IsOpening}
 use Rattle.errand_steps.specs.Steps.{State}
-use Rattle.sound_state.specs.Frames.{IsFramed, errand_frames, fills}
+use Rattle.sound_state.specs.Frames.{IsFramed, errand_frames, fills_frame}
 use Rattle.sound_state.specs.Guards.{IsGuarded, Guards, IsGuard, IsHazard, held_by}
 use Rattle.sound_state.specs.Holdings.{waiting, holds_of}
 use Rattle.sound_state.specs.Keepers.{IsKept, IsPartlyUsed, IsWithout, IsKeptAs, word_keeps, errand_has, full_keeps}
@@ -51,6 +49,7 @@ use Rattle.sound_state.specs.Ties.{IsTied, IsLive}
 use Rattle.sound_state.specs.Turns.{IsTurned, turn_open, turn_unframed, turn_unlisted, errand_pops, cleared_of, emptied_out, gives_small, refuses_small, errand_discards, turn_unanswered}
 use Rattle.sound_state.proofs.beginnings.OpeningLists.{indexes, indexes-below, indexes-before, indexes-once, indexes-stacked, top_from}
 use Rattle.sound_state.proofs.shared.SumLemmas.{sum-none, callers-none}
+use Rattle.sound_state.proofs.shared.WordFacts.{shelf-nothing}
 
 -- the words that a heap begins with, where its first n frames and descriptors are in use and all others on their stacks
 pub record IsFirst (g : Geometry) (n : ℕ) (first : WordName → ℕ) : Type 0 where
@@ -176,10 +175,6 @@ zero-tag : (head_of 0).tag ≡ 0
 unfolding head_of
 zero-tag = refl
 
-zero-shelf : shelf_word shelf.Nothing ≡ 0
-unfolding shelf_word
-zero-shelf = refl
-
 -- a small number is a head without a tag
 small-head : (top : ℕ) → top ≤ MAX_DESCRIPTORS → head_of top ≡ record { top = top; tag = 0 }
 unfolding head_of
@@ -286,17 +281,17 @@ first-chained g n first s b chained = record {
       ];
 }
 
--- a descriptor from n on fills no frame
+-- a descriptor from n on fills_frame no frame
 pub first-fills :
     (g : Geometry) (n : ℕ) (first : WordName → ℕ) (s : State) (f d : ℕ) → IsBegun g n first s → n ≤ d → d < descriptor_count g
-    → fills g s (first_lists g n) f d ≡ 0
+    → fills_frame g s (first_lists g n) f d ≡ 0
 first-fills g n first s f d b least has = let unbound = first-unbound g n first s d b least has in grind (arith, unbound)
 
 -- where the superblocks fill the frames that aren't on the stack, each frame is in one place
 pub first-framed :
     (g : Geometry) (n : ℕ) (first : WordName → ℕ) (s : State) → IsBegun g n first s
     → ((f : ℕ) → f < g.frames
-    → occurs f (indexes n (g.frames - n)) + sum_below (descriptor_count g) (fills g s (first_lists g n) f) ≡ 1)
+    → occurs f (indexes n (g.frames - n)) + sum_below (descriptor_count g) (fills_frame g s (first_lists g n) f) ≡ 1)
     → IsFramed g s (first_lists g n)
 unfolding holds_of
 first-framed g n first s b once = record {
@@ -384,8 +379,8 @@ zero-bit i = omega (arith, pow_pos i)
 pub first-live : (g : Geometry) (first : WordName → ℕ) (s : State) (place : ℕ) → IsOpening g first s → block_at place (pool_of s.history) ≡ None
 first-live g first s place o = ap (λ h. block_at place (pool_of h)) o.history
 
-none-live : (g : Geometry) (first : WordName → ℕ) (s : State) (place : ℕ) (b : Block) → IsOpening g first s → IsLive s place b → ⊥
-none-live g first s place b o live = none-some b (sym (first-live g first s place o) ∙ live)
+none-live-first : (g : Geometry) (first : WordName → ℕ) (s : State) (place : ℕ) (b : Block) → IsOpening g first s → IsLive s place b → ⊥
+none-live-first g first s place b o live = none-some b (sym (first-live g first s place o) ∙ live)
 
 first-tied : (g : Geometry) (n : ℕ) (first : WordName → ℕ) (s : State) → IsBegun g n first s → IsTied g s (first_lists g n)
 unfolding holds_of
@@ -393,13 +388,13 @@ first-tied g n first s begun =
     let o = begun.opening in
     let units : s.word name.Units ≡ 0 = zero-word g first s name.Units o begun.rule.units in
     record {
-      small = λ place class b live is. absurd (none-live g first s place b o live);
-      large = λ place m b live is. absurd (none-live g first s place b o live);
-      units = λ unit has. (λ bit. absurd (let no : ⊥ = omega (arith, bit, ap (λ w. bit_at w unit) units, zero-bit unit) in no), λ covered. absurd (none-live g first s (unit_place g.frames covered.1) covered.0 o covered.3));
+      small = λ place class b live is. absurd (none-live-first g first s place b o live);
+      large = λ place m b live is. absurd (none-live-first g first s place b o live);
+      units = λ unit has. (λ bit. absurd (let no : ⊥ = omega (arith, bit, ap (λ w. bit_at w unit) units, zero-bit unit) in no), λ covered. absurd (none-live-first g first s (unit_place g.frames covered.1) covered.0 o covered.3));
       no_more_units = omega (arith, units, pow_pos g.units);
-      shelved = λ k place b has live is. absurd (none-live g first s place b o live);
-      bare_shelf = λ k has none. zero-word g first s (name.Shelf k) o (begun.rule.shelves k) ∙ sym zero-shelf;
-      contents = λ place i v b live is. absurd (none-live g first s place b o live);
+      shelved = λ k place b has live is. absurd (none-live-first g first s place b o live);
+      bare_shelf = λ k has none. zero-word g first s (name.Shelf k) o (begun.rule.shelves k) ∙ sym shelf-nothing;
+      contents = λ place i v b live is. absurd (none-live-first g first s place b o live);
       hands = λ who has.
           at-opening g first s (λ e. All (λ b. IsOwned s who b.place b.need) (holds_of e.point).hands) o
           (λ other. All-nil (λ b. IsOwned s who b.place b.need)) who has;

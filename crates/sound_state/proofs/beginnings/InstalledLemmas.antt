@@ -29,7 +29,7 @@ use Rattle.superblock_parts.specs.Chains.{occurs, chain_of, prefix_name, link_in
 use Rattle.pool_model.specs.Legal.{IsLegalEvent}
 use Rattle.errand_steps.specs.Openings.{installed, link_at, full_credits, full_anchor, IsOpening}
 use Rattle.errand_steps.specs.Steps.{State}
-use Rattle.sound_state.specs.Frames.{fills}
+use Rattle.sound_state.specs.Frames.{fills_frame}
 use Rattle.sound_state.specs.Keepers.{word_keeps, active_keeps}
 use Rattle.sound_state.specs.Sound.{IsSound}
 use Rattle.sound_state.specs.Stock.{word_stock}
@@ -67,12 +67,12 @@ info-below class has = info-exact.fits (installed_info class) (record { frame = 
 active-says : (class : ℕ) → class < CLASSES → active_of (active_word (Held 0 (full_credits class))) ≡ Some (Held 0 (full_credits class))
 active-says class has = active-exact.back (Held 0 (full_credits class)) (omega arith, (credits-fit class has).0)
 
-active-below : (class : ℕ) → class < CLASSES → active_word (Held 0 (full_credits class)) < 2 ^ 64
-active-below class has = active-exact.fits (Held 0 (full_credits class)) (omega arith, (credits-fit class has).0)
+active-word-below : (class : ℕ) → class < CLASSES → active_word (Held 0 (full_credits class)) < 2 ^ 64
+active-word-below class has = active-exact.fits (Held 0 (full_credits class)) (omega arith, (credits-fit class has).0)
 
 -- the links are words
-link-below : (class word : ℕ) → link_at class word < 2 ^ 64
-link-below class word =
+link_at-below : (class word : ℕ) → link_at class word < 2 ^ 64
+link_at-below class word =
     let index = index_of class word in
     let test = word == block_place 0 class index && nat_lt (index + 1) (block_count_of class) in
     cond_both test (index + 1) 0 (λ w. w < 2 ^ 64)
@@ -85,13 +85,13 @@ installed-below g class (name.Next d) checked of has =
     omega (arith, next-word (descriptor_count g) d (ltb-true d (descriptor_count g) has), descriptor_count_within g checked)
 installed-below g class (name.FrameNext f) checked of has =
     omega (arith, next-word g.frames f (ltb-true f g.frames has), checked.frames.1)
-installed-below g class (name.Arena k) checked of has = link-below class k
+installed-below g class (name.Arena k) checked of has = link_at-below class k
 installed-below g class (name.Anchor k) checked of has =
     cond_both (k == 0) (anchor_word (full_anchor class)) 0 (λ w. w < 2 ^ 64) (λ e. anchor_word-below (full_anchor class) (full-fits class of)) (λ e. omega arith)
 installed-below g class (name.Info k) checked of has =
     cond_both (k == 0) (info_word (installed_info class)) 0 (λ w. w < 2 ^ 64) (λ e. info-below class of) (λ e. omega arith)
 installed-below g class (name.Active heap of_class) checked of has =
-    cond_both (heap == 0 && of_class == class) (active_word (Held 0 (full_credits class))) 0 (λ w. w < 2 ^ 64) (λ e. active-below class of) (λ e. omega arith)
+    cond_both (heap == 0 && of_class == class) (active_word (Held 0 (full_credits class))) 0 (λ w. w < 2 ^ 64) (λ e. active-word-below class of) (λ e. omega arith)
 installed-below g class name.FrameHead checked of has = omega (arith, next-word g.frames 0 checked.frames.0, checked.frames.1)
 installed-below g class name.DescHead checked of has =
     omega (arith, next-word (descriptor_count g) 0 (omega (arith, some-descriptors g checked)), descriptor_count_within g checked)
@@ -127,13 +127,13 @@ installed-first g class checked of = record {
 }
 
 -- a state that begins so
-record IsInstalled (g : Geometry) (class : ℕ) (s : State) : Type 0 where
+record BeginsInstalled (g : Geometry) (class : ℕ) (s : State) : Type 0 where
   checked : IsChecked g
   of : class < CLASSES
   opening : IsOpening g (installed g class) s
   begun : IsBegun g 1 (installed g class) s
 
-is-installed : (g : Geometry) (class : ℕ) (s : State) → IsChecked g → class < CLASSES → IsOpening g (installed g class) s → IsInstalled g class s
+is-installed : (g : Geometry) (class : ℕ) (s : State) → IsChecked g → class < CLASSES → IsOpening g (installed g class) s → BeginsInstalled g class s
 is-installed g class s checked of o = record {
   checked = checked;
   of = of;
@@ -142,18 +142,18 @@ is-installed g class s checked of o = record {
 }
 
 -- what descriptor 0 says
-anchor-installed : (g : Geometry) (class : ℕ) (s : State) → IsInstalled g class s → anchor_for s 0 ≡ full_anchor class
+anchor-installed : (g : Geometry) (class : ℕ) (s : State) → BeginsInstalled g class s → anchor_for s 0 ≡ full_anchor class
 anchor-installed g class s h =
     ap anchor_of (first-word g (installed g class) s (name.Anchor 0) h.opening (lt-ltb 0 (descriptor_count g) (omega (arith, some-descriptors g h.checked))))
     ∙ full-says class h.of
 
-info-installed : (g : Geometry) (class : ℕ) (s : State) → IsInstalled g class s → info_for s 0 ≡ installed_info class
+info-installed : (g : Geometry) (class : ℕ) (s : State) → BeginsInstalled g class s → info_for s 0 ≡ installed_info class
 info-installed g class s h =
     ap (λ w. info_or_zero (info_of w)) (first-word g (installed g class) s (name.Info 0) h.opening (lt-ltb 0 (descriptor_count g) (omega (arith, some-descriptors g h.checked))))
     ∙ ap info_or_zero (info-says class h.of)
 
 -- the active word of the class's processor heap 0
-active-installed : (g : Geometry) (class : ℕ) (s : State) → IsInstalled g class s → active_of (s.word (name.Active 0 class)) ≡ Some (Held 0 (full_credits class))
+active-installed : (g : Geometry) (class : ℕ) (s : State) → BeginsInstalled g class s → active_of (s.word (name.Active 0 class)) ≡ Some (Held 0 (full_credits class))
 active-installed g class s h =
     let has : exists g (name.Active 0 class) ≡ true =
     and_from (nat_lt 0 g.heaps) (nat_lt class CLASSES) (lt-ltb 0 g.heaps h.checked.heaps.0) (lt-ltb class CLASSES h.of) in
@@ -166,7 +166,7 @@ installed-empty : (g : Geometry) (class : ℕ) (m : WordName) → m ≢ name.Act
 installed-empty g class m other holds = grind (arith, other)
 
 installed-weighs :
-    (g : Geometry) (class : ℕ) (s : State) (weight : WordName → ℕ → ℕ) → IsInstalled g class s → IsHolderWeight weight
+    (g : Geometry) (class : ℕ) (s : State) (weight : WordName → ℕ → ℕ) → BeginsInstalled g class s → IsHolderWeight weight
     → words_sum g weight s.word ≡ weight (name.Active 0 class) (s.word (name.Active 0 class))
 installed-weighs g class s weight h holds =
     holders-one g weight s.word (name.Active 0 class) holds (h.checked.heaps.0, h.of)
@@ -177,15 +177,15 @@ first-or-behind : (count i : ℕ) → i < count → (if 0 == i then 1 else 0) + 
 first-or-behind count zero has = omega (arith, indexes-before 1 (count - 1) 0 (omega arith))
 first-or-behind count (suc i) has = grind (arith, indexes-once 1 (count - 1) (suc i) (omega arith) (omega arith))
 
-installed-kept : (g : Geometry) (class : ℕ) (s : State) (d : ℕ) → IsInstalled g class s → d < descriptor_count g
+first-installed-kept : (g : Geometry) (class : ℕ) (s : State) (d : ℕ) → BeginsInstalled g class s → d < descriptor_count g
     → words_sum g (word_keeps d) s.word + occurs d (indexes 1 (descriptor_count g - 1)) ≡ 1
-installed-kept g class s d h has =
+first-installed-kept g class s d h has =
     let word : words_sum g (word_keeps d) s.word ≡ (if 0 == d then 1 else 0) =
     installed-weighs g class s (word_keeps d) h (keeps-holder d) ∙ ap (active_keeps d) (active-installed g class s h) in
     omega (arith, word, first-or-behind (descriptor_count g) d has)
 
 installed-held :
-    (g : Geometry) (class : ℕ) (s : State) (heap of_class d credits : ℕ) → IsInstalled g class s
+    (g : Geometry) (class : ℕ) (s : State) (heap of_class d credits : ℕ) → BeginsInstalled g class s
     → active_of (installed g class (name.Active heap of_class)) ≡ Some (Held d credits) → (d < descriptor_count g) × ((info_for s d).class ≡ of_class)
 installed-held g class s heap of_class d credits h is =
     let test = heap == 0 && of_class == class in
@@ -211,7 +211,7 @@ link-is class i has =
     (ap (λ b. if b && nat_lt (i + 1) (block_count_of class) then i + 1 else 0) (eq-eqb place place refl))
 
 link-installed :
-    (g : Geometry) (class : ℕ) (s : State) (i : ℕ) → IsInstalled g class s → i < block_count_of class
+    (g : Geometry) (class : ℕ) (s : State) (i : ℕ) → BeginsInstalled g class s → i < block_count_of class
     → link_in s.word 0 class i ≡ (if nat_lt (i + 1) (block_count_of class) then i + 1 else 0)
 link-installed g class s i h has =
     let m = prefix_name 0 class i in
@@ -223,12 +223,12 @@ link-installed g class s i h has =
     (λ e. omega (arith, block_count_of-most class, ltb-true (i + 1) (block_count_of class) e)) (λ e. refl)
 
 link-next :
-    (g : Geometry) (class : ℕ) (s : State) (i : ℕ) → IsInstalled g class s → suc i < block_count_of class → link_in s.word 0 class i ≡ suc i
+    (g : Geometry) (class : ℕ) (s : State) (i : ℕ) → BeginsInstalled g class s → suc i < block_count_of class → link_in s.word 0 class i ≡ suc i
 link-next g class s i h has = let more : nat_lt (i + 1) (block_count_of class) ≡ true = lt-ltb (i + 1) (block_count_of class) (omega (arith, has)) in
     omega (arith, link-installed g class s i h (omega arith), cond-true (nat_lt (i + 1) (block_count_of class)) (i + 1) 0 more)
 
 link-within :
-    (g : Geometry) (class : ℕ) (s : State) (i : ℕ) → IsInstalled g class s → i < block_count_of class → link_in s.word 0 class i < block_count_of class
+    (g : Geometry) (class : ℕ) (s : State) (i : ℕ) → BeginsInstalled g class s → i < block_count_of class → link_in s.word 0 class i < block_count_of class
 link-within g class s i h has =
     let link = link-installed g class s i h has in
     subst (λ w. w < block_count_of class) (sym link)
@@ -246,25 +246,25 @@ installed_superblock class s = record {
   size = block_count_of class;
 }
 
-reserved-installed : (g : Geometry) (class : ℕ) (s : State) → IsInstalled g class s → reserved_of g s 0 ≡ full_credits class + 1
+reserved-installed : (g : Geometry) (class : ℕ) (s : State) → BeginsInstalled g class s → reserved_of g s 0 ≡ full_credits class + 1
 reserved-installed g class s h =
     let word : words_sum g (word_reserves 0) s.word ≡ full_credits class + 1 =
     installed-weighs g class s (word_reserves 0) h (reserves-holder 0) ∙ ap (offered 0) (active-installed g class s h) in
     omega (arith, word, first-reserved g (installed g class) s 0 h.opening)
 
-superblock-installed : (g : Geometry) (class : ℕ) (s : State) → IsInstalled g class s → superblock_of g s 0 ≡ installed_superblock class s
+superblock-installed : (g : Geometry) (class : ℕ) (s : State) → BeginsInstalled g class s → superblock_of g s 0 ≡ installed_superblock class s
 superblock-installed g class s h =
     rw (info-installed g class s h, anchor-installed g class s h, reserved-installed g class s h, first-waiting g (installed g class) s 0 h.opening) refl
 
 -- its blocks are all free, one behind the other
-chain-installed : (g : Geometry) (class : ℕ) (s : State) → IsInstalled g class s → free_chain (installed_superblock class s) ≡ indexes 0 (block_count_of class)
+chain-installed : (g : Geometry) (class : ℕ) (s : State) → BeginsInstalled g class s → free_chain (installed_superblock class s) ≡ indexes 0 (block_count_of class)
 chain-installed g class s h =
     let all : block_count_of class - (full_credits class + 1) + (full_credits class + 1) ≡ block_count_of class = omega (arith, credits-fit class h.of) in
     ap (λ k. chain_of (link_in s.word 0 class) k 0) all
     ∙ indexes-chained (link_in s.word 0 class) 0 (block_count_of class) (block_count_of class) (omega arith) (λ i has. link-next g class s i h has)
 
-installed-chained : (g : Geometry) (class : ℕ) (s : State) → IsInstalled g class s → IsChained (superblock_of g s 0)
-installed-chained g class s h =
+first-installed-chained : (g : Geometry) (class : ℕ) (s : State) → BeginsInstalled g class s → IsChained (superblock_of g s 0)
+first-installed-chained g class s h =
     let count = block_count_of class in
     let chain = chain-installed g class s h in
     let within : (i : ℕ) → 0 < occurs i (free_chain (installed_superblock class s)) → i < count = λ i on.
@@ -281,8 +281,8 @@ installed-chained g class s h =
       some = omega (arith, block_count_of-least class h.of, credits-fit class h.of);
     })
 
--- it fills frame 0
-installed-fills : (g : Geometry) (class : ℕ) (s : State) (f : ℕ) → IsInstalled g class s → fills g s (first_lists g 1) f 0 ≡ (if 0 == f then 1 else 0)
+-- it fills_frame frame 0
+installed-fills : (g : Geometry) (class : ℕ) (s : State) (f : ℕ) → BeginsInstalled g class s → fills_frame g s (first_lists g 1) f 0 ≡ (if 0 == f then 1 else 0)
 installed-fills g class s f h =
     let away = first-here g 1 (installed g class) s 0 h.begun (omega arith) in
     let active = first-state g 1 (installed g class) s 0 h.begun in
@@ -290,18 +290,18 @@ installed-fills g class s f h =
     let frame : (info_for s 0).frame ≡ 0 = ap (λ i. i.frame) (info-installed g class s h) in
     rw (away, active, waits, frame) refl
 
-installed-framed : (g : Geometry) (class : ℕ) (s : State) (f : ℕ) → IsInstalled g class s → f < g.frames
-    → occurs f (indexes 1 (g.frames - 1)) + sum_below (descriptor_count g) (fills g s (first_lists g 1) f) ≡ 1
-installed-framed g class s f h has =
-    let filled : sum_below (descriptor_count g) (fills g s (first_lists g 1) f) ≡ (if 0 == f then 1 else 0) =
-    sum-one (descriptor_count g) (fills g s (first_lists g 1) f) 0 (omega (arith, some-descriptors g h.checked))
+first-installed-framed : (g : Geometry) (class : ℕ) (s : State) (f : ℕ) → BeginsInstalled g class s → f < g.frames
+    → occurs f (indexes 1 (g.frames - 1)) + sum_below (descriptor_count g) (fills_frame g s (first_lists g 1) f) ≡ 1
+first-installed-framed g class s f h has =
+    let filled : sum_below (descriptor_count g) (fills_frame g s (first_lists g 1) f) ≡ (if 0 == f then 1 else 0) =
+    sum-one (descriptor_count g) (fills_frame g s (first_lists g 1) f) 0 (omega (arith, some-descriptors g h.checked))
     (λ d lt other. first-fills g 1 (installed g class) s f d h.begun (omega (arith, other)) lt)
     ∙ installed-fills g class s f h in
     omega (arith, filled, first-or-behind g.frames f has)
 
 -- it is one that is out
-stock-most : (class heap of_class word : ℕ) → word_stock class (name.Active heap of_class) word ≤ 1
-stock-most class heap of_class word = grind (arith)
+active-stock-most : (class heap of_class word : ℕ) → word_stock class (name.Active heap of_class) word ≤ 1
+active-stock-most class heap of_class word = grind (arith)
 
 -- a state before the first step, with a superblock installed, is sound
 pub installed-sound : (g : Geometry) (class : ℕ) (s : State) → IsChecked g → class < CLASSES → IsOpening g (installed g class) s → IsSound g s
@@ -314,13 +314,13 @@ installed-sound g class s checked of o =
       parts = (
         first_lists g 1,
         first-sound g 1 first s h.begun
-            (first-kept g 1 first s h.begun (λ d has. installed-kept g class s d h has)
+            (first-kept g 1 first s h.begun (λ d has. first-installed-kept g class s d h has)
             (λ heap of_class d credits has_heap has_class is. installed-held g class s heap of_class d credits h is))
             (first-chained g 1 first s h.begun
-            (λ d below. let here : 0 ≡ d = omega (arith, below) in subst (λ e. IsChained (superblock_of g s e)) here (installed-chained g class s h)))
-            (first-framed g 1 first s h.begun (λ f has. installed-framed g class s f h has))
+            (λ d below. let here : 0 ≡ d = omega (arith, below) in subst (λ e. IsChained (superblock_of g s e)) here (first-installed-chained g class s h)))
+            (first-framed g 1 first s h.begun (λ f has. first-installed-framed g class s f h has))
             (first-stocked g 1 first s h.begun
             (λ of_class.
-            omega (arith, installed-weighs g class s (word_stock of_class) h (stock-holder of_class), stock-most of_class 0 class (s.word (name.Active 0 class))))),
+            omega (arith, installed-weighs g class s (word_stock of_class) h (stock-holder of_class), active-stock-most of_class 0 class (s.word (name.Active 0 class))))),
       );
     }

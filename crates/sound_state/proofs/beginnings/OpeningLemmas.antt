@@ -13,7 +13,7 @@ use Rattle.superblock_parts.specs.Chains.{occurs}
 use Rattle.pool_model.specs.Legal.{IsLegalEvent}
 use Rattle.errand_steps.specs.Openings.{opening, IsOpening}
 use Rattle.errand_steps.specs.Steps.{State}
-use Rattle.sound_state.specs.Frames.{fills}
+use Rattle.sound_state.specs.Frames.{fills_frame}
 use Rattle.sound_state.specs.Keepers.{word_keeps}
 use Rattle.sound_state.specs.Sound.{IsSound}
 use Rattle.sound_state.specs.Stock.{word_stock}
@@ -78,7 +78,7 @@ opening-sound g s checked o =
             (first-framed g 0 (opening g) s begun
             (λ f has.
             let listed : occurs f (indexes 0 (g.frames - 0)) ≡ 1 = indexes-once 0 (g.frames - 0) f (omega arith) (omega arith) in
-            omega (arith, listed, sum-none (descriptor_count g) (fills g s (first_lists g 0) f) (λ d lt. first-fills g 0 (opening g) s f d begun (omega arith) lt))))
+            omega (arith, listed, sum-none (descriptor_count g) (fills_frame g s (first_lists g 0) f) (λ d lt. first-fills g 0 (opening g) s f d begun (omega arith) lt))))
             (first-stocked g 0 (opening g) s begun (λ class. omega (arith, opening-weighs g s (word_stock class) o (stock-holder class)))),
       );
     }

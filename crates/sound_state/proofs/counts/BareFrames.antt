@@ -30,8 +30,8 @@ use Rattle.errand_steps.specs.declared.point.Point.{Point}
 use Rattle.errand_steps.specs.declared.point.Point.TheVariants as point
 use Rattle.errand_steps.specs.Fits.{FitsPoint}
 use Rattle.errand_steps.specs.Steps.{State}
-use Rattle.sound_state.specs.Frames.{fills, errand_frames}
-use Rattle.sound_state.specs.Holdings.{waiting, keep, reserve, before_pop, block_handed, holds_of, block_holds}
+use Rattle.sound_state.specs.Frames.{fills_frame, errand_frames}
+use Rattle.sound_state.specs.Holdings.{waiting, keep, reserve, holds_before_pop, block_handed, holds_of, block_holds}
 use Rattle.sound_state.specs.Lists.{Lists}
 use Rattle.sound_state.specs.Recalls.{IsSo, IsOwned, IsLocated, recalls_of, block_recalls, bound_here, bound_at}
 use Rattle.sound_state.specs.Sound.{IsSoundWith}
@@ -77,12 +77,12 @@ some-reserved b chained none unlive =
 fills-is :
     (bound : Bool) (waits there f : ℕ) → 0 < (if bound && (waits == 0) && (there == f) then 1 else 0)
     → (bound ≡ true) × (waits ≡ 0) × (there ≡ f)
-fills-is bound waits there f fills = grind (arith, fills)
+fills-is bound waits there f fills_frame = grind (arith, fills_frame)
 
--- so a superblock that fills a bare frame has a reserved block
+-- so a superblock that fills_frame a bare frame has a reserved block
 pub bare-reserved :
     (g : Geometry) (s : State) (l : Lists) (f d : ℕ) → IsSoundWith g s l → IsBare (pool_of s.history) f → d < descriptor_count g
-    → 0 < fills g s l f d → 1 ≤ reserved_of g s d
+    → 0 < fills_frame g s l f d → 1 ≤ reserved_of g s d
 bare-reserved g s l f d sound bare has filled =
     let is = fills-is (is_bound g s l d) (waiting_of g s d) (info_for s d).frame f filled in
     some-reserved (superblock_of g s d) (sound.chained.chained d has is.0) is.1
@@ -90,34 +90,34 @@ bare-reserved g s l f d sound bare has filled =
 
 -- an active word that offers blocks of it
 held-weighs :
-    (g : Geometry) (s : State) (l : Lists) (f d : ℕ) (o : Option ActiveWord) → 0 < offered d o → 0 < fills g s l f d
+    (g : Geometry) (s : State) (l : Lists) (f d : ℕ) (o : Option ActiveWord) → 0 < offered d o → 0 < fills_frame g s l f d
     → 0 < held_fills g s l f o
 held-weighs g s l f d None some filled = absurd (omega (arith, some))
 held-weighs g s l f d (Some Null) some filled = absurd (omega (arith, some))
 held-weighs g s l f d (Some (Held e credits)) some filled =
     elim (cases_eq e d) [
-      | inl same ↦ subst (λ k. 0 < fills g s l f k) (sym same) filled
+      | inl same ↦ subst (λ k. 0 < fills_frame g s l f k) (sym same) filled
       | inr other ↦ absurd (omega (arith, some, cond-false {A = ℕ} (e == d) (credits + 1) 0 (ne_eqb e d other)))
     ]
 
-word-offers :
-    (g : Geometry) (s : State) (l : Lists) (f d : ℕ) (m : WordName) (word : ℕ) → 0 < word_reserves d m word → 0 < fills g s l f d
+word-offers-weighs :
+    (g : Geometry) (s : State) (l : Lists) (f d : ℕ) (m : WordName) (word : ℕ) → 0 < word_reserves d m word → 0 < fills_frame g s l f d
     → 0 < word_weighs g s l f m word
-word-offers g s l f d (name.Active heap class) word some filled = held-weighs g s l f d (active_of word) some filled
-word-offers g s l f d m word some filled = absurd (omega (arith, some))
+word-offers-weighs g s l f d (name.Active heap class) word some filled = held-weighs g s l f d (active_of word) some filled
+word-offers-weighs g s l f d m word some filled = absurd (omega (arith, some))
 
-words-offer :
-    (g : Geometry) (s : State) (l : Lists) (f d : ℕ) → 0 < words_sum g (word_reserves d) s.word → 0 < fills g s l f d
+words-offer-weighs :
+    (g : Geometry) (s : State) (l : Lists) (f d : ℕ) → 0 < words_sum g (word_reserves d) s.word → 0 < fills_frame g s l f d
     → 0 < words_sum g (word_weighs g s l f) s.word
-words-offer g s l f d some filled =
-    words-some g (word_reserves d) (word_weighs g s l f) s.word (λ m here. word-offers g s l f d m (s.word m) here filled) some
+words-offer-weighs g s l f d some filled =
+    words-some g (word_reserves d) (word_weighs g s l f) s.word (λ m here. word-offers-weighs g s l f d m (s.word m) here filled) some
 
 -- a caller that has reserved blocks of it is about to pop one
 before-pop :
-    (g : Geometry) (s : State) (l : Lists) (f d e class : ℕ) (share : Share) → 0 < fills g s l f d
-    → 0 < reserved_among d (before_pop e class share).credits → 0 < fills g s l f e
+    (g : Geometry) (s : State) (l : Lists) (f d e class : ℕ) (share : Share) → 0 < fills_frame g s l f d
+    → 0 < reserved_among d (holds_before_pop e class share).credits → 0 < fills_frame g s l f e
 before-pop g s l f d e class share filled some =
-    let same : e ≡ d = grind (arith, some) in subst (λ k. 0 < fills g s l f k) (sym same) filled
+    let same : e ≡ d = grind (arith, some) in subst (λ k. 0 < fills_frame g s l f k) (sym same) filled
 
 -- reserved blocks are of the one descriptor
 reserved-of : (d e blocks : ℕ) → 0 < reserved_among d (reserve e blocks) → e ≡ d
@@ -148,10 +148,10 @@ after-pop g s l who f d i more at bare lies within so hands some =
 installs-waits : (d e blocks class : ℕ) → 0 < reserved_among d (reserve e blocks) → kept_among waiting d (keep e class waiting) ≡ 0 → ⊥
 installs-waits d e blocks class some none = grind (arith, some, none)
 
--- what a sound state says of a caller at a point, where the superblock of d fills the bare frame
+-- what a sound state says of a caller at a point, where the superblock of d fills_frame the bare frame
 record Beside (g : Geometry) (s : State) (l : Lists) (who f d : ℕ) : Type 0 where
   bare : IsBare (pool_of s.history) f
-  filled : 0 < fills g s l f d
+  filled : 0 < fills_frame g s l f d
   lies : (info_for s d).frame ≡ f
 
 block-pops :
@@ -184,7 +184,7 @@ point-pops g s l who f d p b fits so hands none some = absurd (grind (arith, som
 
 -- so callers that have reserved blocks of it weigh something
 callers-pop :
-    (g : Geometry) (s : State) (l : Lists) (f d : ℕ) → IsSoundWith g s l → IsBare (pool_of s.history) f → 0 < fills g s l f d
+    (g : Geometry) (s : State) (l : Lists) (f d : ℕ) → IsSoundWith g s l → IsBare (pool_of s.history) f → 0 < fills_frame g s l f d
     → 0 < callers_sum g (errand_reserves d) s.errand → 0 < callers_sum g (errand_weighs g s l f) s.errand
 unfolding callers_sum
 callers-pop g s l f d sound bare filled some =
@@ -200,19 +200,19 @@ callers-pop g s l f d sound bare filled some =
 -- a frame that is filled, and bare
 filled-weighs :
     (g : Geometry) (s : State) (l : Lists) (f d : ℕ) → IsSoundWith g s l → IsBare (pool_of s.history) f → d < descriptor_count g
-    → 0 < fills g s l f d → 1 ≤ frame_weighs g s l f
+    → 0 < fills_frame g s l f d → 1 ≤ frame_weighs g s l f
 filled-weighs g s l f d sound bare has filled =
     let some : 1 ≤ reserved_of g s d = bare-reserved g s l f d sound bare has filled in
     elim (cases_eq (words_sum g (word_reserves d) s.word) 0) [
       | inl none ↦ omega (arith, callers-pop g s l f d sound bare filled (omega (arith, some, none)))
-      | inr offers ↦ omega (arith, words-offer g s l f d (omega (arith, offers)) filled)
+      | inr offers ↦ omega (arith, words-offer-weighs g s l f d (omega (arith, offers)) filled)
     ]
 
 -- a caller that has the frame in its hand
-held-more :
+in-hand-weighs :
     (g : Geometry) (s : State) (l : Lists) (f : ℕ)
     → callers_sum g (errand_frames f) s.errand ≤ callers_sum g (errand_weighs g s l f) s.errand
-held-more g s l f = callers-least g (errand_frames f) (errand_weighs g s l f) s.errand (λ e. omega arith)
+in-hand-weighs g s l f = callers-least g (errand_frames f) (errand_weighs g s l f) s.errand (λ e. omega arith)
 
 -- where no frame is on the stack, each bare frame weighs something
 pub bare-weighs :
@@ -223,7 +223,7 @@ bare-weighs g s l f sound empty has bare =
     let unlisted : occurs f l.frames ≡ 0 = ap (occurs f) empty in
     elim (cases_eq (callers_sum g (errand_frames f) s.errand) 0) [
       | inl none ↦
-          let (d, has_d, filled) = some-term (descriptor_count g) (fills g s l f) (omega (arith, once, unlisted, none)) in
+          let (d, has_d, filled) = some-term (descriptor_count g) (fills_frame g s l f) (omega (arith, once, unlisted, none)) in
           filled-weighs g s l f d sound bare has_d filled
-      | inr some ↦ omega (arith, some, held-more g s l f)
+      | inr some ↦ omega (arith, some, in-hand-weighs g s l f)
     ]

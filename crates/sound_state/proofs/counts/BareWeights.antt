@@ -19,7 +19,7 @@ use Rattle.errand_steps.specs.declared.point.Point.{Point}
 use Rattle.errand_steps.specs.declared.point.Point.TheVariants as point
 use Rattle.errand_steps.specs.Errands.{ErrandFields}
 use Rattle.errand_steps.specs.Steps.{State}
-use Rattle.sound_state.specs.Frames.{fills, errand_frames}
+use Rattle.sound_state.specs.Frames.{fills_frame, errand_frames}
 use Rattle.sound_state.specs.Holdings.{holds_of}
 use Rattle.sound_state.specs.Lists.{Lists}
 use Rattle.sound_state.specs.Sums.{sum_below, words_sum, callers_sum}
@@ -40,20 +40,20 @@ abbrev pub popping : Point → Option ℕ
 popping (point.Block p o) = popping_block p
 popping p = None
 
--- 1 where its superblock fills the frame
+-- 1 where its superblock fills_frame the frame
 abbrev pub popping_fills : Geometry → State → Lists → ℕ → Option ℕ → ℕ
 popping_fills g s l f None = 0
-popping_fills g s l f (Some d) = fills g s l f d
+popping_fills g s l f (Some d) = fills_frame g s l f d
 
 -- how often a caller has the frame in its hand, or is about to pop a block of it
 abbrev pub errand_weighs : Geometry → State → Lists → ℕ → ErrandFields → ℕ
 errand_weighs g s l f e = errand_frames f e + popping_fills g s l f (popping e.point)
 
--- 1 where an active word holds the superblock that fills the frame
+-- 1 where an active word holds the superblock that fills_frame the frame
 abbrev pub held_fills : Geometry → State → Lists → ℕ → Option ActiveWord → ℕ
 held_fills g s l f None = 0
 held_fills g s l f (Some Null) = 0
-held_fills g s l f (Some (Held d credits)) = fills g s l f d
+held_fills g s l f (Some (Held d credits)) = fills_frame g s l f d
 
 abbrev pub word_weighs : Geometry → State → Lists → ℕ → WordName → ℕ → ℕ
 word_weighs g s l f (name.Active heap class) word = held_fills g s l f (active_of word)
@@ -63,15 +63,15 @@ word_weighs g s l f other word = 0
 abbrev pub frame_weighs : Geometry → State → Lists → ℕ → ℕ
 frame_weighs g s l f = callers_sum g (errand_weighs g s l f) s.errand + words_sum g (word_weighs g s l f) s.word
 
--- a superblock fills one frame at most
+-- a superblock fills_frame one frame at most
 fills-there : (a b : Bool) (x f : ℕ) → (if a && b && (x == f) then 1 else 0) ≤ (if x == f then 1 else 0)
 fills-there a b x f = grind (arith)
 
-fills-once : (g : Geometry) (s : State) (l : Lists) (d n : ℕ) → sum_below n (λ f. fills g s l f d) ≤ 1
+fills-once : (g : Geometry) (s : State) (l : Lists) (d n : ℕ) → sum_below n (λ f. fills_frame g s l f d) ≤ 1
 fills-once g s l d n =
     omega (
       arith,
-      sum-least n (λ f. fills g s l f d) (λ f. if (info_for s d).frame == f then 1 else 0)
+      sum-least n (λ f. fills_frame g s l f d) (λ f. if (info_for s d).frame == f then 1 else 0)
           (λ f lt. fills-there (is_bound g s l d) (waiting_of g s d == 0) (info_for s d).frame f),
       sum-once n (info_for s d).frame,
     )
@@ -84,16 +84,16 @@ any_active other = 0
 nothing-fills : (n : ℕ) → sum_below n (λ f. 0) ≤ 0
 nothing-fills n = omega (arith, sum-none n (λ f. 0) (λ f lt. refl))
 
-held-once : (g : Geometry) (s : State) (l : Lists) (n : ℕ) (o : Option ActiveWord) → sum_below n (λ f. held_fills g s l f o) ≤ 1
-held-once g s l n None = omega (arith, nothing-fills n)
-held-once g s l n (Some Null) = omega (arith, nothing-fills n)
-held-once g s l n (Some (Held d credits)) = fills-once g s l d n
+held-fills-once : (g : Geometry) (s : State) (l : Lists) (n : ℕ) (o : Option ActiveWord) → sum_below n (λ f. held_fills g s l f o) ≤ 1
+held-fills-once g s l n None = omega (arith, nothing-fills n)
+held-fills-once g s l n (Some Null) = omega (arith, nothing-fills n)
+held-fills-once g s l n (Some (Held d credits)) = fills-once g s l d n
 
-word-once :
+word-weighs-once :
     (g : Geometry) (s : State) (l : Lists) (n : ℕ) (m : WordName) (word : ℕ)
     → sum_below n (λ f. word_weighs g s l f m word) ≤ any_active m
-word-once g s l n (name.Active heap class) word = held-once g s l n (active_of word)
-word-once g s l n m word = nothing-fills n
+word-weighs-once g s l n (name.Active heap class) word = held-fills-once g s l n (active_of word)
+word-weighs-once g s l n m word = nothing-fills n
 
 -- each heap has one active word of each class
 any-class : (g : Geometry) (m : WordName) → Exists g m → any_active m ≤ sum_below CLASSES (λ class. active_one class m)
@@ -116,12 +116,12 @@ all-actives g =
     )
 
 -- so all frames weigh no more than that in active words
-words-most :
+words-weigh-most :
     (g : Geometry) (s : State) (l : Lists) (n : ℕ) → sum_below n (λ f. words_sum g (word_weighs g s l f) s.word) ≤ g.heaps * CLASSES
-words-most g s l n =
+words-weigh-most g s l n =
     omega (
       arith,
-      words-together g n (word_weighs g s l) s.word any_active (λ m exists. word-once g s l n m (s.word m)),
+      words-together g n (word_weighs g s l) s.word any_active (λ m exists. word-weighs-once g s l n m (s.word m)),
       all-actives g,
     )
 
@@ -155,10 +155,10 @@ caller-weighs g s l n e =
     )
 
 -- and none in one that has neither a frame nor a reserved block
-callers-most :
+callers-weigh-most :
     (g : Geometry) (s : State) (l : Lists) (n who : ℕ) → who < g.callers → (holds_of (s.errand who).point).frames ≡ []
     → (holds_of (s.errand who).point).credits ≡ [] → sum_below n (λ f. callers_sum g (errand_weighs g s l f) s.errand) + 1 ≤ g.callers
-callers-most g s l n who has no_frame no_credit =
+callers-weigh-most g s l n who has no_frame no_credit =
     omega (
       arith,
       callers-together g n (errand_weighs g s l) s.errand who 1 has
@@ -180,6 +180,6 @@ frames-weigh g s l who has no_frame no_credit =
     omega (
       arith,
       sum-plus g.frames (λ f. callers_sum g (errand_weighs g s l f) s.errand) (λ f. words_sum g (word_weighs g s l f) s.word),
-      callers-most g s l g.frames who has no_frame no_credit,
-      words-most g s l g.frames,
+      callers-weigh-most g s l g.frames who has no_frame no_credit,
+      words-weigh-most g s l g.frames,
     )

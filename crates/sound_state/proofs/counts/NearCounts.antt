@@ -52,21 +52,21 @@ of-class-once n class c f once =
           rw differ (omega (arith, sum-none n (λ d. 0) (λ d lt. refl)))
     ]
 
-word-once : (n class : ℕ) (w : WordName) (word : ℕ) → sum_below n (λ d. class_keeps class d w word) ≤ active_one class w + slot_one class w
-word-once n class (name.Active heap c) word =
+word-nears-once : (n class : ℕ) (w : WordName) (word : ℕ) → sum_below n (λ d. class_keeps class d w word) ≤ active_one class w + slot_one class w
+word-nears-once n class (name.Active heap c) word =
     omega (arith, of-class-once n class c (λ d. active_keeps d (active_of word)) (active-one n (active_of word)))
-word-once n class (name.Slot heap c) word = omega (arith, of-class-once n class c (λ d. if word == d + 1 then 1 else 0) (slot-once n word))
-word-once n class w word = omega (arith, sum-none n (λ d. 0) (λ d lt. refl))
+word-nears-once n class (name.Slot heap c) word = omega (arith, of-class-once n class c (λ d. if word == d + 1 then 1 else 0) (slot-once n word))
+word-nears-once n class w word = omega (arith, sum-none n (λ d. 0) (λ d lt. refl))
 
 -- so the words of the class hold two descriptors a heap
-words-most :
+words-near-most :
     (g : Geometry) (n class : ℕ) (words : WordName → ℕ) → sum_below n (λ d. words_sum g (class_keeps class d) words) ≤ 2 * g.heaps
-words-most g n class words =
+words-near-most g n class words =
     let actives = λ (k : ℕ). active_one class (word_name g k) in
     let slots = λ (k : ℕ). slot_one class (word_name g k) in
     omega (
       arith,
-      words-together g n (class_keeps class) words (λ w. active_one class w + slot_one class w) (λ w exists. word-once n class w (words w)),
+      words-together g n (class_keeps class) words (λ w. active_one class w + slot_one class w) (λ w exists. word-nears-once n class w (words w)),
       sum-plus (word_count g) actives slots,
       actives-most g class,
       slots-most g class,
@@ -87,9 +87,9 @@ credited-most n (r ∷ rs) =
 abbrev held_count : Holding → ℕ
 held_count h = length h.kept + length h.credits
 
-point-two : (p : Point) → held_count (holds_of p) ≤ 2
+point-holds-two : (p : Point) → held_count (holds_of p) ≤ 2
 unfolding holds_of
-point-two p = grind (arith)
+point-holds-two p = grind (arith)
 
 caller-most : (n : ℕ) (e : ErrandFields) → sum_below n (λ d. errand_nears d e) ≤ held_count (holds_of e.point)
 caller-most n e =
@@ -102,13 +102,13 @@ caller-most n e =
     )
 
 -- so the callers have two each, where one has none two fewer
-callers-most :
+callers-near-most :
     (g : Geometry) (n : ℕ) (errands : ℕ → ErrandFields) (who : ℕ) → who < g.callers → (holds_of (errands who).point).kept ≡ []
     → (holds_of (errands who).point).credits ≡ [] → sum_below n (λ d. callers_sum g (errand_nears d) errands) + 2 ≤ g.callers * 2
-callers-most g n errands who has no_kept no_credits =
+callers-near-most g n errands who has no_kept no_credits =
     callers-together g n errand_nears errands who 2 has
     (omega (arith, caller-most n (errands who), ap (length {A = Kept}) no_kept, ap (length {A = Reserved}) no_credits))
-    (λ e. omega (arith, caller-most n e, point-two e.point))
+    (λ e. omega (arith, caller-most n e, point-holds-two e.point))
 
 -- descriptors are near the class twice for each heap and each other caller, at most
 pub near-most :
@@ -122,6 +122,6 @@ near-most g s who class has no_kept no_credits =
     omega (
       arith,
       sum-plus n words callers,
-      words-most g n class s.word,
-      callers-most g n s.errand who has no_kept no_credits,
+      words-near-most g n class s.word,
+      callers-near-most g n s.errand who has no_kept no_credits,
     )

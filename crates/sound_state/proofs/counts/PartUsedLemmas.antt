@@ -1,8 +1,7 @@
 -- A look finds few part-used frames: each is a superblock's that is near the class.
 use Rattle.std.proofs.Common.{ℕ, zero, suc, Option, Some, None, ◌≡◌, ◌<◌, ◌≤◌, ◌+◌, List, [], ◌∷◌, refl, sym, subst, ◌∙◌, ap, arith, inl, inr, ◌⊎◌}
-use Rattle.std.specs.Prelude.{◌==◌, if◌then◌else◌, All, IsTrue}
+use Rattle.std.specs.Prelude.{◌==◌, if◌then◌else◌, IsTrue}
 use Rattle.std.proofs.lemmas.Bool.{cases_eq, cond-true, cond-false, eq-eqb, ne_eqb}
-use Rattle.std.proofs.lemmas.List.Elements.{All-head, All-tail}
 use Rattle.heap_geometry.specs.declared.geometry.Geometry.{Geometry}
 use Rattle.heap_geometry.specs.declared.limits.TheConstants.{CLASSES}
 use Rattle.heap_geometry.specs.Need.{block_count_of}
@@ -26,21 +25,14 @@ use Rattle.sound_state.specs.Keepers.{active_keeps, word_keeps, full_keeps, erra
 use Rattle.sound_state.specs.Lists.{Lists}
 use Rattle.sound_state.specs.Sound.{IsSoundWith}
 use Rattle.sound_state.specs.Sums.{sum_below, words_sum, callers_sum}
-use Rattle.sound_state.specs.Superblocks.{Superblock, superblock_of, held_back, is_there, anchor_for, info_for, offered, word_reserves, reserved_among, errand_reserves, reserved_of, errand_keeps, errand_away, away_of, waiting_of, is_bound}
+use Rattle.sound_state.specs.Superblocks.{Superblock, superblock_of, held_back, is_there, anchor_for, info_for, offered, word_reserves, reserved_among, errand_reserves, reserved_of, errand_keeps, errand_away, waiting_of, is_bound}
 use Rattle.sound_state.proofs.counts.FrameCounts.{frames-most}
 use Rattle.sound_state.proofs.counts.NearCounts.{class_keeps, credited_among, errand_nears, near_of, near-most}
+use Rattle.sound_state.proofs.shared.HasLemmas.{bound-away}
 use Rattle.sound_state.proofs.shared.KeptCounts.{kept-named}
+use Rattle.sound_state.proofs.shared.ListFacts.{occurring-all}
 use Rattle.sound_state.proofs.shared.WeightSums.{words-least, words-some, callers-least, callers-some}
 use Rattle.sound_state.proofs.shared.SumLemmas.{sum-none, sum-plus, sum-least}
-
--- what occurs in a list is as all of the list are
-pub occurring-all : (P : ℕ → Type 0) (d : ℕ) (xs : List ℕ) → All P xs → 1 ≤ occurs d xs → P d
-occurring-all P d [] all some = absurd (omega (arith, some))
-occurring-all P d (x ∷ xs) all some =
-    elim (cases_eq x d) [
-      | inl same ↦ subst P same (All-head P x xs all)
-      | inr differ ↦ occurring-all P d xs (All-tail P x xs all) (omega (arith, some, cond-false {A = ℕ} (x == d) 1 0 (ne_eqb x d differ)))
-    ]
 
 -- a superblock's active word or slot is one of its class
 active-held : (d : ℕ) (o : Option ActiveWord) → (active_keeps d o ≡ 0) ⊎ ((credits : ℕ) × (o ≡ Some (Held d credits)))
@@ -83,12 +75,12 @@ words-near g s l class d sound is = words-least g (word_keeps d) (class_keeps cl
 offered-held : (d : ℕ) (o : Option ActiveWord) → 1 ≤ offered d o → 1 ≤ active_keeps d o
 offered-held d o some = grind (arith, some)
 
-word-offers : (d : ℕ) (n : WordName) (word : ℕ) → 0 < word_reserves d n word → 1 ≤ word_keeps d n word
-word-offers d (name.Active heap c) word some = offered-held d (active_of word) (omega (arith, some))
-word-offers d n word some = absurd (omega (arith, some))
+word-offers-kept : (d : ℕ) (n : WordName) (word : ℕ) → 0 < word_reserves d n word → 1 ≤ word_keeps d n word
+word-offers-kept d (name.Active heap c) word some = offered-held d (active_of word) (omega (arith, some))
+word-offers-kept d n word some = absurd (omega (arith, some))
 
-words-offer : (g : Geometry) (d : ℕ) (words : WordName → ℕ) → 0 < words_sum g (word_reserves d) words → 1 ≤ words_sum g (word_keeps d) words
-words-offer g d words some = words-some g (word_reserves d) (word_keeps d) words (λ n. word-offers d n (words n)) some
+words-offer-kept : (g : Geometry) (d : ℕ) (words : WordName → ℕ) → 0 < words_sum g (word_reserves d) words → 1 ≤ words_sum g (word_keeps d) words
+words-offer-kept g d words some = words-some g (word_reserves d) (word_keeps d) words (λ n. word-offers-kept d n (words n)) some
 
 -- a caller that has reserved blocks of d is near
 credits-near : (d : ℕ) (rs : List Reserved) → 0 < reserved_among d rs → 1 ≤ credited_among d rs
@@ -153,10 +145,6 @@ some-chain next (suc k) a i some = omega arith
 some-held : (b : Superblock) (i : ℕ) → held_back b i ≤ b.waiting
 some-held b i = grind (arith)
 
--- a descriptor that has a superblock isn't away
-bound-away : (g : Geometry) (s : State) (l : Lists) (d : ℕ) → IsTrue (is_bound g s l d) → away_of g s l d ≡ 0
-bound-away g s l d bound = grind (arith, bound)
-
 -- so a superblock of the class with a block that isn't live is near
 pub unlive-near :
     (g : Geometry) (s : State) (l : Lists) (class d i : ℕ) → IsSoundWith g s l → l.partials class ≡ [] → d < descriptor_count g
@@ -179,7 +167,7 @@ unlive-near g s l class d i sound bare has bound is below unlive =
             | inl nobody ↦
                 elim (cases_eq (words_sum g (word_reserves d) s.word) 0) [
                   | inl callers ↦ omega (arith, callers-reserve g d s.errand (omega (arith, free, nobody, callers)))
-                  | inr offers ↦ omega (arith, words, words-offer g d s.word (omega (arith, offers)))
+                  | inr offers ↦ omega (arith, words, words-offer-kept g d s.word (omega (arith, offers)))
                 ]
             | inr some ↦
                 omega (

@@ -39,9 +39,9 @@ use Rattle.errand_steps.specs.Steps.{State, found_at}
 use Rattle.sound_state.specs.Holdings.{Holding, holds_of, stack_holds, onward_holds}
 use Rattle.sound_state.specs.Lists.{Lists}
 use Rattle.sound_state.specs.Sound.{IsSoundWith, TellsCounted}
-use Rattle.sound_state.proofs.quiet.QuietLemmas.{found_from}
 use Rattle.sound_state.proofs.shared.PointLemmas.{fits-at}
-use Rattle.sound_state.proofs.tellings.ConfirmSteps.{stacked-none}
+use Rattle.sound_state.proofs.shared.StackedLemmas.{stacked-none}
+use Rattle.sound_state.proofs.shared.StepLemmas.{found_from}
 
 -- an event has its number, if there is one
 abbrev HasCount : Geometry → Pool → Option Event → Type 0

@@ -1,6 +1,6 @@
 -- A won push of a retired descriptor onto the available ones keeps the state sound.
 use Rattle.std.proofs.Common.{ℕ, Bool, true, false, None, Some, ◌≡◌, ◌<◌, ◌≤◌, ◌+◌, ◌^◌, List, [], ◌∷◌, zero, suc, length, refl, arith, ap, sym, subst, inl, inr, ◌∙◌}
-use Rattle.std.specs.Prelude.{◌==◌, ◌&&◌, not, All, Any, Contains, IsTrue, IfSome, if◌then◌else◌}
+use Rattle.std.specs.Prelude.{◌==◌, not, All, Any, Contains, IsTrue, IfSome, if◌then◌else◌}
 use Rattle.std.proofs.lemmas.Bool.{cases_eq, cond-true, cond-false, eq-eqb, ne_eqb}
 use Rattle.std.proofs.lemmas.List.Elements.{All-nil, All-cons, All-head, All-tail}
 use Rattle.heap_geometry.specs.declared.geometry.Geometry.{Geometry}
@@ -38,18 +38,18 @@ use Rattle.sound_state.specs.Keepers.{IsWithout, IsKeptAs}
 use Rattle.sound_state.specs.Lists.{Lists}
 use Rattle.sound_state.specs.Recalls.{IsSo, IsOwned, says, recalls_of, resumed_recalls}
 use Rattle.sound_state.specs.Sound.{IsSoundWithoutCounts, IsSoundWith}
+use Rattle.sound_state.specs.TurnStages.{turn_stage_of, in_turn, lacks_frame, lacks_partial, lacks_answer, is_unneeded}
 use Rattle.sound_state.specs.Stock.{waits_in}
-use Rattle.sound_state.specs.Turns.{one_if, in_turn, has_frame, has_partial, has_refused, is_discarding_at, pops_left}
-use Rattle.sound_state.proofs.shared.AlikeLemmas.{MayGoOn, Excepts}
+use Rattle.sound_state.specs.Turns.{one_if, pops_left}
 use Rattle.sound_state.proofs.descriptors.DescEffects.{IsOfListed}
-use Rattle.sound_state.proofs.shared.ShownLemmas.{sound-but_one, sound-shown, with_available}
+use Rattle.sound_state.proofs.shared.ShownLemmas.{sound-but_one, sound-shown, with_available, Excepts, MayGoOn}
 use Rattle.sound_state.proofs.descriptors.DescRecalls.{recalls-pushed}
 use Rattle.sound_state.proofs.descriptors.DescWeighs.{ListWeighs, restocks-by}
-use Rattle.sound_state.proofs.hazards.HazardLemmas.{plain-guards, name-below}
+use Rattle.sound_state.proofs.hazards.HazardLemmas.{plain-guards}
 use Rattle.sound_state.proofs.shared.PointLemmas.{exists-at, fits-at, so-at, hazard-at}
 use Rattle.sound_state.proofs.quiet.QuietDescs.{push_desc_lost-sound}
-use Rattle.sound_state.proofs.quiet.QuietLemmas.{found_from}
-use Rattle.sound_state.proofs.shared.StepLemmas.{raised-least, raised-below}
+use Rattle.sound_state.proofs.shared.StepLemmas.{raised-least, raised-below, found_from}
+use Rattle.sound_state.proofs.shared.WordFacts.{name-below}
 
 -- where a call goes on after a retirement, and how many turns it has begun then
 abbrev pub resumed_point : ErrandFields → SeatFields → Onward → Point
@@ -77,7 +77,7 @@ unfolding settle_of course_of
 settle-pushed e x seat d o is = rw is refl
 
 -- a point at which a caller holds, remembers, pushes and scans nothing
-pub record IsBare (q : Point) : Type 0 where
+pub record IsBarePoint (q : Point) : Type 0 where
   pub holds : holds_of q ≡ nothing
   pub recalls : recalls_of q ≡ []
   pub waits : (class : ℕ) → waits_in class q ≡ 0
@@ -90,24 +90,24 @@ pub record IsBare (q : Point) : Type 0 where
 pub record TurnResumes (p q : Point) (turns turns' : ℕ) : Type 0 where
   pub under_way : one_if (in_turn q) + turns ≤ one_if (in_turn p) + turns'
   pub lost :
-      turns' + one_if (in_turn q && is_discarding_at q) + one_if (in_turn p && not (has_refused p))
-      ≤ turns + one_if (in_turn p && is_discarding_at p) + one_if (in_turn q && not (has_refused q))
+      turns' + one_if (is_unneeded (turn_stage_of q)) + one_if (lacks_answer (turn_stage_of p))
+      ≤ turns + one_if (is_unneeded (turn_stage_of p)) + one_if (lacks_answer (turn_stage_of q))
   pub unframed :
-      one_if (in_turn q && not (has_frame q)) + turns ≤ one_if (in_turn p && not (has_frame p)) + turns'
+      one_if (lacks_frame (turn_stage_of q)) + turns ≤ one_if (lacks_frame (turn_stage_of p)) + turns'
   pub pops :
-      pops_left q + one_if (in_turn q && not (has_partial q)) + turns
-      ≤ pops_left p + one_if (in_turn p && not (has_partial p)) + turns'
+      pops_left q + one_if (lacks_partial (turn_stage_of q)) + turns
+      ≤ pops_left p + one_if (lacks_partial (turn_stage_of p)) + turns'
 
 -- the next turn begins, or the call ends where none is left
 abbrev turn_next : Bool → SeatFields → ℕ → Next
 turn_next b seat words = if b then End reply.Spent else At (Block (block.LoadActive seat) (onward.Alloc words))
 
-turn-bare : (b : Bool) (seat : SeatFields) (words : ℕ) → IsBare (point_after (turn_next b seat words))
+turn-bare : (b : Bool) (seat : SeatFields) (words : ℕ) → IsBarePoint (point_after (turn_next b seat words))
 unfolding holds_of recalls_of
 turn-bare true seat words = grind (arith)
 turn-bare false seat words = grind (arith)
 
-resumed-bare : (e : ErrandFields) (seat : SeatFields) (o : Onward) → IsTrue (resumes o) → IsBare (resumed_point e seat o)
+resumed-bare : (e : ErrandFields) (seat : SeatFields) (o : Onward) → IsTrue (resumes o) → IsBarePoint (resumed_point e seat o)
 unfolding holds_of recalls_of
 resumed-bare e seat (onward.Turn words) is = turn-bare (is_spent e) seat words
 resumed-bare e seat o is = grind (arith, is)
@@ -157,7 +157,7 @@ All-at P d xs all (k, within, is) = subst P is (all k d within)
 
 pub push-weighs :
     (l : Lists) (seat : SeatFields) (d top : ℕ) (o : Onward) (e : ErrandFields) (x : Found) → e.point ≡ Desc (desc.PushDesc seat d top) o
-    → Contains e.retired d → IsBare (resumed_point e seat o) → ListWeighs l (d ∷ l.available) e (pushed_errand e x seat d o)
+    → Contains e.retired d → IsBarePoint (resumed_point e seat o) → ListWeighs l (d ∷ l.available) e (pushed_errand e x seat d o)
 unfolding holds_of
 push-weighs l seat d top o e x at listed bare = record {
   reserves = λ k. rw (at, bare.holds) refl;
@@ -170,14 +170,14 @@ push-weighs l seat d top o e x at listed bare = record {
 }
 
 -- a caller's turns are few
-turns-below : (g : Geometry) (e : ErrandFields) → e.geometry ≡ g → IsErrand e → e.turns + 1 < 2 ^ 64
-turns-below g e same rule = omega (arith, rule.turns, rule.geometry.turn_limit)
+own-turns-below : (g : Geometry) (e : ErrandFields) → e.geometry ≡ g → IsErrand e → e.turns + 1 < 2 ^ 64
+own-turns-below g e same rule = omega (arith, rule.turns, rule.geometry.turn_limit)
 
 -- the caller may go on so
 push-may :
     (g : Geometry) (s : State) (l : Lists) (who : ℕ) (seat : SeatFields) (d : ℕ) (o : Onward) (x : Found) → IsSoundWith g s l
     → who < g.callers → x.value < 2 ^ 64 → settle_of (s.errand who) x ≡ pushed_errand (s.errand who) x seat d o
-    → counts_cleared (s.errand who).point x ≡ false → IsBare (resumed_point (s.errand who) seat o)
+    → counts_cleared (s.errand who).point x ≡ false → IsBarePoint (resumed_point (s.errand who) seat o)
     → TurnResumes (s.errand who).point (resumed_point (s.errand who) seat o) (s.errand who).turns (resumed_turns (s.errand who) seat o)
     → ((place : ℕ) → Excepts (s.errand who) place → ⊥) → MayGoOn g s l who (s.errand who) (pushed_errand (s.errand who) x seat d o)
 push-may g s l who seat d o x old has word after still bare turn excepts =
@@ -254,7 +254,7 @@ push_desc_won-sound g s who s' seat d top o sound has at won step =
     let exists : d < descriptor_count g = fits.point.desc.desc in
     let bare = resumed-bare (s.errand who) seat o fits.goes in
     let small : (s.errand who).turns + 1 < 2 ^ 64 =
-    turns-below g (s.errand who) own.geometry own.rule in
+    own-turns-below g (s.errand who) own.geometry own.rule in
     let turn =
     subst (λ r. TurnResumes r (resumed_point (s.errand who) seat o) (s.errand who).turns (resumed_turns (s.errand who) seat o)) (sym at)
     (resumed-turns (s.errand who) seat d top o fits.goes small) in

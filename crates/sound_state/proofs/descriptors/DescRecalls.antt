@@ -33,7 +33,7 @@ use Rattle.sound_state.specs.Sound.{IsSoundWith}
 use Rattle.sound_state.specs.Sums.{sum_below, callers_sum}
 use Rattle.sound_state.specs.Superblocks.{kept_among, errand_keeps}
 use Rattle.sound_state.proofs.descriptors.DescEffects.{IsNoDescHead, IsOfListed}
-use Rattle.sound_state.proofs.hazards.HazardLemmas.{contains-occurs}
+use Rattle.sound_state.proofs.shared.ListFacts.{contains-occurs}
 use Rattle.sound_state.proofs.shared.PointLemmas.{fits-at}
 use Rattle.sound_state.proofs.shared.SumLemmas.{sum-plus, sum-least, term-sum}
 use Rattle.sound_state.proofs.shared.RecallTables.{for-each}
@@ -59,10 +59,10 @@ held-onward seat (onward.Remove d heap) = (inl refl, tt)
 held-onward seat (onward.Retire d) = (inr (keeps-it d seat.class), tt)
 held-onward seat o = grind (arith)
 
-held-more : (i : ℕ) (seat : SeatFields) (o : Onward) → AllByRecursion (IsHeld (with_partial i seat.class (onward_holds seat o))) (onward_recalls seat o)
-held-more i seat (onward.Remove d heap) = (inl refl, tt)
-held-more i seat (onward.Retire d) = (inr (omega (arith, keeps-it d seat.class)), tt)
-held-more i seat o = grind (arith)
+onward-held-too : (i : ℕ) (seat : SeatFields) (o : Onward) → AllByRecursion (IsHeld (with_partial i seat.class (onward_holds seat o))) (onward_recalls seat o)
+onward-held-too i seat (onward.Remove d heap) = (inl refl, tt)
+onward-held-too i seat (onward.Retire d) = (inr (omega (arith, keeps-it d seat.class)), tt)
+onward-held-too i seat o = grind (arith)
 
 held-stack : (p : StackPoint) (o : Onward) → AllByRecursion (IsHeld (stack_holds p o)) (stack_recalls p o)
 held-stack (stack.LoadTop seat pile) o = held-onward seat o
@@ -70,11 +70,11 @@ held-stack (stack.LoadBelow seat pile h) o = (tt, held-onward seat o)
 held-stack (stack.PopTop seat pile h below) o = (tt, (tt, held-onward seat o))
 held-stack (stack.ConfirmEmpty seat pile h) o = held-onward seat o
 held-stack (stack.LoadTopToPush seat Frames i) o = held-onward seat o
-held-stack (stack.LoadTopToPush seat Partials i) o = held-more i seat o
+held-stack (stack.LoadTopToPush seat Partials i) o = onward-held-too i seat o
 held-stack (stack.StoreBelow seat Frames i h) o = (tt, held-onward seat o)
-held-stack (stack.StoreBelow seat Partials i h) o = (tt, held-more i seat o)
+held-stack (stack.StoreBelow seat Partials i h) o = (tt, onward-held-too i seat o)
 held-stack (stack.PushTop seat Frames i h) o = (tt, (tt, held-onward seat o))
-held-stack (stack.PushTop seat Partials i h) o = (tt, (tt, held-more i seat o))
+held-stack (stack.PushTop seat Partials i h) o = (tt, (tt, onward-held-too i seat o))
 held-stack p o = tt
 
 -- a free that clears its hazard word
@@ -88,13 +88,13 @@ held-clear seat o goes = grind (arith)
 held-resumed : (h : Holding) (seat : SeatFields) (o : Onward) → AllByRecursion (IsHeld h) (resumed_recalls seat o)
 held-resumed h seat o = grind (arith)
 
-held-desc : (p : DescPoint) (o : Onward) → IsTrue (goes_desc p o) → AllByRecursion (IsHeld (desc_holds p o)) (desc_recalls p o)
-held-desc (desc.PopDesc seat d next) o goes = (inl refl, (tt, tt))
-held-desc (desc.ClearHazard seat) o goes = held-clear seat o goes
-held-desc p o goes = grind (arith, held-resumed)
+desc-recalls-held : (p : DescPoint) (o : Onward) → IsTrue (goes_desc p o) → AllByRecursion (IsHeld (desc_holds p o)) (desc_recalls p o)
+desc-recalls-held (desc.PopDesc seat d next) o goes = (inl refl, (tt, tt))
+desc-recalls-held (desc.ClearHazard seat) o goes = held-clear seat o goes
+desc-recalls-held p o goes = grind (arith, held-resumed)
 
 held-partial : (p : PartialPoint) (o : Onward) → AllByRecursion (IsHeld (partial_holds p o)) (partial_recalls p o)
-held-partial (partial.PutSlot seat i heap) o = held-more i seat o
+held-partial (partial.PutSlot seat i heap) o = onward-held-too i seat o
 held-partial (partial.LoadHeldSlot seat d heap) o = (inl refl, tt)
 held-partial (partial.RemoveFromSlot seat d heap) o = (inl refl, tt)
 held-partial p o = grind (arith)
@@ -110,7 +110,7 @@ unfolding holds_of recalls_of
 held-at g who Idle fits = tt
 held-at g who (Block p o) fits = held-block (holds_of (Block p o)) p
 held-at g who (Stack p o) fits = held-stack p o
-held-at g who (Desc p o) fits = held-desc p o fits.goes
+held-at g who (Desc p o) fits = desc-recalls-held p o fits.goes
 held-at g who (Partial p o) fits = held-partial p o
 held-at g who (Large p o) fits = held-large (holds_of (Large p o)) p
 
@@ -144,17 +144,17 @@ module _
   pushed-forgotten pushes (inr is) = retired-unkept is
 
   -- and what others remember stays so when it is put in front of the available ones
-  pushed-listed :
+  available-pushed :
       pushed_by (s.errand who).point ≡ Some d → (k : ℕ) → Has (holds_of (s.errand i).point) k → occurs k (d ∷ l.available) ≤ occurs k l.available
-  pushed-listed pushes k keeps =
+  available-pushed pushes k keeps =
       elim (cases_eq d k) [
         | inl same ↦ absurd (pushed-forgotten pushes (subst (Has (holds_of (s.errand i).point)) (sym same) keeps))
         | inr differ ↦ omega (arith, cond-false {A = ℕ} (d == k) 1 0 (ne_eqb d k differ))
       ]
 
   one-pushed : pushed_by (s.errand who).point ≡ Some d → (r : Recall) → IsHeld (holds_of (s.errand i).point) r → IsOfListed l (d ∷ l.available) r
-  one-pushed pushes (emptied k) h = pushed-listed pushes k h
-  one-pushed pushes (noted k next) h = pushed-listed pushes k h
+  one-pushed pushes (emptied k) h = available-pushed pushes k h
+  one-pushed pushes (noted k next) h = available-pushed pushes k h
   one-pushed pushes (says n w) h = h
   one-pushed pushes r h = tt
 

@@ -30,14 +30,14 @@ use Rattle.sound_state.specs.Recalls.{IsSo, IsOwned, noted, looked, recalls_of}
 use Rattle.sound_state.specs.Sound.{IsSoundWithoutCounts}
 use Rattle.sound_state.specs.Superblocks.{kept_among}
 use Rattle.sound_state.proofs.descriptors.DescEffects.{IsOfListed}
+use Rattle.sound_state.proofs.shared.HasLemmas.{ways-one}
 use Rattle.sound_state.proofs.shared.ShownLemmas.{sound-but_one, sound-shown, with_available}
 use Rattle.sound_state.proofs.descriptors.DescRecalls.{recalls-popped}
 use Rattle.sound_state.proofs.descriptors.DescWeighs.{ListWeighs, restocks-by}
 use Rattle.sound_state.proofs.hazards.HazardLemmas.{plain-guards, leads-at}
 use Rattle.sound_state.proofs.shared.PointLemmas.{exists-at, so-at, hazard-at, kept_places}
 use Rattle.sound_state.proofs.quiet.QuietDescs.{pop_desc_lost-sound}
-use Rattle.sound_state.proofs.quiet.QuietLemmas.{found_from}
-use Rattle.sound_state.proofs.shared.StepLemmas.{PointStands, TurnGoes, at_point, may-after}
+use Rattle.sound_state.proofs.shared.StepLemmas.{PointStands, TurnGoes, at_point, may-after, found_from}
 
 -- a stack whose top names a descriptor begins with it
 pub first-of :
@@ -46,10 +46,6 @@ first-of next d [] stack = let bad : ⊥ = omega (arith, stack) in absurd bad
 first-of next d (x ∷ xs) stack =
     let same : x ≡ d = omega (arith, stack.0) in
     (xs, ap (λ k. k ∷ xs) same, subst (λ k. Stacked next (next k) xs) same stack.1)
-
--- one descriptor on its way
-ways-one : (d k c : ℕ) → kept_among on_its_way d (keep k c on_its_way) ≡ (if k == d then 1 else 0)
-ways-one d k c = grind (arith)
 
 waits-none : (d k c : ℕ) → kept_among waiting d (keep k c on_its_way) ≡ 0
 waits-none d k c = grind (arith)
@@ -77,12 +73,12 @@ pop-weighs l seat d next o ys e x at is = record {
 pub pop-turns : (seat : SeatFields) (d next : ℕ) (o : Onward) → TurnGoes (Desc (desc.PopDesc seat d next) o) (Desc (desc.ClearAfterPop seat d) o)
 pop-turns seat d next o = grind (arith)
 
-pop-stands :
+pop_desc-stands :
     (g : Geometry) (s : State) (l : Lists) (who : ℕ) (seat : SeatFields) (d next : ℕ) (o : Onward) → IsWithout s d
     → All (IsSo g s l who) (looked seat.class ∷ [])
     → PointStands g s l who (Desc (desc.PopDesc seat d next) o) (Desc (desc.ClearAfterPop seat d) o)
 unfolding holds_of recalls_of
-pop-stands g s l who seat d next o without so = record {
+pop_desc-stands g s l who seat d next o without so = record {
   kept =
       All-cons (λ k. IsKeptAs s k.status k.desc k.class) (record { desc = d; class = seat.class; status = on_its_way }) [] without
       (All-nil (λ (k : Kept). IsKeptAs s k.status k.desc k.class));
@@ -126,7 +122,7 @@ pop_desc_won-sound g s who s' seat d next o sound has at won step =
     let exist : All (λ k. k < descriptor_count g) (d ∷ ys) = subst (All (λ k. k < descriptor_count g)) is old.listed.available_exist in
     let stands : PointStands g s l who (s.errand who).point q =
     subst (λ r. PointStands g s l who r q) (sym at)
-    (pop-stands g s l who seat d next o (All-head (IsWithout s) d ys without) (All-tail (IsSo g s l who) (noted d next) (looked seat.class ∷ []) so)) in
+    (pop_desc-stands g s l who seat d next o (All-head (IsWithout s) d ys without) (All-tail (IsSo g s l who) (noted d next) (looked seat.class ∷ []) so)) in
     let cleared : counts_cleared (s.errand who).point (found_at s who) ≡ false =
     subst (λ r. counts_cleared r (found_at s who) ≡ false) (sym at) refl in
     let guards =

@@ -22,10 +22,9 @@ use Rattle.sound_state.specs.Recalls.{recalls_of}
 use Rattle.sound_state.specs.Sound.{IsSoundWith}
 use Rattle.sound_state.specs.Stock.{word_stock, errand_stock}
 use Rattle.sound_state.specs.Superblocks.{word_reserves, errand_reserves, errand_keeps, errand_away, away_of}
-use Rattle.sound_state.proofs.shared.AlikeLemmas.{MayGoOn, MayGuard}
 use Rattle.sound_state.proofs.descriptors.DescEffects.{IsNoDescHead, IsOfListed, stays-listed}
 use Rattle.sound_state.proofs.shared.StepLemmas.{words-below}
-use Rattle.sound_state.proofs.shared.ShownLemmas.{IsShown, ShowsSame, actives-same, with_available}
+use Rattle.sound_state.proofs.shared.ShownLemmas.{IsShown, ShowsSame, actives-same, with_available, MayGoOn, MayGuard}
 use Rattle.sound_state.proofs.shared.TurnEffects.{emptied-kept}
 use Rattle.sound_state.proofs.shared.WeighLemmas.{full-same}
 use Rattle.sound_state.proofs.shared.SumLemmas.{words-written, callers-moved}

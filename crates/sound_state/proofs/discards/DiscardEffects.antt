@@ -1,5 +1,5 @@
 -- A lost install: what it changes, and that everything else stays.
-use Rattle.std.proofs.Common.{ℕ, true, false, None, ◌≡◌, ◌<◌, ◌≤◌, ◌+◌, [], length}
+use Rattle.std.proofs.Common.{ℕ, None, ◌≡◌, ◌<◌, ◌≤◌, ◌+◌, [], length}
 use Rattle.std.specs.Prelude.{◌⊎◌, IsTrue}
 use Rattle.heap_geometry.specs.declared.geometry.Geometry.{Geometry}
 use Rattle.word_plan.specs.declared.name.WordName.{WordName}
@@ -15,16 +15,16 @@ use Rattle.sound_state.specs.Holdings.{making, holds_of}
 use Rattle.sound_state.specs.Lists.{Lists}
 use Rattle.sound_state.specs.Recalls.{IsLocated, recalls_of}
 use Rattle.sound_state.specs.Sound.{IsOwnErrand}
+use Rattle.sound_state.specs.TurnStages.{turn_stage_of, not_needed}
 use Rattle.sound_state.specs.Stock.{waits_in}
 use Rattle.sound_state.specs.Superblocks.{anchor_for, is_bound}
-use Rattle.sound_state.specs.Turns.{in_turn, has_frame, has_partial, has_refused, pops_left}
-use Rattle.sound_state.proofs.installs.InstallEffects.{StandsFramed, installing_holds}
+use Rattle.sound_state.specs.Turns.{pops_left}
+use Rattle.sound_state.proofs.shared.MakingWeights.{installing_holds}
+use Rattle.sound_state.proofs.shared.TurnEffects.{StandsFramed}
 
 -- a point at which a caller pushes the frame of a superblock that isn't needed
 pub record StandsDiscarding (p : Point) : Type 0 where
-  pub turn : in_turn p ≡ true
-  pub frame : has_frame p ≡ true
-  pub refused : has_refused p ≡ false
+  pub stage : turn_stage_of p ≡ not_needed
   pub pops : pops_left p ≡ 0
   pub waits : (class : ℕ) → waits_in class p ≡ 0
   pub pushed : pushed_by p ≡ None
@@ -51,5 +51,4 @@ pub record Discards (g : Geometry) (s : State) (l : Lists) (who : ℕ) (at : Sit
   pub holds_after : holds_of e.point ≡ making at
   pub recalls_after : recalls_of e.point ≡ []
   pub stands_before : StandsFramed (s.errand who).point
-  pub unlisted : has_partial (s.errand who).point ≡ false
   pub stands_after : StandsDiscarding e.point

@@ -17,15 +17,13 @@ use Rattle.sound_state.specs.Lists.{Lists}
 use Rattle.sound_state.specs.Sound.{IsSoundWith}
 use Rattle.sound_state.specs.Sums.{sum_below, callers_sum}
 use Rattle.sound_state.specs.Superblocks.{IsChained, info_for, superblock_of, is_bound, away_of, waiting_of, reserved_of, word_reserves, errand_reserves, reserved_among, errand_keeps}
-use Rattle.sound_state.proofs.installs.InstallFacts.{there-none}
 use Rattle.sound_state.proofs.discards.DiscardEffects.{Discards}
-use Rattle.sound_state.proofs.installs.InstallEffects.{installing_holds}
-use Rattle.sound_state.proofs.installs.InstallKept.{SameDescs}
+use Rattle.sound_state.proofs.shared.KeptLemmas.{SameDescs}
+use Rattle.sound_state.proofs.shared.OverlapLemmas.{there-none}
 use Rattle.sound_state.proofs.shared.SumLemmas.{term-sum, words-same, two-terms}
-pub use Rattle.sound_state.proofs.shared.MakingWeights.{is_it, it-elsewhere as it-isnt}
 use Rattle.sound_state.proofs.shared.HoldingEffects.{HoldingEffects, waits-go, ways-go, credits-go, away-goes}
-use Rattle.sound_state.proofs.shared.MakingWeights.{it-here, it-elsewhere, making-ways, making-others, installing-waits, installing-others, installing-credits, installing-apart}
-use Rattle.sound_state.proofs.shared.TallyLemmas.{tally, held-once}
+use Rattle.sound_state.proofs.shared.MakingWeights.{it-here, it-elsewhere, making-ways, making-others, installing-waits, installing-others, installing-credits, installing-apart, is_it, installing_holds}
+use Rattle.sound_state.proofs.shared.TallyLemmas.{tally, held-back-once}
 use Rattle.sound_state.proofs.shared.SuperblockEffects.{LieStill, info-stays}
 
 module _ (g : Geometry) (s : State) (l : Lists) (who : ℕ) (at : Site) (e : ErrandFields) (s' : State) (h : Discards g s l who at e s') where
@@ -80,11 +78,11 @@ module _ (g : Geometry) (s : State) (l : Lists) (who : ℕ) (at : Site) (e : Err
 
   pub discarded-waited : IsSoundWith g s l → waiting_of g s at.desc ≡ 1
   discarded-waited is =
-      (held-once (superblock_of g s at.desc) (chain-at is) (omega (arith, discarded-waits at.desc, it-here at))).2
+      (held-back-once (superblock_of g s at.desc) (chain-at is) (omega (arith, discarded-waits at.desc, it-here at))).2
 
   -- what its caller has reserved of it is all but one block, which is held back
-  had-reserved : errand_reserves at.desc (s.errand who) ≡ new_credits at.seat.class + 1
-  had-reserved = ap (λ x. reserved_among at.desc x.credits) h.holds_before ∙ installing-credits at
+  discarding-reserved : errand_reserves at.desc (s.errand who) ≡ new_credits at.seat.class + 1
+  discarding-reserved = ap (λ x. reserved_among at.desc x.credits) h.holds_before ∙ installing-credits at
 
   all-reserved :
       IsSoundWith g s l
@@ -99,7 +97,7 @@ module _ (g : Geometry) (s : State) (l : Lists) (who : ℕ) (at : Site) (e : Err
       let size : b.size ≡ block_count_of c = ap block_count_of h.located.class in
       let count : b.anchor.count ≡ (block_count_of c - 1) - (new_credits c + 1) = ap (λ x. x.count) h.anchor in
       let mine = term-sum g.callers (λ j. errand_reserves at.desc (s.errand j)) who h.caller in
-      (omega (arith, all, waited, size, count, had-reserved, mine), omega (arith, all, waited, size, count, had-reserved, mine))
+      (omega (arith, all, waited, size, count, discarding-reserved, mine), omega (arith, all, waited, size, count, discarding-reserved, mine))
 
   pub others-reserve : IsSoundWith g s l → (i : ℕ) → i < g.callers → i ≢ who → errand_reserves at.desc (s.errand i) ≡ 0
   unfolding callers_sum

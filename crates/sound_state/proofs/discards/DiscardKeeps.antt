@@ -1,5 +1,5 @@
 -- A lost install keeps the lists, the descriptors, the stock, the frames, the chains, the guards and the bounds of tags and turns.
-use Rattle.std.proofs.Common.{ℕ, true, ◌≡◌, ◌≢◌, ◌<◌, ◌^◌, [], refl, arith, ap, sym, subst, inl, inr, ◌∙◌}
+use Rattle.std.proofs.Common.{ℕ, ◌≡◌, ◌≢◌, ◌<◌, ◌^◌, [], refl, arith, ap, sym, subst, inl, inr, ◌∙◌}
 use Rattle.std.proofs.Math.Path.{fun_ext}
 use Rattle.std.specs.Prelude.{All, IsTrue}
 use Rattle.std.proofs.lemmas.List.Elements.{All-nil, All-cons}
@@ -11,25 +11,26 @@ use Rattle.word_plan.specs.declared.name.WordName.TheVariants as name
 use Rattle.word_plan.specs.declared.seat.Site.{Site}
 use Rattle.errand_steps.specs.Errands.{ErrandFields}
 use Rattle.errand_steps.specs.Steps.{State}
-use Rattle.sound_state.specs.Frames.{IsFramed, fills}
+use Rattle.sound_state.specs.Frames.{IsFramed, fills_frame}
 use Rattle.sound_state.specs.Guards.{IsGuarded}
 use Rattle.sound_state.specs.Holdings.{Kept, on_its_way, holds_of}
 use Rattle.sound_state.specs.Keepers.{IsKept, IsWithout, IsKeptAs, full_keeps, word_keeps}
 use Rattle.sound_state.specs.Lists.{Lists, IsListed}
 use Rattle.sound_state.specs.Sound.{IsSoundWith}
+use Rattle.sound_state.specs.TurnStages.{not_needed}
 use Rattle.sound_state.specs.Stock.{IsStocked, full_stock, word_stock}
 use Rattle.sound_state.specs.Sums.{sum_below}
 use Rattle.sound_state.specs.Superblocks.{AreChained, superblock_of, is_bound, away_of, waiting_of}
-use Rattle.sound_state.specs.Turns.{IsTurned, turn_unlisted, emptied_out, is_discarding_at}
-use Rattle.sound_state.proofs.shared.AlikeLemmas.{each-caller}
+use Rattle.sound_state.specs.Turns.{IsTurned, turn_unlisted, emptied_out}
 use Rattle.sound_state.proofs.discards.DiscardEffects.{Discards}
 use Rattle.sound_state.proofs.discards.DiscardFacts.{discarded-holds, discarded-still, discarded-descs, discarded-away, discarded-waits, discarded-bound, discarded-unbound, discarded-was, discarded-reserved, discarded-waited}
-use Rattle.sound_state.proofs.installs.InstallKept.{active-shown, partly-shown, without-shown, kept_as-shown, waiting-fills}
-use Rattle.sound_state.proofs.installs.InstallTurns.{framed-weighs}
+use Rattle.sound_state.proofs.shared.FrameLemmas.{waiting-fills}
+use Rattle.sound_state.proofs.shared.KeptLemmas.{active-same, partly-same, without-same, kept_as-same}
+use Rattle.sound_state.proofs.shared.ShownLemmas.{each-caller}
 use Rattle.sound_state.proofs.shared.SuperblockEffects.{of-each, infos-stay, live-stays, superblock-stays, same-chained}
 use Rattle.sound_state.proofs.shared.GuardEffects.{guarded-clear}
 use Rattle.sound_state.proofs.shared.SumLemmas.{sum-same, words-same}
-use Rattle.sound_state.proofs.shared.TurnEffects.{emptied-kept, head-tag, no-event, one_if-most, turn-weighs, turned-after}
+use Rattle.sound_state.proofs.shared.TurnEffects.{emptied-kept, head-tag, no-event, stage-weighs, turned-after, framed-weighs}
 use Rattle.sound_state.proofs.shared.HoldingEffects.{places-go, stock-goes, framed-after}
 use Rattle.sound_state.proofs.shared.MakingWeights.{it-elsewhere, making-places, making-stock}
 
@@ -63,23 +64,23 @@ module _ (g : Geometry) (s : State) (l : Lists) (who : ℕ) (at : Site) (e : Err
         slot_words = rw words kept.slot_words;
         active = λ heap class d credits has_heap has_class is.
             let a = kept.active heap class d credits has_heap has_class (ap (λ w. active_of (w (name.Active heap class))) (sym words) ∙ is) in
-            (a.0, active-shown s s' same d class a.1);
+            (a.0, active-same s s' same d class a.1);
         slot = λ heap class d has_heap has_class is.
             let a = kept.slot heap class d has_heap has_class (ap (λ w. w (name.Slot heap class)) (sym words) ∙ is) in
-            (a.0, partly-shown s s' same d class a.1);
+            (a.0, partly-same s s' same d class a.1);
         full = λ d has is. ap (λ a. a.count) (same.anchor d) ∙ kept.full d has (ap (λ a. a.state) (sym (same.anchor d)) ∙ is);
-        listed = λ class has k d lt. partly-shown s s' same _ class (kept.listed class has k d lt);
-        available = λ k d lt. without-shown s s' same _ (kept.available k d lt);
+        listed = λ class has k d lt. partly-same s s' same _ class (kept.listed class has k d lt);
+        available = λ k d lt. without-same s s' same _ (kept.available k d lt);
         retired =
             each-caller g (λ i e. All (IsWithout s') e.retired) s.errand who e s'.errand h.moves
-            (subst (All (IsWithout s')) (sym h.retired) (λ k d lt. without-shown s s' same _ (kept.retired who h.caller k d lt)))
-            (λ i has k d lt. without-shown s s' same _ (kept.retired i has k d lt));
+            (subst (All (IsWithout s')) (sym h.retired) (λ k d lt. without-same s s' same _ (kept.retired who h.caller k d lt)))
+            (λ i has k d lt. without-same s s' same _ (kept.retired i has k d lt));
         errand =
             each-caller g (λ i e. All (λ k. IsKeptAs s' k.status k.desc k.class) (holds_of e.point).kept) s.errand who e s'.errand h.moves
             (subst (λ x. All (λ (k : Kept). IsKeptAs s' k.status k.desc k.class) x.kept) (sym h.holds_after)
             (All-cons (λ (k : Kept). IsKeptAs s' k.status k.desc k.class) (record { desc = at.desc; class = at.seat.class; status = on_its_way }) []
             without (All-nil (λ (k : Kept). IsKeptAs s' k.status k.desc k.class))))
-            (λ i has k d lt. kept_as-shown s s' same _ _ _ (kept.errand i has k d lt));
+            (λ i has k d lt. kept_as-same s s' same _ _ _ (kept.errand i has k d lt));
       }
 
   pub discarded-stocked : IsSoundWith g s l → IsStocked g s' l
@@ -98,8 +99,8 @@ module _ (g : Geometry) (s : State) (l : Lists) (who : ℕ) (at : Site) (e : Err
         );
   }
 
-  others-wait : (d : ℕ) → d ≢ at.desc → waiting_of g s' d ≡ waiting_of g s d
-  others-wait d differ = omega (arith, discarded-waits g s l who at e s' h d, it-elsewhere at d differ)
+  discarded-others-wait : (d : ℕ) → d ≢ at.desc → waiting_of g s' d ≡ waiting_of g s d
+  discarded-others-wait d differ = omega (arith, discarded-waits g s l who at e s' h d, it-elsewhere at d differ)
 
   -- the frame stays in the caller's hand
   pub discarded-framed : IsSoundWith g s l → IsFramed g s' l
@@ -107,10 +108,10 @@ module _ (g : Geometry) (s : State) (l : Lists) (who : ℕ) (at : Site) (e : Err
       let same = discarded-descs g s l who at e s' h in
       framed-after (discarded-holds g s l who at e s' h) l
       (λ f.
-      let now : fills g s' l f at.desc ≡ 0 = rw (discarded-unbound g s l who at e s' h) refl in
-      let was : fills g s l f at.desc ≡ 0 = waiting-fills g s l at.desc f (discarded-waited g s l who at e s' h old) in
-      of-each (λ k. fills g s' l f k ≡ fills g s l f k) at.desc (now ∙ sym was)
-      (λ d differ. rw (discarded-bound g s l who at e s' h d differ, others-wait d differ, same.info d) refl))
+      let now : fills_frame g s' l f at.desc ≡ 0 = rw (discarded-unbound g s l who at e s' h) refl in
+      let was : fills_frame g s l f at.desc ≡ 0 = waiting-fills g s l at.desc f (discarded-waited g s l who at e s' h old) in
+      of-each (λ k. fills_frame g s' l f k ≡ fills_frame g s l f k) at.desc (now ∙ sym was)
+      (λ d differ. rw (discarded-bound g s l who at e s' h d differ, discarded-others-wait d differ, same.info d) refl))
       (λ f. refl) old.framed
 
   -- all superblocks that are left keep their blocks in order
@@ -124,7 +125,7 @@ module _ (g : Geometry) (s : State) (l : Lists) (who : ℕ) (at : Site) (e : Err
             let was : IsTrue (is_bound g s l d) = subst IsTrue (discarded-bound g s l who at e s' h d differ) bound in
             let anchor = (discarded-descs g s l who at e s' h).anchor d in
             same-chained (superblock_of g s d) (superblock_of g s' d) (old.chained.chained d has was)
-            (superblock-stays still g d anchor (discarded-reserved g s l who at e s' h d differ) (others-wait d differ))
+            (superblock-stays still g d anchor (discarded-reserved g s l who at e s' h d differ) (discarded-others-wait d differ))
             (λ i lt. ap (λ f. f i) (live-stays still g h.history d));
       }
 
@@ -142,9 +143,8 @@ module _ (g : Geometry) (s : State) (l : Lists) (who : ℕ) (at : Site) (e : Err
       let p = h.stands_before in
       let q = h.stands_after in
       let before = framed-weighs (s.errand who) p in
-      let after = turn-weighs true (is_discarding_at e.point) e q.turn q.frame q.refused refl in
-      let unlisted : turn_unlisted (s.errand who) ≡ 1 = rw (p.turn, h.unlisted) refl in
-      let most = one_if-most (is_discarding_at e.point) in
+      let after = stage-weighs not_needed e q.stage refl in
+      let unlisted : turn_unlisted (s.errand who) ≡ 1 = rw p.stage refl in
       let events = no-event g who s.history s'.history h.history in
       let now : emptied_out g s' l at.desc ≡ 0 = rw (same.anchor at.desc, h.anchor) (grind (arith)) in
       let was : emptied_out g s l at.desc ≡ 0 = rw h.anchor (grind (arith)) in
@@ -170,12 +170,11 @@ module _ (g : Geometry) (s : State) (l : Lists) (who : ℕ) (at : Site) (e : Err
                     events.refuses who,
                     before.unanswered,
                     after.discards,
-                    most,
                     after.unanswered,
                     h.turns,
                     more,
                   )
-              | inr turns_most ↦ omega (arith, after.discards, most, after.unanswered, turns_most)
+              | inr turns_most ↦ omega (arith, after.discards, after.unanswered, turns_most)
             ];
         anchor_tags = λ d has. omega (arith, ap (λ x. x.tag) (same.anchor d));
         frame_turns = omega (arith, head-tag (h.words name.FrameHead), after.unframed, h.turns);

@@ -14,10 +14,11 @@ use Rattle.sound_state.specs.Lists.{Lists}
 use Rattle.sound_state.specs.Recalls.{Recall, IsRemembered, IsSo, bound_for, bound_at, pops, links, says}
 use Rattle.sound_state.specs.Sound.{IsSoundWithoutCounts, IsSoundWith}
 use Rattle.sound_state.specs.Superblocks.{anchor_for}
+use Rattle.sound_state.proofs.shared.MakingWeights.{it-elsewhere}
 use Rattle.sound_state.proofs.shared.RecallEffects.{Leaves, IsLeft, popped-steady, remembered-left}
 use Rattle.sound_state.proofs.shared.RecallTables.{IsUnbound, unbound-recalls}
 use Rattle.sound_state.proofs.discards.DiscardEffects.{Discards}
-use Rattle.sound_state.proofs.discards.DiscardFacts.{it-isnt, discarded-descs, discarded-ways, discarded-bound, discarded-reserved, others-reserve}
+use Rattle.sound_state.proofs.discards.DiscardFacts.{discarded-descs, discarded-ways, discarded-bound, discarded-reserved, others-reserve}
 use Rattle.sound_state.proofs.discards.DiscardTies.{own-apart, discarded-owned}
 
 -- an install that was lost
@@ -33,7 +34,7 @@ module _ (g : Geometry) (s : State) (l : Lists) (who : ℕ) (at : Site) (e : Err
         let differ : d ≢ at.desc =
         λ same.
         let bad : phase.Active ≡ phase.Empty = sym (ap (λ x. x.state) h.anchor) ∙ ap (λ k. (anchor_for s k).state) (sym same) ∙ so.state in cc in
-        omega (arith, discarded-ways g s l who at e s' h d, it-isnt at d differ);
+        omega (arith, discarded-ways g s l who at e s' h d, it-elsewhere at d differ);
   }
 
   discarded-left : (r : Recall) → IsUnbound at.desc r → IsLeft g s l s' r

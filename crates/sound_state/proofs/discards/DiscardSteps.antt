@@ -27,16 +27,15 @@ use Rattle.sound_state.specs.Holdings.{holds_of}
 use Rattle.sound_state.specs.Lists.{Lists}
 use Rattle.sound_state.specs.Recalls.{recalls_of}
 use Rattle.sound_state.specs.Sound.{IsSoundWithoutCounts, IsSoundWith, IsOwnErrand}
-use Rattle.sound_state.specs.Turns.{has_partial}
-use Rattle.sound_state.proofs.shared.AlikeLemmas.{each-caller}
 use Rattle.sound_state.proofs.discards.DiscardEffects.{Discards, StandsDiscarding}
 use Rattle.sound_state.proofs.discards.DiscardKeeps.{discarded-words, discarded-listed, discarded-kept, discarded-stocked, discarded-framed, discarded-chained, discarded-guarded, discarded-turned}
 use Rattle.sound_state.proofs.discards.DiscardRecalls.{discarded-remembered}
 use Rattle.sound_state.proofs.discards.DiscardTies.{discarded-tied}
-use Rattle.sound_state.proofs.installs.InstallEffects.{StandsFramed}
 use Rattle.sound_state.proofs.installs.InstallSteps.{about-to-install, install-stands, install_superblock-won}
-use Rattle.sound_state.proofs.quiet.QuietExchanges.{lost_with}
+use Rattle.sound_state.proofs.shared.CreditLemmas.{lost_with}
+use Rattle.sound_state.proofs.shared.ShownLemmas.{each-caller}
 use Rattle.sound_state.proofs.shared.StepLemmas.{at_point, words-stay}
+use Rattle.sound_state.proofs.shared.TurnEffects.{StandsFramed}
 use Rattle.sound_state.proofs.shared.WonEffects.{StepEffects, step-effects}
 
 -- where a lost install leads
@@ -95,7 +94,6 @@ install-discards g s l who s' at o sound is has here other step =
       holds_after = refl;
       recalls_after = refl;
       stands_before = subst StandsFramed (sym here) (install-stands at o);
-      unlisted = ap has_partial here;
       stands_after = discard-stands at o;
     }
 

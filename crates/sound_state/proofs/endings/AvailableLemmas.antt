@@ -15,8 +15,8 @@ use Rattle.sound_state.specs.Lists.{Lists}
 use Rattle.sound_state.specs.Sound.{IsSoundWith}
 use Rattle.sound_state.specs.Sums.{sum_below, callers_sum}
 use Rattle.sound_state.specs.Superblocks.{away_of, errand_away}
-use Rattle.sound_state.proofs.pops.PopRecalls.{occurs-all}
 use Rattle.sound_state.proofs.shared.SumLemmas.{sum-most}
+use Rattle.sound_state.proofs.shared.TallyLemmas.{occurs-all}
 
 -- they lead through a stack, where it has no more
 led-stack : (next : ℕ → ℕ) (most top : ℕ) (xs : List ℕ) → Stacked next top xs → length xs ≤ most → led_from next most top ≡ xs
@@ -42,7 +42,7 @@ available-is g s l old =
     let n = descriptor_count g in
     let most : sum_below n (λ d. occurs d l.available) ≤ n * 1 =
     sum-most n (λ d. occurs d l.available) 1 (λ d lt. omega (arith, old.kept.once d lt)) in
-    let all : length l.available ≤ sum_below n (λ d. occurs d l.available) =
+    let all : sum_below n (λ d. occurs d l.available) ≡ length l.available =
     occurs-all n l.available (λ i some. occurs-in n i l.available old.listed.available_exist some) in
     led-stack (next_in s.word Partials) n (s.word name.DescHead) l.available old.listed.available (omega (arith, most, all))
 

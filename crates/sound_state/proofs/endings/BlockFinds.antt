@@ -27,8 +27,8 @@ use Rattle.sound_state.specs.Lists.{Lists}
 use Rattle.sound_state.specs.Recalls.{IsLocated}
 use Rattle.sound_state.specs.Sound.{IsSoundWith}
 use Rattle.sound_state.specs.Superblocks.{anchor_for, is_bound}
-use Rattle.sound_state.proofs.quiet.QuietCredits.{seat-active}
-use Rattle.sound_state.proofs.quiet.QuietPushes.{prefix-ties}
+use Rattle.sound_state.proofs.shared.OwnerLemmas.{prefix-ties}
+use Rattle.sound_state.proofs.shared.WordFacts.{seat-active}
 
 -- an active word is one, and names a descriptor of the heap if it names any
 abbrev pub NamesDesc : Geometry → Option ActiveWord → Type 0

@@ -26,7 +26,7 @@ use Rattle.errand_steps.specs.Errands.{ErrandFields, counts_cleared, settle_of, 
 use Rattle.errand_steps.specs.Fits.{FitsPoint, FitsInBlock, FitsInStack, FitsInDesc, FitsInPartial}
 use Rattle.errand_steps.specs.Nexts.{next_of, enter_block, enter_stack, enter_desc, enter_partial, enter_large, resumed}
 use Rattle.sound_state.specs.Alone.{class_at}
-use Rattle.sound_state.specs.Turns.{in_turn, is_onward_giving}
+use Rattle.sound_state.specs.TurnStages.{in_turn, is_turn, onward_turn_stage}
 use Rattle.sound_state.proofs.endings.TurnWords.{next_turn, next_class, point-class}
 
 -- it was in one before
@@ -51,12 +51,12 @@ clears-turn g who (Partial p o) x fits is = grind (arith, fits.goes, is)
 clears-turn g who p x fits is = grind (arith, is)
 
 -- so it was in one, whatever its retired list says
-listed-turn : (e : ErrandFields) (s : SeatFields) (o : Onward) → in_turn (point_after (after_turn e (resumed s o))) ≡ true → is_onward_giving o ≡ true
+listed-turn : (e : ErrandFields) (s : SeatFields) (o : Onward) → in_turn (point_after (after_turn e (resumed s o))) ≡ true → is_turn (onward_turn_stage o) ≡ true
 listed-turn e s o is = grind (arith, is)
 
 picked-turn :
     (e : ErrandFields) (s : SeatFields) (o : Onward) (d : Option ℕ) → in_turn (point_after (after_turn e (picked e s o d))) ≡ true
-    → (is_onward_giving o ≡ true) ⊎ (in_turn e.point ≡ true)
+    → (is_turn (onward_turn_stage o) ≡ true) ⊎ (in_turn e.point ≡ true)
 picked-turn e s o None is = inr is
 picked-turn e s o (Some d) is = inl is
 
@@ -98,7 +98,7 @@ listed-class :
 listed-class e s o is = grind (arith, is)
 
 picked-class :
-    (e : ErrandFields) (s : SeatFields) (o : Onward) (d : Option ℕ) → (is_onward_giving o ≡ true → s.class ≡ class_at e.point)
+    (e : ErrandFields) (s : SeatFields) (o : Onward) (d : Option ℕ) → (is_turn (onward_turn_stage o) ≡ true → s.class ≡ class_at e.point)
     → in_turn (point_after (after_turn e (picked e s o d))) ≡ true → class_at (point_after (after_turn e (picked e s o d))) ≡ class_at e.point
 picked-class e s o None same is = refl
 picked-class e s o (Some d) same is = same is
@@ -117,7 +117,7 @@ settled-class e (Turn s need) same is = turned-class e s need is ∙ same refl
 settled-class e (Retire s d o) same is =
     elim (cases_Bool (is_full e)) [
       | inl full ↦
-          let went : is_onward_giving o ≡ true =
+          let went : is_turn (onward_turn_stage o) ≡ true =
           subst (λ b. in_turn (point_after (after_turn e (if b then At (Desc (desc.ReadHazard s no_words 0) o) else resumed s o))) ≡ true) full is in
           subst (λ b. class_at (point_after (after_turn e (if b then At (Desc (desc.ReadHazard s no_words 0) o) else resumed s o))) ≡ class_at e.point)
           (sym full) (same went)

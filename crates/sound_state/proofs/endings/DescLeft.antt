@@ -20,8 +20,8 @@ use Rattle.errand_steps.specs.Steps.{State}
 use Rattle.sound_state.specs.Sound.{IsSoundWithoutCounts}
 use Rattle.sound_state.specs.StepsLeft.{steps_left, frame_left, cleared_left, resumed_left}
 use Rattle.sound_state.proofs.endings.LeftDefs.{LeavesLess, exchanged, next_left}
-use Rattle.sound_state.proofs.quiet.QuietStacks.{top-exists}
 use Rattle.sound_state.proofs.shared.PointLemmas.{fits-now}
+use Rattle.sound_state.proofs.shared.StackedLemmas.{top-exists}
 use Rattle.sound_state.proofs.shared.StockLemmas.{looking-has}
 
 -- the head names a descriptor

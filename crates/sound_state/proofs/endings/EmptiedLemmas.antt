@@ -1,6 +1,6 @@
 -- How often an allocation may clear: no more superblocks than are EMPTY and out for its class, and one less after it did.
 use Rattle.std.proofs.Common.{ℕ, zero, suc, Bool, true, false, ◌≡◌, ◌<◌, ◌≤◌, ◌+◌, [], refl, arith, ap, sym, subst, inl, inr, ◌∙◌}
-use Rattle.std.specs.Prelude.{◌==◌, ◌&&◌, if◌then◌else◌}
+use Rattle.std.specs.Prelude.{◌==◌, ◌&&◌, if◌then◌else◌, count_by}
 use Rattle.std.proofs.lemmas.Bool.{cases_eq, cases_Bool, true≢false, eq-eqb, cond-true}
 use Rattle.std.proofs.lemmas.List.Elements.{All-head}
 use Rattle.heap_geometry.specs.declared.geometry.Geometry.{Geometry}
@@ -23,9 +23,10 @@ use Rattle.sound_state.specs.Holdings.{partly_used, holds_of}
 use Rattle.sound_state.specs.Lists.{Lists}
 use Rattle.sound_state.specs.Recalls.{IsSo, located, recalls_of}
 use Rattle.sound_state.specs.Sound.{IsSoundWithoutCounts, IsSoundWith}
+use Rattle.sound_state.specs.TurnStages.{in_turn}
 use Rattle.sound_state.specs.Sums.{sum_below, callers_sum}
 use Rattle.sound_state.specs.Superblocks.{anchor_for, info_for, errand_away, errand_keeps, away_of}
-use Rattle.sound_state.specs.Turns.{in_turn, one_if}
+use Rattle.sound_state.specs.Turns.{one_if, cleared_of, is_small_free, emptied_out}
 use Rattle.sound_state.proofs.endings.AvailableLemmas.{away-is}
 use Rattle.sound_state.proofs.endings.TurnAway.{LeavesOut, step-leaves-out, away_after, next-away}
 use Rattle.sound_state.proofs.endings.TurnWords.{next_ways}
@@ -34,6 +35,7 @@ use Rattle.sound_state.proofs.shared.HasLemmas.{keeps-at, kept-itself, keeps-nea
 use Rattle.sound_state.proofs.shared.PointLemmas.{fits-at, so-at}
 use Rattle.sound_state.proofs.shared.StepLemmas.{found_from}
 use Rattle.sound_state.proofs.shared.SumLemmas.{sum-least, term-sum}
+use Rattle.sound_state.proofs.shared.TurnEffects.{one_if-most}
 
 -- terms that are no more, and one that is less
 sum-less :
@@ -69,10 +71,6 @@ out-none g s l class d old isnt =
     one-test (away_in g s d) (is_empty (anchor_for s d).state) (info_for s d).class class
     (λ near empty of. isnt (record { near = sym (away-is g s l d old) ∙ near; empty = empty; of = of }))
 
-pub one-most : (b : Bool) → one_if b ≤ 1
-one-most true = omega arith
-one-most false = omega arith
-
 -- a step of a turn makes none count
 empties-least :
     (g : Geometry) (s : State) (l : Lists) (s' : State) (l' : Lists) (class d : ℕ) → IsSoundWith g s l → IsSoundWith g s' l'
@@ -89,7 +87,7 @@ empties-least g s l s' l' class d old new leaves =
     })) in
     elim (cases_eq (empty_for g s class d) 0) [
       | inl none ↦ omega (arith, go (λ out. let no : ⊥ = omega (arith, none, out-one g s l class d old out) in no))
-      | inr some ↦ let most : empty_for g s' class d ≤ 1 = one-most _ in omega (arith, some, most)
+      | inr some ↦ let most : empty_for g s' class d ≤ 1 = one_if-most _ in omega (arith, some, most)
     ]
 
 -- a step that clears finds one that is out, and retires it
@@ -205,3 +203,20 @@ clearings-fall g s who s' sound after has step =
           let later : clearings g s' who ≡ 0 = rw still refl in
           omega (arith, later, ap one_if none)
     ]
+
+-- and no more are so than were freed empty and not cleared
+fewer-tests : (a b c : Bool) → one_if (a && (b && c)) ≤ one_if (a && b)
+fewer-tests a b c = grind (arith)
+
+pub emptied-freed :
+    (g : Geometry) (s : State) (class : ℕ) → IsSoundWithoutCounts g s
+    → emptied_for g s class + callers_sum g cleared_of s.errand ≤ count_by (is_small_free g) s.history
+emptied-freed g s class sound =
+    let l = sound.parts.0 in
+    let old = sound.parts.1 in
+    let least : sum_below (descriptor_count g) (empty_for g s class) ≤ sum_below (descriptor_count g) (emptied_out g s l) =
+    sum-least (descriptor_count g) (empty_for g s class) (emptied_out g s l)
+    (λ d lt.
+    subst (λ n. empty_for g s class d ≤ one_if ((n == 0) && is_empty (anchor_for s d).state)) (away-is g s l d old)
+    (fewer-tests (away_in g s d == 0) (is_empty (anchor_for s d).state) ((info_for s d).class == class))) in
+    omega (arith, least, old.turned.emptied)

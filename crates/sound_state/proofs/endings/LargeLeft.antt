@@ -36,15 +36,16 @@ use Rattle.sound_state.specs.Recalls.{IsOwned}
 use Rattle.sound_state.specs.Sound.{IsSoundWithoutCounts, IsSoundWith}
 use Rattle.sound_state.specs.StepsLeft.{steps_left}
 use Rattle.sound_state.proofs.endings.LeftDefs.{LessAt, LeavesLess}
-use Rattle.sound_state.proofs.large.TouchShelves.{owned-or-none, shelf-fits}
-use Rattle.sound_state.proofs.quiet.QuietPushes.{any-none, any-one, only-owner}
+use Rattle.sound_state.proofs.shared.ListFacts.{any-none, any-one}
+use Rattle.sound_state.proofs.shared.OwnerLemmas.{only-owner}
 use Rattle.sound_state.proofs.shared.PointLemmas.{fits-at, fits-now, frees-at}
+use Rattle.sound_state.proofs.shared.ShelfFacts.{owned-or-none, shelf-fits}
 use Rattle.sound_state.proofs.shared.StepLemmas.{HoldsException}
 
 -- a free run is taken, or that is lost
-take-less : (g : Geometry) (w : WantFields) (bits : ℕ) (o : Onward) (v : ℕ) → LessAt g (Large (large.TakeRun w bits) o) v
+take_run-less : (g : Geometry) (w : WantFields) (bits : ℕ) (o : Onward) (v : ℕ) → LessAt g (Large (large.TakeRun w bits) o) v
 unfolding plan_point_of next_of steps_left
-take-less g w bits o v = grind (arith)
+take_run-less g w bits o v = grind (arith)
 
 -- the prefix word of a freed run says that it is one
 prefix-less :
@@ -54,10 +55,10 @@ unfolding plan_point_of next_of steps_left
 prefix-less g place run o v units is = grind (arith, is)
 
 -- a put ends its call, whether it finds the shelf empty or not
-put-less :
+put_shelf-less :
     (g : Geometry) (k place : ℕ) (n : Need) (o : Onward) (v : ℕ) → LessAt g (Large (large.PutBlock k place n) o) v
 unfolding plan_point_of next_of steps_left
-put-less g k place n o v = grind (arith)
+put_shelf-less g k place n o v = grind (arith)
 
 -- a shelf's word says what lies there
 shelf-less : (g : Geometry) (k : ℕ) (o : Onward) (v : ℕ) → IsSome (shelf_of v) → LessAt g (Large (large.LoadShelf k) o) v
@@ -137,14 +138,14 @@ pub large-leaves :
     → (s.errand who).point ≡ Large p o → LeavesLess g s (Large p o)
 unfolding plan_point_of next_of steps_left
 large-leaves g s who (large.LoadUnits w) o sound has at = inr (inr (omega arith))
-large-leaves g s who (large.TakeRun w bits) o sound has at = take-less g w bits o (s.word name.Units)
+large-leaves g s who (large.TakeRun w bits) o sound has at = take_run-less g w bits o (s.word name.Units)
 large-leaves g s who (large.StoreRunPrefix place run) o sound has at = inr (inr (omega arith))
 large-leaves g s who (large.LoadRunPrefix place run) o sound has at =
     prefix-less g place run o (s.word (name.Arena place)) run.units (run-said g s sound.parts.0 who place run o sound.parts.1 has at)
 large-leaves g s who (large.FreeRun place run) o sound has at = inr (inr (omega arith))
 large-leaves g s who (large.StoreWord place i value) o sound has at = inr (inr (omega arith))
 large-leaves g s who (large.LoadWord place i) o sound has at = inr (inr (omega arith))
-large-leaves g s who (large.PutBlock k place n) o sound has at = put-less g k place n o (s.word (name.Shelf k))
+large-leaves g s who (large.PutBlock k place n) o sound has at = put_shelf-less g k place n o (s.word (name.Shelf k))
 large-leaves g s who (large.LoadShelf k) o sound has at =
     let fit = fits-now g s who (Large (large.LoadShelf k) o) sound has at in
     shelf-less g k o (s.word (name.Shelf k)) (shelf-said g s sound.parts.0 k sound sound.parts.1 fit.point)

@@ -31,8 +31,8 @@ use Rattle.sound_state.specs.Sound.{IsSoundWithoutCounts, IsSoundWith}
 use Rattle.sound_state.specs.StepsLeft.{steps_left}
 use Rattle.sound_state.specs.Superblocks.{IsChained, superblock_of, anchor_for, is_bound, away_of, errand_keeps, kept_among}
 use Rattle.sound_state.proofs.endings.LeftDefs.{LessAt, LeavesLess}
+use Rattle.sound_state.proofs.shared.HasLemmas.{keeps-near, kept-itself}
 use Rattle.sound_state.proofs.shared.PointLemmas.{fits-at, fits-now, so-at, exists-at}
-use Rattle.sound_state.proofs.shifts.ShiftSteps.{granting-away, grant-partly}
 
 -- the caller's slot names a descriptor of the heap, or none
 slot-less :
@@ -42,9 +42,9 @@ unfolding plan_point_of next_of steps_left
 slot-less g s o v same within is = grind (arith, nat_tests, is)
 
 -- what it names is taken, or that is lost
-take-less : (g : Geometry) (s : SeatFields) (d : ℕ) (o : Onward) (v : ℕ) → LessAt g (Partial (partial.TakeSlot s d) o) v
+take_slot-less : (g : Geometry) (s : SeatFields) (d : ℕ) (o : Onward) (v : ℕ) → LessAt g (Partial (partial.TakeSlot s d) o) v
 unfolding plan_point_of next_of steps_left
-take-less g s d o v = grind (arith)
+take_slot-less g s d o v = grind (arith)
 
 -- its word names a superblock
 info-less :
@@ -73,11 +73,11 @@ unfolding plan_point_of next_of steps_left
 owner-less g s d o v same is = grind (arith, is)
 
 -- the slot into which it is put named a descriptor of the heap, or none
-put-less :
+put_slot-less :
     (g : Geometry) (s : SeatFields) (d heap : ℕ) (o : Onward) (v : ℕ) → s.geometry ≡ g → v ≤ descriptor_count g → IsTrue (fills o)
     → LessAt g (Partial (partial.PutSlot s d heap) o) v
 unfolding plan_point_of next_of steps_left
-put-less g s d heap o v same within is = grind (arith, nat_tests, is)
+put_slot-less g s d heap o v same within is = grind (arith, nat_tests, is)
 
 -- the slot in which an empty one may stand is read
 held-less : (g : Geometry) (s : SeatFields) (d heap : ℕ) (o : Onward) (v : ℕ) → LessAt g (Partial (partial.LoadHeldSlot s d heap) o) v
@@ -108,8 +108,8 @@ taken-within g s l who site o old has at used =
     let lies : IsLocated s d site.frame site.seat.class =
     All-head (IsSo g s l who) (located d site.frame site.seat.class) [] (so-at g s l who p old has at) in
     let keeps : 1 ≤ errand_keeps partly_used d (s.errand who) =
-    subst (λ q. 1 ≤ kept_among partly_used d (holds_of q).kept) (sym at) (grant-partly d site.seat.class) in
-    let away : away_of g s l d ≡ 0 = granting-away g s l who d old has fit.point.desc keeps in
+    subst (λ q. 1 ≤ kept_among partly_used d (holds_of q).kept) (sym at) (kept-itself partly_used d site.seat.class) in
+    let away : away_of g s l d ≡ 0 = keeps-near g s l who d old has fit.point.desc keeps in
     let bound : IsTrue (is_bound g s l d) = rw (eq-eqb (away_of g s l d) 0 away, used) refl in
     let chained : IsChained (superblock_of g s d) = old.chained.chained d fit.point.desc bound in
     subst (λ c. (anchor_for s d).avail < block_count_of c) lies.class chained.avail
@@ -124,7 +124,7 @@ partial-leaves g s who (partial.LoadSlot seat) o sound has at =
     let exists : (heap_of seat < g.heaps) × (seat.class < CLASSES) = exists-at g s who (Partial (partial.LoadSlot seat) o) sound has at in
     slot-less g seat o (s.word (slot_name seat)) fit.point.geometry
     (sound.parts.1.kept.slot_words (heap_of seat) seat.class exists.0 exists.1) fit.goes
-partial-leaves g s who (partial.TakeSlot seat d) o sound has at = take-less g seat d o (s.word (slot_name seat))
+partial-leaves g s who (partial.TakeSlot seat d) o sound has at = take_slot-less g seat d o (s.word (slot_name seat))
 partial-leaves g s who (partial.LoadTakenInfo seat d) o sound has at =
     let fit = fits-now g s who (Partial (partial.LoadTakenInfo seat d) o) sound has at in
     info-less g seat d o (s.word (name.Info d)) fit.point.seat.geometry (sound.parts.1.chained.infos d fit.point.desc)
@@ -138,7 +138,7 @@ partial-leaves g s who (partial.LoadOwner seat d) o sound has at =
     owner-less g seat d o (s.word (name.Info d)) fit.point.seat.geometry (sound.parts.1.chained.infos d fit.point.desc)
 partial-leaves g s who (partial.PutSlot seat d heap) o sound has at =
     let fit = fits-now g s who (Partial (partial.PutSlot seat d heap) o) sound has at in
-    put-less g seat d heap o (s.word (slot_of seat heap)) fit.point.seat.geometry
+    put_slot-less g seat d heap o (s.word (slot_of seat heap)) fit.point.seat.geometry
     (sound.parts.1.kept.slot_words heap seat.class fit.point.owner fit.point.seat.class) fit.goes
 partial-leaves g s who (partial.LoadHeldSlot seat d heap) o sound has at = held-less g seat d heap o (s.word (slot_of seat heap))
 partial-leaves g s who (partial.RemoveFromSlot seat d heap) o sound has at = remove-less g seat d heap o (s.word (slot_of seat heap))

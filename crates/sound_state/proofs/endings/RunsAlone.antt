@@ -12,18 +12,20 @@ use Rattle.errand_steps.specs.Points.{is_idle}
 use Rattle.errand_steps.specs.Steps.{State, Step, Run, found_at}
 use Rattle.sound_state.specs.Alone.{stale_words, empty_for, emptied_for, class_at, clearings, alone_left}
 use Rattle.sound_state.specs.Sound.{IsSound}
+use Rattle.sound_state.specs.TurnStages.{in_turn}
 use Rattle.sound_state.specs.StepsLeft.{steps_left}
-use Rattle.sound_state.specs.Turns.{one_if, in_turn}
+use Rattle.sound_state.specs.Turns.{one_if}
 use Rattle.sound_state.proofs.CountedLemmas.{without-counts, steps-counted}
 use Rattle.sound_state.proofs.endings.AloneLemmas.{alone-falls, alone-stale, step-there}
-use Rattle.sound_state.proofs.endings.EmptiedLemmas.{one-most, cond-most, clearings-fall}
+use Rattle.sound_state.proofs.endings.EmptiedLemmas.{cond-most, clearings-fall}
 use Rattle.sound_state.proofs.endings.LeftMost.{left-most}
 use Rattle.sound_state.proofs.endings.LeftSteps.{steps-go_on}
 use Rattle.sound_state.proofs.endings.StaleMost.{stale-most}
 use Rattle.sound_state.proofs.shared.PointLemmas.{fits-at}
-use Rattle.sound_state.proofs.shared.StepLemmas.{raised-least}
+use Rattle.sound_state.proofs.shared.StepLemmas.{raised-least, raised-most, raised-by}
 use Rattle.sound_state.proofs.shared.SumLemmas.{sum-most}
 use Rattle.sound_state.proofs.shared.TagLemmas.{cleared-below}
+use Rattle.sound_state.proofs.shared.TurnEffects.{one_if-most}
 
 -- so many steps of a caller lead from the first state to the second: what it lost and cleared, and what is left
 pub record LeadsAlone (g : Geometry) (s : State) (who n : ℕ) (s' : State) : Type 0 where
@@ -62,14 +64,9 @@ then-alone g s who n t m s' a b = record {
 }
 
 -- a count that rises goes up by no more than one, and by one where it does not stand at its end
-raised-most : (b : Bool) (n : ℕ) → raised b n ≤ n + one_if b
-raised-most b n = grind (arith)
 
 raised-one : (b : Bool) (n : ℕ) → raised b n + 1 < 2 ^ 64 → raised b n ≡ n + one_if b
 raised-one b n room = grind (arith, room)
-
-raised-up : (b : Bool) (n : ℕ) → n + 1 < 2 ^ 64 → raised b n ≡ n + one_if b
-raised-up b n room = grind (arith, room)
 
 -- the counts after a step
 lost-after : (s : State) (who : ℕ) (s' : State) → Step s who s' → (s'.errand who).lost ≡ raised (counts_lost (s.errand who).point (found_at s who)) (s.errand who).lost
@@ -90,7 +87,7 @@ step-alone g s who s' sound has step =
     let c = counts_cleared e.point (found_at s who) in
     let lost = lost-after s who s' step in
     let cleared : (s'.errand who).cleared ≡ e.cleared + one_if c =
-    cleared-after s who s' step ∙ raised-up c e.cleared (cleared-below g s plain who has) in
+    cleared-after s who s' step ∙ raised-by c e.cleared (cleared-below g s plain who has) in
     let most : steps_left g (s'.errand who).point < CALL_STEPS =
     left-most g who (s'.errand who).point after.checked (fits-at g s' after.parts.0 who (s'.errand who).point after.parts.1 has refl) in
     record {
@@ -169,7 +166,7 @@ alone-most g s who sound has =
 clearings-most : (g : Geometry) (s : State) (who : ℕ) → clearings g s who ≤ descriptor_count g
 clearings-most g s who =
     let each : emptied_for g s (class_at (s.errand who).point) ≤ descriptor_count g * 1 =
-    sum-most (descriptor_count g) (empty_for g s (class_at (s.errand who).point)) 1 (λ d lt. one-most _) in
+    sum-most (descriptor_count g) (empty_for g s (class_at (s.errand who).point)) 1 (λ d lt. one_if-most _) in
     omega (arith, each, cond-most (in_turn (s.errand who).point) (emptied_for g s (class_at (s.errand who).point)))
 
 pub alone-below : (g : Geometry) (s : State) (who : ℕ) → IsSound g s → who < g.callers → alone_left g s who < 2 ^ 64

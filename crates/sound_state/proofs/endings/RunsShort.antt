@@ -1,5 +1,5 @@
 -- In a run of many callers each makes few steps between those that lose or clear.
-use Rattle.std.proofs.Common.{ℕ, Bool, true, false, ◌≡◌, ◌<◌, ◌≤◌, ◌+◌, ◌-◌, ◌*◌, ◌^◌, List, [], ◌∷◌, refl, arith, ap, sym, subst, inl, inr}
+use Rattle.std.proofs.Common.{ℕ, true, ◌≡◌, ◌<◌, ◌≤◌, ◌+◌, ◌-◌, ◌*◌, ◌^◌, List, [], ◌∷◌, refl, arith, ap, sym, subst, inl, inr}
 use Rattle.std.specs.Prelude.{◌==◌, count_by}
 use Rattle.std.proofs.lemmas.Bool.{cases_eq, cond_both, eq-eqb, ne_eqb}
 use Rattle.std.proofs.lemmas.List.Elements.{All-head, All-tail}
@@ -22,6 +22,7 @@ use Rattle.sound_state.proofs.ReachLemmas.{moved-sound}
 use Rattle.sound_state.proofs.endings.LeftMost.{left-most}
 use Rattle.sound_state.proofs.endings.LeftSteps.{steps-go_on}
 use Rattle.sound_state.proofs.shared.PointLemmas.{fits-at}
+use Rattle.sound_state.proofs.shared.StepLemmas.{raised-least}
 use Rattle.sound_state.proofs.shared.TagLemmas.{cleared-below}
 use Rattle.sound_state.proofs.wins.CountLemmas.{count-append}
 
@@ -53,12 +54,6 @@ begun-counts e (put place need shelf) = (refl, refl)
 begun-counts e (take shelf) = (refl, refl)
 
 -- a count of 64 bits doesn't fall, and rises by one below its end
-raised-least : (b : Bool) (n : ℕ) → n < 2 ^ 64 → n ≤ raised b n
-raised-least true n below = omega arith
-raised-least false n below = omega arith
-
-raised-up : (n : ℕ) → raised true n < 2 ^ 64 - 1 → raised true n ≡ n + 1
-raised-up n below = omega arith
 
 -- fewer steps than the most are left
 most-left : (g : Geometry) (s : State) (who : ℕ) → IsSound g s → who < g.callers → steps_left g (s.errand who).point < CALL_STEPS

@@ -1,5 +1,5 @@
 -- What the retired list and the turn limit leave to do.
-use Rattle.std.proofs.Common.{ℕ, Bool, zero, suc, true, false, Option, Some, None, ◌≡◌, ◌≢◌, ◌<◌, ◌≤◌, ◌+◌, List, [], ◌∷◌, length, get_or, refl, ◌∙◌, arith, ap, sym, subst}
+use Rattle.std.proofs.Common.{ℕ, zero, suc, false, Option, Some, None, ◌≡◌, ◌≢◌, ◌<◌, ◌≤◌, ◌+◌, List, [], ◌∷◌, length, get_or, refl, ◌∙◌, arith, ap, sym, subst}
 use Rattle.std.specs.Prelude.{◌==◌, All, AllPairs, IsSome, count_by, nat_lt, slice_set, if◌then◌else◌}
 use Rattle.std.proofs.lemmas.Bool.{true≢false, cond_both, cond-true, eq-eqb}
 use Rattle.std.proofs.lemmas.List.{get_or_default}
@@ -36,9 +36,9 @@ use Rattle.sound_state.specs.Sound.{IsSoundWithoutCounts}
 use Rattle.sound_state.specs.StepsLeft.{steps_left, scan_left, active_left, resumed_left}
 use Rattle.sound_state.specs.Sums.{callers_sum}
 use Rattle.sound_state.proofs.endings.LeftDefs.{next_left, word_under}
-use Rattle.sound_state.proofs.hazards.HazardLemmas.{contains-occurs}
-use Rattle.sound_state.proofs.hazards.HazardSteps.{noted-unread}
-use Rattle.sound_state.proofs.shared.PointLemmas.{fits-now}
+use Rattle.sound_state.proofs.shared.GuardEffects.{scans}
+use Rattle.sound_state.proofs.shared.ListFacts.{contains-occurs}
+use Rattle.sound_state.proofs.shared.PointLemmas.{fits-now, noted-unread}
 use Rattle.sound_state.proofs.shared.SumLemmas.{term-sum}
 use Rattle.sound_state.proofs.wins.SettleExpects.{is_pick, no-pick-block, no-pick-stack, no-pick-partial, no-pick-large}
 use Rattle.sound_state.proofs.wins.WinDefs.{found_in}
@@ -143,12 +143,6 @@ listed-left g e (Turn s need) plain = turned-left g e s need
 listed-left g e (Retire s d o) plain = retired-left g e s d o
 listed-left g e (Pick s held o) plain = absurd (true≢false plain)
 listed-left g e (Unlist s d o) plain = resumed-left g e s o
-
--- whether a scan may end there: where a hazard word is read
-abbrev scans : DescPoint → Bool
-scans (desc.ReadHazard s held at) = true
-scans (desc.Scanned s held) = true
-scans p = false
 
 -- a step elsewhere ends none
 no-pick-desc : (p : DescPoint) (x : Found) (o : Onward) → scans p ≡ false → is_pick (enter_desc (settle_desc_of p x) o) ≡ false

@@ -23,8 +23,8 @@ use Rattle.sound_state.specs.Recalls.{list_of}
 use Rattle.sound_state.specs.Sound.{IsSoundWithoutCounts}
 use Rattle.sound_state.specs.StepsLeft.{steps_left, top_left, put_left}
 use Rattle.sound_state.proofs.endings.LeftDefs.{LeavesLess, exchanged, next_left}
-use Rattle.sound_state.proofs.quiet.QuietStacks.{pile-stacked, pile-exists, top-exists}
 use Rattle.sound_state.proofs.shared.PointLemmas.{fits-now}
+use Rattle.sound_state.proofs.shared.StackedLemmas.{pile-stacked, pile-exists, top-exists}
 
 -- a stack that is read empty
 empty-less :
@@ -69,10 +69,10 @@ unfolding steps_left
 put-less g s pile o goes = grind (arith, goes)
 
 -- the top of a stack is an index that the heap has, or 0
-top-most :
+top-within :
     (g : Geometry) (s : State) (who : ℕ) (seat : SeatFields) (pile : Pile) → IsSoundWithoutCounts g s → IsSeatOf g who seat
     → (head_of (s.word (head_name seat pile))).top ≤ pile_limit seat.geometry pile
-top-most g s who seat pile sound is =
+top-within g s who seat pile sound is =
     let l = sound.parts.0 in
     let listed = sound.parts.1.listed in
     subst (λ k. (head_of (s.word (head_name seat pile))).top ≤ pile_limit k pile) (sym is.geometry)
@@ -93,7 +93,7 @@ pub stack-leaves :
 unfolding plan_point_of next_of steps_left
 stack-leaves g s who (stack.LoadTop seat pile) o sound has at =
     let fits = fits-now g s who (Stack (stack.LoadTop seat pile) o) sound has at in
-    inr (inr (top-less g seat pile (head_of (s.word (head_name seat pile))) o fits.goes (top-most g s who seat pile sound fits.point)))
+    inr (inr (top-less g seat pile (head_of (s.word (head_name seat pile))) o fits.goes (top-within g s who seat pile sound fits.point)))
 stack-leaves g s who (stack.LoadBelow seat pile h) o sound has at =
     let fits = fits-now g s who (Stack (stack.LoadBelow seat pile h) o) sound has at in
     let next = s.word (next_name pile (h.top - 1)) in

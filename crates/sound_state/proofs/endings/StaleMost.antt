@@ -22,12 +22,8 @@ use Rattle.sound_state.specs.Sums.{sum_below}
 use Rattle.sound_state.specs.Turns.{one_if}
 use Rattle.sound_state.specs.Wins.{same_name}
 use Rattle.sound_state.proofs.shared.SumLemmas.{sum-none, sum-least, sum-plus, sum-once}
+use Rattle.sound_state.proofs.shared.TurnEffects.{one_if-most}
 use Rattle.sound_state.proofs.wins.SameNames.{same-name-is}
-
--- one or nothing, of two
-one_if-most : (b : Bool) → one_if b ≤ 1
-one_if-most true = omega arith
-one_if-most false = omega arith
 
 either-most : (a b : Bool) → one_if (a || b) ≤ one_if a + one_if b
 either-most true b = omega arith

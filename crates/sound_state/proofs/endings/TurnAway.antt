@@ -1,7 +1,7 @@
 -- A step of a turn puts no descriptor back to the superblocks whose superblock is EMPTY, and makes none EMPTY.
 use Rattle.std.proofs.Common.{ℕ, Some, true, false, ◌≡◌, ◌≢◌, ◌<◌, ◌≤◌, ◌+◌, [], ◌∷◌, refl, arith, ap, sym, subst, inl, inr, ◌∙◌}
 use Rattle.std.proofs.Math.Path.{fun_ext}
-use Rattle.std.specs.Prelude.{◌==◌, if◌then◌else◌, Contains, IfSome, IsTrue}
+use Rattle.std.specs.Prelude.{◌==◌, if◌then◌else◌, Contains, IfSome}
 use Rattle.std.proofs.lemmas.Bool.{cases_eq, true≢false, eq-eqb, ne_eqb, cond-true, cond-false}
 use Rattle.std.proofs.lemmas.List.Elements.{All-head}
 use Rattle.heap_geometry.specs.declared.geometry.Geometry.{Geometry}
@@ -24,6 +24,7 @@ use Rattle.superblock_parts.specs.Chains.{occurs}
 use Rattle.superblock_parts.specs.declared.point.BlockPoint.{BlockPoint}
 use Rattle.superblock_parts.specs.declared.point.BlockPoint.TheVariants as block
 use Rattle.superblock_parts.specs.declared.point.Share.{Share}
+use Rattle.superblock_parts.specs.declared.point.Share.TheVariants.{Credit, LastCredit, Grant}
 use Rattle.stack_parts.specs.declared.point.Pile.TheVariants.{Partials}
 use Rattle.stack_parts.specs.Stacks.{Stacked, next_in}
 use Rattle.stack_parts.proofs.StackLemmas.{stacked-one, stacked-off}
@@ -42,31 +43,30 @@ use Rattle.errand_steps.specs.declared.point.Point.TheVariants.{Block, Desc, Par
 use Rattle.errand_steps.specs.Errands.{ErrandFields, settle_of, course_of, point_after, after_turn, after_list, list_after}
 use Rattle.errand_steps.specs.Fits.{FitsPoint, pushed_by}
 use Rattle.errand_steps.specs.Nexts.{next_of}
-use Rattle.errand_steps.specs.Onwards.{is_alloc}
 use Rattle.errand_steps.specs.Points.{plan_point_of, asked}
 use Rattle.errand_steps.specs.Steps.{State, Step, name_at, word_at, found_at}
-use Rattle.sound_state.specs.Holdings.{on_its_way, keep, making, holds_of}
+use Rattle.sound_state.specs.Holdings.{on_its_way, making, holds_of}
 use Rattle.sound_state.specs.Lists.{Lists}
 use Rattle.sound_state.specs.Recalls.{IsSo, noted, looked, located, says, recalls_of, resumed_recalls}
 use Rattle.sound_state.specs.Sound.{IsSoundWithoutCounts, IsSoundWith}
+use Rattle.sound_state.specs.TurnStages.{in_turn, is_turn, share_turn_stage}
 use Rattle.sound_state.specs.Superblocks.{anchor_for, info_for, info_or_zero, errand_away, errand_keeps, away_of, kept_among}
 use Rattle.sound_state.specs.Keepers.{errand_has}
 use Rattle.sound_state.specs.Sums.{callers_sum}
-use Rattle.sound_state.proofs.shared.HasLemmas.{keeps-at, kept-itself}
-use Rattle.sound_state.specs.Turns.{in_turn, is_onward_giving}
+use Rattle.sound_state.proofs.shared.HasLemmas.{keeps-at, kept-itself, ways-one}
 use Rattle.sound_state.proofs.descriptors.DescPushes.{occurs-without}
 use Rattle.sound_state.proofs.descriptors.DescSteps.{first-of}
 use Rattle.sound_state.proofs.endings.TurnWords.{tells, writes_told, told-stays, next_ways, puts_out, point-ways, none-unlisted, pushes_desc, quiet-points}
 use Rattle.sound_state.proofs.pops.PopFacts.{popped-empty}
-use Rattle.sound_state.proofs.pops.PopRecalls.{new_anchor-fits}
 use Rattle.sound_state.proofs.pops.PopSteps.{pop-pops}
 use Rattle.sound_state.proofs.quiet.QuietLinks.{written-at, retired-has}
-use Rattle.sound_state.proofs.retirements.RetireLemmas.{occurs-push}
+use Rattle.sound_state.proofs.shared.ListFacts.{occurs-push}
 use Rattle.sound_state.proofs.shared.PointLemmas.{fits-at, so-at, the-alloc}
 use Rattle.sound_state.proofs.shared.StepLemmas.{found_from}
 use Rattle.sound_state.proofs.shared.SumLemmas.{callers-moved, term-sum}
+use Rattle.sound_state.proofs.shared.WaitsAlone.{new_anchor-fits}
+use Rattle.sound_state.proofs.shared.WordFacts.{site-info}
 use Rattle.sound_state.proofs.shifts.ShiftSteps.{grant-shifts}
-use Rattle.sound_state.proofs.stores.InfoSteps.{site-info}
 
 -- what a step leaves of what is EMPTY and out
 pub record LeavesOut (g : Geometry) (s : State) (l : Lists) (s' : State) (l' : Lists) : Type 0 where
@@ -169,6 +169,12 @@ quiet-leaves g s l who s' l' old new has step turn none =
     errand-keeps g who (s.errand who) (found_at s who) d fits quiet.0 turn
     (λ seat k o. none-unlisted g who p (found_at s who) seat k o fits turn quiet.1))
 
+-- whoever takes a block of a superblock is in a turn
+taking : (share : Share) → is_turn (share_turn_stage share) ≡ true
+taking Credit = refl
+taking LastCredit = refl
+taking (Grant more) = refl
+
 -- a pop leaves each superblock EMPTY or not
 pop-leaves :
     (g : Geometry) (s : State) (l : Lists) (who : ℕ) (s' : State) (l' : Lists) (at : Site) (share : Share) (a : AnchorFields) (prefix : ℕ)
@@ -187,11 +193,7 @@ pop-leaves g s l who s' l' at share a prefix o sound old new has stands step =
           sym (popped-empty g s l who at share a (link_of prefix) (asked o) _ s' (pop-pops g s l who s' at share a prefix o sound old has stands won step) d) ∙ is
       | inr lost ↦ ap (λ v. is_empty (anchor_of v).state) (sym (lost-same s.word (name.Anchor at.desc) _ (name.Anchor d) s'.word w (cond-false {A = ℕ} (s.word (name.Anchor at.desc) == anchor_word a) _ _ (ne_eqb _ _ lost)))) ∙ is
     ])
-    (λ d is. at-keeps g s who p d stands fits refl refl refl)
-
--- an allocation at work is in a turn
-giving : (o : Onward) → IsTrue (is_alloc o) → is_onward_giving o ≡ true
-giving o is = grind (arith, is)
+    (λ d is. at-keeps g s who p d stands fits refl (taking share) refl)
 
 -- a grant leaves one in use
 grant-leaves :
@@ -220,7 +222,7 @@ grant-leaves g s l who s' l' site a o old new has stands step =
           (sym (lost-same s.word (name.Anchor site.desc) _ (name.Anchor d) s'.word w (cond-false {A = ℕ} (s.word (name.Anchor site.desc) == anchor_word a) _ _ (ne_eqb _ _ lost))))
           ∙ is
     ])
-    (λ d is. at-keeps g s who p d stands fits refl (giving o fits.goes) refl)
+    (λ d is. at-keeps g s who p d stands fits refl refl refl)
 
 -- the processor heap of a superblock that was taken, whose class stays
 owner-leaves :
@@ -248,7 +250,7 @@ owner-leaves g s l who s' l' site o sound old new has stands step =
           ];
       away = λ d is.
           away-least g s l who s' l' d has step
-          (omega (arith, ap (occurs d) avail, at-keeps g s who p d stands fits refl (giving o fits.goes) refl));
+          (omega (arith, ap (occurs d) avail, at-keeps g s who p d stands fits refl refl refl));
     }
 
 -- what the descriptor of a new superblock says, which is on its way
@@ -351,8 +353,6 @@ nexts-same : (s s' : State) (new_head : ℕ) → Writes s.word name.DescHead new
 nexts-same s s' new_head w = fun_ext (λ d. w.elsewhere (name.Next d) (λ same. cc))
 
 -- the top one is taken: the caller has it on its way
-own-way : (d k class : ℕ) → kept_among on_its_way d (keep k class on_its_way) ≡ (if k == d then 1 else 0)
-own-way d k class = grind (arith)
 
 pop_desc-leaves :
     (g : Geometry) (s : State) (l : Lists) (who : ℕ) (s' : State) (l' : Lists) (seat : SeatFields) (k below : ℕ) (o : Onward)
@@ -387,7 +387,7 @@ pop_desc-leaves g s l who s' l' seat k below o old new has stands turn step =
           (λ d.
           let none : kept_among on_its_way d (holds_of e.point).kept ≡ 0 = ap (λ r. kept_among on_its_way d (holds_of r).kept) stands in
           let mine : away_after e (next_of e.point (found_at s who)) d ≡ occurs d e.retired + (if k == d then 1 else 0) =
-          ap (λ n. away_after e n d) next ∙ ap (λ n. occurs d e.retired + n) (own-way d k seat.class) in
+          ap (λ n. away_after e n d) next ∙ ap (λ n. occurs d e.retired + n) (ways-one d k seat.class) in
           omega (arith, none, mine, ap (occurs d) is, ap (occurs d) same))
       | inr lost ↦
           let head : s'.word name.DescHead ≡ s.word name.DescHead = w.here ∙ cond-false {A = ℕ} (s.word name.DescHead == k + 1) _ _ (ne_eqb _ _ lost) in

@@ -30,8 +30,8 @@ use Rattle.errand_steps.specs.Nexts.{next_of, enter_block, enter_stack, enter_de
 use Rattle.errand_steps.specs.Points.{plan_point_of}
 use Rattle.sound_state.specs.Alone.{class_at}
 use Rattle.sound_state.specs.Holdings.{on_its_way, holds_of}
+use Rattle.sound_state.specs.TurnStages.{in_turn, is_turn, onward_turn_stage}
 use Rattle.sound_state.specs.Superblocks.{kept_among}
-use Rattle.sound_state.specs.Turns.{in_turn, is_onward_giving}
 
 -- the words that say where a descriptor is, and in what state its superblock is
 abbrev pub tells : WordName → Bool
@@ -149,9 +149,9 @@ abbrev pub next_turn : Next → Bool
 next_turn (At p) = in_turn p
 next_turn (End r) = false
 next_turn (Turn s need) = true
-next_turn (Retire s d o) = is_onward_giving o
-next_turn (Pick s held o) = is_onward_giving o
-next_turn (Unlist s d o) = is_onward_giving o
+next_turn (Retire s d o) = is_turn (onward_turn_stage o)
+next_turn (Pick s held o) = is_turn (onward_turn_stage o)
+next_turn (Unlist s d o) = is_turn (onward_turn_stage o)
 
 -- the class that a caller is at work on where it goes on
 abbrev pub next_class : Next → ℕ
@@ -191,6 +191,17 @@ desc-class g who p o x fits turn = grind (arith, fits.goes, turn)
 partial-class :
     (g : Geometry) (who : ℕ) (p : PartialPoint) (o : Onward) (x : Found) → FitsInPartial g who p o
     → next_turn (enter_partial (settle_partial_of p x) o) ≡ true → next_class (enter_partial (settle_partial_of p x) o) ≡ (seat_of_partial p).class
+partial-class g who (partial.LoadSlot s) o x fits turn = grind (arith, fits.goes, turn)
+partial-class g who (partial.TakeSlot s d) o x fits turn = grind (arith, fits.goes, turn)
+partial-class g who (partial.LoadTakenInfo s d) o x fits turn = grind (arith, fits.goes, turn)
+partial-class g who (partial.StoreOwner at) o x fits turn = grind (arith, fits.goes, turn)
+partial-class g who (partial.LoadGrantAnchor at) o x fits turn = grind (arith, fits.goes, turn)
+partial-class g who (partial.Grant at a) o x fits turn = grind (arith, fits.goes, turn)
+partial-class g who (partial.LoadOwner s d) o x fits turn = grind (arith, fits.goes, turn)
+partial-class g who (partial.PutSlot s d heap) o x fits turn = grind (arith, fits.goes, turn)
+partial-class g who (partial.LoadHeldSlot s d heap) o x fits turn = grind (arith, fits.goes, turn)
+partial-class g who (partial.RemoveFromSlot s d heap) o x fits turn = grind (arith, fits.goes, turn)
+partial-class g who (partial.LoadListedAnchor s d) o x fits turn = grind (arith, fits.goes, turn)
 partial-class g who p o x fits turn = grind (arith, fits.goes, turn)
 
 large-class :

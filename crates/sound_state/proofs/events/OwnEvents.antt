@@ -4,7 +4,7 @@ use Rattle.pool_model.specs.declared.event.Event.{Event}
 use Rattle.pool_model.specs.Histories.{own, caller_of}
 use Rattle.pool_model.proofs.HistoryLemmas.{own-append}
 use Rattle.errand_steps.specs.Steps.{with_event}
-use Rattle.sound_state.proofs.tellings.TellLemmas.{told-own}
+use Rattle.sound_state.proofs.shared.EventFacts.{told-own}
 
 pub own-with_event :
     (who : ℕ) (history : List Event) (event : Option Event) → ((e : Event) → event ≡ Some e → caller_of e ≡ who)

@@ -92,7 +92,7 @@ next-point e w (point.Partial p o) is = absurd (off-next (name_of (plan_partial_
 next-point e w (point.Large p o) is = absurd (off-next (name_of (plan_large_of p)) e (off-large p) is)
 
 -- a pop and a push of the available descriptors that are won, where the head is w and becomes v
-pub record Pops (p : Point) (w v : ℕ) : Type 0 where
+pub record PopsAvailable (p : Point) (w v : ℕ) : Type 0 where
   pub seat : SeatFields
   pub d : ℕ
   pub next : ℕ
@@ -101,7 +101,7 @@ pub record Pops (p : Point) (w v : ℕ) : Type 0 where
   pub before : w ≡ d + 1
   pub after : v ≡ next
 
-pub record Pushes (p : Point) (w v : ℕ) : Type 0 where
+pub record PushesAvailable (p : Point) (w v : ℕ) : Type 0 where
   pub seat : SeatFields
   pub d : ℕ
   pub top : ℕ
@@ -112,7 +112,7 @@ pub record Pushes (p : Point) (w v : ℕ) : Type 0 where
 
 -- an action at the head leaves it, or is one of these
 abbrev pub HeadGoes : Point → ℕ → ℕ → Type 0
-HeadGoes p w v = (v ≡ w) ⊎ (Pops p w v ⊎ Pushes p w v)
+HeadGoes p w v = (v ≡ w) ⊎ (PopsAvailable p w v ⊎ PushesAvailable p w v)
 
 head-other : (s : SeatFields) (pile : Pile) → head_name s pile ≡ name.DescHead → ⊥
 head-other s Frames is = cc

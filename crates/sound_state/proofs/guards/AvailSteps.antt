@@ -26,13 +26,11 @@ use Rattle.sound_state.specs.Lists.{Lists}
 use Rattle.sound_state.specs.Recalls.{IsSo, recalls_of, resumed_recalls, noted, says, looked}
 use Rattle.sound_state.specs.Sound.{IsSoundWithoutCounts, IsSoundWith}
 use Rattle.sound_state.specs.Sums.{callers_sum}
-use Rattle.sound_state.proofs.counts.PartUsedLemmas.{occurring-all}
-use Rattle.sound_state.proofs.guards.AvailPoints.{Pops, HeadGoes, head-point, next-point}
-use Rattle.sound_state.proofs.hazards.HazardLemmas.{contains-occurs}
-use Rattle.sound_state.proofs.shared.BoundLemmas.{stacked-same}
+use Rattle.sound_state.proofs.guards.AvailPoints.{PopsAvailable, HeadGoes, head-point, next-point}
+use Rattle.sound_state.proofs.shared.ListFacts.{contains-occurs, occurring-all}
 use Rattle.sound_state.proofs.shared.PointLemmas.{so-at}
+use Rattle.sound_state.proofs.shared.StackedLemmas.{stacked-same, stacked-agrees}
 use Rattle.sound_state.proofs.shared.SumLemmas.{term-sum}
-use Rattle.sound_state.proofs.stores.StoreFields.{stacked-agrees}
 
 -- what is available no caller has
 unavailable :
@@ -93,7 +91,7 @@ pushed-below g s l who d top seat o old has at =
 -- after a pop the list is the rest of the one before it
 popped-gains :
     (g : Geometry) (s : State) (l : Lists) (who d : ℕ) (words' : WordName → ℕ) (xs : List ℕ) → IsSoundWithoutCounts g s → IsSoundWith g s l
-    → who < g.callers → Pops (s.errand who).point (s.word name.DescHead) (words' name.DescHead)
+    → who < g.callers → PopsAvailable (s.errand who).point (s.word name.DescHead) (words' name.DescHead)
     → Stacked (next_in words' Partials) (s.word name.DescHead) xs → xs ≡ l.available → (ys : List ℕ)
     → Stacked (next_in words' Partials) (words' name.DescHead) ys → ((e : ℕ) → 0 < occurs e xs → words' (name.Next e) ≡ s.word (name.Next e))
     → 0 < occurs d ys → 0 < occurs d xs

@@ -39,6 +39,7 @@ use Rattle.errand_steps.specs.Nexts.{next_of, enter_block, enter_stack, enter_de
 use Rattle.errand_steps.specs.Points.{plan_point_of}
 use Rattle.sound_state.specs.Guards.{passed_by, held_by, passed_by_desc, held_by_desc}
 use Rattle.sound_state.proofs.hazards.HazardLemmas.{hazard_caller}
+use Rattle.sound_state.proofs.shared.GuardEffects.{scans}
 
 -- what is pushed where the caller goes on, but for what a scan picks
 abbrev pub next_pushed : Next → Option ℕ
@@ -71,30 +72,24 @@ pushed-next (point.Partial p o) x d is = absurd (none-some d (sym (pushed-partia
 pushed-next (point.Large p o) x d is = absurd (none-some d (sym (pushed-large (settle_large_of p x) o) ∙ is))
 
 -- whether a scan goes on or is over
-abbrev reads : Next → Bool
-reads (At p) = nat_lt 0 (passed_by p)
-reads (Pick s held o) = true
-reads n = false
+abbrev scans_on : Next → Bool
+scans_on (At p) = nat_lt 0 (passed_by p)
+scans_on (Pick s held o) = true
+scans_on n = false
 
-reads-block : (p : BlockPoint) (o : Onward) → reads (enter_block p o) ≡ false
+reads-block : (p : BlockPoint) (o : Onward) → scans_on (enter_block p o) ≡ false
 reads-block p o = grind (arith)
 
-reads-stack : (p : StackPoint) (o : Onward) → reads (enter_stack p o) ≡ false
+reads-stack : (p : StackPoint) (o : Onward) → scans_on (enter_stack p o) ≡ false
 reads-stack p o = grind (arith)
 
-reads-partial : (p : PartialPoint) (o : Onward) → reads (enter_partial p o) ≡ false
+reads-partial : (p : PartialPoint) (o : Onward) → scans_on (enter_partial p o) ≡ false
 reads-partial p o = grind (arith)
 
-reads-large : (p : LargePoint) (o : Onward) → reads (enter_large p o) ≡ false
+reads-large : (p : LargePoint) (o : Onward) → scans_on (enter_large p o) ≡ false
 reads-large p o = grind (arith)
 
--- whether hazard words are read at the point, or all are read
-abbrev scans : DescPoint → Bool
-scans (desc.ReadHazard s held at) = true
-scans (desc.Scanned s held) = true
-scans p = false
-
-reads-desc : (p : DescPoint) (x : Found) (o : Onward) → scans p ≡ false → reads (enter_desc (settle_desc_of p x) o) ≡ false
+reads-desc : (p : DescPoint) (x : Found) (o : Onward) → scans p ≡ false → scans_on (enter_desc (settle_desc_of p x) o) ≡ false
 reads-desc p x o is = grind (arith, is)
 
 -- where the caller goes on, it has noted d + 1 as the hazard word of k, where it has passed that one; and where its scan is over
@@ -103,7 +98,7 @@ NextNotes k d (At p) = k < passed_by p → slice_index (held_by p) k ≡ d + 1
 NextNotes k d (Pick s held o) = (k < length held) × (slice_index held k ≡ d + 1)
 NextNotes k d n = Unit {0}
 
-unread-notes : (k d : ℕ) (n : Next) → reads n ≡ false → NextNotes k d n
+unread-notes : (k d : ℕ) (n : Next) → scans_on n ≡ false → NextNotes k d n
 unread-notes k d (At p) none = λ below. let bad : ⊥ = omega (arith, below, ltb-false 0 (passed_by p) none) in absurd bad
 unread-notes k d (Pick s held o) none = absurd (true≢false none)
 unread-notes k d (End r) none = tt
@@ -115,9 +110,9 @@ unread-notes k d (Unlist s e o) none = tt
 word-notes :
     (held : List ℕ) (i k d v : ℕ) → i < length held → (k < i → slice_index held k ≡ d + 1) → (k ≡ i → v ≡ d + 1) → k < i + 1
     → slice_index (slice_set held i v) k ≡ d + 1
-word-notes held i k d v room noted reads below =
+word-notes held i k d v room noted scans_on below =
     elim (cases_eq k i) [
-      | inl same ↦ get_or-set_at held i k v 0 same room ∙ reads same
+      | inl same ↦ get_or-set_at held i k v 0 same room ∙ scans_on same
       | inr differ ↦ get_or-set_other held i k v 0 differ ∙ noted (omega (arith, below, differ))
     ]
 
@@ -126,10 +121,10 @@ read-notes :
     (g : Geometry) (who k d : ℕ) (s : SeatFields) (held : List ℕ) (i : ℕ) (o : Onward) (v : ℕ) → IsChecked g → k < g.callers
     → FitsDesc g who (desc.ReadHazard s held i) → (k < i → slice_index held k ≡ d + 1) → (k ≡ i → v ≡ d + 1)
     → NextNotes k d (enter_desc (after_hazard s held i v) o)
-read-notes g who k d s held i o v checked has fits noted reads =
+read-notes g who k d s held i o v checked has fits noted scans_on =
     let room : i < length held = omega (arith, checked.callers.1, fits.0.words, fits.1) in
     let all = ap (λ (h : Geometry). h.callers) fits.0.seat.geometry in
-    let notes = word-notes held i k d v room noted reads in
+    let notes = word-notes held i k d v room noted scans_on in
     cond_both (nat_lt (i + 1) s.geometry.callers) (desc.ReadHazard s (slice_set held i v) (i + 1)) (desc.Scanned s (slice_set held i v))
     (λ p. NextNotes k d (enter_desc p o)) (λ more below. notes below)
     (λ last. (
@@ -142,24 +137,24 @@ desc-notes :
     (g : Geometry) (who k d : ℕ) (p : DescPoint) (o : Onward) (x : Found) → IsChecked g → k < g.callers → FitsPoint g who (point.Desc p o)
     → (k < passed_by_desc p → slice_index (held_by_desc p) k ≡ d + 1) → (name_of (plan_desc_of p) ≡ name.Hazard k → x.value ≡ d + 1)
     → NextNotes k d (enter_desc (settle_desc_of p x) o)
-desc-notes g who k d (desc.ReadHazard s held i) o x checked has fits noted reads =
-    read-notes g who k d s held i o x.value checked has fits.point noted (λ same. reads (ap name.Hazard (sym same)))
-desc-notes g who k d (desc.Scanned s held) o x checked has fits noted reads = absurd (true≢false fits.inside)
-desc-notes g who k d p o x checked has fits noted reads =
+desc-notes g who k d (desc.ReadHazard s held i) o x checked has fits noted scans_on =
+    read-notes g who k d s held i o x.value checked has fits.point noted (λ same. scans_on (ap name.Hazard (sym same)))
+desc-notes g who k d (desc.Scanned s held) o x checked has fits noted scans_on = absurd (true≢false fits.inside)
+desc-notes g who k d p o x checked has fits noted scans_on =
     unread-notes k d (enter_desc (settle_desc_of p x) o) (reads-desc p x o refl)
 
--- at each point: who has noted the word of k, or reads it now
+-- at each point: who has noted the word of k, or scans_on it now
 pub notes-next :
     (g : Geometry) (who k d : ℕ) (p : Point) (x : Found) → IsChecked g → k < g.callers → FitsPoint g who p
     → (k < passed_by p → slice_index (held_by p) k ≡ d + 1) → (name_of (plan_point_of p) ≡ name.Hazard k → x.value ≡ d + 1)
     → NextNotes k d (next_of p x)
 unfolding next_of plan_point_of
-notes-next g who k d point.Idle x checked has fits noted reads = noted
-notes-next g who k d (point.Block p o) x checked has fits noted reads = unread-notes k d _ (reads-block (settle_block_of p x) o)
-notes-next g who k d (point.Stack p o) x checked has fits noted reads = unread-notes k d _ (reads-stack (settle_stack_of p x) o)
-notes-next g who k d (point.Desc p o) x checked has fits noted reads = desc-notes g who k d p o x checked has fits noted reads
-notes-next g who k d (point.Partial p o) x checked has fits noted reads = unread-notes k d _ (reads-partial (settle_partial_of p x) o)
-notes-next g who k d (point.Large p o) x checked has fits noted reads = unread-notes k d _ (reads-large (settle_large_of p x) o)
+notes-next g who k d point.Idle x checked has fits noted scans_on = noted
+notes-next g who k d (point.Block p o) x checked has fits noted scans_on = unread-notes k d _ (reads-block (settle_block_of p x) o)
+notes-next g who k d (point.Stack p o) x checked has fits noted scans_on = unread-notes k d _ (reads-stack (settle_stack_of p x) o)
+notes-next g who k d (point.Desc p o) x checked has fits noted scans_on = desc-notes g who k d p o x checked has fits noted scans_on
+notes-next g who k d (point.Partial p o) x checked has fits noted scans_on = unread-notes k d _ (reads-partial (settle_partial_of p x) o)
+notes-next g who k d (point.Large p o) x checked has fits noted scans_on = unread-notes k d _ (reads-large (settle_large_of p x) o)
 
 -- an action at a hazard word leaves it, or is the store of the caller whose word it is
 abbrev pub MayStore : ℕ → ℕ → Action → ℕ → Type 0
@@ -186,22 +181,22 @@ store-desc g who k w (desc.ReadHazard s held i) fits is = inl refl
 store-desc g who k w p fits is = absurd (cc)
 
 -- no other part acts on a hazard word
-not-head : (s : SeatFields) (pile : Pile) (k : ℕ) → head_name s pile ≡ name.Hazard k → ⊥
-not-head s Frames k is = cc
-not-head s Partials k is = cc
+head-not-hazard : (s : SeatFields) (pile : Pile) (k : ℕ) → head_name s pile ≡ name.Hazard k → ⊥
+head-not-hazard s Frames k is = cc
+head-not-hazard s Partials k is = cc
 
-not-next : (pile : Pile) (i k : ℕ) → next_name pile i ≡ name.Hazard k → ⊥
-not-next Frames i k is = cc
-not-next Partials i k is = cc
+next-not-hazard : (pile : Pile) (i k : ℕ) → next_name pile i ≡ name.Hazard k → ⊥
+next-not-hazard Frames i k is = cc
+next-not-hazard Partials i k is = cc
 
-not-stack : (p : StackPoint) (k : ℕ) → name_of (plan_stack_of p) ≡ name.Hazard k → ⊥
-not-stack p k is = grind (arith, not-head, not-next, is)
+stack-not-hazard : (p : StackPoint) (k : ℕ) → name_of (plan_stack_of p) ≡ name.Hazard k → ⊥
+stack-not-hazard p k is = grind (arith, head-not-hazard, next-not-hazard, is)
 
 not-partial : (p : PartialPoint) (k : ℕ) → name_of (plan_partial_of p) ≡ name.Hazard k → ⊥
 not-partial p k is = grind (arith, is)
 
-not-large : (p : LargePoint) (k : ℕ) → name_of (plan_large_of p) ≡ name.Hazard k → ⊥
-not-large p k is = grind (arith, is)
+large-not-hazard : (p : LargePoint) (k : ℕ) → name_of (plan_large_of p) ≡ name.Hazard k → ⊥
+large-not-hazard p k is = grind (arith, is)
 
 -- at each point
 pub may-store :
@@ -209,7 +204,7 @@ pub may-store :
 unfolding plan_point_of
 may-store g who k w point.Idle fits is = absurd (cc)
 may-store g who k w (point.Block p o) fits is = store-block g who k w p fits.point is
-may-store g who k w (point.Stack p o) fits is = absurd (not-stack p k is)
+may-store g who k w (point.Stack p o) fits is = absurd (stack-not-hazard p k is)
 may-store g who k w (point.Desc p o) fits is = store-desc g who k w p fits.point is
 may-store g who k w (point.Partial p o) fits is = absurd (not-partial p k is)
-may-store g who k w (point.Large p o) fits is = absurd (not-large p k is)
+may-store g who k w (point.Large p o) fits is = absurd (large-not-hazard p k is)

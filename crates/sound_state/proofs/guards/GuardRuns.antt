@@ -18,14 +18,14 @@ use Rattle.sound_state.specs.Guards.{Guards, passed_by}
 use Rattle.sound_state.specs.Lists.{IsListed}
 use Rattle.sound_state.specs.Runs.{Begins, Move, begins, steps, Moved}
 use Rattle.sound_state.specs.Sound.{IsSoundWithoutCounts, with_errands}
+use Rattle.sound_state.proofs.ReachLemmas.{move-sound}
 use Rattle.sound_state.proofs.guards.AvailSteps.{available-stepped}
 use Rattle.sound_state.proofs.guards.GuardSettles.{HasNoted}
 use Rattle.sound_state.proofs.guards.GuardSteps.{guarded-stepped}
 use Rattle.sound_state.proofs.shared.CallerLemmas.{each-other}
-use Rattle.sound_state.proofs.tags.TagRuns.{move-sound}
 
 -- the caller has the same list, pushes nothing and scans nothing
-record IsFresh (e e' : ErrandFields) : Type 0 where
+record ScansNothing (e e' : ErrandFields) : Type 0 where
   pub retired : e'.retired ≡ e.retired
   pub pushed : pushed_by e'.point ≡ None
   pub passed : passed_by e'.point ≡ 0
@@ -37,22 +37,22 @@ idle-pushed p idle = grind (arith, idle)
 idle-passed : (p : Point) → is_idle p ≡ true → passed_by p ≡ 0
 idle-passed p idle = grind (arith, idle)
 
-idle-fresh : (e : ErrandFields) → IsIdle e → IsFresh e e
+idle-fresh : (e : ErrandFields) → IsIdle e → ScansNothing e e
 idle-fresh e idle = record { retired = refl; pushed = idle-pushed e.point idle; passed = idle-passed e.point idle }
 
 -- and where it begins a call
-alloc-fresh : (e : ErrandFields) (words : ℕ) (n : Need) → IsIdle e → IsFresh e (begins_alloc e words n)
+alloc-fresh : (e : ErrandFields) (words : ℕ) (n : Need) → IsIdle e → ScansNothing e (begins_alloc e words n)
 alloc-fresh e words (Small class) idle =
-    cond_both (is_spent e) e _ (IsFresh e) (λ spent. idle-fresh e idle) (λ has. record { retired = refl; pushed = refl; passed = refl })
+    cond_both (is_spent e) e _ (ScansNothing e) (λ spent. idle-fresh e idle) (λ has. record { retired = refl; pushed = refl; passed = refl })
 alloc-fresh e words (Large units) idle = record { retired = refl; pushed = refl; passed = refl }
 alloc-fresh e words TooLarge idle = idle-fresh e idle
 
-free-fresh : (e : ErrandFields) (place : ℕ) (n : Need) → IsIdle e → IsFresh e (record e { point = free_point e place n })
+free-fresh : (e : ErrandFields) (place : ℕ) (n : Need) → IsIdle e → ScansNothing e (record e { point = free_point e place n })
 free-fresh e place (Small class) idle = record { retired = refl; pushed = refl; passed = refl }
 free-fresh e place (Large units) idle = record { retired = refl; pushed = refl; passed = refl }
 free-fresh e place TooLarge idle = idle-fresh e idle
 
-begun-fresh : (e : ErrandFields) (call : Call) → IsIdle e → IsFresh e (begun_by e call)
+begun-fresh : (e : ErrandFields) (call : Call) → IsIdle e → ScansNothing e (begun_by e call)
 unfolding alloc_begun free_begun write_begun read_begun put_begun take_begun
 begun-fresh e (alloc words) idle = alloc-fresh e words (need_of words) idle
 begun-fresh e (free place need) idle = free-fresh e place need idle

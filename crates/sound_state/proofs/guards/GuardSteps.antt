@@ -17,10 +17,10 @@ use Rattle.sound_state.proofs.shared.CallerLemmas.{each-other}
 use Rattle.sound_state.proofs.shared.PointLemmas.{fits-now}
 
 -- the hazard word stays
-word-stays :
+hazard-stays :
     (g : Geometry) (s : State) (who other : ℕ) (s' : State) → IsSoundWithoutCounts g s → other < g.callers
     → (other ≡ who → StoresHazard s who → ⊥) → Step s other s' → s'.word (name.Hazard who) ≡ s.word (name.Hazard who)
-word-stays g s who other s' sound has leaves step =
+hazard-stays g s who other s' sound has leaves step =
     elim (cases_name (name.Hazard who) (name_at s other)) [
       | inr differ ↦ step.word.elsewhere (name.Hazard who) differ
       | inl is ↦
@@ -50,7 +50,7 @@ guarded-stepped g s who d other s' sound has has_other leaves guarded step =
     let x = found_at s other in
     let notes = step-notes g s who d other sound has has_other guarded in
     record {
-      word = word-stays g s who other s' sound has_other leaves step ∙ guarded.word;
+      word = hazard-stays g s who other s' sound has_other leaves step ∙ guarded.word;
       pushed =
           each-other g (λ i e. pushed_by e.point ≢ Some d) s.errand other _ s'.errand step.errand
           (settled-pushes who d e x (guarded.pushed other has_other) notes) (λ i has_i differ. guarded.pushed i has_i);

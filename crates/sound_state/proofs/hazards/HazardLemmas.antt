@@ -1,17 +1,13 @@
 -- A step that stores its caller's hazard word, or reads one, and after which the caller holds what else it held.
-use Rattle.std.proofs.Common.{ℕ, zero, suc, false, Option, Some, None, ◌≡◌, ◌<◌, ◌≤◌, ◌+◌, ◌^◌, List, [], ◌∷◌, length, refl, arith, ap, sym, subst, inl, inr, ◌⊎◌, ◌∙◌}
-use Rattle.std.specs.Prelude.{All, Any, Contains, IsTrue, IfSome, ◌==◌}
-use Rattle.std.proofs.lemmas.Bool.{cond-true, eq-eqb}
+use Rattle.std.proofs.Common.{ℕ, false, Option, Some, None, ◌≡◌, ◌<◌, ◌+◌, ◌^◌, List, length, refl, arith, ap, sym, subst, inl, inr, ◌⊎◌, ◌∙◌}
+use Rattle.std.specs.Prelude.{All, Any, IsTrue}
 use Rattle.std.proofs.lemmas.Option.{none-some}
 use Rattle.heap_geometry.specs.declared.geometry.Geometry.{Geometry}
-use Rattle.heap_geometry.specs.Geometry.{IsChecked}
 use Rattle.word_plan.specs.declared.action.Found.{Found}
 use Rattle.word_plan.specs.declared.name.WordName.{WordName}
 use Rattle.word_plan.specs.declared.name.WordName.TheVariants as name
 use Rattle.word_plan.specs.Actions.{name_of, after_action}
-use Rattle.word_plan.specs.Counts.{descriptor_count}
 use Rattle.word_plan.specs.Words.{Writes}
-use Rattle.word_plan.proofs.CountLemmas.{descriptor_count_within}
 use Rattle.superblock_parts.specs.Chains.{occurs}
 use Rattle.errand_steps.specs.declared.next.Next.TheVariants.{At, End, Pick}
 use Rattle.errand_steps.specs.declared.onward.Onward.{Onward}
@@ -29,18 +25,14 @@ use Rattle.errand_steps.specs.Points.{plan_point_of}
 use Rattle.errand_steps.specs.Steps.{State, Step, found_at}
 use Rattle.sound_state.specs.Guards.{Guards, IsHazard, IsGuard, passed_by, held_by}
 use Rattle.sound_state.specs.Holdings.{holds_of, waiting, on_its_way}
-use Rattle.sound_state.specs.Keepers.{IsKeptAs, word_keeps, errand_has}
+use Rattle.sound_state.specs.Keepers.{IsKeptAs, word_keeps}
 use Rattle.sound_state.specs.Lists.{Lists}
 use Rattle.sound_state.specs.Recalls.{IsPlain, IsSo, IsOwned, recalls_of}
 use Rattle.sound_state.specs.Sound.{IsSoundWithoutCounts, IsSoundWith}
 use Rattle.sound_state.specs.Stock.{waits_in, word_stock, stock_among}
-use Rattle.sound_state.specs.Sums.{callers_sum}
-use Rattle.sound_state.specs.Superblocks.{word_reserves, reserved_among, kept_among, errand_away}
-use Rattle.sound_state.proofs.shared.AlikeLemmas.{MayGuard, GuardsAnew, IsUnretired, ActivesKept}
-use Rattle.sound_state.proofs.shared.ShownLemmas.{actives-same}
-use Rattle.sound_state.proofs.quiet.QuietLemmas.{found_from, actives-stay, words-stay}
-use Rattle.sound_state.proofs.shared.StepLemmas.{PointStands, TurnGoes, at_point, settle-at, settle-end, step-most}
-use Rattle.sound_state.proofs.shared.SumLemmas.{term-sum}
+use Rattle.sound_state.specs.Superblocks.{word_reserves, reserved_among, kept_among}
+use Rattle.sound_state.proofs.shared.ShownLemmas.{actives-same, GuardsAnew, MayGuard, ActivesKept}
+use Rattle.sound_state.proofs.shared.StepLemmas.{PointStands, TurnGoes, at_point, settle-at, settle-end, step-most, found_from, actives-stay, words-stay}
 use Rattle.sound_state.proofs.shared.WeighLemmas.{WeighMost}
 
 -- at the second point a caller holds what it holds at the first, but for its hazard word, and is no further back in its turn
@@ -238,48 +230,3 @@ plain-guards g s who q retired word hazard guard pushed passed unread = record {
   passed = λ i d has guards listed below. let bad : ⊥ = omega (arith, below, passed) in absurd bad;
   unread = λ i from below. let bad : ⊥ = omega (arith, below, unread) in absurd bad;
 }
-
--- the name of a descriptor fits a word
-pub name-below : (g : Geometry) (d : ℕ) → IsChecked g → d < descriptor_count g → d + 1 < 2 ^ 64
-name-below g d checked exists = omega (arith, descriptor_count_within g checked, exists)
-
--- what a list contains occurs in it
-pub contains-occurs : (xs : List ℕ) (d : ℕ) → Contains xs d → 1 ≤ occurs d xs
-contains-occurs [] d has = omega (arith, has.1)
-contains-occurs (x ∷ xs) d (zero, below, is) = omega (arith, cond-true {A = ℕ} (x == d) 1 0 (eq-eqb x d is))
-contains-occurs (x ∷ xs) d (suc k, below, is) = omega (arith, contains-occurs xs d (k, omega (arith, below), is))
-
--- what occurs in no caller's list is retired nowhere, and nobody pushes it
-pub unretired :
-    (g : Geometry) (s : State) (l : Lists) (d : ℕ) → IsSoundWith g s l
-    → ((other : ℕ) → other < g.callers → occurs d (s.errand other).retired ≡ 0) → IsUnretired g s d
-unretired g s l d old none =
-    let listed = λ (other : ℕ) (has : other < g.callers) (in_list : Contains (s.errand other).retired d).
-    let bad : ⊥ = omega (arith, contains-occurs (s.errand other).retired d in_list, none other has) in bad in
-    record {
-      pushed = λ other has is.
-          listed other has (subst (λ o. IfSome o (λ k. Contains (s.errand other).retired k)) is (old.errands other has).rule.pushed);
-      listed = listed;
-    }
-
--- so is one that is available
-pub available-unretired :
-    (g : Geometry) (s : State) (l : Lists) (d : ℕ) → IsSoundWith g s l → d < descriptor_count g → 1 ≤ occurs d l.available
-    → IsUnretired g s d
-unfolding callers_sum
-available-unretired g s l d old exists on =
-    unretired g s l d old
-    (λ other has.
-    let once = old.kept.once d exists in
-    let mine : errand_has d (s.errand other) ≤ callers_sum g (errand_has d) s.errand = term-sum g.callers (λ i. errand_has d (s.errand i)) other has in
-    omega (arith, once, mine, on))
-
--- and one that has a superblock
-pub bound-unretired :
-    (g : Geometry) (s : State) (l : Lists) (d : ℕ) → IsSoundWith g s l → callers_sum g (errand_away d) s.errand ≡ 0 → IsUnretired g s d
-unfolding callers_sum
-bound-unretired g s l d old none =
-    unretired g s l d old
-    (λ other has.
-    let mine : errand_away d (s.errand other) ≤ callers_sum g (errand_away d) s.errand = term-sum g.callers (λ i. errand_away d (s.errand i)) other has in
-    omega (arith, mine, none))

@@ -1,5 +1,5 @@
 -- Steps at a caller's own hazard word, and scans of all of them, that keep the state sound.
-use Rattle.std.proofs.Common.{ℕ, Option, Some, None, ◌≡◌, ◌≢◌, ◌<◌, ◌≤◌, ◌+◌, List, [], ◌∷◌, length, refl, arith, ap, sym, subst, inl, inr, ◌∙◌, length-set, get_or-set_other}
+use Rattle.std.proofs.Common.{ℕ, Option, Some, None, ◌≡◌, ◌<◌, ◌≤◌, ◌+◌, List, [], ◌∷◌, length, refl, arith, ap, sym, subst, inl, inr, ◌∙◌, length-set, get_or-set_other}
 use Rattle.std.specs.Prelude.{Contains, IsTrue, ◌==◌, slice_index, slice_set, nat_lt, true, false}
 use Rattle.std.proofs.lemmas.Bool.{cond-true, eq-eqb, lt-ltb, le-ltb, ltb-true, ltb-false, cases_eq, cases_Bool}
 use Rattle.std.proofs.lemmas.Option.{none-some, same_Some}
@@ -37,10 +37,13 @@ use Rattle.sound_state.specs.Recalls.{IsSo, recalls_of, bound_at}
 use Rattle.sound_state.specs.Sound.{IsSoundWithoutCounts, IsSoundWith}
 use Rattle.sound_state.specs.Sums.{callers_sum}
 use Rattle.sound_state.specs.Superblocks.{is_bound, away_of, errand_away}
-use Rattle.sound_state.proofs.shared.AlikeLemmas.{GuardsAnew}
-use Rattle.sound_state.proofs.hazards.HazardLemmas.{store-hazard, read-hazard, plain-guards, leads-at, ends-at, picks-at, name-below, available-unretired, bound-unretired}
+use Rattle.sound_state.proofs.hazards.HazardLemmas.{store-hazard, read-hazard, plain-guards, leads-at, ends-at, picks-at}
 use Rattle.sound_state.proofs.quiet.QuietDescs.{reload_desc_head_other-sound}
-use Rattle.sound_state.proofs.shared.PointLemmas.{fits-at, so-at, hazard-at}
+use Rattle.sound_state.proofs.shared.GuardEffects.{available-unretired, bound-unretired}
+use Rattle.sound_state.proofs.shared.HasLemmas.{bound-away}
+use Rattle.sound_state.proofs.shared.PointLemmas.{fits-at, so-at, hazard-at, unread-at, noted-unread}
+use Rattle.sound_state.proofs.shared.ShownLemmas.{GuardsAnew}
+use Rattle.sound_state.proofs.shared.WordFacts.{name-below}
 
 -- the store of the name of a descriptor that was on top of the available ones
 pub store_hazard-sound :
@@ -165,8 +168,6 @@ clear_hazard_ends-sound g s who s' seat sound has at step =
     step
 
 -- a free stores the name of the descriptor whose superblock its push makes empty
-bound-near : (g : Geometry) (s : State) (l : Lists) (d : ℕ) → IsTrue (is_bound g s l d) → away_of g s l d ≡ 0
-bound-near g s l d bound = grind (arith, bound)
 
 pub store_guard-sound :
     (g : Geometry) (s : State) (who : ℕ) (s' : State) (site : Site) (i : ℕ) (a : AnchorFields) (o : Onward) → IsSoundWithoutCounts g s → who < g.callers
@@ -181,7 +182,7 @@ store_guard-sound g s who s' site i a o sound has at step =
     (name-below g d sound.checked fits.block.site.desc)
     (λ l old.
     let bound : IsTrue (is_bound g s l d) = (so-at g s l who p old has at 0 (bound_at d site.frame site.seat.class) (omega arith)).0 in
-    let near : away_of g s l d ≡ 0 = bound-near g s l d bound in
+    let near : away_of g s l d ≡ 0 = bound-away g s l d bound in
     let none : callers_sum g (errand_away d) s.errand ≡ 0 = omega (arith, near) in
     let free = bound-unretired g s l d old none in
     record {
@@ -209,13 +210,6 @@ passed-at g s l who p old has at =
     subst (λ q. (k d : ℕ) → k < g.callers → Guards s k d → Contains (s.errand who).retired d → k < passed_by q → slice_index (held_by q) k ≡ d + 1) at
     (λ k d has_k guards listed below. old.guarded.passed k who d has_k has guards listed below)
 
-unread-at :
-    (g : Geometry) (s : State) (l : Lists) (who : ℕ) (p : Point) → IsSoundWith g s l → who < g.callers → (s.errand who).point ≡ p
-    → (k : ℕ) → passed_by p ≤ k → k < length (held_by p) → slice_index (held_by p) k ≡ 0
-unread-at g s l who p old has at =
-    subst (λ q. (k : ℕ) → passed_by q ≤ k → k < length (held_by q) → slice_index (held_by q) k ≡ 0) at
-    (λ k from below. old.guarded.unread who k has from below)
-
 -- with the word that it reads it has passed one more caller
 noted-passed :
     (g : Geometry) (s : State) (l : Lists) (who : ℕ) (seat : SeatFields) (held : List ℕ) (i : ℕ) (o : Onward) → IsSoundWith g s l
@@ -230,16 +224,6 @@ noted-passed g s l who seat held i o old has at room k d has_k guards listed bel
           get_or-set_other held i k (s.word (name.Hazard i)) 0 differ
           ∙ passed-at g s l who (Desc (desc.ReadHazard seat held i) o) old has at k d has_k guards listed less
     ]
-
-pub noted-unread :
-    (g : Geometry) (s : State) (l : Lists) (who : ℕ) (seat : SeatFields) (held : List ℕ) (i : ℕ) (o : Onward) → IsSoundWith g s l
-    → who < g.callers → (s.errand who).point ≡ Desc (desc.ReadHazard seat held i) o → (k : ℕ) → i + 1 ≤ k
-    → k < length (slice_set held i (s.word (name.Hazard i))) → slice_index (slice_set held i (s.word (name.Hazard i))) k ≡ 0
-noted-unread g s l who seat held i o old has at k from below =
-    let differ : k ≢ i = λ same. let bad : ⊥ = omega (arith, same, from) in bad in
-    get_or-set_other held i k (s.word (name.Hazard i)) 0 differ
-    ∙ unread-at g s l who (Desc (desc.ReadHazard seat held i) o) old has at k (omega (arith, from))
-    (omega (arith, below, length-set held i (s.word (name.Hazard i))))
 
 -- and goes on to the next one
 pub read_hazard_next-sound :

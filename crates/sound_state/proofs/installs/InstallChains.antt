@@ -1,4 +1,4 @@
--- A won install: the superblocks keep their blocks in order.
+-- A won install: the superblocks keep their installed-blocks in order.
 use Rattle.std.proofs.Common.{ℕ, ◌≡◌, ◌≢◌, ◌<◌, ◌+◌, refl, arith, ap, sym, subst, inl, inr, ◌∙◌}
 use Rattle.std.specs.Prelude.{◌==◌, IsTrue}
 use Rattle.std.proofs.lemmas.Bool.{cases_eq, cond-false, ne_eqb}
@@ -13,7 +13,7 @@ use Rattle.sound_state.proofs.installs.InstallEffects.{Installs}
 use Rattle.sound_state.proofs.installs.InstallFacts.{installed-still, installed-anchor, installed-bound, installed-others, installed-one, installed-reserved, installed-back, installed-some, installed-here, installed-there}
 use Rattle.sound_state.proofs.shared.SuperblockEffects.{LieStill, BlockEffects, next-stays, size-stays, superblock-stays, live-after, rest-live, chained-after, same-chain-chained}
 
--- a superblock whose first block is live instead of held back keeps its blocks in order
+-- a superblock whose first block is live instead of held back keeps its installed-blocks in order
 first-given :
     (b b' : Superblock) → IsChained b → b'.anchor ≡ b.anchor → free_chain b' ≡ free_chain b → b'.next ≡ b.next → b'.size ≡ b.size
     → b'.waiting ≡ 0 → b.waiting ≡ 1 → b.live 0 ≡ 0 → b'.live 0 ≡ 1
@@ -34,35 +34,35 @@ first-given b b' old anchor chain next size waits waited was now others =
 module _
     (g : Geometry) (s : State) (l : Lists) (who : ℕ) (at : Site) (words : ℕ) (e : ErrandFields) (s' : State)
     (h : Installs g s l who at words e s') where
-  still : LieStill s s'
-  still = installed-still g s l who at words e s' h
+  installed-lie : LieStill s s'
+  installed-lie = installed-still g s l who at words e s' h
 
   -- the first block alone becomes live
-  blocks : IsSoundWith g s l → BlockEffects g s l who at 0 s'
-  blocks old = record {
+  installed-blocks : IsSoundWith g s l → BlockEffects g s l who at 0 s'
+  installed-blocks old = record {
     site = h.site;
     bound = h.bound;
     located = h.located;
     index = installed-some g s l who at words e s' h old;
-    still = still;
+    still = installed-lie;
     there = installed-there g s l who at words e s' h;
   }
 
   -- it is live instead of held back, and each chain stays
-  here-chained : IsSoundWith g s l → IsChained (superblock_of g s' at.desc)
-  here-chained old =
+  installed-here-chained : IsSoundWith g s l → IsChained (superblock_of g s' at.desc)
+  installed-here-chained old =
       let back = installed-back g s l who at words e s' h old in
-      let next = next-stays still g at.desc in
+      let next = next-stays installed-lie g at.desc in
       let anchor = installed-anchor g s l who at words e s' h at.desc in
       first-given (superblock_of g s at.desc) (superblock_of g s' at.desc) (old.chained.chained at.desc h.site.desc h.bound) anchor
-      (rw (next, anchor, installed-reserved g s l who at words e s' h at.desc) refl) next (size-stays still g at.desc)
+      (rw (next, anchor, installed-reserved g s l who at words e s' h at.desc) refl) next (size-stays installed-lie g at.desc)
       (omega (arith, installed-one g s l who at words e s' h, back.2)) back.2 back.1
-      (live-after (blocks old) 0 ∙ ap is_there (installed-here g s l who at words e s' h)) (rest-live (blocks old))
+      (live-after (installed-blocks old) 0 ∙ ap is_there (installed-here g s l who at words e s' h)) (rest-live (installed-blocks old))
 
-  -- all superblocks keep their blocks in order
+  -- all superblocks keep their installed-blocks in order
   pub installed-chained : IsSoundWith g s l → AreChained g s' l
   installed-chained old =
-      chained-after (blocks old) old (λ d. subst IsTrue (installed-bound g s l who at words e s' h d)) (λ bound. here-chained old)
+      chained-after (installed-blocks old) old (λ d. subst IsTrue (installed-bound g s l who at words e s' h d)) (λ bound. installed-here-chained old)
       (λ d differ.
-      superblock-stays still g d (installed-anchor g s l who at words e s' h d) (installed-reserved g s l who at words e s' h d)
+      superblock-stays installed-lie g d (installed-anchor g s l who at words e s' h d) (installed-reserved g s l who at words e s' h d)
       (installed-others g s l who at words e s' h d differ))

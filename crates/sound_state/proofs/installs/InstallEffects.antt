@@ -1,5 +1,5 @@
 -- A won install: what it changes, and that everything else stays.
-use Rattle.std.proofs.Common.{ℕ, true, false, ◌≡◌, ◌<◌, ◌^◌, [], ◌∷◌, ◌++◌}
+use Rattle.std.proofs.Common.{ℕ, false, ◌≡◌, ◌<◌, ◌^◌, [], ◌∷◌, ◌++◌}
 use Rattle.std.specs.Prelude.{IsTrue}
 use Rattle.heap_geometry.specs.declared.geometry.Geometry.{Geometry}
 use Rattle.heap_geometry.specs.declared.need.Need.TheVariants as need
@@ -15,17 +15,14 @@ use Rattle.word_plan.specs.Words.{Writes}
 use Rattle.superblock_parts.specs.Anchors.{new_anchor, new_credits}
 use Rattle.pool_model.specs.declared.event.Event.TheVariants.{Alloc}
 use Rattle.errand_steps.specs.Errands.{ErrandFields}
-use Rattle.errand_steps.specs.declared.point.Point.{Point}
 use Rattle.errand_steps.specs.Steps.{State, Moves}
 use Rattle.sound_state.specs.Holdings.{Holding, nothing, block_handed, holds_of}
 use Rattle.sound_state.specs.Lists.{Lists}
 use Rattle.sound_state.specs.Recalls.{IsLocated, bound_here, recalls_of}
 use Rattle.sound_state.specs.Sound.{IsOwnErrand}
-use Rattle.sound_state.specs.Stock.{waits_in}
 use Rattle.sound_state.specs.Superblocks.{anchor_for, is_bound}
-use Rattle.sound_state.specs.Turns.{in_turn, has_frame, has_refused, is_discarding_at, pops_left}
-use Rattle.sound_state.proofs.pops.PopEffects.{StandsIn}
-pub use Rattle.sound_state.proofs.shared.MakingWeights.{installing_holds}
+use Rattle.sound_state.proofs.shared.MakingWeights.{installing_holds}
+use Rattle.sound_state.proofs.shared.TurnEffects.{StandsIn, StandsFramed}
 
 -- what a caller holds that has installed one
 abbrev pub installed_holds : Site → Holding
@@ -38,15 +35,6 @@ first_place at = block_place at.frame at.seat.class 0
 -- the word that names it, with the credits of a new superblock
 abbrev pub installed_word : Site → ℕ
 installed_word at = active_word (Held at.desc (new_credits at.seat.class))
-
--- a point of a turn that has popped a frame and given no block yet
-pub record StandsFramed (p : Point) : Type 0 where
-  pub turn : in_turn p ≡ true
-  pub frame : has_frame p ≡ true
-  pub refused : has_refused p ≡ false
-  pub discarding : is_discarding_at p ≡ false
-  pub pops : pops_left p ≡ 0
-  pub waits : (class : ℕ) → waits_in class p ≡ 0
 
 -- a caller installs a new superblock as the active one and takes its first block, and all else stays
 pub record Installs (g : Geometry) (s : State) (l : Lists) (who : ℕ) (at : Site) (words : ℕ) (e : ErrandFields) (s' : State) : Type 0 where

@@ -1,5 +1,5 @@
 -- What a won install leaves, and how it changes the pool and what waits.
-use Rattle.std.proofs.Common.{ℕ, Option, Some, None, ◌≡◌, ◌≢◌, ◌<◌, ◌+◌, refl, arith, ap, sym, subst, ◌∙◌}
+use Rattle.std.proofs.Common.{ℕ, Some, None, ◌≡◌, ◌≢◌, ◌<◌, ◌+◌, refl, arith, ap, sym, subst, ◌∙◌}
 use Rattle.heap_geometry.specs.declared.geometry.Geometry.{Geometry}
 use Rattle.heap_geometry.specs.Need.{block_count_of}
 use Rattle.packed_words.specs.declared.active.ActiveWord.TheVariants.{Null, Held}
@@ -10,21 +10,22 @@ use Rattle.word_plan.specs.declared.seat.Site.{Site}
 use Rattle.word_plan.specs.Sites.{active_name}
 use Rattle.superblock_parts.specs.Anchors.{new_credits}
 use Rattle.superblock_parts.specs.Chains.{occurs}
-use Rattle.pool_model.specs.Pool.{Block, block_at, fresh_block, pool_of}
+use Rattle.pool_model.specs.Pool.{block_at, fresh_block, pool_of}
 use Rattle.errand_steps.specs.Errands.{ErrandFields}
 use Rattle.errand_steps.specs.Steps.{State}
 use Rattle.sound_state.specs.Holdings.{on_its_way}
 use Rattle.sound_state.specs.Lists.{Lists}
 use Rattle.sound_state.specs.Sound.{IsSoundWith}
 use Rattle.sound_state.specs.Sums.{callers_sum}
-use Rattle.sound_state.specs.Superblocks.{IsChained, anchor_for, info_for, superblock_of, free_chain, is_there, is_bound, away_of, waiting_of, reserved_of, word_reserves, reserved_among, errand_keeps}
-use Rattle.sound_state.proofs.quiet.QuietCredits.{null-said, held-said}
-use Rattle.sound_state.proofs.installs.InstallEffects.{Installs, installing_holds, installed_word, first_place, installed_holds}
+use Rattle.sound_state.specs.Superblocks.{IsChained, anchor_for, info_for, superblock_of, free_chain, is_bound, away_of, waiting_of, reserved_of, word_reserves, reserved_among, errand_keeps}
+use Rattle.sound_state.proofs.installs.InstallEffects.{Installs, installed_word, first_place, installed_holds}
+use Rattle.sound_state.proofs.shared.OverlapLemmas.{there-none}
 use Rattle.sound_state.proofs.shared.SumLemmas.{words-written}
 use Rattle.sound_state.proofs.shared.HoldingEffects.{HoldingEffects, waits-go, ways-go, credits-go, away-goes}
-use Rattle.sound_state.proofs.shared.MakingWeights.{is_it, it-here, it-elsewhere, installing-waits, installing-others}
+use Rattle.sound_state.proofs.shared.MakingWeights.{is_it, it-here, it-elsewhere, installing-waits, installing-others, installing_holds}
 use Rattle.sound_state.proofs.shared.SuperblockEffects.{IsLayWord, LieStill, info-stays, located-live, given-here, given-there}
-use Rattle.sound_state.proofs.shared.TallyLemmas.{held-once}
+use Rattle.sound_state.proofs.shared.TallyLemmas.{held-back-once}
+use Rattle.sound_state.proofs.shared.WordFacts.{null-said, held-said}
 
 -- the credits go from the caller to the word
 credits-weigh :
@@ -37,9 +38,6 @@ credits-weigh d at fits =
     rw (null, held) (grind (arith))
 
 -- the first block is held back before, and live after; all other places are as they were
-pub there-none : (o : Option Block) → is_there o ≡ 0 → o ≡ None
-there-none None none = refl
-there-none (Some b) none = absurd (omega (arith, none))
 
 module _
     (g : Geometry) (s : State) (l : Lists) (who : ℕ) (at : Site) (words : ℕ) (e : ErrandFields) (s' : State)
@@ -97,7 +95,7 @@ module _
   pub installed-back :
       IsSoundWith g s l
       → (occurs 0 (free_chain (superblock_of g s at.desc)) ≡ 0) × ((superblock_of g s at.desc).live 0 ≡ 0) × (waiting_of g s at.desc ≡ 1)
-  installed-back is = held-once (superblock_of g s at.desc) (installed-chain is) (omega (arith, installed-one))
+  installed-back is = held-back-once (superblock_of g s at.desc) (installed-chain is) (omega (arith, installed-one))
 
   pub installed-none : IsSoundWith g s l → block_at (first_place at) (pool_of s.history) ≡ None
   installed-none is =

@@ -1,5 +1,5 @@
 -- A won install leaves each descriptor in one place, as many out for each class, and each frame in one place.
-use Rattle.std.proofs.Common.{ℕ, Some, ◌≡◌, ◌≢◌, ◌<◌, ◌+◌, [], refl, arith, ap, sym, subst, inl, inr, ◌∙◌}
+use Rattle.std.proofs.Common.{ℕ, ◌≡◌, ◌≢◌, ◌<◌, ◌+◌, [], refl, arith, ap, sym, subst, inl, inr, ◌∙◌}
 use Rattle.std.specs.Prelude.{◌==◌, All, IsTrue, if◌then◌else◌}
 use Rattle.std.proofs.lemmas.Bool.{cases_eq, cond-true, eq-eqb, ne_eqb}
 use Rattle.std.proofs.lemmas.List.Elements.{All-nil, All-head}
@@ -14,44 +14,24 @@ use Rattle.superblock_parts.specs.Anchors.{new_credits}
 use Rattle.superblock_parts.specs.Chains.{occurs}
 use Rattle.errand_steps.specs.Errands.{ErrandFields}
 use Rattle.errand_steps.specs.Steps.{State}
-use Rattle.sound_state.specs.Frames.{IsFramed, errand_frames, fills}
-use Rattle.sound_state.specs.Holdings.{Kept, Status, waiting}
-use Rattle.sound_state.specs.Keepers.{IsKept, IsPartlyUsed, IsActive, IsWithout, IsKeptAs, places_of, errand_has, full_keeps, word_keeps}
+use Rattle.sound_state.specs.Frames.{IsFramed, errand_frames, fills_frame}
+use Rattle.sound_state.specs.Holdings.{Kept, waiting}
+use Rattle.sound_state.specs.Keepers.{IsKept, IsActive, IsKeptAs, places_of, errand_has, full_keeps, word_keeps}
 use Rattle.sound_state.specs.Lists.{Lists}
 use Rattle.sound_state.specs.Sound.{IsSoundWith}
 use Rattle.sound_state.specs.Stock.{IsStocked, stock_of, stock_among, errand_stock, full_stock, word_stock}
 use Rattle.sound_state.specs.Sums.{sum_below}
-use Rattle.sound_state.specs.Superblocks.{anchor_for, info_for, is_bound, waiting_of}
-use Rattle.sound_state.proofs.quiet.QuietCredits.{null-said, null-none, held-said, held-some}
-use Rattle.sound_state.proofs.shared.FrameLemmas.{bound-fills}
-use Rattle.sound_state.proofs.shared.AlikeLemmas.{ActivesKept}
-use Rattle.sound_state.proofs.shared.KeptLemmas.{Goes, kept-goes, places-kept, same-goes}
+use Rattle.sound_state.specs.Superblocks.{info_for, is_bound, waiting_of}
+use Rattle.sound_state.proofs.shared.FrameLemmas.{bound-fills, waiting-fills}
+use Rattle.sound_state.proofs.shared.KeptLemmas.{places-kept, SameDescs, descs-go}
 use Rattle.sound_state.proofs.shared.CreditLemmas.{actives-written}
-use Rattle.sound_state.proofs.installs.InstallEffects.{Installs, installing_holds, installed_holds, installed_word}
+use Rattle.sound_state.proofs.installs.InstallEffects.{Installs, installed_holds, installed_word}
 use Rattle.sound_state.proofs.installs.InstallFacts.{installed-info, installed-anchor, installed-bound, installed-others, installed-one, installed-back}
+use Rattle.sound_state.proofs.shared.MakingWeights.{installing_holds}
 use Rattle.sound_state.proofs.shared.PointLemmas.{kept_places}
+use Rattle.sound_state.proofs.shared.ShownLemmas.{ActivesKept}
 use Rattle.sound_state.proofs.shared.SumLemmas.{callers-moved, sum-change, sum-same, words-written}
-
--- two states whose descriptors say the same
-pub record SameDescs (s s' : State) : Type 0 where
-  pub info : (d : ℕ) → info_for s' d ≡ info_for s d
-  pub anchor : (d : ℕ) → anchor_for s' d ≡ anchor_for s d
-
-pub descs-go : (s s' : State) → SameDescs s s' → (d : ℕ) → Goes s s' d
-descs-go s s' h d = same-goes s s' d (h.info d) (h.anchor d)
-
--- so each descriptor is in the same state
-pub active-shown : (s s' : State) → SameDescs s s' → (d c : ℕ) → IsActive s d c → IsActive s' d c
-active-shown s s' h d = (descs-go s s' h d).active
-
-pub partly-shown : (s s' : State) → SameDescs s s' → (d c : ℕ) → IsPartlyUsed s d c → IsPartlyUsed s' d c
-partly-shown s s' h d = (descs-go s s' h d).partly
-
-pub without-shown : (s s' : State) → SameDescs s s' → (d : ℕ) → IsWithout s d → IsWithout s' d
-without-shown s s' h d = (descs-go s s' h d).without
-
-pub kept_as-shown : (s s' : State) → SameDescs s s' → (status : Status) (d c : ℕ) → IsKeptAs s status d c → IsKeptAs s' status d c
-kept_as-shown s s' h status d c = kept-goes s s' status d c (descs-go s s' h d)
+use Rattle.sound_state.proofs.shared.WordFacts.{null-said, null-none, held-said, held-not-zero, held-desc}
 
 pub installed-descs :
     (g : Geometry) (s : State) (l : Lists) (who : ℕ) (at : Site) (words : ℕ) (e : ErrandFields) (s' : State)
@@ -71,12 +51,12 @@ places-weigh d at fits =
     let held = held-said at.desc (new_credits at.seat.class) fits in
     rw (null, held) (grind (arith))
 
-stock-weighs :
+installed-stock-weighs :
     (class : ℕ) (at : Site)
     → word_stock class (active_name at.seat) (installed_word at)
     ≡ word_stock class (active_name at.seat) (active_word Null) + stock_among class (installing_holds at).kept
-stock-weighs class at =
-    let some = held-some at.desc (new_credits at.seat.class) in
+installed-stock-weighs class at =
+    let some = held-not-zero at.desc (new_credits at.seat.class) in
     rw (null-none, some) (grind (arith))
 
 installed-places :
@@ -99,9 +79,6 @@ installed-places g s l who at words e s' h d =
     )
 
 -- what the active words and the slots hold
-
-held-desc : (d credits e others : ℕ) → Some (Held d credits) ≡ Some (Held e others) → d ≡ e
-held-desc d credits e others same = cc
 
 installed-actives :
     (g : Geometry) (s : State) (l : Lists) (who : ℕ) (at : Site) (words : ℕ) (e : ErrandFields) (s' : State)
@@ -154,7 +131,7 @@ installed-stock g s l who at words e s' h class =
       callers-moved g (errand_stock class) s.errand who e s'.errand h.caller h.moves,
       words-written g (word_stock class) s.word (active_name at.seat) (installed_word at) s'.word h.exists h.writes,
       ap (word_stock class (active_name at.seat)) h.before,
-      stock-weighs class at,
+      installed-stock-weighs class at,
     )
 
 pub installed-stocked :
@@ -165,16 +142,12 @@ installed-stocked g s l who at words e s' h sound = record {
 }
 
 -- the frame goes from the caller's hand to the superblock
-had-frames : (f : ℕ) (at : Site) → ◌≡◌ {A = ℕ} (occurs f (installing_holds at).frames) (if at.frame == f then 1 else 0)
-had-frames f at = grind (arith)
-
--- a superblock that waits fills nothing
-pub waiting-fills : (g : Geometry) (s : State) (l : Lists) (d f : ℕ) → waiting_of g s d ≡ 1 → fills g s l f d ≡ 0
-waiting-fills g s l d f one = rw one (grind (arith))
+installing-frames : (f : ℕ) (at : Site) → ◌≡◌ {A = ℕ} (occurs f (installing_holds at).frames) (if at.frame == f then 1 else 0)
+installing-frames f at = grind (arith)
 
 fills-frame :
     (g : Geometry) (s : State) (l : Lists) (d f frame : ℕ) → IsTrue (is_bound g s l d) → waiting_of g s d ≡ 0 → (info_for s d).frame ≡ frame
-    → fills g s l f d ≡ (if frame == f then 1 else 0)
+    → fills_frame g s l f d ≡ (if frame == f then 1 else 0)
 fills-frame g s l d f frame bound none lies =
     elim (cases_eq frame f) [
       | inl same ↦ bound-fills g s l d f bound none (lies ∙ same) ∙ sym (cond-true {A = ℕ} (frame == f) 1 0 (eq-eqb frame f same))
@@ -188,18 +161,18 @@ installed-framed g s l who at words e s' h old = record {
   once = λ f has.
       let moved = callers-moved g (errand_frames f) s.errand who e s'.errand h.caller h.moves in
       let now : errand_frames f e ≡ 0 = ap (λ x. occurs f x.frames) h.holds_after in
-      let was : errand_frames f (s.errand who) ≡ (if at.frame == f then 1 else 0) = ap (λ x. occurs f x.frames) h.holds_before ∙ had-frames f at in
-      let elsewhere : (d : ℕ) → d < descriptor_count g → d ≢ at.desc → fills g s' l f d ≡ fills g s l f d =
+      let was : errand_frames f (s.errand who) ≡ (if at.frame == f then 1 else 0) = ap (λ x. occurs f x.frames) h.holds_before ∙ installing-frames f at in
+      let elsewhere : (d : ℕ) → d < descriptor_count g → d ≢ at.desc → fills_frame g s' l f d ≡ fills_frame g s l f d =
       λ d lt differ.
       rw (
         installed-bound g s l who at words e s' h d,
         installed-others g s l who at words e s' h d differ,
         installed-info g s l who at words e s' h d,
       ) refl in
-      let changed = sum-change (descriptor_count g) (fills g s l f) (fills g s' l f) at.desc h.site.desc elsewhere in
+      let changed = sum-change (descriptor_count g) (fills_frame g s l f) (fills_frame g s' l f) at.desc h.site.desc elsewhere in
       let waited : waiting_of g s at.desc ≡ 1 = (installed-back g s l who at words e s' h old).2 in
-      let empty : fills g s l f at.desc ≡ 0 = waiting-fills g s l at.desc f waited in
-      let filled : fills g s' l f at.desc ≡ (if at.frame == f then 1 else 0) =
+      let empty : fills_frame g s l f at.desc ≡ 0 = waiting-fills g s l at.desc f waited in
+      let filled : fills_frame g s' l f at.desc ≡ (if at.frame == f then 1 else 0) =
       fills-frame g s' l at.desc f at.frame (subst IsTrue (sym (installed-bound g s l who at words e s' h at.desc)) h.bound)
       (omega (arith, installed-one g s l who at words e s' h, waited))
       (ap (λ x. x.frame) (installed-info g s l who at words e s' h at.desc) ∙ h.located.frame) in

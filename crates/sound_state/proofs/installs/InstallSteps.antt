@@ -26,21 +26,20 @@ use Rattle.sound_state.specs.Lists.{Lists}
 use Rattle.sound_state.specs.Recalls.{IsSo, bound_here, bound_at, says, recalls_of, IsLocated}
 use Rattle.sound_state.specs.Sound.{IsSoundWithoutCounts, IsSoundWith, IsOwnErrand}
 use Rattle.sound_state.specs.Superblocks.{anchor_for, is_bound}
-use Rattle.sound_state.proofs.shared.AlikeLemmas.{each-caller}
 use Rattle.sound_state.proofs.installs.InstallChains.{installed-chained}
-use Rattle.sound_state.proofs.installs.InstallEffects.{Installs, StandsFramed, installed_word}
+use Rattle.sound_state.proofs.installs.InstallEffects.{Installs, installed_word}
 use Rattle.sound_state.proofs.installs.InstallKept.{installed-kept, installed-stocked, installed-framed}
 use Rattle.sound_state.proofs.installs.InstallRecalls.{installed-remembered}
 use Rattle.sound_state.proofs.installs.InstallTies.{installed-tied, installed-legal}
 use Rattle.sound_state.proofs.installs.InstallTurns.{installed-turned, installed-guarded, installed-listed}
-use Rattle.sound_state.proofs.shared.PointLemmas.{fits-at, so-at, the-alloc}
-use Rattle.sound_state.proofs.pops.PopEffects.{StandsIn}
-use Rattle.sound_state.proofs.pops.PopRecalls.{new_anchor-fits}
-use Rattle.sound_state.proofs.pops.PopSteps.{small-asked}
-use Rattle.sound_state.proofs.quiet.QuietCredits.{held-fits, seat-active}
+use Rattle.sound_state.proofs.shared.PointLemmas.{fits-at, so-at, the-alloc, small-asked}
+use Rattle.sound_state.proofs.shared.ShownLemmas.{each-caller}
 use Rattle.sound_state.proofs.shared.StepLemmas.{at_point}
 use Rattle.sound_state.proofs.shared.CreditLemmas.{won_with}
+use Rattle.sound_state.proofs.shared.TurnEffects.{StandsIn, StandsFramed}
+use Rattle.sound_state.proofs.shared.WaitsAlone.{new_anchor-fits}
 use Rattle.sound_state.proofs.shared.WonEffects.{WonEffects, won-effects}
+use Rattle.sound_state.proofs.shared.WordFacts.{held-fits, seat-active}
 
 -- the credits of a new superblock fit the word
 credits-few : (class : ℕ) → new_credits class < 2 ^ CREDIT_BITS

@@ -9,7 +9,7 @@ use Rattle.errand_steps.specs.Errands.{ErrandFields}
 use Rattle.errand_steps.specs.Steps.{State}
 use Rattle.sound_state.specs.Holdings.{Holding}
 use Rattle.sound_state.specs.Lists.{Lists}
-use Rattle.sound_state.specs.Recalls.{IsLocated, IsOwned}
+use Rattle.sound_state.specs.Recalls.{IsOwned}
 use Rattle.sound_state.specs.Sound.{IsSoundWithoutCounts, IsSoundWith}
 use Rattle.sound_state.specs.Ties.{IsTied}
 use Rattle.sound_state.proofs.installs.InstallEffects.{Installs, first_place}
@@ -57,17 +57,12 @@ pub installed-tied :
 installed-tied g s l who at words e s' h sound is = given-tied g s l who at 0 words e s' (installs-give g s l who at words e s' h is) is
 
 -- who owned a block owns it
-pub still-owned :
+pub installed-still-owned :
     (g : Geometry) (s : State) (l : Lists) (who : ℕ) (at : Site) (words : ℕ) (e : ErrandFields)
     (s' : State) → Installs g s l who at words e s' → IsSoundWithoutCounts g s → IsSoundWith g s l
     → (i place : ℕ) (n : Need) → IsOwned s i place n → IsOwned s' i place n
-still-owned g s l who at words e s' h sound is i place n k =
+installed-still-owned g s l who at words e s' h sound is i place n k =
     ties.owned-stays s s' i place n
     (λ b live.
     installed-there g s l who at words e s' h place
     (λ same. ties.not-live s (first_place at) place b (installed-none g s l who at words e s' h is) same live) ∙ live) k
-
-pub located-stays :
-    (g : Geometry) (s : State) (l : Lists) (who : ℕ) (at : Site) (words : ℕ) (e : ErrandFields)
-    (s' : State) → Installs g s l who at words e s' → (d f c : ℕ) → IsLocated s d f c → IsLocated s' d f c
-located-stays g s l who at words e s' h d f c k = ties.located-stays s s' d f c (installed-info g s l who at words e s' h d) k

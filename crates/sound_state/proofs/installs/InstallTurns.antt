@@ -1,5 +1,5 @@
 -- A won install keeps the lists, the guards, and the bounds of tags and turns.
-use Rattle.std.proofs.Common.{ℕ, true, false, refl, arith, ap, subst}
+use Rattle.std.proofs.Common.{ℕ, false, refl, arith, ap, subst}
 use Rattle.heap_geometry.specs.declared.geometry.Geometry.{Geometry}
 use Rattle.word_plan.specs.declared.name.WordName.TheVariants as name
 use Rattle.word_plan.specs.declared.seat.Site.{Site}
@@ -9,12 +9,11 @@ use Rattle.sound_state.specs.Guards.{IsGuarded}
 use Rattle.sound_state.specs.Lists.{Lists, IsListed}
 use Rattle.sound_state.specs.Sound.{IsSoundWithoutCounts, IsSoundWith}
 use Rattle.sound_state.specs.Turns.{IsTurned}
-use Rattle.sound_state.proofs.installs.InstallEffects.{Installs, StandsFramed, first_place}
+use Rattle.sound_state.proofs.installs.InstallEffects.{Installs, first_place}
 use Rattle.sound_state.proofs.installs.InstallFacts.{installed-anchor, installed-away}
-use Rattle.sound_state.proofs.pops.PopTurns.{small-served, stands-weighs}
 use Rattle.sound_state.proofs.shared.GuardEffects.{guarded-clear}
 use Rattle.sound_state.proofs.shared.ListEffects.{IsListWord, listed-kept}
-use Rattle.sound_state.proofs.shared.TurnEffects.{TurnWeighs, alloc-event, emptied-kept, head-tag, turn-weighs, turned-after}
+use Rattle.sound_state.proofs.shared.TurnEffects.{alloc-event, emptied-kept, head-tag, turned-after, small-served, stands-weighs, framed-weighs}
 
 pub installed-listed :
     (g : Geometry) (s : State) (l : Lists) (who : ℕ) (at : Site) (words : ℕ) (e : ErrandFields)
@@ -29,10 +28,6 @@ installed-guarded g s l who at words e s' h old =
     let after = h.stands_after in
     guarded-clear g s who e s' h.caller h.moves (λ i. h.writes.elsewhere (name.Hazard i) (λ same. cc)) (ap (λ x. x.hazard) h.holds_before)
     (ap (λ x. x.hazard) h.holds_after) after.pushed after.passed after.unread after.spare old.guarded
-
--- what a turn weighs that has popped a frame and given no block yet
-pub framed-weighs : (e : ErrandFields) → StandsFramed e.point → TurnWeighs e 1 0 0
-framed-weighs e h = turn-weighs true false e h.turn h.frame h.refused h.discarding
 
 pub installed-turned :
     (g : Geometry) (s : State) (l : Lists) (who : ℕ) (at : Site) (words : ℕ) (e : ErrandFields)

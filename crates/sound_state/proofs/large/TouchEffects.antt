@@ -1,5 +1,5 @@
 -- A step at a large block, a usable word or a shelf: no superblock, list or descriptor changes, and what is said of them stays.
-use Rattle.std.proofs.Common.{ℕ, false, None, Some, ◌≡◌, ◌≢◌, ◌<◌, ◌≤◌, ◌+◌, ◌-◌, ◌^◌, [], length, refl, arith, ap, sym, subst, ◌∙◌}
+use Rattle.std.proofs.Common.{ℕ, None, Some, ◌≡◌, ◌≢◌, ◌<◌, ◌≤◌, ◌+◌, ◌-◌, ◌^◌, [], length, refl, arith, ap, sym, subst, ◌∙◌}
 use Rattle.std.specs.Prelude.{◌⊎◌, All, IsTrue, IsSome, count_by}
 use Rattle.std.proofs.lemmas.List.Elements.{All-nil}
 use Rattle.heap_geometry.specs.declared.geometry.Geometry.{Geometry}
@@ -30,18 +30,19 @@ use Rattle.errand_steps.specs.Errands.{ErrandFields}
 use Rattle.errand_steps.specs.Fits.{spare_of, pushed_by}
 use Rattle.errand_steps.specs.declared.point.Point.{Point}
 use Rattle.errand_steps.specs.Steps.{State, Moves}
-use Rattle.sound_state.specs.Frames.{IsFramed, errand_frames, fills}
+use Rattle.sound_state.specs.Frames.{IsFramed, errand_frames, fills_frame}
 use Rattle.sound_state.specs.Guards.{IsGuarded, passed_by, held_by}
 use Rattle.sound_state.specs.Holdings.{Status, clear, reserving, waiting, partly_used, on_its_way, holds_of}
 use Rattle.sound_state.specs.Keepers.{IsKept, IsPartlyUsed, IsActive, IsWithout, IsKeptAs, places_of, word_keeps, errand_has, full_keeps}
 use Rattle.sound_state.specs.Lists.{Lists, IsListed}
 use Rattle.sound_state.specs.Recalls.{Recall, EndsRefused, IsLocated, IsTopStill, IsRemembered, IsSo, IsOwned, recalls_of, bound_for, located, bound_at, pops, links, tops, nexts, tops_exist, says, made, in_use, emptied, noted, owns, owns_all, looked, refused}
 use Rattle.sound_state.specs.Sound.{IsSoundWith, IsOwnErrand}
+use Rattle.sound_state.specs.TurnStages.{turn_stage_of, out_of_turn}
 use Rattle.sound_state.specs.Stock.{stock_of, word_stock, errand_stock, full_stock, waits_in, stock_among}
 use Rattle.sound_state.specs.Ties.{IsTied}
 use Rattle.sound_state.specs.Sums.{sum_below, words_sum, callers_sum}
 use Rattle.sound_state.specs.Superblocks.{AreChained, IsChained, info_or_zero, live_at, anchor_for, info_for, superblock_of, free_chain, reserved_of, word_reserves, errand_reserves, reserved_among, waiting_of, away_of, errand_away, is_bound, errand_keeps, kept_among}
-use Rattle.sound_state.specs.Turns.{IsTurned, gives_small, refuses_small, is_small_alloc, is_small_free, in_turn, pops_left}
+use Rattle.sound_state.specs.Turns.{IsTurned, gives_small, refuses_small, is_small_alloc, is_small_free, pops_left}
 use Rattle.sound_state.proofs.shared.CallerLemmas.{each-other}
 use Rattle.sound_state.proofs.shared.GuardEffects.{guarded-clear}
 use Rattle.sound_state.proofs.shared.ListEffects.{IsListWord, listed-kept}
@@ -56,7 +57,7 @@ IsAwayWord (name.Shelf k) = ⊥
 IsAwayWord n = Unit {0}
 
 -- a point at which a caller reserves, keeps, guards and pushes nothing, and is in no turn
-pub record IsAside (p : Point) : Type 0 where
+pub record IsAsidePoint (p : Point) : Type 0 where
   pub credits : (holds_of p).credits ≡ []
   pub kept : (holds_of p).kept ≡ []
   pub frames : (holds_of p).frames ≡ []
@@ -66,7 +67,7 @@ pub record IsAside (p : Point) : Type 0 where
   pub passed : passed_by p ≡ 0
   pub unread : length (held_by p) ≡ 0
   pub spare : spare_of p ≡ 0
-  pub turn : in_turn p ≡ false
+  pub stage : turn_stage_of p ≡ out_of_turn
   pub pops : pops_left p ≡ 0
 
 -- what these words leave of what is remembered: the words that it names, and the chains of free blocks
@@ -105,8 +106,8 @@ pub record Touches (g : Geometry) (s : State) (l : Lists) (who : ℕ) (e : Erran
   pub turns : e.turns ≡ (s.errand who).turns
   pub lost : e.lost ≡ (s.errand who).lost
   pub cleared : e.cleared ≡ (s.errand who).cleared
-  pub before : IsAside (s.errand who).point
-  pub after : IsAside e.point
+  pub before : IsAsidePoint (s.errand who).point
+  pub after : IsAsidePoint e.point
   pub recalls : recalls_of e.point ≡ []
 
 pub touched-anchor : (g : Geometry) (s : State) (l : Lists) (who : ℕ) (e : ErrandFields) (s' : State) → Touches g s l who e s' → (d : ℕ) → anchor_for s' d ≡ anchor_for s d
@@ -208,7 +209,7 @@ touched-stock g s l who e s' h class =
 pub touched-bound : (g : Geometry) (s : State) (l : Lists) (who : ℕ) (e : ErrandFields) (s' : State) → Touches g s l who e s' → (d : ℕ) → is_bound g s' l d ≡ is_bound g s l d
 touched-bound g s l who e s' h d = rw (touched-away g s l who e s' h d, touched-anchor g s l who e s' h d) refl
 
-fills-touched : (g : Geometry) (s : State) (l : Lists) (who : ℕ) (e : ErrandFields) (s' : State) → Touches g s l who e s' → (f d : ℕ) → fills g s' l f d ≡ fills g s l f d
+fills-touched : (g : Geometry) (s : State) (l : Lists) (who : ℕ) (e : ErrandFields) (s' : State) → Touches g s l who e s' → (f d : ℕ) → fills_frame g s' l f d ≡ fills_frame g s l f d
 fills-touched g s l who e s' h f d = rw (touched-bound g s l who e s' h d, touched-waits g s l who e s' h d, touched-info g s l who e s' h d) refl
 
 -- what is said of a descriptor's word or anchor stays so
@@ -339,8 +340,8 @@ kept-touched g s l who e s' h kept =
 framed-touched : (g : Geometry) (s : State) (l : Lists) (who : ℕ) (e : ErrandFields) (s' : State) → Touches g s l who e s' → IsFramed g s l → IsFramed g s' l
 framed-touched g s l who e s' h framed = record {
   once = λ f has.
-      let filled : sum_below (descriptor_count g) (fills g s' l f) ≡ sum_below (descriptor_count g) (fills g s l f) =
-      sum-same (descriptor_count g) (fills g s l f) (fills g s' l f) (λ d lt. fills-touched g s l who e s' h f d) in
+      let filled : sum_below (descriptor_count g) (fills_frame g s' l f) ≡ sum_below (descriptor_count g) (fills_frame g s l f) =
+      sum-same (descriptor_count g) (fills_frame g s l f) (fills_frame g s' l f) (λ d lt. fills-touched g s l who e s' h f d) in
       let hands = touched-callers g s l who e s' h (errand_frames f) (ap (occurs f) (h.after.frames ∙ sym h.before.frames)) in
       omega (arith, filled, hands, framed.once f has);
 }
@@ -425,8 +426,8 @@ guarded-touched g s l who e s' h =
 -- the turns stay
 turned-touched : (g : Geometry) (s : State) (l : Lists) (who : ℕ) (e : ErrandFields) (s' : State) → Touches g s l who e s' → IsTurned g s l → IsTurned g s' l
 turned-touched g s l who e s' h turned =
-    let before = no-turn-weighs (s.errand who) h.before.turn in
-    let after = no-turn-weighs e h.after.turn in
+    let before = no-turn-weighs (s.errand who) h.before.stage in
+    let after = no-turn-weighs e h.after.stage in
     let emptied_same = emptied-kept g s l s' l (λ d. rw (touched-away g s l who e s' h d, touched-anchor g s l who e s' h d) refl) in
     turned-after g s l who e s' l 0 0
     (record {

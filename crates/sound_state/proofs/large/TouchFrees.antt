@@ -38,16 +38,16 @@ use Rattle.sound_state.specs.Recalls.{IsOwned}
 use Rattle.sound_state.specs.Sound.{IsSoundWithoutCounts, IsSoundWith}
 use Rattle.sound_state.specs.Superblocks.{is_there}
 use Rattle.sound_state.specs.Ties.{IsLive, IsTied, IsCovered}
-use Rattle.sound_state.proofs.shared.AlikeLemmas.{Excepts}
+use Rattle.sound_state.proofs.shared.ListFacts.{any-one}
 use Rattle.sound_state.proofs.shared.OverlapLemmas.{live-apart}
 use Rattle.sound_state.proofs.shared.PointLemmas.{fits-at, frees-at}
 use Rattle.sound_state.proofs.large.TouchEffects.{Touches}
 use Rattle.sound_state.proofs.large.TouchPrefix.{frame-before}
 use Rattle.sound_state.proofs.large.TouchPrefixes.{info-frame}
-use Rattle.sound_state.proofs.large.TouchShelves.{idle-aside, idle-bare, idle-recalls}
+use Rattle.sound_state.proofs.large.TouchShelves.{idle-aside, idle-bare-handed, idle-recalls}
 use Rattle.sound_state.proofs.large.TouchSteps.{IsAsideEvent, TouchesAt, leaves-event, stays-still, touched-step}
+use Rattle.sound_state.proofs.shared.ShownLemmas.{Excepts}
 use Rattle.sound_state.proofs.shared.TieLemmas.{IsBareHanded, bare-owns, not-live, one-live, ties-but}
-use Rattle.sound_state.proofs.quiet.QuietPushes.{any-one}
 use Rattle.sound_state.proofs.large.TouchTies.{large-aside, touched-desc, touched-sound}
 
 -- a unit is one of a run's, or none
@@ -92,8 +92,8 @@ free-excepts e place run o p at (inr x) =
 behind : (frames first : ℕ) → frames < frame_of (unit_place frames first) + 1
 behind frames first = omega arith
 
-free-event : (g : Geometry) (who place first : ℕ) → place ≡ unit_place g.frames first → IsAsideEvent g who (Free who place)
-free-event g who place first is = record {
+run-free-event : (g : Geometry) (who place first : ℕ) → place ≡ unit_place g.frames first → IsAsideEvent g who (Free who place)
+run-free-event g who place first is = record {
   caller = refl;
   gives = λ i. refl;
   refuses = λ i. refl;
@@ -117,7 +117,7 @@ free-touches g s l who place run o old fit allowed = record {
   cleared = refl;
   told = refl;
   leaves =
-      leaves-event g s l who (Free who place) (free-event g who place run.first fit.place) allowed
+      leaves-event g s l who (Free who place) (run-free-event g who place run.first fit.place) allowed
       (λ d i has bound lt.
       ap is_there
       (block_at-without_other place _ (pool_of s.history)
@@ -130,7 +130,7 @@ free-touches g s l who place run o old fit allowed = record {
 }
 
 -- a block is gone, and all other places are as they were
-pub record Goes (s s' : State) (at : ℕ) (a : Block) : Type 0 where
+pub record IsGone (s s' : State) (at : ℕ) (a : Block) : Type 0 where
   pub was : IsLive s at a
   pub gone : block_at at (pool_of s'.history) ≡ None
   pub elsewhere : (p : ℕ) → p ≢ at → block_at p (pool_of s'.history) ≡ block_at p (pool_of s.history)
@@ -139,7 +139,7 @@ pub record Goes (s s' : State) (at : ℕ) (a : Block) : Type 0 where
 free-uncovers :
     (g : Geometry) (s s' : State) (place : ℕ) (run : RunFields) (unit : ℕ) (l : Lists) → IsSoundWithoutCounts g s → IsSoundWith g s l → IsRunAt g place run
     → Writes s.word name.Units (without_run (s.word name.Units) run.first run.units) s'.word → (a : Block) → a.need ≡ need.Large run.units
-    → Goes s s' place a → (bit_at (s.word name.Units) unit ≡ 1 → IsCovered g s unit) → bit_at (s'.word name.Units) unit ≡ 1 → IsCovered g s' unit
+    → IsGone s s' place a → (bit_at (s.word name.Units) unit ≡ 1 → IsCovered g s unit) → bit_at (s'.word name.Units) unit ≡ 1 → IsCovered g s' unit
 free-uncovers g s s' place run unit l sound old fit w a of c was bit =
     let taken : bit_at (without_run (s.word name.Units) run.first run.units) unit ≡ 1 = ap (λ x. bit_at x unit) (sym w.here) ∙ bit in
     elim (cases_run run.first run.units unit) [
@@ -160,7 +160,7 @@ free-uncovers g s s' place run unit l sound old fit w a of c was bit =
 free-covers :
     (g : Geometry) (s s' : State) (place : ℕ) (run : RunFields) (unit : ℕ) (l : Lists) → IsSoundWithoutCounts g s → IsSoundWith g s l → IsRunAt g place run
     → Writes s.word name.Units (without_run (s.word name.Units) run.first run.units) s'.word → (a : Block) → a.need ≡ need.Large run.units
-    → Goes s s' place a → (IsCovered g s unit → bit_at (s.word name.Units) unit ≡ 1) → IsCovered g s' unit → bit_at (s'.word name.Units) unit ≡ 1
+    → IsGone s s' place a → (IsCovered g s unit → bit_at (s.word name.Units) unit ≡ 1) → IsCovered g s' unit → bit_at (s'.word name.Units) unit ≡ 1
 free-covers g s s' place run unit l sound old fit w a of c was k =
     let ne : unit_place g.frames k.1 ≢ place =
     λ same. not-live s' place (unit_place g.frames k.1) k.0 c.gone same k.3 in
@@ -180,7 +180,7 @@ free-tied :
     (g : Geometry) (s : State) (l : Lists) (who place : ℕ) (run : RunFields) (o : Onward) (s' : State) (e : ErrandFields) → Touches g s l who e s'
     → IsSoundWithoutCounts g s → IsSoundWith g s l → (s.errand who).point ≡ Large (large.FreeRun place run) o → IsRunAt g place run
     → Writes s.word name.Units (without_run (s.word name.Units) run.first run.units) s'.word → IsBareHanded e.point
-    → (a : Block) → a.owner ≡ Caller who → a.need ≡ need.Large run.units → Goes s s' place a → IsTied g s' l
+    → (a : Block) → a.owner ≡ Caller who → a.need ≡ need.Large run.units → IsGone s s' place a → IsTied g s' l
 free-tied g s l who place run o s' e h sound old at fit w bare_after a owned of c =
     let tied = old.tied in
     let gone = λ (p : ℕ) (b : Block) (here : p ≡ place) (live : IsLive s' p b).
@@ -232,7 +232,7 @@ free_run-sound g s who s' place run o sound has at step =
     touched-step g s l who s' p Idle name.Units (without_run (s.word name.Units) run.first run.units) (s.history ++ Free who place ∷ []) old has at
     (free-touches g s l who place run o old fit.point allowed) step in
     let pool : pool_of s'.history ≡ without place (pool_of s.history) = ap pool_of t.history ∙ pool_of-push s.history (Free who place) in
-    let c : Goes s s' place a = record {
+    let c : IsGone s s' place a = record {
       was = owned.block.1;
       gone =
           ap (block_at place) pool
@@ -241,4 +241,4 @@ free_run-sound g s who s' place run o sound has at step =
       elsewhere = λ q ne. ap (block_at q) pool ∙ block_at-without_other place q (pool_of s.history) ne;
     } in
     touched-sound g s l who _ _ _ (Free who place) s' sound old (has, allowed) t
-    (free-tied g s l who place run o s' _ t.touches sound old at fit.point t.word idle-bare a owned.block.2 owned.block.3 c)
+    (free-tied g s l who place run o s' _ t.touches sound old at fit.point t.word idle-bare-handed a owned.block.2 owned.block.3 c)

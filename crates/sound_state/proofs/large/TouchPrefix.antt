@@ -1,5 +1,5 @@
 -- The prefix word of a run that is handed out.
-use Rattle.std.proofs.Common.{ℕ, zero, suc, Option, None, Some, ◌≡◌, ◌≢◌, ◌<◌, ◌≤◌, ◌+◌, ◌*◌, ◌^◌, List, [], ◌∷◌, length, refl, arith, ap, sym, subst, inl, inr, ◌∙◌}
+use Rattle.std.proofs.Common.{ℕ, None, Some, ◌≡◌, ◌≢◌, ◌<◌, ◌≤◌, ◌+◌, ◌*◌, ◌^◌, [], refl, arith, ap, sym, subst, inl, inr, ◌∙◌}
 use Rattle.std.specs.Prelude.{Any, IsTrue, slice_index_or}
 use Rattle.std.specs.Int.{bit_at}
 use Rattle.std.proofs.lemmas.Bool.{cases_eq}
@@ -37,15 +37,15 @@ use Rattle.sound_state.specs.Lists.{Lists}
 use Rattle.sound_state.specs.Recalls.{IsOwned}
 use Rattle.sound_state.specs.Sound.{IsSoundWithoutCounts, IsSoundWith}
 use Rattle.sound_state.specs.Ties.{IsLive, IsTied}
-use Rattle.sound_state.proofs.shared.AlikeLemmas.{Excepts}
+use Rattle.sound_state.proofs.shared.ListFacts.{any-one, written-within}
 use Rattle.sound_state.proofs.shared.OverlapLemmas.{live-apart}
 use Rattle.sound_state.proofs.shared.PointLemmas.{fits-at, hands-at}
 use Rattle.sound_state.proofs.large.TouchEffects.{IsAwayWord, Touches, sound-touched}
 use Rattle.sound_state.proofs.large.TouchPrefixes.{KeepsPrefixes, prefixes-stay, info-frame}
-use Rattle.sound_state.proofs.large.TouchShelves.{idle-aside, idle-bare, idle-recalls}
+use Rattle.sound_state.proofs.large.TouchShelves.{idle-aside, idle-bare-handed, idle-recalls}
 use Rattle.sound_state.proofs.large.TouchSteps.{TouchesAt, leaves-same, touched-step}
+use Rattle.sound_state.proofs.shared.ShownLemmas.{Excepts}
 use Rattle.sound_state.proofs.shared.TieLemmas.{IsBareHanded, bare-owns, one-live, ties-but}
-use Rattle.sound_state.proofs.quiet.QuietPushes.{any-one}
 use Rattle.sound_state.proofs.large.TouchTies.{large-aside, touched-desc}
 
 -- the place of a word of the arena
@@ -56,12 +56,6 @@ arena_place n = 0
 -- a block of a frame lies before the units
 pub frame-before : (frames f c i first : ℕ) → f < frames → i < block_count_of c → block_place f c i ≢ unit_place frames first
 frame-before frames f c i first has within same = omega (arith, has, same, block-within c i within, pow_pos (c + 1))
-
--- what was written is one of the block's words
-written-within : (xs : List (Option ℕ)) (i v : ℕ) → slice_index_or xs i None ≡ Some v → i < length xs
-written-within [] i v is = let bad : ◌≡◌ {A = Option ℕ} None (Some v) = is in absurd (cc)
-written-within (x ∷ xs) zero v is = omega arith
-written-within (x ∷ xs) (suc i) v is = omega (arith, written-within xs i v is)
 
 pub written-usable :
     (g : Geometry) (s : State) → IsSoundWithoutCounts g s → (p i v : ℕ) (b : Block) → IsLive s p b → slice_index_or b.contents i None ≡ Some v → i < usable_words b.need
@@ -92,9 +86,9 @@ behind-keeps g s l who first new words old w = record {
   making = λ i f c k has other within hand none lt. w.elsewhere _ (λ same. frame-before g.frames f c k first within lt (ap arena_place same));
 }
 
-run-word : (units : ℕ) → prefix_word (prefix.Large units) ≡ 2 * units + 1
+run-prefix-word : (units : ℕ) → prefix_word (prefix.Large units) ≡ 2 * units + 1
 unfolding prefix_word
-run-word units = omega arith
+run-prefix-word units = omega arith
 
 prefix-touches :
     (g : Geometry) (s : State) (l : Lists) (who place : ℕ) (run : RunFields) (o : Onward) → IsSoundWith g s l → IsRunAt g place run
@@ -104,7 +98,7 @@ prefix-touches g s l who place run o old fit = record {
   leads = inr (reply.Given place (need.Large run.units), refl, refl);
   here = refl;
   written = refl;
-  below = omega (arith, run-word run.units, fit.run.within);
+  below = omega (arith, run-prefix-word run.units, fit.run.within);
   touched = λ away. away;
   lost = refl;
   cleared = refl;
@@ -163,7 +157,7 @@ prefix-tied g s l who place run o s' e h sound old at owned w past bare_after =
       large = λ p n b here live is.
           let same : need.Large n ≡ need.Large run.units = sym is ∙ needs p b here (was p b live) in
           let units : run.units ≡ n = cc in
-          inr (ap (λ q. s'.word (name.Arena q)) here ∙ w.here ∙ run-word run.units ∙ ap (λ m. 2 * m + 1) units);
+          inr (ap (λ q. s'.word (name.Arena q)) here ∙ w.here ∙ run-prefix-word run.units ∙ ap (λ m. 2 * m + 1) units);
       bound = λ p class b d ne live is its. touched-desc g s l who e s' h p class d its;
       units = λ unit has.
           let t = tied.units unit has in (
@@ -208,6 +202,6 @@ store_run_prefix-sound g s who s' place run o sound has at step =
       legal = subst (IsLegalWithoutCounts g) (sym t.history) sound.legal;
       parts = (
         l,
-        sound-touched g s l who _ s' t.touches old (prefix-tied g s l who place run o s' _ t.touches sound old at owned t.word t.history idle-bare),
+        sound-touched g s l who _ s' t.touches old (prefix-tied g s l who place run o s' _ t.touches sound old at owned t.word t.history idle-bare-handed),
       );
     }

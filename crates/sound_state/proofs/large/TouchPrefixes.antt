@@ -1,17 +1,16 @@
 -- A word of the arena that is no block's prefix word in a frame at work: what is remembered of superblocks stays where it changes.
-use Rattle.std.proofs.Common.{ℕ, ◌≡◌, ◌≢◌, ◌<◌, ◌+◌, [], ◌∷◌, Option, Some, None, arith, ap, sym, subst, refl, ◌∙◌}
+use Rattle.std.proofs.Common.{ℕ, ◌≡◌, ◌≢◌, ◌<◌, ◌+◌, [], ◌∷◌, arith, ap, sym, subst, refl, ◌∙◌}
 use Rattle.std.specs.List.{All, AllByRecursion}
-use Rattle.std.specs.Prelude.{IsTrue, IsSome}
+use Rattle.std.specs.Prelude.{IsTrue}
 use Rattle.std.proofs.lemmas.List.Elements.{All-from_recursion, recursion_from_All}
 use Rattle.heap_geometry.specs.declared.geometry.Geometry.{Geometry}
 use Rattle.heap_geometry.specs.Need.{block_count_of}
-use Rattle.packed_words.specs.Info.{InfoFields, info_of}
+use Rattle.packed_words.specs.Info.{info_of}
 use Rattle.packed_words.specs.Prefix.{link_of}
 use Rattle.word_plan.specs.declared.name.WordName.{WordName}
 use Rattle.word_plan.specs.declared.name.WordName.TheVariants as name
 use Rattle.word_plan.specs.declared.seat.Site.{Site}
 use Rattle.word_plan.specs.Counts.{descriptor_count}
-use Rattle.word_plan.specs.Seats.{info_within}
 use Rattle.superblock_parts.specs.Chains.{occurs, chain_of, prefix_name, link_in}
 use Rattle.superblock_parts.specs.Fits.{FitsBlock}
 use Rattle.superblock_parts.proofs.ChainLemmas.{chain_of-same}
@@ -27,10 +26,12 @@ use Rattle.sound_state.specs.Holdings.{waiting, holds_of}
 use Rattle.sound_state.specs.Lists.{Lists}
 use Rattle.sound_state.specs.Recalls.{IsSo, IsLocated, recalls_of, block_recalls}
 use Rattle.sound_state.specs.Sound.{IsSoundWith}
-use Rattle.sound_state.specs.Superblocks.{IsChained, info_for, info_or_zero, anchor_for, reserved_of, superblock_of, free_chain, is_bound, errand_keeps, kept_among}
+use Rattle.sound_state.specs.Superblocks.{IsChained, info_for, anchor_for, reserved_of, superblock_of, free_chain, is_bound, errand_keeps, kept_among}
+use Rattle.sound_state.proofs.shared.MakingWeights.{making-waits}
 use Rattle.sound_state.proofs.shared.PointLemmas.{fits-at, so-at}
 use Rattle.sound_state.proofs.large.TouchEffects.{IsAwayWord, Stays}
 use Rattle.sound_state.proofs.large.TouchRecalls.{all-stays}
+use Rattle.sound_state.proofs.shared.WordFacts.{frame-of-within}
 
 -- these words have the prefix words of the blocks of bound superblocks, and of frames in which other callers make superblocks
 pub record KeepsPrefixes (g : Geometry) (s : State) (l : Lists) (who : ℕ) (words : WordName → ℕ) : Type 0 where
@@ -73,10 +74,6 @@ at-chain g s l who words h old d has bound =
 
 frame-in-hand : (f : ℕ) → 0 < occurs f (f ∷ [])
 frame-in-hand f = grind (arith)
-
--- a superblock in the making doesn't wait
-making-waits : (d : ℕ) (at : Site) → kept_among waiting d (holding.making at).kept ≡ 0
-making-waits d at = grind (arith)
 
 -- nor do the prefix words of its frame change
 at-making :
@@ -123,11 +120,6 @@ prefixes-stay g s l who words h old i has other =
     All-from_recursion (Stays g s words) (block_recalls b)
     (block-stays g s l who words h old i has other b o is fit.point
     (recursion_from_All (IsSo g s l i) (block_recalls b) (so-at g s l i (point.Block b o) old has is))))
-
--- a descriptor's frame is one of the heap's
-frame-of-within : (g : Geometry) (o : Option InfoFields) → IsSome (info_within g o) → (info_or_zero o).frame < g.frames
-frame-of-within g None some = absurd (cc)
-frame-of-within g (Some i) some = grind (arith, some)
 
 pub info-frame : (g : Geometry) (s : State) (l : Lists) (d : ℕ) → IsSoundWith g s l → d < descriptor_count g → (info_for s d).frame < g.frames
 info-frame g s l d old has = frame-of-within g (info_of (s.word (name.Info d))) (old.chained.infos d has)

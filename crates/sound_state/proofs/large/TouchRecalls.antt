@@ -36,55 +36,55 @@ IsSaid (says n w) = IsSaidWord n
 IsSaid r = Unit {0}
 
 -- what is remembered of words that are none of the arena's, of the units and of the shelves
-abbrev pub IsApart : Recall → Type 0
-IsApart (pops d a) = ⊥
-IsApart (links d a prefix) = ⊥
-IsApart (made f c blocks) = ⊥
-IsApart (says n w) = IsAwayWord n
-IsApart r = Unit {0}
+abbrev pub IsAwayRecall : Recall → Type 0
+IsAwayRecall (pops d a) = ⊥
+IsAwayRecall (links d a prefix) = ⊥
+IsAwayRecall (made f c blocks) = ⊥
+IsAwayRecall (says n w) = IsAwayWord n
+IsAwayRecall r = Unit {0}
 
 -- in a superblock
 said-block : (p : BlockPoint) → AllByRecursion IsSaid (block_recalls p)
 said-block p = grind (arith)
 
 -- behind a part
-apart-onward : (seat : SeatFields) (o : Onward) → AllByRecursion IsApart (onward_recalls seat o)
-apart-onward seat o = grind (arith)
+away-onward : (seat : SeatFields) (o : Onward) → AllByRecursion IsAwayRecall (onward_recalls seat o)
+away-onward seat o = grind (arith)
 
 -- at a stack
 apart-next : (pile : Pile) (k : ℕ) → IsAwayWord (next_name pile k)
 apart-next Frames k = tt
 apart-next Partials k = tt
 
-apart-stack : (p : StackPoint) (o : Onward) → AllByRecursion IsApart (stack_recalls p o)
-apart-stack p o = grind (arith, apart-next, apart-onward)
+away-stack : (p : StackPoint) (o : Onward) → AllByRecursion IsAwayRecall (stack_recalls p o)
+away-stack p o = grind (arith, apart-next, away-onward)
 
 -- at the descriptors or the hazard words
-apart-resumed : (seat : SeatFields) (o : Onward) → AllByRecursion IsApart (resumed_recalls seat o)
-apart-resumed seat o = grind (arith)
+away-resumed : (seat : SeatFields) (o : Onward) → AllByRecursion IsAwayRecall (resumed_recalls seat o)
+away-resumed seat o = grind (arith)
 
-apart-desc : (p : DescPoint) (o : Onward) → AllByRecursion IsApart (desc_recalls p o)
-apart-desc p o = grind (arith, apart-onward, apart-resumed)
+away-desc : (p : DescPoint) (o : Onward) → AllByRecursion IsAwayRecall (desc_recalls p o)
+away-desc p o = grind (arith, away-onward, away-resumed)
 
 -- at a partial superblock
-apart-partial : (p : PartialPoint) (o : Onward) → AllByRecursion IsApart (partial_recalls p o)
-apart-partial p o = grind (arith, apart-onward)
+away-partial : (p : PartialPoint) (o : Onward) → AllByRecursion IsAwayRecall (partial_recalls p o)
+away-partial p o = grind (arith, away-onward)
 
 -- at a large block
-apart-large : (p : LargePoint) → AllByRecursion IsApart (large_recalls p)
-apart-large p = grind (arith)
+away-large : (p : LargePoint) → AllByRecursion IsAwayRecall (large_recalls p)
+away-large p = grind (arith)
 
 -- where all words stay but the units, the shelves and those of the arena
 module _ (g : Geometry) (s : State) (words' : WordName → ℕ) (others : (n : WordName) → IsAwayWord n → words' n ≡ s.word n) where
-  apart-stays : (r : Recall) → IsApart r → Stays g s words' r
+  apart-stays : (r : Recall) → IsAwayRecall r → Stays g s words' r
   apart-stays (pops d a) is = absurd is
   apart-stays (links d a prefix) is = absurd is
   apart-stays (says n w) is = others n is
   apart-stays (made f c blocks) is = absurd is
   apart-stays r is = tt
 
-  all-apart : (rs : List Recall) → AllByRecursion IsApart rs → All (Stays g s words') rs
-  all-apart = for-each IsApart (Stays g s words') apart-stays
+  all-apart : (rs : List Recall) → AllByRecursion IsAwayRecall rs → All (Stays g s words') rs
+  all-apart = for-each IsAwayRecall (Stays g s words') apart-stays
 
   -- where what is remembered in a superblock stays, so does all that is remembered
   pub all-stays :
@@ -93,10 +93,10 @@ module _ (g : Geometry) (s : State) (words' : WordName → ℕ) (others : (n : W
   unfolding recalls_of
   all-stays point.Idle blocks = all-apart [] tt
   all-stays (point.Block b o) blocks = blocks b o refl
-  all-stays (point.Stack p o) blocks = all-apart (stack_recalls p o) (apart-stack p o)
-  all-stays (point.Desc p o) blocks = all-apart (desc_recalls p o) (apart-desc p o)
-  all-stays (point.Partial p o) blocks = all-apart (partial_recalls p o) (apart-partial p o)
-  all-stays (point.Large p o) blocks = all-apart (large_recalls p) (apart-large p)
+  all-stays (point.Stack p o) blocks = all-apart (stack_recalls p o) (away-stack p o)
+  all-stays (point.Desc p o) blocks = all-apart (desc_recalls p o) (away-desc p o)
+  all-stays (point.Partial p o) blocks = all-apart (partial_recalls p o) (away-partial p o)
+  all-stays (point.Large p o) blocks = all-apart (large_recalls p) (away-large p)
 
 -- where the words of the arena stay too
 module _

@@ -1,17 +1,12 @@
 -- Won exchanges of a shelf's word keep the state sound.
 use Rattle.std.proofs.Common.{ℕ, true, None, Some, ◌≡◌, ◌≢◌, ◌<◌, ◌+◌, [], ◌∷◌, ◌++◌, refl, arith, ap, sym, subst, inl, inr, ◌∙◌}
-use Rattle.std.specs.Prelude.{◌⊎◌, ◌==◌, slice_index_or}
+use Rattle.std.specs.Prelude.{◌==◌, slice_index_or}
 use Rattle.std.proofs.lemmas.Bool.{cases_eq, eq-eqb}
 use Rattle.std.proofs.lemmas.List.Elements.{All-head}
 use Rattle.heap_geometry.specs.declared.geometry.Geometry.{Geometry}
-use Rattle.heap_geometry.specs.Geometry.{IsChecked}
 use Rattle.heap_geometry.specs.declared.limits.TheConstants.{SHELVES}
 use Rattle.heap_geometry.specs.declared.need.Need.{Need}
 use Rattle.heap_geometry.specs.declared.need.Need.TheVariants as need
-use Rattle.heap_geometry.specs.Need.{IsNeed}
-use Rattle.heap_geometry.proofs.PlaceLemmas.{block-within}
-use Rattle.packed_words.specs.declared.shelf.TheConstants.{MAX_ARENA_WORDS}
-use Rattle.std.proofs.lemmas.Nat.{pow_pos}
 use Rattle.packed_words.specs.declared.shelf.ShelfWord.TheVariants as shelf
 use Rattle.packed_words.specs.Shelf.{IsShelfWord, shelf_word}
 use Rattle.packed_words.proofs.ShelfLemmas.{shelf-exact}
@@ -25,10 +20,9 @@ use Rattle.pool_model.specs.declared.owner.Owner.{Owner}
 use Rattle.pool_model.specs.declared.owner.Owner.TheVariants.{Caller, Shelf}
 use Rattle.pool_model.specs.Legal.{IsAllowed, IsEmptyShelf}
 use Rattle.pool_model.specs.Pool.{Block, Pool, block_at, handed_to, with_changed, pool_after, pool_of}
-use Rattle.pool_model.specs.WellFormed.{IsWellFormed, IsPlaceFor}
 use Rattle.pool_model.proofs.HistoryLemmas.{pool_of-push}
-use Rattle.pool_model.proofs.PoolLemmas.{Every, every-each, every-found, block_at-changed_other, block_at-changed_same}
-use Rattle.pool_model.proofs.WellFormedLemmas.{sound-of, sound-differ, separate-found, found-itself}
+use Rattle.pool_model.proofs.PoolLemmas.{block_at-changed_other, block_at-changed_same}
+use Rattle.pool_model.proofs.WellFormedLemmas.{sound-of, separate-found}
 use Rattle.errand_steps.specs.declared.onward.Onward.{Onward}
 use Rattle.errand_steps.specs.declared.point.Point.{Point}
 use Rattle.errand_steps.specs.declared.point.Point.TheVariants.{Idle, Large}
@@ -45,26 +39,13 @@ use Rattle.sound_state.specs.Sound.{IsSoundWithoutCounts, IsSoundWith}
 use Rattle.sound_state.specs.Superblocks.{is_there}
 use Rattle.sound_state.specs.Ties.{IsLive, IsTied}
 use Rattle.sound_state.proofs.shared.PointLemmas.{fits-at, so-at}
-use Rattle.sound_state.proofs.quiet.QuietLemmas.{words-stay}
-use Rattle.sound_state.proofs.large.TouchEffects.{IsAside, Touches}
+use Rattle.sound_state.proofs.large.TouchEffects.{IsAsidePoint, Touches}
 use Rattle.sound_state.proofs.large.TouchSteps.{TouchesAt, leaves-event, stays-still, touched-step}
 use Rattle.sound_state.proofs.large.TouchTies.{SamePlaces, large-aside, tied-touched, touched-sound}
+use Rattle.sound_state.proofs.shared.ShelfFacts.{shelved-block, empty-shelf}
+use Rattle.sound_state.proofs.shared.StepLemmas.{words-stay}
 use Rattle.sound_state.proofs.shared.TieLemmas.{IsBareHanded, one-live}
-
--- a shelf's word with a block isn't that of an empty one
-shelf-some : (place : ℕ) (n : Need) → shelf_word (shelf.Block place n) ≡ shelf_word shelf.Nothing → ⊥
-unfolding shelf_word
-shelf-some place n same = omega (arith, same)
-
-shelf-nothing : shelf_word shelf.Nothing ≡ 0
-unfolding shelf_word
-shelf-nothing = refl
-
--- where the word says so, no block lies on the shelf
-empty-shelf :
-    (g : Geometry) (s : State) (l : Lists) (k : ℕ) → IsSoundWith g s l → k < SHELVES → s.word (name.Shelf k) ≡ shelf_word shelf.Nothing
-    → IsEmptyShelf (pool_of s.history) k
-empty-shelf g s l k old has word place b live on = shelf-some place b.need (sym (old.tied.shelved k place b has live on) ∙ word)
+use Rattle.sound_state.proofs.shared.WordFacts.{shelf-nothing}
 
 -- a block is changed, and its place and its need stay
 pub record Changes (s s' : State) (at : ℕ) (a b : Block) : Type 0 where
@@ -177,13 +158,13 @@ put-bare : (k place : ℕ) (n : Need) (o : Onward) → IsBareHanded (Large (larg
 unfolding holds_of
 put-bare k place n o = grind (arith)
 
-pub idle-aside : IsAside Idle
+pub idle-aside : IsAsidePoint Idle
 unfolding holds_of
 idle-aside = grind (arith)
 
-pub idle-bare : IsBareHanded Idle
+pub idle-bare-handed : IsBareHanded Idle
 unfolding holds_of
-idle-bare = grind (arith)
+idle-bare-handed = grind (arith)
 
 pub idle-recalls : recalls_of Idle ≡ []
 unfolding recalls_of
@@ -246,71 +227,13 @@ put_block-sound g s who s' k place n o sound has at word step =
     let c : Changes s s' place b (handed_to (Shelf k) b) =
     changes-from s s' (Put who place k) place (handed_to (Shelf k)) b t.history refl (λ x. refl) (λ x. refl) owned.block.1 in
     touched-sound g s l who _ _ _ (Put who place k) s' sound old (has, allowed) t
-    (put-tied g s l who k place n s' _ t.touches old fit.point.shelf t.word (subst IsBareHanded (sym at) (put-bare k place n o)) idle-bare empty b
+    (put-tied g s l who k place n s' _ t.touches old fit.point.shelf t.word (subst IsBareHanded (sym at) (put-bare k place n o)) idle-bare-handed empty b
     owned.block.2 owned.block.3 c)
 
--- the number of an owner
-abbrev owner_number : Owner → ℕ
-owner_number (Caller i) = i
-owner_number (Shelf k) = k
-
--- whether an owner is this shelf
-owner-is : (owner : Owner) (k : ℕ) → (owner ≡ Shelf k) ⊎ (owner ≢ Shelf k)
-owner-is (Caller i) k = inr (λ same. cc)
-owner-is (Shelf j) k = elim (cases_eq j k) [ inl is ↦ inl (ap Shelf is) | inr differ ↦ inr (λ same. differ (ap owner_number same)) ]
-
-small-place : (g : Geometry) (class place : ℕ) → IsChecked g → IsPlaceFor g (need.Small class) place → place < MAX_ARENA_WORDS
-small-place g class place checked at =
-    omega (arith, at.2, at.4, block-within class at.1 at.3, pow_pos (class + 1), checked.frames.1, checked.units.1)
-
--- a live block's place and need fit a shelf's word
-pub shelf-fits : (g : Geometry) (n : Need) (place : ℕ) → IsChecked g → IsNeed n → IsPlaceFor g n place → IsShelfWord (shelf.Block place n)
-shelf-fits g (need.Small class) place checked is at = (small-place g class place checked at, is)
-shelf-fits g (need.Large units) place checked is at = (omega (arith, at.1, at.2, is.0, checked.frames.1, checked.units.1), is)
-shelf-fits g need.TooLarge place checked is at = absurd at
-
--- some block is owned so, or none
-pub owned-or-none :
-    (all pool : Pool) (k : ℕ) → Every (λ b. block_at b.place all ≡ Some b) pool
-    → ((b : Block) × (block_at b.place all ≡ Some b) × (b.owner ≡ Shelf k)) ⊎ Every (λ b. b.owner ≢ Shelf k) pool
-owned-or-none all [] k found = inr tt
-owned-or-none all (b ∷ pool) k found =
-    elim (owner-is b.owner k) [
-      | inl is ↦ inl (b, found.0, is)
-      | inr differ ↦
-          elim (owned-or-none all pool k found.1) [
-            | inl one ↦ inl one
-            | inr none ↦ inr (differ, none)
-          ]
-    ]
-
--- the block of which a shelf's word says that it lies there does
-shelved-block :
-    (g : Geometry) (s : State) (l : Lists) (k place : ℕ) (n : Need) → IsSoundWithoutCounts g s → IsSoundWith g s l → k < SHELVES
-    → IsShelfWord (shelf.Block place n) → s.word (name.Shelf k) ≡ shelf_word (shelf.Block place n)
-    → (b : Block) × IsLive s place b × (b.owner ≡ Shelf k) × (b.need ≡ n)
-shelved-block g s l k place n sound old has fit word =
-    let pool = sound-of g s.history sound.legal in
-    elim (owned-or-none (pool_of s.history) (pool_of s.history) k (found-itself (pool_of s.history) (sound-differ g (pool_of s.history) pool))) [
-      | inl one ↦
-          let formed : IsWellFormed g one.0 = every-found (IsWellFormed g) one.0.place (pool_of s.history) one.0 pool.each one.1 in
-          let says : shelf_word (shelf.Block one.0.place one.0.need) ≡ shelf_word (shelf.Block place n) =
-          sym (old.tied.shelved k one.0.place one.0 has one.1 one.2) ∙ word in
-          let same : shelf.Block one.0.place one.0.need ≡ shelf.Block place n =
-          shelf-exact.one_word (shelf.Block one.0.place one.0.need) (shelf.Block place n)
-          (shelf-fits g one.0.need one.0.place sound.checked formed.need formed.place) fit says in
-          let here : one.0.place ≡ place = cc in
-          (one.0, subst (λ p. IsLive s p one.0) here one.1, one.2, (cc))
-      | inr none ↦
-          absurd
-          (shelf-some place n
-          (sym word ∙ old.tied.bare_shelf k has (λ p b live on. every-each (λ x. x.owner ≢ Shelf k) (pool_of s.history) none p b live on)))
-    ]
-
 -- a block is taken from a shelf
-take-bare : (k place : ℕ) (n : Need) (o : Onward) → IsBareHanded (Large (large.TakeBlock k place n) o)
+take_block-bare : (k place : ℕ) (n : Need) (o : Onward) → IsBareHanded (Large (large.TakeBlock k place n) o)
 unfolding holds_of
-take-bare k place n o = grind (arith)
+take_block-bare k place n o = grind (arith)
 
 take-touches :
     (g : Geometry) (s : State) (l : Lists) (who k place : ℕ) (n : Need) (o : Onward) → IsSoundWith g s l → k < SHELVES
@@ -367,7 +290,7 @@ take_block-sound g s who s' k place n o sound has at word step =
     let c : Changes s s' place b (handed_to (Caller who) b) =
     changes-from s s' (Take who k place) place (handed_to (Caller who)) b t.history refl (λ x. refl) (λ x. refl) there.1 in
     touched-sound g s l who _ _ _ (Take who k place) s' sound old (has, allowed) t
-    (take-tied g s l who k place s' _ t.touches sound old t.word (subst IsBareHanded (sym at) (take-bare k place n o)) idle-bare b there.2 c)
+    (take-tied g s l who k place s' _ t.touches sound old t.word (subst IsBareHanded (sym at) (take_block-bare k place n o)) idle-bare-handed b there.2 c)
 
 -- a shelf is still empty
 none-bare : (k : ℕ) (o : Onward) → IsBareHanded (Large (large.ConfirmNothing k) o)
@@ -429,4 +352,4 @@ confirm_nothing-sound g s who s' k o sound has at word step =
     (none-touches g s l who k o old shelf_there word allowed) step in
     touched-sound g s l who _ _ _ (TakeNone who k) s' sound old (has, allowed) t
     (same-tied g s l who s' _ t.touches old (words-stay s.word (name.Shelf k) _ s'.word t.word (sym word)) (subst IsBareHanded (sym at) (none-bare k o))
-    idle-bare (λ q. ap (block_at q) (ap pool_of t.history ∙ pool_of-push s.history (TakeNone who k))))
+    idle-bare-handed (λ q. ap (block_at q) (ap pool_of t.history ∙ pool_of-push s.history (TakeNone who k))))

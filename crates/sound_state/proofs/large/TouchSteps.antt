@@ -1,12 +1,9 @@
 -- The step at a large block, a usable word or a shelf, and what it leaves.
-use Rattle.std.proofs.Common.{ℕ, Bool, false, cond, Some, ◌≡◌, ◌≢◌, ◌<◌, ◌+◌, ◌^◌, List, [], ◌∷◌, ◌++◌, refl, arith, ap, sym, subst, inl, inr, append-nil, ◌∙◌}
-use Rattle.std.specs.Prelude.{◌⊎◌, All, IsTrue, count_by}
-use Rattle.std.proofs.lemmas.Bool.{ne_eqb}
-use Rattle.std.proofs.lemmas.List.Sums.{sum_by_push}
+use Rattle.std.proofs.Common.{ℕ, false, Some, ◌≡◌, ◌≢◌, ◌<◌, ◌^◌, List, [], ◌∷◌, ◌++◌, refl, ap, sym, subst, ◌∙◌}
+use Rattle.std.specs.Prelude.{All, IsTrue, count_by}
 use Rattle.heap_geometry.specs.declared.geometry.Geometry.{Geometry}
 use Rattle.heap_geometry.specs.Need.{block_count_of}
 use Rattle.heap_geometry.specs.Place.{block_place}
-use Rattle.word_plan.specs.declared.action.Found.{Found}
 use Rattle.word_plan.specs.declared.name.WordName.{WordName}
 use Rattle.word_plan.specs.declared.name.WordName.TheVariants as name
 use Rattle.word_plan.specs.Actions.{name_of, after_action}
@@ -18,13 +15,10 @@ use Rattle.pool_model.specs.declared.owner.Owner.TheVariants.{Caller}
 use Rattle.pool_model.specs.Histories.{own, caller_of}
 use Rattle.pool_model.specs.Legal.{IsAllowed}
 use Rattle.pool_model.specs.Pool.{Block, block_at, pool_after, pool_of}
-use Rattle.pool_model.proofs.HistoryLemmas.{own-append, pool_of-push}
+use Rattle.pool_model.proofs.HistoryLemmas.{pool_of-push}
 use Rattle.pool_model.proofs.OwnerLemmas.{others-keep}
-use Rattle.errand_steps.specs.declared.next.Next.TheVariants.{At, End}
 use Rattle.errand_steps.specs.declared.point.Point.{Point}
-use Rattle.errand_steps.specs.declared.point.Point.TheVariants.{Idle}
-use Rattle.errand_steps.specs.declared.reply.Reply.{Reply}
-use Rattle.errand_steps.specs.Errands.{ErrandFields, IsErrand, settle_of, raised, counts_lost, counts_cleared}
+use Rattle.errand_steps.specs.Errands.{IsErrand, settle_of, raised, counts_lost, counts_cleared}
 use Rattle.errand_steps.specs.Events.{event_of}
 use Rattle.errand_steps.specs.Nexts.{next_of}
 use Rattle.errand_steps.specs.Points.{plan_point_of}
@@ -35,13 +29,14 @@ use Rattle.sound_state.specs.Recalls.{recalls_of}
 use Rattle.sound_state.specs.Sound.{IsSoundWith}
 use Rattle.sound_state.specs.Superblocks.{info_for, is_bound, is_there}
 use Rattle.sound_state.specs.Turns.{gives_small, refuses_small, is_small_alloc, is_small_free}
-use Rattle.sound_state.proofs.quiet.QuietLemmas.{found_from}
-use Rattle.sound_state.proofs.shared.StepLemmas.{settle-at, settle-end, at_point, words-below}
-use Rattle.sound_state.proofs.large.TouchEffects.{IsAwayWord, IsAside, Stays, Touches}
+use Rattle.sound_state.proofs.shared.EventFacts.{counted-not, told-own}
+use Rattle.sound_state.proofs.shared.StepLemmas.{at_point, words-below, found_from}
+use Rattle.sound_state.proofs.large.TouchEffects.{IsAwayWord, IsAsidePoint, Stays, Touches}
 use Rattle.sound_state.proofs.large.TouchRecalls.{point-stays}
+use Rattle.sound_state.proofs.shared.WonEffects.{settle-leads, LeadsTo}
 
 -- the events after a step leave what the others own, and count no small block
-pub record Leaves (g : Geometry) (s : State) (l : Lists) (who : ℕ) (past : List Event) : Type 0 where
+pub record LeavesOthers (g : Geometry) (s : State) (l : Lists) (who : ℕ) (past : List Event) : Type 0 where
   pub others :
       (i place : ℕ) (b : Block) → i ≢ who → block_at place (pool_of s.history) ≡ Some b → b.owner ≡ Caller i
       → block_at place (pool_of past) ≡ Some b
@@ -55,7 +50,7 @@ pub record Leaves (g : Geometry) (s : State) (l : Lists) (who : ℕ) (past : Lis
   pub allocs : count_by is_small_alloc past ≡ count_by is_small_alloc s.history
   pub freed : count_by (is_small_free g) past ≡ count_by (is_small_free g) s.history
 
-pub leaves-same : (g : Geometry) (s : State) (l : Lists) (who : ℕ) → Leaves g s l who s.history
+pub leaves-same : (g : Geometry) (s : State) (l : Lists) (who : ℕ) → LeavesOthers g s l who s.history
 leaves-same g s l who = record {
   others = λ i place b other found owned. found;
   live = λ d i has bound lt. refl;
@@ -74,25 +69,12 @@ pub record IsAsideEvent (g : Geometry) (who : ℕ) (event : Event) : Type 0 wher
   pub allocs : is_small_alloc event ≡ false
   pub freed : is_small_free g event ≡ false
 
-count-push : (p : Event → Bool) (past : List Event) (event : Event) → p event ≡ false → count_by p (past ++ event ∷ []) ≡ count_by p past
-count-push p past event none =
-    let pushed : count_by p (past ++ event ∷ []) ≡ count_by p past + cond (p event) 1 0 = sum_by_push (λ e. cond (p e) 1 0) past event in
-    let zero : ◌≡◌ {A = ℕ} (cond (p event) 1 0) 0 = ap (λ b. cond b 1 0) none in
-    omega (arith, pushed, zero)
-
-own-none : (i : ℕ) (event : Event) → caller_of event ≢ i → own i (event ∷ []) ≡ []
-own-none i event ne = rw (ne_eqb (caller_of event) i ne) refl
-
-own-push : (i : ℕ) (past : List Event) (event : Event) → caller_of event ≢ i → own i (past ++ event ∷ []) ≡ own i past
-own-push i past event ne =
-    own-append i past (event ∷ []) ∙ ap (λ xs. own i past ++ xs) (own-none i event ne) ∙ append-nil (own i past)
-
 pub leaves-event :
     (g : Geometry) (s : State) (l : Lists) (who : ℕ) (event : Event) → IsAsideEvent g who event → IsAllowed g s.history event
     → ((d i : ℕ) → d < descriptor_count g → IsTrue (is_bound g s l d) → i < block_count_of (info_for s d).class
     → is_there (block_at (block_place (info_for s d).frame (info_for s d).class i) (pool_after (pool_of s.history) event))
     ≡ is_there (block_at (block_place (info_for s d).frame (info_for s d).class i) (pool_of s.history)))
-    → Leaves g s l who (s.history ++ event ∷ [])
+    → LeavesOthers g s l who (s.history ++ event ∷ [])
 leaves-event g s l who event aside allowed live =
     let pool = pool_of-push s.history event in
     let apart = λ (i : ℕ) (other : i ≢ who) (same : caller_of event ≡ i). other (sym same ∙ aside.caller) in
@@ -100,20 +82,16 @@ leaves-event g s l who event aside allowed live =
       others = λ i place b other found owned.
           ap (block_at place) pool ∙ others-keep g s.history event i place b allowed (apart i other) found owned;
       live = λ d i has bound lt. ap (λ x. is_there (block_at (block_place (info_for s d).frame (info_for s d).class i) x)) pool ∙ live d i has bound lt;
-      events = λ i other. own-push i s.history event (apart i other);
-      gives = λ i. count-push (gives_small i) s.history event (aside.gives i);
-      refuses = λ i. count-push (refuses_small i) s.history event (aside.refuses i);
-      allocs = count-push is_small_alloc s.history event aside.allocs;
-      freed = count-push (is_small_free g) s.history event aside.freed;
+      events = λ i other. told-own i s.history event (apart i other);
+      gives = λ i. counted-not (gives_small i) s.history event (aside.gives i);
+      refuses = λ i. counted-not (refuses_small i) s.history event (aside.refuses i);
+      allocs = counted-not is_small_alloc s.history event aside.allocs;
+      freed = counted-not (is_small_free g) s.history event aside.freed;
     }
-
--- a point leads to another, or ends the call
-abbrev pub Leads : Point → Found → Point → Type 0
-Leads p x q = (next_of p x ≡ At q) ⊎ ((r : Reply) × (next_of p x ≡ End r) × (q ≡ Idle))
 
 -- such a step from the first point to the second: it writes a word of these, and adds these events
 pub record TouchesAt (g : Geometry) (s : State) (l : Lists) (who : ℕ) (p q : Point) (n : WordName) (new : ℕ) (past : List Event) : Type 0 where
-  pub leads : Leads p (found_from s p) q
+  pub leads : LeadsTo (next_of p (found_from s p)) q
   pub here : name_of (plan_point_of p) ≡ n
   pub written : after_action (plan_point_of p) (s.word (name_of (plan_point_of p))) ≡ new
   pub below : new < 2 ^ 64
@@ -121,9 +99,9 @@ pub record TouchesAt (g : Geometry) (s : State) (l : Lists) (who : ℕ) (p q : P
   pub lost : counts_lost p (found_from s p) ≡ false
   pub cleared : counts_cleared p (found_from s p) ≡ false
   pub told : with_event s.history (event_of who p (found_from s p)) ≡ past
-  pub leaves : Leaves g s l who past
-  pub before : IsAside p
-  pub after : IsAside q
+  pub leaves : LeavesOthers g s l who past
+  pub before : IsAsidePoint p
+  pub after : IsAsidePoint q
   pub recalls : recalls_of q ≡ []
   pub prefixes :
       (words' : WordName → ℕ) → Writes s.word n new words' → (d i : ℕ) → d < descriptor_count g → IsTrue (is_bound g s l d)
@@ -131,10 +109,6 @@ pub record TouchesAt (g : Geometry) (s : State) (l : Lists) (who : ℕ) (p q : P
       → words' (prefix_name (info_for s d).frame (info_for s d).class i) ≡ s.word (prefix_name (info_for s d).frame (info_for s d).class i)
   pub stays :
       (words' : WordName → ℕ) → Writes s.word n new words' → (i : ℕ) → i < g.callers → i ≢ who → All (Stays g s words') (recalls_of (s.errand i).point)
-
-leads-settle : (e : ErrandFields) (x : Found) (q : Point) → Leads e.point x q → settle_of e x ≡ at_point e x q
-leads-settle e x q (inl at) = settle-at e x q at
-leads-settle e x q (inr done) = settle-end e x done.0 done.1 ∙ ap (at_point e x) (sym done.2)
 
 pub record Touched (g : Geometry) (s : State) (l : Lists) (who : ℕ) (q : Point) (n : WordName) (new : ℕ) (past : List Event) (s' : State) : Type 0 where
   pub touches : Touches g s l who (at_point (s.errand who) (found_at s who) q) s'
@@ -147,13 +121,13 @@ step-from-here :
 step-from-here g s l who s' q n new past old has h step =
     let p = (s.errand who).point in
     let x = found_at s who in
-    let moved : settle_of (s.errand who) x ≡ at_point (s.errand who) x q = leads-settle (s.errand who) x q h.leads in
+    let moved : settle_of (s.errand who) x ≡ at_point (s.errand who) x q = settle-leads (s.errand who) x q h.leads in
     let writes : Writes s.word n new s'.word =
     subst (λ m. Writes s.word m new s'.word) h.here (subst (λ v. Writes s.word (name_of (plan_point_of p)) v s'.word) h.written step.word) in
     let own = old.errands who has in
     let history : s'.history ≡ past = step.history ∙ h.told in
     let back = sym history in
-    let leaves : Leaves g s l who s'.history = subst (Leaves g s l who) back h.leaves in
+    let leaves : LeavesOthers g s l who s'.history = subst (LeavesOthers g s l who) back h.leaves in
     record {
       touches = record {
         caller = has;

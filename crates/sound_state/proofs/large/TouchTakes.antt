@@ -47,15 +47,15 @@ use Rattle.sound_state.specs.Recalls.{IsOwned, recalls_of}
 use Rattle.sound_state.specs.Sound.{IsSoundWithoutCounts, IsSoundWith}
 use Rattle.sound_state.specs.Superblocks.{is_there}
 use Rattle.sound_state.specs.Ties.{IsLive, IsTied, IsCovered}
-use Rattle.sound_state.proofs.shared.AlikeLemmas.{Excepts}
 use Rattle.sound_state.proofs.shared.PointLemmas.{fits-at}
-use Rattle.sound_state.proofs.quiet.QuietLemmas.{words-stay}
 use Rattle.sound_state.proofs.large.TouchEffects.{Touches}
 use Rattle.sound_state.proofs.large.TouchFrees.{cases_run}
 use Rattle.sound_state.proofs.large.TouchPrefix.{frame-before}
 use Rattle.sound_state.proofs.large.TouchPrefixes.{info-frame}
-use Rattle.sound_state.proofs.large.TouchShelves.{idle-aside, idle-bare, idle-recalls, same-tied}
+use Rattle.sound_state.proofs.large.TouchShelves.{idle-aside, idle-bare-handed, idle-recalls, same-tied}
 use Rattle.sound_state.proofs.large.TouchSteps.{TouchesAt, leaves-event, stays-still, touched-step}
+use Rattle.sound_state.proofs.shared.ShownLemmas.{Excepts}
+use Rattle.sound_state.proofs.shared.StepLemmas.{words-stay}
 use Rattle.sound_state.proofs.shared.TieLemmas.{IsBareHanded, excepts-none, none-written, one-live, ties-but}
 use Rattle.sound_state.proofs.large.TouchTies.{large-aside, touched-desc, touched-sound}
 
@@ -133,9 +133,9 @@ clear-run g s l first n sound old within some free q b live =
     let formed : IsWellFormed g b = every-found (IsWellFormed g) q (pool_of s.history) b (sound-of g s.history sound.legal).each live in
     clear-need g s l first n old within some free q b live b.need refl formed.need formed.place
 
-take-bare : (w : WantFields) (bits : ℕ) (o : Onward) → IsBareHanded (Large (large.TakeRun w bits) o)
+take_run-bare : (w : WantFields) (bits : ℕ) (o : Onward) → IsBareHanded (Large (large.TakeRun w bits) o)
 unfolding holds_of
-take-bare w bits o = grind (arith)
+take_run-bare w bits o = grind (arith)
 
 -- there is no run
 refuse-touches :
@@ -186,8 +186,8 @@ refused-sound g s who s' w bits o sound has at word none step =
     touched-step g s l who s' p Idle name.Units bits (s.history ++ Refuse who (asked o) ∷ []) old has at
     (refuse-touches g s l who w bits o old word none (large-served (asked o) w.units served) allowed) step in
     touched-sound g s l who _ _ _ (Refuse who (asked o)) s' sound old (has, allowed) t
-    (same-tied g s l who s' _ t.touches old (words-stay s.word name.Units _ s'.word t.word (sym word)) (subst IsBareHanded (sym at) (take-bare w bits o))
-    idle-bare (λ q. ap (block_at q) (ap pool_of t.history ∙ pool_of-push s.history (Refuse who (asked o)))))
+    (same-tied g s l who s' _ t.touches old (words-stay s.word name.Units _ s'.word t.word (sym word)) (subst IsBareHanded (sym at) (take_run-bare w bits o))
+    idle-bare-handed (λ q. ap (block_at q) (ap pool_of t.history ∙ pool_of-push s.history (Refuse who (asked o)))))
 
 -- where a run is found, it is the first of these units
 abbrev run_at : ℕ → WantFields → RunFields
@@ -269,12 +269,12 @@ given-units g s s' l first n unit a old w of c has =
       )
     ]
 
-given-tied :
+run-given-tied :
     (g : Geometry) (s : State) (l : Lists) (who words first n : ℕ) (s' : State) (e : ErrandFields) → Touches g s l who e s' → IsSoundWith g s l
     → IsBareHanded (s.errand who).point → (holds_of e.point).hands ≡ run_handed (unit_place g.frames first) n → (holds_of e.point).frees ≡ []
     → Writes s.word name.Units (with_run (s.word name.Units) first n) s'.word → need_of words ≡ need.Large n → first + n ≤ g.units
     → Comes s s' (unit_place g.frames first) (fresh_block who words (unit_place g.frames first)) → IsTied g s' l
-given-tied g s l who words first n s' e h old bare hands frees w served within c =
+run-given-tied g s l who words first n s' e h old bare hands frees w served within c =
     let tied = old.tied in
     let at : ℕ = unit_place g.frames first in
     let a : Block = fresh_block who words at in
@@ -366,7 +366,7 @@ given-sound g s who s' w bits o first sound has at word some step =
       elsewhere = λ x ne. ap (block_at x) pool ∙ block_at-past x (fresh_block who words place) (pool_of s.history) (λ same. ne (sym same));
     } in
     touched-sound g s l who _ _ _ (Alloc who words place) s' sound old (has, allowed) t
-    (given-tied g s l who words first n s' _ t.touches old (subst IsBareHanded (sym at) (take-bare w bits o))
+    (run-given-tied g s l who words first n s' _ t.touches old (subst IsBareHanded (sym at) (take_run-bare w bits o))
     (run-held place (run_at first w) o ∙ ap (λ x. run_handed x n) here) (run-frees place (run_at first w) o)
     (subst (λ v. Writes s.word name.Units (with_run v first n) s'.word) (sym word) t.word) served within
     (subst (λ x. Comes s s' x (fresh_block who words x)) here came))

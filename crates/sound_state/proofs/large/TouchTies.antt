@@ -25,10 +25,9 @@ use Rattle.sound_state.specs.Lists.{Lists}
 use Rattle.sound_state.specs.Recalls.{IsOwned}
 use Rattle.sound_state.specs.Sound.{IsSoundWithoutCounts, IsSoundWith}
 use Rattle.sound_state.specs.Ties.{IsTied, IsLive, IsBlockOfDesc, IsExcepted}
-use Rattle.sound_state.proofs.pops.PopTurns.{each-other}
-pub use Rattle.sound_state.proofs.shared.TieLemmas.{IsBareHanded}
-use Rattle.sound_state.proofs.shared.TieLemmas.{bare-owns, excepted-stays, excepts-none, tie-stays}
-use Rattle.sound_state.proofs.large.TouchEffects.{IsAside, Touches, sound-touched, touched-bound, located-touched, owned-touched}
+use Rattle.sound_state.proofs.shared.CallerLemmas.{each-other}
+use Rattle.sound_state.proofs.shared.TieLemmas.{bare-owns, excepted-stays, excepts-none, tie-stays, IsBareHanded}
+use Rattle.sound_state.proofs.large.TouchEffects.{IsAsidePoint, Touches, sound-touched, touched-bound, located-touched, owned-touched}
 use Rattle.sound_state.proofs.large.TouchSteps.{Touched}
 
 -- the same places have live blocks, which serve the same needs
@@ -106,6 +105,6 @@ touched-sound g s l who q n new event s' sound old legal t tied = record {
 }
 
 -- at a point of large blocks a caller reserves, keeps, guards and pushes nothing
-pub large-aside : (p : LargePoint) (o : Onward) → IsAside (Large p o)
+pub large-aside : (p : LargePoint) (o : Onward) → IsAsidePoint (Large p o)
 unfolding holds_of
 large-aside p o = grind (arith)

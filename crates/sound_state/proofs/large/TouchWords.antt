@@ -1,11 +1,10 @@
 -- A usable word that is written.
-use Rattle.std.proofs.Common.{ℕ, None, Some, ◌≡◌, ◌≢◌, ◌<◌, ◌≤◌, ◌+◌, ◌%◌, ◌^◌, [], ◌∷◌, ◌++◌, refl, arith, ap, sym, subst, inl, inr, get_or-set_same, get_or-set_other, ◌∙◌}
+use Rattle.std.proofs.Common.{ℕ, None, Some, ◌≡◌, ◌≢◌, ◌<◌, ◌≤◌, ◌+◌, ◌^◌, [], ◌∷◌, ◌++◌, refl, arith, ap, sym, subst, inl, inr, get_or-set_same, get_or-set_other, ◌∙◌}
 use Rattle.std.specs.Prelude.{slice_index_or}
 use Rattle.std.proofs.lemmas.Bool.{cases_eq}
 use Rattle.std.proofs.lemmas.Nat.{pow_pos}
 use Rattle.std.proofs.lemmas.List.Elements.{All-head}
 use Rattle.heap_geometry.specs.declared.geometry.Geometry.{Geometry}
-use Rattle.heap_geometry.specs.Geometry.{IsChecked}
 use Rattle.heap_geometry.specs.declared.need.Need.{Need}
 use Rattle.heap_geometry.specs.declared.need.Need.TheVariants as need
 use Rattle.heap_geometry.specs.Need.{block_count_of, usable_words}
@@ -40,13 +39,15 @@ use Rattle.sound_state.specs.Sound.{IsSoundWithoutCounts, IsSoundWith}
 use Rattle.sound_state.specs.Superblocks.{info_for, errand_keeps}
 use Rattle.sound_state.specs.Ties.{IsLive, IsTied, IsBlockOfDesc}
 use Rattle.sound_state.proofs.shared.PointLemmas.{fits-at, so-at}
-use Rattle.sound_state.proofs.large.TouchEffects.{IsAwayWord, IsAside, Touches, sound-touched}
+use Rattle.sound_state.proofs.large.TouchEffects.{IsAwayWord, IsAsidePoint, Touches, sound-touched}
 use Rattle.sound_state.proofs.shared.FrameLemmas.{one-in-frame, in-hand-waits}
 use Rattle.sound_state.proofs.large.TouchPrefix.{arena_place, written-usable, words-apart}
 use Rattle.sound_state.proofs.large.TouchPrefixes.{KeepsPrefixes, prefixes-stay, info-frame}
-use Rattle.sound_state.proofs.large.TouchShelves.{Changes, changes-places, changed-is, changed-there, changes-from, idle-aside, idle-bare, idle-recalls}
+use Rattle.sound_state.proofs.large.TouchShelves.{Changes, changes-places, changed-is, changed-there, changes-from, idle-aside, idle-bare-handed, idle-recalls}
 use Rattle.sound_state.proofs.large.TouchSteps.{TouchesAt, leaves-event, touched-step}
-use Rattle.sound_state.proofs.large.TouchTies.{IsBareHanded, tied-touched}
+use Rattle.sound_state.proofs.large.TouchTies.{tied-touched}
+use Rattle.sound_state.proofs.shared.TieLemmas.{IsBareHanded}
+use Rattle.sound_state.proofs.shared.WordFacts.{payload-uncut}
 
 -- a usable word of a block isn't the first one of another block of its class, nor its own first one
 inside-block :
@@ -127,17 +128,13 @@ payload-keeps g s l who place i new words sound old w b live usable (need.Large 
     }
 payload-keeps g s l who place i new words sound old w b live usable need.TooLarge of placed = absurd placed
 
-write-aside : (place i value : ℕ) (o : Onward) → IsAside (Large (large.StoreWord place i value) o)
+write-aside : (place i value : ℕ) (o : Onward) → IsAsidePoint (Large (large.StoreWord place i value) o)
 unfolding holds_of
 write-aside place i value o = grind (arith)
 
 write-bare : (place i value : ℕ) (o : Onward) → IsBareHanded (Large (large.StoreWord place i value) o)
 unfolding holds_of
 write-bare place i value o = grind (arith)
-
--- the arena's names are of 32 bits
-payload-uncut : (g : Geometry) (place i : ℕ) → IsChecked g → place + 1 + i < arena_words g → (place + 1 + i) % 2 ^ 32 ≡ place + 1 + i
-payload-uncut g place i checked within = omega (arith, within, checked.frames.1, checked.units.1)
 
 write-touches :
     (g : Geometry) (s : State) (l : Lists) (who place i value : ℕ) (o : Onward) → IsSoundWithoutCounts g s → IsSoundWith g s l
@@ -255,7 +252,7 @@ store_word-sound g s who s' place i value o sound has at step =
       parts = (
         l,
         sound-touched g s l who _ s' t.touches old
-            (write-tied g s l who place i value s' _ t.touches sound old t.word (subst IsBareHanded (sym at) (write-bare place i value o)) idle-bare b
+            (write-tied g s l who place i value s' _ t.touches sound old t.word (subst IsBareHanded (sym at) (write-bare place i value o)) idle-bare-handed b
             owned.block.2 usable c),
       );
     }

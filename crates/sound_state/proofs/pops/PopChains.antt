@@ -1,7 +1,6 @@
--- A won pop: the frames stay where they are, and the superblocks keep their blocks in order.
-use Rattle.std.proofs.Common.{ℕ, ◌≡◌, ◌≢◌, ◌<◌, ◌≤◌, ◌+◌, ◌-◌, List, ◌∷◌, refl, arith, ap, sym, subst, inl, inr, ◌∙◌}
-use Rattle.std.specs.Prelude.{◌==◌, IsTrue}
-use Rattle.std.proofs.lemmas.Bool.{cases_eq, cond-false, ne_eqb}
+-- A won pop: the frames stay where they are, and the superblocks keep their popped-blocks in order.
+use Rattle.std.proofs.Common.{ℕ, ◌≡◌, ◌≢◌, ◌<◌, ◌≤◌, ◌+◌, ◌-◌, ◌∷◌, refl, arith, ap, sym, subst, ◌∙◌}
+use Rattle.std.specs.Prelude.{IsTrue}
 use Rattle.heap_geometry.specs.declared.geometry.Geometry.{Geometry}
 use Rattle.packed_words.specs.Anchor.{AnchorFields}
 use Rattle.word_plan.specs.declared.seat.Site.{Site}
@@ -13,20 +12,20 @@ use Rattle.superblock_parts.proofs.ChainLemmas.{chain_of-first, occurs-here, occ
 use Rattle.errand_steps.specs.Errands.{ErrandFields}
 use Rattle.errand_steps.specs.Steps.{State}
 use Rattle.sound_state.specs.Frames.{IsFramed}
-use Rattle.sound_state.specs.Holdings.{before_pop}
+use Rattle.sound_state.specs.Holdings.{holds_before_pop}
 use Rattle.sound_state.specs.Lists.{Lists}
 use Rattle.sound_state.specs.Sound.{IsSoundWithoutCounts, IsSoundWith}
 use Rattle.sound_state.specs.Superblocks.{Superblock, AreChained, IsChained, superblock_of, anchor_for, reserved_of, free_chain, is_there}
 use Rattle.sound_state.proofs.pops.PopEffects.{Pops, popped_holds}
 use Rattle.sound_state.proofs.pops.PopFacts.{popped-holds, popped-write, popped-anchor, popped-waits, popped-bound, popped-reserved, popped-credits, popped-first, popped-here, popped-there}
 use Rattle.sound_state.proofs.shared.HoldingEffects.{framed-after}
-use Rattle.sound_state.proofs.shared.SuperblockEffects.{LieStill, BlockEffects, anchor-still, info-stays, next-stays, size-stays, superblock-stays, live-after, rest-live, chained-after, held-same}
+use Rattle.sound_state.proofs.shared.SuperblockEffects.{LieStill, BlockEffects, anchor-still, info-stays, next-stays, size-stays, superblock-stays, live-after, rest-live, chained-after, held-same, first-used}
 
 -- who pops has no frame in its hand, before and after
-had-frames : (f d class : ℕ) (share : Share) → occurs f (before_pop d class share).frames ≡ 0
-had-frames f d class Credit = grind (arith)
-had-frames f d class LastCredit = grind (arith)
-had-frames f d class (Grant more) = grind (arith)
+popping-no-frames : (f d class : ℕ) (share : Share) → occurs f (holds_before_pop d class share).frames ≡ 0
+popping-no-frames f d class Credit = grind (arith)
+popping-no-frames f d class LastCredit = grind (arith)
+popping-no-frames f d class (Grant more) = grind (arith)
 
 has-frames : (f : ℕ) (at : Site) (i more : ℕ) → occurs f (popped_holds at i more).frames ≡ 0
 has-frames f at i more = grind (arith)
@@ -37,23 +36,7 @@ taken-most Credit a = grind (arith)
 taken-most LastCredit a = grind (arith)
 taken-most (Grant more) a = grind (arith)
 
--- another index in front changes nothing
-pub occurs-past : (j i : ℕ) (xs : List ℕ) → i ≢ j → occurs j (i ∷ xs) ≡ occurs j xs
-occurs-past j i xs differ = omega (arith, cond-false {A = ℕ} (i == j) 1 0 (ne_eqb i j differ))
-
--- a block that leaves the front of a chain and becomes live is free or live as often as before, and so is every other
-pub first-used :
-    (b b' : Superblock) (i : ℕ) → free_chain b ≡ i ∷ free_chain b' → b.live i ≡ 0 → b'.live i ≡ 1 → (j : ℕ) → (j ≢ i → b'.live j ≡ b.live j)
-    → occurs j (free_chain b) + b.live j ≡ occurs j (free_chain b') + b'.live j
-first-used b b' i chain was now j others =
-    elim (cases_eq j i) [
-      | inl same ↦
-          subst (λ k. occurs k (free_chain b) + b.live k ≡ occurs k (free_chain b') + b'.live k) (sym same)
-          (omega (arith, ap (occurs i) chain, occurs-here i (free_chain b'), was, now))
-      | inr differ ↦ omega (arith, ap (occurs j) chain, occurs-past j i (free_chain b') (λ e. differ (sym e)), others differ)
-    ]
-
--- a superblock that loses the first block of its chain, which becomes live, keeps its blocks in order
+-- a superblock that loses the first block of its chain, which becomes live, keeps its popped-blocks in order
 pub first-goes :
     (b b' : Superblock) (i : ℕ) → IsChained b → free_chain b ≡ i ∷ free_chain b' → b'.anchor.avail ≡ b.next i
     → b'.anchor.count ≤ b.anchor.count → b'.waiting ≡ b.waiting → b'.next ≡ b.next → b'.size ≡ b.size → b'.live i ≡ 1
@@ -78,8 +61,8 @@ first-goes b b' i old chain avail count waits next size here others =
 module _
     (g : Geometry) (s : State) (l : Lists) (who : ℕ) (at : Site) (share : Share) (a : AnchorFields) (link words : ℕ) (e : ErrandFields)
     (s' : State) (h : Pops g s l who at share a link words e s') where
-  still : LieStill s s'
-  still = anchor-still (popped-write g s l who at share a link words e s' h)
+  popped-lie : LieStill s s'
+  popped-lie = anchor-still (popped-write g s l who at share a link words e s' h)
 
   -- each frame is in one place
   pub popped-framed : IsSoundWith g s l → IsFramed g s' l
@@ -88,17 +71,17 @@ module _
       (λ f d.
       let bound = popped-bound g s l who at share a link words e s' h d in
       let waits = popped-waits g s l who at share a link words e s' h d in
-      rw (bound, waits, info-stays still d) refl)
-      (λ f. has-frames f at a.avail (more_of share a) ∙ sym (had-frames f at.desc at.seat.class share)) old.framed
+      rw (bound, waits, info-stays popped-lie d) refl)
+      (λ f. has-frames f at a.avail (more_of share a) ∙ sym (popping-no-frames f at.desc at.seat.class share)) old.framed
 
   -- the popped block alone becomes live
-  blocks : BlockEffects g s l who at a.avail s'
-  blocks = record {
+  popped-blocks : BlockEffects g s l who at a.avail s'
+  popped-blocks = record {
     site = h.site;
     bound = h.bound;
     located = h.located;
     index = h.fits.avail;
-    still = still;
+    still = popped-lie;
     there = popped-there g s l who at share a link words e s' h;
   }
 
@@ -121,21 +104,21 @@ module _
       ap (λ n. chain_of next n (next a.avail)) less
       ∙ ap (chain_of next ((anchor_for s' at.desc).count + reserved_of g s' at.desc)) goes
       ∙ ap (λ f. chain_of f ((anchor_for s' at.desc).count + reserved_of g s' at.desc) (anchor_for s' at.desc).avail)
-      (sym (next-stays still g at.desc)) in
+      (sym (next-stays popped-lie g at.desc)) in
       ap (chain_of next k) first
       ∙ chain_of-first next k a.avail (omega (arith, popped-first g s l who at share a link words e s' h)) ∙ ap (λ xs. a.avail ∷ xs) rest
 
-  here-chained : IsSoundWith g s l → IsChained (superblock_of g s' at.desc)
-  here-chained old =
+  popped-here-chained : IsSoundWith g s l → IsChained (superblock_of g s' at.desc)
+  popped-here-chained old =
       first-goes (superblock_of g s at.desc) (superblock_of g s' at.desc) a.avail (old.chained.chained at.desc h.site.desc h.bound) popped-chain
       (ap (λ x. x.avail) h.after ∙ sym h.next) (omega (arith, popped-count)) (popped-waits g s l who at share a link words e s' h at.desc)
-      (next-stays still g at.desc) (size-stays still g at.desc)
-      (live-after blocks a.avail ∙ ap is_there (popped-here g s l who at share a link words e s' h)) (rest-live blocks)
+      (next-stays popped-lie g at.desc) (size-stays popped-lie g at.desc)
+      (live-after popped-blocks a.avail ∙ ap is_there (popped-here g s l who at share a link words e s' h)) (rest-live popped-blocks)
 
-  -- all superblocks keep their blocks in order
+  -- all superblocks keep their popped-blocks in order
   pub popped-chained : IsSoundWithoutCounts g s → IsSoundWith g s l → AreChained g s' l
   popped-chained sound old =
-      chained-after blocks old (λ d. subst IsTrue (popped-bound g s l who at share a link words e s' h d)) (λ bound. here-chained old)
+      chained-after popped-blocks old (λ d. subst IsTrue (popped-bound g s l who at share a link words e s' h d)) (λ bound. popped-here-chained old)
       (λ d differ.
-      superblock-stays still g d (popped-anchor g s l who at share a link words e s' h d differ)
+      superblock-stays popped-lie g d (popped-anchor g s l who at share a link words e s' h d differ)
       (popped-reserved g s l who at share a link words e s' h d differ) (popped-waits g s l who at share a link words e s' h d))

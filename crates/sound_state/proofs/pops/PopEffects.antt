@@ -1,5 +1,5 @@
 -- A won pop: what it changes, and that everything else stays.
-use Rattle.std.proofs.Common.{ℕ, Bool, true, false, None, ◌≡◌, ◌≢◌, ◌<◌, ◌+◌, ◌-◌, ◌^◌, [], ◌∷◌, ◌++◌, length}
+use Rattle.std.proofs.Common.{ℕ, true, false, ◌≡◌, ◌≢◌, ◌<◌, ◌+◌, ◌-◌, ◌^◌, [], ◌∷◌, ◌++◌}
 use Rattle.std.specs.Prelude.{IsTrue, if◌then◌else◌, nat_lt}
 use Rattle.heap_geometry.specs.declared.geometry.Geometry.{Geometry}
 use Rattle.heap_geometry.specs.declared.need.Need.TheVariants as need
@@ -14,21 +14,17 @@ use Rattle.superblock_parts.specs.Anchors.{taken_off, popped_state, more_of}
 use Rattle.superblock_parts.specs.declared.point.Share.{Share}
 use Rattle.pool_model.specs.declared.event.Event.TheVariants.{Alloc}
 use Rattle.errand_steps.specs.Errands.{ErrandFields}
-use Rattle.errand_steps.specs.Fits.{spare_of, pushed_by}
-use Rattle.errand_steps.specs.declared.point.Point.{Point}
 use Rattle.errand_steps.specs.Steps.{State, Moves}
-use Rattle.sound_state.specs.Guards.{passed_by, held_by}
-use Rattle.sound_state.specs.Holdings.{Holding, nothing, before_pop, after_pop, block_handed, holds_of}
+use Rattle.sound_state.specs.Holdings.{Holding, nothing, holds_before_pop, holds_after_pop, block_handed, holds_of}
 use Rattle.sound_state.specs.Lists.{Lists}
 use Rattle.sound_state.specs.Recalls.{IsLocated, bound_here, recalls_of}
 use Rattle.sound_state.specs.Sound.{IsOwnErrand}
-use Rattle.sound_state.specs.Stock.{waits_in}
 use Rattle.sound_state.specs.Superblocks.{anchor_for, is_bound, superblock_of}
-use Rattle.sound_state.specs.Turns.{in_turn, has_frame, has_refused, is_discarding_at, pops_left}
+use Rattle.sound_state.proofs.shared.TurnEffects.{StandsIn}
 
 -- what a caller holds after a pop, with so many blocks reserved beside the one that it popped
 abbrev pub popped_holds : Site → ℕ → ℕ → Holding
-popped_holds at i more = if nat_lt 0 more then after_pop at i more else record nothing { hands = block_handed at i }
+popped_holds at i more = if nat_lt 0 more then holds_after_pop at i more else record nothing { hands = block_handed at i }
 
 -- the anchor after the pop of a block with this link
 abbrev pub popped_anchor : Share → AnchorFields → ℕ → AnchorFields
@@ -42,19 +38,6 @@ popped_anchor share a link = record {
 -- where the block lies
 abbrev pub popped_place : Site → AnchorFields → ℕ
 popped_place at a = block_place at.frame at.seat.class a.avail
-
--- a point of a superblock that pushes, scans and waits for nothing, in a turn that has given no block yet, or has
-pub record StandsIn (giving : Bool) (p : Point) : Type 0 where
-  pub turn : in_turn p ≡ giving
-  pub frame : has_frame p ≡ false
-  pub refused : has_refused p ≡ false
-  pub discarding : is_discarding_at p ≡ false
-  pub pops : pops_left p ≡ 0
-  pub waits : (class : ℕ) → waits_in class p ≡ 0
-  pub pushed : pushed_by p ≡ None
-  pub passed : passed_by p ≡ 0
-  pub unread : length (held_by p) ≡ 0
-  pub spare : spare_of p ≡ 0
 
 -- a caller pops the first available block of a superblock, and all else stays
 pub record Pops (g : Geometry) (s : State) (l : Lists) (who : ℕ) (at : Site) (share : Share) (a : AnchorFields) (link words : ℕ)
@@ -77,7 +60,7 @@ pub record Pops (g : Geometry) (s : State) (l : Lists) (who : ℕ) (at : Site) (
   pub turns : e.turns ≡ (s.errand who).turns
   pub lost : e.lost ≡ (s.errand who).lost
   pub cleared : e.cleared ≡ (s.errand who).cleared
-  pub holds_before : holds_of (s.errand who).point ≡ before_pop at.desc at.seat.class share
+  pub holds_before : holds_of (s.errand who).point ≡ holds_before_pop at.desc at.seat.class share
   pub holds_after : holds_of e.point ≡ popped_holds at a.avail (more_of share a)
   pub recalls_after : recalls_of e.point ≡ bound_here at
   pub stands_before : StandsIn true (s.errand who).point

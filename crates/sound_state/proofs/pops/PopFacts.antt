@@ -1,6 +1,6 @@
 -- What a won pop leaves, and how it changes the pool and what is reserved.
-use Rattle.std.proofs.Common.{ℕ, Bool, false, Some, None, ◌≡◌, ◌≢◌, ◌<◌, ◌≤◌, ◌+◌, ◌-◌, refl, arith, ap, sym, subst, ◌∙◌}
-use Rattle.std.specs.Prelude.{◌==◌, ◌&&◌, not, IsTrue}
+use Rattle.std.proofs.Common.{ℕ, false, Some, None, ◌≡◌, ◌≢◌, ◌<◌, ◌≤◌, ◌+◌, ◌-◌, refl, arith, ap, sym, subst, ◌∙◌}
+use Rattle.std.specs.Prelude.{◌==◌}
 use Rattle.std.proofs.lemmas.Bool.{cond_both}
 use Rattle.heap_geometry.specs.declared.geometry.Geometry.{Geometry}
 use Rattle.heap_geometry.specs.Place.{block_place}
@@ -18,21 +18,17 @@ use Rattle.superblock_parts.proofs.ChainLemmas.{chain_of-first, occurs-here}
 use Rattle.pool_model.specs.Pool.{block_at, fresh_block, pool_of}
 use Rattle.errand_steps.specs.Errands.{ErrandFields}
 use Rattle.errand_steps.specs.Steps.{State}
-use Rattle.sound_state.specs.Holdings.{waiting, on_its_way, before_pop, Status, reserving}
+use Rattle.sound_state.specs.Holdings.{waiting, on_its_way, holds_before_pop, Status, reserving}
 use Rattle.sound_state.specs.Lists.{Lists}
 use Rattle.sound_state.specs.Sound.{IsSoundWithoutCounts, IsSoundWith}
 use Rattle.sound_state.specs.Sums.{words_sum, callers_sum}
 use Rattle.sound_state.specs.Superblocks.{anchor_for, info_for, superblock_of, free_chain, is_bound, away_of, waiting_of, reserved_of, word_reserves, errand_reserves, reserved_among, errand_keeps, kept_among, same_status}
+use Rattle.sound_state.proofs.shared.HasLemmas.{bound-stands}
 use Rattle.sound_state.proofs.shared.OverlapLemmas.{free-unlive}
 use Rattle.sound_state.proofs.pops.PopEffects.{Pops, popped_holds, popped_place}
 use Rattle.sound_state.proofs.shared.SumLemmas.{term-sum}
-pub use Rattle.sound_state.proofs.shared.SuperblockEffects.{anchor_number}
 use Rattle.sound_state.proofs.shared.HoldingEffects.{HoldingEffects, waits-go, ways-go, credits-go, away-goes}
 use Rattle.sound_state.proofs.shared.SuperblockEffects.{AnchorEffects, info-stays, anchor-still, anchors-stay, field-stays, weights-stay, given-here, given-there}
-
--- a bound superblock isn't EMPTY, and a pop doesn't make it so
-pub bound-stands : (b : Bool) (c : Bool) → IsTrue (b && not c) → c ≡ false
-bound-stands b c is = grind (arith, is)
 
 stands-popped : (share : Share) (a : AnchorFields) → is_empty a.state ≡ false → is_empty (popped_state share a) ≡ false
 stands-popped Credit a is = is
@@ -41,32 +37,32 @@ stands-popped LastCredit a is = cond_both (a.count == 0) phase.Full a.state (λ 
 
 -- who pops keeps nothing but what it reserves, before and after
 had-kept :
-    (status : Status) (d x class : ℕ) (share : Share) → same_status reserving status ≡ false → kept_among status d (before_pop x class share).kept ≡ 0
+    (status : Status) (d x class : ℕ) (share : Share) → same_status reserving status ≡ false → kept_among status d (holds_before_pop x class share).kept ≡ 0
 had-kept status d x class Credit other = refl
 had-kept status d x class LastCredit other = grind (arith, other)
 had-kept status d x class (Grant more) other = grind (arith, other)
 
-has-kept :
+popped-keeps-reserving :
     (status : Status) (d : ℕ) (at : Site) (i more : ℕ) → same_status reserving status ≡ false → kept_among status d (popped_holds at i more).kept ≡ 0
-has-kept status d at i more other = grind (arith, other)
+popped-keeps-reserving status d at i more other = grind (arith, other)
 
 -- what a pop pays with, and takes off the count
-had-reserved : (d x class : ℕ) (share : Share) → d ≢ x → reserved_among d (before_pop x class share).credits ≡ 0
-had-reserved d x class Credit ne = grind (arith, ne)
-had-reserved d x class LastCredit ne = grind (arith, ne)
-had-reserved d x class (Grant more) ne = grind (arith, ne)
+popping-reserved : (d x class : ℕ) (share : Share) → d ≢ x → reserved_among d (holds_before_pop x class share).credits ≡ 0
+popping-reserved d x class Credit ne = grind (arith, ne)
+popping-reserved d x class LastCredit ne = grind (arith, ne)
+popping-reserved d x class (Grant more) ne = grind (arith, ne)
 
-has-reserved : (d : ℕ) (at : Site) (i more : ℕ) → d ≢ at.desc → reserved_among d (popped_holds at i more).credits ≡ 0
-has-reserved d at i more ne = grind (arith, ne)
+popped-reserves-here : (d : ℕ) (at : Site) (i more : ℕ) → d ≢ at.desc → reserved_among d (popped_holds at i more).credits ≡ 0
+popped-reserves-here d at i more ne = grind (arith, ne)
 
 takes-off : (class : ℕ) (at : Site) (i : ℕ) (share : Share) (a : AnchorFields)
     → reserved_among at.desc (popped_holds at i (more_of share a)).credits + 1
-    ≡ reserved_among at.desc (before_pop at.desc class share).credits + taken_off share a
+    ≡ reserved_among at.desc (holds_before_pop at.desc class share).credits + taken_off share a
 takes-off class at i Credit a = grind (arith)
 takes-off class at i LastCredit a = grind (arith)
 takes-off class at i (Grant more) a = grind (arith)
 
-pub pays-one : (x class : ℕ) (share : Share) → 1 ≤ reserved_among x (before_pop x class share).credits
+pub pays-one : (x class : ℕ) (share : Share) → 1 ≤ reserved_among x (holds_before_pop x class share).credits
 pays-one x class Credit = grind (arith)
 pays-one x class LastCredit = grind (arith)
 pays-one x class (Grant more) = grind (arith)
@@ -79,7 +75,7 @@ first-occurs next k i some =
 module _
     (g : Geometry) (s : State) (l : Lists) (who : ℕ) (at : Site) (share : Share) (a : AnchorFields) (link words : ℕ) (e : ErrandFields)
     (s' : State) (h : Pops g s l who at share a link words e s') where
-  pub popped-holds : HoldingEffects g s who (before_pop at.desc at.seat.class share) (popped_holds at a.avail (more_of share a)) e s'
+  pub popped-holds : HoldingEffects g s who (holds_before_pop at.desc at.seat.class share) (popped_holds at a.avail (more_of share a)) e s'
   popped-holds = record { caller = h.caller; moves = h.moves; retired = h.retired; before = h.holds_before; after = h.holds_after }
 
   pub popped-write : AnchorEffects s at.desc s'
@@ -102,8 +98,8 @@ module _
   -- nothing waits or is on its way that wasn't, so what is bound stays
   kept-still :
       (status : Status) (d : ℕ) → same_status reserving status ≡ false
-      → kept_among status d (popped_holds at a.avail (more_of share a)).kept ≡ kept_among status d (before_pop at.desc at.seat.class share).kept
-  kept-still status d other = has-kept status d at a.avail (more_of share a) other ∙ sym (had-kept status d at.desc at.seat.class share other)
+      → kept_among status d (popped_holds at a.avail (more_of share a)).kept ≡ kept_among status d (holds_before_pop at.desc at.seat.class share).kept
+  kept-still status d other = popped-keeps-reserving status d at a.avail (more_of share a) other ∙ sym (had-kept status d at.desc at.seat.class share other)
 
   pub popped-waits : (d : ℕ) → waiting_of g s' d ≡ waiting_of g s d
   popped-waits d = omega (arith, waits-go popped-holds d, kept-still waiting d refl)
@@ -127,8 +123,8 @@ module _
       omega (
         arith,
         credits-go popped-holds d,
-        had-reserved d at.desc at.seat.class share ne,
-        has-reserved d at a.avail (more_of share a) ne,
+        popping-reserved d at.desc at.seat.class share ne,
+        popped-reserves-here d at a.avail (more_of share a) ne,
         popped-words (word_reserves d) (λ w. refl),
       )
 

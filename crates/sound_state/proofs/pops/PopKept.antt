@@ -13,12 +13,12 @@ use Rattle.superblock_parts.specs.declared.point.Share.{Share}
 use Rattle.superblock_parts.specs.declared.point.Share.TheVariants.{Credit, LastCredit, Grant}
 use Rattle.errand_steps.specs.Errands.{ErrandFields}
 use Rattle.errand_steps.specs.Steps.{State}
-use Rattle.sound_state.specs.Holdings.{Holding, Kept, reserving, nothing, keep, block_handed, before_pop, after_pop, holds_of}
+use Rattle.sound_state.specs.Holdings.{Holding, Kept, reserving, nothing, keep, block_handed, holds_before_pop, holds_after_pop, holds_of}
 use Rattle.sound_state.specs.Keepers.{IsKept, IsActive, IsKeptAs, full_keeps}
 use Rattle.sound_state.specs.Lists.{Lists}
 use Rattle.sound_state.specs.Sound.{IsSoundWith}
 use Rattle.sound_state.specs.Stock.{IsStocked, stock_among}
-use Rattle.sound_state.proofs.shared.KeptLemmas.{Goes, MovesAt, moved-kept, moved-stocked, state-goes}
+use Rattle.sound_state.proofs.shared.KeptLemmas.{StaysKept, MovesAt, moved-kept, moved-stocked, state-goes}
 use Rattle.sound_state.proofs.shared.PointLemmas.{kept_places}
 use Rattle.sound_state.proofs.pops.PopEffects.{Pops, popped_anchor, popped_holds}
 use Rattle.sound_state.proofs.pops.PopFacts.{popped-info}
@@ -53,21 +53,21 @@ count-stays LastCredit a active partial = let bad : phase.Active ≡ phase.Parti
 count-stays (Grant more) a active partial = omega arith
 
 -- in as many places, and out for a class, with what is FULL
-kept-weighs :
+popped-kept-weighs :
     (at : Site) (share : Share) (a : AnchorFields) (d : ℕ) → (IsReserving share → a.state ≡ phase.Active)
     → kept_places d (popped_holds at a.avail (more_of share a)).kept + (if at.desc == d then full_keeps (popped_state share a) else 0)
-    ≡ kept_places d (before_pop at.desc at.seat.class share).kept + (if at.desc == d then full_keeps a.state else 0)
-kept-weighs at Credit a d active = grind (arith)
-kept-weighs at LastCredit a d active = let is = active tt in grind (arith, is)
-kept-weighs at (Grant more) a d active = grind (arith)
+    ≡ kept_places d (holds_before_pop at.desc at.seat.class share).kept + (if at.desc == d then full_keeps a.state else 0)
+popped-kept-weighs at Credit a d active = grind (arith)
+popped-kept-weighs at LastCredit a d active = let is = active tt in grind (arith, is)
+popped-kept-weighs at (Grant more) a d active = grind (arith)
 
-stock-weighs :
+popped-stock-weighs :
     (at : Site) (share : Share) (a : AnchorFields) (c : ℕ) → (IsReserving share → a.state ≡ phase.Active)
     → stock_among c (popped_holds at a.avail (more_of share a)).kept + (if at.seat.class == c then full_keeps (popped_state share a) else 0)
-    ≡ stock_among c (before_pop at.desc at.seat.class share).kept + (if at.seat.class == c then full_keeps a.state else 0)
-stock-weighs at Credit a c active = grind (arith)
-stock-weighs at LastCredit a c active = let is = active tt in grind (arith, is)
-stock-weighs at (Grant more) a c active = grind (arith)
+    ≡ stock_among c (holds_before_pop at.desc at.seat.class share).kept + (if at.seat.class == c then full_keeps a.state else 0)
+popped-stock-weighs at Credit a c active = grind (arith)
+popped-stock-weighs at LastCredit a c active = let is = active tt in grind (arith, is)
+popped-stock-weighs at (Grant more) a c active = grind (arith)
 
 -- no more are free than before, and none where it is made FULL
 count-less : (share : Share) (a : AnchorFields) → a.count - taken_off share a ≤ a.count
@@ -80,17 +80,17 @@ count-bare (Grant more) a filled = elim filled [ ]
 
 -- who keeps it keeps it ACTIVE
 reserving-active :
-    (s : State) (d c : ℕ) (share : Share) → All (λ k. IsKeptAs s k.status k.desc k.class) (before_pop d c share).kept → IsReserving share
+    (s : State) (d c : ℕ) (share : Share) → All (λ k. IsKeptAs s k.status k.desc k.class) (holds_before_pop d c share).kept → IsReserving share
     → IsActive s d c
 reserving-active s d c Credit all is = elim is [ ]
 reserving-active s d c LastCredit all is =
     All-head (λ k. IsKeptAs s k.status k.desc k.class) (record { desc = d; class = c; status = reserving }) [] all
 reserving-active s d c (Grant more) all is =
-    let kept : (before_pop d c (Grant more)).kept ≡ keep d c reserving = cond-true {A = List Kept} (nat_lt 0 more) (keep d c reserving) [] (lt-ltb 0 more is) in
+    let kept : (holds_before_pop d c (Grant more)).kept ≡ keep d c reserving = cond-true {A = List Kept} (nat_lt 0 more) (keep d c reserving) [] (lt-ltb 0 more is) in
     All-head (λ k. IsKeptAs s k.status k.desc k.class) (record { desc = d; class = c; status = reserving }) []
     (subst (All (λ k. IsKeptAs s k.status k.desc k.class)) kept all)
 
-filled-keeps : (d c : ℕ) (share : Share) (a : AnchorFields) → IsFilled share a → 1 ≤ kept_places d (before_pop d c share).kept
+filled-keeps : (d c : ℕ) (share : Share) (a : AnchorFields) → IsFilled share a → 1 ≤ kept_places d (holds_before_pop d c share).kept
 filled-keeps d c Credit a filled = elim filled [ ]
 filled-keeps d c LastCredit a filled = grind (arith)
 filled-keeps d c (Grant more) a filled = elim filled [ ]
@@ -121,12 +121,12 @@ popped-keeps s at i more active =
     elim (cases_lt 0 more) [
       | inl some ↦
           subst (λ x. All (λ (k : Kept). IsKeptAs s k.status k.desc k.class) x.kept)
-          (sym (cond-true {A = Holding} (nat_lt 0 more) (after_pop at i more) (record nothing { hands = block_handed at i }) (lt-ltb 0 more some)))
+          (sym (cond-true {A = Holding} (nat_lt 0 more) (holds_after_pop at i more) (record nothing { hands = block_handed at i }) (lt-ltb 0 more some)))
           (All-cons (λ k. IsKeptAs s k.status k.desc k.class) (record { desc = at.desc; class = at.seat.class; status = reserving }) [] (active some)
           (All-nil (λ (k : Kept). IsKeptAs s k.status k.desc k.class)))
       | inr none ↦
           subst (λ x. All (λ (k : Kept). IsKeptAs s k.status k.desc k.class) x.kept)
-          (sym (cond-false {A = Holding} (nat_lt 0 more) (after_pop at i more) (record nothing { hands = block_handed at i }) (le-ltb 0 more none)))
+          (sym (cond-false {A = Holding} (nat_lt 0 more) (holds_after_pop at i more) (record nothing { hands = block_handed at i }) (le-ltb 0 more none)))
           (All-nil (λ (k : Kept). IsKeptAs s k.status k.desc k.class))
     ]
 
@@ -147,7 +147,7 @@ popped-own g s l who at share a link words e s' h kept =
 popped-goes :
     (g : Geometry) (s : State) (l : Lists) (who : ℕ) (at : Site) (share : Share) (a : AnchorFields) (link words : ℕ) (e : ErrandFields)
     (s' : State) → Pops g s l who at share a link words e s' → IsKept g s l
-    → Goes s s' at.desc
+    → StaysKept s s' at.desc
     ⊎ ((1 ≤ kept_places at.desc (holds_of (s.errand who).point).kept)
     × ((popped_anchor share a link).state ≡ phase.Full → (popped_anchor share a link).count ≡ 0))
 popped-goes g s l who at share a link words e s' h kept =
@@ -182,10 +182,10 @@ pops-move g s l who at share a link words e s' h kept =
       after = h.after;
       elsewhere = h.elsewhere;
       retired = h.retired;
-      places = λ d. rw (h.holds_before, h.holds_after) (kept-weighs at share a d active);
+      places = λ d. rw (h.holds_before, h.holds_after) (popped-kept-weighs at share a d active);
       stock = λ class.
           rw (h.holds_before, h.holds_after)
-          (omega (arith, stock-weighs at share a class active, h.stands_before.waits class, h.stands_after.waits class));
+          (omega (arith, popped-stock-weighs at share a class active, h.stands_before.waits class, h.stands_after.waits class));
       goes = popped-goes g s l who at share a link words e s' h kept;
       own = popped-own g s l who at share a link words e s' h kept;
     }

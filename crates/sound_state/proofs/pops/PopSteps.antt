@@ -6,8 +6,6 @@ use Rattle.std.proofs.lemmas.List.Elements.{All-head, All-tail}
 use Rattle.std.proofs.lemmas.Nat.{mod_below, pow_pos}
 use Rattle.std.proofs.Math.Nat.{mod-eq_of_lt}
 use Rattle.heap_geometry.specs.declared.geometry.Geometry.{Geometry}
-use Rattle.heap_geometry.specs.declared.need.Need.TheVariants as need
-use Rattle.heap_geometry.specs.Need.{need_of}
 use Rattle.packed_words.specs.Anchor.{AnchorFields, IsAnchor, anchor_of, anchor_word}
 use Rattle.packed_words.specs.Prefix.{link_of}
 use Rattle.packed_words.specs.declared.widths.TheConstants.{AVAIL_BITS, TAG_BITS}
@@ -25,7 +23,6 @@ use Rattle.errand_steps.specs.declared.onward.Onward.TheVariants as onward
 use Rattle.errand_steps.specs.declared.point.Point.{Point}
 use Rattle.errand_steps.specs.declared.point.Point.TheVariants.{Block}
 use Rattle.errand_steps.specs.Events.{event_of}
-use Rattle.errand_steps.specs.Fits.{FitsOnward}
 use Rattle.errand_steps.specs.Nexts.{next_of, enter_block}
 use Rattle.errand_steps.specs.Points.{asked, plan_point_of}
 use Rattle.errand_steps.specs.Steps.{State, Step}
@@ -36,18 +33,19 @@ use Rattle.sound_state.specs.Lists.{Lists}
 use Rattle.sound_state.specs.Recalls.{IsSo, bound_here, bound_at, pops, links, recalls_of}
 use Rattle.sound_state.specs.Sound.{IsSoundWithoutCounts, IsSoundWith, IsOwnErrand}
 use Rattle.sound_state.specs.Superblocks.{anchor_for}
-use Rattle.sound_state.proofs.shared.PointLemmas.{fits-at, so-at, the-alloc}
-use Rattle.sound_state.proofs.pops.PopEffects.{Pops, StandsIn, popped_anchor}
-use Rattle.sound_state.proofs.shared.AlikeLemmas.{each-caller}
+use Rattle.sound_state.proofs.shared.PointLemmas.{fits-at, so-at, the-alloc, small-asked}
+use Rattle.sound_state.proofs.pops.PopEffects.{Pops, popped_anchor}
 use Rattle.sound_state.proofs.pops.PopChains.{popped-chained, popped-framed}
 use Rattle.sound_state.proofs.pops.PopKept.{popped-kept, popped-stocked}
 use Rattle.sound_state.proofs.pops.PopRecalls.{popped-remembered}
 use Rattle.sound_state.proofs.pops.PopTies.{popped-legal, popped-tied}
 use Rattle.sound_state.proofs.pops.PopTurns.{popped-guarded, popped-listed, popped-turned}
 use Rattle.sound_state.proofs.quiet.QuietExchanges.{pop_block-lost}
+use Rattle.sound_state.proofs.shared.ShownLemmas.{each-caller}
 use Rattle.sound_state.proofs.shared.StepLemmas.{at_point}
 use Rattle.sound_state.proofs.shared.TagLemmas.{anchor-tags-below}
 use Rattle.sound_state.proofs.shared.CreditLemmas.{won_with}
+use Rattle.sound_state.proofs.shared.TurnEffects.{StandsIn}
 use Rattle.sound_state.proofs.shared.WonEffects.{AnchorWon, anchor-won}
 
 -- where a pop leads, by whether more blocks are reserved
@@ -58,46 +56,41 @@ popped-enters : (b : Bool) (at : Site) (i more : ℕ) (o : Onward) → enter_blo
 popped-enters true at i more o = refl
 popped-enters false at i more o = refl
 
-point-holds :
+popped-point-holds :
     (b : Bool) (at : Site) (i more : ℕ) (o : Onward)
     → holds_of (Block (popped_point b at i more) o)
-    ≡ (if b then hold.after_pop at i more else record nothing { hands = block_handed at i })
+    ≡ (if b then hold.holds_after_pop at i more else record nothing { hands = block_handed at i })
 unfolding holds_of
-point-holds true at i more o = refl
-point-holds false at i more o = refl
+popped-point-holds true at i more o = refl
+popped-point-holds false at i more o = refl
 
-point-recalls : (b : Bool) (at : Site) (i more : ℕ) (o : Onward) → recalls_of (Block (popped_point b at i more) o) ≡ bound_here at
+popped-point-recalls : (b : Bool) (at : Site) (i more : ℕ) (o : Onward) → recalls_of (Block (popped_point b at i more) o) ≡ bound_here at
 unfolding recalls_of
-point-recalls true at i more o = refl
-point-recalls false at i more o = refl
+popped-point-recalls true at i more o = refl
+popped-point-recalls false at i more o = refl
 
-point-stands : (b : Bool) (at : Site) (i more : ℕ) (o : Onward) → StandsIn false (Block (popped_point b at i more) o)
-point-stands true at i more o = grind (arith)
-point-stands false at i more o = grind (arith)
+popped-point-stands : (b : Bool) (at : Site) (i more : ℕ) (o : Onward) → StandsIn false (Block (popped_point b at i more) o)
+popped-point-stands true at i more o = grind (arith)
+popped-point-stands false at i more o = grind (arith)
 
-pop-stands :
+pop_block-stands :
     (at : Site) (share : Share) (a : AnchorFields) (prefix : ℕ) (o : Onward) → StandsIn true (Block (block.PopBlock at share a prefix) o)
-pop-stands at share a prefix o = grind (arith)
+pop_block-stands at share a prefix o = grind (arith)
 
 -- the anchor's tag has room, so it isn't cut
 popped-uncut : (share : Share) (a : AnchorFields) (link : ℕ) → a.tag + 1 < 2 ^ TAG_BITS → popped share a link ≡ popped_anchor share a link
 popped-uncut share a link room = ap (λ t. record (popped_anchor share a link) { tag = t }) (mod-eq_of_lt {n = a.tag + 1} {m = 2 ^ TAG_BITS} room)
 
-link-below : (prefix : ℕ) → link_of prefix < 2 ^ AVAIL_BITS
-link-below prefix = mod_below (prefix / 2 ^ 0) (2 ^ AVAIL_BITS) (pow_pos AVAIL_BITS)
+link_of-below : (prefix : ℕ) → link_of prefix < 2 ^ AVAIL_BITS
+link_of-below prefix = mod_below (prefix / 2 ^ 0) (2 ^ AVAIL_BITS) (pow_pos AVAIL_BITS)
 
 popped-fits :
     (share : Share) (a : AnchorFields) (prefix : ℕ) → IsAnchor a → a.tag + 1 < 2 ^ TAG_BITS → IsAnchor (popped_anchor share a (link_of prefix))
 popped-fits share a prefix fits room = record {
-  avail = link-below prefix;
+  avail = link_of-below prefix;
   count = omega (arith, fits.count);
   tag = room;
 }
-
-pub small-asked :
-    (g : Geometry) (who : ℕ) (at : Site) (o : Onward) → o ≡ onward.Alloc (asked o) → FitsOnward g who at.seat o
-    → need_of (asked o) ≡ need.Small at.seat.class
-small-asked g who at o alloc fit = subst (FitsOnward g who at.seat) alloc fit
 
 -- what the step of a won pop changes
 pub pop-pops :
@@ -146,10 +139,10 @@ pop-pops g s l who s' at share a prefix o sound is has here word step =
       lost = won.step.lost;
       cleared = won.step.cleared;
       holds_before = ap holds_of here;
-      holds_after = point-holds (nat_lt 0 (more_of share a)) at a.avail (more_of share a) o;
-      recalls_after = point-recalls (nat_lt 0 (more_of share a)) at a.avail (more_of share a) o;
-      stands_before = subst (StandsIn true) (sym here) (pop-stands at share a prefix o);
-      stands_after = point-stands (nat_lt 0 (more_of share a)) at a.avail (more_of share a) o;
+      holds_after = popped-point-holds (nat_lt 0 (more_of share a)) at a.avail (more_of share a) o;
+      recalls_after = popped-point-recalls (nat_lt 0 (more_of share a)) at a.avail (more_of share a) o;
+      stands_before = subst (StandsIn true) (sym here) (pop_block-stands at share a prefix o);
+      stands_after = popped-point-stands (nat_lt 0 (more_of share a)) at a.avail (more_of share a) o;
     }
 
 -- the state after a won pop is sound

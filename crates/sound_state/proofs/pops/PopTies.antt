@@ -12,7 +12,7 @@ use Rattle.superblock_parts.specs.Anchors.{more_of}
 use Rattle.pool_model.specs.Legal.{IsLegalWithoutCounts}
 use Rattle.errand_steps.specs.Errands.{ErrandFields}
 use Rattle.errand_steps.specs.Steps.{State}
-use Rattle.sound_state.specs.Holdings.{Holding, before_pop, block_handed}
+use Rattle.sound_state.specs.Holdings.{Holding, holds_before_pop, block_handed}
 use Rattle.sound_state.specs.Lists.{Lists}
 use Rattle.sound_state.specs.Sound.{IsSoundWithoutCounts, IsSoundWith}
 use Rattle.sound_state.specs.Ties.{IsTied}
@@ -21,21 +21,21 @@ use Rattle.sound_state.proofs.pops.PopFacts.{popped-info, popped-bound, popped-n
 use Rattle.sound_state.proofs.shared.GivenBlocks.{Gives, given-legal, given-tied}
 
 -- who pops hands out and frees nothing before, and hands out the popped block after
-hands-before : (d class : ℕ) (share : Share) → (before_pop d class share).hands ≡ []
+hands-before : (d class : ℕ) (share : Share) → (holds_before_pop d class share).hands ≡ []
 hands-before d class Credit = refl
 hands-before d class LastCredit = refl
 hands-before d class (Grant more) = refl
 
-frees-before : (d class : ℕ) (share : Share) → (before_pop d class share).frees ≡ []
+frees-before : (d class : ℕ) (share : Share) → (holds_before_pop d class share).frees ≡ []
 frees-before d class Credit = refl
 frees-before d class LastCredit = refl
 frees-before d class (Grant more) = refl
 
-hands-after : (at : Site) (i more : ℕ) → (popped_holds at i more).hands ≡ block_handed at i
-hands-after at i more = elim (cases_Bool (nat_lt 0 more)) [ inl some ↦ rw some refl | inr none ↦ rw none refl ]
+popped-hands : (at : Site) (i more : ℕ) → (popped_holds at i more).hands ≡ block_handed at i
+popped-hands at i more = elim (cases_Bool (nat_lt 0 more)) [ inl some ↦ rw some refl | inr none ↦ rw none refl ]
 
-frees-after : (at : Site) (i more : ℕ) → (popped_holds at i more).frees ≡ []
-frees-after at i more = elim (cases_Bool (nat_lt 0 more)) [ inl some ↦ rw some refl | inr none ↦ rw none refl ]
+popped-frees : (at : Site) (i more : ℕ) → (popped_holds at i more).frees ≡ []
+popped-frees at i more = elim (cases_Bool (nat_lt 0 more)) [ inl some ↦ rw some refl | inr none ↦ rw none refl ]
 
 -- a pop gives the first available block
 pops-give :
@@ -65,8 +65,8 @@ pops-give g s l who at share a link words e s' h sound is = record {
     hands = ap (λ (o : Holding). o.hands) h.holds_before ∙ hands-before at.desc at.seat.class share;
     frees = ap (λ (o : Holding). o.frees) h.holds_before ∙ frees-before at.desc at.seat.class share;
   };
-  hands = ap (λ (o : Holding). o.hands) h.holds_after ∙ hands-after at a.avail (more_of share a);
-  frees = ap (λ (o : Holding). o.frees) h.holds_after ∙ frees-after at a.avail (more_of share a);
+  hands = ap (λ (o : Holding). o.hands) h.holds_after ∙ popped-hands at a.avail (more_of share a);
+  frees = ap (λ (o : Holding). o.frees) h.holds_after ∙ popped-frees at a.avail (more_of share a);
 }
 
 pub popped-legal :

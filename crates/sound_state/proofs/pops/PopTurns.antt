@@ -1,11 +1,7 @@
 -- A won pop keeps the lists, the guards, and the bounds of tags and turns.
-use Rattle.std.proofs.Common.{ℕ, Bool, true, false, ◌≡◌, ◌≤◌, ◌+◌, refl, arith, ap, sym, subst, inl, inr, ◌∙◌}
-use Rattle.std.specs.Prelude.{nat_le}
-use Rattle.std.proofs.lemmas.Bool.{cases_eq, cases_lt, lt-leb, le-leb}
+use Rattle.std.proofs.Common.{ℕ, true, false, ◌≡◌, ◌≤◌, ◌+◌, refl, arith, ap, sym, subst, inl, inr, ◌∙◌}
+use Rattle.std.proofs.lemmas.Bool.{cases_eq}
 use Rattle.heap_geometry.specs.declared.geometry.Geometry.{Geometry}
-use Rattle.heap_geometry.specs.declared.limits.TheConstants.{SMALL_MOST, LARGE_MOST}
-use Rattle.heap_geometry.specs.declared.need.Need.TheVariants.{Small}
-use Rattle.heap_geometry.specs.Need.{need_of}
 use Rattle.packed_words.specs.Anchor.{AnchorFields}
 use Rattle.word_plan.specs.declared.name.WordName.TheVariants as name
 use Rattle.word_plan.specs.declared.seat.Site.{Site}
@@ -15,17 +11,16 @@ use Rattle.superblock_parts.specs.Anchors.{more_of}
 use Rattle.errand_steps.specs.Errands.{ErrandFields}
 use Rattle.errand_steps.specs.Steps.{State}
 use Rattle.sound_state.specs.Guards.{IsGuarded}
-use Rattle.sound_state.specs.Holdings.{clear, before_pop, holds_of}
+use Rattle.sound_state.specs.Holdings.{clear, holds_before_pop, holds_of}
 use Rattle.sound_state.specs.Lists.{Lists, IsListed}
 use Rattle.sound_state.specs.Sound.{IsSoundWithoutCounts, IsSoundWith}
 use Rattle.sound_state.specs.Superblocks.{anchor_for}
-use Rattle.sound_state.specs.Turns.{IsTurned, one_if}
-use Rattle.sound_state.proofs.pops.PopEffects.{Pops, StandsIn, popped_holds, popped_place}
+use Rattle.sound_state.specs.Turns.{IsTurned}
+use Rattle.sound_state.proofs.pops.PopEffects.{Pops, popped_holds, popped_place}
 use Rattle.sound_state.proofs.pops.PopFacts.{popped-anchor, popped-empty, popped-away}
-pub use Rattle.sound_state.proofs.shared.CallerLemmas.{each-other}
 use Rattle.sound_state.proofs.shared.GuardEffects.{guarded-clear}
 use Rattle.sound_state.proofs.shared.ListEffects.{IsListWord, listed-kept}
-use Rattle.sound_state.proofs.shared.TurnEffects.{TurnWeighs, alloc-event, emptied-kept, head-tag, no-turn-weighs, turn-weighs, turned-after}
+use Rattle.sound_state.proofs.shared.TurnEffects.{alloc-event, emptied-kept, head-tag, turned-after, small-served, stands-weighs}
 
 pub popped-listed :
     (g : Geometry) (s : State) (l : Lists) (who : ℕ) (at : Site) (share : Share) (a : AnchorFields) (link words : ℕ) (e : ErrandFields)
@@ -34,7 +29,7 @@ popped-listed g s l who at share a link words e s' h old =
     listed-kept g s.word s'.word l (λ n is. h.elsewhere n (λ same. subst IsListWord same is)) old.listed
 
 -- before and after a pop the hazard word is 0
-before-clear : (d class : ℕ) (share : Share) → (before_pop d class share).hazard ≡ clear
+before-clear : (d class : ℕ) (share : Share) → (holds_before_pop d class share).hazard ≡ clear
 before-clear d class Credit = refl
 before-clear d class LastCredit = refl
 before-clear d class (Grant more) = refl
@@ -52,24 +47,6 @@ popped-guarded g s l who at share a link words e s' h old =
     let after = h.stands_after in
     guarded-clear g s who e s' h.caller h.moves (λ i. h.elsewhere (name.Hazard i) (λ same. cc)) was_clear is_clear after.pushed after.passed
     after.unread after.spare old.guarded
-
--- what a small block serves is small
-pub small-served : (words class : ℕ) → need_of words ≡ Small class → nat_le words SMALL_MOST ≡ true
-unfolding need_of
-small-served words class is =
-    elim (cases_lt SMALL_MOST words) [
-      | inr most ↦ le-leb words SMALL_MOST most
-      | inl above ↦
-          elim (cases_lt LARGE_MOST words) [
-            | inr most ↦ let e = rw (lt-leb words SMALL_MOST above, le-leb words LARGE_MOST most) at is in cc
-            | inl more ↦ let e = rw (lt-leb words SMALL_MOST above, lt-leb words LARGE_MOST more) at is in cc
-          ]
-    ]
-
--- what a turn weighs that has given no block yet, and one that has
-pub stands-weighs : (giving : Bool) (e : ErrandFields) → StandsIn giving e.point → TurnWeighs e (one_if giving) (one_if giving) 0
-stands-weighs true e h = turn-weighs false false e h.turn h.frame h.refused h.discarding
-stands-weighs false e h = no-turn-weighs e h.turn
 
 -- the tags of the anchors rise by one at most
 popped-tags :

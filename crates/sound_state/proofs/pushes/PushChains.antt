@@ -1,4 +1,4 @@
--- A won push: each frame stays in one place, and the superblocks keep their blocks in order.
+-- A won push: each frame stays in one place, and the superblocks keep their pushed-blocks in order.
 use Rattle.std.proofs.Common.{ℕ, Bool, true, false, ◌≡◌, ◌≢◌, ◌<◌, ◌+◌, ◌-◌, ◌∷◌, refl, arith, ap, sym, subst, inl, inr, ◌∙◌}
 use Rattle.std.specs.Prelude.{◌==◌, not, if◌then◌else◌, IsTrue}
 use Rattle.std.proofs.lemmas.Bool.{cases_eq}
@@ -12,15 +12,15 @@ use Rattle.superblock_parts.specs.Chains.{occurs, chain_of}
 use Rattle.superblock_parts.proofs.ChainLemmas.{chain_of-first}
 use Rattle.errand_steps.specs.Errands.{ErrandFields}
 use Rattle.errand_steps.specs.Steps.{State}
-use Rattle.sound_state.specs.Frames.{IsFramed, fills}
+use Rattle.sound_state.specs.Frames.{IsFramed, fills_frame}
 use Rattle.sound_state.specs.Lists.{Lists}
 use Rattle.sound_state.specs.Sound.{IsSoundWithoutCounts, IsSoundWith}
 use Rattle.sound_state.specs.Superblocks.{Superblock, AreChained, IsChained, superblock_of, anchor_for, reserved_of, free_chain, live_at, is_there}
-use Rattle.sound_state.proofs.pops.PopChains.{occurs-past, first-used}
 use Rattle.sound_state.proofs.pushes.PushEffects.{Outcome, stays, unfills, empties, IsOutcome, Pushes, pushed_anchor, pushed_holds}
 use Rattle.sound_state.proofs.pushes.PushFacts.{pushed-holds, pushed-write, pushed-info, pushed-anchor, pushed-waits, pushed-bound, pushed-bound-here, was-bound, pushed-reserved, pushed-gone, pushed-there, pushed-live, pushed-bare, makes_empty}
 use Rattle.sound_state.proofs.shared.HoldingEffects.{holdings-go}
-use Rattle.sound_state.proofs.shared.SuperblockEffects.{LieStill, BlockEffects, anchor-still, info-stays, next-stays, size-stays, superblock-stays, located-live, live-after, rest-live, chained-after, held-same}
+use Rattle.sound_state.proofs.shared.ListFacts.{occurs-past}
+use Rattle.sound_state.proofs.shared.SuperblockEffects.{LieStill, BlockEffects, anchor-still, info-stays, next-stays, size-stays, superblock-stays, located-live, live-after, rest-live, chained-after, held-same, first-used}
 use Rattle.sound_state.proofs.shared.SumLemmas.{sum-change}
 
 -- its chain gains the block in front, where it isn't made EMPTY
@@ -41,7 +41,7 @@ count-room stays class stored a is stands = is.0
 count-room unfills class stored a is stands = is.0
 count-room empties class stored a is stands = let bad : true ≡ false = stands in cc
 
--- a superblock whose chain gains in front a block that was live keeps its blocks in order
+-- a superblock whose chain gains in front a block that was live keeps its pushed-blocks in order
 pub first-comes :
     (b b' : Superblock) (i : ℕ) → IsChained b → free_chain b' ≡ i ∷ free_chain b → i < b.size → b'.anchor.avail ≡ i → b.next i < b.size
     → b'.anchor.count < b.size → b'.waiting ≡ b.waiting → b'.next ≡ b.next → b'.size ≡ b.size → b.live i ≡ 1 → b'.live i ≡ 0
@@ -77,17 +77,17 @@ bound-stays false is = refl
 module _
     (g : Geometry) (s : State) (l : Lists) (who : ℕ) (at : Site) (i : ℕ) (stored : Bool) (a : AnchorFields) (out : Outcome)
     (e : ErrandFields) (s' : State) (h : Pushes g s l who at i stored a out e s') where
-  still : LieStill s s'
-  still = anchor-still (pushed-write g s l who at i stored a out e s' h)
+  pushed-lie : LieStill s s'
+  pushed-lie = anchor-still (pushed-write g s l who at i stored a out e s' h)
 
   -- the freed block alone becomes free
-  blocks : BlockEffects g s l who at i s'
-  blocks = record {
+  pushed-blocks : BlockEffects g s l who at i s'
+  pushed-blocks = record {
     site = h.site;
     bound = h.bound;
     located = h.located;
     index = h.index;
-    still = still;
+    still = pushed-lie;
     there = pushed-there g s l who at i stored a out e s' h;
   }
 
@@ -104,53 +104,53 @@ module _
       let avail : (anchor_for s' at.desc).avail ≡ i = ap (λ x. x.avail) h.after ∙ avail-after out i a in
       let less : (k + 1) - 1 ≡ k = omega arith in
       let goes : next i ≡ (anchor_for s at.desc).avail = h.next ∙ sym (ap (λ x. x.avail) h.before) in
-      ap (λ f. chain_of f ((anchor_for s' at.desc).count + reserved_of g s' at.desc) (anchor_for s' at.desc).avail) (next-stays still g at.desc)
+      ap (λ f. chain_of f ((anchor_for s' at.desc).count + reserved_of g s' at.desc) (anchor_for s' at.desc).avail) (next-stays pushed-lie g at.desc)
       ∙ ap (λ n. chain_of next n (anchor_for s' at.desc).avail) count
       ∙ ap (chain_of next (k + 1)) avail
       ∙ chain_of-first next (k + 1) i (omega arith)
       ∙ ap (λ n. i ∷ chain_of next n (next i)) less
       ∙ ap (λ j. i ∷ chain_of next k j) goes
 
-  here-chained : IsSoundWithoutCounts g s → IsSoundWith g s l → makes_empty out ≡ false → IsChained (superblock_of g s' at.desc)
-  here-chained sound old stands =
+  pushed-here-chained : IsSoundWithoutCounts g s → IsSoundWith g s l → makes_empty out ≡ false → IsChained (superblock_of g s' at.desc)
+  pushed-here-chained sound old stands =
       let b = superblock_of g s at.desc in
       let chained : IsChained b = old.chained.chained at.desc h.site.desc h.bound in
       let size : b.size ≡ block_count_of at.seat.class = ap block_count_of h.located.class in
       first-comes b (superblock_of g s' at.desc) i chained (pushed-chain stands) (omega (arith, h.index, size))
       (ap (λ x. x.avail) h.after ∙ avail-after out i a) (omega (arith, h.next, ap (λ x. x.avail) h.before, chained.avail))
       (omega (arith, ap (λ x. x.count) h.after, count-after out i a stands, count-room out at.seat.class stored a h.goes stands, size))
-      (pushed-waits g s l who at i stored a out e s' h at.desc) (next-stays still g at.desc) (size-stays still g at.desc)
+      (pushed-waits g s l who at i stored a out e s' h at.desc) (next-stays pushed-lie g at.desc) (size-stays pushed-lie g at.desc)
       (pushed-live g s l who at i stored a out e s' h)
-      (live-after blocks i ∙ ap is_there (pushed-gone g s l who at i stored a out e s' h sound)) (rest-live blocks)
+      (live-after pushed-blocks i ∙ ap is_there (pushed-gone g s l who at i stored a out e s' h sound)) (rest-live pushed-blocks)
 
-  -- all superblocks keep their blocks in order
+  -- all superblocks keep their pushed-blocks in order
   pub pushed-chained : IsSoundWithoutCounts g s → IsSoundWith g s l → AreChained g s' l
   pushed-chained sound old =
-      chained-after blocks old (was-bound g s l who at i stored a out e s' h)
+      chained-after pushed-blocks old (was-bound g s l who at i stored a out e s' h)
       (λ bound.
-      here-chained sound old
+      pushed-here-chained sound old
       (bound-stays (makes_empty out) (subst IsTrue (pushed-bound-here g s l who at i stored a out e s' h) bound)))
       (λ d differ.
-      superblock-stays still g d (pushed-anchor g s l who at i stored a out e s' h d differ)
+      superblock-stays pushed-lie g d (pushed-anchor g s l who at i stored a out e s' h d differ)
       (pushed-reserved g s l who at i stored a out e s' h d) (pushed-waits g s l who at i stored a out e s' h d))
 
-  -- a superblock that isn't made EMPTY fills its frame as before
-  fills-still : (f : ℕ) → makes_empty out ≡ false → fills g s' l f at.desc ≡ fills g s l f at.desc
+  -- a superblock that isn't made EMPTY fills_frame its frame as before
+  fills-still : (f : ℕ) → makes_empty out ≡ false → fills_frame g s' l f at.desc ≡ fills_frame g s l f at.desc
   fills-still f stands =
       let bound = pushed-bound-here g s l who at i stored a out e s' h in
-      rw (bound, stands, h.bound, pushed-waits g s l who at i stored a out e s' h at.desc, info-stays still at.desc) refl
+      rw (bound, stands, h.bound, pushed-waits g s l who at i stored a out e s' h at.desc, info-stays pushed-lie at.desc) refl
 
 -- the frame of one that is goes to its caller's hand
 frame-goes :
     (g : Geometry) (s : State) (l : Lists) (who : ℕ) (at : Site) (i : ℕ) (stored : Bool) (a : AnchorFields) (out : Outcome) (e : ErrandFields)
     (s' : State) → Pushes g s l who at i stored a out e s' → IsSoundWith g s l → (f : ℕ)
-    → occurs f (pushed_holds out at stored).frames + fills g s' l f at.desc ≡ fills g s l f at.desc
+    → occurs f (pushed_holds out at stored).frames + fills_frame g s' l f at.desc ≡ fills_frame g s l f at.desc
 frame-goes g s l who at i stored a stays e s' h old f = omega (arith, fills-still g s l who at i stored a stays e s' h f refl)
 frame-goes g s l who at i stored a unfills e s' h old f = omega (arith, fills-still g s l who at i stored a unfills e s' h f refl)
 frame-goes g s l who at i stored a empties e s' h old f =
     let bare = pushed-bare g s l who at i stored a e s' h old in
-    let now : fills g s' l f at.desc ≡ 0 = rw (pushed-bound-here g s l who at i stored a empties e s' h) refl in
-    let was : fills g s l f at.desc ≡ (if at.frame == f then 1 else 0) = rw (h.bound, bare.waiting, h.located.frame) refl in
+    let now : fills_frame g s' l f at.desc ≡ 0 = rw (pushed-bound-here g s l who at i stored a empties e s' h) refl in
+    let was : fills_frame g s l f at.desc ≡ (if at.frame == f then 1 else 0) = rw (h.bound, bare.waiting, h.located.frame) refl in
     omega (arith, now, was)
 
 pub pushed-framed :
@@ -159,7 +159,7 @@ pub pushed-framed :
 pushed-framed g s l who at i stored a out e s' h old = record {
   once = λ f has.
       let changed =
-      sum-change (descriptor_count g) (fills g s l f) (fills g s' l f) at.desc h.site.desc
+      sum-change (descriptor_count g) (fills_frame g s l f) (fills_frame g s' l f) at.desc h.site.desc
       (λ d lt ne.
       let waits = pushed-waits g s l who at i stored a out e s' h d in
       rw (pushed-bound g s l who at i stored a out e s' h d ne, waits, pushed-info g s l who at i stored a out e s' h d) refl) in

@@ -1,5 +1,5 @@
 -- A won push: what it changes, and that everything else stays.
-use Rattle.std.proofs.Common.{ℕ, Bool, true, false, None, ◌≡◌, ◌≢◌, ◌<◌, ◌≤◌, ◌+◌, ◌^◌, List, [], ◌∷◌, ◌++◌, length}
+use Rattle.std.proofs.Common.{ℕ, Bool, true, None, ◌≡◌, ◌≢◌, ◌<◌, ◌≤◌, ◌+◌, ◌^◌, List, [], ◌∷◌, ◌++◌, length}
 use Rattle.std.specs.Prelude.{◌⊎◌, IsTrue, if◌then◌else◌}
 use Rattle.heap_geometry.specs.declared.geometry.Geometry.{Geometry}
 use Rattle.heap_geometry.specs.declared.need.Need.TheVariants as need
@@ -17,13 +17,14 @@ use Rattle.errand_steps.specs.Fits.{spare_of, pushed_by}
 use Rattle.errand_steps.specs.declared.point.Point.{Point}
 use Rattle.errand_steps.specs.Steps.{State, Moves}
 use Rattle.sound_state.specs.Guards.{passed_by, held_by}
-use Rattle.sound_state.specs.Holdings.{Holding, Hazard, nothing, keep, partly_used, clear, guarded, owned, pushing, if_stored, holds_of}
+use Rattle.sound_state.specs.Holdings.{Holding, HazardState, nothing, keep, partly_used, clear, guarded, owned, pushing, if_stored, holds_of}
 use Rattle.sound_state.specs.Lists.{Lists}
 use Rattle.sound_state.specs.Recalls.{Recall, IsLocated, IsOwned, emptied, recalls_of}
 use Rattle.sound_state.specs.Sound.{IsOwnErrand}
+use Rattle.sound_state.specs.TurnStages.{turn_stage_of, out_of_turn}
 use Rattle.sound_state.specs.Stock.{waits_in}
 use Rattle.sound_state.specs.Superblocks.{anchor_for, is_bound, superblock_of}
-use Rattle.sound_state.specs.Turns.{in_turn, pops_left}
+use Rattle.sound_state.specs.Turns.{pops_left}
 
 -- what a push does to its superblock: it stays ACTIVE or partial, it was FULL and isn't any more, or it becomes EMPTY
 pub data Outcome : Type 0 where
@@ -44,7 +45,7 @@ pushed_anchor unfills i a = record { avail = i; count = a.count + 1; state = pha
 pushed_anchor empties i a = record { avail = i; count = a.count; state = phase.Empty; tag = a.tag }
 
 -- what a caller holds after it: its hazard word where it stored it, and the superblock that was FULL, or the frame of one that is EMPTY
-abbrev pub hazard_after : Bool → Hazard
+abbrev pub hazard_after : Bool → HazardState
 hazard_after stored = if stored then owned else clear
 
 abbrev pub pushed_holds : Outcome → Site → Bool → Holding
@@ -64,7 +65,7 @@ pushed_place at i = block_place at.frame at.seat.class i
 
 -- a point of a free that scans and waits for nothing
 pub record FreeStands (p : Point) : Type 0 where
-  pub turn : in_turn p ≡ false
+  pub stage : turn_stage_of p ≡ out_of_turn
   pub pops : pops_left p ≤ 2
   pub waits : (class : ℕ) → waits_in class p ≡ 0
   pub pushed : pushed_by p ≡ None

@@ -20,25 +20,25 @@ use Rattle.sound_state.specs.Lists.{Lists}
 use Rattle.sound_state.specs.Sound.{IsSoundWithoutCounts, IsSoundWith}
 use Rattle.sound_state.specs.Sums.{sum_below, words_sum, callers_sum}
 use Rattle.sound_state.specs.Superblocks.{Superblock, anchor_for, info_for, superblock_of, is_bound, is_there, away_of, waiting_of, reserved_of, word_reserves, reserved_among, errand_keeps, kept_among, same_status}
-use Rattle.sound_state.proofs.pops.PopFacts.{bound-stands}
 use Rattle.sound_state.proofs.pushes.PushEffects.{Outcome, stays, unfills, empties, Pushes, pushed_anchor, pushed_holds, pushed_place}
+use Rattle.sound_state.proofs.shared.HasLemmas.{bound-stands}
 use Rattle.sound_state.proofs.shared.SumLemmas.{term-sum, two-terms}
-pub use Rattle.sound_state.proofs.shared.TallyLemmas.{tally}
 use Rattle.sound_state.proofs.shared.HoldingEffects.{HoldingEffects, waits-go, ways-go, credits-go, away-goes}
 use Rattle.sound_state.proofs.shared.SuperblockEffects.{of-each, AnchorEffects, info-stays, anchor-still, anchors-stay, weights-stay, located-live}
+use Rattle.sound_state.proofs.shared.TallyLemmas.{tally}
 
 -- after a push its caller keeps nothing but what is partly used, and has nothing reserved
-has-kept :
+pushed-keeps-partly :
     (status : Status) (d : ℕ) (out : Outcome) (at : Site) (stored : Bool) → same_status partly_used status ≡ false
     → kept_among status d (pushed_holds out at stored).kept ≡ 0
-has-kept status d stays at stored other = refl
-has-kept status d unfills at stored other = grind (arith, other)
-has-kept status d empties at stored other = refl
+pushed-keeps-partly status d stays at stored other = refl
+pushed-keeps-partly status d unfills at stored other = grind (arith, other)
+pushed-keeps-partly status d empties at stored other = refl
 
-has-reserved : (d : ℕ) (out : Outcome) (at : Site) (stored : Bool) → reserved_among d (pushed_holds out at stored).credits ≡ 0
-has-reserved d stays at stored = refl
-has-reserved d unfills at stored = refl
-has-reserved d empties at stored = refl
+pushed-reserves-none : (d : ℕ) (out : Outcome) (at : Site) (stored : Bool) → reserved_among d (pushed_holds out at stored).credits ≡ 0
+pushed-reserves-none d stays at stored = refl
+pushed-reserves-none d unfills at stored = refl
+pushed-reserves-none d empties at stored = refl
 
 -- whether a push makes it EMPTY
 abbrev pub makes_empty : Outcome → Bool
@@ -56,7 +56,7 @@ bound-out : (b : Bool) (c : Bool) → IsTrue (b && not c) → b ≡ true
 bound-out b c is = grind (arith, is)
 
 -- where a push makes it EMPTY, nothing of it is reserved, it doesn't wait, and no other block of it is live
-pub record IsBare (b : Superblock) (i : ℕ) : Type 0 where
+pub record IsFreeBut (b : Superblock) (i : ℕ) : Type 0 where
   pub reserved : b.reserved ≡ 0
   pub waiting : b.waiting ≡ 0
   pub others : (j : ℕ) → j < b.size → j ≢ i → b.live j ≡ 0
@@ -79,13 +79,13 @@ module _
 
   -- nothing waits or is on its way that wasn't, and nothing else is reserved
   pub pushed-waits : (d : ℕ) → waiting_of g s' d ≡ waiting_of g s d
-  pushed-waits d = omega (arith, waits-go pushed-holds d, has-kept waiting d out at stored refl)
+  pushed-waits d = omega (arith, waits-go pushed-holds d, pushed-keeps-partly waiting d out at stored refl)
 
   pub pushed-ways : (d : ℕ) → callers_sum g (errand_keeps on_its_way d) s'.errand ≡ callers_sum g (errand_keeps on_its_way d) s.errand
-  pushed-ways d = omega (arith, ways-go pushed-holds d, has-kept on_its_way d out at stored refl)
+  pushed-ways d = omega (arith, ways-go pushed-holds d, pushed-keeps-partly on_its_way d out at stored refl)
 
   pub pushed-away : (d : ℕ) → away_of g s' l d ≡ away_of g s l d
-  pushed-away d = omega (arith, away-goes pushed-holds l d, has-kept on_its_way d out at stored refl)
+  pushed-away d = omega (arith, away-goes pushed-holds l d, pushed-keeps-partly on_its_way d out at stored refl)
 
   -- words that weigh nothing at an anchor weigh the same
   pub pushed-words :
@@ -93,7 +93,7 @@ module _
   pushed-words = weights-stay pushed-write g
 
   pub pushed-reserved : (d : ℕ) → reserved_of g s' d ≡ reserved_of g s d
-  pushed-reserved d = omega (arith, credits-go pushed-holds d, has-reserved d out at stored, pushed-words (word_reserves d) (λ w. refl))
+  pushed-reserved d = omega (arith, credits-go pushed-holds d, pushed-reserves-none d out at stored, pushed-words (word_reserves d) (λ w. refl))
 
   -- the superblock of a push isn't EMPTY before it
   pub pushed-stood : is_empty (anchor_for s at.desc).state ≡ false
@@ -140,7 +140,7 @@ module _
 
 pub pushed-bare :
     (g : Geometry) (s : State) (l : Lists) (who : ℕ) (at : Site) (i : ℕ) (stored : Bool) (a : AnchorFields) (e : ErrandFields) (s' : State)
-    → Pushes g s l who at i stored a empties e s' → IsSoundWith g s l → IsBare (superblock_of g s at.desc) i
+    → Pushes g s l who at i stored a empties e s' → IsSoundWith g s l → IsFreeBut (superblock_of g s at.desc) i
 pushed-bare g s l who at i stored a e s' h old =
     let b = superblock_of g s at.desc in
     let all = tally b (old.chained.chained at.desc h.site.desc h.bound) in

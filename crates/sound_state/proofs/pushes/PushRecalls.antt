@@ -23,17 +23,17 @@ use Rattle.sound_state.specs.Recalls.{Recall, IsPopped, IsLocated, IsEmptied, Is
 use Rattle.sound_state.specs.Sound.{IsSoundWith}
 use Rattle.sound_state.specs.Sums.{sum_below, callers_sum}
 use Rattle.sound_state.specs.Superblocks.{anchor_for, superblock_of, free_chain, reserved_among, errand_reserves, errand_away, is_bound, away_of, errand_keeps, live_at, is_there}
-use Rattle.sound_state.proofs.pushes.PushKept.{is-out}
-use Rattle.sound_state.proofs.pops.PopRecalls.{waits-alone}
-use Rattle.sound_state.proofs.shared.RecallEffects.{IsSteady, AreSteady, Leaves, IsLeft, popped-steady, remembered-left}
+use Rattle.sound_state.proofs.shared.EventFacts.{told-own}
+use Rattle.sound_state.proofs.shared.HasLemmas.{bound-away}
+use Rattle.sound_state.proofs.shared.RecallEffects.{IsSteadyWord, AreSteady, Leaves, IsLeft, popped-steady, remembered-left}
 use Rattle.sound_state.proofs.shared.RecallTables.{InstallsNone, IsBacked, IsUnbound, OwnsNone, backed-recalls, unbound-recalls}
-use Rattle.sound_state.proofs.tellings.TellLemmas.{told-own}
 use Rattle.sound_state.proofs.pushes.PushChains.{pushed-chain, was-place}
 use Rattle.sound_state.proofs.pushes.PushEffects.{Outcome, stays, unfills, empties, Pushes, pushed_recalls, pushed_place}
 use Rattle.sound_state.proofs.pushes.PushFacts.{pushed-anchor, pushed-bound, pushed-bound-here, pushed-stood, pushed-ways, pushed-reserved, pushed-live, pushed-bare, makes_empty}
-use Rattle.sound_state.proofs.pushes.PushTies.{still-owned, owned-elsewhere}
+use Rattle.sound_state.proofs.pushes.PushTies.{pushed-still-owned, owned-elsewhere}
 use Rattle.sound_state.proofs.pushes.PushTurns.{pushed-tag}
 use Rattle.sound_state.proofs.shared.SumLemmas.{sum-least, term-sum}
+use Rattle.sound_state.proofs.shared.WaitsAlone.{waits-alone}
 
 -- where a push makes it EMPTY, no other caller has a block of it reserved, nor owns one
 none-reserved :
@@ -77,7 +77,7 @@ unfolding callers_sum
 own-recalls g s l who at i stored a stays e s' h = All-nil (IsSo g s' l who)
 own-recalls g s l who at i stored a unfills e s' h = All-nil (IsSo g s' l who)
 own-recalls g s l who at i stored a empties e s' h =
-    let none : away_of g s l at.desc ≡ 0 = is-out (away_of g s l at.desc) (is_empty (anchor_for s at.desc).state) h.bound in
+    let none : away_of g s l at.desc ≡ 0 = bound-away g s l at.desc h.bound in
     let least : callers_sum g (errand_keeps on_its_way at.desc) s.errand ≤ callers_sum g (errand_away at.desc) s.errand =
     sum-least g.callers (λ k. errand_keeps on_its_way at.desc (s.errand k)) (λ k. errand_away at.desc (s.errand k)) (λ k lt. omega arith) in
     let is : IsEmptied g s' l at.desc = record {
@@ -115,8 +115,8 @@ module _
       ]
 
   -- the words of stacks, of descriptors and of the arena stay
-  steady : AreSteady s s'
-  steady n is = h.elsewhere n (λ same. subst IsSteady same is)
+  pushed-words-steady : AreSteady s s'
+  pushed-words-steady n is = h.elsewhere n (λ same. subst IsSteadyWord same is)
 
   -- a block that was on the chain is on it still
   pops-goes :
@@ -139,16 +139,16 @@ module _
                   }
             ]
         | inr ne ↦
-            popped-steady g s l s' steady d b (pushed-anchor g s l who at i stored a out e s' h d ne)
+            popped-steady g s l s' pushed-words-steady d b (pushed-anchor g s l who at i stored a out e s' h d ne)
             (pushed-reserved g s l who at i stored a out e s' h d) so
       ]
 
   -- so a push leaves what the others remember
   pushed-leaves : (j : ℕ) → j ≢ who → Leaves g s l s' j
   pushed-leaves j ne = record {
-    steady = steady;
+    steady = pushed-words-steady;
     events = ap (own j) h.history ∙ told-own j s.history (Free who (pushed_place at i)) (λ same. ne (sym same));
-    owned = λ place n. still-owned g s l who at i stored a out e s' h j place n ne;
+    owned = λ place n. pushed-still-owned g s l who at i stored a out e s' h j place n ne;
     empty = λ d so.
         let apart : d ≢ at.desc =
         λ same.

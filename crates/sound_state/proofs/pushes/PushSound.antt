@@ -12,7 +12,6 @@ use Rattle.errand_steps.specs.Errands.{ErrandFields}
 use Rattle.errand_steps.specs.Steps.{State, Step}
 use Rattle.sound_state.specs.Lists.{Lists}
 use Rattle.sound_state.specs.Sound.{IsSoundWithoutCounts, IsSoundWith, IsOwnErrand}
-use Rattle.sound_state.proofs.shared.AlikeLemmas.{each-caller}
 use Rattle.sound_state.proofs.pushes.PushChains.{pushed-chained, pushed-framed}
 use Rattle.sound_state.proofs.pushes.PushEffects.{Outcome, Pushes}
 use Rattle.sound_state.proofs.pushes.PushKept.{pushed-kept, pushed-stocked}
@@ -21,6 +20,7 @@ use Rattle.sound_state.proofs.pushes.PushSteps.{push-pushes}
 use Rattle.sound_state.proofs.pushes.PushTies.{pushed-tied, pushed-legal}
 use Rattle.sound_state.proofs.pushes.PushTurns.{pushed-listed, pushed-guarded, pushed-turned}
 use Rattle.sound_state.proofs.quiet.QuietExchanges.{push_block-lost}
+use Rattle.sound_state.proofs.shared.ShownLemmas.{each-caller}
 
 -- what a push changes leaves the state sound
 pub pushed-with :

@@ -41,8 +41,8 @@ use Rattle.sound_state.specs.Lists.{Lists}
 use Rattle.sound_state.specs.Recalls.{IsSo, IsOwned, bound_here, bound_at, says, recalls_of}
 use Rattle.sound_state.specs.Sound.{IsSoundWith}
 use Rattle.sound_state.specs.Superblocks.{IsChained, anchor_for, away_of, info_for, superblock_of}
+use Rattle.sound_state.proofs.shared.HasLemmas.{bound-stands}
 use Rattle.sound_state.proofs.shared.PointLemmas.{fits-at, so-at, frees-at, the-free}
-use Rattle.sound_state.proofs.pops.PopFacts.{bound-stands}
 use Rattle.sound_state.proofs.pushes.PushEffects.{Outcome, stays, unfills, empties, IsOutcome, Pushes, FreeStands, pushed_anchor, pushed_holds, pushed_recalls, pushed_place}
 use Rattle.sound_state.proofs.shared.StepLemmas.{at_point}
 use Rattle.sound_state.proofs.shared.CreditLemmas.{won_with}
@@ -57,7 +57,7 @@ pushed_point stays at stored heap = ended stored at
 pushed_point unfills at stored heap = Partial (partial.LoadOwner at.seat at.desc) (onward.Finish stored)
 pushed_point empties at stored heap = Stack (stack.LoadTopToPush at.seat Frames at.frame) (onward.Remove at.desc heap)
 
-record Leads (at : Site) (i : ℕ) (a : AnchorFields) (stored : Bool) (heap : ℕ) (out : Outcome) : Type 0 where
+record LeadsByOutcome (at : Site) (i : ℕ) (a : AnchorFields) (stored : Bool) (heap : ℕ) (out : Outcome) : Type 0 where
   is : IsOutcome out at.seat.class stored a
   next : LeadsTo (enter_block (points.after_push at a stored heap) onward.Free) (pushed_point out at stored heap)
   anchor : pushed at.seat.class i a ≡ pushed_anchor out i a
@@ -75,7 +75,7 @@ not-last class a less = ne_eqb (a.count + 1) (block_count_of class) (λ same. le
 
 leads-by :
     (at : Site) (i : ℕ) (a : AnchorFields) (stored : Bool) (heap : ℕ) (p : Phase) → a.state ≡ p → i < 2 ^ AVAIL_BITS
-    → a.count + 1 < block_count_of at.seat.class → p ≢ phase.Empty → (out : Outcome) × Leads at i a stored heap out
+    → a.count + 1 < block_count_of at.seat.class → p ≢ phase.Empty → (out : Outcome) × LeadsByOutcome at i a stored heap out
 leads-by at i a stored heap phase.Active is avail less stands =
     let last = not-last at.seat.class a less in
     let count = mod-eq_of_lt {n = a.count + 1} {m = 2 ^ COUNT_BITS} (omega (arith, less, avail-room at.seat.class)) in
@@ -96,7 +96,7 @@ leads-by at i a stored heap phase.Empty is avail less stands = absurd (stands re
 leads :
     (at : Site) (i : ℕ) (a : AnchorFields) (stored : Bool) (heap : ℕ) → i < 2 ^ AVAIL_BITS
     → a.count < block_count_of at.seat.class → a.state ≢ phase.Empty → (IsTrue (is_last at.seat.class a) → IsTrue stored)
-    → (out : Outcome) × Leads at i a stored heap out
+    → (out : Outcome) × LeadsByOutcome at i a stored heap out
 leads at i a stored heap avail less stands last =
     elim (cases_eq (a.count + 1) (block_count_of at.seat.class)) [
       | inl same ↦
@@ -111,25 +111,25 @@ leads at i a stored heap avail less stands last =
       | inr differ ↦ leads-by at i a stored heap a.state refl avail (omega (arith, less, differ)) stands
     ]
 
-point-holds : (out : Outcome) (at : Site) (stored : Bool) (heap : ℕ) → holds_of (pushed_point out at stored heap) ≡ pushed_holds out at stored
+pushed-point-holds : (out : Outcome) (at : Site) (stored : Bool) (heap : ℕ) → holds_of (pushed_point out at stored heap) ≡ pushed_holds out at stored
 unfolding holds_of
-point-holds stays at true heap = refl
-point-holds stays at false heap = refl
-point-holds unfills at stored heap = refl
-point-holds empties at stored heap = refl
+pushed-point-holds stays at true heap = refl
+pushed-point-holds stays at false heap = refl
+pushed-point-holds unfills at stored heap = refl
+pushed-point-holds empties at stored heap = refl
 
-point-recalls : (out : Outcome) (at : Site) (stored : Bool) (heap : ℕ) → recalls_of (pushed_point out at stored heap) ≡ pushed_recalls out at
+pushed-point-recalls : (out : Outcome) (at : Site) (stored : Bool) (heap : ℕ) → recalls_of (pushed_point out at stored heap) ≡ pushed_recalls out at
 unfolding recalls_of
-point-recalls stays at true heap = refl
-point-recalls stays at false heap = refl
-point-recalls unfills at stored heap = refl
-point-recalls empties at stored heap = refl
+pushed-point-recalls stays at true heap = refl
+pushed-point-recalls stays at false heap = refl
+pushed-point-recalls unfills at stored heap = refl
+pushed-point-recalls empties at stored heap = refl
 
-point-stands : (out : Outcome) (at : Site) (stored : Bool) (heap : ℕ) → FreeStands (pushed_point out at stored heap)
-point-stands stays at true heap = grind (arith)
-point-stands stays at false heap = grind (arith)
-point-stands unfills at stored heap = grind (arith)
-point-stands empties at stored heap = grind (arith)
+pushed-point-stands : (out : Outcome) (at : Site) (stored : Bool) (heap : ℕ) → FreeStands (pushed_point out at stored heap)
+pushed-point-stands stays at true heap = grind (arith)
+pushed-point-stands stays at false heap = grind (arith)
+pushed-point-stands unfills at stored heap = grind (arith)
+pushed-point-stands empties at stored heap = grind (arith)
 
 push-stands :
     (at : Site) (i : ℕ) (a : AnchorFields) (stored : Bool) (heap : ℕ) (o : Onward) → FreeStands (Block (block.PushBlock at i a stored heap) o)
@@ -213,9 +213,9 @@ push-pushes g s l who s' at i a stored heap o is has here word step =
         lost = won.step.lost;
         cleared = won.step.cleared;
         holds_before = ap holds_of here;
-        holds_after = point-holds out at stored heap;
-        recalls_after = point-recalls out at stored heap;
+        holds_after = pushed-point-holds out at stored heap;
+        recalls_after = pushed-point-recalls out at stored heap;
         stands_before = subst FreeStands (sym here) (push-stands at i a stored heap o);
-        stands_after = point-stands out at stored heap;
+        stands_after = pushed-point-stands out at stored heap;
       },
     )

@@ -23,12 +23,12 @@ use Rattle.sound_state.specs.Recalls.{IsLocated, IsOwned}
 use Rattle.sound_state.specs.Sound.{IsSoundWithoutCounts, IsSoundWith}
 use Rattle.sound_state.specs.Superblocks.{superblock_of, is_bound, is_there, live_at}
 use Rattle.sound_state.specs.Ties.{IsTied, IsLive}
-use Rattle.sound_state.proofs.shared.AlikeLemmas.{Excepts}
 use Rattle.sound_state.proofs.pushes.PushChains.{was-place}
 use Rattle.sound_state.proofs.pushes.PushEffects.{Outcome, stays, unfills, empties, Pushes, pushed_holds, pushed_place}
 use Rattle.sound_state.proofs.pushes.PushFacts.{pushed-info, pushed-bound, pushed-bound-here, pushed-gone, pushed-there, pushed-bare}
+use Rattle.sound_state.proofs.shared.ListFacts.{any-none, any-one}
+use Rattle.sound_state.proofs.shared.ShownLemmas.{Excepts}
 use Rattle.sound_state.proofs.shared.TieLemmas.{bare-owns, located-stays, not-live, one-live, owned-stays, small-but, small-lies}
-use Rattle.sound_state.proofs.quiet.QuietPushes.{any-none, any-one}
 
 -- who owns the freed block owns it, so its event is legal
 pub pushed-legal :
@@ -57,10 +57,10 @@ owned-elsewhere g s l who at i stored a out e s' h j place n ne k same =
     let both : Caller j ≡ Caller who = sym k.block.2 ∙ mine.0 in
     ne (cc)
 
-pub still-owned :
+pub pushed-still-owned :
     (g : Geometry) (s : State) (l : Lists) (who : ℕ) (at : Site) (i : ℕ) (stored : Bool) (a : AnchorFields) (out : Outcome) (e : ErrandFields)
     (s' : State) → Pushes g s l who at i stored a out e s' → (j place : ℕ) (n : Need) → j ≢ who → IsOwned s j place n → IsOwned s' j place n
-still-owned g s l who at i stored a out e s' h j place n ne k =
+pushed-still-owned g s l who at i stored a out e s' h j place n ne k =
     owned-stays s s' j place n
     (λ b live.
     pushed-there g s l who at i stored a out e s' h place (owned-elsewhere g s l who at i stored a out e s' h j place n ne k) ∙ live) k
@@ -80,11 +80,11 @@ pushed-excepts g s l who at i stored a out e s' h place ne (inr some) =
     absurd (ne (sym one.0))
 
 -- no other block of a superblock that a push makes EMPTY is live
-pub none-live :
+pub no-other-live :
     (g : Geometry) (s : State) (l : Lists) (who : ℕ) (at : Site) (i : ℕ) (stored : Bool) (a : AnchorFields) (e : ErrandFields) (s' : State)
     → Pushes g s l who at i stored a empties e s' → IsSoundWithoutCounts g s → IsSoundWith g s l → (place class : ℕ) (b : Block) → IsLive s place b
     → b.need ≡ Small class → IsLocated s at.desc (frame_of place) class → place ≢ pushed_place at i → ⊥
-none-live g s l who at i stored a e s' h sound old place class b live of located differ =
+no-other-live g s l who at i stored a e s' h sound old place class b live of located differ =
     let lies =
     small-lies g s place class at.frame at.seat.class b sound live of (sym located.frame ∙ h.located.frame) (sym located.class ∙ h.located.class) in
     let apart : lies.0 ≢ i = λ is. differ (lies.2 ∙ ap (pushed_place at) is) in
@@ -102,18 +102,18 @@ its-bound :
 its-bound g s l who at i stored a stays e s' h sound old place class b live of located ne = pushed-bound-here g s l who at i stored a stays e s' h
 its-bound g s l who at i stored a unfills e s' h sound old place class b live of located ne = pushed-bound-here g s l who at i stored a unfills e s' h
 its-bound g s l who at i stored a empties e s' h sound old place class b live of located ne =
-    absurd (none-live g s l who at i stored a e s' h sound old place class b live of located ne)
+    absurd (no-other-live g s l who at i stored a e s' h sound old place class b live of located ne)
 
 -- who pushed hands out and frees nothing
-hands-after : (out : Outcome) (at : Site) (stored : Bool) → (pushed_holds out at stored).hands ≡ []
-hands-after stays at stored = refl
-hands-after unfills at stored = refl
-hands-after empties at stored = refl
+pushed-hands : (out : Outcome) (at : Site) (stored : Bool) → (pushed_holds out at stored).hands ≡ []
+pushed-hands stays at stored = refl
+pushed-hands unfills at stored = refl
+pushed-hands empties at stored = refl
 
-frees-after : (out : Outcome) (at : Site) (stored : Bool) → (pushed_holds out at stored).frees ≡ []
-frees-after stays at stored = refl
-frees-after unfills at stored = refl
-frees-after empties at stored = refl
+pushed-frees : (out : Outcome) (at : Site) (stored : Bool) → (pushed_holds out at stored).frees ≡ []
+pushed-frees stays at stored = refl
+pushed-frees unfills at stored = refl
+pushed-frees empties at stored = refl
 
 -- the words still show the pool: only the freed block changes
 pub pushed-tied :
@@ -125,8 +125,8 @@ pushed-tied g s l who at i stored a out e s' h sound old =
     let owns =
     bare-owns s' who e.point
     (record {
-      hands = ap (λ (o : Holding). o.hands) h.holds_after ∙ hands-after out at stored;
-      frees = ap (λ (o : Holding). o.frees) h.holds_after ∙ frees-after out at stored;
+      hands = ap (λ (o : Holding). o.hands) h.holds_after ∙ pushed-hands out at stored;
+      frees = ap (λ (o : Holding). o.frees) h.holds_after ∙ pushed-frees out at stored;
     }) in
     small-but g s l l who at.seat.class (λ place. place ≡ pushed_place at i) e s'
     (record {

@@ -24,7 +24,7 @@ use Rattle.sound_state.proofs.pushes.PushFacts.{pushed-anchor, pushed-away}
 use Rattle.sound_state.proofs.shared.GuardEffects.{guarded-after}
 use Rattle.sound_state.proofs.shared.ListEffects.{IsListWord, listed-kept}
 use Rattle.sound_state.proofs.shared.SumLemmas.{sum-change}
-use Rattle.sound_state.proofs.shared.TurnEffects.{free-event, head-tag, no-turn-weighs, one_if-most, turned-after}
+use Rattle.sound_state.proofs.shared.TurnEffects.{small-free-event, head-tag, no-turn-weighs, one_if-most, turned-after}
 
 pub pushed-listed :
     (g : Geometry) (s : State) (l : Lists) (who : ℕ) (at : Site) (i : ℕ) (stored : Bool) (a : AnchorFields) (out : Outcome) (e : ErrandFields)
@@ -107,11 +107,11 @@ pub pushed-turned :
     (s' : State) → Pushes g s l who at i stored a out e s' → IsSoundWith g s l → IsTurned g s' l
 pushed-turned g s l who at i stored a out e s' h old =
     let turned = old.turned in
-    let before = no-turn-weighs (s.errand who) h.stands_before.turn in
-    let after = no-turn-weighs e h.stands_after.turn in
+    let before = no-turn-weighs (s.errand who) h.stands_before.stage in
+    let after = no-turn-weighs e h.stands_after.stage in
     let within : frame_of (pushed_place at i) < g.frames =
     subst (λ f. f < g.frames) (sym (frame_of-block_place at.frame at.seat.class i h.index)) h.site.frame in
-    let events = free-event g who (pushed_place at i) s.history s'.history within h.history in
+    let events = small-free-event g who (pushed_place at i) s.history s'.history within h.history in
     turned-after g s l who e s' l 0 1
     (record {
       caller = h.caller;

@@ -1,23 +1,19 @@
 -- A credit is taken, and reserved blocks are offered.
-use Rattle.std.proofs.Common.{ℕ, zero, suc, false, Option, Some, None, ◌≡◌, ◌≢◌, ◌<◌, ◌+◌, ◌*◌, ◌-◌, ◌^◌, [], refl, arith, ap, sym, subst, inl, inr, ◌∙◌, eq-eqb, ne_eqb}
+use Rattle.std.proofs.Common.{ℕ, zero, suc, false, Some, ◌≡◌, ◌≢◌, ◌<◌, ◌+◌, ◌-◌, [], refl, arith, ap, sym, subst, inl, inr, ◌∙◌, eq-eqb, ne_eqb}
 use Rattle.std.specs.Prelude.{◌==◌, All, IsTrue, if◌then◌else◌}
 use Rattle.std.proofs.lemmas.Bool.{cond-true, cond-false, cases_eq}
 use Rattle.std.proofs.lemmas.List.Elements.{All-nil, All-cons, All-head}
 use Rattle.heap_geometry.specs.declared.geometry.Geometry.{Geometry}
 use Rattle.heap_geometry.specs.Geometry.{IsChecked}
-use Rattle.packed_words.specs.declared.active.ActiveWord.{ActiveWord}
 use Rattle.packed_words.specs.declared.active.ActiveWord.TheVariants.{Null, Held}
-use Rattle.packed_words.specs.declared.widths.TheConstants.{CREDIT_BITS}
 use Rattle.packed_words.specs.Active.{IsActiveWord, active_word, active_of}
 use Rattle.packed_words.proofs.ActiveLemmas.{active-exact}
 use Rattle.word_plan.specs.declared.action.Action.TheVariants.{Cas}
 use Rattle.word_plan.specs.declared.seat.Site.{Site}
 use Rattle.word_plan.specs.Counts.{descriptor_count}
 use Rattle.word_plan.specs.Seats.{SeatFields, heap_of}
-use Rattle.word_plan.specs.Sites.{IsSeatOf, active_name}
+use Rattle.word_plan.specs.Sites.{active_name}
 use Rattle.word_plan.specs.Table.{Exists}
-use Rattle.word_plan.proofs.CountLemmas.{descriptor_count_within}
-use Rattle.word_plan.proofs.SeatLemmas.{heap_of-within}
 use Rattle.superblock_parts.specs.declared.point.BlockPoint.TheVariants as block
 use Rattle.superblock_parts.specs.declared.point.Share.TheVariants.{Credit, LastCredit}
 use Rattle.errand_steps.specs.declared.onward.Onward.{Onward}
@@ -38,41 +34,7 @@ use Rattle.sound_state.proofs.shared.PointLemmas.{alike-goes, fits-at, fits-now,
 use Rattle.sound_state.proofs.quiet.QuietExchanges.{lost-at}
 use Rattle.sound_state.proofs.quiet.QuietSteps.{leads-on}
 use Rattle.sound_state.proofs.shared.CreditLemmas.{actives-written, active-bound, word-keeps-away, won-at}
-
--- the numbers of an active word fit, and it says them
-pub held-fits : (g : Geometry) (d credits : ℕ) → IsChecked g → d < descriptor_count g → credits < 2 ^ CREDIT_BITS → IsActiveWord (Held d credits)
-held-fits g d credits checked has few = (omega (arith, has, descriptor_count_within g checked), few)
-
-pub null-said : active_of (active_word Null) ≡ Some Null
-null-said = active-exact.back Null tt
-
-pub null-none : active_word Null ≡ 0
-unfolding active_word
-null-none = refl
-
-pub held-said : (d credits : ℕ) → IsActiveWord (Held d credits) → active_of (active_word (Held d credits)) ≡ Some (Held d credits)
-held-said d credits fit = active-exact.back (Held d credits) fit
-
--- it isn't 0
-pub held-some : (d credits : ℕ) → (active_word (Held d credits) == 0) ≡ false
-unfolding active_word
-held-some d credits = ne_eqb (credits + (d + 1) * 2 ^ CREDIT_BITS) 0 (λ e. let bad : ⊥ = omega (arith, e) in bad)
-
--- the descriptor that a word says
-abbrev desc_said : Option ActiveWord → ℕ
-desc_said None = 0
-desc_said (Some Null) = 0
-desc_said (Some (Held d credits)) = d
-
-held-desc : (d credits e others : ℕ) → Some (Held d credits) ≡ Some (Held e others) → d ≡ e
-held-desc d credits e others same = ap desc_said same
-
--- a seat's active word is one of the heap's
-pub seat-active : (g : Geometry) (who : ℕ) (seat : SeatFields) → IsChecked g → IsSeatOf g who seat → Exists g (active_name seat)
-seat-active g who seat checked of =
-    let heaps : seat.geometry.heaps ≡ g.heaps = ap (λ (h : Geometry). h.heaps) of.geometry in
-    let within : heap_of seat < seat.geometry.heaps = heap_of-within seat (omega (arith, heaps, checked.heaps.0)) in
-    (omega (arith, within, heaps), of.class)
+use Rattle.sound_state.proofs.shared.WordFacts.{held-fits, held-said, held-not-zero, null-none, null-said, seat-active, held-desc}
 
 -- what was held in an active word that gives a credit
 credit-held :
@@ -105,7 +67,7 @@ take_credit-last g s who s' seat d o sound has at is step =
     let fit = credit-held g s sound.parts.0 who seat d 0 o sound.checked sound.parts.1 has at is in
     let null = null-said in
     let held = held-said d 0 fit.1 in
-    let some = held-some d 0 in
+    let some = held-not-zero d 0 in
     won-at g s who s' p (Block (block.LoadInfo seat d LastCredit) o) (active_name seat) (active_word (Held d 0)) (active_word Null) sound has at
     (record {
       plan = refl;
@@ -149,8 +111,8 @@ take_credit-more g s who s' seat d credits o sound has at is some_left step =
     let fit_less : IsActiveWord (Held d left) = (fit.1.0, omega (arith, fit.1.1)) in
     let less = held-said d left fit_less in
     let held = held-said d credits fit.1 in
-    let some = held-some d credits in
-    let some_less = held-some d left in
+    let some = held-not-zero d credits in
+    let some_less = held-not-zero d left in
     won-at g s who s' p (Block (block.LoadInfo seat d Credit) o) (active_name seat) (active_word (Held d credits)) (active_word (Held d left))
     sound has at
     (record {
@@ -215,7 +177,7 @@ install_credits-won g s who s' site i more o sound has at is step =
     let some_more : more ≡ more - 1 + 1 = omega (arith, fit.1.0) in
     let null = null-said in
     let held = held-said d (more - 1) word in
-    let some = held-some d (more - 1) in
+    let some = held-not-zero d (more - 1) in
     won-at g s who s' p (Block (block.StorePrefix site i) o) (active_name site.seat) (active_word Null) (active_word (Held d (more - 1))) sound has at
     (record {
       plan = refl;

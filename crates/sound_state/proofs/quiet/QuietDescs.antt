@@ -22,8 +22,9 @@ use Rattle.sound_state.specs.Recalls.{recalls_of, IsSo, looked, noted}
 use Rattle.sound_state.specs.Sound.{IsSoundWithoutCounts, IsSoundWith}
 use Rattle.sound_state.specs.Stock.{waits_in}
 use Rattle.sound_state.proofs.quiet.QuietExchanges.{lost-at, lost-steady}
-use Rattle.sound_state.proofs.quiet.QuietSteps.{IsSteady, LeadsOn, LeadsQuietly, leads-on, quiet-at, steady-at}
-use Rattle.sound_state.proofs.shared.PointLemmas.{HoldsBlocks, blocks-go, keeps-none, so-at, weigh-stays}
+use Rattle.sound_state.proofs.quiet.QuietSteps.{StepsSteadily, LeadsOn, LeadsQuietly, leads-on, quiet-at, steady-at}
+use Rattle.sound_state.proofs.shared.PointLemmas.{HoldsBlocks, blocks-go, none-kept-as, so-at, weigh-stays}
+use Rattle.sound_state.proofs.shared.WordFacts.{link-some}
 
 -- where the head leads
 head-leads :
@@ -40,9 +41,6 @@ unfolding plan_point_of next_of event_of
 load_desc_head-sound g s who s' seat o sound has at step =
     quiet-at g s who s' (Desc (desc.LoadDescHead seat) o) sound has at (record { event = refl; cleared = refl; word = refl })
     (leads-on g s who _ _ 0 has at (head-leads seat o (desc_named seat.geometry (s.word name.DescHead)))) step
-
-link-some : (g : Geometry) (word next : ℕ) → link_in g word ≡ Some next → word ≡ next
-link-some g word next is = grind (arith)
 
 -- where the name of the descriptor below leads
 next-leads :
@@ -74,13 +72,13 @@ reads-again :
     → HoldsBlocks (Desc p o) (Desc (desc.LoadDescHead seat) o) → (holds_of (Desc p o)).credits ≡ [] → (holds_of (Desc p o)).kept ≡ []
     → (holds_of (Desc p o)).frames ≡ [] → ((class : ℕ) → waits_in class (Desc (desc.LoadDescHead seat) o) ≡ waits_in class (Desc p o))
     → ((l : Lists) → IsSoundWith g s l → All (IsSo g s l who) (looked seat.class ∷ []))
-    → IsSteady g s who (Desc p o) (At (Desc (desc.LoadDescHead seat) o))
+    → StepsSteadily g s who (Desc p o) (At (Desc (desc.LoadDescHead seat) o))
 unfolding holds_of recalls_of
 reads-again g s who p seat o has at blocks credits kept frames waits so = record {
   plain = tt;
   weighs = λ w. weigh-stays _ w (Desc p o) (Desc (desc.LoadDescHead seat) o) (sym credits) (sym kept) (sym frames) waits;
   goes = λ l old.
-      blocks-go g s l who (Desc p o) (Desc (desc.LoadDescHead seat) o) old has at blocks tt (λ d word guard. absurd guard) (keeps-none s) (so l old);
+      blocks-go g s l who (Desc p o) (Desc (desc.LoadDescHead seat) o) old has at blocks tt (λ d word guard. absurd guard) (none-kept-as s) (so l old);
 }
 
 -- another descriptor is on top: the hazard word still names the one that was
@@ -95,12 +93,12 @@ pop_desc_lost-sound g s who s' seat d next o sound has at lost step =
     (λ l old. All-tail (IsSo g s l who) (noted d next) (looked seat.class ∷ []) (so-at g s l who (Desc p o) old has at))) lost step
 
 -- where the head leads that is loaded for a push
-top-leads :
+head-to-push-leads :
     (s : SeatFields) (d : ℕ) (o : Onward) (top : Option ℕ)
     → LeadsOn (Desc (desc.LoadHeadToPush s d) o) (enter_desc (after_top s d top) o) 0
 unfolding holds_of recalls_of
-top-leads s d o None = grind (arith)
-top-leads s d o (Some top) = grind (arith)
+head-to-push-leads s d o None = grind (arith)
+head-to-push-leads s d o (Some top) = grind (arith)
 
 -- the load of the head, for a push
 pub load_head_to_push-sound :
@@ -109,7 +107,7 @@ pub load_head_to_push-sound :
 unfolding plan_point_of next_of event_of
 load_head_to_push-sound g s who s' seat d o sound has at step =
     quiet-at g s who s' (Desc (desc.LoadHeadToPush seat d) o) sound has at (record { event = refl; cleared = refl; word = refl })
-    (leads-on g s who _ _ 0 has at (top-leads seat d o (link_in seat.geometry (s.word name.DescHead)))) step
+    (leads-on g s who _ _ 0 has at (head-to-push-leads seat d o (link_in seat.geometry (s.word name.DescHead)))) step
 
 -- the head isn't what it was
 pub push_desc_lost-sound :

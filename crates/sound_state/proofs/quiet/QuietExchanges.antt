@@ -5,7 +5,6 @@ use Rattle.std.proofs.lemmas.Bool.{cond-false}
 use Rattle.heap_geometry.specs.declared.geometry.Geometry.{Geometry}
 use Rattle.packed_words.specs.Anchor.{AnchorFields, anchor_word}
 use Rattle.word_plan.specs.declared.action.Action.TheVariants.{Cas}
-use Rattle.word_plan.specs.declared.action.Found.{Found}
 use Rattle.word_plan.specs.declared.name.WordName.{WordName}
 use Rattle.word_plan.specs.declared.name.WordName.TheVariants as name
 use Rattle.word_plan.specs.declared.seat.Site.{Site}
@@ -23,18 +22,15 @@ use Rattle.errand_steps.specs.Steps.{State, Step}
 use Rattle.sound_state.specs.Holdings.{holds_of}
 use Rattle.sound_state.specs.Recalls.{recalls_of}
 use Rattle.sound_state.specs.Sound.{IsSoundWithoutCounts}
-use Rattle.sound_state.proofs.quiet.QuietSteps.{IsSteady, LeadsQuietly, leads-on, quiet-steady, steady-at}
+use Rattle.sound_state.proofs.quiet.QuietSteps.{StepsSteadily, LeadsQuietly, leads-on, quiet-steady, steady-at}
+use Rattle.sound_state.proofs.shared.CreditLemmas.{lost_with}
 use Rattle.sound_state.proofs.shared.StepLemmas.{found_from}
-
--- what an exchange finds that is lost
-abbrev pub lost_with : ℕ → Found
-lost_with word = record { value = word; won = false }
 
 -- an exchange that is lost, and after which the caller weighs the same and may stand where it leads, keeps the state sound
 pub lost-steady :
     (g : Geometry) (s : State) (who : ℕ) (s' : State) (p : Point) (n : WordName) (expected new : ℕ) → IsSoundWithoutCounts g s → who < g.callers
     → (s.errand who).point ≡ p → plan_point_of p ≡ Cas n expected new → counts_cleared p (lost_with (s.word n)) ≡ false
-    → IsSteady g s who p (next_of p (lost_with (s.word n))) → s.word n ≢ expected → Step s who s' → IsSoundWithoutCounts g s'
+    → StepsSteadily g s who p (next_of p (lost_with (s.word n))) → s.word n ≢ expected → Step s who s' → IsSoundWithoutCounts g s'
 unfolding event_of
 lost-steady g s who s' p n expected new sound has at plan cleared steady other step =
     let lost : (s.word n == expected) ≡ false = ne_eqb (s.word n) expected other in
@@ -46,7 +42,7 @@ lost-steady g s who s' p n expected new sound has at plan cleared steady other s
       cleared = ap (counts_cleared p) found ∙ cleared;
       word = rw plan (cond-false {A = ℕ} (s.word n == expected) new (s.word n) lost);
     })
-    (subst (λ x. IsSteady g s who p (next_of p x)) (sym found) steady) step
+    (subst (λ x. StepsSteadily g s who p (next_of p x)) (sym found) steady) step
 
 -- so does one that leads quietly on
 pub lost-at :

@@ -42,13 +42,13 @@ take_run_lost-sound g s who s' w bits o sound has at lost step =
     (leads-on g s who _ _ 0 has at (grind (arith))) lost step
 
 -- the prefix word of a freed run is read
-prefix-leads :
+run-prefix-leads :
     (place : ℕ) (run : RunFields) (o : Onward) (found : Option Prefix)
     → LeadsOn (Large (large.LoadRunPrefix place run) o) (enter_large (after_run_prefix place run found) o) 0
 unfolding holds_of recalls_of
-prefix-leads place run o None = grind (arith)
-prefix-leads place run o (Some (prefix.Small d)) = grind (arith)
-prefix-leads place run o (Some (prefix.Large units)) = grind (arith)
+run-prefix-leads place run o None = grind (arith)
+run-prefix-leads place run o (Some (prefix.Small d)) = grind (arith)
+run-prefix-leads place run o (Some (prefix.Large units)) = grind (arith)
 
 pub load_run_prefix-sound :
     (g : Geometry) (s : State) (who : ℕ) (s' : State) (place : ℕ) (run : RunFields) (o : Onward) → IsSoundWithoutCounts g s → who < g.callers
@@ -56,7 +56,7 @@ pub load_run_prefix-sound :
 unfolding plan_point_of next_of event_of
 load_run_prefix-sound g s who s' place run o sound has at step =
     quiet-at g s who s' (Large (large.LoadRunPrefix place run) o) sound has at (record { event = refl; cleared = refl; word = refl })
-    (leads-on g s who _ _ 0 has at (prefix-leads place run o (prefix_of (s.word (name.Arena place))))) step
+    (leads-on g s who _ _ 0 has at (run-prefix-leads place run o (prefix_of (s.word (name.Arena place))))) step
 
 -- a shelf is looked at
 shelf-leads :

@@ -15,7 +15,6 @@ use Rattle.sound_state.specs.Recalls.{IsSo, IsOwned, recalls_of}
 use Rattle.sound_state.specs.Sound.{IsSoundWith}
 use Rattle.sound_state.specs.Stock.{waits_in}
 use Rattle.sound_state.proofs.shared.PointLemmas.{WeighFrom, weigh-stays}
-pub use Rattle.sound_state.proofs.shared.StepLemmas.{found_from, actives-stay, words-stay}
 use Rattle.sound_state.proofs.shared.StepLemmas.{PointGoes, TurnGoes, HoldsException}
 
 -- at the second point a caller holds what it holds at the first, and is no further back in its turn
@@ -33,10 +32,10 @@ pub same-stays : (n : WordName) (w : ℕ) (p q : Point) → HoldsSame p q → We
 same-stays n w p q h = weigh-stays n w p q (ap (λ x. x.credits) h.holds) (ap (λ x. x.kept) h.holds) (ap (λ x. x.frames) h.holds) h.waits
 
 -- where the caller holds the same, what it holds is still so
-pub same-goes :
+pub same-point-goes :
     (g : Geometry) (s : State) (l : Lists) (who : ℕ) (q : Point) → IsSoundWith g s l → who < g.callers → HoldsSame (s.errand who).point q
     → All (IsSo g s l who) (recalls_of q) → PointGoes g s l who (s.errand who).point q
-same-goes g s l who q sound has h so =
+same-point-goes g s l who q sound has h so =
     let back = sym h.holds in
     record {
       kept = subst (λ held. All (λ k. IsKeptAs s k.status k.desc k.class) held.kept) back (sound.kept.errand who has);

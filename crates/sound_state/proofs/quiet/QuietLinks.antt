@@ -37,10 +37,10 @@ use Rattle.sound_state.specs.Recalls.{IsPlain, IsSo, recalls_of, resumed_recalls
 use Rattle.sound_state.specs.Sound.{IsSoundWithoutCounts, IsSoundWith}
 use Rattle.sound_state.specs.Sums.{callers_sum}
 use Rattle.sound_state.specs.Superblocks.{kept_among}
+use Rattle.sound_state.proofs.shared.ListFacts.{contains-occurs}
 use Rattle.sound_state.proofs.stores.StoreFields.{IsLone, between, LoneKept}
-use Rattle.sound_state.proofs.stores.StoreReads.{IsLink, IsOfArena, IsOfDesc, lone-written, blocks-stay, places-stay, place-stays, IsLinkUnread, block-unread, place-unread, next-is_link, lone-kept}
+use Rattle.sound_state.proofs.stores.StoreReads.{IsLink, IsOfArena, IsOfDesc, lone-written, blocks-kept, places-stay, place-stays, IsLinkUnread, block-unread, place-unread, next-is_link, lone-kept}
 use Rattle.sound_state.proofs.stores.StoreSteps.{store-sound}
-use Rattle.sound_state.proofs.hazards.HazardLemmas.{contains-occurs}
 use Rattle.sound_state.proofs.shared.HasLemmas.{has-at, others-none}
 use Rattle.sound_state.proofs.shared.PointLemmas.{fits-at, so-at}
 use Rattle.sound_state.proofs.shared.SumLemmas.{term-sum}
@@ -166,7 +166,7 @@ links-kept g s l who n new words' old alone silent link range below w =
       available = λ d on. w.elsewhere (name.Next d) (off-available l d n on alone.unlisted);
       partials = λ class has d on. w.elsewhere (name.Next d) (off-partials l class d n has on alone.unlisted);
     })
-    (places-stay g s l n new words' old w kind.2) (blocks-stay g s l n new words' w kind.1)
+    (places-stay g s l n new words' old w kind.2) (blocks-kept g s l n new words' w kind.1)
     (λ i has.
     let p : Point = (s.errand i).point in
     record {

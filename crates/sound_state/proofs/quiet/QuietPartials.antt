@@ -13,8 +13,6 @@ use Rattle.word_plan.specs.Seats.{SeatFields, heap_of, desc_named, info_in, anch
 use Rattle.word_plan.specs.Sites.{slot_name}
 use Rattle.heap_geometry.specs.Geometry.{IsChecked}
 use Rattle.heap_geometry.specs.declared.limits.TheConstants.{CLASSES}
-use Rattle.packed_words.specs.declared.anchor.State.{State as Phase}
-use Rattle.packed_words.specs.declared.anchor.State.TheVariants as phase
 use Rattle.packed_words.specs.Anchor.{AnchorFields, anchor_word}
 use Rattle.packed_words.specs.Info.{InfoFields, info_of}
 use Rattle.word_plan.specs.declared.seat.Site.{Site}
@@ -45,12 +43,13 @@ use Rattle.sound_state.specs.Sound.{IsSoundWithoutCounts, IsSoundWith}
 use Rattle.sound_state.specs.Superblocks.{errand_keeps, kept_among, anchor_for, info_for}
 use Rattle.sound_state.proofs.quiet.QuietExchanges.{lost-at, lost-steady}
 use Rattle.sound_state.proofs.quiet.QuietPops.{anchor-said, info-said}
-use Rattle.sound_state.proofs.quiet.QuietSteps.{IsSteady, LeadsOn, LeadsQuietly, leads-on, quiet-at, steady-at}
+use Rattle.sound_state.proofs.quiet.QuietSteps.{StepsSteadily, LeadsOn, LeadsQuietly, leads-on, quiet-at, steady-at}
 use Rattle.sound_state.specs.Stock.{waits_in}
 use Rattle.sound_state.proofs.shared.CreditLemmas.{won-at}
-use Rattle.sound_state.proofs.shared.AlikeLemmas.{ActivesKept}
-use Rattle.sound_state.proofs.shared.PointLemmas.{HoldsAlike, HoldsBlocks, WeighFrom, alike-goes, blocks-go, fits-at, fits-now, kept-at, so-at, weigh-stays, step-from, slot-written, slot-emptied, keeps-too, keeps-none, exists-at, keeps-alone}
-use Rattle.sound_state.proofs.shared.StepLemmas.{IsPlain}
+use Rattle.sound_state.proofs.shared.PointLemmas.{HoldsAlike, HoldsBlocks, WeighFrom, alike-goes, blocks-go, fits-at, fits-now, kept-at, so-at, weigh-stays, step-from, slot-written, slot-emptied, keeps-too, none-kept-as, exists-at, keeps-alone}
+use Rattle.sound_state.proofs.shared.RecallEffects.{empty-is}
+use Rattle.sound_state.proofs.shared.ShownLemmas.{ActivesKept}
+use Rattle.sound_state.proofs.shared.StepLemmas.{LeadsOrEnds}
 
 -- where a slot leads
 kept-leads :
@@ -60,17 +59,17 @@ unfolding holds_of recalls_of
 kept-leads s need None = grind (arith)
 kept-leads s need (Some d) = grind (arith)
 
-empty-leads :
+empty-slot-leads :
     (s : SeatFields) (need : ℕ) → LeadsOn (Partial (partial.LoadSlot s) (Alloc need)) (enter_partial (partial.SlotEmpty s) (Alloc need)) 0
 unfolding holds_of recalls_of
-empty-leads s need = grind (arith)
+empty-slot-leads s need = grind (arith)
 
 slot-leads :
     (s : SeatFields) (need word : ℕ)
     → LeadsOn (Partial (partial.LoadSlot s) (Alloc need)) (enter_partial (after_slot s word) (Alloc need)) 0
 slot-leads s need word =
     cond_both {A = PartialPoint} (word == 0) (partial.SlotEmpty s) (after_kept s (desc_named s.geometry word))
-    (λ p. LeadsOn (Partial (partial.LoadSlot s) (Alloc need)) (enter_partial p (Alloc need)) 0) (λ is. empty-leads s need)
+    (λ p. LeadsOn (Partial (partial.LoadSlot s) (Alloc need)) (enter_partial p (Alloc need)) 0) (λ is. empty-slot-leads s need)
     (λ is. kept-leads s need (desc_named s.geometry word))
 
 -- the load of the slot
@@ -103,7 +102,7 @@ take_slot-sound g s who s' seat d need sound has at step =
             weighs = grind (arith);
             goes = λ l old.
                 alike-goes g s l who p q old has at (grind (arith))
-                (keeps-too s d seat.class [] (old.kept.slot (heap_of seat) seat.class d exists.0 exists.1 there).1 (keeps-none s))
+                (keeps-too s d seat.class [] (old.kept.slot (heap_of seat) seat.class d exists.0 exists.1 there).1 (none-kept-as s))
                 (All-nil (IsSo g s l who));
             actives = λ l old words' w. slot-emptied g s l (heap_of seat) seat.class 0 words' old w refl;
           })
@@ -179,21 +178,21 @@ grant_lost-sound g s who s' site a need sound has at lost step =
     (leads-on g s who _ _ 1 has at (grind (arith))) lost step
 
 -- where the word of a descriptor leads whose superblock became partial
-owner-leads :
+partial-owner-leads :
     (s : SeatFields) (d : ℕ) (stored : Bool) (i : Option InfoFields)
     → LeadsOn (Partial (partial.LoadOwner s d) (Finish stored)) (enter_partial (after_owner s d i) (Finish stored)) 0
 unfolding holds_of recalls_of
-owner-leads s d stored None = grind (arith)
-owner-leads s d stored (Some info) = grind (arith)
+partial-owner-leads s d stored None = grind (arith)
+partial-owner-leads s d stored (Some info) = grind (arith)
 
 -- the load of its word
-pub load_owner-sound :
+pub load_partial_owner-sound :
     (g : Geometry) (s : State) (who : ℕ) (s' : State) (seat : SeatFields) (d : ℕ) (stored : Bool) → IsSoundWithoutCounts g s → who < g.callers
     → (s.errand who).point ≡ Partial (partial.LoadOwner seat d) (Finish stored) → Step s who s' → IsSoundWithoutCounts g s'
 unfolding plan_point_of next_of event_of
-load_owner-sound g s who s' seat d stored sound has at step =
+load_partial_owner-sound g s who s' seat d stored sound has at step =
     quiet-at g s who s' (Partial (partial.LoadOwner seat d) (Finish stored)) sound has at (record { event = refl; cleared = refl; word = refl })
-    (leads-on g s who _ _ 0 has at (owner-leads seat d stored (info_in seat.geometry (s.word (name.Info d))))) step
+    (leads-on g s who _ _ 0 has at (partial-owner-leads seat d stored (info_in seat.geometry (s.word (name.Info d))))) step
 
 -- the first superblock from the list isn't EMPTY
 pub load_first_listed-sound :
@@ -211,7 +210,7 @@ elsewhere-goes :
     → holds_of (Partial p Free) ≡ holds_of (Partial (partial.LoadHeldSlot seat d 0) Free)
     → HoldsBlocks (Partial p Free) (Desc (desc.ClearHazard seat) Clear)
     → ((class : ℕ) → waits_in class (Desc (desc.ClearHazard seat) Clear) ≡ waits_in class (Partial p Free))
-    → IsSteady g s who (Partial p Free) (At (Desc (desc.ClearHazard seat) Clear))
+    → StepsSteadily g s who (Partial p Free) (At (Desc (desc.ClearHazard seat) Clear))
 unfolding holds_of recalls_of
 elsewhere-goes g s who p seat d has at same blocks waits = record {
   plain = tt;
@@ -219,7 +218,7 @@ elsewhere-goes g s who p seat d has at same blocks waits = record {
       weigh-stays _ w (Partial p Free) (Desc (desc.ClearHazard seat) Clear) (ap (λ x. x.credits) (sym same)) (ap (λ x. x.kept) (sym same))
       (ap (λ x. x.frames) (sym same)) waits;
   goes = λ l old.
-      blocks-go g s l who (Partial p Free) (Desc (desc.ClearHazard seat) Clear) old has at blocks tt (λ d word guard. rw same tt) (keeps-none s)
+      blocks-go g s l who (Partial p Free) (Desc (desc.ClearHazard seat) Clear) old has at blocks tt (λ d word guard. rw same tt) (none-kept-as s)
       (All-nil (IsSo g s l who));
 }
 
@@ -262,7 +261,7 @@ remove_from_slot-sound g s who s' seat d heap sound has at step =
             weighs = grind (arith);
             goes = λ l old.
                 alike-goes g s l who p q old has at (grind (arith))
-                (keeps-too s d seat.class [] (old.kept.slot heap seat.class d exists.0 exists.1 there).1 (keeps-none s))
+                (keeps-too s d seat.class [] (old.kept.slot heap seat.class d exists.0 exists.1 there).1 (none-kept-as s))
                 (so-at g s l who p old has at);
             actives = λ l old words' w. slot-emptied g s l heap seat.class 0 words' old w refl;
           })
@@ -295,7 +294,7 @@ put-below g s l who seat d heap o checked old has at =
 
 -- where a superblock leads that is put into an empty slot: it stands there, and nothing is kept any more
 record FillsSlot (seat : SeatFields) (d heap : ℕ) (o : Onward) (n : Next) : Type 0 where
-  plain : IsPlain n
+  plain : LeadsOrEnds n
   weighs : WeighFrom (slot_of seat heap) 0 (d + 1) (Partial (partial.PutSlot seat d heap) o) (point_after n)
   alike : HoldsAlike (Partial (partial.PutSlot seat d heap) o) (point_after n)
   kept : (holds_of (point_after n)).kept ≡ []
@@ -324,7 +323,7 @@ put_slot_filled-sound g s who s' seat d heap o sound has at bare step =
       event = refl;
       cleared = refl;
       goes =
-          alike-goes g s l who p _ old has at fills.alike (subst (All (λ k. IsKeptAs s k.status k.desc k.class)) (sym fills.kept) (keeps-none s))
+          alike-goes g s l who p _ old has at fills.alike (subst (All (λ k. IsKeptAs s k.status k.desc k.class)) (sym fills.kept) (none-kept-as s))
           (subst (All (IsSo g s l who)) (sym fills.recalls) (so-at g s l who p old has at));
       weigh = rw bare fills.weighs;
       below = put-below g s l who seat d heap o sound.checked old has at;
@@ -376,13 +375,6 @@ put_slot-sound g s who s' seat d heap o sound has at step =
       | inr held ↦ put_slot_displaced-sound g s who s' seat d heap (s.word (slot_of seat heap) - 1) o sound has at (omega (arith, held)) step
     ]
 
--- a state that says that all blocks are free
-says-empty : (x : Phase) → is_empty x ≡ true → x ≡ phase.Empty
-says-empty phase.Active is = grind (arith)
-says-empty phase.Full is = grind (arith)
-says-empty phase.Partial is = grind (arith)
-says-empty phase.Empty is = refl
-
 -- the second superblock from the list is EMPTY: it is kept until the first one stands on the list again
 listed-weighs :
     (w : ℕ) (seat : SeatFields) (d first : ℕ)
@@ -427,10 +419,10 @@ load_second-sound g s who s' seat d first sound has at step =
                 let kept = kept-at g s l who p old has at in
                 let fits = (fits-at g s l who p old has at).point in
                 let alone = keeps-alone g s l who d old has fits.desc (keeps-listed (s.errand who) seat d first at) in
-                let so : IsEmptied g s l d = record { state = says-empty (anchor_for s d).state bare; unavailable = alone.0; standing = alone.1 } in
+                let so : IsEmptied g s l d = record { state = empty-is (anchor_for s d).state bare; unavailable = alone.0; standing = alone.1 } in
                 alike-goes g s l who p _ old has at (grind (arith))
                 (keeps-too s first seat.class (this ∷ []) (kept 1 other (omega arith))
-                (keeps-too s d seat.class [] (kept 0 this (omega arith)) (keeps-none s)))
+                (keeps-too s d seat.class [] (kept 0 this (omega arith)) (none-kept-as s)))
                 (All-cons (IsSo g s l who) (emptied d) [] so (All-nil (IsSo g s l who)));
           })) step
       | inr used ↦

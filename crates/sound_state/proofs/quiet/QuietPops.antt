@@ -20,7 +20,7 @@ use Rattle.errand_steps.specs.Events.{event_of}
 use Rattle.errand_steps.specs.Nexts.{next_of, enter_block}
 use Rattle.errand_steps.specs.Points.{plan_point_of}
 use Rattle.errand_steps.specs.Steps.{State, Step}
-use Rattle.sound_state.specs.Holdings.{holds_of, before_pop}
+use Rattle.sound_state.specs.Holdings.{holds_of, holds_before_pop}
 use Rattle.sound_state.specs.Recalls.{IsSo, IsLocated, IsPopped, recalls_of, bound_for, bound_at, bound_here, pops, links}
 use Rattle.sound_state.specs.Sound.{IsSoundWithoutCounts}
 use Rattle.sound_state.specs.Sums.{callers_sum}
@@ -61,7 +61,7 @@ load_info-sound g s who s' seat d share o sound has at step =
     (info-leads g s who seat d share o (info_in seat.geometry (s.word (name.Info d))) has at refl) step
 
 -- who is about to pop has reserved a block
-before-reserves : (d class : ℕ) (share : Share) → 0 < reserved_among d (before_pop d class share).credits
+before-reserves : (d class : ℕ) (share : Share) → 0 < reserved_among d (holds_before_pop d class share).credits
 before-reserves d class Credit = grind (arith)
 before-reserves d class LastCredit = grind (arith)
 before-reserves d class (Grant more) = grind (arith)

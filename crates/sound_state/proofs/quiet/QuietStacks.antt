@@ -1,15 +1,13 @@
 -- Quiet steps at a stack: loads, and exchanges that are lost.
-use Rattle.std.proofs.Common.{ℕ, ◌≡◌, ◌≢◌, ◌<◌, ◌≤◌, ◌-◌, List, [], ◌∷◌, refl, arith}
-use Rattle.std.specs.Prelude.{◌==◌, All, nat_le, if◌then◌else◌}
+use Rattle.std.proofs.Common.{ℕ, ◌≡◌, ◌≢◌, ◌<◌, ◌-◌, List, [], ◌∷◌, refl, arith}
+use Rattle.std.specs.Prelude.{◌==◌, nat_le, if◌then◌else◌}
 use Rattle.std.proofs.lemmas.Bool.{cond_both, cond-true, eq-eqb, eqb-true, eqb-false}
-use Rattle.std.proofs.lemmas.List.Elements.{All-cons, All-head}
+use Rattle.std.proofs.lemmas.List.Elements.{All-cons}
 use Rattle.heap_geometry.specs.declared.geometry.Geometry.{Geometry}
-use Rattle.heap_geometry.specs.declared.limits.TheConstants.{CLASSES}
 use Rattle.packed_words.specs.Head.{HeadFields, head_word, head_of}
 use Rattle.word_plan.specs.Seats.{SeatFields}
 use Rattle.superblock_parts.specs.Chains.{occurs}
 use Rattle.stack_parts.specs.declared.point.Pile.{Pile}
-use Rattle.stack_parts.specs.declared.point.Pile.TheVariants.{Frames, Partials}
 use Rattle.stack_parts.specs.declared.point.StackPoint.{StackPoint}
 use Rattle.stack_parts.specs.declared.point.StackPoint.TheVariants as stack
 use Rattle.stack_parts.specs.Piles.{head_name, next_name, pile_limit}
@@ -23,13 +21,13 @@ use Rattle.errand_steps.specs.Nexts.{next_of, enter_stack, found_empty}
 use Rattle.errand_steps.specs.Points.{plan_point_of}
 use Rattle.errand_steps.specs.Steps.{State, Step}
 use Rattle.sound_state.specs.Holdings.{holds_of}
-use Rattle.sound_state.specs.Lists.{Lists, IsListed}
 use Rattle.sound_state.specs.Recalls.{IsSo, list_of, onward_recalls, recalls_of, tops, nexts, tops_exist}
 use Rattle.sound_state.specs.Sound.{IsSoundWithoutCounts}
 use Rattle.sound_state.proofs.quiet.QuietExchanges.{lost-at}
 use Rattle.sound_state.proofs.quiet.QuietLemmas.{HoldsSame}
 use Rattle.sound_state.proofs.quiet.QuietSteps.{LeadsOn, LeadsQuietly, leads-on, quiet-at}
 use Rattle.sound_state.proofs.shared.PointLemmas.{fits-at, so-at}
+use Rattle.sound_state.proofs.shared.StackedLemmas.{top-exists, pile-exists, pile-stacked}
 
 -- an index on top of a stack is in its list
 top-listed : (next : ℕ → ℕ) (top : ℕ) (xs : List ℕ) → Stacked next top xs → top ≢ 0 → 0 < occurs (top - 1) xs
@@ -37,25 +35,6 @@ top-listed next top [] stack some = absurd (some stack)
 top-listed next top (x ∷ xs) stack some =
     let here : x ≡ top - 1 = omega (arith, stack.0) in
     omega (arith, cond-true {A = ℕ} (x == top - 1) 1 0 (eq-eqb x (top - 1) here))
-
--- and exists where the list's indexes do
-pub top-exists :
-    (next : ℕ → ℕ) (top limit : ℕ) (xs : List ℕ) → Stacked next top xs → All (λ i. i < limit) xs → top ≤ limit
-top-exists next top limit [] stack exist = omega (arith, stack)
-top-exists next top limit (x ∷ xs) stack exist = omega (arith, stack.0, All-head (λ i. i < limit) x xs exist)
-
--- the stack of a pile is the list of the sound state
-pub pile-stacked :
-    (g : Geometry) (s : State) (l : Lists) (seat : SeatFields) (pile : Pile) → IsListed g s.word l → seat.class < CLASSES
-    → Stacked (next_in s.word pile) (head_of (s.word (head_name seat pile))).top (list_of l seat pile)
-pile-stacked g s l seat Frames listed has = listed.frames
-pile-stacked g s l seat Partials listed has = listed.partials seat.class has
-
-pub pile-exists :
-    (g : Geometry) (s : State) (l : Lists) (seat : SeatFields) (pile : Pile) → IsListed g s.word l → seat.class < CLASSES
-    → All (λ i. i < pile_limit g pile) (list_of l seat pile)
-pile-exists g s l seat Frames listed has = listed.frames_exist
-pile-exists g s l seat Partials listed has = listed.partials_exist seat.class has
 
 -- at another point of a stack a caller with the same continuation holds the same
 pops-same :
@@ -92,13 +71,13 @@ load_top_to_push-sound g s who s' seat pile i o sound has at step =
     step
 
 -- the next word of the index on top is read: it is remembered as it is
-below-leads :
+below-leads-quietly :
     (g : Geometry) (s : State) (who : ℕ) (seat : SeatFields) (pile : Pile) (h : HeadFields) (o : Onward) → who < g.callers
     → (s.errand who).point ≡ Stack (stack.LoadBelow seat pile h) o
     → LeadsQuietly g s who (Stack (stack.LoadBelow seat pile h) o)
     (enter_stack (after_below seat pile h (s.word (next_name pile (h.top - 1)))) o)
 unfolding holds_of recalls_of
-below-leads g s who seat pile h o has at =
+below-leads-quietly g s who seat pile h o has at =
     let p = stack.LoadBelow seat pile h in
     let below = s.word (next_name pile (h.top - 1)) in
     let q = stack.PopTop seat pile h below in
@@ -118,7 +97,7 @@ pub load_below-sound :
 unfolding plan_point_of next_of event_of
 load_below-sound g s who s' seat pile h o sound has at step =
     quiet-at g s who s' (Stack (stack.LoadBelow seat pile h) o) sound has at (record { event = refl; cleared = refl; word = refl })
-    (below-leads g s who seat pile h o has at) step
+    (below-leads-quietly g s who seat pile h o has at) step
 
 -- a pop that is lost begins again
 pub pop_top_lost-sound :
@@ -155,26 +134,26 @@ push_top_lost-sound g s who s' seat pile i h o sound has at lost step =
     (record { plain = tt; holds = pops-same p (stack.LoadTopToPush seat pile i) o refl; recalls = refl })) lost step
 
 -- a stack that is read empty: an allocation looks again, and a clearing that has popped one puts it back
-empty-leads :
+empty-stack-leads :
     (seat : SeatFields) (pile : Pile) (h : HeadFields) (o : Onward) → o ≢ Clear
     → LeadsOn (Stack (stack.LoadTop seat pile) o) (found_empty seat pile h o) 0
 unfolding holds_of recalls_of
-empty-leads seat pile h o goes = grind (arith)
+empty-stack-leads seat pile h o goes = grind (arith)
 
 -- a head that is read for a pop: the index on top is in the list
-top-leads :
+top-leads-quietly :
     (g : Geometry) (s : State) (who : ℕ) (seat : SeatFields) (pile : Pile) (o : Onward) → who < g.callers
     → (s.errand who).point ≡ Stack (stack.LoadTop seat pile) o
     → (o ≡ Clear → (head_of (s.word (head_name seat pile))).top ≢ 0)
     → LeadsQuietly g s who (Stack (stack.LoadTop seat pile) o) (enter_stack (after_top seat pile (head_of (s.word (head_name seat pile)))) o)
 unfolding holds_of recalls_of
-top-leads g s who seat pile o has at goes =
+top-leads-quietly g s who seat pile o has at goes =
     let p = stack.LoadTop seat pile in
     let h = head_of (s.word (head_name seat pile)) in
     let q = stack.LoadBelow seat pile h in
     cond_both (h.top == 0) (stack.FoundEmpty seat pile h) (if nat_le h.top (pile_limit seat.geometry pile) then q else p)
     (λ r. LeadsQuietly g s who (Stack p o) (enter_stack r o))
-    (λ empty. leads-on g s who (Stack p o) _ 0 has at (empty-leads seat pile h o (λ is. goes is (eqb-true h.top 0 empty))))
+    (λ empty. leads-on g s who (Stack p o) _ 0 has at (empty-stack-leads seat pile h o (λ is. goes is (eqb-true h.top 0 empty))))
     (λ some.
     cond_both (nat_le h.top (pile_limit seat.geometry pile)) q p (λ r. LeadsQuietly g s who (Stack p o) (enter_stack r o))
     (λ within. record {
@@ -200,4 +179,4 @@ pub load_top-sound :
 unfolding plan_point_of next_of event_of
 load_top-sound g s who s' seat pile o sound has at goes step =
     quiet-at g s who s' (Stack (stack.LoadTop seat pile) o) sound has at (record { event = refl; cleared = refl; word = refl })
-    (top-leads g s who seat pile o has at goes) step
+    (top-leads-quietly g s who seat pile o has at goes) step

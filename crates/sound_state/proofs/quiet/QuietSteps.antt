@@ -17,9 +17,9 @@ use Rattle.errand_steps.specs.Steps.{State, Step}
 use Rattle.sound_state.specs.Lists.{Lists}
 use Rattle.sound_state.specs.Recalls.{IsSo, recalls_of}
 use Rattle.sound_state.specs.Sound.{IsSoundWithoutCounts, IsSoundWith}
-use Rattle.sound_state.proofs.quiet.QuietLemmas.{HoldsSame, same-goes, same-stays}
+use Rattle.sound_state.proofs.quiet.QuietLemmas.{HoldsSame, same-point-goes, same-stays}
 use Rattle.sound_state.proofs.shared.PointLemmas.{WeighFrom, so-at, stays-actives, step-from}
-use Rattle.sound_state.proofs.shared.StepLemmas.{IsPlain, PointGoes, found_from}
+use Rattle.sound_state.proofs.shared.StepLemmas.{LeadsOrEnds, PointGoes, found_from}
 
 -- the step tells nothing, clears nothing, and leaves its word
 pub record IsSilent (s : State) (who : ℕ) (p : Point) : Type 0 where
@@ -28,15 +28,15 @@ pub record IsSilent (s : State) (who : ℕ) (p : Point) : Type 0 where
   pub word : after_action (plan_point_of p) (s.word (name_of (plan_point_of p))) ≡ s.word (name_of (plan_point_of p))
 
 -- a silent step after which the caller weighs what it weighed, and may stand where it leads
-pub record IsSteady (g : Geometry) (s : State) (who : ℕ) (p : Point) (n : Next) : Type 0 where
-  pub plain : IsPlain n
+pub record StepsSteadily (g : Geometry) (s : State) (who : ℕ) (p : Point) (n : Next) : Type 0 where
+  pub plain : LeadsOrEnds n
   pub weighs : (w : ℕ) → WeighFrom (name_of (plan_point_of p)) w w p (point_after n)
   pub goes : (l : Lists) → IsSoundWith g s l → PointGoes g s l who p (point_after n)
 
 -- keeps the state sound
 pub steady-at :
     (g : Geometry) (s : State) (who : ℕ) (s' : State) (p : Point) → IsSoundWithoutCounts g s → who < g.callers → (s.errand who).point ≡ p
-    → IsSilent s who p → IsSteady g s who p (next_of p (found_from s p)) → Step s who s' → IsSoundWithoutCounts g s'
+    → IsSilent s who p → StepsSteadily g s who p (next_of p (found_from s p)) → Step s who s' → IsSoundWithoutCounts g s'
 steady-at g s who s' p sound has at silent h step =
     let n = name_of (plan_point_of p) in
     step-from g s who s' p (next_of p (found_from s p)) h.plain sound has at
@@ -53,14 +53,14 @@ steady-at g s who s' p sound has at silent h step =
 
 -- a step that leads where the caller holds what it held, and what it remembers is so
 pub record LeadsQuietly (g : Geometry) (s : State) (who : ℕ) (p : Point) (n : Next) : Type 0 where
-  pub plain : IsPlain n
+  pub plain : LeadsOrEnds n
   pub holds : HoldsSame p (point_after n)
   pub so : (l : Lists) → IsSoundWith g s l → All (IsSo g s l who) (recalls_of (point_after n))
 
 -- so what it weighs stays, and it may stand there
 pub quiet-steady :
     (g : Geometry) (s : State) (who : ℕ) (p : Point) (n : Next) → who < g.callers → (s.errand who).point ≡ p → LeadsQuietly g s who p n
-    → IsSteady g s who p n
+    → StepsSteadily g s who p n
 quiet-steady g s who p n has at h =
     let same = h.holds in
     record {
@@ -68,7 +68,7 @@ quiet-steady g s who p n has at h =
       weighs = λ w. same-stays (name_of (plan_point_of p)) w p (point_after n) same;
       goes = λ l old.
           subst (λ r. PointGoes g s l who r (point_after n)) at
-          (same-goes g s l who (point_after n) old has (subst (λ r. HoldsSame r (point_after n)) (sym at) same) (h.so l old));
+          (same-point-goes g s l who (point_after n) old has (subst (λ r. HoldsSame r (point_after n)) (sym at) same) (h.so l old));
     }
 
 -- keeps the state sound, if it is silent
@@ -80,7 +80,7 @@ quiet-at g s who s' p sound has at silent h step =
 
 -- a step that leads where the caller holds the same, and remembers the same but for the first few things
 pub record LeadsOn (p : Point) (n : Next) (forgotten : ℕ) : Type 0 where
-  pub plain : IsPlain n
+  pub plain : LeadsOrEnds n
   pub holds : HoldsSame p (point_after n)
   pub recalls : recalls_of (point_after n) ≡ drop forgotten (recalls_of p)
 

@@ -1,6 +1,6 @@
 -- A step that retires the descriptor of an EMPTY superblock, and leaves its word or clears a hazard word, keeps the state sound.
 use Rattle.std.proofs.Common.{ℕ, Bool, true, false, None, ◌≡◌, ◌≢◌, ◌<◌, ◌≤◌, ◌+◌, ◌^◌, List, [], ◌∷◌, ◌++◌, length, refl, arith, ap, sym, subst, inl, inr, ◌∙◌, length-append, ne_eqb, eq-eqb}
-use Rattle.std.specs.Prelude.{◌==◌, ◌&&◌, ◌⊎◌, not, if◌then◌else◌, All}
+use Rattle.std.specs.Prelude.{◌==◌, ◌&&◌, ◌⊎◌, not, All}
 use Rattle.std.proofs.lemmas.Bool.{cases_eq, cases_Bool, cond-true, cond-false, leb-true}
 use Rattle.std.proofs.lemmas.List.Elements.{All-append, All-cons, All-nil}
 use Rattle.heap_geometry.specs.declared.geometry.Geometry.{Geometry}
@@ -33,29 +33,27 @@ use Rattle.errand_steps.specs.Points.{plan_point_of}
 use Rattle.errand_steps.specs.Steps.{State, Step, Moves, action_at, name_at, word_at, found_at, event_at, with_event}
 use Rattle.errand_steps.proofs.PlanLemmas.{plan-exists}
 use Rattle.sound_state.specs.Guards.{IsHazard}
-use Rattle.sound_state.specs.Holdings.{Hazard, Status, clear, nothing, keep, holds_of, waiting, reserving, on_its_way, partly_used}
+use Rattle.sound_state.specs.Holdings.{HazardState, Status, clear, nothing, keep, holds_of, waiting, reserving, on_its_way, partly_used}
 use Rattle.sound_state.specs.Keepers.{word_keeps, IsWithout}
 use Rattle.sound_state.specs.Lists.{Lists}
 use Rattle.sound_state.specs.Recalls.{IsPlain, IsSo, recalls_of, resumed_recalls}
 use Rattle.sound_state.specs.Sound.{IsSoundWithoutCounts, IsSoundWith}
+use Rattle.sound_state.specs.TurnStages.{turn_stage_of, in_turn, lacks_frame, lacks_partial, lacks_answer, is_unneeded}
 use Rattle.sound_state.specs.Stock.{waits_in, word_stock}
 use Rattle.sound_state.specs.Sums.{sum_below}
 use Rattle.sound_state.specs.Superblocks.{anchor_for, errand_keeps, errand_away, away_of, is_bound, word_reserves}
-use Rattle.sound_state.specs.Turns.{emptied_out, one_if, in_turn, has_frame, has_partial, has_refused, is_discarding_at, pops_left}
-use Rattle.sound_state.proofs.shared.AlikeLemmas.{MayGoOn, ActivesKept, sound-alike}
+use Rattle.sound_state.specs.Turns.{emptied_out, one_if, pops_left}
+use Rattle.sound_state.proofs.shared.AlikeLemmas.{sound-alike}
 use Rattle.sound_state.proofs.hazards.HazardLemmas.{hazard_caller, hazard-actives}
-use Rattle.sound_state.proofs.quiet.QuietLemmas.{found_from, actives-stay, words-stay}
-use Rattle.sound_state.proofs.shared.StepLemmas.{HoldsException, raised-least}
+use Rattle.sound_state.proofs.shared.ListFacts.{occurs-push}
+use Rattle.sound_state.proofs.shared.ShownLemmas.{MayGoOn, ActivesKept}
+use Rattle.sound_state.proofs.shared.StepLemmas.{HoldsException, raised-least, raised-by, found_from, actives-stay, words-stay}
 use Rattle.sound_state.proofs.shared.HasLemmas.{kept-one, kept-itself, keeps-near}
 use Rattle.sound_state.proofs.shared.NothingLemmas.{HoldsNothing, scan-nothing, keeps-excepts, nothing-guards, settled-own, CountsGo, nothing-may}
 use Rattle.sound_state.proofs.shared.SumLemmas.{sum-change, callers-moved}
 use Rattle.sound_state.proofs.shared.TagLemmas.{cleared-below}
+use Rattle.sound_state.proofs.shared.TurnEffects.{one_if-most}
 use Rattle.sound_state.proofs.shared.WeighLemmas.{WeighClose, weigh-close}
-
--- one more entry of a list
-pub occurs-push : (k d : ℕ) (xs : List ℕ) → occurs k (xs ++ d ∷ []) ≡ occurs k xs + (if d == k then 1 else 0)
-occurs-push k d [] = omega arith
-occurs-push k d (x ∷ xs) = omega (arith, occurs-push k d xs)
 
 -- the descriptor goes away with this errand, and no other one does
 pub record GoesAway (d : ℕ) (a b : ErrandFields) : Type 0 where
@@ -83,11 +81,11 @@ away-bound g s l who d e s' has m away anchors empty k =
           rw (still, anchors k) refl
     ]
 
-out-one : (away : ℕ) (a : AnchorFields) → away ≡ 0 → a.state ≡ phase.Empty → one_if ((away == 0) && is_empty a.state) ≡ 1
-out-one away a none is = grind (arith, none, is)
+empty-out-one : (away : ℕ) (a : AnchorFields) → away ≡ 0 → a.state ≡ phase.Empty → one_if ((away == 0) && is_empty a.state) ≡ 1
+empty-out-one away a none is = grind (arith, none, is)
 
-out-none : (away : ℕ) (b : Bool) → 1 ≤ away → one_if ((away == 0) && b) ≡ 0
-out-none away b some = rw (ne_eqb away 0 (λ e. let bad : ⊥ = omega (arith, e, some) in bad)) refl
+away-out-none : (away : ℕ) (b : Bool) → 1 ≤ away → one_if ((away == 0) && b) ≡ 0
+away-out-none away b some = rw (ne_eqb away 0 (λ e. let bad : ⊥ = omega (arith, e, some) in bad)) refl
 
 -- and one less is EMPTY and out
 pub away-emptied :
@@ -101,8 +99,8 @@ away-emptied g s l who d e s' has m away anchors empty exists near =
     (λ k lt differ.
     let still : away_of g s' l k ≡ away_of g s l k = omega (arith, moved k, away.elsewhere k differ) in
     rw (still, anchors k) refl) in
-    let before : emptied_out g s l d ≡ 1 = out-one (away_of g s l d) (anchor_for s d) near empty in
-    let after : emptied_out g s' l d ≡ 0 = out-none (away_of g s' l d) (is_empty (anchor_for s' d).state) (omega (arith, moved d, away.here)) in
+    let before : emptied_out g s l d ≡ 1 = empty-out-one (away_of g s l d) (anchor_for s d) near empty in
+    let after : emptied_out g s' l d ≡ 0 = away-out-none (away_of g s' l d) (is_empty (anchor_for s' d).state) (omega (arith, moved d, away.here)) in
     omega (arith, change, before, after)
 
 -- the errand at the second point, with one more descriptor retired
@@ -124,51 +122,51 @@ unfolding settle_of course_of
 settle-full e x s d o is full = rw (is, full) refl
 
 -- else the call is resumed
-settle-at :
+settle-resumed :
     (e : ErrandFields) (x : Found) (s : SeatFields) (d : ℕ) (o : Onward) (q : Point) → next_of e.point x ≡ Retire s d o → is_full e ≡ false
     → resumed s o ≡ At q → settle_of e x ≡ retired_at e x d q
 unfolding settle_of course_of
-settle-at e x s d o q is few to = rw (is, few, to) refl
+settle-resumed e x s d o q is few to = rw (is, few, to) refl
 
-pub settle-end :
+pub settle-resumed-end :
     (e : ErrandFields) (x : Found) (s : SeatFields) (d : ℕ) (o : Onward) → next_of e.point x ≡ Retire s d o → is_full e ≡ false
     → (r : Reply) → resumed s o ≡ End r → settle_of e x ≡ retired_at e x d Idle
 unfolding settle_of course_of
-settle-end e x s d o is few r to = rw (is, few, to) refl
+settle-resumed-end e x s d o is few r to = rw (is, few, to) refl
 
 -- how far a call's turn is at two points, where the first step may have found a superblock EMPTY that it took
 pub record TurnRetires (p q : Point) (x : Found) : Type 0 where
   pub under_way : one_if (in_turn q) ≤ one_if (in_turn p)
-  pub discards : one_if (in_turn q && is_discarding_at q) ≤ one_if (in_turn p && is_discarding_at p)
-  pub unanswered : one_if (in_turn p && not (has_refused p)) ≤ one_if (in_turn q && not (has_refused q))
-  pub unframed : one_if (in_turn q && not (has_frame q)) ≤ one_if (in_turn p && not (has_frame p))
+  pub discards : one_if (is_unneeded (turn_stage_of q)) ≤ one_if (is_unneeded (turn_stage_of p))
+  pub unanswered : one_if (lacks_answer (turn_stage_of p)) ≤ one_if (lacks_answer (turn_stage_of q))
+  pub unframed : one_if (lacks_frame (turn_stage_of q)) ≤ one_if (lacks_frame (turn_stage_of p))
   pub pops :
-      pops_left q + one_if (in_turn q && not (has_partial q))
-      ≤ pops_left p + one_if (in_turn p && not (has_partial p)) + one_if (counts_cleared p x)
+      pops_left q + one_if (lacks_partial (turn_stage_of q))
+      ≤ pops_left p + one_if (lacks_partial (turn_stage_of p)) + one_if (counts_cleared p x)
 
 -- a caller that keeps one descriptor, and nothing else but a hazard word, holds nothing at the second point
-pub record Lets (p q : Point) (d class : ℕ) (status : Status) (word : Hazard) : Type 0 where
+pub record Lets (p q : Point) (d class : ℕ) (status : Status) (word : HazardState) : Type 0 where
   pub before : holds_of p ≡ record nothing { kept = keep d class status; hazard = word }
   pub bare : HoldsNothing q
   pub waits : (c : ℕ) → waits_in c p ≡ 0
   pub spare : spare_of p ≡ 0
 
-occurs-here : (d : ℕ) (xs : List ℕ) → occurs d (xs ++ d ∷ []) ≡ occurs d xs + 1
-occurs-here d xs = omega (arith, occurs-push d d xs, cond-true {A = ℕ} (d == d) 1 0 (eq-eqb d d refl))
+occurs-pushed : (d : ℕ) (xs : List ℕ) → occurs d (xs ++ d ∷ []) ≡ occurs d xs + 1
+occurs-pushed d xs = omega (arith, occurs-push d d xs, cond-true {A = ℕ} (d == d) 1 0 (eq-eqb d d refl))
 
 occurs-other : (k d : ℕ) (xs : List ℕ) → k ≢ d → occurs k (xs ++ d ∷ []) ≡ occurs k xs
 occurs-other k d xs differ = omega (arith, occurs-push k d xs, cond-false {A = ℕ} (d == k) 1 0 (ne_eqb d k (λ e. differ (sym e))))
 
 lets-away :
-    (d class : ℕ) (h : Hazard) (x : Found) (q : Point) (e : ErrandFields) → Lets e.point q d class partly_used h → GoesAway d e (retired_at e x d q)
+    (d class : ℕ) (h : HazardState) (x : Found) (q : Point) (e : ErrandFields) → Lets e.point q d class partly_used h → GoesAway d e (retired_at e x d q)
 lets-away d class h x q e lets = record {
-  here = rw (lets.before, lets.bare.holds) (omega (arith, occurs-here d e.retired, kept-one on_its_way partly_used d d class));
+  here = rw (lets.before, lets.bare.holds) (omega (arith, occurs-pushed d e.retired, kept-one on_its_way partly_used d d class));
   elsewhere = λ k differ.
       rw (lets.before, lets.bare.holds) (omega (arith, occurs-other k d e.retired differ, kept-one on_its_way partly_used k d class));
 }
 
 lets-weigh :
-    (n : WordName) (before after d class : ℕ) (h : Hazard) (x : Found) (q : Point) (e : ErrandFields) → Lets e.point q d class partly_used h
+    (n : WordName) (before after d class : ℕ) (h : HazardState) (x : Found) (q : Point) (e : ErrandFields) → Lets e.point q d class partly_used h
     → (IsPlain n → after ≡ before) → ((k : ℕ) → word_reserves k n after ≡ word_reserves k n before)
     → ((k : ℕ) → word_keeps k n after ≡ word_keeps k n before) → ((c : ℕ) → word_stock c n after ≡ word_stock c n before)
     → WeighClose n before after e (retired_at e x d q)
@@ -187,7 +185,7 @@ lets-weigh n before after d class h x q e lets plain reserves keeps stock =
     }
 
 -- a step after which the caller stands at another point and has one more descriptor retired
-pub record RetiresTo (g : Geometry) (s : State) (who : ℕ) (d class : ℕ) (h : Hazard) (q : Point) : Type 0 where
+pub record RetiresTo (g : Geometry) (s : State) (who : ℕ) (d class : ℕ) (h : HazardState) (q : Point) : Type 0 where
   pub after : settle_of (s.errand who) (found_at s who) ≡ retired_at (s.errand who) (found_at s who) d q
   pub event : event_at s who ≡ None
   pub exists : d < descriptor_count g
@@ -206,13 +204,6 @@ record WordsLeft (g : Geometry) (s : State) (who : ℕ) (e : ErrandFields) (word
   pub actives : ActivesKept g s words'
   pub below : (n : WordName) → words' n < 2 ^ 64
 
--- counts that rise by one, far from their ends
-raised-by : (b : Bool) (n : ℕ) → n + 1 < 2 ^ 64 → raised b n ≡ n + one_if b
-raised-by b n most = grind (arith)
-
-pub one-most : (b : Bool) → one_if b ≤ 1
-one-most b = grind (arith)
-
 -- the list has one more entry than the heap has callers
 full-length : (e : ErrandFields) (d : ℕ) → is_full e ≡ true → length e.retired ≤ e.geometry.callers → length (e.retired ++ d ∷ []) ≡ e.geometry.callers + 1
 full-length e d full room =
@@ -220,7 +211,7 @@ full-length e d full room =
 
 -- so the caller may go on, with these events
 pub retired-may :
-    (g : Geometry) (s : State) (past : List Event) (l : Lists) (who : ℕ) (x : Found) (d class : ℕ) (status : Status) (h : Hazard) (q : Point)
+    (g : Geometry) (s : State) (past : List Event) (l : Lists) (who : ℕ) (x : Found) (d class : ℕ) (status : Status) (h : HazardState) (q : Point)
     → IsSoundWith g s l → who < g.callers → x.value < 2 ^ 64 → settle_of (s.errand who) x ≡ retired_at (s.errand who) x d q
     → Lets (s.errand who).point q d class status h → (spare_of q ≡ 1 → is_full (s.errand who) ≡ true) → IsWithout s d
     → All (IsSo g (record s { history = past }) l who) (recalls_of q)
@@ -240,7 +231,7 @@ retired-may g s past l who x d class status h q old has word after lets full wit
 
 -- the step keeps the state sound
 retire-sound :
-    (g : Geometry) (s : State) (who : ℕ) (s' : State) (d class : ℕ) (h : Hazard) (q : Point) → IsSoundWithoutCounts g s → who < g.callers
+    (g : Geometry) (s : State) (who : ℕ) (s' : State) (d class : ℕ) (h : HazardState) (q : Point) → IsSoundWithoutCounts g s → who < g.callers
     → RetiresTo g s who d class h q
     → ((l : Lists) → IsSoundWith g s l → WordsLeft g s who (retired_at (s.errand who) (found_at s who) d q) s'.word) → Step s who s'
     → IsSoundWithoutCounts g s'
@@ -297,7 +288,7 @@ retire-sound g s who s' d class h q sound has to left step =
               words = words.below;
               emptied =
                   let one = away-emptied g s l who d e s' has moves away anchors to.empty to.exists near in
-                  omega (arith, one, cleared, one-most (counts_cleared (s.errand who).point x));
+                  omega (arith, one, cleared, one_if-most (counts_cleared (s.errand who).point x));
             })
             old,
       );
@@ -325,7 +316,7 @@ retire-reads g s who s' d class q sound has to same step =
 
 -- and where it clears the caller's hazard word
 hazard-close :
-    (n : WordName) (i before after d class : ℕ) (h : Hazard) (x : Found) (q : Point) (e : ErrandFields) → n ≡ name.Hazard i
+    (n : WordName) (i before after d class : ℕ) (h : HazardState) (x : Found) (q : Point) (e : ErrandFields) → n ≡ name.Hazard i
     → Lets e.point q d class partly_used h → WeighClose n before after e (retired_at e x d q)
 hazard-close n i before after d class h x q e is lets =
     let here : WeighClose (name.Hazard i) before after e (retired_at e x d q) =
@@ -333,7 +324,7 @@ hazard-close n i before after d class h x q e is lets =
     subst (λ m. WeighClose m before after e (retired_at e x d q)) (sym is) here
 
 retire-clears :
-    (g : Geometry) (s : State) (who : ℕ) (s' : State) (d class : ℕ) (h : Hazard) (q : Point) → IsSoundWithoutCounts g s → who < g.callers
+    (g : Geometry) (s : State) (who : ℕ) (s' : State) (d class : ℕ) (h : HazardState) (q : Point) → IsSoundWithoutCounts g s → who < g.callers
     → RetiresTo g s who d class h q → name_at s who ≡ name.Hazard who → after_action (action_at s who) (word_at s who) ≡ 0
     → Step s who s' → IsSoundWithoutCounts g s'
 retire-clears g s who s' d class h q sound has to named bare step =
@@ -363,12 +354,12 @@ ResumesAt s o q = (resumed s o ≡ At q) ⊎ ((q ≡ Idle) × ((r : Reply) × (r
 resumes-after :
     (e : ErrandFields) (x : Found) (s : SeatFields) (d : ℕ) (o : Onward) (q : Point) → next_of e.point x ≡ Retire s d o → is_full e ≡ false
     → ResumesAt s o q → settle_of e x ≡ retired_at e x d q
-resumes-after e x s d o q is few (inl to) = settle-at e x s d o q is few to
+resumes-after e x s d o q is few (inl to) = settle-resumed e x s d o q is few to
 resumes-after e x s d o q is few (inr to) =
-    subst (λ r. settle_of e x ≡ retired_at e x d r) (sym to.0) (settle-end e x s d o is few to.1.0 to.1.1)
+    subst (λ r. settle_of e x ≡ retired_at e x d r) (sym to.0) (settle-resumed-end e x s d o is few to.1.0 to.1.1)
 
 -- a step from this point that retires a descriptor, and after which a scan begins or the call is resumed at the second point
-pub record Retires (g : Geometry) (s : State) (who : ℕ) (p : Point) (seat : SeatFields) (d : ℕ) (h : Hazard) (o : Onward) (q : Point) : Type 0 where
+pub record Retires (g : Geometry) (s : State) (who : ℕ) (p : Point) (seat : SeatFields) (d : ℕ) (h : HazardState) (o : Onward) (q : Point) : Type 0 where
   pub next : next_of p (found_from s p) ≡ Retire seat d o
   pub resumes : ResumesAt seat o q
   pub event : event_of who p (found_from s p) ≡ None
@@ -386,7 +377,7 @@ pub record Retires (g : Geometry) (s : State) (who : ℕ) (p : Point) (seat : Se
 
 -- it leads to one or the other
 retires-to :
-    (g : Geometry) (s : State) (who : ℕ) (seat : SeatFields) (d : ℕ) (h : Hazard) (o : Onward) (q : Point) (P : Type 0)
+    (g : Geometry) (s : State) (who : ℕ) (seat : SeatFields) (d : ℕ) (h : HazardState) (o : Onward) (q : Point) (P : Type 0)
     → Retires g s who (s.errand who).point seat d h o q → ((r : Point) → RetiresTo g s who d seat.class h r → P) → P
 unfolding recalls_of
 retires-to g s who seat d h o q P r leads =
@@ -431,7 +422,7 @@ retire-at g s who s' p seat d o q sound has at h same step =
 
 -- so it does where it clears the caller's hazard word
 pub retire-clearing :
-    (g : Geometry) (s : State) (who : ℕ) (s' : State) (p : Point) (seat : SeatFields) (d : ℕ) (h : Hazard) (o : Onward) (q : Point)
+    (g : Geometry) (s : State) (who : ℕ) (s' : State) (p : Point) (seat : SeatFields) (d : ℕ) (h : HazardState) (o : Onward) (q : Point)
     → IsSoundWithoutCounts g s → who < g.callers → (s.errand who).point ≡ p → Retires g s who p seat d h o q
     → name_of (plan_point_of p) ≡ name.Hazard who → after_action (plan_point_of p) (s.word (name_of (plan_point_of p))) ≡ 0
     → Step s who s' → IsSoundWithoutCounts g s'

@@ -1,7 +1,6 @@
 -- Steps that find a superblock EMPTY that was taken or popped, or take one out of its slot, and retire its descriptor.
 use Rattle.std.proofs.Common.{ℕ, true, ◌≡◌, ◌<◌, refl, ap, arith, inl, inr}
 use Rattle.heap_geometry.specs.declared.geometry.Geometry.{Geometry}
-use Rattle.packed_words.specs.declared.anchor.State.{State as Phase}
 use Rattle.packed_words.specs.declared.anchor.State.TheVariants as phase
 use Rattle.word_plan.specs.declared.name.WordName.TheVariants as name
 use Rattle.word_plan.specs.declared.seat.Site.{Site}
@@ -26,12 +25,7 @@ use Rattle.sound_state.specs.Superblocks.{anchor_for}
 use Rattle.sound_state.proofs.shared.PointLemmas.{fits-at, so-at}
 use Rattle.sound_state.proofs.retirements.RetireLemmas.{retire-at, retire-clearing}
 use Rattle.sound_state.proofs.shared.NothingLemmas.{HoldsNothing, idle-nothing}
-
-is-empty : (p : Phase) → is_empty p ≡ true → p ≡ phase.Empty
-is-empty phase.Active is = cc
-is-empty phase.Full is = cc
-is-empty phase.Partial is = cc
-is-empty phase.Empty is = refl
+use Rattle.sound_state.proofs.shared.RecallEffects.{empty-is}
 
 -- an allocation that looks for a partial superblock again holds nothing
 look-nothing : (seat : SeatFields) (need : ℕ) → HoldsNothing (Partial (partial.LoadSlot seat) (Alloc need))
@@ -60,7 +54,7 @@ load_grant_anchor_empty-sound g s who s' site need sound has at empty step =
       resumes = inl refl;
       event = refl;
       exists = here.desc;
-      empty = is-empty (anchor_for s site.desc).state empty;
+      empty = empty-is (anchor_for s site.desc).state empty;
       before = refl;
       waits = λ c. refl;
       spare = refl;
@@ -89,7 +83,7 @@ load_first_listed_empty-sound g s who s' seat d sound has at empty step =
       resumes = inr (refl, (reply.Freed, refl));
       event = refl;
       exists = here.desc;
-      empty = is-empty (anchor_for s d).state empty;
+      empty = empty-is (anchor_for s d).state empty;
       before = refl;
       waits = λ c. refl;
       spare = refl;

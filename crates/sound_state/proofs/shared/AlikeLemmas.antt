@@ -18,8 +18,7 @@ use Rattle.sound_state.specs.Stock.{IsStocked}
 use Rattle.sound_state.specs.Sums.{sum_below, callers_sum}
 use Rattle.sound_state.specs.Superblocks.{reserved_of, waiting_of, is_bound, errand_keeps}
 use Rattle.sound_state.specs.Turns.{emptied_out}
-pub use Rattle.sound_state.proofs.shared.ShownLemmas.{each-caller, same-superblock, Excepts, IsSaidAt, MayGoOn, IsUnretired, GuardsAnew, MayGuard, ActivesKept, OthersRemember, IsSoundBut}
-use Rattle.sound_state.proofs.shared.ShownLemmas.{IsShown, StaysSo, ShowsSame, sound-but_one, sound-shown}
+use Rattle.sound_state.proofs.shared.ShownLemmas.{IsShown, StaysSo, ShowsSame, sound-but_one, sound-shown, MayGoOn, MayGuard, ActivesKept, IsSoundBut}
 
 -- the second state shows the same superblocks, lists and events as the first
 pub record Alike (g : Geometry) (s : State) (l : Lists) (s' : State) : Type 0 where
@@ -34,7 +33,7 @@ pub record Alike (g : Geometry) (s : State) (l : Lists) (s' : State) : Type 0 wh
   pub stock : IsStocked g s l → IsStocked g s' l
 
 -- a caller goes on in a state that shows the same
-pub record GoesOn (g : Geometry) (s : State) (l : Lists) (who : ℕ) (e : ErrandFields) (s' : State) : Type 0 where
+pub record GoesAlike (g : Geometry) (s : State) (l : Lists) (who : ℕ) (e : ErrandFields) (s' : State) : Type 0 where
   pub caller : who < g.callers
   pub moves : Moves s.errand who e s'.errand
   pub alike : Alike g s l s'
@@ -57,7 +56,7 @@ stays-alike g s l s' h (says n w) = h.word n
 stays-alike g s l s' h r = grind (arith)
 
 shows-alike :
-    (g : Geometry) (s : State) (l : Lists) (who : ℕ) (e : ErrandFields) (s' : State) → GoesOn g s l who e s' → IsSoundBut g s l who
+    (g : Geometry) (s : State) (l : Lists) (who : ℕ) (e : ErrandFields) (s' : State) → GoesAlike g s l who e s' → IsSoundBut g s l who
     → ShowsSame g s l who e s' l.available
 shows-alike g s l who e s' go sound =
     let h = go.alike in
@@ -88,12 +87,12 @@ shows-alike g s l who e s' go sound =
 
 -- a caller that goes on so makes a state sound that is sound but for what it remembers
 pub sound-but :
-    (g : Geometry) (s : State) (l : Lists) (who : ℕ) (e : ErrandFields) (s' : State) → GoesOn g s l who e s' → IsSoundBut g s l who
+    (g : Geometry) (s : State) (l : Lists) (who : ℕ) (e : ErrandFields) (s' : State) → GoesAlike g s l who e s' → IsSoundBut g s l who
     → IsSoundWith g s' l
 sound-but g s l who e s' go sound = sound-shown g s l who e s' l.available (shows-alike g s l who e s' go sound) sound
 
 -- and keeps a sound one sound
 pub sound-alike :
-    (g : Geometry) (s : State) (l : Lists) (who : ℕ) (e : ErrandFields) (s' : State) → GoesOn g s l who e s' → IsSoundWith g s l
+    (g : Geometry) (s : State) (l : Lists) (who : ℕ) (e : ErrandFields) (s' : State) → GoesAlike g s l who e s' → IsSoundWith g s l
     → IsSoundWith g s' l
 sound-alike g s l who e s' go sound = sound-but g s l who e s' go (sound-but_one g s l who sound)

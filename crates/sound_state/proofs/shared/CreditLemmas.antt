@@ -28,8 +28,8 @@ use Rattle.sound_state.specs.Lists.{Lists}
 use Rattle.sound_state.specs.Sound.{IsSoundWithoutCounts, IsSoundWith}
 use Rattle.sound_state.specs.Sums.{sum_below, words_sum, callers_sum}
 use Rattle.sound_state.specs.Superblocks.{is_bound, away_of, errand_away}
-use Rattle.sound_state.proofs.shared.AlikeLemmas.{ActivesKept}
 use Rattle.sound_state.proofs.shared.PointLemmas.{WeighFrom, step-from}
+use Rattle.sound_state.proofs.shared.ShownLemmas.{ActivesKept}
 use Rattle.sound_state.proofs.shared.StepLemmas.{PointGoes, found_from}
 use Rattle.sound_state.proofs.shared.SumLemmas.{term-sum, sum-least}
 
@@ -66,9 +66,9 @@ pub active-bound :
 active-bound g s l d class none active = rw (eq-eqb (away_of g s l d) 0 none, active.state) refl
 
 -- the class of an active word
-abbrev class_named : WordName → ℕ
-class_named (name.Active heap class) = class
-class_named n = 0
+abbrev active_class : WordName → ℕ
+active_class (name.Active heap class) = class
+active_class n = 0
 
 slot-apart : (h c heap class : ℕ) → name.Slot h c ≡ name.Active heap class → ⊥
 slot-apart h c heap class e = cc
@@ -91,7 +91,7 @@ actives-written g s l heap class new words' kept w some held = record {
       elim (cases_name (name.Active h c) (name.Active heap class)) [
         | inl is ↦
             let here : active_of new ≡ Some (Held d credits) = ap active_of (sym w.here) ∙ ap (λ n. active_of (words' n)) (sym is) ∙ says in
-            let same : class ≡ c = sym (ap class_named is) in
+            let same : class ≡ c = sym (ap active_class is) in
             let of = held d credits here in (of.0, subst (IsActive s d) same of.1)
         | inr differ ↦ kept.active h c d credits has_heap has_class (ap active_of (sym (w.elsewhere (name.Active h c) differ)) ∙ says)
       ];
@@ -137,3 +137,7 @@ won-at g s who s' p q n expected new sound has at h is step =
           (subst (λ a. Writes s.word (name_of a) (after_action a (s.word (name_of a))) words') h.plan w));
     })
     step
+
+-- what an exchange finds that is lost
+abbrev pub lost_with : ℕ → Found
+lost_with word = record { value = word; won = false }

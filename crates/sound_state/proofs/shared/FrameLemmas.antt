@@ -16,7 +16,7 @@ use Rattle.superblock_parts.specs.declared.point.BlockPoint.TheVariants as block
 use Rattle.errand_steps.specs.declared.point.Point.{Point}
 use Rattle.errand_steps.specs.declared.point.Point.TheVariants as point
 use Rattle.errand_steps.specs.Steps.{State}
-use Rattle.sound_state.specs.Frames.{errand_frames, fills}
+use Rattle.sound_state.specs.Frames.{errand_frames, fills_frame}
 use Rattle.sound_state.specs.Holdings.{waiting, holds_of}
 use Rattle.sound_state.specs.Lists.{Lists}
 use Rattle.sound_state.specs.Recalls.{IsSo, IsLocated, recalls_of, block_recalls, bound_at, bound_here, says}
@@ -34,7 +34,7 @@ abbrev installing : Point → Option Site
 installing (point.Block p o) = installing_block p
 installing p = None
 
--- 1 where it is that of d, or fills the frame
+-- 1 where it is that of d, or fills_frame the frame
 abbrev is_desc : ℕ → Option Site → ℕ
 is_desc d None = 0
 is_desc d (Some at) = if at.desc == d then 1 else 0
@@ -100,32 +100,32 @@ waiting-framed g s l who d f old has waits lies =
 one-desc : (d e : ℕ) (o : Option Site) → d ≢ e → 1 ≤ is_desc d o → is_desc e o ≡ 0
 one-desc d e o differ has = grind (arith, differ, has)
 
--- a superblock that doesn't wait fills its frame
+-- a superblock that doesn't wait fills_frame its frame
 pub bound-fills :
     (g : Geometry) (s : State) (l : Lists) (d f : ℕ) → IsTrue (is_bound g s l d) → waiting_of g s d ≡ 0 → (info_for s d).frame ≡ f
-    → fills g s l f d ≡ 1
+    → fills_frame g s l f d ≡ 1
 bound-fills g s l d f bound none lies =
     cond-true {A = ℕ} (is_bound g s l d && (waiting_of g s d == 0) && ((info_for s d).frame == f)) 1 0
     (and_from (is_bound g s l d && (waiting_of g s d == 0)) ((info_for s d).frame == f)
     (and_from (is_bound g s l d) (waiting_of g s d == 0) bound (eq-eqb (waiting_of g s d) 0 none)) (eq-eqb (info_for s d).frame f lies))
 
 -- a caller that is about to install the superblock of d
-abbrev Installs : Geometry → State → ℕ → Type 0
-Installs g s d = (who : ℕ) × (who < g.callers) × (1 ≤ errand_keeps waiting d (s.errand who))
+abbrev WaitsToInstall : Geometry → State → ℕ → Type 0
+WaitsToInstall g s d = (who : ℕ) × (who < g.callers) × (1 ≤ errand_keeps waiting d (s.errand who))
 
-some-installs : (g : Geometry) (s : State) (d : ℕ) → waiting_of g s d ≢ 0 → Installs g s d
+some-installs : (g : Geometry) (s : State) (d : ℕ) → waiting_of g s d ≢ 0 → WaitsToInstall g s d
 unfolding callers_sum
 some-installs g s d some = some-term g.callers (λ who. errand_keeps waiting d (s.errand who)) (omega (arith, some))
 
 installs-framed :
-    (g : Geometry) (s : State) (l : Lists) (d f : ℕ) → IsSoundWith g s l → Installs g s d → (info_for s d).frame ≡ f
+    (g : Geometry) (s : State) (l : Lists) (d f : ℕ) → IsSoundWith g s l → WaitsToInstall g s d → (info_for s d).frame ≡ f
     → 1 ≤ callers_sum g (errand_frames f) s.errand
 unfolding callers_sum
 installs-framed g s l d f old (who, has, waits) lies =
     omega (arith, term-sum g.callers (λ i. errand_frames f (s.errand i)) who has, waiting-framed g s l who d f old has waits lies)
 
 both-install :
-    (g : Geometry) (s : State) (l : Lists) (d e f : ℕ) → IsSoundWith g s l → d ≢ e → Installs g s d → Installs g s e
+    (g : Geometry) (s : State) (l : Lists) (d e f : ℕ) → IsSoundWith g s l → d ≢ e → WaitsToInstall g s d → WaitsToInstall g s e
     → (info_for s d).frame ≡ f → (info_for s e).frame ≡ f → 2 ≤ callers_sum g (errand_frames f) s.errand
 unfolding callers_sum
 both-install g s l d e f old differ (i, has_i, waits_i) (j, has_j, waits_j) lies_d lies_e =
@@ -152,18 +152,18 @@ bound-apart g s l d e f old has_d has_e has_f bound_d bound_e lies_d lies_e diff
           elim (cases_eq (waiting_of g s e) 0) [
             | inl none_e ↦
                 let second = bound-fills g s l e f bound_e none_e lies_e in
-                let both = two-terms (descriptor_count g) (fills g s l f) d e has_d has_e differ in
+                let both = two-terms (descriptor_count g) (fills_frame g s l f) d e has_d has_e differ in
                 omega (arith, once, first, second, both)
             | inr some_e ↦
                 let held = installs-framed g s l e f old (some-installs g s e some_e) lies_e in
-                omega (arith, once, first, term-sum (descriptor_count g) (fills g s l f) d has_d, held)
+                omega (arith, once, first, term-sum (descriptor_count g) (fills_frame g s l f) d has_d, held)
           ]
       | inr some_d ↦
           elim (cases_eq (waiting_of g s e) 0) [
             | inl none_e ↦
                 let second = bound-fills g s l e f bound_e none_e lies_e in
                 let held = installs-framed g s l d f old (some-installs g s d some_d) lies_d in
-                omega (arith, once, second, term-sum (descriptor_count g) (fills g s l f) e has_e, held)
+                omega (arith, once, second, term-sum (descriptor_count g) (fills_frame g s l f) e has_e, held)
             | inr some_e ↦
                 let both = both-install g s l d e f old differ (some-installs g s d some_d) (some-installs g s e some_e) lies_d lies_e in
                 omega (arith, once, both)
@@ -185,7 +185,7 @@ one-in-frame g s l f d k is has has_d has_k bound_d bound_k at_d at_k =
 pub held-or-filled :
     (g : Geometry) (s : State) (l : Lists) (f d : ℕ) → IsSoundWith g s l → IsTrue (is_bound g s l d) → (info_for s d).frame ≡ f
     → ((i : ℕ) × (i < g.callers) × (0 < errand_keeps waiting d (s.errand i)) × (0 < errand_frames f (s.errand i)))
-    ⊎ (fills g s l f d ≡ 1)
+    ⊎ (fills_frame g s l f d ≡ 1)
 held-or-filled g s l f d is bound at =
     elim (cases_eq (waiting_of g s d) 0) [
       | inl none ↦ inr (bound-fills g s l d f bound none at)
@@ -209,5 +209,9 @@ in-hand-waits g s l f d i is has has_d bound at has_i hand =
           ]
       | inr filled ↦
           absurd
-          (omega (arith, once, filled, hand, term-sum g.callers hands i has_i, term-sum (descriptor_count g) (fills g s l f) d has_d))
+          (omega (arith, once, filled, hand, term-sum g.callers hands i has_i, term-sum (descriptor_count g) (fills_frame g s l f) d has_d))
     ]
+
+-- a superblock that waits fills_frame nothing
+pub waiting-fills : (g : Geometry) (s : State) (l : Lists) (d f : ℕ) → waiting_of g s d ≡ 1 → fills_frame g s l f d ≡ 0
+waiting-fills g s l d f one = rw one (grind (arith))

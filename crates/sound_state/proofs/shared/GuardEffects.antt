@@ -1,15 +1,27 @@
 -- An effect after which its caller guards nothing new, pushes nothing and scans nothing keeps the guards.
-use Rattle.std.proofs.Common.{ℕ, Some, None, ◌≡◌, ◌<◌, ◌≤◌, ◌+◌, length, arith, sym, subst, ◌∙◌}
-use Rattle.std.specs.Prelude.{slice_index, Contains}
+use Rattle.std.proofs.Common.{ℕ, Some, None, ◌≡◌, ◌<◌, ◌≤◌, ◌+◌, length, arith, sym, subst, ◌∙◌, Bool, true, false}
+use Rattle.std.specs.Prelude.{slice_index, Contains, IfSome}
 use Rattle.std.proofs.lemmas.Option.{none-some}
 use Rattle.heap_geometry.specs.declared.geometry.Geometry.{Geometry}
+use Rattle.word_plan.specs.Counts.{descriptor_count}
 use Rattle.word_plan.specs.declared.name.WordName.TheVariants as name
+use Rattle.superblock_parts.specs.Chains.{occurs}
+use Rattle.hazard_parts.specs.declared.point.DescPoint.TheVariants as desc
+use Rattle.hazard_parts.specs.declared.point.DescPoint.{DescPoint}
 use Rattle.errand_steps.specs.Errands.{ErrandFields}
 use Rattle.errand_steps.specs.Fits.{spare_of, pushed_by}
 use Rattle.errand_steps.specs.Steps.{State, Moves}
 use Rattle.sound_state.specs.Guards.{IsGuarded, Guards, IsGuard, IsHazard, passed_by, held_by}
 use Rattle.sound_state.specs.Holdings.{clear, holds_of}
+use Rattle.sound_state.specs.Keepers.{errand_has}
+use Rattle.sound_state.specs.Lists.{Lists}
+use Rattle.sound_state.specs.Sound.{IsSoundWith}
+use Rattle.sound_state.specs.Sums.{callers_sum}
+use Rattle.sound_state.specs.Superblocks.{errand_away}
 use Rattle.sound_state.proofs.shared.CallerLemmas.{each-other}
+use Rattle.sound_state.proofs.shared.ListFacts.{contains-occurs}
+use Rattle.sound_state.proofs.shared.ShownLemmas.{IsUnretired}
+use Rattle.sound_state.proofs.shared.SumLemmas.{term-sum}
 
 -- a caller goes on, and no hazard word changes; what its own may say it says still, and what it guards it guarded
 pub record GuardEffects (g : Geometry) (s : State) (who : ℕ) (e : ErrandFields) (s' : State) : Type 0 where
@@ -77,3 +89,44 @@ guarded-clear g s who e s' has moves words was_clear is_clear pushed passed unre
       unread = unread;
       spare = spare;
     })
+
+-- what occurs in no caller's list is retired nowhere, and nobody pushes it
+pub unretired :
+    (g : Geometry) (s : State) (l : Lists) (d : ℕ) → IsSoundWith g s l
+    → ((other : ℕ) → other < g.callers → occurs d (s.errand other).retired ≡ 0) → IsUnretired g s d
+unretired g s l d old none =
+    let listed = λ (other : ℕ) (has : other < g.callers) (in_list : Contains (s.errand other).retired d).
+    let bad : ⊥ = omega (arith, contains-occurs (s.errand other).retired d in_list, none other has) in bad in
+    record {
+      pushed = λ other has is.
+          listed other has (subst (λ o. IfSome o (λ k. Contains (s.errand other).retired k)) is (old.errands other has).rule.pushed);
+      listed = listed;
+    }
+
+-- so is one that is available
+pub available-unretired :
+    (g : Geometry) (s : State) (l : Lists) (d : ℕ) → IsSoundWith g s l → d < descriptor_count g → 1 ≤ occurs d l.available
+    → IsUnretired g s d
+unfolding callers_sum
+available-unretired g s l d old exists on =
+    unretired g s l d old
+    (λ other has.
+    let once = old.kept.once d exists in
+    let mine : errand_has d (s.errand other) ≤ callers_sum g (errand_has d) s.errand = term-sum g.callers (λ i. errand_has d (s.errand i)) other has in
+    omega (arith, once, mine, on))
+
+-- and one that has a superblock
+pub bound-unretired :
+    (g : Geometry) (s : State) (l : Lists) (d : ℕ) → IsSoundWith g s l → callers_sum g (errand_away d) s.errand ≡ 0 → IsUnretired g s d
+unfolding callers_sum
+bound-unretired g s l d old none =
+    unretired g s l d old
+    (λ other has.
+    let mine : errand_away d (s.errand other) ≤ callers_sum g (errand_away d) s.errand = term-sum g.callers (λ i. errand_away d (s.errand i)) other has in
+    omega (arith, mine, none))
+
+-- whether hazard words are read at the point, or all are read
+abbrev pub scans : DescPoint → Bool
+scans (desc.ReadHazard s held at) = true
+scans (desc.Scanned s held) = true
+scans p = false

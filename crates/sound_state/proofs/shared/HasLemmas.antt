@@ -1,6 +1,6 @@
 -- What a caller keeps at its point, and that no other caller has it.
-use Rattle.std.proofs.Common.{ℕ, ◌≡◌, ◌≢◌, ◌<◌, ◌≤◌, ◌+◌, refl, arith, sym, subst, inl, inr}
-use Rattle.std.specs.Prelude.{◌==◌, if◌then◌else◌}
+use Rattle.std.proofs.Common.{ℕ, ◌≡◌, ◌≢◌, ◌<◌, ◌≤◌, ◌+◌, refl, arith, sym, subst, inl, inr, Bool, false}
+use Rattle.std.specs.Prelude.{◌==◌, if◌then◌else◌, IsTrue, ◌&&◌, not}
 use Rattle.std.proofs.lemmas.Bool.{cases_eq, eq-eqb}
 use Rattle.heap_geometry.specs.declared.geometry.Geometry.{Geometry}
 use Rattle.word_plan.specs.Counts.{descriptor_count}
@@ -12,7 +12,7 @@ use Rattle.sound_state.specs.Keepers.{errand_has}
 use Rattle.sound_state.specs.Lists.{Lists}
 use Rattle.sound_state.specs.Sound.{IsSoundWith}
 use Rattle.sound_state.specs.Sums.{sum_below, callers_sum}
-use Rattle.sound_state.specs.Superblocks.{errand_keeps, errand_away, away_of, kept_among, same_status}
+use Rattle.sound_state.specs.Superblocks.{errand_keeps, errand_away, away_of, kept_among, same_status, is_bound}
 use Rattle.sound_state.proofs.shared.SumLemmas.{sum-plus, sum-least, term-sum, two-terms}
 
 -- one that is kept in one state isn't in another
@@ -77,3 +77,15 @@ keeps-near g s l who d old has exists keeps =
     let once = old.kept.once d exists in
     let mine : partly who ≤ sum_below g.callers partly = term-sum g.callers partly who has in
     omega (arith, once, both, least, mine, keeps)
+
+-- a descriptor that has a superblock isn't away
+pub bound-away : (g : Geometry) (s : State) (l : Lists) (d : ℕ) → IsTrue (is_bound g s l d) → away_of g s l d ≡ 0
+bound-away g s l d bound = grind (arith, bound)
+
+-- a bound superblock isn't EMPTY, and a pop doesn't make it so
+pub bound-stands : (b : Bool) (c : Bool) → IsTrue (b && not c) → c ≡ false
+bound-stands b c is = grind (arith, is)
+
+-- one descriptor on its way
+pub ways-one : (d k c : ℕ) → kept_among on_its_way d (keep k c on_its_way) ≡ (if k == d then 1 else 0)
+ways-one d k c = grind (arith)

@@ -5,7 +5,7 @@ use Rattle.word_plan.specs.Counts.{descriptor_count}
 use Rattle.superblock_parts.specs.Chains.{occurs}
 use Rattle.errand_steps.specs.Errands.{ErrandFields}
 use Rattle.errand_steps.specs.Steps.{State, Moves}
-use Rattle.sound_state.specs.Frames.{IsFramed, fills}
+use Rattle.sound_state.specs.Frames.{IsFramed, fills_frame}
 use Rattle.sound_state.specs.Holdings.{Holding, waiting, on_its_way, holds_of}
 use Rattle.sound_state.specs.Lists.{Lists}
 use Rattle.sound_state.specs.Sums.{callers_sum}
@@ -92,13 +92,13 @@ module _ {g : Geometry} {s : State} {who : ℕ} {was now : Holding} {e : ErrandF
 
   -- each frame stays in one place, where the caller has the same frames in its hand, and the superblocks fill those that they filled
   pub framed-after :
-      (l : Lists) → ((f d : ℕ) → fills g s' l f d ≡ fills g s l f d) → ((f : ℕ) → occurs f now.frames ≡ occurs f was.frames)
+      (l : Lists) → ((f d : ℕ) → fills_frame g s' l f d ≡ fills_frame g s l f d) → ((f : ℕ) → occurs f now.frames ≡ occurs f was.frames)
       → IsFramed g s l → IsFramed g s' l
   framed-after l filled hand old = record {
     once = λ f has.
         omega (
           arith,
-          sum-same (descriptor_count g) (fills g s l f) (fills g s' l f) (λ d lt. filled f d),
+          sum-same (descriptor_count g) (fills_frame g s l f) (fills_frame g s' l f) (λ d lt. filled f d),
           holdings-go (λ x. occurs f x.frames),
           hand f,
           old.once f has,

@@ -23,15 +23,15 @@ named-most n (k ∷ ks) =
     )
 
 -- each of them is kept in one of the states
-kept-one :
+kept-states-one :
     (d : ℕ) (k : Kept) (ks : List Kept)
     → kept_among reserving d (k ∷ ks) + kept_among waiting d (k ∷ ks) + kept_among partly_used d (k ∷ ks) + kept_among on_its_way d (k ∷ ks)
     ≡ (if k.desc == d then 1 else 0)
     + (kept_among reserving d ks + kept_among waiting d ks + kept_among partly_used d ks + kept_among on_its_way d ks)
-kept-one d k ks = grind (arith)
+kept-states-one d k ks = grind (arith)
 
 pub kept-named :
     (d : ℕ) (ks : List Kept)
     → kept_among reserving d ks + kept_among waiting d ks + kept_among partly_used d ks + kept_among on_its_way d ks ≡ named_among d ks
 kept-named d [] = refl
-kept-named d (k ∷ ks) = omega (arith, kept-one d k ks, kept-named d ks)
+kept-named d (k ∷ ks) = omega (arith, kept-states-one d k ks, kept-named d ks)

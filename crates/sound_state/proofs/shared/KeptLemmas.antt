@@ -24,15 +24,15 @@ use Rattle.sound_state.specs.Lists.{Lists}
 use Rattle.sound_state.specs.Stock.{IsStocked, errand_stock, full_stock, word_stock}
 use Rattle.sound_state.specs.Sums.{sum_below, words_sum, callers_sum}
 use Rattle.sound_state.specs.Superblocks.{anchor_for, info_for, info_or_zero}
-use Rattle.sound_state.proofs.pops.PopFacts.{anchor_number}
-use Rattle.sound_state.proofs.pops.PopTurns.{each-other}
-use Rattle.sound_state.proofs.shared.AlikeLemmas.{ActivesKept}
+use Rattle.sound_state.proofs.shared.CallerLemmas.{each-other}
 use Rattle.sound_state.proofs.shared.CreditLemmas.{word-sum}
 use Rattle.sound_state.proofs.shared.PointLemmas.{kept_places}
+use Rattle.sound_state.proofs.shared.ShownLemmas.{ActivesKept}
 use Rattle.sound_state.proofs.shared.SumLemmas.{callers-moved, sum-change, sum-same, term-sum, two-terms}
+use Rattle.sound_state.proofs.shared.SuperblockEffects.{anchor_number}
 
 -- wherever d stands, it is after a step in the state that belongs there
-pub record Goes (s s' : State) (d : ℕ) : Type 0 where
+pub record StaysKept (s s' : State) (d : ℕ) : Type 0 where
   pub partly : (c : ℕ) → IsPartlyUsed s d c → IsPartlyUsed s' d c
   pub active : (c : ℕ) → IsActive s d c → IsActive s' d c
   pub without : IsWithout s d → IsWithout s' d
@@ -42,7 +42,7 @@ pub record Goes (s s' : State) (d : ℕ) : Type 0 where
 pub state-goes :
     (s s' : State) (d : ℕ) → info_for s' d ≡ info_for s d → (anchor_for s' d).state ≡ (anchor_for s d).state
     → ((anchor_for s d).state ≡ phase.Partial → 1 ≤ (anchor_for s d).count → 1 ≤ (anchor_for s' d).count)
-    → ((anchor_for s d).state ≡ phase.Full → (anchor_for s' d).count ≤ (anchor_for s d).count) → Goes s s' d
+    → ((anchor_for s d).state ≡ phase.Full → (anchor_for s' d).count ≤ (anchor_for s d).count) → StaysKept s s' d
 state-goes s s' d info state some less = record {
   partly = λ c k. record {
     class = ap (λ x. x.class) info ∙ k.class;
@@ -54,13 +54,13 @@ state-goes s s' d info state some less = record {
 }
 
 -- and where its word and its anchor stay
-pub same-goes : (s s' : State) (d : ℕ) → info_for s' d ≡ info_for s d → anchor_for s' d ≡ anchor_for s d → Goes s s' d
-same-goes s s' d info anchor =
+pub same-stays-kept : (s s' : State) (d : ℕ) → info_for s' d ≡ info_for s d → anchor_for s' d ≡ anchor_for s d → StaysKept s s' d
+same-stays-kept s s' d info anchor =
     state-goes s s' d info (ap (λ x. x.state) anchor) (λ partial some. omega (arith, some, ap (λ x. x.count) anchor))
     (λ full. omega (arith, ap (λ x. x.count) anchor))
 
 -- what a caller keeps is in the state in which it keeps it
-pub kept-goes : (s s' : State) (status : Status) (d c : ℕ) → Goes s s' d → IsKeptAs s status d c → IsKeptAs s' status d c
+pub kept-goes : (s s' : State) (status : Status) (d c : ℕ) → StaysKept s s' d → IsKeptAs s status d c → IsKeptAs s' status d c
 kept-goes s s' reserving d c h k = h.active c k
 kept-goes s s' waiting d c h k = h.active c k
 kept-goes s s' partly_used d c h k = h.partly c k
@@ -77,15 +77,15 @@ on-all P Q (x ∷ xs) f all =
 kept-here : (k : Kept) (ks : List Kept) → 1 ≤ kept_places k.desc (k ∷ ks)
 kept-here k ks = grind (arith)
 
-kept-more : (d : ℕ) (k : Kept) (ks : List Kept) → kept_places d ks ≤ kept_places d (k ∷ ks)
-kept-more d k ks = grind (arith)
+kept_places-more : (d : ℕ) (k : Kept) (ks : List Kept) → kept_places d ks ≤ kept_places d (k ∷ ks)
+kept_places-more d k ks = grind (arith)
 
 on-kept :
     (P Q : Kept → Type 0) (ks : List Kept) → ((k : Kept) → 1 ≤ kept_places k.desc ks → P k → Q k) → All P ks → All Q ks
 on-kept P Q [] f all = All-nil Q
 on-kept P Q (k ∷ ks) f all =
     All-cons Q k ks (f k (kept-here k ks) (All-head P k ks all))
-    (on-kept P Q ks (λ x on. f x (omega (arith, on, kept-more x.desc k ks))) (All-tail P k ks all))
+    (on-kept P Q ks (λ x on. f x (omega (arith, on, kept_places-more x.desc k ks))) (All-tail P k ks all))
 
 -- a caller alone has d
 pub record HasAlone (g : Geometry) (s : State) (l : Lists) (who d : ℕ) : Type 0 where
@@ -127,7 +127,7 @@ pub record KeepsPlaces (g : Geometry) (s : State) (l : Lists) (who : ℕ) (e : E
   pub moves : Moves s.errand who e s'.errand
   pub places : (d : ℕ) → places_of g s' l d ≡ places_of g s l d
   pub actives : ActivesKept g s s'.word
-  pub goes : (d : ℕ) → Goes s s' d ⊎ ChangesAlone g s l who s' d
+  pub goes : (d : ℕ) → StaysKept s s' d ⊎ ChangesAlone g s l who s' d
   pub retired : e.retired ≡ (s.errand who).retired
   pub own : All (λ k. IsKeptAs s' k.status k.desc k.class) (holds_of e.point).kept
 
@@ -136,7 +136,7 @@ pub places-kept :
     (g : Geometry) (s : State) (l : Lists) (who : ℕ) (e : ErrandFields) (s' : State) → KeepsPlaces g s l who e s' → IsKept g s l
     → IsKept g s' l
 places-kept g s l who e s' h kept =
-    let goes : (d : ℕ) → (ChangesAlone g s l who s' d → ⊥) → Goes s s' d =
+    let goes : (d : ℕ) → (ChangesAlone g s l who s' d → ⊥) → StaysKept s s' d =
     λ d more. elim (h.goes d) [ inl goes ↦ goes | inr alone ↦ absurd (more alone) ] in
     record {
       once = λ d has. h.places d ∙ kept.once d has;
@@ -216,7 +216,7 @@ pub record MovesAt (g : Geometry) (s : State) (l : Lists) (who x c : ℕ) (a b :
   pub stock :
       (class : ℕ) → errand_stock class e + (if c == class then full_keeps b.state else 0)
       ≡ errand_stock class (s.errand who) + (if c == class then full_keeps a.state else 0)
-  pub goes : Goes s s' x ⊎ ((1 ≤ kept_places x (holds_of (s.errand who).point).kept) × (b.state ≡ phase.Full → b.count ≡ 0))
+  pub goes : StaysKept s s' x ⊎ ((1 ≤ kept_places x (holds_of (s.errand who).point).kept) × (b.state ≡ phase.Full → b.count ≡ 0))
   pub own : All (λ k. IsKeptAs s' k.status k.desc k.class) (holds_of e.point).kept
 
 moved-info :
@@ -295,10 +295,10 @@ moved-kept g s l who x c a b e s' h kept =
       };
       goes = λ d.
           elim (cases_eq d x) [
-            | inr other ↦ inl (same-goes s s' d (moved-info g s l who x c a b e s' h d) (moved-anchor g s l who x c a b e s' h d other))
+            | inr other ↦ inl (same-stays-kept s s' d (moved-info g s l who x c a b e s' h d) (moved-anchor g s l who x c a b e s' h d other))
             | inl same ↦
                 elim h.goes [
-                  | inl goes ↦ inl (subst (Goes s s') (sym same) goes)
+                  | inl goes ↦ inl (subst (StaysKept s s') (sym same) goes)
                   | inr keeps ↦
                       let alone = has-alone g s l who x kept h.caller h.exists keeps.0 in
                       inr (subst (ChangesAlone g s l who s') (sym same) (record {
@@ -334,3 +334,24 @@ moved-stocked g s l who x c a b e s' h stocked = record {
         h.stock class,
       );
 }
+
+-- two states whose descriptors say the same
+pub record SameDescs (s s' : State) : Type 0 where
+  pub info : (d : ℕ) → info_for s' d ≡ info_for s d
+  pub anchor : (d : ℕ) → anchor_for s' d ≡ anchor_for s d
+
+pub descs-go : (s s' : State) → SameDescs s s' → (d : ℕ) → StaysKept s s' d
+descs-go s s' h d = same-stays-kept s s' d (h.info d) (h.anchor d)
+
+-- so each descriptor is in the same state
+pub active-same : (s s' : State) → SameDescs s s' → (d c : ℕ) → IsActive s d c → IsActive s' d c
+active-same s s' h d = (descs-go s s' h d).active
+
+pub kept_as-same : (s s' : State) → SameDescs s s' → (status : Status) (d c : ℕ) → IsKeptAs s status d c → IsKeptAs s' status d c
+kept_as-same s s' h status d c = kept-goes s s' status d c (descs-go s s' h d)
+
+pub partly-same : (s s' : State) → SameDescs s s' → (d c : ℕ) → IsPartlyUsed s d c → IsPartlyUsed s' d c
+partly-same s s' h d = (descs-go s s' h d).partly
+
+pub without-same : (s s' : State) → SameDescs s s' → (d : ℕ) → IsWithout s d → IsWithout s' d
+without-same s s' h d = (descs-go s s' h d).without

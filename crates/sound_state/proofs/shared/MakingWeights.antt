@@ -54,3 +54,7 @@ making-places at d = grind (arith)
 
 pub making-stock : (at : Site) (class : ℕ) → stock_among class (making at).kept ≡ stock_among class (installing_holds at).kept
 making-stock at class = grind (arith)
+
+-- a superblock in the making doesn't wait
+pub making-waits : (d : ℕ) (at : Site) → kept_among waiting d (making at).kept ≡ 0
+making-waits d at = grind (arith)

@@ -16,14 +16,14 @@ use Rattle.errand_steps.specs.Fits.{spare_of, pushed_by}
 use Rattle.errand_steps.specs.Steps.{State}
 use Rattle.errand_steps.proofs.ErrandLemmas.{settle_errand}
 use Rattle.sound_state.specs.Guards.{IsHazard, IsGuard, passed_by, held_by}
-use Rattle.sound_state.specs.Holdings.{Hazard, Kept, nothing, holds_of}
+use Rattle.sound_state.specs.Holdings.{HazardState, Kept, nothing, holds_of}
 use Rattle.sound_state.specs.Keepers.{IsWithout, IsKeptAs}
 use Rattle.sound_state.specs.Lists.{Lists}
 use Rattle.sound_state.specs.Recalls.{IsSo, IsOwned, recalls_of}
 use Rattle.sound_state.specs.Sound.{IsOwnErrand}
 use Rattle.sound_state.specs.Stock.{waits_in}
 use Rattle.sound_state.specs.Turns.{gives_small, refuses_small, turn_open, turn_unframed, turn_unlisted, turn_unanswered, errand_discards, errand_pops}
-use Rattle.sound_state.proofs.shared.AlikeLemmas.{MayGoOn, MayGuard, Excepts, IsSaidAt}
+use Rattle.sound_state.proofs.shared.ShownLemmas.{Excepts, IsSaidAt, MayGoOn, MayGuard}
 use Rattle.sound_state.proofs.shared.StepLemmas.{HoldsException, raised-below}
 
 -- at the point a caller holds nothing, waits for nothing and pushes nothing; where it scans, it has read no hazard word yet
@@ -55,7 +55,7 @@ scan-nothing seat o =
     record { holds = refl; waits = λ class. refl; pushed = refl; passed = refl; unread = no_words-zero }
 
 -- who holds no block excepts none
-pub keeps-excepts : (ks : List Kept) (h : Hazard) (place : ℕ) → HoldsException (record nothing { kept = ks; hazard = h }) place → ⊥
+pub keeps-excepts : (ks : List Kept) (h : HazardState) (place : ℕ) → HoldsException (record nothing { kept = ks; hazard = h }) place → ⊥
 keeps-excepts ks h place (inl x) = omega (arith, x.2)
 keeps-excepts ks h place (inr x) = omega (arith, x.2)
 

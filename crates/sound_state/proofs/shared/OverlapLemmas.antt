@@ -26,7 +26,7 @@ live-apart g s sound p q a b at_p at_q ne =
     (separate-found g (pool_of s.history) (sound-of g s.history sound.legal) p q a b at_p at_q ne).apart
 
 -- no block is there
-there-none : (o : Option Block) → is_there o ≡ 0 → o ≡ None
+pub there-none : (o : Option Block) → is_there o ≡ 0 → o ≡ None
 there-none None h = refl
 there-none (Some b) h = absurd (omega (arith, h))
 
@@ -66,3 +66,8 @@ live-taken g s sound l is place class b live small =
     sym same ∙ at.4 ∙ ap (λ f. block_place f class at.1) frame_is ∙ ap (λ c. block_place (info_for s d).frame c at.1) (sym of.located.class) in
     live-taken-at g s l is place at.1 d b live of.exists of.bound
     (subst (λ c. at.1 < block_count_of c) (sym of.located.class) at.3) here
+
+-- a live block is well formed and lies at its place
+pub formed-at : (g : Geometry) (s : State) (place : ℕ) (b : Block) → IsSoundWithoutCounts g s → IsLive s place b → IsWellFormed g b
+formed-at g s place b sound live =
+    every-found (IsWellFormed g) place (pool_of s.history) b (sound-of g s.history sound.legal).each live

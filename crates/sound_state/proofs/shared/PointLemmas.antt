@@ -1,9 +1,12 @@
 -- Steps from a point that is known: what a sound state says of the caller there, and what its word and errand weigh.
-use Rattle.std.proofs.Common.{ℕ, false, None, ◌≡◌, ◌<◌, ◌≤◌, ◌+◌, ◌^◌, List, [], ◌∷◌, refl, arith, ap, sym, subst, inl, inr, ◌∙◌}
-use Rattle.std.specs.Prelude.{All, Any, IsSome, IsTrue, length}
+use Rattle.std.proofs.Common.{ℕ, false, None, ◌≡◌, ◌<◌, ◌≤◌, ◌+◌, ◌^◌, List, [], ◌∷◌, refl, arith, ap, sym, subst, inl, inr, ◌∙◌, ◌≢◌, length-set, get_or-set_other}
+use Rattle.std.specs.Prelude.{All, Any, IsSome, IsTrue, length, slice_index, slice_set}
 use Rattle.std.proofs.lemmas.List.Elements.{All-nil, All-cons, All-tail}
+use Rattle.heap_geometry.specs.Need.{need_of}
 use Rattle.heap_geometry.specs.declared.geometry.Geometry.{Geometry}
+use Rattle.heap_geometry.specs.declared.need.Need.TheVariants as need
 use Rattle.packed_words.specs.Active.{active_of}
+use Rattle.word_plan.specs.Seats.{SeatFields}
 use Rattle.word_plan.specs.declared.action.Found.{Found}
 use Rattle.word_plan.specs.declared.name.WordName.{WordName}
 use Rattle.word_plan.specs.declared.name.WordName.TheVariants as name
@@ -12,14 +15,17 @@ use Rattle.word_plan.specs.Counts.{descriptor_count}
 use Rattle.word_plan.specs.Table.{Exists}
 use Rattle.word_plan.specs.Words.{Writes}
 use Rattle.word_plan.proofs.NameLemmas.{cases_name}
+use Rattle.word_plan.specs.declared.seat.Site.{Site}
 use Rattle.superblock_parts.specs.Chains.{occurs}
+use Rattle.hazard_parts.specs.declared.point.DescPoint.TheVariants as desc
 use Rattle.errand_steps.specs.declared.onward.Onward.{Onward}
 use Rattle.errand_steps.specs.declared.onward.Onward.TheVariants as onward
 use Rattle.errand_steps.specs.declared.next.Next.{Next}
+use Rattle.errand_steps.specs.declared.point.Point.TheVariants.{Desc}
 use Rattle.errand_steps.specs.declared.point.Point.{Point}
 use Rattle.errand_steps.specs.Errands.{ErrandFields, point_after, counts_cleared}
 use Rattle.errand_steps.specs.Events.{event_of}
-use Rattle.errand_steps.specs.Fits.{FitsPoint, spare_of, pushed_by}
+use Rattle.errand_steps.specs.Fits.{FitsPoint, spare_of, pushed_by, FitsOnward}
 use Rattle.errand_steps.specs.Nexts.{next_of}
 use Rattle.errand_steps.specs.Onwards.{is_alloc, is_free}
 use Rattle.errand_steps.specs.Points.{asked, plan_point_of}
@@ -34,8 +40,8 @@ use Rattle.sound_state.specs.Sound.{IsSoundWithoutCounts, IsSoundWith}
 use Rattle.sound_state.specs.Stock.{waits_in, word_stock, stock_among}
 use Rattle.sound_state.specs.Sums.{sum_below, callers_sum}
 use Rattle.sound_state.specs.Superblocks.{errand_keeps, word_reserves, reserved_among, kept_among}
-use Rattle.sound_state.proofs.shared.AlikeLemmas.{ActivesKept}
-use Rattle.sound_state.proofs.shared.StepLemmas.{IsPlain, PointGoes, TurnGoes, actives-stay, at_point, found_from, goes-guards, goes-stands, settle-next, step-most, words-stay}
+use Rattle.sound_state.proofs.shared.ShownLemmas.{ActivesKept}
+use Rattle.sound_state.proofs.shared.StepLemmas.{LeadsOrEnds, PointGoes, TurnGoes, actives-stay, at_point, found_from, goes-guards, goes-stands, settle-next, step-most, words-stay}
 use Rattle.sound_state.proofs.shared.SumLemmas.{sum-plus, sum-least, term-sum}
 use Rattle.sound_state.proofs.shared.WeighLemmas.{IsStill, WeighAlike, alike-most, hazards-stay}
 
@@ -223,7 +229,7 @@ pub record StepsFrom (g : Geometry) (s : State) (l : Lists) (who : ℕ) (p : Poi
 
 -- it keeps the state sound
 pub step-from :
-    (g : Geometry) (s : State) (who : ℕ) (s' : State) (p : Point) (n : Next) → IsPlain n → IsSoundWithoutCounts g s → who < g.callers
+    (g : Geometry) (s : State) (who : ℕ) (s' : State) (p : Point) (n : Next) → LeadsOrEnds n → IsSoundWithoutCounts g s → who < g.callers
     → (s.errand who).point ≡ p → ((l : Lists) → IsSoundWith g s l → StepsFrom g s l who p n) → Step s who s' → IsSoundWithoutCounts g s'
 step-from g s who s' p n plain sound has at h step =
     let e = s.errand who in
@@ -302,8 +308,8 @@ keeps-too s d class ks is rest =
     All-cons (λ k. IsKeptAs s k.status k.desc k.class) (record { desc = d; class = class; status = partly_used }) ks is rest
 
 -- nothing is kept
-pub keeps-none : (s : State) → All (λ (k : Kept). IsKeptAs s k.status k.desc k.class) []
-keeps-none s = All-nil (λ (k : Kept). IsKeptAs s k.status k.desc k.class)
+pub none-kept-as : (s : State) → All (λ (k : Kept). IsKeptAs s k.status k.desc k.class) []
+none-kept-as s = All-nil (λ (k : Kept). IsKeptAs s k.status k.desc k.class)
 
 -- a partly used superblock that a caller keeps is neither available nor on its way
 pub keeps-alone :
@@ -320,3 +326,28 @@ keeps-alone g s l who d old has exists keeps =
     let once = old.kept.once d exists in
     let mine : partly who ≤ sum_below g.callers partly = term-sum g.callers partly who has in
     (omega (arith, once, both, least, mine, keeps), omega (arith, once, both, least, mine, keeps))
+
+-- an allocation of a small class asks for words that the class serves
+pub small-asked :
+    (g : Geometry) (who : ℕ) (at : Site) (o : Onward) → o ≡ onward.Alloc (asked o) → FitsOnward g who at.seat o
+    → need_of (asked o) ≡ need.Small at.seat.class
+small-asked g who at o alloc fit = subst (FitsOnward g who at.seat) alloc fit
+
+-- the hazard words that a scan has not passed are noted as 0
+pub unread-at :
+    (g : Geometry) (s : State) (l : Lists) (who : ℕ) (p : Point) → IsSoundWith g s l → who < g.callers → (s.errand who).point ≡ p
+    → (k : ℕ) → passed_by p ≤ k → k < length (held_by p) → slice_index (held_by p) k ≡ 0
+unread-at g s l who p old has at =
+    subst (λ q. (k : ℕ) → passed_by q ≤ k → k < length (held_by q) → slice_index (held_by q) k ≡ 0) at
+    (λ k from below. old.guarded.unread who k has from below)
+
+-- also when it has noted the next one
+pub noted-unread :
+    (g : Geometry) (s : State) (l : Lists) (who : ℕ) (seat : SeatFields) (held : List ℕ) (i : ℕ) (o : Onward) → IsSoundWith g s l
+    → who < g.callers → (s.errand who).point ≡ Desc (desc.ReadHazard seat held i) o → (k : ℕ) → i + 1 ≤ k
+    → k < length (slice_set held i (s.word (name.Hazard i))) → slice_index (slice_set held i (s.word (name.Hazard i))) k ≡ 0
+noted-unread g s l who seat held i o old has at k from below =
+    let differ : k ≢ i = λ same. let bad : ⊥ = omega (arith, same, from) in bad in
+    get_or-set_other held i k (s.word (name.Hazard i)) 0 differ
+    ∙ unread-at g s l who (Desc (desc.ReadHazard seat held i) o) old has at k (omega (arith, from))
+    (omega (arith, below, length-set held i (s.word (name.Hazard i))))

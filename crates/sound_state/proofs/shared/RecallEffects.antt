@@ -30,29 +30,29 @@ use Rattle.sound_state.specs.Lists.{Lists}
 use Rattle.sound_state.specs.Recalls.{Recall, EndsRefused, IsPopped, IsLocated, IsEmptied, IsRemembered, IsSo, IsOwned, bound_here, recalls_of, bound_for, located, bound_at, pops, links, tops, nexts, tops_exist, says, made, in_use, emptied, noted, owns, owns_all, looked, refused}
 use Rattle.sound_state.specs.Sums.{callers_sum}
 use Rattle.sound_state.specs.Superblocks.{Superblock, info_or_zero, anchor_for, info_for, superblock_of, free_chain, reserved_of, is_bound, errand_keeps}
-use Rattle.sound_state.proofs.pops.PopTurns.{each-other}
+use Rattle.sound_state.proofs.shared.CallerLemmas.{each-other}
 
 -- a word of a stack, of where a superblock lies, or of the arena
-abbrev pub IsSteady : WordName → Type 0
-IsSteady (name.Arena place) = Unit {0}
-IsSteady (name.Next d) = Unit {0}
-IsSteady (name.Info d) = Unit {0}
-IsSteady (name.ListHead class) = Unit {0}
-IsSteady (name.FrameNext f) = Unit {0}
-IsSteady name.FrameHead = Unit {0}
-IsSteady n = ⊥
+abbrev pub IsSteadyWord : WordName → Type 0
+IsSteadyWord (name.Arena place) = Unit {0}
+IsSteadyWord (name.Next d) = Unit {0}
+IsSteadyWord (name.Info d) = Unit {0}
+IsSteadyWord (name.ListHead class) = Unit {0}
+IsSteadyWord (name.FrameNext f) = Unit {0}
+IsSteadyWord name.FrameHead = Unit {0}
+IsSteadyWord n = ⊥
 
-steady-head : (seat : SeatFields) (p : Pile) → IsSteady (head_name seat p)
+steady-head : (seat : SeatFields) (p : Pile) → IsSteadyWord (head_name seat p)
 steady-head seat Frames = tt
 steady-head seat Partials = tt
 
-steady-next : (p : Pile) (k : ℕ) → IsSteady (next_name p k)
+steady-next : (p : Pile) (k : ℕ) → IsSteadyWord (next_name p k)
 steady-next Frames k = tt
 steady-next Partials k = tt
 
 -- all of these are what they were
 abbrev pub AreSteady : State → State → Type 0
-AreSteady s s' = (n : WordName) → IsSteady n → s'.word n ≡ s.word n
+AreSteady s s' = (n : WordName) → IsSteadyWord n → s'.word n ≡ s.word n
 
 -- an effect leaves these words, and the caller's events and blocks; and what is EMPTY stays so
 pub record Leaves (g : Geometry) (s : State) (l : Lists) (s' : State) (i : ℕ) : Type 0 where
@@ -74,7 +74,7 @@ IsLeft g s l s' (says n w) = s'.word n ≡ s.word n
 IsLeft g s l s' r = Unit {0}
 
 -- EMPTY is one state
-empty-is : (p : Phase) → is_empty p ≡ true → p ≡ phase.Empty
+pub empty-is : (p : Phase) → is_empty p ≡ true → p ≡ phase.Empty
 empty-is phase.Active is = grind (arith, is)
 empty-is phase.Full is = grind (arith, is)
 empty-is phase.Partial is = grind (arith, is)

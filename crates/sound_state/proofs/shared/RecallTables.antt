@@ -34,13 +34,13 @@ use Rattle.errand_steps.specs.declared.point.Point.TheVariants as point
 use Rattle.errand_steps.specs.Fits.{FitsOnward, FitsPoint}
 use Rattle.errand_steps.specs.Onwards.{clears, goes_desc}
 use Rattle.errand_steps.specs.Steps.{State}
-use Rattle.sound_state.specs.Holdings.{Handed, Freed, reserve, before_pop, holds_of, block_holds, onward_holds, stack_holds, partial_holds}
+use Rattle.sound_state.specs.Holdings.{Handed, Freed, reserve, holds_before_pop, holds_of, block_holds, onward_holds, stack_holds, partial_holds}
 use Rattle.sound_state.specs.Lists.{Lists}
 use Rattle.sound_state.specs.Recalls.{Recall, IsSo, IsOwned, block_recalls, onward_recalls, stack_recalls, resumed_recalls, desc_recalls, partial_recalls, large_recalls, recalls_of, bound_for, bound_at, pops, links, says}
 use Rattle.sound_state.specs.Sound.{IsSoundWith}
 use Rattle.sound_state.specs.Superblocks.{anchor_for, is_bound, reserved_among, errand_reserves}
-use Rattle.sound_state.proofs.pops.PopFacts.{anchor_number}
 use Rattle.sound_state.proofs.shared.PointLemmas.{fits-at}
+use Rattle.sound_state.proofs.shared.SuperblockEffects.{anchor_number}
 
 -- what follows of each thing from what holds of each
 pub for-each : (P Q : Recall → Type 0) → ((r : Recall) → P r → Q r) → (rs : List Recall) → AllByRecursion P rs → All Q rs
@@ -121,7 +121,7 @@ IsUnbound d (pops e a) = e ≢ d
 IsUnbound d r = Unit {0}
 
 -- who is about to pop has a block reserved, and who waits to install has
-pop-apart : (d x class : ℕ) (share : Share) → reserved_among d (before_pop x class share).credits ≡ 0 → x ≢ d
+pop-apart : (d x class : ℕ) (share : Share) → reserved_among d (holds_before_pop x class share).credits ≡ 0 → x ≢ d
 pop-apart d x class Credit none same = let bad : ⊥ = grind (arith, none, same) in bad
 pop-apart d x class LastCredit none same = let bad : ⊥ = grind (arith, none, same) in bad
 pop-apart d x class (Grant more) none same = let bad : ⊥ = grind (arith, none, same) in bad

@@ -34,7 +34,7 @@ use Rattle.errand_steps.specs.declared.point.Point.{Point}
 use Rattle.errand_steps.specs.Errands.{ErrandFields}
 use Rattle.errand_steps.specs.Fits.{spare_of, pushed_by}
 use Rattle.errand_steps.specs.Steps.{State, Moves}
-use Rattle.sound_state.specs.Frames.{IsFramed, errand_frames, fills}
+use Rattle.sound_state.specs.Frames.{IsFramed, errand_frames, fills_frame}
 use Rattle.sound_state.specs.Guards.{IsGuarded, Guards, IsGuard, IsHazard, passed_by, held_by}
 use Rattle.sound_state.specs.Holdings.{Status, reserving, waiting, partly_used, on_its_way, holds_of}
 use Rattle.sound_state.specs.Keepers.{IsKept, IsPartlyUsed, IsActive, IsWithout, IsKeptAs, places_of}
@@ -160,9 +160,9 @@ list-shown n is differ = grind (arith)
 abbrev pub with_available : Lists → List ℕ → Lists
 with_available l ys = record l { available = ys }
 
-list-stays : (l : Lists) (ys : List ℕ) (seat : SeatFields) (p : Pile) → list_of (with_available l ys) seat p ≡ list_of l seat p
-list-stays l ys seat Frames = refl
-list-stays l ys seat Partials = refl
+pile-list-stays : (l : Lists) (ys : List ℕ) (seat : SeatFields) (p : Pile) → list_of (with_available l ys) seat p ≡ list_of l seat p
+pile-list-stays l ys seat Frames = refl
+pile-list-stays l ys seat Partials = refl
 
 -- what is remembered is of no descriptor that is available only now, and of no word that changes
 abbrev pub StaysSo : Lists → List ℕ → State → State → Recall → Type 0
@@ -254,7 +254,7 @@ module _ (g : Geometry) (s : State) (l : Lists) (who : ℕ) (e : ErrandFields) (
       fun_ext (λ k. live-shown (block_place new.frame new.class k) ∙ ap (λ x. live_at s (block_place x.frame x.class k)) i) in
       same-superblock _ _ _ _ _ _ _ _ _ _ _ _ (anchor-shown d) (go.reserved d) (go.waits d) next live (ap (λ x. block_count_of x.class) i)
 
-  fills-shown : (f d : ℕ) → fills g s' (with_available l ys) f d ≡ fills g s l f d
+  fills-shown : (f d : ℕ) → fills_frame g s' (with_available l ys) f d ≡ fills_frame g s l f d
   fills-shown f d = rw (go.bound d, go.waits d, info-shown d) refl
 
   -- what is said of a descriptor's word or anchor stays so
@@ -312,7 +312,7 @@ module _ (g : Geometry) (s : State) (l : Lists) (who : ℕ) (e : ErrandFields) (
       let same : head_of (s'.word (head_name seat p)) ≡ head_of (s.word (head_name seat p)) = ap head_of (head-shown seat p) in
       record {
         tag = subst (λ x. head.tag ≤ x.tag) (sym same) k.tag;
-        top = λ is. subst (λ xs. 0 < occurs (head.top - 1) xs) (sym (list-stays l ys seat p)) (k.top (is ∙ ap (λ x. x.tag) same));
+        top = λ is. subst (λ xs. 0 < occurs (head.top - 1) xs) (sym (pile-list-stays l ys seat p)) (k.top (is ∙ ap (λ x. x.tag) same));
       }
 
   -- what is remembered stays so
@@ -380,8 +380,8 @@ module _ (g : Geometry) (s : State) (l : Lists) (who : ℕ) (e : ErrandFields) (
   framed-shown : IsFramed g s l → IsFramed g s' (with_available l ys)
   framed-shown framed = record {
     once = λ f has.
-        let filled : sum_below (descriptor_count g) (fills g s' (with_available l ys) f) ≡ sum_below (descriptor_count g) (fills g s l f) =
-        sum-same (descriptor_count g) (fills g s l f) (fills g s' (with_available l ys) f) (λ d lt. fills-shown f d) in
+        let filled : sum_below (descriptor_count g) (fills_frame g s' (with_available l ys) f) ≡ sum_below (descriptor_count g) (fills_frame g s l f) =
+        sum-same (descriptor_count g) (fills_frame g s l f) (fills_frame g s' (with_available l ys) f) (λ d lt. fills-shown f d) in
         omega (arith, filled, go.frames f, framed.once f has);
   }
 

@@ -1,6 +1,6 @@
 -- A step that leads from one point to another, and changes nothing that is shown, keeps the state sound.
 use Rattle.std.proofs.Common.{ℕ, Bool, false, None, ◌≡◌, ◌≢◌, ◌<◌, ◌≤◌, ◌+◌, ◌^◌, List, length, refl, arith, ap, sym, subst, inl, inr, ◌∙◌}
-use Rattle.std.specs.Prelude.{◌⊎◌, ◌&&◌, not, All, Any, IsSome, IsTrue}
+use Rattle.std.specs.Prelude.{◌⊎◌, All, Any, IsSome, IsTrue}
 use Rattle.heap_geometry.specs.declared.geometry.Geometry.{Geometry}
 use Rattle.word_plan.specs.declared.action.Found.{Found}
 use Rattle.word_plan.specs.declared.name.WordName.{WordName}
@@ -30,8 +30,10 @@ use Rattle.sound_state.specs.Keepers.{IsKept, IsKeptAs}
 use Rattle.sound_state.specs.Lists.{Lists}
 use Rattle.sound_state.specs.Recalls.{IsSo, IsOwned, recalls_of}
 use Rattle.sound_state.specs.Sound.{IsSoundWithoutCounts, IsSoundWith}
-use Rattle.sound_state.specs.Turns.{one_if, in_turn, has_frame, has_partial, has_refused, is_discarding_at, pops_left}
-use Rattle.sound_state.proofs.shared.AlikeLemmas.{MayGoOn, MayGuard, ActivesKept, sound-alike}
+use Rattle.sound_state.specs.TurnStages.{turn_stage_of, in_turn, lacks_frame, lacks_partial, lacks_answer, is_unneeded}
+use Rattle.sound_state.specs.Turns.{one_if, pops_left}
+use Rattle.sound_state.proofs.shared.AlikeLemmas.{sound-alike}
+use Rattle.sound_state.proofs.shared.ShownLemmas.{MayGoOn, MayGuard, ActivesKept}
 use Rattle.sound_state.proofs.shared.WeighLemmas.{WeighMost, weigh-alike, weigh-emptied}
 
 -- the block at the place is excepted by what is held
@@ -41,11 +43,11 @@ HoldsException h place = Any (λ b. b.place ≡ place) h.hands ⊎ Any (λ b. (b
 -- how far a call's turn is at two points: at the second one it is no further back
 pub record TurnGoes (p q : Point) : Type 0 where
   pub under_way : one_if (in_turn q) ≤ one_if (in_turn p)
-  pub discards : one_if (in_turn q && is_discarding_at q) ≤ one_if (in_turn p && is_discarding_at p)
-  pub unanswered : one_if (in_turn p && not (has_refused p)) ≤ one_if (in_turn q && not (has_refused q))
-  pub unframed : one_if (in_turn q && not (has_frame q)) ≤ one_if (in_turn p && not (has_frame p))
+  pub discards : one_if (is_unneeded (turn_stage_of q)) ≤ one_if (is_unneeded (turn_stage_of p))
+  pub unanswered : one_if (lacks_answer (turn_stage_of p)) ≤ one_if (lacks_answer (turn_stage_of q))
+  pub unframed : one_if (lacks_frame (turn_stage_of q)) ≤ one_if (lacks_frame (turn_stage_of p))
   pub pops :
-      pops_left q + one_if (in_turn q && not (has_partial q)) ≤ pops_left p + one_if (in_turn p && not (has_partial p))
+      pops_left q + one_if (lacks_partial (turn_stage_of q)) ≤ pops_left p + one_if (lacks_partial (turn_stage_of p))
 
 -- a caller may stand at the second point where it stood at the first
 pub record PointGoes (g : Geometry) (s : State) (l : Lists) (who : ℕ) (p q : Point) : Type 0 where
@@ -123,12 +125,12 @@ unfolding settle_of course_of
 settle-end e x r is = rw is refl
 
 -- a step after which the retired list and the turn stay as they are: it leads to a point, or ends the call
-abbrev pub IsPlain : Next → Type 0
-IsPlain (At q) = Unit {0}
-IsPlain (End r) = Unit {0}
-IsPlain n = ⊥
+abbrev pub LeadsOrEnds : Next → Type 0
+LeadsOrEnds (At q) = Unit {0}
+LeadsOrEnds (End r) = Unit {0}
+LeadsOrEnds n = ⊥
 
-pub settle-next : (e : ErrandFields) (x : Found) (n : Next) → IsPlain n → next_of e.point x ≡ n → settle_of e x ≡ at_point e x (point_after n)
+pub settle-next : (e : ErrandFields) (x : Found) (n : Next) → LeadsOrEnds n → next_of e.point x ≡ n → settle_of e x ≡ at_point e x (point_after n)
 settle-next e x (At q) plain is = settle-at e x q is
 settle-next e x (End r) plain is = settle-end e x r is
 settle-next e x n plain is = absurd plain
@@ -260,3 +262,11 @@ step-most g s who s' q sound has steps actives hazards step =
             old,
       );
     }
+
+-- and rises by one at most
+pub raised-most : (b : Bool) (n : ℕ) → raised b n ≤ n + one_if b
+raised-most b n = grind (arith)
+
+-- counts that rise by one, far from their ends
+pub raised-by : (b : Bool) (n : ℕ) → n + 1 < 2 ^ 64 → raised b n ≡ n + one_if b
+raised-by b n most = grind (arith)

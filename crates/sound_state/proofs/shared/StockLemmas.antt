@@ -45,8 +45,8 @@ active-one n None = omega (arith, sum-none n (λ d. 0) (λ d lt. refl))
 active-one n (Some Null) = omega (arith, sum-none n (λ d. 0) (λ d lt. refl))
 active-one n (Some (Held e credits)) = sum-once n e
 
-active-named : (n word : ℕ) → sum_below n (λ d. active_keeps d (active_of word)) ≤ some_word word
-active-named n word =
+active-keeps-most : (n word : ℕ) → sum_below n (λ d. active_keeps d (active_of word)) ≤ some_word word
+active-keeps-most n word =
     elim (cases_eq word 0) [
       | inl e ↦
           omega (
@@ -61,8 +61,8 @@ active-named n word =
 slot-one : (word d : ℕ) → (if word == d + 1 then 1 else 0) ≤ (if word == 0 then 0 else (if word - 1 == d then 1 else 0))
 slot-one word d = grind (arith)
 
-slot-named : (n word : ℕ) → sum_below n (λ d. if word == d + 1 then 1 else 0) ≤ some_word word
-slot-named n word =
+slot-keeps-most : (n word : ℕ) → sum_below n (λ d. if word == d + 1 then 1 else 0) ≤ some_word word
+slot-keeps-most n word =
     elim (cases_eq word 0) [
       | inl e ↦
           omega (
@@ -81,29 +81,29 @@ slot-named n word =
     ]
 
 pub slot-once : (n word : ℕ) → sum_below n (λ d. if word == d + 1 then 1 else 0) ≤ 1
-slot-once n word = grind (arith, slot-named n word)
+slot-once n word = grind (arith, slot-keeps-most n word)
 
 -- a word that holds a descriptor is one of its class's
 word-stocked : (class word : ℕ) → (if (class == class) && (word == 0) then 0 else (if class == class then 1 else 0)) ≡ some_word word
 word-stocked class word = grind (arith)
 
-word-once : (g : Geometry) (n : WordName) (word : ℕ) → Exists g n
+word-keeps-once : (g : Geometry) (n : WordName) (word : ℕ) → Exists g n
     → sum_below (descriptor_count g) (λ d. word_keeps d n word) ≤ sum_below CLASSES (λ class. word_stock class n word)
-word-once g (name.Active heap c) word exists =
+word-keeps-once g (name.Active heap c) word exists =
     omega (
       arith,
-      active-named (descriptor_count g) word,
+      active-keeps-most (descriptor_count g) word,
       word-stocked c word,
       term-sum CLASSES (λ class. word_stock class (name.Active heap c) word) c exists.1,
     )
-word-once g (name.Slot heap c) word exists =
+word-keeps-once g (name.Slot heap c) word exists =
     omega (
       arith,
-      slot-named (descriptor_count g) word,
+      slot-keeps-most (descriptor_count g) word,
       word-stocked c word,
       term-sum CLASSES (λ class. word_stock class (name.Slot heap c) word) c exists.1,
     )
-word-once g n word exists = omega (arith, sum-none (descriptor_count g) (λ d. 0) (λ d lt. refl))
+word-keeps-once g n word exists = omega (arith, sum-none (descriptor_count g) (λ d. 0) (λ d lt. refl))
 
 -- what the words keep is in stock
 words-stocked : (g : Geometry) (words : WordName → ℕ)
@@ -114,7 +114,7 @@ words-stocked g words =
     omega (
       arith,
       words-together g (descriptor_count g) word_keeps words (λ m. sum_below CLASSES (λ class. word_stock class m (words m)))
-          (λ m. word-once g m (words m)),
+          (λ m. word-keeps-once g m (words m)),
       sum-swap CLASSES (word_count g) stock,
     )
 
@@ -285,9 +285,9 @@ places-all g s l sound =
     )
 
 -- no more is out than the classes have
-stock-most : (g : Geometry) (s : State) (l : Lists) → IsSoundWith g s l
+all-stock-most : (g : Geometry) (s : State) (l : Lists) → IsSoundWith g s l
     → sum_below CLASSES (stock_of g s l) ≤ CLASSES * (g.frames + g.heaps + 2 * g.callers)
-stock-most g s l sound =
+all-stock-most g s l sound =
     sum-most CLASSES (stock_of g s l) (g.frames + g.heaps + 2 * g.callers) (λ class has. sound.stocked.most class has)
 
 -- so where a caller waits, one is available
@@ -295,7 +295,7 @@ available-least : (g : Geometry) (s : State) (l : Lists) → IsSoundWith g s l �
     → waits_in class (s.errand who).point ≡ 1 → 1 ≤ length l.available
 unfolding descriptor_count
 available-least g s l sound who class has is waits =
-    omega (arith, places-all g s l sound, stock-most g s l sound, retired-most g s l sound, waits-least g s who class has is)
+    omega (arith, places-all g s l sound, all-stock-most g s l sound, retired-most g s l sound, waits-least g s who class has is)
 
 -- a stack that isn't empty has a top
 stack-top : (next : ℕ → ℕ) (top n : ℕ) (xs : List ℕ) → Stacked next top xs → All (λ d. d < n) xs → 1 ≤ length xs

@@ -18,6 +18,7 @@ use Rattle.word_plan.specs.Seats.{info_in}
 use Rattle.word_plan.specs.Sites.{IsSiteOf}
 use Rattle.word_plan.specs.Table.{word_name}
 use Rattle.word_plan.proofs.NameLemmas.{cases_name}
+use Rattle.superblock_parts.proofs.ChainLemmas.{occurs-here}
 use Rattle.superblock_parts.specs.Chains.{occurs, link_in, prefix_name}
 use Rattle.pool_model.specs.declared.event.Event.{Event}
 use Rattle.pool_model.specs.declared.event.Event.TheVariants.{Alloc}
@@ -31,6 +32,7 @@ use Rattle.sound_state.specs.Sound.{IsSoundWith}
 use Rattle.sound_state.specs.Sums.{words_sum}
 use Rattle.sound_state.specs.Superblocks.{Superblock, AreChained, IsChained, anchor_for, info_for, info_or_zero, superblock_of, free_chain, held_back, is_bound, is_there, live_at, reserved_of, waiting_of}
 use Rattle.sound_state.proofs.shared.FrameLemmas.{bound-apart}
+use Rattle.sound_state.proofs.shared.ListFacts.{occurs-past}
 use Rattle.sound_state.proofs.shared.SumLemmas.{sum-same}
 
 -- what holds of one descriptor or block, and of every other, holds of each
@@ -241,3 +243,15 @@ module _ {g : Geometry} {s : State} {l : Lists} {who : ℕ} {at : Site} {i : ℕ
               (others-live old d has (was d bound) differ)
         ];
   }
+
+-- a block that leaves the front of a chain and becomes live is free or live as often as before, and so is every other
+pub first-used :
+    (b b' : Superblock) (i : ℕ) → free_chain b ≡ i ∷ free_chain b' → b.live i ≡ 0 → b'.live i ≡ 1 → (j : ℕ) → (j ≢ i → b'.live j ≡ b.live j)
+    → occurs j (free_chain b) + b.live j ≡ occurs j (free_chain b') + b'.live j
+first-used b b' i chain was now j others =
+    elim (cases_eq j i) [
+      | inl same ↦
+          subst (λ k. occurs k (free_chain b) + b.live k ≡ occurs k (free_chain b') + b'.live k) (sym same)
+          (omega (arith, ap (occurs i) chain, occurs-here i (free_chain b'), was, now))
+      | inr differ ↦ omega (arith, ap (occurs j) chain, occurs-past j i (free_chain b') (λ e. differ (sym e)), others differ)
+    ]

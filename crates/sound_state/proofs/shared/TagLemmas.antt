@@ -33,19 +33,19 @@ use Rattle.sound_state.specs.Turns.{gives_small, is_small_alloc, is_small_free, 
 use Rattle.sound_state.proofs.shared.SumLemmas.{sum-same, sum-plus, sum-most, sum-least, term-sum}
 
 -- each small allocation is one of its caller's
-given-once : (g : Geometry) (event : Event) → caller_of event < g.callers
+alloc-given : (g : Geometry) (event : Event) → caller_of event < g.callers
     → cond (is_small_alloc event) 1 0 ≤ sum_below g.callers (λ who. cond (gives_small who event) 1 0)
-given-once g (Alloc caller need place) has =
+alloc-given g (Alloc caller need place) has =
     let own : cond (gives_small caller (Alloc caller need place)) 1 0 ≤ sum_below g.callers (λ who. cond (gives_small who (Alloc caller need place)) 1 0) =
     term-sum g.callers (λ who. cond (gives_small who (Alloc caller need place)) 1 0) caller has in
     grind (arith, own)
-given-once g (Looked caller class) has = omega arith
-given-once g (Refuse caller need) has = omega arith
-given-once g (Free caller place) has = omega arith
-given-once g (Write caller place i v) has = omega arith
-given-once g (Put caller place shelf) has = omega arith
-given-once g (Take caller shelf place) has = omega arith
-given-once g (TakeNone caller shelf) has = omega arith
+alloc-given g (Looked caller class) has = omega arith
+alloc-given g (Refuse caller need) has = omega arith
+alloc-given g (Free caller place) has = omega arith
+alloc-given g (Write caller place i v) has = omega arith
+alloc-given g (Put caller place shelf) has = omega arith
+alloc-given g (Take caller shelf place) has = omega arith
+alloc-given g (TakeNone caller shelf) has = omega arith
 
 -- all small allocations are the callers' together
 small-given : (g : Geometry) (history : List Event) → IsLegalWithoutCounts g history
@@ -63,7 +63,7 @@ small-given g history legal =
     let both : sum_below g.callers (λ who. count_by (gives_small who) before + cond (gives_small who event) 1 0)
     ≡ sum_below g.callers (λ who. count_by (gives_small who) before) + sum_below g.callers (λ who. cond (gives_small who event) 1 0) =
     sum-plus g.callers (λ who. count_by (gives_small who) before) (λ who. cond (gives_small who event) 1 0) in
-    let once = given-once g event h.0 in
+    let once = alloc-given g event h.0 in
     omega arith) legal (omega arith)
 
 -- 1 where the block lies in a frame
@@ -132,21 +132,21 @@ framed-given g pool need place free =
       | inr most ↦ rw (le-leb need SMALL_MOST most) (cond_both (nat_le (frame_of place + 1) g.frames) 1 0 (λ n. n ≤ 1) (λ e. omega arith) (λ e. omega arith))
     ]
 
-framed-after : (g : Geometry) (before : List Event) (event : Event) → IsAllowed g before event
+framings-after : (g : Geometry) (before : List Event) (event : Event) → IsAllowed g before event
     → sum_by (framed g) (pool_after (pool_of before) event) + cond (is_small_free g event) 1 0
     ≤ sum_by (framed g) (pool_of before) + cond (is_small_alloc event) 1 0
-framed-after g before (Alloc caller need place) allowed =
+framings-after g before (Alloc caller need place) allowed =
     let all : sum_by (framed g) (fresh_block caller need place ∷ pool_of before) ≡ framed g (fresh_block caller need place) + sum_by (framed g) (pool_of before) =
     sum_by-cons (framed g) (fresh_block caller need place) (pool_of before) in
     let one : cond (nat_le (frame_of place + 1) g.frames) 1 0 ≤ cond (nat_le need SMALL_MOST) 1 0 = framed-given g (pool_of before) need place allowed in
     omega arith
-framed-after g before (Looked caller class) allowed = omega arith
-framed-after g before (Refuse caller need) allowed = omega arith
-framed-after g before (Free caller place) allowed = omega (arith, framed-without g place (pool_of before) allowed.0 allowed.1)
-framed-after g before (Write caller place i v) allowed = omega (arith, framed-changed g place (written i v) (pool_of before) (λ b. refl))
-framed-after g before (Put caller place shelf) allowed = omega (arith, framed-changed g place (handed_to (Shelf shelf)) (pool_of before) (λ b. refl))
-framed-after g before (Take caller shelf place) allowed = omega (arith, framed-changed g place (handed_to (Caller caller)) (pool_of before) (λ b. refl))
-framed-after g before (TakeNone caller shelf) allowed = omega arith
+framings-after g before (Looked caller class) allowed = omega arith
+framings-after g before (Refuse caller need) allowed = omega arith
+framings-after g before (Free caller place) allowed = omega (arith, framed-without g place (pool_of before) allowed.0 allowed.1)
+framings-after g before (Write caller place i v) allowed = omega (arith, framed-changed g place (written i v) (pool_of before) (λ b. refl))
+framings-after g before (Put caller place shelf) allowed = omega (arith, framed-changed g place (handed_to (Shelf shelf)) (pool_of before) (λ b. refl))
+framings-after g before (Take caller shelf place) allowed = omega (arith, framed-changed g place (handed_to (Caller caller)) (pool_of before) (λ b. refl))
+framings-after g before (TakeNone caller shelf) allowed = omega arith
 
 -- no more small blocks are freed than given
 pub small-freed : (g : Geometry) (history : List Event) → IsLegalWithoutCounts g history
@@ -155,7 +155,7 @@ small-freed g history legal =
     kept (IsLegalEventWithoutCounts g)
     (λ h. sum_by (framed g) (pool_of h) + count_by (is_small_free g) h ≤ count_by is_small_alloc h) history
     (λ before event h so_far.
-    let after = framed-after g before event h.1 in
+    let after = framings-after g before event h.1 in
     let frees : count_by (is_small_free g) (before ++ event ∷ []) ≡ count_by (is_small_free g) before + cond (is_small_free g event) 1 0 =
     sum_by_push (λ e. cond (is_small_free g e) 1 0) before event in
     let allocs : count_by is_small_alloc (before ++ event ∷ []) ≡ count_by is_small_alloc before + cond (is_small_alloc event) 1 0 =

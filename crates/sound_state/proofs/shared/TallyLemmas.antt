@@ -9,7 +9,7 @@ use Rattle.sound_state.specs.Superblocks.{Superblock, IsChained, free_chain, hel
 use Rattle.sound_state.proofs.shared.SumLemmas.{sum-same, sum-none, sum-one, sum-ones, sum-plus}
 
 -- all indexes of a list below a bound
-occurs-all : (n : ℕ) (xs : List ℕ) → ((j : ℕ) → 0 < occurs j xs → j < n) → sum_below n (λ j. occurs j xs) ≡ length xs
+pub occurs-all : (n : ℕ) (xs : List ℕ) → ((j : ℕ) → 0 < occurs j xs → j < n) → sum_below n (λ j. occurs j xs) ≡ length xs
 occurs-all n [] within = sum-none n (λ j. 0) (λ j lt. refl)
 occurs-all n (x ∷ xs) within =
     let has : x < n = within x (omega (arith, occurs-here x xs)) in
@@ -24,9 +24,9 @@ occurs-all n (x ∷ xs) within =
     )
 
 -- where block 0 is held back, one caller waits, and it is neither free nor live
-pub held-once :
+pub held-back-once :
     (b : Superblock) → IsChained b → 1 ≤ b.waiting → (occurs 0 (free_chain b) ≡ 0) × (b.live 0 ≡ 0) × (b.waiting ≡ 1)
-held-once b chained waits =
+held-back-once b chained waits =
     let once = chained.once 0 (omega (arith, chained.avail)) in
     let back : held_back b 0 ≡ b.waiting = refl in
     (omega (arith, once, back, waits), omega (arith, once, back, waits), omega (arith, once, back, waits))

@@ -25,9 +25,9 @@ use Rattle.sound_state.specs.Recalls.{IsLocated, IsOwned}
 use Rattle.sound_state.specs.Sound.{IsSoundWithoutCounts}
 use Rattle.sound_state.specs.Superblocks.{info_for}
 use Rattle.sound_state.specs.Ties.{IsTied, IsLive, IsBlockOfDesc, IsExcepted, IsCovered}
-use Rattle.sound_state.proofs.pops.PopTurns.{each-other}
-use Rattle.sound_state.proofs.quiet.QuietPushes.{any-none}
-use Rattle.sound_state.proofs.shared.AlikeLemmas.{Excepts}
+use Rattle.sound_state.proofs.shared.CallerLemmas.{each-other}
+use Rattle.sound_state.proofs.shared.ListFacts.{any-none}
+use Rattle.sound_state.proofs.shared.ShownLemmas.{Excepts}
 
 -- at one place lies one block, or none
 pub one-live : (s : State) (place p : ℕ) (a b : Block) → IsLive s place a → p ≡ place → IsLive s p b → a ≡ b

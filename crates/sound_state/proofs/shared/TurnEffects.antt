@@ -1,22 +1,29 @@
 -- What an effect does to events, turns, cleared counts and tags, and that all of them stay within their bounds.
-use Rattle.std.proofs.Common.{ℕ, Bool, true, false, cond, ◌≡◌, ◌≢◌, ◌<◌, ◌≤◌, ◌+◌, ◌*◌, List, [], ◌∷◌, ◌++◌, refl, arith, ap, sym, ◌∙◌}
-use Rattle.std.specs.Prelude.{not, count_by, nat_le}
-use Rattle.std.proofs.lemmas.Bool.{le-leb, eq-eqb, ne_eqb}
+use Rattle.std.proofs.Common.{ℕ, Bool, true, false, cond, ◌≡◌, ◌≢◌, ◌<◌, ◌≤◌, ◌+◌, ◌*◌, List, [], ◌∷◌, ◌++◌, refl, arith, ap, sym, ◌∙◌, inl, inr, None, length}
+use Rattle.std.specs.Prelude.{count_by, nat_le}
+use Rattle.std.proofs.lemmas.Bool.{le-leb, eq-eqb, ne_eqb, cases_lt, lt-leb}
 use Rattle.std.proofs.lemmas.List.Sums.{sum_by_push}
+use Rattle.heap_geometry.specs.Need.{need_of}
 use Rattle.heap_geometry.specs.declared.geometry.Geometry.{Geometry}
-use Rattle.heap_geometry.specs.declared.limits.TheConstants.{CLASSES, SMALL_MOST}
+use Rattle.heap_geometry.specs.declared.limits.TheConstants.{CLASSES, SMALL_MOST, LARGE_MOST}
 use Rattle.heap_geometry.specs.Place.{frame_of}
+use Rattle.heap_geometry.specs.declared.need.Need.TheVariants.{Small}
 use Rattle.packed_words.specs.Head.{head_of}
 use Rattle.word_plan.specs.declared.name.WordName.TheVariants as name
 use Rattle.word_plan.specs.Counts.{descriptor_count}
 use Rattle.pool_model.specs.declared.event.Event.{Event}
 use Rattle.pool_model.specs.declared.event.Event.TheVariants.{Alloc, Free}
 use Rattle.errand_steps.specs.Errands.{ErrandFields}
+use Rattle.errand_steps.specs.Fits.{spare_of, pushed_by}
 use Rattle.errand_steps.specs.Steps.{State, Moves}
+use Rattle.errand_steps.specs.declared.point.Point.{Point}
+use Rattle.sound_state.specs.Guards.{passed_by, held_by}
 use Rattle.sound_state.specs.Lists.{Lists}
+use Rattle.sound_state.specs.TurnStages.{TurnStage, frame_taken, turn_stage_of, is_turn, in_turn, lacks_frame, lacks_partial, lacks_answer, is_unneeded, out_of_turn}
+use Rattle.sound_state.specs.Stock.{waits_in}
 use Rattle.sound_state.specs.Sums.{sum_below}
 use Rattle.sound_state.specs.Superblocks.{anchor_for}
-use Rattle.sound_state.specs.Turns.{IsTurned, gives_small, refuses_small, is_small_alloc, is_small_free, one_if, in_turn, has_frame, has_refused, is_discarding_at, turn_open, turn_unframed, turn_unlisted, turn_unanswered, errand_discards, errand_pops, turns_of, cleared_of, emptied_out}
+use Rattle.sound_state.specs.Turns.{IsTurned, gives_small, refuses_small, is_small_alloc, is_small_free, one_if, turn_open, turn_unframed, turn_unlisted, turn_unanswered, errand_discards, errand_pops, turns_of, cleared_of, emptied_out, pops_left}
 use Rattle.sound_state.proofs.shared.CallerLemmas.{each-other}
 use Rattle.sound_state.proofs.shared.SumLemmas.{callers-moved, sum-same}
 
@@ -63,10 +70,10 @@ alloc-event g who words place past past' small one =
     }
 
 -- a small block is freed
-pub free-event :
+pub small-free-event :
     (g : Geometry) (who place : ℕ) (past past' : List Event) → frame_of place < g.frames → past' ≡ past ++ Free who place ∷ []
     → EventEffects g who past past' 0 1
-free-event g who place past past' within one =
+small-free-event g who place past past' within one =
     let counts = λ (f : Event → Bool). counted-one f (Free who place) past past' one in
     let here : cond {A = ℕ} (is_small_free g (Free who place)) 1 0 ≡ 1 = rw (le-leb (frame_of place + 1) g.frames (omega (arith, within))) refl in
     record {
@@ -90,27 +97,25 @@ pub one_if-most : (b : Bool) → one_if b ≤ 1
 one_if-most true = omega arith
 one_if-most false = omega arith
 
--- in no turn a caller weighs nothing
-pub no-turn-weighs : (e : ErrandFields) → in_turn e.point ≡ false → TurnWeighs e 0 0 0
-no-turn-weighs e none = record {
-  under_way = rw none refl;
-  discards = rw none refl;
-  unanswered = rw none refl;
-  unframed = rw none refl;
-  unlisted = rw none (omega arith);
+-- no stage weighs more than its turn
+lacks_partial-most : (stage : TurnStage) → one_if (lacks_partial stage) ≤ one_if (is_turn stage)
+lacks_partial-most stage = grind (arith)
+
+-- a caller weighs in its turn what its stage says
+pub stage-weighs :
+    (stage : TurnStage) (e : ErrandFields) → turn_stage_of e.point ≡ stage → lacks_answer stage ≡ is_turn stage
+    → TurnWeighs e (one_if (is_turn stage)) (one_if (lacks_frame stage)) (one_if (is_unneeded stage))
+stage-weighs stage e at unanswered = record {
+  under_way = rw at refl;
+  discards = rw at refl;
+  unanswered = rw (at, unanswered) refl;
+  unframed = rw at refl;
+  unlisted = rw at (lacks_partial-most stage);
 }
 
--- in a turn it weighs what its point says
-pub turn-weighs :
-    (framed discarding : Bool) (e : ErrandFields) → in_turn e.point ≡ true → has_frame e.point ≡ framed → has_refused e.point ≡ false
-    → is_discarding_at e.point ≡ discarding → TurnWeighs e 1 (one_if (not framed)) (one_if discarding)
-turn-weighs framed discarding e turn frame refused discards = record {
-  under_way = rw turn refl;
-  discards = rw (turn, discards) refl;
-  unanswered = rw (turn, refused) refl;
-  unframed = rw (turn, frame) refl;
-  unlisted = one_if-most _;
-}
+-- in no turn it weighs nothing
+pub no-turn-weighs : (e : ErrandFields) → turn_stage_of e.point ≡ out_of_turn → TurnWeighs e 0 0 0
+no-turn-weighs e at = stage-weighs out_of_turn e at refl
 
 -- as many superblocks are EMPTY and out, where each is or isn't as it was
 pub emptied-kept :
@@ -173,3 +178,49 @@ turned-after g s l who e s' l' given freed h turned =
             h.events.frees,
           );
     }
+
+-- what a small block serves is small
+pub small-served : (words class : ℕ) → need_of words ≡ Small class → nat_le words SMALL_MOST ≡ true
+unfolding need_of
+small-served words class is =
+    elim (cases_lt SMALL_MOST words) [
+      | inr most ↦ le-leb words SMALL_MOST most
+      | inl above ↦
+          elim (cases_lt LARGE_MOST words) [
+            | inr most ↦ let e = rw (lt-leb words SMALL_MOST above, le-leb words LARGE_MOST most) at is in cc
+            | inl more ↦ let e = rw (lt-leb words SMALL_MOST above, lt-leb words LARGE_MOST more) at is in cc
+          ]
+    ]
+
+-- a point of a superblock that pushes, scans and waits for nothing, in a turn that has given no block yet, or has
+pub record StandsIn (giving : Bool) (p : Point) : Type 0 where
+  pub turn : in_turn p ≡ giving
+  pub frame : lacks_frame (turn_stage_of p) ≡ giving
+  pub answer : lacks_answer (turn_stage_of p) ≡ giving
+  pub unneeded : is_unneeded (turn_stage_of p) ≡ false
+  pub pops : pops_left p ≡ 0
+  pub waits : (class : ℕ) → waits_in class p ≡ 0
+  pub pushed : pushed_by p ≡ None
+  pub passed : passed_by p ≡ 0
+  pub unread : length (held_by p) ≡ 0
+  pub spare : spare_of p ≡ 0
+
+-- what a turn weighs that has given no block yet, and one that has
+pub stands-weighs : (giving : Bool) (e : ErrandFields) → StandsIn giving e.point → TurnWeighs e (one_if giving) (one_if giving) 0
+stands-weighs giving e h = record {
+  under_way = ap one_if h.turn;
+  discards = ap one_if h.unneeded;
+  unanswered = ap one_if h.answer;
+  unframed = ap one_if h.frame;
+  unlisted = omega (arith, lacks_partial-most (turn_stage_of e.point), ap one_if h.turn);
+}
+
+-- a point of a turn that has popped a frame and given no block yet
+pub record StandsFramed (p : Point) : Type 0 where
+  pub stage : turn_stage_of p ≡ frame_taken
+  pub pops : pops_left p ≡ 0
+  pub waits : (class : ℕ) → waits_in class p ≡ 0
+
+-- what a turn weighs that has popped a frame and given no block yet
+pub framed-weighs : (e : ErrandFields) → StandsFramed e.point → TurnWeighs e 1 0 0
+framed-weighs e h = stage-weighs frame_taken e h.stage refl

@@ -32,7 +32,7 @@ use Rattle.sound_state.proofs.shared.StepLemmas.{at_point, found_from, settle-at
 abbrev pub LeadsTo : Next → Point → Type 0
 LeadsTo n q = (n ≡ At q) ⊎ ((r : Reply) × (n ≡ End r) × (q ≡ Idle))
 
-settle-leads : (e : ErrandFields) (x : Found) (q : Point) → LeadsTo (next_of e.point x) q → settle_of e x ≡ at_point e x q
+pub settle-leads : (e : ErrandFields) (x : Found) (q : Point) → LeadsTo (next_of e.point x) q → settle_of e x ≡ at_point e x q
 settle-leads e x q leads =
     elim leads [
       | inl at ↦ settle-at e x q at

@@ -18,11 +18,11 @@ use Rattle.sound_state.specs.Keepers.{IsKeptAs, full_keeps}
 use Rattle.sound_state.specs.Lists.{Lists}
 use Rattle.sound_state.specs.Recalls.{IsLocated, bound_here, recalls_of}
 use Rattle.sound_state.specs.Sound.{IsOwnErrand}
+use Rattle.sound_state.specs.TurnStages.{turn_stage_of, lacks_partial}
 use Rattle.sound_state.specs.Stock.{stock_among}
 use Rattle.sound_state.specs.Superblocks.{anchor_for, is_bound, reserved_among, kept_among}
-use Rattle.sound_state.specs.Turns.{has_partial}
 use Rattle.sound_state.proofs.shared.PointLemmas.{kept_places}
-use Rattle.sound_state.proofs.pops.PopEffects.{StandsIn}
+use Rattle.sound_state.proofs.shared.TurnEffects.{StandsIn}
 
 -- a caller that alone keeps a superblock moves blocks between its count and what it has reserved, and all else stays
 pub record Shifts (g : Geometry) (s : State) (l : Lists) (who : ℕ) (at : Site) (a b : AnchorFields) (e : ErrandFields) (s' : State) : Type 0 where
@@ -70,4 +70,4 @@ pub record Shifts (g : Geometry) (s : State) (l : Lists) (who : ℕ) (at : Site)
   pub giving : Bool
   pub stands_before : StandsIn giving (s.errand who).point
   pub stands_after : StandsIn giving e.point
-  pub partials : has_partial e.point ≡ has_partial (s.errand who).point
+  pub partials : lacks_partial (turn_stage_of e.point) ≡ lacks_partial (turn_stage_of (s.errand who).point)

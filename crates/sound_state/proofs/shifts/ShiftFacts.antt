@@ -16,7 +16,7 @@ use Rattle.sound_state.specs.Lists.{Lists}
 use Rattle.sound_state.specs.Sound.{IsSoundWith}
 use Rattle.sound_state.specs.Sums.{words_sum, callers_sum}
 use Rattle.sound_state.specs.Superblocks.{AreChained, IsChained, anchor_for, info_for, superblock_of, free_chain, is_bound, away_of, waiting_of, reserved_of, word_reserves, errand_keeps}
-use Rattle.sound_state.proofs.pops.PopFacts.{bound-stands}
+use Rattle.sound_state.proofs.shared.HasLemmas.{bound-stands}
 use Rattle.sound_state.proofs.shared.HoldingEffects.{HoldingEffects, waits-go, ways-go, credits-go, away-goes, framed-after}
 use Rattle.sound_state.proofs.shared.SuperblockEffects.{of-each, LieStill, AnchorEffects, anchor-still, anchors-stay, field-stays, weights-stay, info-stays, infos-stay, next-stays, size-stays, live-stays, same-chain-chained, held-same}
 use Rattle.sound_state.proofs.shifts.ShiftEffects.{Shifts}
@@ -30,12 +30,12 @@ module _
   shifted-write : AnchorEffects s at.desc s'
   shifted-write = record { elsewhere = h.elsewhere }
 
-  still : LieStill s s'
-  still = anchor-still shifted-write
+  shifted-lie : LieStill s s'
+  shifted-lie = anchor-still shifted-write
 
   -- the words of all descriptors stay, and all other descriptors' anchors
   pub shifted-info : (d : ℕ) → info_for s' d ≡ info_for s d
-  shifted-info = info-stays still
+  shifted-info = info-stays shifted-lie
 
   pub shifted-anchor : (d : ℕ) → d ≢ at.desc → anchor_for s' d ≡ anchor_for s d
   shifted-anchor = anchors-stay shifted-write
@@ -89,25 +89,25 @@ module _
 
   -- so each superblock has the chain that it had
   pub shifted-chain : (d : ℕ) → free_chain (superblock_of g s' d) ≡ free_chain (superblock_of g s d)
-  shifted-chain d = rw (next-stays still g d, shifted-together d, shifted-avail d) refl
+  shifted-chain d = rw (next-stays shifted-lie g d, shifted-together d, shifted-avail d) refl
 
   -- the count stays below the size
   shifted-few : (d : ℕ) → (anchor_for s d).count < (superblock_of g s d).size → (anchor_for s' d).count < (superblock_of g s' d).size
   shifted-few =
       of-each (λ k. (anchor_for s k).count < (superblock_of g s k).size → (anchor_for s' k).count < (superblock_of g s' k).size) at.desc
-      (λ old. omega (arith, size-stays still g at.desc, ap block_count_of h.located.class, ap (λ x. x.count) h.after, h.some))
-      (λ d ne old. omega (arith, old, ap (λ x. x.count) (shifted-anchor d ne), size-stays still g d))
+      (λ old. omega (arith, size-stays shifted-lie g at.desc, ap block_count_of h.located.class, ap (λ x. x.count) h.after, h.some))
+      (λ d ne old. omega (arith, old, ap (λ x. x.count) (shifted-anchor d ne), size-stays shifted-lie g d))
 
   -- all superblocks keep their blocks in order
   pub shifted-chained : IsSoundWith g s l → AreChained g s' l
   shifted-chained old = record {
-    infos = infos-stay still g l old.chained;
+    infos = infos-stay shifted-lie g l old.chained;
     chained = λ d has bound.
         let b = superblock_of g s d in
         let b' = superblock_of g s' d in
         let was : IsChained b = old.chained.chained d has (subst IsTrue (shifted-bound d) bound) in
-        same-chain-chained b b' was (shifted-avail d) (shifted-chain d) (next-stays still g d) (size-stays still g d) (shifted-few d was.some)
-        (λ j lt. omega (arith, ap (λ f. f j) (live-stays still g h.history d), held-same b b' (shifted-waits d) j));
+        same-chain-chained b b' was (shifted-avail d) (shifted-chain d) (next-stays shifted-lie g d) (size-stays shifted-lie g d) (shifted-few d was.some)
+        (λ j lt. omega (arith, ap (λ f. f j) (live-stays shifted-lie g h.history d), held-same b b' (shifted-waits d) j));
   }
 
   -- all frames stay where they are

@@ -14,10 +14,10 @@ use Rattle.sound_state.specs.Lists.{Lists}
 use Rattle.sound_state.specs.Recalls.{Recall, IsRemembered, IsSo, bound_for, bound_at, pops, links, says}
 use Rattle.sound_state.specs.Sound.{IsSoundWithoutCounts, IsSoundWith, IsOwnErrand}
 use Rattle.sound_state.specs.Superblocks.{superblock_of}
-use Rattle.sound_state.proofs.shared.AlikeLemmas.{each-caller}
-use Rattle.sound_state.proofs.pops.PopRecalls.{install-waits}
-use Rattle.sound_state.proofs.shared.RecallEffects.{IsSteady, Leaves, IsLeft, popped-same, here-so, remembered-left}
+use Rattle.sound_state.proofs.shared.RecallEffects.{IsSteadyWord, Leaves, IsLeft, popped-same, here-so, remembered-left}
 use Rattle.sound_state.proofs.shared.RecallTables.{InstallsNone, IsBacked, backed-recalls}
+use Rattle.sound_state.proofs.shared.ShownLemmas.{each-caller}
+use Rattle.sound_state.proofs.shared.WaitsAlone.{install-waits}
 use Rattle.sound_state.proofs.shifts.ShiftEffects.{Shifts}
 use Rattle.sound_state.proofs.shifts.ShiftFacts.{shifted-tag, shifted-empty, shifted-ways, shifted-bound, shifted-chain, shifted-chained, shifted-framed}
 use Rattle.sound_state.proofs.shifts.ShiftKept.{shifted-alone, shifted-kept, shifted-stocked}
@@ -37,7 +37,7 @@ module _
   -- so it leaves what the others remember
   shifted-leaves : (i : ℕ) → Leaves g s l s' i
   shifted-leaves i = record {
-    steady = λ n is. h.elsewhere n (λ same. subst IsSteady same is);
+    steady = λ n is. h.elsewhere n (λ same. subst IsSteadyWord same is);
     events = ap (own i) h.history;
     owned = shifted-owned g s l who at a b e s' h i;
     empty = λ d so. shifted-empty g s l who at a b e s' h d;

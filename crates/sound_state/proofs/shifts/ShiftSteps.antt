@@ -20,7 +20,6 @@ use Rattle.partial_parts.specs.Grants.{grant_more, granted, granted_state, is_em
 use Rattle.word_plan.specs.declared.action.Action.TheVariants.{Cas}
 use Rattle.word_plan.specs.declared.name.WordName.TheVariants as name
 use Rattle.word_plan.specs.declared.seat.Site.{Site}
-use Rattle.word_plan.specs.Counts.{descriptor_count}
 use Rattle.word_plan.specs.Seats.{heap_of}
 use Rattle.word_plan.proofs.SeatLemmas.{block_count_of-most}
 use Rattle.superblock_parts.specs.Anchors.{returned}
@@ -35,23 +34,24 @@ use Rattle.errand_steps.specs.Events.{event_of}
 use Rattle.errand_steps.specs.Nexts.{next_of}
 use Rattle.errand_steps.specs.Points.{asked, plan_point_of}
 use Rattle.errand_steps.specs.Steps.{State, Step}
-use Rattle.sound_state.specs.Holdings.{Handed, Kept, reserving, waiting, partly_used, on_its_way, keep, before_pop, after_pop, holds_of, Status}
-use Rattle.sound_state.specs.Keepers.{IsActive, IsPartlyUsed, IsKeptAs, errand_has, full_keeps}
+use Rattle.sound_state.specs.Holdings.{Handed, Kept, reserving, waiting, partly_used, on_its_way, keep, holds_before_pop, holds_after_pop, holds_of, Status}
+use Rattle.sound_state.specs.Keepers.{IsActive, IsPartlyUsed, IsKeptAs, full_keeps}
 use Rattle.sound_state.specs.Lists.{Lists}
 use Rattle.sound_state.specs.Recalls.{IsLocated, IsOwned, IsSo, bound_at, located, in_use, recalls_of}
 use Rattle.sound_state.specs.Sound.{IsSoundWithoutCounts, IsSoundWith}
+use Rattle.sound_state.specs.TurnStages.{turn_stage_of, lacks_partial}
 use Rattle.sound_state.specs.Stock.{stock_among}
 use Rattle.sound_state.specs.Sums.{sum_below, callers_sum}
-use Rattle.sound_state.specs.Superblocks.{Superblock, IsChained, anchor_for, info_for, info_or_zero, superblock_of, live_at, is_there, is_bound, away_of, reserved_among, errand_reserves, errand_keeps, errand_away, kept_among, same_status}
-use Rattle.sound_state.specs.Turns.{has_partial}
+use Rattle.sound_state.specs.Superblocks.{Superblock, IsChained, anchor_for, info_for, info_or_zero, superblock_of, live_at, is_there, is_bound, away_of, reserved_among, errand_reserves, errand_keeps, kept_among, same_status}
 use Rattle.sound_state.proofs.quiet.QuietExchanges.{return_credits-lost}
 use Rattle.sound_state.proofs.quiet.QuietPartials.{grant_lost-sound}
+use Rattle.sound_state.proofs.shared.HasLemmas.{keeps-near, kept-itself}
 use Rattle.sound_state.proofs.shared.PointLemmas.{fits-at, so-at, kept-at, hands-at, the-alloc, kept_places}
-use Rattle.sound_state.proofs.pops.PopEffects.{StandsIn}
+use Rattle.sound_state.proofs.shared.TurnEffects.{StandsIn}
 use Rattle.sound_state.proofs.shifts.ShiftEffects.{Shifts}
 use Rattle.sound_state.proofs.shifts.ShiftRecalls.{shifted-sound}
 use Rattle.sound_state.proofs.shared.StepLemmas.{at_point}
-use Rattle.sound_state.proofs.shared.SumLemmas.{sum-plus, sum-least, term-sum}
+use Rattle.sound_state.proofs.shared.SumLemmas.{term-sum}
 use Rattle.sound_state.proofs.shared.CreditLemmas.{won_with}
 use Rattle.sound_state.proofs.shared.TallyLemmas.{tally}
 use Rattle.sound_state.proofs.shared.SuperblockEffects.{located-live}
@@ -69,28 +69,28 @@ hand-live s who place n owned = ap is_there owned.block.1
 return-places :
     (at : Site) (i more : ℕ) (state : Phase) (d : ℕ) → full_keeps state ≡ 0
     → kept_places d (keep at.desc at.seat.class partly_used) + (if at.desc == d then full_keeps phase.Partial else 0)
-    ≡ kept_places d (after_pop at i more).kept + (if at.desc == d then full_keeps state else 0)
+    ≡ kept_places d (holds_after_pop at i more).kept + (if at.desc == d then full_keeps state else 0)
 return-places at i more state d none = grind (arith, none)
 
 return-stock :
     (at : Site) (i more : ℕ) (state : Phase) (c : ℕ) → full_keeps state ≡ 0
     → stock_among c (keep at.desc at.seat.class partly_used) + (if at.seat.class == c then full_keeps phase.Partial else 0)
-    ≡ stock_among c (after_pop at i more).kept + (if at.seat.class == c then full_keeps state else 0)
+    ≡ stock_among c (holds_after_pop at i more).kept + (if at.seat.class == c then full_keeps state else 0)
 return-stock at i more state c none = grind (arith, none)
 
-return-reserves : (at : Site) (i more : ℕ) → reserved_among at.desc (after_pop at i more).credits ≡ more
+return-reserves : (at : Site) (i more : ℕ) → reserved_among at.desc (holds_after_pop at i more).credits ≡ more
 return-reserves at i more = grind (arith)
 
-return-elsewhere : (at : Site) (i more d : ℕ) → d ≢ at.desc → 0 ≡ reserved_among d (after_pop at i more).credits
+return-elsewhere : (at : Site) (i more d : ℕ) → d ≢ at.desc → 0 ≡ reserved_among d (holds_after_pop at i more).credits
 return-elsewhere at i more d ne = grind (arith, ne)
 
-return-has : (at : Site) (i more : ℕ) → 1 ≤ kept_places at.desc (after_pop at i more).kept
+return-has : (at : Site) (i more : ℕ) → 1 ≤ kept_places at.desc (holds_after_pop at i more).kept
 return-has at i more = grind (arith)
 
 -- none else is kept
 return-others :
     (status : Status) (at : Site) (i more d : ℕ) → same_status reserving status ≡ false → same_status partly_used status ≡ false
-    → kept_among status d (keep at.desc at.seat.class partly_used) ≡ kept_among status d (after_pop at i more).kept
+    → kept_among status d (keep at.desc at.seat.class partly_used) ≡ kept_among status d (holds_after_pop at i more).kept
 return-others status at i more d reserves partly = grind (arith, reserves, partly)
 
 return-stands : (at : Site) (i more : ℕ) (a : AnchorFields) (o : Onward) → StandsIn false (Block (block.ReturnCredits at i more a) o)
@@ -219,7 +219,7 @@ return-shifts g s l who s' site i more a o old has here word step =
       giving = false;
       stands_before = subst (StandsIn false) (sym here) (return-stands site i more a o);
       stands_after = put-stands site (heap_of site.seat) i (asked o);
-      partials = sym (ap has_partial here);
+      partials = sym (ap (λ p. lacks_partial (turn_stage_of p)) here);
     }
 
 -- reserved blocks are returned
@@ -263,13 +263,10 @@ grant-others status x class false d reserves partly = grind (arith, partly)
 grant-has : (x class : ℕ) → 1 ≤ kept_places x (keep x class partly_used)
 grant-has x class = grind (arith)
 
-pub grant-partly : (x class : ℕ) → 1 ≤ kept_among partly_used x (keep x class partly_used)
-grant-partly x class = grind (arith)
-
-grant-reserves : (x class more : ℕ) → reserved_among x (before_pop x class (Grant more)).credits ≡ more + 1
+grant-reserves : (x class more : ℕ) → reserved_among x (holds_before_pop x class (Grant more)).credits ≡ more + 1
 grant-reserves x class more = grind (arith)
 
-grant-elsewhere : (x class more d : ℕ) → d ≢ x → reserved_among d (before_pop x class (Grant more)).credits ≡ 0
+grant-elsewhere : (x class more d : ℕ) → d ≢ x → reserved_among d (holds_before_pop x class (Grant more)).credits ≡ 0
 grant-elsewhere x class more d ne = grind (arith, ne)
 
 grant-in_use : (t : Bool) → is_empty (grant_state t) ≡ false
@@ -300,21 +297,6 @@ granted-full a is =
           let bad : phase.Active ≡ phase.Full = sym active ∙ is in absurd (cc)
       | inr none ↦ omega (arith, none)
     ]
-
--- a caller that keeps a superblock partly used has its descriptor out
-pub granting-away :
-    (g : Geometry) (s : State) (l : Lists) (who d : ℕ) → IsSoundWith g s l → who < g.callers → d < descriptor_count g
-    → 1 ≤ errand_keeps partly_used d (s.errand who) → away_of g s l d ≡ 0
-unfolding callers_sum
-granting-away g s l who d old has exists keeps =
-    let partly = λ (i : ℕ). errand_keeps partly_used d (s.errand i) in
-    let aways = λ (i : ℕ). errand_away d (s.errand i) in
-    let both = sum-plus g.callers partly aways in
-    let least : sum_below g.callers (λ i. partly i + aways i) ≤ sum_below g.callers (λ i. errand_has d (s.errand i)) =
-    sum-least g.callers (λ i. partly i + aways i) (λ i. errand_has d (s.errand i)) (λ i lt. omega arith) in
-    let once = old.kept.once d exists in
-    let mine : partly who ≤ sum_below g.callers partly = term-sum g.callers partly who has in
-    omega (arith, once, both, least, mine, keeps)
 
 -- a partly used superblock that isn't EMPTY has free blocks
 partial-some :
@@ -360,8 +342,8 @@ grant-shifts g s l who s' site a words old has here word step =
     let some : ((anchor_for s d).state ≡ phase.Partial) × (1 ≤ (anchor_for s d).count) = partial-some s d c partly used_still in
     let count : 1 ≤ a.count = subst (λ x. 1 ≤ x.count) was some.1 in
     let keeps : 1 ≤ errand_keeps partly_used d (s.errand who) =
-    subst (λ r. 1 ≤ kept_among partly_used d (holds_of r).kept) (sym here) (grant-partly d c) in
-    let away : away_of g s l d ≡ 0 = granting-away g s l who d old has fit.point.0.desc keeps in
+    subst (λ r. 1 ≤ kept_among partly_used d (holds_of r).kept) (sym here) (kept-itself partly_used d c) in
+    let away : away_of g s l d ≡ 0 = keeps-near g s l who d old has fit.point.0.desc keeps in
     let bound : IsTrue (is_bound g s l d) = rw (eq-eqb (away_of g s l d) 0 away, used_still) refl in
     let chained : IsChained (superblock_of g s d) = old.chained.chained d fit.point.0.desc bound in
     let size : (superblock_of g s d).size ≡ block_count_of c = ap block_count_of lies.class in
@@ -418,7 +400,7 @@ grant-shifts g s l who s' site a words old has here word step =
       giving = true;
       stands_before = subst (StandsIn true) (sym here) (grant-stands site a words);
       stands_after = loads-stands site more words;
-      partials = sym (ap has_partial here);
+      partials = sym (ap (λ p. lacks_partial (turn_stage_of p)) here);
     }
 
 -- blocks of a partial superblock are granted

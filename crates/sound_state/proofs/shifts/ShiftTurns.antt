@@ -17,14 +17,13 @@ use Rattle.sound_state.specs.Lists.{Lists, IsListed}
 use Rattle.sound_state.specs.Recalls.{IsLocated, IsOwned}
 use Rattle.sound_state.specs.Sound.{IsSoundWith}
 use Rattle.sound_state.specs.Ties.{IsTied, IsLive, IsExcepted}
-use Rattle.sound_state.specs.Turns.{IsTurned, turn_unlisted}
-use Rattle.sound_state.proofs.shared.AlikeLemmas.{each-caller, Excepts}
+use Rattle.sound_state.specs.Turns.{IsTurned, turn_unlisted, one_if}
+use Rattle.sound_state.proofs.shared.ShownLemmas.{each-caller, Excepts}
 use Rattle.sound_state.proofs.shifts.ShiftEffects.{Shifts}
 use Rattle.sound_state.proofs.shifts.ShiftFacts.{shifted-info, shifted-tag, shifted-empty, shifted-away, shifted-bound}
-use Rattle.sound_state.proofs.pops.PopTurns.{stands-weighs}
 use Rattle.sound_state.proofs.shared.GuardEffects.{guarded-clear}
 use Rattle.sound_state.proofs.shared.ListEffects.{IsListWord, listed-kept}
-use Rattle.sound_state.proofs.shared.TurnEffects.{emptied-kept, head-tag, no-event, turned-after}
+use Rattle.sound_state.proofs.shared.TurnEffects.{emptied-kept, head-tag, no-event, turned-after, stands-weighs}
 
 pub shifted-listed :
     (g : Geometry) (s : State) (l : Lists) (who : ℕ) (at : Site) (a b : AnchorFields) (e : ErrandFields) (s' : State) → Shifts g s l who at a b e s' → IsSoundWith g s l → IsListed g s'.word l
@@ -46,7 +45,7 @@ shifted-turned g s l who at a b e s' h old =
     let q = h.stands_after in
     let before = stands-weighs h.giving (s.errand who) p in
     let after = stands-weighs h.giving e q in
-    let unlisted : turn_unlisted e ≡ turn_unlisted (s.errand who) = rw (p.turn, q.turn, h.partials) refl in
+    let unlisted : turn_unlisted e ≡ turn_unlisted (s.errand who) = ap one_if h.partials in
     let events = no-event g who s.history s'.history h.history in
     let emptied_same =
     emptied-kept g s l s' l (λ d. rw (shifted-away g s l who at a b e s' h d, shifted-empty g s l who at a b e s' h d) refl) in

@@ -25,7 +25,7 @@ use Rattle.sound_state.specs.Stock.{stock_of}
 use Rattle.sound_state.specs.Sums.{callers_sum}
 use Rattle.sound_state.specs.Superblocks.{anchor_for, reserved_of, waiting_of, errand_keeps, errand_away}
 use Rattle.sound_state.specs.Turns.{gives_small, refuses_small, turn_open, turn_unanswered, errand_discards, turn_unframed, turn_unlisted, errand_pops}
-use Rattle.sound_state.proofs.shared.AlikeLemmas.{Excepts}
+use Rattle.sound_state.proofs.shared.ShownLemmas.{Excepts}
 
 -- the word is no head of a tagged stack
 abbrev pub IsNoHead : WordName → Type 0

@@ -38,7 +38,7 @@ use Rattle.pool_model.specs.Pool.{block_at, pool_of}
 use Rattle.errand_steps.specs.Errands.{ErrandFields}
 use Rattle.errand_steps.specs.Fits.{spare_of, pushed_by}
 use Rattle.errand_steps.specs.Steps.{State}
-use Rattle.sound_state.specs.Frames.{IsFramed, fills}
+use Rattle.sound_state.specs.Frames.{IsFramed, fills_frame}
 use Rattle.sound_state.specs.Guards.{IsGuarded, Guards, IsGuard, IsHazard, passed_by, held_by}
 use Rattle.sound_state.specs.Holdings.{holds_of}
 use Rattle.sound_state.specs.Keepers.{IsKept, IsWithout, IsKeptAs}
@@ -49,8 +49,8 @@ use Rattle.sound_state.specs.Sums.{sum_below}
 use Rattle.sound_state.specs.Superblocks.{AreChained, IsChained, info_or_zero, live_at, is_there, anchor_for, info_for, superblock_of, away_of, is_bound}
 use Rattle.sound_state.specs.Ties.{IsTied}
 use Rattle.sound_state.specs.Turns.{IsTurned, one_if, emptied_out}
-use Rattle.sound_state.proofs.shared.AlikeLemmas.{each-caller, same-superblock}
-use Rattle.sound_state.proofs.shared.KeptLemmas.{Goes, kept-goes, same-goes}
+use Rattle.sound_state.proofs.shared.KeptLemmas.{StaysKept, kept-goes, same-stays-kept}
+use Rattle.sound_state.proofs.shared.ShownLemmas.{each-caller, same-superblock}
 use Rattle.sound_state.proofs.shared.TieLemmas.{blocks-stay, located-stays, owned-stays}
 use Rattle.sound_state.proofs.stacks.StackEffects.{Restacks, IsNoHead}
 use Rattle.sound_state.proofs.shared.SumLemmas.{sum-same, sum-least}
@@ -202,14 +202,14 @@ superblock-restacked g s l who e s' l' h d =
 
 fills-restacked :
     (g : Geometry) (s : State) (l : Lists) (who : ℕ) (e : ErrandFields) (s' : State) (l' : Lists) → Restacks g s l who e s' l'
-    → (f d : ℕ) → fills g s' l' f d ≡ fills g s l f d
+    → (f d : ℕ) → fills_frame g s' l' f d ≡ fills_frame g s l f d
 fills-restacked g s l who e s' l' h f d = rw (bound-restacked g s l who e s' l' h d, h.waits d, info-restacked g s l who e s' l' h d) refl
 
 -- what is said of a descriptor's word or anchor stays so
 restacked-goes :
     (g : Geometry) (s : State) (l : Lists) (who : ℕ) (e : ErrandFields) (s' : State) (l' : Lists) → Restacks g s l who e s' l'
-    → (d : ℕ) → Goes s s' d
-restacked-goes g s l who e s' l' h d = same-goes s s' d (info-restacked g s l who e s' l' h d) (anchor-restacked g s l who e s' l' h d)
+    → (d : ℕ) → StaysKept s s' d
+restacked-goes g s l who e s' l' h d = same-stays-kept s s' d (info-restacked g s l who e s' l' h d) (anchor-restacked g s l who e s' l' h d)
 
 located-restacked :
     (g : Geometry) (s : State) (l : Lists) (who : ℕ) (e : ErrandFields) (s' : State) (l' : Lists) → Restacks g s l who e s' l'
@@ -315,8 +315,8 @@ framed-restacked :
     → IsFramed g s l → IsFramed g s' l'
 framed-restacked g s l who e s' l' h framed = record {
   once = λ f has.
-      let filled : sum_below (descriptor_count g) (fills g s' l' f) ≡ sum_below (descriptor_count g) (fills g s l f) =
-      sum-same (descriptor_count g) (fills g s l f) (fills g s' l' f) (λ d lt. fills-restacked g s l who e s' l' h f d) in
+      let filled : sum_below (descriptor_count g) (fills_frame g s' l' f) ≡ sum_below (descriptor_count g) (fills_frame g s l f) =
+      sum-same (descriptor_count g) (fills_frame g s l f) (fills_frame g s' l' f) (λ d lt. fills-restacked g s l who e s' l' h f d) in
       omega (arith, filled, h.frames f, framed.once f has);
 }
 

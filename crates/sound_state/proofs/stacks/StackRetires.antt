@@ -1,6 +1,6 @@
 -- A won push onto a stack after which a descriptor is retired.
-use Rattle.std.proofs.Common.{ℕ, zero, suc, Bool, true, false, None, Some, ◌≡◌, ◌<◌, ◌≤◌, ◌+◌, List, [], ◌∷◌, ◌++◌, length, refl, arith, ap, sym, subst, inl, inr, ◌∙◌}
-use Rattle.std.specs.Prelude.{◌==◌, ◌⊎◌, ◌&&◌, not, slice_index, replicate, All, Any, IsTrue, if◌then◌else◌}
+use Rattle.std.proofs.Common.{ℕ, zero, suc, Bool, true, false, None, Some, ◌≡◌, ◌<◌, ◌≤◌, ◌+◌, [], ◌∷◌, ◌++◌, length, refl, arith, ap, sym, subst, inl, inr, ◌∙◌}
+use Rattle.std.specs.Prelude.{◌==◌, ◌⊎◌, slice_index, replicate, All, Any, IsTrue, if◌then◌else◌}
 use Rattle.std.proofs.lemmas.Bool.{cases_eq, cond-false, eq-eqb, leb-true, ne_eqb}
 use Rattle.std.proofs.lemmas.List.{length-append}
 use Rattle.std.proofs.lemmas.List.Elements.{All-append, All-nil, All-cons, All-head}
@@ -38,20 +38,21 @@ use Rattle.errand_steps.specs.Points.{plan_point_of}
 use Rattle.errand_steps.specs.Steps.{State, Step, found_at, name_at}
 use Rattle.sound_state.specs.Holdings.{Kept, Status, clear, keep, onward_holds, holds_of, waiting, partly_used, on_its_way}
 use Rattle.sound_state.specs.Guards.{IsGuard, IsHazard, passed_by, held_by}
+use Rattle.sound_state.specs.TurnStages.{turn_stage_of, in_turn, lacks_frame, lacks_partial, lacks_answer, is_unneeded}
 use Rattle.sound_state.specs.Superblocks.{anchor_for, kept_among, reserved_among}
-use Rattle.sound_state.specs.Turns.{one_if, in_turn, has_frame, has_partial, has_refused, is_discarding_at, pops_left}
+use Rattle.sound_state.specs.Turns.{one_if, pops_left}
 use Rattle.sound_state.specs.Keepers.{IsKeptAs, IsWithout}
 use Rattle.sound_state.specs.Lists.{Lists}
 use Rattle.sound_state.specs.Recalls.{IsSo, IsOwned, emptied, list_of, recalls_of, resumed_recalls}
 use Rattle.sound_state.specs.Sound.{IsSoundWithoutCounts, IsSoundWith}
 use Rattle.sound_state.specs.Stock.{waits_in, stock_among}
+use Rattle.sound_state.proofs.shared.ListFacts.{occurs-push}
 use Rattle.sound_state.proofs.shared.PointLemmas.{kept_places, fits-at, kept-at}
 use Rattle.sound_state.proofs.quiet.QuietStacks.{push_top_lost-sound}
 use Rattle.sound_state.proofs.stacks.StackEffects.{MayStand}
-use Rattle.sound_state.proofs.quiet.QuietLemmas.{found_from}
 use Rattle.sound_state.proofs.stacks.StackSteps.{AreKept, head_pushed, pushes-on, keeps-less, in-hand, holds-true, push_going_on-sound}
 use Rattle.sound_state.proofs.stacks.StackShifts.{Exchanges, ErrandsBalanced, exchanges-sound, HoldsMore, Balanced, with_list, more-balanced, balance-back}
-use Rattle.sound_state.proofs.shared.StepLemmas.{raised-least, raised-below}
+use Rattle.sound_state.proofs.shared.StepLemmas.{raised-least, raised-below, found_from}
 
 -- no word is read yet
 unread-none : (n i : ℕ) → slice_index (replicate n 0) i ≡ 0
@@ -60,8 +61,8 @@ unread-none (suc n) zero = refl
 unread-none (suc n) (suc i) = unread-none n i
 
 -- the errand after a step that retires d
-abbrev retired_at : ErrandFields → Found → ℕ → Point → ℕ → ErrandFields
-retired_at e x d q t =
+abbrev retired_in_turn : ErrandFields → Found → ℕ → Point → ℕ → ErrandFields
+retired_in_turn e x d q t =
     record e {
       point = q;
       retired = e.retired ++ d ∷ [];
@@ -72,28 +73,28 @@ retired_at e x d q t =
     }
 
 -- where the list is full a scan begins; else the call ends, or goes on with a turn where the caller has one left
-settle-full :
+settle-full-in-turn :
     (e : ErrandFields) (x : Found) (seat : SeatFields) (d : ℕ) (o : Onward) → next_of e.point x ≡ Retire seat d o → is_full e ≡ true
-    → settle_of e x ≡ retired_at e x d (Desc (desc.ReadHazard seat no_words 0) o) e.turns
+    → settle_of e x ≡ retired_in_turn e x d (Desc (desc.ReadHazard seat no_words 0) o) e.turns
 unfolding settle_of course_of
-settle-full e x seat d o is full = rw (is, full) refl
+settle-full-in-turn e x seat d o is full = rw (is, full) refl
 
 settle-ends :
     (e : ErrandFields) (x : Found) (seat : SeatFields) (d : ℕ) → next_of e.point x ≡ Retire seat d onward.EndFree → is_full e ≡ false
-    → settle_of e x ≡ retired_at e x d Idle e.turns
+    → settle_of e x ≡ retired_in_turn e x d Idle e.turns
 unfolding settle_of course_of
 settle-ends e x seat d is full = rw (is, full) refl
 
 settle-spent :
     (e : ErrandFields) (x : Found) (seat : SeatFields) (d words : ℕ) → next_of e.point x ≡ Retire seat d (onward.Turn words)
-    → is_full e ≡ false → is_spent e ≡ true → settle_of e x ≡ retired_at e x d Idle e.turns
+    → is_full e ≡ false → is_spent e ≡ true → settle_of e x ≡ retired_in_turn e x d Idle e.turns
 unfolding settle_of course_of
 settle-spent e x seat d words is full spent = rw (is, full, spent) refl
 
 settle-turns :
     (e : ErrandFields) (x : Found) (seat : SeatFields) (d words : ℕ) → next_of e.point x ≡ Retire seat d (onward.Turn words)
     → is_full e ≡ false → is_spent e ≡ false
-    → settle_of e x ≡ retired_at e x d (Block (block.LoadActive seat) (onward.Alloc words)) (one_more e.turns)
+    → settle_of e x ≡ retired_in_turn e x d (Block (block.LoadActive seat) (onward.Alloc words)) (one_more e.turns)
 unfolding settle_of course_of
 settle-turns e x seat d words is full left = rw (is, full, left) refl
 
@@ -101,11 +102,11 @@ settle-turns e x seat d words is full left = rw (is, full, left) refl
 record RetireTurns (p q : Point) (n t : ℕ) : Type 0 where
   under_way : one_if (in_turn q) + n ≤ one_if (in_turn p) + t
   discards :
-      t + one_if (in_turn q && is_discarding_at q) + one_if (in_turn p && not (has_refused p))
-      ≤ n + one_if (in_turn p && is_discarding_at p) + one_if (in_turn q && not (has_refused q))
-  unframed : one_if (in_turn q && not (has_frame q)) + n ≤ one_if (in_turn p && not (has_frame p)) + t
+      t + one_if (is_unneeded (turn_stage_of q)) + one_if (lacks_answer (turn_stage_of p))
+      ≤ n + one_if (is_unneeded (turn_stage_of p)) + one_if (lacks_answer (turn_stage_of q))
+  unframed : one_if (lacks_frame (turn_stage_of q)) + n ≤ one_if (lacks_frame (turn_stage_of p)) + t
   pops :
-      pops_left q + one_if (in_turn q && not (has_partial q)) + n ≤ pops_left p + one_if (in_turn p && not (has_partial p)) + t
+      pops_left q + one_if (lacks_partial (turn_stage_of q)) + n ≤ pops_left p + one_if (lacks_partial (turn_stage_of p)) + t
 
 -- a point at which a caller holds and remembers nothing, and has read no hazard word
 record StandsBare (q : Point) : Type 0 where
@@ -121,9 +122,9 @@ record StandsBare (q : Point) : Type 0 where
   unread : (k : ℕ) → k < length (held_by q) → slice_index (held_by q) k ≡ 0
   waits : (class : ℕ) → waits_in class q ≡ 0
 
-idle-bare : StandsBare Idle
+idle-stands-bare : StandsBare Idle
 unfolding holds_of recalls_of
-idle-bare = grind (arith)
+idle-stands-bare = grind (arith)
 
 active-bare : (seat : SeatFields) (o : Onward) → StandsBare (Block (block.LoadActive seat) o)
 unfolding holds_of recalls_of
@@ -144,11 +145,6 @@ scan-bare seat o is = record {
   unread = λ k below. unread-none HELD_MOST k;
   waits = λ class. refl;
 }
-
--- one more entry of a list
-occurs-added : (x d : ℕ) (xs : List ℕ) → occurs x (xs ++ d ∷ []) ≡ occurs x xs + (if d == x then 1 else 0)
-occurs-added x d [] = omega arith
-occurs-added x d (y ∷ xs) = omega (arith, occurs-added x d xs)
 
 -- a descriptor that is retired: it was on its way there, or kept as a partly used one that is EMPTY
 abbrev MayRetire : State → Status → ℕ → Type 0
@@ -219,8 +215,8 @@ unfolding holds_of
 retire-off seat i h d = grind (arith)
 
 -- where the caller goes on when it has retired d, with so many turns: it stands bare
-record RetiresTo (g : Geometry) (s : State) (who : ℕ) (p : Point) (d : ℕ) (q : Point) (t : ℕ) : Type 0 where
-  settles : settle_of (s.errand who) (found_at s who) ≡ retired_at (s.errand who) (found_at s who) d q t
+record RetiresBare (g : Geometry) (s : State) (who : ℕ) (p : Point) (d : ℕ) (q : Point) (t : ℕ) : Type 0 where
+  settles : settle_of (s.errand who) (found_at s who) ≡ retired_in_turn (s.errand who) (found_at s who) d q t
   bare : StandsBare q
   full : spare_of q ≡ 1 → length (s.errand who).retired ≡ g.callers
   turns : RetireTurns p q (s.errand who).turns t
@@ -235,13 +231,13 @@ push-exchanges :
     (d : ℕ) (status : Status) → IsSoundWithoutCounts g s → IsSoundWith g s l → who < g.callers
     → (s.errand who).point ≡ Stack (stack.PushTop seat pile i h) o → s.word (head_name seat pile) ≡ head_word h
     → RetiresOff seat pile i h o d status → MayRetire s status d → (q : Point) (t : ℕ)
-    → RetiresTo g s who (Stack (stack.PushTop seat pile i h) o) d q t → Retired g s l who seat pile i h
+    → RetiresBare g s who (Stack (stack.PushTop seat pile i h) o) d q t → Retired g s l who seat pile i h
 unfolding plan_point_of event_of
 push-exchanges g s l who seat pile i h o d status sound old has at word off may q t r =
     let p : Point = Stack (stack.PushTop seat pile i h) o in
     let a : ErrandFields = s.errand who in
     let x : Found = found_at s who in
-    let e : ErrandFields = retired_at a x d q t in
+    let e : ErrandFields = retired_in_turn a x d q t in
     let on = pushes-on g s l who seat pile i h o sound old has at word in
     let l' : Lists = with_list l seat pile (i ∷ list_of l seat pile) in
     let b : Balanced l l' (holds_of p) (onward_holds seat o) =
@@ -293,7 +289,7 @@ push-exchanges g s l who seat pile i h o d status sound old has at word off may 
       cleared = ap (λ z. raised (counts_cleared z x) a.cleared) at;
     } in
     let places = λ (y : ℕ). ap (kept_places y) off.kept ∙ retire-places s status d y seat.class may in
-    let added = λ (y : ℕ). occurs-added y d a.retired in
+    let added = λ (y : ℕ). occurs-push y d a.retired in
     let old_kept : (holds_of a.point).kept ≡ (holds_of p).kept = ap (λ z. (holds_of z).kept) at in
     let balanced : ErrandsBalanced g s l l' a e = record {
       available = b.available;
@@ -375,7 +371,7 @@ discard-exchanges g s l who seat i h words d sound old has at word =
       | inl full ↦
           retires (Desc (desc.ReadHazard seat no_words 0) (onward.Turn words)) a.turns
           (record {
-            settles = settle-full a x seat d (onward.Turn words) next full;
+            settles = settle-full-in-turn a x seat d (onward.Turn words) next full;
             bare = scan-bare seat (onward.Turn words) refl;
             full = λ spare. full-list g s l who p old has at refl full;
             turns = grind (arith);
@@ -386,7 +382,7 @@ discard-exchanges g s l who seat i h words d sound old has at word =
                 retires Idle a.turns
                 (record {
                   settles = settle-spent a x seat d words next few spent;
-                  bare = idle-bare;
+                  bare = idle-stands-bare;
                   full = λ spare. absurd (omega (arith, spare));
                   turns = grind (arith);
                 })
@@ -433,7 +429,7 @@ retire-exchanges g s l who seat i h d sound old has at word =
       | inl full ↦
           retires (Desc (desc.ReadHazard seat no_words 0) onward.EndFree) a.turns
           (record {
-            settles = settle-full a x seat d onward.EndFree next full;
+            settles = settle-full-in-turn a x seat d onward.EndFree next full;
             bare = scan-bare seat onward.EndFree refl;
             full = λ spare. full-list g s l who p old has at refl full;
             turns = grind (arith);
@@ -442,7 +438,7 @@ retire-exchanges g s l who seat i h d sound old has at word =
           retires Idle a.turns
           (record {
             settles = settle-ends a x seat d next few;
-            bare = idle-bare;
+            bare = idle-stands-bare;
             full = λ spare. absurd (omega (arith, spare));
             turns = grind (arith);
           })

@@ -1,6 +1,6 @@
 -- The lists and what a caller holds, where an index goes from a stack to its hand or back; and the step that does it.
 use Rattle.std.proofs.Common.{ℕ, false, None, ◌≡◌, ◌≢◌, ◌<◌, ◌≤◌, ◌+◌, List, ◌∷◌, length, refl, arith, ap, sym, subst, inl, inr, ◌∙◌}
-use Rattle.std.specs.Prelude.{◌==◌, ◌&&◌, ◌⊎◌, not, All, if◌then◌else◌}
+use Rattle.std.specs.Prelude.{◌==◌, ◌⊎◌, All, if◌then◌else◌}
 use Rattle.std.proofs.lemmas.Bool.{cases_eq, cond-true, cond-false, eq-eqb, ne_eqb}
 use Rattle.heap_geometry.specs.declared.geometry.Geometry.{Geometry}
 use Rattle.heap_geometry.specs.declared.limits.TheConstants.{CLASSES}
@@ -21,34 +21,30 @@ use Rattle.stack_parts.specs.declared.point.Pile.{Pile}
 use Rattle.stack_parts.specs.declared.point.Pile.TheVariants.{Frames, Partials}
 use Rattle.stack_parts.specs.Piles.{head_name}
 use Rattle.pool_model.specs.Legal.{IsLegalWithoutCounts}
-use Rattle.errand_steps.specs.declared.next.Next.{Next}
-use Rattle.errand_steps.specs.declared.next.Next.TheVariants.{At, End}
 use Rattle.errand_steps.specs.declared.point.Point.{Point}
-use Rattle.errand_steps.specs.declared.point.Point.TheVariants.{Idle}
-use Rattle.errand_steps.specs.declared.reply.Reply.{Reply}
 use Rattle.errand_steps.specs.Errands.{ErrandFields, settle_of, counts_cleared, raised}
 use Rattle.errand_steps.specs.Events.{event_of}
 use Rattle.errand_steps.specs.Nexts.{next_of}
 use Rattle.errand_steps.specs.Points.{plan_point_of}
 use Rattle.errand_steps.specs.Steps.{State, Step, Moves, found_at, name_at, with_event}
-use Rattle.word_plan.specs.declared.action.Found.{Found}
 use Rattle.sound_state.specs.Frames.{errand_frames}
 use Rattle.sound_state.specs.Holdings.{Holding, Kept, holds_of, waiting, partly_used, on_its_way}
 use Rattle.sound_state.specs.Keepers.{IsPartlyUsed, word_keeps, errand_has, full_keeps}
 use Rattle.sound_state.specs.Lists.{Lists, IsListed}
 use Rattle.sound_state.specs.Recalls.{list_of}
 use Rattle.sound_state.specs.Sound.{IsSoundWithoutCounts, IsSoundWith}
+use Rattle.sound_state.specs.TurnStages.{turn_stage_of, lacks_frame, lacks_partial}
 use Rattle.sound_state.specs.Stock.{word_stock, errand_stock, full_stock, stock_among, waits_in}
 use Rattle.sound_state.specs.Sums.{sum_below}
 use Rattle.sound_state.specs.Superblocks.{anchor_for, info_or_zero, word_reserves, errand_reserves, errand_keeps, errand_away, kept_among, reserved_among}
-use Rattle.sound_state.specs.Turns.{turn_unframed, turn_unlisted, errand_pops, one_if, in_turn, has_frame, has_partial, pops_left}
+use Rattle.sound_state.specs.Turns.{turn_unframed, turn_unlisted, errand_pops, one_if, pops_left}
 use Rattle.sound_state.proofs.shared.PointLemmas.{kept_places}
-use Rattle.sound_state.proofs.quiet.QuietLemmas.{found_from}
-use Rattle.sound_state.proofs.shared.AlikeLemmas.{MayGoOn}
+use Rattle.sound_state.proofs.shared.ShownLemmas.{MayGoOn}
+use Rattle.sound_state.proofs.shared.WonEffects.{settle-leads, LeadsTo}
 use Rattle.sound_state.proofs.stacks.StackEffects.{Restacks, MayStand, IsNoHead}
 use Rattle.sound_state.proofs.stacks.StackFacts.{restacked-sound}
 use Rattle.sound_state.proofs.shared.KeptLemmas.{words-but}
-use Rattle.sound_state.proofs.shared.StepLemmas.{PointGoes, at_point, goes-stands, may-after, settle-at, settle-end, words-below}
+use Rattle.sound_state.proofs.shared.StepLemmas.{PointGoes, at_point, goes-stands, may-after, words-below, found_from}
 use Rattle.sound_state.proofs.shared.SumLemmas.{sum-same, sum-change, callers-moved}
 
 -- the lists with another one for a stack
@@ -132,10 +128,10 @@ balance-back l l' h h' b = record {
 }
 
 -- one more partly used superblock that is kept
-pub kept-more :
+pub partly-kept-more :
     (d x class : ℕ) (ks : List Kept)
     → kept_places d (record { desc = x; class = class; status = partly_used } ∷ ks) ≡ (if x == d then 1 else 0) + kept_places d ks
-kept-more d x class ks = grind (arith)
+partly-kept-more d x class ks = grind (arith)
 
 waits-more :
     (d x class : ℕ) (ks : List Kept)
@@ -148,15 +144,15 @@ ways-more :
 ways-more d x class ks = grind (arith)
 
 -- the class of a list's head
-abbrev pub class_named : WordName → ℕ
-class_named (name.ListHead class) = class
-class_named n = 0
+abbrev pub list_class : WordName → ℕ
+list_class (name.ListHead class) = class
+list_class n = 0
 
 -- a list of partial superblocks of another class
 partials-stay :
     (seat : SeatFields) (l l' : Lists) → OthersStay seat Partials l l' → (c : ℕ) → c ≢ seat.class → l'.partials c ≡ l.partials c
 partials-stay seat l l' others c differ =
-    others (record seat { class = c }) Partials (λ same. differ (ap class_named same))
+    others (record seat { class = c }) Partials (λ same. differ (ap list_class same))
 
 -- what goes from a stack to a hand is balanced
 pub more-balanced :
@@ -190,7 +186,7 @@ more-balanced seat Partials x l l' h h' has one more =
                 (λ c lt differ. ap (occurs d) (others c differ)),
             ap (occurs d) one.here,
             ap (kept_places d) more.0,
-            kept-more d x seat.class h.kept,
+            partly-kept-more d x seat.class h.kept,
           );
       stock = λ class.
           elim (cases_eq class seat.class) [
@@ -211,19 +207,11 @@ more-balanced seat Partials x l l' h h' has one more =
       ways = λ d. ap (kept_among on_its_way d) more.0 ∙ ways-more d x seat.class h.kept;
     }
 
--- the step leads to the point, or ends the call
-abbrev pub Leads : Next → Point → Type 0
-Leads n q = (n ≡ At q) ⊎ ((r : Reply) × (n ≡ End r) × (q ≡ Idle))
-
-settle-leads : (e : ErrandFields) (x : Found) (q : Point) → Leads (next_of e.point x) q → settle_of e x ≡ at_point e x q
-settle-leads e x q (inl is) = settle-at e x q is
-settle-leads e x q (inr is) = settle-end e x is.0 is.1 ∙ ap (at_point e x) (sym is.2)
-
 -- a pop that raises a tag is paid by the turn
-abbrev pub Spends : Pile → ℕ → ℕ → Point → Point → Type 0
-Spends Frames was now p q = now + one_if (in_turn q && not (has_frame q)) ≤ was + one_if (in_turn p && not (has_frame p))
-Spends Partials was now p q =
-    now + pops_left q + one_if (in_turn q && not (has_partial q)) ≤ was + pops_left p + one_if (in_turn p && not (has_partial p))
+abbrev pub PaysForTag : Pile → ℕ → ℕ → Point → Point → Type 0
+PaysForTag Frames was now p q = now + one_if (lacks_frame (turn_stage_of q)) ≤ was + one_if (lacks_frame (turn_stage_of p))
+PaysForTag Partials was now p q =
+    now + pops_left q + one_if (lacks_partial (turn_stage_of q)) ≤ was + pops_left p + one_if (lacks_partial (turn_stage_of p))
 
 -- where a stack has another head, its list is that of the second lists, and all others stay
 pub record NewList (g : Geometry) (s : State) (l : Lists) (seat : SeatFields) (pile : Pile) (new : HeadFields) (l' : Lists) : Type 0 where
@@ -237,9 +225,9 @@ pub record NewList (g : Geometry) (s : State) (l : Lists) (seat : SeatFields) (p
   pub others : OthersStay seat pile l l'
 
 -- a step from the first point to the second, with a won exchange of a head
-pub record Shifts (g : Geometry) (s : State) (l : Lists) (who : ℕ) (p q : Point) (seat : SeatFields) (pile : Pile) (new : HeadFields)
+pub record ShiftsHead (g : Geometry) (s : State) (l : Lists) (who : ℕ) (p q : Point) (seat : SeatFields) (pile : Pile) (new : HeadFields)
     (l' : Lists) : Type 0 where
-  pub leads : Leads (next_of p (found_from s p)) q
+  pub leads : LeadsTo (next_of p (found_from s p)) q
   pub event : event_of who p (found_from s p) ≡ None
   pub cleared : counts_cleared p (found_from s p) ≡ false
   pub head : name_of (plan_point_of p) ≡ head_name seat pile
@@ -249,7 +237,7 @@ pub record Shifts (g : Geometry) (s : State) (l : Lists) (who : ℕ) (p q : Poin
   pub balanced : Balanced l l' (holds_of p) (holds_of q)
   pub credits : (holds_of q).credits ≡ (holds_of p).credits
   pub waits : (class : ℕ) → waits_in class q ≡ waits_in class p
-  pub spends : Spends pile (head_of (s.word (head_name seat pile))).tag new.tag p q
+  pub spends : PaysForTag pile (head_of (s.word (head_name seat pile))).tag new.tag p q
 
 -- a head is no other word
 pub no-head-apart : (seat : SeatFields) (pile : Pile) (n : WordName) → IsNoHead n → n ≢ head_name seat pile
@@ -261,9 +249,9 @@ reserves-none : (d : ℕ) (seat : SeatFields) (pile : Pile) (w : ℕ) → word_r
 reserves-none d seat Frames w = refl
 reserves-none d seat Partials w = refl
 
-keeps-none : (d : ℕ) (seat : SeatFields) (pile : Pile) (w : ℕ) → word_keeps d (head_name seat pile) w ≡ 0
-keeps-none d seat Frames w = refl
-keeps-none d seat Partials w = refl
+head-keeps-none : (d : ℕ) (seat : SeatFields) (pile : Pile) (w : ℕ) → word_keeps d (head_name seat pile) w ≡ 0
+head-keeps-none d seat Frames w = refl
+head-keeps-none d seat Partials w = refl
 
 stock-none : (class : ℕ) (seat : SeatFields) (pile : Pile) (w : ℕ) → word_stock class (head_name seat pile) w ≡ 0
 stock-none class seat Frames w = refl
@@ -290,7 +278,7 @@ list-named P l l' seat seat2 Frames Frames same is = is
 list-named P l l' seat seat2 Frames Partials same is = absurd (cc)
 list-named P l l' seat seat2 Partials Frames same is = absurd (cc)
 list-named P l l' seat seat2 Partials Partials same is =
-    subst (λ c. P (l.partials c) (l'.partials c)) (sym (ap class_named same)) is
+    subst (λ c. P (l.partials c) (l'.partials c)) (sym (ap list_class same)) is
 
 still-listed :
     (s : State) (l l' : Lists) (seat seat2 : SeatFields) (pile pile2 : Pile) (new : HeadFields) (words' : WordName → ℕ)
@@ -311,10 +299,10 @@ still-listed s l l' seat seat2 pile pile2 new words' fits writes others still sa
 -- what the turn pays for the frames' tag and for a class's
 frame-spends :
     (s : State) (seat : SeatFields) (pile : Pile) (p q : Point) (new : HeadFields) (words' : WordName → ℕ) → IsHead new
-    → Writes s.word (head_name seat pile) (head_word new) words' → Spends pile (head_of (s.word (head_name seat pile))).tag new.tag p q
-    → one_if (in_turn q && not (has_frame q)) ≤ one_if (in_turn p && not (has_frame p))
-    → (head_of (words' name.FrameHead)).tag + one_if (in_turn q && not (has_frame q))
-    ≤ (head_of (s.word name.FrameHead)).tag + one_if (in_turn p && not (has_frame p))
+    → Writes s.word (head_name seat pile) (head_word new) words' → PaysForTag pile (head_of (s.word (head_name seat pile))).tag new.tag p q
+    → one_if (lacks_frame (turn_stage_of q)) ≤ one_if (lacks_frame (turn_stage_of p))
+    → (head_of (words' name.FrameHead)).tag + one_if (lacks_frame (turn_stage_of q))
+    ≤ (head_of (s.word name.FrameHead)).tag + one_if (lacks_frame (turn_stage_of p))
 frame-spends s seat Frames p q new words' fits writes spends least =
     omega (arith, spends, ap (λ w. (head_of w).tag) writes.here, ap (λ (x : HeadFields). x.tag) (head_of-head_word new fits))
 frame-spends s seat Partials p q new words' fits writes spends least =
@@ -322,21 +310,21 @@ frame-spends s seat Partials p q new words' fits writes spends least =
 
 list-spends :
     (s : State) (seat : SeatFields) (pile : Pile) (p q : Point) (new : HeadFields) (words' : WordName → ℕ) (class : ℕ) → IsHead new
-    → Writes s.word (head_name seat pile) (head_word new) words' → Spends pile (head_of (s.word (head_name seat pile))).tag new.tag p q
-    → pops_left q + one_if (in_turn q && not (has_partial q)) ≤ pops_left p + one_if (in_turn p && not (has_partial p))
-    → (head_of (words' (name.ListHead class))).tag + pops_left q + one_if (in_turn q && not (has_partial q))
-    ≤ (head_of (s.word (name.ListHead class))).tag + pops_left p + one_if (in_turn p && not (has_partial p))
+    → Writes s.word (head_name seat pile) (head_word new) words' → PaysForTag pile (head_of (s.word (head_name seat pile))).tag new.tag p q
+    → pops_left q + one_if (lacks_partial (turn_stage_of q)) ≤ pops_left p + one_if (lacks_partial (turn_stage_of p))
+    → (head_of (words' (name.ListHead class))).tag + pops_left q + one_if (lacks_partial (turn_stage_of q))
+    ≤ (head_of (s.word (name.ListHead class))).tag + pops_left p + one_if (lacks_partial (turn_stage_of p))
 list-spends s seat Frames p q new words' class fits writes spends least =
     omega (arith, least, ap (λ w. (head_of w).tag) (writes.elsewhere (name.ListHead class) (λ same. cc)))
 list-spends s seat Partials p q new words' class fits writes spends least =
     elim (cases_eq class seat.class) [
       | inl same ↦
           subst
-          (λ c. (head_of (words' (name.ListHead c))).tag + pops_left q + one_if (in_turn q && not (has_partial q))
-          ≤ (head_of (s.word (name.ListHead c))).tag + pops_left p + one_if (in_turn p && not (has_partial p))) (sym same)
+          (λ c. (head_of (words' (name.ListHead c))).tag + pops_left q + one_if (lacks_partial (turn_stage_of q))
+          ≤ (head_of (s.word (name.ListHead c))).tag + pops_left p + one_if (lacks_partial (turn_stage_of p))) (sym same)
           (omega (arith, spends, ap (λ w. (head_of w).tag) writes.here, ap (λ (x : HeadFields). x.tag) (head_of-head_word new fits)))
       | inr differ ↦
-          omega (arith, least, ap (λ w. (head_of w).tag) (writes.elsewhere (name.ListHead class) (λ e. differ (ap class_named e))))
+          omega (arith, least, ap (λ w. (head_of w).tag) (writes.elsewhere (name.ListHead class) (λ e. differ (ap list_class e))))
     ]
 
 -- the lists and an errand have together what others have, or less
@@ -413,7 +401,7 @@ exchanges-restacks g s l who s' seat pile new e l' old has h step =
       places = λ d.
           omega (
             arith,
-            words (word_keeps d) (keeps-none d seat pile),
+            words (word_keeps d) (head-keeps-none d seat pile),
             callers (errand_has d),
             b.places d,
             ap (occurs d) b.available,
@@ -479,7 +467,7 @@ may-stand g s l who a b m goes cleared = record {
 -- a step from a point to a point is such an exchange
 shifts-exchanges :
     (g : Geometry) (s : State) (l : Lists) (who : ℕ) (q : Point) (seat : SeatFields) (pile : Pile) (new : HeadFields)
-    (l' : Lists) → IsSoundWith g s l → who < g.callers → Shifts g s l who (s.errand who).point q seat pile new l'
+    (l' : Lists) → IsSoundWith g s l → who < g.callers → ShiftsHead g s l who (s.errand who).point q seat pile new l'
     → Exchanges g s l who seat pile new (at_point (s.errand who) (found_at s who) q) l'
 shifts-exchanges g s l who q seat pile new l' old has h =
     let e = at_point (s.errand who) (found_at s who) q in
@@ -515,11 +503,11 @@ shifts-exchanges g s l who q seat pile new l' old has h =
 pub shifts-sound :
     (g : Geometry) (s : State) (who : ℕ) (s' : State) (p q : Point) (seat : SeatFields) (pile : Pile) (new : HeadFields) → IsSoundWithoutCounts g s
     → who < g.callers → (s.errand who).point ≡ p
-    → ((l : Lists) → IsSoundWith g s l → (l' : Lists) × Shifts g s l who p q seat pile new l') → Step s who s' → IsSoundWithoutCounts g s'
+    → ((l : Lists) → IsSoundWith g s l → (l' : Lists) × ShiftsHead g s l who p q seat pile new l') → Step s who s' → IsSoundWithoutCounts g s'
 shifts-sound g s who s' p q seat pile new sound has at h step =
     exchanges-sound g s who s' seat pile new sound has
     (λ l old.
     let found = h l old in
-    let shifts : Shifts g s l who (s.errand who).point q seat pile new found.0 =
-    subst (λ r. Shifts g s l who r q seat pile new found.0) (sym at) found.1 in
+    let shifts : ShiftsHead g s l who (s.errand who).point q seat pile new found.0 =
+    subst (λ r. ShiftsHead g s l who r q seat pile new found.0) (sym at) found.1 in
     (found.0, at_point (s.errand who) (found_at s who) q, shifts-exchanges g s l who q seat pile new found.0 old has shifts)) step

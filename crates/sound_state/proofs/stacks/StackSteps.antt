@@ -43,9 +43,11 @@ use Rattle.sound_state.specs.Recalls.{IsSo, list_of, onward_recalls, recalls_of,
 use Rattle.sound_state.specs.Sound.{IsSoundWithoutCounts, IsSoundWith}
 use Rattle.sound_state.specs.Stock.{waits_in}
 use Rattle.sound_state.proofs.shared.PointLemmas.{HoldsAlike, alike-goes, fits-at, kept-at, so-at}
-use Rattle.sound_state.proofs.quiet.QuietStacks.{pile-stacked, pile-exists, pop_top_lost-sound}
+use Rattle.sound_state.proofs.quiet.QuietStacks.{pop_top_lost-sound}
+use Rattle.sound_state.proofs.shared.StackedLemmas.{pile-stacked, pile-exists}
+use Rattle.sound_state.proofs.shared.WonEffects.{LeadsTo}
 use Rattle.sound_state.proofs.stacks.StackEffects.{IsNoHead}
-use Rattle.sound_state.proofs.stacks.StackShifts.{NewList, HoldsMore, OneMore, Leads, Spends, with_list, more-popped, more-pushed, more-balanced, balance-back, shifts-sound, class_named, no-head-apart, list-elsewhere}
+use Rattle.sound_state.proofs.stacks.StackShifts.{NewList, HoldsMore, OneMore, PaysForTag, with_list, more-popped, more-pushed, more-balanced, balance-back, shifts-sound, list_class, no-head-apart, list-elsewhere}
 use Rattle.sound_state.proofs.shared.StepLemmas.{TurnGoes}
 use Rattle.sound_state.proofs.shared.TagLemmas.{frame-tag-below, list-tags-below}
 
@@ -109,7 +111,7 @@ listed-with g s l seat Partials new xs words' listed fits w stacked exist =
       partials = λ class has.
           partials-with (λ c ys. Stacked (next_in words' Partials) (head_of (words' (name.ListHead c))).top ys) l seat xs class
           (rw (partials, top) stacked)
-          (λ differ. rw (partials, w.elsewhere (name.ListHead class) (λ e. differ (ap class_named e))) (listed.partials class has));
+          (λ differ. rw (partials, w.elsewhere (name.ListHead class) (λ e. differ (ap list_class e))) (listed.partials class has));
       partials_exist = λ class has.
           partials-with (λ c. All (λ d. d < descriptor_count g)) l seat xs class exist (λ differ. listed.partials_exist class has);
     }
@@ -178,7 +180,7 @@ record PopLeads (seat : SeatFields) (pile : Pile) (h : HeadFields) (below : ℕ)
   credits : (holds_of q).credits ≡ (holds_of (Stack (stack.PopTop seat pile h below) o)).credits
   waits : (class : ℕ) → waits_in class q ≡ 0
   recalls : (recalls_of q ≡ []) ⊎ ((frame : ℕ) × (class : ℕ) × (recalls_of q ≡ made frame class 0 ∷ []))
-  spends : Spends pile h.tag (h.tag + 1) (Stack (stack.PopTop seat pile h below) o) q
+  spends : PaysForTag pile h.tag (h.tag + 1) (Stack (stack.PopTop seat pile h below) o) q
 
 -- what is remembered after a pop is so: no link is stored yet
 pop-recalls :
@@ -249,7 +251,7 @@ pop-leads-sound g s who s' seat pile h below o q to sound has at word step =
             more-balanced seat pile (h.top - 1) l (with_list l seat pile top.rest) (holds_of p) (holds_of q) class one to.more;
         credits = to.credits;
         waits = to.waits;
-        spends = subst (λ (x : HeadFields). Spends pile x.tag (h.tag + 1) p q) (sym before) to.spends;
+        spends = subst (λ (x : HeadFields). PaysForTag pile x.tag (h.tag + 1) p q) (sym before) to.spends;
       },
     )) step
 
@@ -305,7 +307,7 @@ pop_top-sound g s who s' seat pile h below o sound has at step =
 
 -- where a won push leads, and what the caller holds and remembers there
 record PushLeads (seat : SeatFields) (pile : Pile) (i : ℕ) (h : HeadFields) (o : Onward) (q : Point) : Type 0 where
-  next : Leads (put_away seat o) q
+  next : LeadsTo (put_away seat o) q
   holds : HoldsAlike (Stack (stack.PushTop seat pile i h) o) q
   more : HoldsMore seat pile i (holds_of q) (holds_of (Stack (stack.PushTop seat pile i h) o))
   credits : (holds_of q).credits ≡ (holds_of (Stack (stack.PushTop seat pile i h) o)).credits
@@ -313,7 +315,7 @@ record PushLeads (seat : SeatFields) (pile : Pile) (i : ℕ) (h : HeadFields) (o
   recalls : recalls_of q ≡ onward_recalls seat o
 
 -- a tag that stays costs nothing
-push-spends : (pile : Pile) (t : ℕ) (p q : Point) → TurnGoes p q → Spends pile t t p q
+push-spends : (pile : Pile) (t : ℕ) (p q : Point) → TurnGoes p q → PaysForTag pile t t p q
 push-spends Frames t p q goes = omega (arith, goes.unframed)
 push-spends Partials t p q goes = omega (arith, goes.pops)
 
@@ -405,7 +407,7 @@ push-leads-sound g s who s' seat pile i h o q to sound has at word step =
             balance-back l' l (holds_of q) (holds_of p) (more-balanced seat pile i l' l (holds_of q) (holds_of p) on.class on.one to.more);
         credits = to.credits;
         waits = to.waits;
-        spends = subst (λ (x : HeadFields). Spends pile x.tag h.tag p q) (sym on.before) (push-spends pile h.tag p q to.holds.turn);
+        spends = subst (λ (x : HeadFields). PaysForTag pile x.tag h.tag p q) (sym on.before) (push-spends pile h.tag p q to.holds.turn);
       },
     )) step
 

@@ -1,37 +1,32 @@
 -- Who alone may store what a descriptor says: the caller that keeps it, partly used or on its way.
-use Rattle.std.proofs.Common.{ℕ, Bool, Some, ◌≡◌, ◌≢◌, ◌<◌, ◌≤◌, ◌+◌, ◌^◌, List, [], ◌∷◌, arith, ap, sym, subst, inl, inr, ◌∙◌}
+use Rattle.std.proofs.Common.{ℕ, Some, ◌≡◌, ◌≢◌, ◌<◌, ◌≤◌, ◌+◌, ◌^◌, List, [], ◌∷◌, arith, ap, sym, subst, inl, inr, ◌∙◌}
 use Rattle.std.specs.List.{AllByRecursion}
 use Rattle.std.specs.Prelude.{◌==◌, ◌&&◌, if◌then◌else◌, IsTrue, IsSome}
 use Rattle.std.proofs.lemmas.Bool.{cases_eq, cond-true, eq-eqb}
 use Rattle.std.proofs.lemmas.List.Elements.{All-from_recursion}
 use Rattle.heap_geometry.specs.declared.geometry.Geometry.{Geometry}
-use Rattle.heap_geometry.specs.declared.limits.TheConstants.{CLASSES}
 use Rattle.packed_words.specs.declared.active.ActiveWord.TheVariants.{Held}
 use Rattle.packed_words.specs.Active.{active_of}
 use Rattle.word_plan.specs.declared.name.WordName.{WordName}
 use Rattle.word_plan.specs.declared.name.WordName.TheVariants as name
 use Rattle.word_plan.specs.declared.seat.Site.{Site}
-use Rattle.word_plan.specs.Counts.{descriptor_count, word_count}
+use Rattle.word_plan.specs.Counts.{descriptor_count}
 use Rattle.word_plan.specs.Seats.{info_in}
-use Rattle.word_plan.specs.Table.{Exists, word_index, word_name}
 use Rattle.word_plan.specs.Words.{Writes}
-use Rattle.word_plan.proofs.TableLemmas.{word_index-within, word_name-word_index}
 use Rattle.superblock_parts.specs.Chains.{occurs}
 use Rattle.superblock_parts.specs.declared.point.BlockPoint.TheVariants as block
-use Rattle.superblock_parts.proofs.ChainLemmas.{occurs-here, occurs-more}
 use Rattle.errand_steps.specs.declared.onward.Onward.{Onward}
 use Rattle.errand_steps.specs.declared.point.Point.TheVariants as point
 use Rattle.errand_steps.specs.Steps.{State}
 use Rattle.sound_state.specs.Holdings.{Kept, Status, reserving, waiting, partly_used, on_its_way, holds_of}
-use Rattle.sound_state.specs.Keepers.{errand_has, active_keeps, word_keeps, full_keeps}
+use Rattle.sound_state.specs.Keepers.{active_keeps, word_keeps, full_keeps}
 use Rattle.sound_state.specs.Lists.{Lists}
 use Rattle.sound_state.specs.Sound.{IsSoundWith}
-use Rattle.sound_state.specs.Sums.{sum_below, words_sum, callers_sum}
-use Rattle.sound_state.specs.Superblocks.{anchor_for, is_bound, away_of, errand_away, errand_keeps, kept_among, same_status}
+use Rattle.sound_state.specs.Superblocks.{anchor_for, is_bound, kept_among, same_status}
+use Rattle.sound_state.proofs.shared.ListFacts.{all-occurring}
+use Rattle.sound_state.proofs.shared.UnplacedLemmas.{IsUnplaced}
 use Rattle.sound_state.proofs.stores.StoreFields.{IsPlaceKept, IsKeptStill, PlacesKept, LoneKept}
-use Rattle.sound_state.proofs.stores.StoreReads.{links-stay, blocks-stay, place-same, places-kept, IsPlaceUnread, link-unread, block-unread, place-unread, lone-kept}
-use Rattle.sound_state.proofs.shared.HasLemmas.{others-none}
-use Rattle.sound_state.proofs.shared.SumLemmas.{term-sum}
+use Rattle.sound_state.proofs.stores.StoreReads.{links-stay, blocks-kept, place-same, all-places-kept, IsPlaceUnread, link-unread, block-unread, place-unread, lone-kept}
 
 abbrev pub info_number : WordName → ℕ
 info_number (name.Info d) = d
@@ -65,22 +60,12 @@ infos-kept :
 infos-kept g s l d new words' old below w places unread =
     let n = name.Info d in
     lone-kept g s l n new words' old tt below w (links-stay g s l n new words' old w (λ no. no)) places
-    (blocks-stay g s l n new words' w (λ no. no))
+    (blocks-kept g s l n new words' w (λ no. no))
     (λ i has. record {
       link = link-unread n (s.errand i).point (λ no. no);
       block = block-unread n (s.errand i).point (λ no. no);
       place = unread i has;
     })
-
--- nobody says of the descriptor that it has a superblock, nor of which class it is
-pub record IsUnplaced (g : Geometry) (s : State) (l : Lists) (d : ℕ) : Type 0 where
-  pub bound : IsTrue (is_bound g s l d) → ⊥
-  pub words : (n : WordName) → Exists g n → word_keeps d n (s.word n) ≡ 0
-  pub listed : (class : ℕ) → class < CLASSES → occurs d (l.partials class) ≡ 0
-  pub reserving : (who : ℕ) → who < g.callers → errand_keeps reserving d (s.errand who) ≡ 0
-  pub waiting : (who : ℕ) → who < g.callers → errand_keeps waiting d (s.errand who) ≡ 0
-  pub partly : (who : ℕ) → who < g.callers → errand_keeps partly_used d (s.errand who) ≡ 0
-  pub full : full_keeps (anchor_for s d).state ≡ 0
 
 -- so a caller that keeps it has it on its way
 abbrev kept_once : Status → ℕ → ℕ → Status → ℕ
@@ -103,14 +88,6 @@ still-kept s w d (k ∷ ks) other r v p = (
   still-kept s w d ks other (omega (arith, r)) (omega (arith, v)) (omega (arith, p)),
 )
 
--- what holds of each number that occurs holds of all
-pub all-occurring : (P : ℕ → Type 0) (xs : List ℕ) → ((d : ℕ) → 0 < occurs d xs → P d) → AllByRecursion P xs
-all-occurring P [] each = tt
-all-occurring P (x ∷ xs) each = (
-  each x (omega (arith, occurs-here x xs)),
-  all-occurring P xs (λ d on. each d (omega (arith, on, occurs-more d x xs))),
-)
-
 -- a store that leaves the frame and the class
 pub placed-kept :
     (g : Geometry) (s : State) (l : Lists) (d new : ℕ) (words' : WordName → ℕ) → IsSoundWith g s l → new < 2 ^ 64
@@ -124,56 +101,9 @@ placed-kept g s l d new words' old below some w here apart =
       | inl is ↦ subst (IsPlaceKept s words') (sym is) here
       | inr differ ↦ places-elsewhere s d new words' w e differ
     ] in
-    infos-kept g s l d new words' old below w (places-kept g s l words' (infos-some g s l d new words' old some w) place)
+    infos-kept g s l d new words' old below w (all-places-kept g s l words' (infos-some g s l d new words' old some w) place)
     (λ i has.
     place-unread s words' (name.Info d) (s.errand i).point place (λ at o stands is. apart i has at o stands (ap info_number is)))
-
--- a word of the heap weighs no more than all do
-pub word-term :
-    (g : Geometry) (weight : WordName → ℕ → ℕ) (words : WordName → ℕ) (n : WordName) → Exists g n
-    → weight n (words n) ≤ words_sum g weight words
-unfolding words_sum
-word-term g weight words n exists =
-    let at : word_name g (word_index g n) ≡ n = word_name-word_index g n exists in
-    subst (λ m. weight m (words m) ≤ sum_below (word_count g) (λ k. weight (word_name g k) (words (word_name g k)))) at
-    (term-sum (word_count g) (λ k. weight (word_name g k) (words (word_name g k))) (word_index g n) (word_index-within g n exists))
-
--- a descriptor on its way has no superblock
-not-bound : (n : ℕ) (b : Bool) → 1 ≤ n → IsTrue ((n == 0) && b) → ⊥
-not-bound n b some bound = grind (arith, some, bound)
-
-pub way-unplaced :
-    (g : Geometry) (s : State) (l : Lists) (who d : ℕ) → IsSoundWith g s l → who < g.callers → d < descriptor_count g
-    → 1 ≤ errand_keeps on_its_way d (s.errand who) → IsUnplaced g s l d
-unfolding callers_sum
-way-unplaced g s l who d old has exists mine =
-    let once = old.kept.once d exists in
-    let some : errand_has d (s.errand who) ≤ callers_sum g (errand_has d) s.errand = term-sum g.callers (λ i. errand_has d (s.errand i)) who has in
-    let has_it : 1 ≤ errand_has d (s.errand who) = omega (arith, mine) in
-    let own : errand_has d (s.errand who) ≤ 1 = omega (arith, once, some) in
-    let away : errand_away d (s.errand who) ≤ callers_sum g (errand_away d) s.errand = term-sum g.callers (λ i. errand_away d (s.errand i)) who has in
-    let none = λ (status : Status) (i : ℕ). errand_keeps status d (s.errand i) ≡ 0 in
-    let each : (i : ℕ) → i < g.callers → none reserving i × none waiting i × none partly_used i =
-    λ i has_i.
-    elim (cases_eq i who) [
-      | inl is ↦
-          subst (λ j. none reserving j × none waiting j × none partly_used j) (sym is)
-          (omega (arith, own, mine), omega (arith, own, mine), omega (arith, own, mine))
-      | inr differ ↦
-          let has_none : errand_has d (s.errand i) ≡ 0 =
-          others-none g (errand_has d) s.errand who i has has_i differ has_it (omega (arith, once, some, has_it)) in
-          (omega (arith, has_none), omega (arith, has_none), omega (arith, has_none))
-    ] in
-    record {
-      bound = λ bound. not-bound (away_of g s l d) _ (omega (arith, away, mine)) bound;
-      words = λ n at. omega (arith, word-term g (word_keeps d) s.word n at, once, some, has_it);
-      listed = λ class in_heap.
-          omega (arith, once, some, has_it, term-sum CLASSES (λ class. occurs d (l.partials class)) class in_heap);
-      reserving = λ i has_i. (each i has_i).0;
-      waiting = λ i has_i. (each i has_i).1;
-      partly = λ i has_i. (each i has_i).2;
-      full = omega (arith, once, some, has_it);
-    }
 
 pub holds-it : (d e credits : ℕ) → e ≡ d → 1 ≤ active_keeps d (Some (Held e credits))
 holds-it d e credits is = omega (arith, cond-true {A = ℕ} (e == d) 1 0 (eq-eqb e d is))

@@ -6,16 +6,15 @@ use Rattle.std.proofs.lemmas.List.Elements.{All-cons, All-head}
 use Rattle.heap_geometry.specs.declared.geometry.Geometry.{Geometry}
 use Rattle.heap_geometry.specs.Geometry.{IsChecked}
 use Rattle.heap_geometry.specs.Need.{block_count_of}
-use Rattle.packed_words.specs.Info.{InfoFields, IsInfo, info_word, info_of}
+use Rattle.packed_words.specs.Info.{InfoFields, info_word, info_of}
 use Rattle.packed_words.proofs.InfoLemmas.{info-exact}
 use Rattle.word_plan.specs.declared.name.WordName.{WordName}
 use Rattle.word_plan.specs.declared.name.WordName.TheVariants as name
 use Rattle.word_plan.specs.declared.seat.Site.{Site}
 use Rattle.word_plan.specs.Counts.{descriptor_count}
-use Rattle.word_plan.specs.Seats.{heap_of, info_in, info_within}
+use Rattle.word_plan.specs.Seats.{info_in, info_within}
 use Rattle.word_plan.specs.Sites.{info_at, IsSiteOf}
 use Rattle.word_plan.specs.Words.{Writes}
-use Rattle.word_plan.proofs.SeatLemmas.{heap_of-within}
 use Rattle.superblock_parts.specs.declared.point.BlockPoint.TheVariants as block
 use Rattle.partial_parts.specs.declared.point.PartialPoint.TheVariants as partial
 use Rattle.errand_steps.specs.declared.onward.Onward.{Onward}
@@ -31,26 +30,15 @@ use Rattle.sound_state.specs.Lists.{Lists}
 use Rattle.sound_state.specs.Recalls.{IsSo, IsLocated, recalls_of, located, says, made}
 use Rattle.sound_state.specs.Sound.{IsSoundWithoutCounts, IsSoundWith}
 use Rattle.sound_state.specs.Superblocks.{info_or_zero, errand_keeps, kept_among}
+use Rattle.sound_state.proofs.shared.UnplacedLemmas.{way-unplaced, IsUnplaced}
+use Rattle.sound_state.proofs.shared.WordFacts.{site-heap, site-info}
 use Rattle.sound_state.proofs.stores.StoreFields.{between, IsPlaceKept}
 use Rattle.sound_state.proofs.stores.StoreReads.{IsPlaceUnread}
 use Rattle.sound_state.proofs.stores.StoreSteps.{store-sound}
-use Rattle.sound_state.proofs.stores.InfoPlaces.{info_number, places-elsewhere, placed-kept, unplaced-kept, way-unplaced, IsUnplaced}
+use Rattle.sound_state.proofs.stores.InfoPlaces.{info_number, places-elsewhere, placed-kept, unplaced-kept}
 use Rattle.sound_state.proofs.shared.PointLemmas.{fits-at, so-at}
 use Rattle.sound_state.proofs.quiet.QuietLinks.{written-at}
 use Rattle.sound_state.proofs.shared.HasLemmas.{kept-itself, keeps-at, has-at, only-one}
-
--- what a descriptor says of a superblock at hand is within the limits of the heap
-site-heap : (g : Geometry) (who : ℕ) (at : Site) → IsChecked g → IsSiteOf g who at → heap_of at.seat < g.heaps
-site-heap g who at checked site =
-    let heaps : 0 < at.seat.geometry.heaps = subst (λ h. 0 < h.heaps) (sym site.seat.geometry) (omega (arith, checked.heaps.0)) in
-    subst (λ h. heap_of at.seat < h.heaps) site.seat.geometry (heap_of-within at.seat heaps)
-
-pub site-info : (g : Geometry) (who : ℕ) (at : Site) → IsChecked g → IsSiteOf g who at → IsInfo (info_at at)
-site-info g who at checked site = record {
-  frame = omega (arith, site.frame, checked.frames.1);
-  heap = omega (arith, site-heap g who at checked site, checked.heaps.1);
-  class = site.seat.class;
-}
 
 within-some : (g : Geometry) (i : InfoFields) → i.frame < g.frames → i.heap < g.heaps → IsSome (info_within g (Some i))
 within-some g i in_frames in_heaps =

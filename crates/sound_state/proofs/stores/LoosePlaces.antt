@@ -1,5 +1,5 @@
 -- Who alone may store a word of the arena: the owner of the live block whose prefix it is, or the maker of the superblock in which it lies.
-use Rattle.std.proofs.Common.{ℕ, zero, suc, true, Option, Some, None, ◌≡◌, ◌≢◌, ◌<◌, ◌≤◌, ◌+◌, ◌^◌, List, [], ◌∷◌, length, refl, arith, ap, sym, subst, inl, inr, ◌∙◌}
+use Rattle.std.proofs.Common.{ℕ, true, Some, None, ◌≡◌, ◌≢◌, ◌<◌, ◌≤◌, ◌+◌, ◌^◌, length, refl, arith, ap, sym, subst, inl, inr, ◌∙◌}
 use Rattle.std.specs.Prelude.{IsTrue, slice_index_or}
 use Rattle.std.proofs.lemmas.Bool.{cases_eq}
 use Rattle.std.proofs.lemmas.Option.{none-some}
@@ -18,27 +18,25 @@ use Rattle.superblock_parts.specs.Chains.{occurs, prefix_name}
 use Rattle.superblock_parts.specs.declared.point.BlockPoint.TheVariants as block
 use Rattle.pool_model.specs.Pool.{Block, block_at, pool_of}
 use Rattle.pool_model.specs.WellFormed.{IsPlaceFor, IsWellFormed}
-use Rattle.pool_model.proofs.PoolLemmas.{place-found, every-found}
-use Rattle.pool_model.proofs.WellFormedLemmas.{sound-of, small-frame, large-frame, class_span}
+use Rattle.pool_model.proofs.PoolLemmas.{place-found}
+use Rattle.pool_model.proofs.WellFormedLemmas.{small-frame, large-frame, class_span}
 use Rattle.errand_steps.specs.declared.point.Point.{Point}
 use Rattle.errand_steps.specs.declared.point.Point.TheVariants as point
 use Rattle.errand_steps.specs.Fits.{FitsPoint}
 use Rattle.errand_steps.specs.Steps.{State}
-use Rattle.sound_state.specs.Frames.{errand_frames, fills}
-use Rattle.sound_state.specs.Holdings.{waiting, making, holds_of}
+use Rattle.sound_state.specs.Holdings.{making, holds_of}
 use Rattle.sound_state.specs.Lists.{Lists}
 use Rattle.sound_state.specs.Recalls.{IsOwned}
 use Rattle.sound_state.specs.Sound.{IsSoundWith, IsSoundWithoutCounts}
-use Rattle.sound_state.specs.Sums.{callers_sum}
-use Rattle.sound_state.specs.Superblocks.{info_for, is_bound, superblock_of, free_chain, errand_keeps, kept_among}
+use Rattle.sound_state.specs.Superblocks.{info_for, is_bound, superblock_of, free_chain}
 use Rattle.sound_state.specs.Ties.{IsLive, IsExcepted}
-use Rattle.sound_state.proofs.shared.FrameLemmas.{held-or-filled}
-use Rattle.sound_state.proofs.shared.OverlapLemmas.{live-apart, free-unlive}
+use Rattle.sound_state.proofs.shared.ListFacts.{written-within}
+use Rattle.sound_state.proofs.shared.MakingPlaces.{IsMaking, is-making, making-unbound, making-alone, live-unmade, small-unmade}
+use Rattle.sound_state.proofs.shared.OverlapLemmas.{live-apart, free-unlive, formed-at}
+use Rattle.sound_state.proofs.shared.OwnerLemmas.{owner-there}
 use Rattle.sound_state.proofs.shared.PointLemmas.{fits-at, frees-at}
 use Rattle.sound_state.proofs.stores.StoreFields.{LoneKept}
 use Rattle.sound_state.proofs.stores.StoreReads.{links-stay, places-stay, place-stays, IsBlockUnread, link-unread, place-unread, lone-kept}
-use Rattle.sound_state.proofs.quiet.QuietPushes.{owner-is}
-use Rattle.sound_state.proofs.shared.SumLemmas.{term-sum, two-terms}
 
 abbrev arena_word : WordName → ℕ
 arena_word (name.Arena place) = place
@@ -78,17 +76,6 @@ arena-kept g s l p new words' old loose below w =
       place = place-unread s words' n (s.errand i).point (place-stays s n new words' w (λ no. no)) (λ at o stands is. cc);
     })
 
--- what is written lies in the block
-pub written-within : (xs : List (Option ℕ)) (i v : ℕ) → slice_index_or xs i None ≡ Some v → i < length xs
-written-within [] i v of = absurd (none-some v of)
-written-within (x ∷ xs) zero v of = omega arith
-written-within (x ∷ xs) (suc i) v of = omega (arith, written-within xs i v of)
-
--- a live block is well formed and lies at its place
-formed-at : (g : Geometry) (s : State) (place : ℕ) (b : Block) → IsSoundWithoutCounts g s → IsLive s place b → IsWellFormed g b
-formed-at g s place b sound live =
-    every-found (IsWellFormed g) place (pool_of s.history) b (sound-of g s.history sound.legal).each live
-
 -- no payload has a place at which a block is live
 unwritten-live :
     (g : Geometry) (s : State) (p place i v : ℕ) (b c : Block) → IsSoundWithoutCounts g s → IsLive s p b → IsLive s place c
@@ -103,81 +90,6 @@ unwritten-live g s p place i v b c sound live at of same =
       | inl before ↦ omega (arith, before, here, there, full, within, same)
       | inr after ↦ omega (arith, after, here, there, same)
     ]
-
--- who makes a superblock has its frame in its hand, and no superblock waits with it
-pub record IsMaking (s : State) (who f : ℕ) : Type 0 where
-  pub hand : 0 < errand_frames f (s.errand who)
-  pub waits : (d : ℕ) → errand_keeps waiting d (s.errand who) ≡ 0
-
-making-frame : (at : Site) → 0 < occurs at.frame (making at).frames
-making-frame at = grind (arith)
-
-making-waits : (d : ℕ) (at : Site) → kept_among waiting d (making at).kept ≡ 0
-making-waits d at = grind (arith)
-
-pub is-making : (s : State) (who : ℕ) (p : Point) (at : Site) → (s.errand who).point ≡ p → holds_of p ≡ making at → IsMaking s who at.frame
-is-making s who p at stands holds =
-    let held : holds_of (s.errand who).point ≡ making at = ap holds_of stands ∙ holds in
-    record {
-      hand = subst (λ h. 0 < occurs at.frame h.frames) (sym held) (making-frame at);
-      waits = λ d. ap (λ h. kept_among waiting d h.kept) held ∙ making-waits d at;
-    }
-
--- so no superblock lies there
-pub making-unbound :
-    (g : Geometry) (s : State) (l : Lists) (who f d : ℕ) → IsSoundWith g s l → who < g.callers → f < g.frames → d < descriptor_count g
-    → IsMaking s who f → IsTrue (is_bound g s l d) → (info_for s d).frame ≢ f
-unfolding callers_sum
-making-unbound g s l who f d old has in_heap exists mine bound at =
-    let once = old.framed.once f in_heap in
-    let hands = λ (i : ℕ). errand_frames f (s.errand i) in
-    elim (held-or-filled g s l f d old bound at) [
-      | inl one ↦
-          let differ : one.0 ≢ who =
-          λ is.
-          let some : 0 < errand_keeps waiting d (s.errand who) = subst (λ i. 0 < errand_keeps waiting d (s.errand i)) is one.2 in
-          let bad : ⊥ = omega (arith, some, mine.waits d) in bad in
-          omega (arith, once, one.3, mine.hand, two-terms g.callers hands one.0 who one.1 has differ)
-      | inr one ↦
-          omega
-          (arith, once, one, mine.hand, term-sum g.callers hands who has, term-sum (descriptor_count g) (fills g s l f) d exists)
-    ]
-
--- and no other caller has the frame
-pub making-alone :
-    (g : Geometry) (s : State) (l : Lists) (who other f : ℕ) → IsSoundWith g s l → who < g.callers → other < g.callers → f < g.frames
-    → IsMaking s who f → IsMaking s other f → other ≡ who
-unfolding callers_sum
-making-alone g s l who other f old has has_other in_heap mine theirs =
-    let once = old.framed.once f in_heap in
-    elim (cases_eq other who) [
-      | inl is ↦ is
-      | inr differ ↦
-          absurd
-          (omega
-          (arith, once, mine.hand, theirs.hand, two-terms g.callers (λ i. errand_frames f (s.errand i)) other who has_other has differ))
-    ]
-
--- the frame of a live small block is none that is in the making
-small-unmade :
-    (g : Geometry) (s : State) (l : Lists) (who f place class : ℕ) (b : Block) → IsSoundWith g s l → who < g.callers → f < g.frames
-    → IsMaking s who f → IsLive s place b → b.need ≡ Small class → frame_of place ≢ f
-small-unmade g s l who f place class b old has in_heap mine live of at =
-    let tied = old.tied.small place class b live of in
-    making-unbound g s l who f tied.0 old has in_heap tied.1.exists mine tied.1.bound (tied.1.located.frame ∙ at)
-
--- no block is live in a frame that is in the making
-pub live-unmade :
-    (g : Geometry) (s : State) (l : Lists) (who f place : ℕ) (b : Block) (n : Need) → IsSoundWithoutCounts g s → IsSoundWith g s l
-    → who < g.callers → f < g.frames → IsMaking s who f → IsLive s place b → b.need ≡ n → frame_of place ≢ f
-live-unmade g s l who f place b (Small class) sound old has in_heap mine live of =
-    small-unmade g s l who f place class b old has in_heap mine live of
-live-unmade g s l who f place b (Large units) sound old has in_heap mine live of =
-    λ at.
-    let behind : g.frames ≤ frame_of b.place = large-frame g b.need units b.place of (formed-at g s place b sound live).place in
-    omega (arith, behind, at, in_heap, ap frame_of (place-found place (pool_of s.history) b live))
-live-unmade g s l who f place b TooLarge sound old has in_heap mine live of =
-    absurd (subst (λ n. IsPlaceFor g n b.place) of (formed-at g s place b sound live).place)
 
 -- nor does a payload lie there
 written-frame :
@@ -245,7 +157,7 @@ live-loose g s l who p class sound old has owned excepted off = record {
         | inr differ ↦
             unread-point g s l i p (s.errand i).point old has_i refl (fits-at g s l i (s.errand i).point old has_i refl)
             (record {
-              owns = λ n theirs. differ (sym (owner-is s i p n theirs) ∙ owner-is s who p (Small class) owned);
+              owns = λ n theirs. differ (sym (owner-there s i p n theirs) ∙ owner-there s who p (Small class) owned);
               makes = λ f making at.
                   let placed = (formed-at g s p owned.block.0 sound owned.block.1).place in
                   let frame : frame_of owned.block.0.place < g.frames = small-frame g owned.block.0.need class owned.block.0.place owned.block.3 placed in

@@ -46,18 +46,20 @@ use Rattle.sound_state.specs.Sound.{IsSoundWithoutCounts, IsSoundWith}
 use Rattle.sound_state.specs.Stock.{waits_in}
 use Rattle.sound_state.specs.Superblocks.{is_bound}
 use Rattle.sound_state.specs.Ties.{IsLive}
-use Rattle.sound_state.proofs.quiet.QuietPushes.{any-none, any-one}
 use Rattle.sound_state.proofs.shared.FrameLemmas.{one-in-frame}
-use Rattle.sound_state.proofs.shared.AlikeLemmas.{sound-alike, IsSaidAt, MayGoOn}
-use Rattle.sound_state.proofs.stores.LoosePlaces.{arena-kept, IsLoose, is-making, live-loose, making-loose}
+use Rattle.sound_state.proofs.shared.AlikeLemmas.{sound-alike}
+use Rattle.sound_state.proofs.shared.ListFacts.{any-none, any-one}
+use Rattle.sound_state.proofs.shared.MakingPlaces.{is-making}
+use Rattle.sound_state.proofs.shared.ShownLemmas.{IsSaidAt, MayGoOn}
+use Rattle.sound_state.proofs.stores.LoosePlaces.{arena-kept, IsLoose, live-loose, making-loose}
 use Rattle.sound_state.proofs.shared.NothingLemmas.{idle-nothing, nothing-guards, settled-own, nothing-may}
 use Rattle.sound_state.proofs.shared.PointLemmas.{exists-at, fits-at, so-at, frees-at, hands-at, hazard-at, WeighFrom, weigh-stays, from-weighs}
 use Rattle.sound_state.proofs.stores.StoreFields.{between, sound-between}
 use Rattle.sound_state.proofs.stores.StoreReads.{lone-written, IsBlockUnread}
 use Rattle.sound_state.proofs.stores.StoreSteps.{StoresTo, store-written, step-between, store-sound}
-use Rattle.sound_state.proofs.quiet.QuietLemmas.{HoldsSame, found_from, actives-stay}
+use Rattle.sound_state.proofs.quiet.QuietLemmas.{HoldsSame}
 use Rattle.sound_state.proofs.quiet.QuietLinks.{written-at}
-use Rattle.sound_state.proofs.shared.StepLemmas.{HoldsException, TurnGoes, at_point, settle-end, raised-least}
+use Rattle.sound_state.proofs.shared.StepLemmas.{HoldsException, TurnGoes, at_point, settle-end, raised-least, found_from, actives-stay}
 use Rattle.sound_state.proofs.shared.WeighLemmas.{WeighAlike, weigh-alike, alike-most, WeighMost, weigh-emptied}
 
 the-one : {X : Type 0} (P : X → Type 0) (x : X) → P x → Any P (x ∷ [])
@@ -108,14 +110,14 @@ same-need s who place n m b owned live of =
     sym owned.block.3 ∙ ap need_there (sym owned.block.1 ∙ live) ∙ of
 
 -- a small block's prefix word that says its descriptor
-small-said :
+small-prefix-says :
     (g : Geometry) (s : State) (l : Lists) (who : ℕ) (site : Site) (i : ℕ) → IsSoundWith g s l → site.frame < g.frames
     → site.desc < descriptor_count g → i < block_count_of site.seat.class → IsTrue (is_bound g s l site.desc)
     → IsLocated s site.desc site.frame site.seat.class
     → IsOwned s who (block_place site.frame site.seat.class i) (need.Small site.seat.class)
     → s.word (name.Arena (block_place site.frame site.seat.class i)) ≡ 2 * site.desc
     → IsSaidAt g s l (block_place site.frame site.seat.class i)
-small-said g s l who site i old frame exists within bound located owned says_it =
+small-prefix-says g s l who site i old frame exists within bound located owned says_it =
     let place = block_place site.frame site.seat.class i in
     let here : frame_of place ≡ site.frame = frame_of-block_place site.frame site.seat.class i within in
     record {
@@ -257,7 +259,7 @@ store_prefix-sound g s who s' site i o sound has at step =
           let here : IsSo g t l who (bound_at site.desc site.frame class) =
           All-head (IsSo g t l who) (bound_at site.desc site.frame class) [] (so-at g t l who p old has at) in
           let said : IsSaidAt g t l place =
-          small-said g t l who site i old fit.site.frame fit.site.desc fit.index here.0 here.1 owned (w.here ∙ two) in
+          small-prefix-says g t l who site i old fit.site.frame fit.site.desc fit.index here.0 here.1 owned (w.here ∙ two) in
           elim x [
             | inl a ↦ subst (IsSaidAt g t l) (any-one (λ (b : Handed). b.place ≡ q) handed a) said
             | inr a ↦ absurd (any-none (λ (b : Freed). (b.place ≡ q) × IsTrue b.overwritten) a)
@@ -270,9 +272,9 @@ new_link-below : (class i : ℕ) → i < block_count_of class → new_link class
 new_link-below class i within = grind (arith, within, block_count_of-most class)
 
 -- with one more link stored the links of more blocks are made
-made-more :
+links-made-more :
     (s : State) (f c i n : ℕ) → AreMade s f c i → s.word (prefix_name f c i) ≡ new_link c i → n ≤ i + 1 → AreMade s f c n
-made-more s f c i n so_far one most k below =
+links-made-more s f c i n so_far one most k below =
     elim (cases_eq k i) [
       | inl is ↦ subst (λ j. s.word (prefix_name f c j) ≡ new_link c j) (sym is) one
       | inr differ ↦ so_far k (omega (arith, below, most, differ))
@@ -309,7 +311,7 @@ link_block-to g s who s' site i o q n sound has at step leads enters holds recal
           let t = between s s'.word in
           let so_far : AreMade t f c i = All-head (IsSo g t l who) (made f c i) [] (so-at g t l who p old has at) in
           subst (All (IsSo g t l who)) (sym recalls)
-          (All-cons (IsSo g t l who) (made f c n) [] (made-more t f c i n so_far w.here most) (All-nil (IsSo g t l who)));
+          (All-cons (IsSo g t l who) (made f c n) [] (links-made-more t f c i n so_far w.here most) (All-nil (IsSo g t l who)));
     })
     step
 

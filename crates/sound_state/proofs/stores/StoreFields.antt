@@ -1,7 +1,6 @@
 -- A store into a link, a word of the arena or what a descriptor says keeps the state sound where what is read of that word stays.
-use Rattle.std.proofs.Common.{ℕ, Bool, true, false, Some, None, ◌≡◌, ◌<◌, ◌≤◌, ◌+◌, ◌^◌, ◌-◌, ◌*◌, List, [], ◌∷◌, refl, arith, ap, sym, subst, inl, inr, ◌∙◌}
+use Rattle.std.proofs.Common.{ℕ, Bool, true, false, Some, None, ◌≡◌, ◌<◌, ◌≤◌, ◌+◌, ◌^◌, ◌-◌, ◌*◌, refl, arith, ap, sym, subst, inl, inr, ◌∙◌}
 use Rattle.std.specs.Prelude.{◌⊎◌, ◌==◌, ◌&&◌, if◌then◌else◌, All, IsTrue, IsSome, slice_index_or}
-use Rattle.std.proofs.lemmas.Bool.{cond-true, eq-eqb}
 use Rattle.heap_geometry.specs.declared.geometry.Geometry.{Geometry}
 use Rattle.heap_geometry.specs.declared.limits.TheConstants.{CLASSES}
 use Rattle.heap_geometry.specs.Need.{block_count_of}
@@ -21,11 +20,11 @@ use Rattle.superblock_parts.specs.Chains.{occurs, link_in, prefix_name}
 use Rattle.superblock_parts.proofs.ChainLemmas.{chain_of-same}
 use Rattle.stack_parts.specs.declared.point.Pile.{Pile}
 use Rattle.stack_parts.specs.declared.point.Pile.TheVariants.{Frames, Partials}
-use Rattle.stack_parts.specs.Stacks.{Stacked, next_in}
+use Rattle.stack_parts.specs.Stacks.{next_in}
 use Rattle.stack_parts.specs.Piles.{head_name, next_name}
 use Rattle.pool_model.specs.Pool.{Block}
 use Rattle.errand_steps.specs.Steps.{State}
-use Rattle.sound_state.specs.Frames.{IsFramed, fills}
+use Rattle.sound_state.specs.Frames.{IsFramed, fills_frame}
 use Rattle.sound_state.specs.Guards.{IsGuarded, Guards}
 use Rattle.sound_state.specs.Holdings.{Status, reserving, waiting, partly_used, on_its_way, holds_of}
 use Rattle.sound_state.specs.Keepers.{IsKept, IsPartlyUsed, IsActive, IsKeptAs, word_keeps, errand_has, full_keeps}
@@ -38,6 +37,7 @@ use Rattle.sound_state.specs.Superblocks.{Superblock, AreChained, IsChained, inf
 use Rattle.sound_state.specs.Ties.{IsTied, IsLive, IsExcepted}
 use Rattle.sound_state.specs.Turns.{IsTurned}
 use Rattle.sound_state.proofs.shared.HolderLemmas.{IsHolderWeight, keeps-holder, reserves-holder, stock-holder}
+use Rattle.sound_state.proofs.shared.StackedLemmas.{stacked-agrees}
 use Rattle.sound_state.proofs.shared.SumLemmas.{sum-same}
 
 -- a word that a caller stores alone
@@ -264,16 +264,6 @@ so-between g s l w i (owns_all place n) kept still so = owned-between s w i plac
 so-between g s l w i (looked c) kept still so = so
 so-between g s l w i (refused c) kept still so = so
 
--- a stack whose indexes have the same next words is the same list
-pub stacked-agrees :
-    (next next' : ℕ → ℕ) (top : ℕ) (xs : List ℕ) → ((j : ℕ) → 0 < occurs j xs → next' j ≡ next j) → Stacked next top xs
-    → Stacked next' top xs
-stacked-agrees next next' top [] same stack = stack
-stacked-agrees next next' top (x ∷ xs) same stack =
-    let once : occurs x (x ∷ xs) ≡ 1 + occurs x xs = ap (λ n. n + occurs x xs) (cond-true {A = ℕ} (x == x) 1 0 (eq-eqb x x refl)) in
-    let here : next' x ≡ next x = same x (omega (arith, once)) in
-    (stack.0, rw here (stacked-agrees next next' (next x) xs (λ j on. same j (omega (arith, on))) stack.1))
-
 listed-between :
     (g : Geometry) (s : State) (l : Lists) (w : WordName → ℕ) → LinksKept g s l w → IsListed g s.word l → IsListed g (with_lone w s.word) l
 listed-between g s l w k old = record {
@@ -321,7 +311,7 @@ chained-between g s l w kept chained = record {
       (chained-next (links_of s w d) (superblock_of g s d) (kept-links g s w d (kept.blocks.chains d has bound)) (chained.chained d has bound));
 }
 
--- a bound superblock fills the frame that it did
+-- a bound superblock fills_frame the frame that it did
 fill-same :
     (b : Bool) (w x y f : ℕ) → (b ≡ true → y ≡ x)
     → ◌≡◌ {A = ℕ} (if b && (w == 0) && (y == f) then 1 else 0) (if b && (w == 0) && (x == f) then 1 else 0)
@@ -331,8 +321,8 @@ fill-same false w x y f h = refl
 framed-between : (g : Geometry) (s : State) (l : Lists) (w : WordName → ℕ) → PlacesKept g s l w → IsFramed g s l → IsFramed g (between s w) l
 framed-between g s l w kept framed = record {
   once = λ f has.
-      let filled : sum_below (descriptor_count g) (fills g (between s w) l f) ≡ sum_below (descriptor_count g) (fills g s l f) =
-      sum-same (descriptor_count g) (fills g s l f) (fills g (between s w) l f)
+      let filled : sum_below (descriptor_count g) (fills_frame g (between s w) l f) ≡ sum_below (descriptor_count g) (fills_frame g s l f) =
+      sum-same (descriptor_count g) (fills_frame g s l f) (fills_frame g (between s w) l f)
       (λ d lt.
       fill-same (is_bound g s l d) (waiting_of g s d) (info_for s d).frame (info_or_zero (info_of (w (name.Info d)))).frame f
       (λ bound. (kept.bound d bound).0)) in
@@ -350,10 +340,10 @@ guarded-between g s w guarded =
       full = guarded.full;
     }
 
-full-same :
+counted-same :
     (c c' class n : ℕ) → (c' ≡ c) ⊎ (n ≡ 0) → ◌≡◌ {A = ℕ} (if c' == class then n else 0) (if c == class then n else 0)
-full-same c c' class n (inl same) = ap (λ x. if x == class then n else 0) same
-full-same c c' class n (inr none) = grind (arith, none)
+counted-same c c' class n (inl same) = ap (λ x. if x == class then n else 0) same
+counted-same c c' class n (inr none) = grind (arith, none)
 
 stocked-between :
     (g : Geometry) (s : State) (l : Lists) (w : WordName → ℕ) → PlacesKept g s l w → IsStocked g s l → IsStocked g (between s w) l
@@ -362,7 +352,7 @@ stocked-between g s l w kept stocked = record {
       let full : sum_below (descriptor_count g) (full_stock (between s w) class) ≡ sum_below (descriptor_count g) (full_stock s class) =
       sum-same (descriptor_count g) (full_stock s class) (full_stock (between s w) class)
       (λ d lt.
-      full-same (info_for s d).class (info_or_zero (info_of (w (name.Info d)))).class class (full_keeps (anchor_for s d).state)
+      counted-same (info_for s d).class (info_or_zero (info_of (w (name.Info d)))).class class (full_keeps (anchor_for s d).state)
       (elim (kept.full d lt) [ inl same ↦ inl same.1 | inr none ↦ inr none ])) in
       let words : words_sum g (word_stock class) (with_lone w s.word) ≡ words_sum g (word_stock class) s.word =
       lone-sum g (word_stock class) w s.word (stock-holder class) in

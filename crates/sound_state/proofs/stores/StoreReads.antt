@@ -81,10 +81,10 @@ links-stay g s l n new words' old w other =
     }
 
 -- and the words of the arena
-pub blocks-stay :
+pub blocks-kept :
     (g : Geometry) (s : State) (l : Lists) (n : WordName) (new : ℕ) (words' : WordName → ℕ) → Writes s.word n new words'
     → (IsOfArena n → ⊥) → BlocksKept g s l words'
-blocks-stay g s l n new words' w other =
+blocks-kept g s l n new words' w other =
     let same : (place : ℕ) → words' (name.Arena place) ≡ s.word (name.Arena place) =
     λ place. w.elsewhere (name.Arena place) (λ is. other (subst IsOfArena is tt)) in
     record {
@@ -101,10 +101,10 @@ one-kept s w on_its_way e place = tt
 one-kept s w status e place = place e
 
 -- where every frame and class stay, what the descriptors say is kept
-pub places-kept :
+pub all-places-kept :
     (g : Geometry) (s : State) (l : Lists) (w : WordName → ℕ) → ((d : ℕ) → d < descriptor_count g → IsSome (info_in g (w (name.Info d))))
     → ((d : ℕ) → IsPlaceKept s w d) → PlacesKept g s l w
-places-kept g s l w infos place = record {
+all-places-kept g s l w infos place = record {
   infos = infos;
   bound = λ d bound. place d;
   active = λ heap class d credits has_heap has_class is. place d;
@@ -124,7 +124,7 @@ pub places-stay :
     (g : Geometry) (s : State) (l : Lists) (n : WordName) (new : ℕ) (words' : WordName → ℕ) → IsSoundWith g s l → Writes s.word n new words'
     → (IsOfDesc n → ⊥) → PlacesKept g s l words'
 places-stay g s l n new words' old w other =
-    places-kept g s l words'
+    all-places-kept g s l words'
     (λ d has.
     subst (λ v. IsSome (info_in g v)) (sym (w.elsewhere (name.Info d) (λ is. other (subst IsOfDesc is tt)))) (old.chained.infos d has))
     (place-stays s n new words' w other)
@@ -190,23 +190,23 @@ record IsKeeping (g : Geometry) (s : State) (l : Lists) (n : WordName) (w : Word
   places : PlacesKept g s l w
   blocks : BlocksKept g s l w
 
-said-block :
+block-still-said :
     (g : Geometry) (s : State) (l : Lists) (w : WordName → ℕ) (i : ℕ) (n : WordName) (p : BlockPoint) (o : Onward) → IsKeeping g s l n w
     → FitsBlock g i p → AllByRecursion (IsSo g s l i) (block_recalls p) → IsUnread s w n (point.Block p o)
     → AllByRecursion (IsStillSaid g s l w) (block_recalls p)
-said-block g s l w i n (block.LoadLink at share x) o h fits so off =
+block-still-said g s l w i n (block.LoadLink at share x) o h fits so off =
     ((h.places.bound at.desc so.1.0.0, h.blocks.chains at.desc fits.site.desc so.1.0.0), (tt, tt))
-said-block g s l w i n (block.PopBlock at share x prefix) o h fits so off =
+block-still-said g s l w i n (block.PopBlock at share x prefix) o h fits so off =
     let place = h.places.bound at.desc so.1.1.0.0 in
     let chain = h.blocks.chains at.desc fits.site.desc so.1.1.0.0 in
     ((place, λ is. chain x.avail (so.1.0.first is)), ((place, chain), (tt, tt)))
-said-block g s l w i n (block.InstallSuperblock at) o h fits so off = (refl, (tt, tt))
-said-block g s l w i n (block.PushBlock at k x stored heap) o h fits so off = (h.others (prefix_name at.frame at.seat.class k) off.block, (tt, tt))
-said-block g s l w i n (block.LinkBlock at k) o h fits so off = (λ j lt. h.others (prefix_name at.frame at.seat.class j) (off.block j lt), tt)
-said-block g s l w i n (block.StoreInfo at) o h fits so off = (λ j lt. h.others (prefix_name at.frame at.seat.class j) (off.block j lt), tt)
-said-block g s l w i n (block.StoreAnchor at) o h fits so off =
+block-still-said g s l w i n (block.InstallSuperblock at) o h fits so off = (refl, (tt, tt))
+block-still-said g s l w i n (block.PushBlock at k x stored heap) o h fits so off = (h.others (prefix_name at.frame at.seat.class k) off.block, (tt, tt))
+block-still-said g s l w i n (block.LinkBlock at k) o h fits so off = (λ j lt. h.others (prefix_name at.frame at.seat.class j) (off.block j lt), tt)
+block-still-said g s l w i n (block.StoreInfo at) o h fits so off = (λ j lt. h.others (prefix_name at.frame at.seat.class j) (off.block j lt), tt)
+block-still-said g s l w i n (block.StoreAnchor at) o h fits so off =
     (h.others (name.Info at.desc) off.place, (λ j lt. h.others (prefix_name at.frame at.seat.class j) (off.block j lt), tt))
-said-block g s l w i n p o h fits so off = grind (arith)
+block-still-said g s l w i n p o h fits so off = grind (arith)
 
 said-onward :
     (g : Geometry) (s : State) (l : Lists) (w : WordName → ℕ) (seat : SeatFields) (o : Onward)
@@ -265,7 +265,7 @@ said-point :
     → AllByRecursion (IsSo g s l i) (recalls_of p) → IsUnread s w n p → AllByRecursion (IsStillSaid g s l w) (recalls_of p)
 unfolding recalls_of
 said-point g s l w i n point.Idle h fits so off = tt
-said-point g s l w i n (point.Block p o) h fits so off = said-block g s l w i n p o h fits.point so off
+said-point g s l w i n (point.Block p o) h fits so off = block-still-said g s l w i n p o h fits.point so off
 said-point g s l w i n (point.Stack p o) h fits so off = said-stack g s l w i n p o h fits.point so off
 said-point g s l w i n (point.Desc p o) h fits so off = said-desc g s l w n p o h off
 said-point g s l w i n (point.Partial p o) h fits so off = said-partial g s l w n p o off

@@ -75,8 +75,8 @@ granted-tag a fits = record { avail = fits.avail; count = omega (arith, fits.cou
 abbrev HasTag : ℕ → AnchorFields → Type 0
 HasTag tag b = IsAnchor b × (b.tag ≡ tag)
 
-pushed-tag : (class i : ℕ) (a : AnchorFields) → IsAnchor a → HasTag a.tag (pushed class i a)
-pushed-tag class i a fits =
+pushed-has-tag : (class i : ℕ) (a : AnchorFields) → IsAnchor a → HasTag a.tag (pushed class i a)
+pushed-has-tag class i a fits =
     cond_both (is_last class a) (record { avail = i % 2 ^ AVAIL_BITS; count = a.count; state = phase.Empty; tag = a.tag })
     (record {
       avail = i % 2 ^ AVAIL_BITS;
@@ -88,8 +88,8 @@ pushed-tag class i a fits =
     (λ more. (record { avail = omega arith; count = omega arith; tag = fits.tag }, refl))
 
 -- a pop that is won leaves the next tag
-popped-tag : (share : Share) (a : AnchorFields) (prefix : ℕ) → IsAnchor a → IsAnchor (popped share a (link_of prefix))
-popped-tag share a prefix fits = record { avail = omega arith; count = omega (arith, fits.count); tag = omega arith }
+popped-has-tag : (share : Share) (a : AnchorFields) (prefix : ℕ) → IsAnchor a → IsAnchor (popped share a (link_of prefix))
+popped-has-tag share a prefix fits = record { avail = omega arith; count = omega (arith, fits.count); tag = omega arith }
 
 pop-goes :
     (w d e : ℕ) (share : Share) (a : AnchorFields) (prefix : ℕ) → IsAnchor a → tag_in w + 1 < 2 ^ TAG_BITS → e ≡ d
@@ -100,7 +100,7 @@ pop-goes w d e share a prefix fits room same =
       | inl is ↦
           let before : tag_in w ≡ a.tag = ap tag_in is ∙ word-tag a fits in
           let after : tag_in (anchor_word (popped share a (link_of prefix))) ≡ (a.tag + 1) % 2 ^ TAG_BITS =
-          word-tag (popped share a (link_of prefix)) (popped-tag share a prefix fits) in
+          word-tag (popped share a (link_of prefix)) (popped-has-tag share a prefix fits) in
           rw (eq-eqb e d same, eq-eqb w (anchor_word a) is) (omega (arith, room, before, after))
       | inr ne ↦ rw (eq-eqb e d same, ne_eqb w (anchor_word a) ne) (omega arith)
     ]
@@ -115,7 +115,7 @@ tag-block g who d w (block.PopBlock at share a prefix) fits room is =
 tag-block g who d w (block.ReturnCredits at i more a) fits room is =
     inl (tag-kept w a (returned more a) fits.2.fits (returned-tag more a fits.2.fits) refl)
 tag-block g who d w (block.PushBlock at i a stored heap) fits room is =
-    let new = pushed-tag at.seat.class i a fits.anchor.fits in
+    let new = pushed-has-tag at.seat.class i a fits.anchor.fits in
     inl (tag-kept w a (pushed at.seat.class i a) fits.anchor.fits new.0 new.1)
 tag-block g who d w (block.StoreAnchor at) fits room is = inr (rw (eq-eqb at.desc d (ap anchor_number is)) (omega arith))
 tag-block g who d w (block.LoadAnchor at share) fits room is = inl (omega arith)
@@ -124,23 +124,23 @@ tag-block g who d w (block.LoadPushAnchor at i stored) fits room is = inl (omega
 tag-block g who d w p fits room is = absurd (cc)
 
 -- at a stack
-not-head : (s : SeatFields) (pile : Pile) (d : ℕ) → head_name s pile ≡ name.Anchor d → ⊥
-not-head s Frames d is = cc
-not-head s Partials d is = cc
+head-not-anchor : (s : SeatFields) (pile : Pile) (d : ℕ) → head_name s pile ≡ name.Anchor d → ⊥
+head-not-anchor s Frames d is = cc
+head-not-anchor s Partials d is = cc
 
-not-next : (pile : Pile) (i d : ℕ) → next_name pile i ≡ name.Anchor d → ⊥
-not-next Frames i d is = cc
-not-next Partials i d is = cc
+next-not-anchor : (pile : Pile) (i d : ℕ) → next_name pile i ≡ name.Anchor d → ⊥
+next-not-anchor Frames i d is = cc
+next-not-anchor Partials i d is = cc
 
-not-stack : (p : StackPoint) (d : ℕ) → name_of (plan_stack_of p) ≡ name.Anchor d → ⊥
-not-stack p d is = grind (arith, not-head, not-next, is)
+stack-not-anchor : (p : StackPoint) (d : ℕ) → name_of (plan_stack_of p) ≡ name.Anchor d → ⊥
+stack-not-anchor p d is = grind (arith, head-not-anchor, next-not-anchor, is)
 
 -- at the descriptors, the hazard words, a large block or a shelf
 not-desc : (p : DescPoint) (d : ℕ) → name_of (plan_desc_of p) ≡ name.Anchor d → ⊥
 not-desc p d is = grind (arith, is)
 
-not-large : (p : LargePoint) (d : ℕ) → name_of (plan_large_of p) ≡ name.Anchor d → ⊥
-not-large p d is = grind (arith, is)
+large-not-anchor : (p : LargePoint) (d : ℕ) → name_of (plan_large_of p) ≡ name.Anchor d → ⊥
+large-not-anchor p d is = grind (arith, is)
 
 -- at a partial superblock
 tag-partial :
@@ -158,10 +158,10 @@ pub tag-point :
 unfolding plan_point_of holds_of
 tag-point g who d w point.Idle fits room is = absurd (cc)
 tag-point g who d w (point.Block p o) fits room is = tag-block g who d w p fits.point room is
-tag-point g who d w (point.Stack p o) fits room is = absurd (not-stack p d is)
+tag-point g who d w (point.Stack p o) fits room is = absurd (stack-not-anchor p d is)
 tag-point g who d w (point.Desc p o) fits room is = absurd (not-desc p d is)
 tag-point g who d w (point.Partial p o) fits room is = inl (tag-partial g who d w p fits.point is)
-tag-point g who d w (point.Large p o) fits room is = absurd (not-large p d is)
+tag-point g who d w (point.Large p o) fits room is = absurd (large-not-anchor p d is)
 
 -- a pop is at the anchor of what it pops from
 pops-block : (d : ℕ) (p : BlockPoint) → name_of (plan_block_of p) ≡ name.Anchor d ⊎ (pops_block d p ≡ false)

@@ -9,15 +9,8 @@ use Rattle.sound_state.specs.Runs.{Move, begins, steps, Moved}
 use Rattle.sound_state.specs.Sound.{IsSoundWithoutCounts}
 use Rattle.sound_state.specs.Superblocks.{anchor_for}
 use Rattle.sound_state.specs.Tags.{pops_in, ReachesBound}
-use Rattle.sound_state.proofs.EveryStep.{steps-sound}
-use Rattle.sound_state.proofs.ReachLemmas.{begins-sound}
+use Rattle.sound_state.proofs.ReachLemmas.{move-sound}
 use Rattle.sound_state.proofs.tags.TagSteps.{tag-stepped}
-
--- a move of any caller keeps the state sound, but for its counts
-pub move-sound :
-    (g : Geometry) (s : State) (move : Move) (s' : State) → IsSoundWithoutCounts g s → Moved g s move s' → IsSoundWithoutCounts g s'
-move-sound g s (begins who call) s' sound moved = begins-sound g s who call s' sound moved.0 moved.1
-move-sound g s (steps who) s' sound moved = steps-sound g s who s' sound moved.0 moved.1
 
 -- a call that begins leaves the words
 tag-moved :

@@ -16,7 +16,7 @@ use Rattle.sound_state.specs.Turns.{one_if}
 use Rattle.sound_state.proofs.shared.BoundLemmas.{bound-with}
 use Rattle.sound_state.proofs.shared.PointLemmas.{fits-now}
 use Rattle.sound_state.proofs.shared.TagLemmas.{anchor-tags-below}
-use Rattle.sound_state.proofs.stores.InfoPlaces.{way-unplaced}
+use Rattle.sound_state.proofs.shared.UnplacedLemmas.{way-unplaced}
 use Rattle.sound_state.proofs.tags.TagPoints.{tag-point, pops-point}
 
 -- a step at another word leaves the anchor, and pops nothing of the superblock

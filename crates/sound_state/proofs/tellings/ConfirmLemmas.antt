@@ -23,8 +23,9 @@ use Rattle.sound_state.specs.Stock.{word_stock, full_stock, stock_of, errand_sto
 use Rattle.sound_state.specs.Sums.{sum_below}
 use Rattle.sound_state.specs.Superblocks.{info_or_zero, word_reserves, errand_reserves, errand_keeps, errand_away, away_of}
 use Rattle.sound_state.specs.Turns.{emptied_out}
-use Rattle.sound_state.proofs.shared.AlikeLemmas.{Alike, MayGoOn, MayGuard, IsSoundBut, sound-but}
-use Rattle.sound_state.proofs.quiet.QuietLemmas.{actives-stay, words-stay}
+use Rattle.sound_state.proofs.shared.AlikeLemmas.{Alike, sound-but}
+use Rattle.sound_state.proofs.shared.ShownLemmas.{MayGoOn, MayGuard, IsSoundBut}
+use Rattle.sound_state.proofs.shared.StepLemmas.{actives-stay, words-stay}
 use Rattle.sound_state.proofs.shared.SumLemmas.{words-same, callers-moved, sum-same}
 use Rattle.sound_state.proofs.tellings.TellLemmas.{IsTold, told_state, told-but}
 

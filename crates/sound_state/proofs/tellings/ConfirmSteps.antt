@@ -1,7 +1,8 @@
 -- A look that finds no partial superblock, and a refusal for want of a frame, keep the state sound.
+use Rattle.sound_state.specs.TurnStages.{turn_stage_of, in_turn, lacks_frame, lacks_partial, lacks_answer, is_unneeded}
 use Rattle.sound_state.proofs.quiet.QuietStacks.{confirm_empty_lost-sound}
-use Rattle.std.proofs.Common.{ℕ, true, false, cond, Some, ◌≡◌, ◌<◌, ◌≤◌, ◌+◌, ◌^◌, List, [], ◌∷◌, ◌++◌, refl, arith, ap, sym, subst, inl, inr, ◌∙◌, eq-eqb, ne_eqb, append_assoc}
-use Rattle.std.specs.Prelude.{◌==◌, ◌&&◌, not, if◌then◌else◌, All, IsTrue, count_by, nat_le}
+use Rattle.std.proofs.Common.{ℕ, true, false, cond, Some, ◌≡◌, ◌<◌, ◌≤◌, ◌+◌, ◌^◌, List, [], ◌∷◌, ◌++◌, refl, arith, ap, sym, subst, inl, inr, ◌∙◌, eq-eqb, ne_eqb}
+use Rattle.std.specs.Prelude.{◌==◌, if◌then◌else◌, All, IsTrue, count_by, nat_le}
 use Rattle.std.proofs.lemmas.Bool.{cases_eq, cases_Bool, cond-true, cond-false}
 use Rattle.std.proofs.lemmas.Option.{none-some}
 use Rattle.std.proofs.lemmas.List.Elements.{All-cons, All-nil}
@@ -20,13 +21,11 @@ use Rattle.stack_parts.specs.declared.point.Pile.TheVariants.{Frames, Partials}
 use Rattle.stack_parts.specs.declared.point.StackPoint.TheVariants as stack
 use Rattle.stack_parts.specs.Fits.{IsBare}
 use Rattle.stack_parts.specs.Piles.{head_name}
-use Rattle.stack_parts.specs.Stacks.{Stacked, next_in}
+use Rattle.stack_parts.specs.Stacks.{next_in}
 use Rattle.hazard_parts.specs.declared.point.DescPoint.TheVariants as desc
-use Rattle.pool_model.specs.declared.event.Event.{Event}
 use Rattle.pool_model.specs.declared.event.Event.TheVariants.{Looked, Refuse}
-use Rattle.pool_model.specs.Histories.{own, EndsWith}
+use Rattle.pool_model.specs.Histories.{own}
 use Rattle.pool_model.specs.Legal.{IsRefusable}
-use Rattle.pool_model.proofs.HistoryLemmas.{own-append}
 use Rattle.errand_steps.specs.declared.next.Next.TheVariants.{At, Retire}
 use Rattle.errand_steps.specs.declared.onward.Onward.{Onward}
 use Rattle.errand_steps.specs.declared.onward.Onward.TheVariants as onward
@@ -44,21 +43,23 @@ use Rattle.sound_state.specs.Guards.{IsHazard}
 use Rattle.sound_state.specs.Holdings.{Status, clear, holds_of, waiting, reserving, on_its_way, partly_used}
 use Rattle.sound_state.specs.Keepers.{IsWithout, IsKeptAs}
 use Rattle.sound_state.specs.Lists.{Lists}
-use Rattle.sound_state.specs.Recalls.{IsSo, IsOwned, EndsRefused, recalls_of, looked, refused}
+use Rattle.sound_state.specs.Recalls.{IsSo, IsOwned, recalls_of, looked, refused}
 use Rattle.sound_state.specs.Sound.{IsSoundWithoutCounts, IsSoundWith}
 use Rattle.sound_state.specs.Stock.{errand_stock}
-use Rattle.sound_state.specs.Turns.{one_if, in_turn, has_frame, has_partial, has_refused, is_discarding_at, pops_left, gives_small, refuses_small}
-use Rattle.sound_state.proofs.shared.AlikeLemmas.{MayGoOn, MayGuard, IsSoundBut}
+use Rattle.sound_state.specs.Turns.{one_if, pops_left, gives_small, refuses_small}
+use Rattle.sound_state.proofs.shared.EventFacts.{counted-not, told-counts, refused-ends}
+use Rattle.sound_state.proofs.shared.ListFacts.{occurs-push}
+use Rattle.sound_state.proofs.shared.ShownLemmas.{MayGoOn, MayGuard, IsSoundBut}
+use Rattle.sound_state.proofs.shared.StackedLemmas.{stacked-none}
+use Rattle.sound_state.proofs.shared.TurnEffects.{one_if-most, small-served}
 use Rattle.sound_state.proofs.tellings.ConfirmLemmas.{WeighTold, StockFor, TellsOn, step-tells}
 use Rattle.sound_state.proofs.tellings.LookLemmas.{look-stock}
 use Rattle.sound_state.proofs.shared.HasLemmas.{kept-one}
 use Rattle.sound_state.proofs.shared.NothingLemmas.{HoldsNothing, idle-nothing, scan-nothing, keeps-excepts, nothing-guards}
 use Rattle.sound_state.proofs.shared.PointLemmas.{fits-at, so-at}
-use Rattle.sound_state.proofs.pops.PopTurns.{small-served}
-use Rattle.sound_state.proofs.quiet.QuietLemmas.{found_from}
-use Rattle.sound_state.proofs.retirements.RetireLemmas.{Lets, retired_at, retired-may, occurs-push, settle-full, settle-end, one-most}
-use Rattle.sound_state.proofs.shared.StepLemmas.{PointStands, raised-least, TurnGoes, at_point, settle-at, may-after}
-use Rattle.sound_state.proofs.tellings.TellLemmas.{IsTold, told_state, told-but, told-counts, counted-not, told-ends}
+use Rattle.sound_state.proofs.retirements.RetireLemmas.{Lets, retired_at, retired-may, settle-full, settle-resumed-end}
+use Rattle.sound_state.proofs.shared.StepLemmas.{PointStands, raised-least, TurnGoes, at_point, settle-at, may-after, found_from}
+use Rattle.sound_state.proofs.tellings.TellLemmas.{IsTold, told_state, told-but, told-ends}
 
 -- where the caller remembers nothing, all of the state is sound
 but-whole :
@@ -83,11 +84,6 @@ but-whole g s l who but own = record {
   turned = but.turned;
   tied = but.tied;
 }
-
--- the stack is empty where the head's top is 0
-pub stacked-none : (next : ℕ → ℕ) (top : ℕ) (xs : List ℕ) → Stacked next top xs → top ≡ 0 → xs ≡ []
-stacked-none next top [] stacked none = refl
-stacked-none next top (x ∷ xs) stacked none = absurd (let bad : ⊥ = omega (arith, stacked.0, none) in bad)
 
 -- a look and a refusal are such events
 looked-told : (g : Geometry) (who class : ℕ) → IsTold g who (Looked who class)
@@ -238,9 +234,9 @@ scanning seat = Desc (desc.ReadHazard seat no_words 0) onward.Refuse
 -- how far the caller's turn is
 record TurnRefused (p q : Point) : Type 0 where
   under_way : one_if (in_turn q) ≤ one_if (in_turn p)
-  discards : one_if (in_turn q && is_discarding_at q) ≤ one_if (in_turn p && is_discarding_at p)
-  unframed : one_if (in_turn q && not (has_frame q)) ≤ one_if (in_turn p && not (has_frame p))
-  pops : pops_left q + one_if (in_turn q && not (has_partial q)) ≤ pops_left p + one_if (in_turn p && not (has_partial p))
+  discards : one_if (is_unneeded (turn_stage_of q)) ≤ one_if (is_unneeded (turn_stage_of p))
+  unframed : one_if (lacks_frame (turn_stage_of q)) ≤ one_if (lacks_frame (turn_stage_of p))
+  pops : pops_left q + one_if (lacks_partial (turn_stage_of q)) ≤ pops_left p + one_if (lacks_partial (turn_stage_of p))
 
 -- it keeps that one, and holds nothing then
 refused-lets :
@@ -303,7 +299,7 @@ refused-may g s l who x q words d class old has word after still small to turn f
             arith,
             old.turned.own_lost who has,
             turn.discards,
-            one-most (in_turn e.point && not (has_refused e.point)),
+            one_if-most (lacks_answer (turn_stage_of e.point)),
             gives,
             refuses,
             raised-least (counts_lost e.point x) e.lost (old.errands who has).lost,
@@ -330,19 +326,6 @@ refused-tells g s l who x q words d class old has word after still small to turn
       cleared = ap (λ b. raised b e.cleared) still;
       stock = refused-room g s l who x q d class old to;
     }
-
--- a refusal behind a look: the caller's last two events
-pub refused-ends :
-    (who : ℕ) (history : List Event) (words class : ℕ) → need_of words ≡ Small class → EndsWith (own who history) (Looked who class)
-    → EndsRefused (own who (history ++ Refuse who words ∷ [])) who class
-refused-ends who history words class served ends =
-    let last : own who (history ++ Refuse who words ∷ []) ≡ own who history ++ Refuse who words ∷ [] =
-    own-append who history (Refuse who words ∷ []) ∙ rw (eq-eqb who who refl) refl in (
-      ends.0,
-      words,
-      served,
-      last ∙ ap (λ xs. xs ++ Refuse who words ∷ []) ends.1 ∙ append_assoc ends.0 (Looked who class ∷ []) (Refuse who words ∷ []),
-    )
 
 -- a refusal for want of a frame
 pub confirm_no_frame-sound :
@@ -385,7 +368,7 @@ confirm_no_frame-sound g s who s' seat h words d sound has at same step =
           (All-nil (IsSo g (told_state s event) l who))))
           step
       | inr few ↦
-          let after = settle-end e x seat d onward.Refuse next few reply.Refused refl in
+          let after = settle-resumed-end e x seat d onward.Refuse next few reply.Refused refl in
           step-tells g s who event (retired_at e x d Idle) s' sound has after told stays allowed
           (λ l old.
           refused-tells g s l who x Idle words d seat.class old has (old.words (name_at s who)) after cleared small

@@ -8,27 +8,28 @@ use Rattle.packed_words.specs.declared.active.ActiveWord.TheVariants.{Null, Held
 use Rattle.packed_words.specs.Active.{active_of}
 use Rattle.packed_words.specs.declared.anchor.State.{State as Phase}
 use Rattle.packed_words.specs.declared.anchor.State.TheVariants as phase
-use Rattle.packed_words.specs.Info.{InfoFields, info_of}
+use Rattle.packed_words.specs.Info.{info_of}
 use Rattle.partial_parts.specs.Grants.{is_empty}
 use Rattle.word_plan.specs.declared.name.WordName.{WordName}
 use Rattle.word_plan.specs.declared.name.WordName.TheVariants as name
 use Rattle.word_plan.specs.Counts.{descriptor_count, word_count}
-use Rattle.word_plan.specs.Seats.{info_within}
 use Rattle.word_plan.specs.Table.{Exists, word_name}
 use Rattle.word_plan.proofs.TableLemmas.{word_name-Exists}
 use Rattle.errand_steps.specs.declared.point.Point.{Point}
 use Rattle.errand_steps.specs.Steps.{State}
-use Rattle.sound_state.specs.Frames.{fills}
+use Rattle.sound_state.specs.Frames.{fills_frame}
 use Rattle.sound_state.specs.Holdings.{waiting, holds_of}
 use Rattle.sound_state.specs.Keepers.{active_keeps, word_keeps, full_keeps, errand_has}
 use Rattle.sound_state.specs.Lists.{Lists}
 use Rattle.sound_state.specs.Stock.{word_stock, full_stock, stock_of, errand_stock, stock_among, waits_in}
 use Rattle.sound_state.specs.Sound.{IsSoundWith}
 use Rattle.sound_state.specs.Sums.{sum_below, words_sum, callers_sum}
-use Rattle.sound_state.specs.Superblocks.{anchor_for, info_for, info_or_zero, errand_keeps, errand_away, away_of, waiting_of, is_bound}
+use Rattle.sound_state.specs.Superblocks.{anchor_for, info_for, errand_keeps, errand_away, away_of, waiting_of, is_bound}
 use Rattle.sound_state.proofs.shared.HeapNames.{slot_one, slots-most}
+use Rattle.sound_state.proofs.shared.RecallEffects.{empty-is}
 use Rattle.sound_state.proofs.shared.WeightSums.{words-least}
 use Rattle.sound_state.proofs.shared.SumLemmas.{sum-none, sum-plus, sum-most, sum-most-but, sum-least, sum-swap, term-sum}
+use Rattle.sound_state.proofs.shared.WordFacts.{frame-of-within}
 
 -- 1 where an active word holds d
 abbrev active_part : ℕ → WordName → ℕ → ℕ
@@ -130,11 +131,6 @@ parts-not g s l sound d empty =
     sum-none (word_count g) (λ k. active_part d (word_name g k) (s.word (word_name g k)))
     (λ k lt. part-not g s l sound d empty (word_name g k) (word_name-Exists g k lt))
 
--- its frame is one of the heap's
-within-frame : (g : Geometry) (o : Option InfoFields) → IsSome (info_within g o) → (info_or_zero o).frame < g.frames
-within-frame g None some = absurd (cc)
-within-frame g (Some i) some = grind (arith, some)
-
 -- who has it nowhere has it neither away nor waiting
 nowhere :
     (g : Geometry) (s : State) (d : ℕ)
@@ -155,20 +151,17 @@ fills-one bound waits frame is none = grind (arith, is, none)
 bound-one : (away : ℕ) (p : Phase) → away ≡ 0 → is_empty p ≡ false → ((away == 0) && not (is_empty p)) ≡ true
 bound-one away p none is = grind (arith, none, is)
 
-is-empty : (p : Phase) → is_empty p ≡ true → p ≡ phase.Empty
-is-empty p is = grind (arith, is)
-
--- a superblock that an active word holds, or that is FULL, fills a frame
+-- a superblock that an active word holds, or that is FULL, fills_frame a frame
 desc-fills :
     (g : Geometry) (s : State) (l : Lists) → IsSoundWith g s l → (d : ℕ) → d < descriptor_count g
-    → words_sum g (active_part d) s.word + full_keeps (anchor_for s d).state ≤ sum_below g.frames (λ f. fills g s l f d)
+    → words_sum g (active_part d) s.word + full_keeps (anchor_for s d).state ≤ sum_below g.frames (λ f. fills_frame g s l f d)
 desc-fills g s l sound d has =
     let p = (anchor_for s d).state in
     let once = sound.kept.once d has in
     let kept = parts-kept g s d in
     elim (cases_Bool (is_empty p)) [
       | inl is ↦
-          let empty : p ≡ phase.Empty = is-empty p is in
+          let empty : p ≡ phase.Empty = empty-is p is in
           omega (arith, parts-not g s l sound d empty, ap full_keeps empty)
       | inr is ↦
           elim (cases_eq (words_sum g (active_part d) s.word + full_keeps p) 0) [
@@ -178,14 +171,14 @@ desc-fills g s l sound d has =
                 let none_away : away_of g s l d ≡ 0 = omega (arith, once, kept, some, all) in
                 let none_waits : waiting_of g s d ≡ 0 = omega (arith, once, kept, some, all) in
                 let frame = (info_for s d).frame in
-                let below : frame < g.frames = within-frame g (info_of (s.word (name.Info d))) (sound.chained.infos d has) in
+                let below : frame < g.frames = frame-of-within g (info_of (s.word (name.Info d))) (sound.chained.infos d has) in
                 let bound : is_bound g s l d ≡ true = bound-one (away_of g s l d) p none_away is in
                 omega (
                   arith,
                   once,
                   kept,
                   fills-one (is_bound g s l d) (waiting_of g s d) frame bound none_waits,
-                  term-sum g.frames (λ f. fills g s l f d) frame below,
+                  term-sum g.frames (λ f. fills_frame g s l f d) frame below,
                 )
           ]
     ]
@@ -202,25 +195,25 @@ filled-most g s l sound =
     omega (
       arith,
       sum-plus n active full,
-      sum-least n (λ d. active d + full d) (λ d. sum_below g.frames (λ f. fills g s l f d)) (λ d lt. desc-fills g s l sound d lt),
-      sum-swap g.frames n (fills g s l),
-      sum-most g.frames (λ f. sum_below n (fills g s l f)) 1 (λ f lt. omega (arith, sound.framed.once f lt)),
+      sum-least n (λ d. active d + full d) (λ d. sum_below g.frames (λ f. fills_frame g s l f d)) (λ d lt. desc-fills g s l sound d lt),
+      sum-swap g.frames n (fills_frame g s l),
+      sum-most g.frames (λ f. sum_below n (fills_frame g s l f)) 1 (λ f lt. omega (arith, sound.framed.once f lt)),
     )
 
 full-least : (s : State) (class d : ℕ) → full_stock s class d ≤ full_keeps (anchor_for s d).state
 full-least s class d = grind (arith)
 
 -- a caller keeps at most two descriptors for a class, or waits for one
-point-two : (class : ℕ) (p : Point) → stock_among class (holds_of p).kept + waits_in class p ≤ 2
+point-stocks-two : (class : ℕ) (p : Point) → stock_among class (holds_of p).kept + waits_in class p ≤ 2
 unfolding holds_of
-point-two class p = grind (arith)
+point-stocks-two class p = grind (arith)
 
 callers-two :
     (g : Geometry) (s : State) (who class : ℕ) → who < g.callers → errand_stock class (s.errand who) ≡ 0
     → callers_sum g (errand_stock class) s.errand + 2 ≤ 2 * g.callers
 unfolding callers_sum
 callers-two g s who class has none =
-    omega (arith, sum-most-but g.callers (λ i. errand_stock class (s.errand i)) 2 who has none (λ i lt. point-two class (s.errand i).point))
+    omega (arith, sum-most-but g.callers (λ i. errand_stock class (s.errand i)) 2 who has none (λ i lt. point-stocks-two class (s.errand i).point))
 
 -- so one more may be out
 pub look-stock :

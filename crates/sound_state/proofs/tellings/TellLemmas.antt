@@ -1,7 +1,5 @@
 -- An event that leaves the pool and counts no block keeps the state sound, but for what its caller remembers.
-use Rattle.std.proofs.Common.{ℕ, Bool, false, cond, ◌≡◌, ◌≢◌, ◌≤◌, ◌+◌, ◌*◌, List, [], ◌∷◌, ◌++◌, refl, arith, ap, sym, subst, inl, inr, ◌∙◌, append-nil, eq-eqb, ne_eqb}
-use Rattle.std.proofs.lemmas.Bool.{cond-false}
-use Rattle.std.proofs.lemmas.List.Sums.{sum_by_push}
+use Rattle.std.proofs.Common.{ℕ, Bool, false, ◌≡◌, ◌≢◌, ◌≤◌, ◌+◌, ◌*◌, List, [], ◌∷◌, ◌++◌, refl, arith, ap, sym, subst, inl, inr, ◌∙◌, eq-eqb}
 use Rattle.std.specs.Prelude.{◌⊎◌, count_by}
 use Rattle.heap_geometry.specs.declared.geometry.Geometry.{Geometry}
 use Rattle.heap_geometry.specs.declared.need.Need.{Need}
@@ -22,7 +20,8 @@ use Rattle.sound_state.specs.Sound.{IsSoundWith}
 use Rattle.sound_state.specs.Superblocks.{IsChained, superblock_of}
 use Rattle.sound_state.specs.Ties.{IsLive, IsExcepted, IsTied}
 use Rattle.sound_state.specs.Turns.{IsTurned, gives_small, refuses_small, is_small_alloc, is_small_free}
-use Rattle.sound_state.proofs.shared.AlikeLemmas.{IsSoundBut}
+use Rattle.sound_state.proofs.shared.EventFacts.{counted-not, told-own, told-counts}
+use Rattle.sound_state.proofs.shared.ShownLemmas.{IsSoundBut}
 
 -- an event of the caller that leaves the pool; it gives no small block and frees none
 pub record IsTold (g : Geometry) (who : ℕ) (event : Event) : Type 0 where
@@ -36,20 +35,8 @@ pub record IsTold (g : Geometry) (who : ℕ) (event : Event) : Type 0 where
 abbrev pub told_state : State → Event → State
 told_state s event = record { word = s.word; errand = s.errand; history = s.history ++ event ∷ [] }
 
--- counts of events after one more
-pub told-counts : (P : Event → Bool) (history : List Event) (event : Event) → count_by P (history ++ event ∷ []) ≡ count_by P history + cond (P event) 1 0
-told-counts P history event = sum_by_push (λ e. cond (P e) 1 0) history event
-
-pub counted-not : (P : Event → Bool) (history : List Event) (event : Event) → P event ≡ false → count_by P (history ++ event ∷ []) ≡ count_by P history
-counted-not P history event none = omega (arith, told-counts P history event, cond-false {A = ℕ} (P event) 1 0 none)
-
 counted-least : (P : Event → Bool) (history : List Event) (event : Event) → count_by P history ≤ count_by P (history ++ event ∷ [])
 counted-least P history event = omega (arith, told-counts P history event)
-
--- the others' events stay; the caller's last one is this
-pub told-own : (i : ℕ) (history : List Event) (event : Event) → caller_of event ≢ i → own i (history ++ event ∷ []) ≡ own i history
-told-own i history event other =
-    own-append i history (event ∷ []) ∙ rw (ne_eqb (caller_of event) i other) (append-nil (own i history))
 
 pub told-ends : (who : ℕ) (history : List Event) (event : Event) → caller_of event ≡ who → EndsWith (own who (history ++ event ∷ [])) event
 told-ends who history event is =

@@ -18,20 +18,21 @@ use Rattle.errand_steps.specs.declared.point.Point.{Point}
 use Rattle.errand_steps.specs.declared.point.Point.TheVariants as point
 use Rattle.errand_steps.specs.Errands.{counts_won}
 use Rattle.errand_steps.specs.Points.{plan_point_of}
-use Rattle.sound_state.specs.Installs.{IsActive, is_seeking}
-use Rattle.sound_state.specs.Turns.{one_if, in_turn, is_discarding_at}
+use Rattle.sound_state.specs.Installs.{IsActiveName}
+use Rattle.sound_state.specs.TurnStages.{turn_stage_of, is_seeking, is_unneeded}
+use Rattle.sound_state.specs.Turns.{one_if}
 use Rattle.sound_state.specs.Wins.{offers, is_offer, is_between}
 use Rattle.sound_state.proofs.wins.WinDefs.{found_in}
 
 -- a held active word isn't null
-held-some : (d credits : ℕ) → active_word (Held d credits) ≢ active_word Null
+held-not-null : (d credits : ℕ) → active_word (Held d credits) ≢ active_word Null
 unfolding active_word
-held-some d credits is = absurd (omega (arith, is))
+held-not-null d credits is = absurd (omega (arith, is))
 
 -- the change of an active word to one that isn't null: it wasn't null, or the step is an offer that was won
 abbrev pub ChangesActive : Point → ℕ → Type 0
 ChangesActive p v =
-    IsActive (name_of (plan_point_of p)) → after_action (plan_point_of p) v ≢ active_word Null
+    IsActiveName (name_of (plan_point_of p)) → after_action (plan_point_of p) v ≢ active_word Null
     → (v ≢ active_word Null) ⊎ (IsTrue (offers p) × (counts_won (plan_point_of p) (found_in p v) ≡ true))
 
 -- an exchange of null for a held one
@@ -50,18 +51,18 @@ take-changes :
     → v ≢ active_word Null
 take-changes v d credits some =
     elim (cases_eq v (active_word (Held d credits))) [
-      | inl is ↦ λ null. held-some d credits (sym is ∙ null)
+      | inl is ↦ λ null. held-not-null d credits (sym is ∙ null)
       | inr differs ↦ λ null. some (rw (ne_eqb v (active_word (Held d credits)) differs) null)
     ]
 
 -- in a superblock
 block-changes :
-    (p : BlockPoint) (v : ℕ) → IsActive (name_of (plan_block_of p)) → after_action (plan_block_of p) v ≢ active_word Null
+    (p : BlockPoint) (v : ℕ) → IsActiveName (name_of (plan_block_of p)) → after_action (plan_block_of p) v ≢ active_word Null
     → (v ≢ active_word Null) ⊎ (IsTrue (is_offer p) × (counts_won (plan_block_of p) (found_by (plan_block_of p) v) ≡ true))
 block-changes (block.LoadActive s) v is some = inl some
 block-changes (block.TakeCredit s d credits) v is some = inl (take-changes v d credits some)
-block-changes (block.InstallCredits at i more) v is some = install-changes v _ (active_name at.seat) (held-some at.desc (more - 1))
-block-changes (block.InstallSuperblock at) v is some = install-changes v _ (active_name at.seat) (held-some at.desc (new_credits at.seat.class))
+block-changes (block.InstallCredits at i more) v is some = install-changes v _ (active_name at.seat) (held-not-null at.desc (more - 1))
+block-changes (block.InstallSuperblock at) v is some = install-changes v _ (active_name at.seat) (held-not-null at.desc (new_credits at.seat.class))
 block-changes p v is some = absurd is
 
 -- at each point
@@ -76,8 +77,8 @@ unfolding plan_point_of
 install-won p x = grind (arith)
 
 -- who discards a superblock seeks one, and who seeks one isn't between turns
-pub discards-seeks : (p : Point) → IsTrue (in_turn p && is_discarding_at p) → IsTrue (is_seeking p)
+pub discards-seeks : (p : Point) → IsTrue (is_unneeded (turn_stage_of p)) → IsTrue (is_seeking (turn_stage_of p))
 discards-seeks p is = grind (arith)
 
-pub seeks-inside : (p : Point) → IsTrue (is_seeking p) → is_between p ≡ false
+pub seeks-inside : (p : Point) → IsTrue (is_seeking (turn_stage_of p)) → is_between p ≡ false
 seeks-inside p is = grind (arith)

@@ -14,25 +14,26 @@ use Rattle.errand_steps.specs.Errands.{ErrandFields, is_spent}
 use Rattle.errand_steps.specs.Steps.{State, Moves}
 use Rattle.sound_state.specs.Contention.{is_by, IsExpected, lost_of}
 use Rattle.sound_state.specs.Expectations.{expects_of}
-use Rattle.sound_state.specs.Installs.{IsMet, installs_by, installs_against, is_seeking, errand_offers}
+use Rattle.sound_state.specs.Installs.{IsInstalledSince, installs_by, installs_against, errand_offers}
 use Rattle.sound_state.specs.Runs.{Begins}
 use Rattle.sound_state.specs.Sound.{with_errands}
+use Rattle.sound_state.specs.TurnStages.{turn_stage_of, is_seeking}
 use Rattle.sound_state.specs.Turns.{gives_small, refuses_small, turn_unanswered, errand_discards}
 use Rattle.sound_state.specs.Wins.{Wins}
 use Rattle.sound_state.specs.Won.{IsWon}
 use Rattle.sound_state.proofs.beginnings.BegunErrands.{idle-is}
-use Rattle.sound_state.proofs.shared.AlikeLemmas.{each-caller}
+use Rattle.sound_state.proofs.shared.ShownLemmas.{each-caller}
 use Rattle.sound_state.proofs.shared.SumLemmas.{callers-moved}
 
 -- what a caller noted when it found no superblock active bounds its errand
-abbrev UnmetAs : State → Wins → ℕ → ErrandFields → Type 0
-UnmetAs s w who e =
-    (wins : ℕ) → w.unmet who ≡ Some wins
+abbrev SinceBounds : State → Wins → ℕ → ErrandFields → Type 0
+SinceBounds s w who e =
+    (wins : ℕ) → w.found_none who ≡ Some wins
     → (wins ≤ length w.list)
     × (e.turns
     ≤ count_by (gives_small who) s.history + count_by (refuses_small who) s.history
     + count_by (installs_against who) (list.take wins w.list) + turn_unanswered e)
-    × All (IsMet s w.list who wins) (expects_of e.point)
+    × All (IsInstalledSince s w.list who wins) (expects_of e.point)
     × (errand_discards e ≤ count_by (installs_against who) (drop wins w.list))
 
 -- an errand that begins counts as the idle one before it, and its turn is one that has no answer yet
@@ -41,7 +42,7 @@ record BeginsAs (e f : ErrandFields) : Type 0 where
   lost : f.lost ≡ e.lost
   expects : expects_of f.point ≡ []
   offers : errand_offers f ≡ 0
-  seeks : is_seeking f.point ≡ false
+  seeks : is_seeking (turn_stage_of f.point) ≡ false
   discards : errand_discards f ≡ 0
   turns : f.turns ≤ e.turns + turn_unanswered f
 
@@ -52,7 +53,7 @@ idle-begins e idle = let is = idle-is e.point idle in record {
   lost = refl;
   expects = ap expects_of is;
   offers = rw is refl;
-  seeks = ap is_seeking is;
+  seeks = ap (λ p. is_seeking (turn_stage_of p)) is;
   discards = rw is refl;
   turns = omega arith;
 }
@@ -70,15 +71,15 @@ unfolding free_begun expects_of
 free-begins e place TooLarge idle = idle-begins e idle
 free-begins e place n idle = grind (arith)
 
-call-begins : (e : ErrandFields) (call : Call) → IsIdle e → BeginsAs e (begun_by e call)
+begun-as : (e : ErrandFields) (call : Call) → IsIdle e → BeginsAs e (begun_by e call)
 unfolding alloc_begun write_begun read_begun put_begun take_begun expects_of
-call-begins e (alloc words) idle = alloc-begins e words (need_of words) idle
-call-begins e (free place need) idle = free-begins e place need idle
-call-begins e call idle = grind (arith)
+begun-as e (alloc words) idle = alloc-begins e words (need_of words) idle
+begun-as e (free place need) idle = free-begins e place need idle
+begun-as e call idle = grind (arith)
 
 -- so it expects nothing
 pub begun-expects : (e : ErrandFields) (call : Call) → IsIdle e → expects_of (begun_by e call).point ≡ []
-begun-expects e call idle = (call-begins e call idle).expects
+begun-expects e call idle = (begun-as e call idle).expects
 
 -- an idle caller is in no turn
 idle-answered : (e : ErrandFields) → IsIdle e → turn_unanswered e ≡ 0
@@ -114,22 +115,22 @@ begun-won g s w who f errands won has idle b moves =
             + turn_unanswered e)
             s.errand who f errands moves
             (omega (arith, b.turns, i.turns who has, quiet)) i.turns;
-        seeking =
-            each-caller g (λ k e. IsTrue (is_seeking e.point) → (wins : ℕ) × (w.unmet k ≡ Some wins)) s.errand who f errands moves
-            (λ seeks. absurd (true≢false (sym seeks ∙ b.seeks))) i.seeking;
-        unmet = λ k wins has_k is.
+        found =
+            each-caller g (λ k e. IsTrue (is_seeking (turn_stage_of e.point)) → (wins : ℕ) × (w.found_none k ≡ Some wins)) s.errand who f errands moves
+            (λ seeks. absurd (true≢false (sym seeks ∙ b.seeks))) i.found;
+        since = λ k wins has_k is.
             let x =
-            each-caller g (UnmetAs s w) s.errand who f errands moves
+            each-caller g (SinceBounds s w) s.errand who f errands moves
             (λ past noted.
-            let old = i.unmet who past has noted in (
+            let old = i.since who past has noted in (
               old.past,
               omega (arith, b.turns, old.turns, quiet),
-              subst (All (IsMet s w.list who past)) (sym b.expects) (All-nil (IsMet s w.list who past)),
+              subst (All (IsInstalledSince s w.list who past)) (sym b.expects) (All-nil (IsInstalledSince s w.list who past)),
               omega (arith, b.discards),
             ))
-            (λ j has_j past noted. let old = i.unmet j past has_j noted in (old.past, old.turns, old.met, old.discards))
+            (λ j has_j past noted. let old = i.since j past has_j noted in (old.past, old.turns, old.installed, old.discards))
             k has_k wins is in
-            record { past = x.0; turns = x.1; met = x.2; discards = x.3 };
+            record { past = x.0; turns = x.1; installed = x.2; discards = x.3 };
       };
     }
 
@@ -138,4 +139,4 @@ pub begins-won :
     → IsWon g s' w
 begins-won g s w who call s' won has b =
     subst (λ t. IsWon g t w) (sym b.after)
-    (begun-won g s w who (begun_by (s.errand who) call) b.errands won has b.idle (call-begins (s.errand who) call b.idle) b.moves)
+    (begun-won g s w who (begun_by (s.errand who) call) b.errands won has b.idle (begun-as (s.errand who) call b.idle) b.moves)

@@ -35,8 +35,8 @@ use Rattle.sound_state.proofs.wins.ExpectLemmas.{read-anchor, MayAll, SeesAs, ex
 use Rattle.sound_state.proofs.wins.WinDefs.{ExpectsOn, next_expects}
 
 -- where a step from p leads to q, it carries or sees all that its caller expects after it
-abbrev LeadsOn : BlockPoint → Onward → ℕ → BlockPoint → Type 0
-LeadsOn p o v q = MayAll (Block p o) v (next_expects (enter_block q o))
+abbrev BlockCarries : BlockPoint → Onward → ℕ → BlockPoint → Type 0
+BlockCarries p o v q = MayAll (Block p o) v (next_expects (enter_block q o))
 
 -- what waits behind a part, where the step sees that no superblock is active
 seen-onward :
@@ -55,14 +55,14 @@ active-said v w below is =
 -- where an active word leads
 active-on :
     (s : SeatFields) (o : Onward) (v : ℕ) (w : Option ActiveWord) → v < 2 ^ 64 → active_of v ≡ w
-    → LeadsOn (block.LoadActive s) o v (after_active s w)
+    → BlockCarries (block.LoadActive s) o v (after_active s w)
 unfolding plan_point_of expects_of
 active-on s o v None below is = expects-none (Block (block.LoadActive s) o) v
 active-on s o v (Some Null) below is =
     seen-onward (Block (block.LoadActive s) o) v s o
     (load-sees (Block (block.LoadActive s) o) v (active_name s) (active_word Null) refl (active-said v Null below is))
 active-on s o v (Some (Held d credits)) below is =
-    cond_both (nat_lt d (descriptor_count s.geometry)) (block.TakeCredit s d credits) (block.LoadActive s) (LeadsOn (block.LoadActive s) o v)
+    cond_both (nat_lt d (descriptor_count s.geometry)) (block.TakeCredit s d credits) (block.LoadActive s) (BlockCarries (block.LoadActive s) o v)
     (λ exists.
     load-seen (Block (block.LoadActive s) o) v (active_name s) (active_word (Held d credits)) [] refl (active-said v (Held d credits) below is)
     (expects-none (Block (block.LoadActive s) o) v))
@@ -71,7 +71,7 @@ active-on s o v (Some (Held d credits)) below is =
 -- the last credit is taken, or another one
 taken-on :
     (s : SeatFields) (d credits : ℕ) (o : Onward) (v : ℕ) (last : Bool) → (v == active_word (Held d credits)) ≡ true → (credits == 0) ≡ last
-    → LeadsOn (block.TakeCredit s d credits) o v (block.LoadInfo s d (if last then LastCredit else Credit))
+    → BlockCarries (block.TakeCredit s d credits) o v (block.LoadInfo s d (if last then LastCredit else Credit))
 unfolding plan_point_of expects_of active_word
 taken-on s d credits o v false won last = expects-none (Block (block.TakeCredit s d credits) o) v
 taken-on s d credits o v true won last =
@@ -82,7 +82,7 @@ taken-on s d credits o v true won last =
 -- a pop that leads to an offer was paid for by the last credit or by a grant
 offers-on :
     (at : Site) (share : Share) (a : AnchorFields) (prefix : ℕ) (o : Onward) (v : ℕ) → nat_lt 0 (more_of share a) ≡ true
-    → LeadsOn (block.PopBlock at share a prefix) o v (block.InstallCredits at a.avail (more_of share a))
+    → BlockCarries (block.PopBlock at share a prefix) o v (block.InstallCredits at a.avail (more_of share a))
 unfolding plan_point_of expects_of
 offers-on at Credit a prefix o v more = absurd (true≢false (sym more))
 offers-on at LastCredit a prefix o v more =
@@ -105,17 +105,17 @@ block-expects (block.LoadActive s) o v inside below = active-on s o v (active_of
 block-expects (block.TakeCredit s d credits) o v inside below =
     let p = block.TakeCredit s d credits in
     cond_both (v == active_word (Held d credits)) (block.LoadInfo s d (if credits == 0 then LastCredit else Credit)) (block.LoadActive s)
-    (LeadsOn p o v) (λ won. taken-on s d credits o v (credits == 0) won refl) (λ lost. expects-none (Block p o) v)
+    (BlockCarries p o v) (λ won. taken-on s d credits o v (credits == 0) won refl) (λ lost. expects-none (Block p o) v)
 block-expects (block.LoadInfo s d share) o v inside below =
     let p = block.LoadInfo s d share in
     let all : MayAll (Block p o) v (unless_credit s share) =
     whole-carried (Block p o) v (unless_credit s share) refl (credit-apart s share (name.Info d) (λ same. cc)) in
-    option_both (after_info s d share) (info_in s.geometry v) (LeadsOn p o v) all (λ i is. all)
+    option_both (after_info s d share) (info_in s.geometry v) (BlockCarries p o v) all (λ i is. all)
 block-expects (block.LoadAnchor at share) o v inside below =
     let p = block.LoadAnchor at share in
     let all : MayAll (Block p o) v (unless_credit at.seat share) =
     whole-carried (Block p o) v (unless_credit at.seat share) refl (credit-apart at.seat share (name.Anchor at.desc) (λ same. cc)) in
-    option_both (after_anchor at share) (anchor_in at.seat.class v) (LeadsOn p o v) all
+    option_both (after_anchor at share) (anchor_in at.seat.class v) (BlockCarries p o v) all
     (λ a is.
     load-seen (Block p o) v (name.Anchor at.desc) (anchor_word a) (unless_credit at.seat share) refl (read-anchor at.seat.class v a below is) all)
 block-expects (block.LoadLink at share a) o v inside below =
@@ -123,37 +123,37 @@ block-expects (block.LoadLink at share a) o v inside below =
     (λ same. cc, credit-apart at.seat share (block_name at a.avail) (λ same. cc))
 block-expects (block.PopBlock at share a prefix) o v inside below =
     let p = block.PopBlock at share a prefix in
-    cond_both (v == anchor_word a) (after_pop at a.avail (more_of share a)) (block.LoadAnchor at share) (LeadsOn p o v)
+    cond_both (v == anchor_word a) (after_pop at a.avail (more_of share a)) (block.LoadAnchor at share) (BlockCarries p o v)
     (λ won.
-    cond_both (nat_lt 0 (more_of share a)) (block.InstallCredits at a.avail (more_of share a)) (block.StorePrefix at a.avail) (LeadsOn p o v)
+    cond_both (nat_lt 0 (more_of share a)) (block.InstallCredits at a.avail (more_of share a)) (block.StorePrefix at a.avail) (BlockCarries p o v)
     (λ more. offers-on at share a prefix o v more) (λ none. expects-none (Block p o) v))
     (λ lost.
     rest-carried (Block p o) v (record { word = name.Anchor at.desc; value = anchor_word a }) (unless_credit at.seat share) refl
     (credit-apart at.seat share (name.Anchor at.desc) (λ same. cc)))
 block-expects (block.LoadReturn at i more) o v inside below =
     let p = block.LoadReturn at i more in
-    option_both (after_return_anchor at i more) (anchor_in at.seat.class v) (LeadsOn p o v) (expects-none (Block p o) v)
+    option_both (after_return_anchor at i more) (anchor_in at.seat.class v) (BlockCarries p o v) (expects-none (Block p o) v)
     (λ a is.
     load-seen (Block p o) v (name.Anchor at.desc) (anchor_word a) [] refl (read-anchor at.seat.class v a below is) (expects-none (Block p o) v))
 block-expects (block.LoadPushAnchor at i guarded) o v inside below =
     let p = block.LoadPushAnchor at i guarded in
-    option_both (after_push_anchor at i guarded) (anchor_in at.seat.class v) (LeadsOn p o v) (expects-none (Block p o) v)
+    option_both (after_push_anchor at i guarded) (anchor_in at.seat.class v) (BlockCarries p o v) (expects-none (Block p o) v)
     (λ a is.
     let seen : MayAll (Block p o) v (anchor_still at.desc a []) =
     load-seen (Block p o) v (name.Anchor at.desc) (anchor_word a) [] refl (read-anchor at.seat.class v a below is) (expects-none (Block p o) v) in
-    cond_both (is_last at.seat.class a) (block.StoreGuard at i a) (block.StoreLink at i a guarded 0) (LeadsOn p o v) (λ last. seen) (λ more. seen))
+    cond_both (is_last at.seat.class a) (block.StoreGuard at i a) (block.StoreLink at i a guarded 0) (BlockCarries p o v) (λ last. seen) (λ more. seen))
 block-expects (block.StoreGuard at i a) o v inside below =
     whole-carried (Block (block.StoreGuard at i a) o) v (anchor_still at.desc a []) refl (λ same. cc, tt)
 block-expects (block.LoadOwner at i a) o v inside below =
     let p = block.LoadOwner at i a in
     let all : MayAll (Block p o) v (anchor_still at.desc a []) = whole-carried (Block p o) v (anchor_still at.desc a []) refl (λ same. cc, tt) in
-    option_both (after_owner at i a) (info_in at.seat.geometry v) (LeadsOn p o v) all (λ info is. all)
+    option_both (after_owner at i a) (info_in at.seat.geometry v) (BlockCarries p o v) all (λ info is. all)
 block-expects (block.StoreLink at i a guarded heap) o v inside below =
     whole-carried (Block (block.StoreLink at i a guarded heap) o) v (anchor_still at.desc a []) refl (λ same. cc, tt)
 block-expects (block.LinkBlock at i) o v inside below =
     let p = block.LinkBlock at i in
     let none : MayAll (Block p o) v (none_active at.seat) = whole-carried (Block p o) v (none_active at.seat) refl (λ same. cc, tt) in
-    cond_both (nat_lt (i + 1) (block_count_of at.seat.class)) (block.LinkBlock at (i + 1)) (block.StoreInfo at) (LeadsOn p o v)
+    cond_both (nat_lt (i + 1) (block_count_of at.seat.class)) (block.LinkBlock at (i + 1)) (block.StoreInfo at) (BlockCarries p o v)
     (λ more. none) (λ last. none)
 block-expects (block.StoreInfo at) o v inside below =
     whole-carried (Block (block.StoreInfo at) o) v (none_active at.seat) refl (λ same. cc, tt)

@@ -21,17 +21,17 @@ use Rattle.sound_state.specs.Contention.{IsExpected, IsNoted, IsContended, is_ag
 use Rattle.sound_state.specs.Expectations.{expects_of}
 use Rattle.sound_state.specs.Sums.{callers_sum}
 use Rattle.sound_state.specs.Turns.{one_if}
-use Rattle.sound_state.specs.Wins.{Wins, win_at, list_after, confirms, wins_after}
+use Rattle.sound_state.specs.Wins.{Wins, win_at, win_list_after, is_self_exchange, wins_after}
+use Rattle.sound_state.proofs.shared.StepLemmas.{raised-most}
 use Rattle.sound_state.proofs.shared.TurnEffects.{one_if-most}
 use Rattle.sound_state.proofs.shared.SumLemmas.{sum-most-but, sum-same, sum-change, callers-moved}
 use Rattle.sound_state.proofs.wins.DirtyLemmas.{dirty-same, clean-now}
-use Rattle.sound_state.proofs.wins.NoteLemmas.{}
 use Rattle.sound_state.proofs.wins.ExpectLemmas.{some-all}
 use Rattle.sound_state.proofs.wins.StepWins.{list-stays, list-longer, no-count, no-won, against-own, against-apart, noted-others, noted-apart, noted-own, note-seen, note-lost, note-confirmed}
 use Rattle.sound_state.proofs.wins.WinDefs.{LosesOn}
 
 -- a change that is won is no lost exchange, and no exchange of a number for itself
-won-new : (a : Action) (x : Found) → counts_won a x ≡ true → (is_lost_exchange a x ≡ false) × (confirms a ≡ false)
+won-new : (a : Action) (x : Found) → counts_won a x ≡ true → (is_lost_exchange a x ≡ false) × (is_self_exchange a ≡ false)
 won-new (Load name) x won = absurd (false≢true won)
 won-new (Store name new) x won = absurd (false≢true won)
 won-new (Cas name expected new) x won =
@@ -50,7 +50,7 @@ won-not-lost p x won = (won-new (plan_point_of p) x won).0
 -- what counts as lost is a lost exchange, or a load
 lost-cases :
     (p : Point) (x : Found) → counts_lost p x ≡ true
-    → (is_lost_exchange (plan_point_of p) x ≡ true) ⊎ ((is_lost_exchange (plan_point_of p) x ≡ false) × (confirms (plan_point_of p) ≡ false))
+    → (is_lost_exchange (plan_point_of p) x ≡ true) ⊎ ((is_lost_exchange (plan_point_of p) x ≡ false) × (is_self_exchange (plan_point_of p) ≡ false))
 unfolding plan_point_of
 lost-cases (Desc (desc.ReloadDescHead s d) o) x lost = inr (refl, refl)
 lost-cases (Large (large.PutBlock shelf place need) o) x lost = absurd (false≢true lost)
@@ -61,7 +61,7 @@ dirty-apart :
     (g : Geometry) (s : State) (who : ℕ) (w : Wins) → IsNoted g s w → (i : ℕ) (m : WordName) → m ≢ name_at s who
     → is_dirty (wins_after s who w) i m ≡ is_dirty w i m
 dirty-apart g s who w old i m differ =
-    ap (dirty_since (list_after s who w.list) i m) (noted-apart s who w i m differ)
+    ap (dirty_since (win_list_after s who w.list) i m) (noted-apart s who w i m differ)
     ∙ dirty-same w.list (option_to_list (win_at s who)) i m (w.noted i m) (old.past i m)
     (no-count (is_against i m) s who (against-apart s who i m differ))
 
@@ -70,7 +70,7 @@ dirty-others :
     (g : Geometry) (s : State) (who : ℕ) (w : Wins) → IsNoted g s w → counts_won (action_at s who) (found_at s who) ≡ false → (i : ℕ) (m : WordName)
     → i ≢ who → is_dirty (wins_after s who w) i m ≡ is_dirty w i m
 dirty-others g s who w old none i m other =
-    ap (dirty_since (list_after s who w.list) i m) (noted-others s who w i m other)
+    ap (dirty_since (win_list_after s who w.list) i m) (noted-others s who w i m other)
     ∙ dirty-same w.list (option_to_list (win_at s who)) i m (w.noted i m) (old.past i m) (no-won (is_against i m) s who none)
 
 -- the caller's own pair is clean after a lost exchange
@@ -78,26 +78,26 @@ own-lost :
     (s : State) (who : ℕ) (w : Wins) → is_lost_exchange (action_at s who) (found_at s who) ≡ true
     → is_dirty (wins_after s who w) who (name_at s who) ≡ false
 own-lost s who w lost =
-    ap (dirty_since (list_after s who w.list) who (name_at s who))
-    (noted-own s who w (name_at s who) refl ∙ note-lost s who (length (list_after s who w.list)) (w.noted who (name_at s who)) lost)
+    ap (dirty_since (win_list_after s who w.list) who (name_at s who))
+    (noted-own s who w (name_at s who) refl ∙ note-lost s who (length (win_list_after s who w.list)) (w.noted who (name_at s who)) lost)
 
 -- and where it saw or changed the word
 own-seen :
-    (s : State) (who : ℕ) (w : Wins) → is_lost_exchange (action_at s who) (found_at s who) ≡ false → confirms (action_at s who) ≡ false
+    (s : State) (who : ℕ) (w : Wins) → is_lost_exchange (action_at s who) (found_at s who) ≡ false → is_self_exchange (action_at s who) ≡ false
     → is_dirty (wins_after s who w) who (name_at s who) ≡ false
 own-seen s who w kept new =
-    ap (dirty_since (list_after s who w.list) who (name_at s who))
-    (noted-own s who w (name_at s who) refl ∙ note-seen s who (length (list_after s who w.list)) (w.noted who (name_at s who)) kept new)
-    ∙ clean-now (list_after s who w.list) who (name_at s who)
+    ap (dirty_since (win_list_after s who w.list) who (name_at s who))
+    (noted-own s who w (name_at s who) refl ∙ note-seen s who (length (win_list_after s who w.list)) (w.noted who (name_at s who)) kept new)
+    ∙ clean-now (win_list_after s who w.list) who (name_at s who)
 
 -- what it confirmed is as it was
 own-confirmed :
     (g : Geometry) (s : State) (who : ℕ) (w : Wins) → IsNoted g s w → is_lost_exchange (action_at s who) (found_at s who) ≡ false
-    → confirms (action_at s who) ≡ true → is_dirty (wins_after s who w) who (name_at s who) ≡ is_dirty w who (name_at s who)
+    → is_self_exchange (action_at s who) ≡ true → is_dirty (wins_after s who w) who (name_at s who) ≡ is_dirty w who (name_at s who)
 own-confirmed g s who w old kept same =
     let m = name_at s who in
-    ap (dirty_since (list_after s who w.list) who m)
-    (noted-own s who w m refl ∙ note-confirmed s who (length (list_after s who w.list)) (w.noted who m) kept same)
+    ap (dirty_since (win_list_after s who w.list) who m)
+    (noted-own s who w m refl ∙ note-confirmed s who (length (win_list_after s who w.list)) (w.noted who m) kept same)
     ∙ dirty-same w.list (option_to_list (win_at s who)) who m (w.noted who m) (old.past who m)
     (no-count (is_against who m) s who (against-own s who m))
 
@@ -109,7 +109,7 @@ own-most g s who w old =
     elim (cases_Bool (is_lost_exchange (action_at s who) (found_at s who))) [
       | inl lost ↦ omega (arith, ap one_if (own-lost s who w lost))
       | inr kept ↦
-          elim (cases_Bool (confirms (action_at s who))) [
+          elim (cases_Bool (is_self_exchange (action_at s who))) [
             | inl same ↦ omega (arith, ap one_if (own-confirmed g s who w old kept same))
             | inr new ↦ omega (arith, ap one_if (own-seen s who w kept new))
           ]
@@ -181,15 +181,12 @@ pairs-changed g s who w exists old =
     subst P (word_name-word_index g n exists) changed
 
 -- what all callers lost changes as the caller's count does
-lost-after :
+losses-after :
     (g : Geometry) (s : State) (who : ℕ) (s' : State) → who < g.callers → Step s who s'
     → callers_sum g lost_of s'.errand + (s.errand who).lost
     ≡ callers_sum g lost_of s.errand + raised (counts_lost (s.errand who).point (found_at s who)) (s.errand who).lost
 unfolding settle_of
-lost-after g s who s' has step = callers-moved g lost_of s.errand who (settle_of (s.errand who) (found_at s who)) s'.errand has step.errand
-
-raised-most : (n : ℕ) → raised true n ≤ n + 1
-raised-most n = omega arith
+losses-after g s who s' has step = callers-moved g lost_of s.errand who (settle_of (s.errand who) (found_at s who)) s'.errand has step.errand
 
 -- a win adds to the dirty pairs at most one of each other caller, and what counts as lost takes one off
 pub pairs-after :
@@ -237,7 +234,7 @@ step-contended g s who s' w has exists step loses noted old =
     let n = name_at s who in
     let e = s.errand who in
     let pairs = pairs-changed g s who w exists noted in
-    let lost_sum = lost-after g s who s' has step in
+    let lost_sum = losses-after g s who s' has step in
     elim (cases_Bool (counts_won (action_at s who) (found_at s who))) [
       | inl won ↦
           let still : raised (counts_lost e.point (found_at s who)) e.lost ≡ e.lost =
@@ -246,19 +243,19 @@ step-contended g s who s' w has exists step loses noted old =
           record {
             most =
                 won-most (dirty_pairs g w) (dirty_pairs g (wins_after s who w)) (dirty_on g w n) (dirty_on g (wins_after s who w) n)
-                (callers_sum g lost_of s.errand) (callers_sum g lost_of s'.errand) g.callers (length w.list) (length (list_after s who w.list))
+                (callers_sum g lost_of s.errand) (callers_sum g lost_of s'.errand) g.callers (length w.list) (length (win_list_after s who w.list))
                 old.most pairs (on-won g s who w has won) same (list-longer s who w.list won);
           }
       | inr none ↦
           let own = on-none g s who w has noted none in
-          let stays : (g.callers - 1) * length (list_after s who w.list) ≡ (g.callers - 1) * length w.list =
+          let stays : (g.callers - 1) * length (win_list_after s who w.list) ≡ (g.callers - 1) * length w.list =
           ap (λ list. (g.callers - 1) * length list) (list-stays s who w.list none) in
           elim (cases_Bool (counts_lost e.point (found_at s who))) [
             | inl lost ↦
                 let was = ap one_if (was-dirty g s who w has noted loses lost) in
                 let now = ap one_if (now-clean s who w lost) in
                 let more : raised (counts_lost e.point (found_at s who)) e.lost ≤ e.lost + 1 =
-                subst (λ b. raised b e.lost ≤ e.lost + 1) (sym lost) (raised-most e.lost) in
+                subst (λ b. raised b e.lost ≤ e.lost + 1) (sym lost) (raised-most true e.lost) in
                 record { most = omega (arith, old.most, pairs, lost_sum, own, stays, was, now, more) }
             | inr not_lost ↦
                 let still : raised (counts_lost e.point (found_at s who)) e.lost ≡ e.lost = ap (λ b. raised b e.lost) not_lost in

@@ -1,5 +1,5 @@
 -- What a caller expects after a step at the descriptors or the hazard words it expected before, or its step saw it.
-use Rattle.std.proofs.Common.{ℕ, false, Some, ◌≡◌, ◌≢◌, ◌+◌, List, refl, arith}
+use Rattle.std.proofs.Common.{ℕ, false, ◌≡◌, ◌≢◌, ◌+◌, List, refl, arith}
 use Rattle.std.specs.Prelude.{All, ◌==◌}
 use Rattle.std.proofs.lemmas.Bool.{cond_both, true≢false, eqb-true}
 use Rattle.std.proofs.lemmas.List.Elements.{All-nil}
@@ -18,6 +18,7 @@ use Rattle.errand_steps.specs.Nexts.{next_of, enter_desc, cleared}
 use Rattle.errand_steps.specs.Onwards.{has_left_desc}
 use Rattle.errand_steps.specs.Points.{plan_point_of}
 use Rattle.sound_state.specs.Expectations.{Expected, expects_of, onward_expects, top_still}
+use Rattle.sound_state.proofs.shared.WordFacts.{link-some}
 use Rattle.sound_state.proofs.wins.ExpectLemmas.{IsIn, MayOne, MayAll, all-in, all-in_rest, onward-carried, load-seen, both-carried, option_both, named-desc, alloc-active}
 use Rattle.sound_state.proofs.wins.WinDefs.{ExpectsOn, next_expects}
 
@@ -43,50 +44,47 @@ hazard-leads :
 unfolding expects_of
 hazard-leads P s held at v o rest = grind (arith, rest)
 
-named-link : (g : Geometry) (v top : ℕ) → link_in g v ≡ Some top → v ≡ top
-named-link g v top is = grind (arith, is)
-
 -- where a step from p leads to q, it carries or sees all that its caller expects after it
-abbrev LeadsOn : DescPoint → Onward → ℕ → DescPoint → Type 0
-LeadsOn p o v q = MayAll (Desc p o) v (next_expects (enter_desc q o))
+abbrev DescCarries : DescPoint → Onward → ℕ → DescPoint → Type 0
+DescCarries p o v q = MayAll (Desc p o) v (next_expects (enter_desc q o))
 
 -- what waits behind the part is carried
-waits-on : (p : DescPoint) (o : Onward) (v : ℕ) → has_left_desc p ≡ false → MayAll (Desc p o) v (onward_expects (seat_of_desc p) o)
+desc-onward-carried : (p : DescPoint) (o : Onward) (v : ℕ) → has_left_desc p ≡ false → MayAll (Desc p o) v (onward_expects (seat_of_desc p) o)
 unfolding plan_point_of
-waits-on p o v inside = onward-carried (Desc p o) v (seat_of_desc p) o (desc-holds p o inside) (desc-apart p)
+desc-onward-carried p o v inside = onward-carried (Desc p o) v (seat_of_desc p) o (desc-holds p o inside) (desc-apart p)
 
 -- a step at the descriptors or the hazard words carries or sees all that its caller expects after it
 pub desc-expects : (g : Geometry) (who : ℕ) (p : DescPoint) (o : Onward) (v : ℕ) → FitsInDesc g who p o → ExpectsOn (Desc p o) v
 unfolding plan_point_of next_of expects_of
 desc-expects g who (desc.LoadDescHead s) o v fits =
     let p = desc.LoadDescHead s in
-    option_both (after_head s) (desc_named s.geometry v) (LeadsOn p o v) (waits-on p o v refl)
-    (λ d is. load-seen (Desc p o) v name.DescHead (d + 1) (onward_expects s o) refl (named-desc s.geometry v d is) (waits-on p o v refl))
+    option_both (after_head s) (desc_named s.geometry v) (DescCarries p o v) (desc-onward-carried p o v refl)
+    (λ d is. load-seen (Desc p o) v name.DescHead (d + 1) (onward_expects s o) refl (named-desc s.geometry v d is) (desc-onward-carried p o v refl))
 desc-expects g who (desc.StoreHazard s d) o v fits =
     let p = desc.StoreHazard s d in
     both-carried (Desc p o) v name.DescHead (d + 1) s o (all-in (top_still (d + 1) s o)) (λ is. cc) (desc-apart p)
 desc-expects g who (desc.ReloadDescHead s d) o v fits =
     let p = desc.ReloadDescHead s d in
-    cond_both (v == d + 1) (desc.LoadNextDesc s d) (desc.LoadDescHead s) (LeadsOn p o v)
-    (λ same. load-seen (Desc p o) v name.DescHead (d + 1) (onward_expects s o) refl (eqb-true v (d + 1) same) (waits-on p o v refl))
-    (λ other. waits-on p o v refl)
+    cond_both (v == d + 1) (desc.LoadNextDesc s d) (desc.LoadDescHead s) (DescCarries p o v)
+    (λ same. load-seen (Desc p o) v name.DescHead (d + 1) (onward_expects s o) refl (eqb-true v (d + 1) same) (desc-onward-carried p o v refl))
+    (λ other. desc-onward-carried p o v refl)
 desc-expects g who (desc.LoadNextDesc s d) o v fits =
     let p = desc.LoadNextDesc s d in
     let all : MayAll (Desc p o) v (top_still (d + 1) s o) =
     both-carried (Desc p o) v name.DescHead (d + 1) s o (all-in (top_still (d + 1) s o)) (λ is. cc) (desc-apart p) in
-    option_both (after_next s d) (link_in s.geometry v) (LeadsOn p o v) all (λ next is. all)
-desc-expects g who (desc.PopDesc s d next) o v fits = grind (arith, waits-on (desc.PopDesc s d next) o v refl)
+    option_both (after_next s d) (link_in s.geometry v) (DescCarries p o v) all (λ next is. all)
+desc-expects g who (desc.PopDesc s d next) o v fits = grind (arith, desc-onward-carried (desc.PopDesc s d next) o v refl)
 desc-expects g who (desc.ClearAfterPop s d) o v fits =
-    alloc-active (MayOne (Desc (desc.ClearAfterPop s d) o) v) s o fits.goes (waits-on (desc.ClearAfterPop s d) o v refl)
+    alloc-active (MayOne (Desc (desc.ClearAfterPop s d) o) v) s o fits.goes (desc-onward-carried (desc.ClearAfterPop s d) o v refl)
 desc-expects g who (desc.ClearHazard s) o v fits = cleared-leads (MayOne (Desc (desc.ClearHazard s) o) v) s o
 desc-expects g who (desc.ReadHazard s held at) o v fits =
-    hazard-leads (MayOne (Desc (desc.ReadHazard s held at) o) v) s held at v o (waits-on (desc.ReadHazard s held at) o v refl)
+    hazard-leads (MayOne (Desc (desc.ReadHazard s held at) o) v) s held at v o (desc-onward-carried (desc.ReadHazard s held at) o v refl)
 desc-expects g who (desc.LoadHeadToPush s d) o v fits =
     let p = desc.LoadHeadToPush s d in
-    option_both (after_top s d) (link_in s.geometry v) (LeadsOn p o v) (waits-on p o v refl)
-    (λ top is. load-seen (Desc p o) v name.DescHead top (onward_expects s o) refl (named-link s.geometry v top is) (waits-on p o v refl))
+    option_both (after_top s d) (link_in s.geometry v) (DescCarries p o v) (desc-onward-carried p o v refl)
+    (λ top is. load-seen (Desc p o) v name.DescHead top (onward_expects s o) refl (link-some s.geometry v top is) (desc-onward-carried p o v refl))
 desc-expects g who (desc.StoreNextDesc s d top) o v fits =
     let p = desc.StoreNextDesc s d top in
     both-carried (Desc p o) v name.DescHead top s o (all-in (top_still top s o)) (λ is. cc) (desc-apart p)
-desc-expects g who (desc.PushDesc s d top) o v fits = grind (arith, waits-on (desc.PushDesc s d top) o v refl)
+desc-expects g who (desc.PushDesc s d top) o v fits = grind (arith, desc-onward-carried (desc.PushDesc s d top) o v refl)
 desc-expects g who p o v fits = absurd (true≢false fits.inside)

@@ -11,7 +11,7 @@ use Rattle.errand_steps.specs.Openings.{IsOpening}
 use Rattle.errand_steps.specs.Steps.{State}
 use Rattle.sound_state.specs.Contention.{IsExpected, dirty_on, dirty_pairs, lost_of}
 use Rattle.sound_state.specs.Expectations.{expects_of}
-use Rattle.sound_state.specs.Installs.{is_seeking}
+use Rattle.sound_state.specs.TurnStages.{turn_stage_of, is_seeking}
 use Rattle.sound_state.specs.Wins.{no_wins}
 use Rattle.sound_state.specs.Won.{IsWon}
 use Rattle.sound_state.proofs.shared.SumLemmas.{sum-none, callers-none}
@@ -33,7 +33,7 @@ first-won g first s opens = record {
   installed = record {
     own = λ who has. rw (opens.errand who has) (omega arith);
     turns = λ who has. rw (opens.errand who has) (omega arith);
-    seeking = λ who has seeks. absurd (true≢false (sym (subst (λ e. IsTrue (is_seeking e.point)) (opens.errand who has) seeks)));
-    unmet = λ who wins has is. absurd (cc);
+    found = λ who has seeks. absurd (true≢false (sym (subst (λ e. IsTrue (is_seeking (turn_stage_of e.point))) (opens.errand who has) seeks)));
+    since = λ who wins has is. absurd (cc);
   };
 }

@@ -44,13 +44,13 @@ own-install s who =
     let won = counts_won (action_at s who) (found_at s who) in
     omega (arith, by-offer who (name_at s who) (offers (s.errand who).point) won, install-won (s.errand who).point (found_at s who))
 
-against-own : (who : ℕ) (word : WordName) (b won : Bool)
+no-install-against-own : (who : ℕ) (word : WordName) (b won : Bool)
     → counted (installs_against who) (if won then Some (record { caller = who; word = word; install = b }) else None) ≡ 0
-against-own who word b true = rw (eq-eqb who who refl) (grind (arith))
-against-own who word b false = refl
+no-install-against-own who word b true = rw (eq-eqb who who refl) (grind (arith))
+no-install-against-own who word b false = refl
 
 pub none-against : (s : State) (who : ℕ) → counted (installs_against who) (win_at s who) ≡ 0
-none-against s who = against-own who (name_at s who) (offers (s.errand who).point) (counts_won (action_at s who) (found_at s who))
+none-against s who = no-install-against-own who (name_at s who) (offers (s.errand who).point) (counts_won (action_at s who) (found_at s who))
 
 -- another caller's win doesn't count for a caller
 by-other : (who i : ℕ) (word : WordName) (b won : Bool) → i ≢ who

@@ -1,6 +1,6 @@
 -- What a point says of the superblock that its caller seeks.
 use Rattle.std.proofs.Common.{ℕ, true, false, cond, Option, Some, None, ◌≡◌, ◌≢◌, [], refl, arith, sym}
-use Rattle.std.specs.Prelude.{◌⊎◌, ◌&&◌, ◌==◌, not, All, Any, IsTrue}
+use Rattle.std.specs.Prelude.{◌⊎◌, ◌&&◌, ◌==◌, not, All, IsTrue}
 use Rattle.std.proofs.lemmas.Bool.{true≢false, eq-eqb, eqb-true}
 use Rattle.std.proofs.lemmas.List.Elements.{All-head}
 use Rattle.packed_words.specs.declared.active.ActiveWord.TheVariants.{Null}
@@ -14,46 +14,47 @@ use Rattle.errand_steps.specs.declared.point.Point.{Point}
 use Rattle.errand_steps.specs.declared.point.Point.TheVariants as point
 use Rattle.errand_steps.specs.Points.{plan_point_of}
 use Rattle.sound_state.specs.Expectations.{Expected, expects_of}
-use Rattle.sound_state.specs.Installs.{IsActive, is_seeking}
-use Rattle.sound_state.specs.Turns.{one_if, in_turn, is_discarding_at}
-use Rattle.sound_state.specs.Wins.{unmet_at}
+use Rattle.sound_state.specs.Installs.{IsActiveName}
+use Rattle.sound_state.specs.TurnStages.{turn_stage_of, is_seeking, is_unneeded}
+use Rattle.sound_state.specs.Turns.{one_if}
+use Rattle.sound_state.specs.Wins.{found_none_by}
 use Rattle.sound_state.proofs.wins.WinDefs.{looks_active, offers_new, found_in}
 
 -- who loads the active word expects nothing, and neither offers nor discards a superblock
 pub record LooksOnly (p : Point) : Type 0 where
   pub expects : expects_of p ≡ []
   pub offer : offers_new p ≡ false
-  pub discards : one_if (in_turn p && is_discarding_at p) ≡ 0
+  pub discards : one_if (is_unneeded (turn_stage_of p)) ≡ 0
 
 pub looks-only : (p : Point) → IsTrue (looks_active p) → LooksOnly p
 unfolding expects_of
 looks-only p looks = grind (arith, looks)
 
 -- what it notes: that it found none active; else what it had noted
-pub unmet-looks :
+pub found_none-looks :
     (p : Point) (x : Found) (wins : ℕ) (old : Option ℕ) → IsTrue (looks_active p) → x.value ≡ active_word Null
-    → unmet_at p x wins old ≡ Some wins
-unmet-looks p x wins old looks null = grind (arith, looks, null, eq-eqb)
+    → found_none_by p x wins old ≡ Some wins
+found_none-looks p x wins old looks null = grind (arith, looks, null, eq-eqb)
 
-pub unmet-seeks : (p : Point) (x : Found) (wins : ℕ) (old : Option ℕ) → IsTrue (is_seeking p) → unmet_at p x wins old ≡ old
-unmet-seeks p x wins old seeks = grind (arith, seeks)
+pub found_none-seeks : (p : Point) (x : Found) (wins : ℕ) (old : Option ℕ) → IsTrue (is_seeking (turn_stage_of p)) → found_none_by p x wins old ≡ old
+found_none-seeks p x wins old seeks = grind (arith, seeks)
 
 -- at such a load
-unmet-load :
+found_none-load :
     (v wins n : ℕ) → cond (v == active_word Null) (Some wins) None ≡ Some n → (n ≡ wins) × (v ≡ active_word Null)
-unmet-load v wins n is = grind (arith, is, eqb-true)
+found_none-load v wins n is = grind (arith, is, eqb-true)
 
 -- at each point
-pub unmet-from :
-    (p : Point) (x : Found) (wins : ℕ) (old : Option ℕ) (n : ℕ) → unmet_at p x wins old ≡ Some n
+pub found_none-from :
+    (p : Point) (x : Found) (wins : ℕ) (old : Option ℕ) (n : ℕ) → found_none_by p x wins old ≡ Some n
     → (old ≡ Some n) ⊎ (IsTrue (looks_active p) × (n ≡ wins) × (x.value ≡ active_word Null))
-unmet-from p x wins old n is = grind (arith, is, unmet-load)
+found_none-from p x wins old n is = grind (arith, is, found_none-load)
 
 -- a superblock that it offered in vain: it expected none to be active there, and one is
 pub record LosesNew (p : Point) (v : ℕ) (P : Expected → Type 0) : Type 0 where
-  pub active : IsActive (name_of (plan_point_of p))
+  pub active : IsActiveName (name_of (plan_point_of p))
   pub some : v ≢ active_word Null
-  pub discards : one_if (in_turn p && is_discarding_at p) ≡ 0
+  pub discards : one_if (is_unneeded (turn_stage_of p)) ≡ 0
   pub expected : P (record { word = name_of (plan_point_of p); value = active_word Null })
 
 -- the exchange was lost
@@ -77,7 +78,3 @@ pub loses-new :
     (p : Point) (v : ℕ) (P : Expected → Type 0) → IsTrue (offers_new p && not (found_in p v).won) → All P (expects_of p) → LosesNew p v P
 loses-new (point.Block p o) v P lost all = loses-block p o v P lost all
 loses-new p v P lost all = absurd (true≢false (sym lost))
-
--- nothing is in no list
-pub Any-none : {X : Type 0} (P : X → Type 0) → Any P [] → ⊥
-Any-none P any = absurd (omega (arith, any.2))

@@ -19,8 +19,8 @@ use Rattle.sound_state.proofs.wins.ExpectLemmas.{MayAll, expects-none, load-seen
 use Rattle.sound_state.proofs.wins.WinDefs.{ExpectsOn, next_expects}
 
 -- a shelf's word says what it was made of
-shelf-said : (v : ℕ) (w : ShelfWord) → v < 2 ^ 64 → shelf_of v ≡ Some w → v ≡ shelf_word w
-shelf-said v w below is =
+shelf-word-back : (v : ℕ) (w : ShelfWord) → v < 2 ^ 64 → shelf_of v ≡ Some w → v ≡ shelf_word w
+shelf-word-back v w below is =
     let has : Reads IsShelfWord shelf_word v (Some w) = reads shelf-exact v (Some w) below (sym is) in
     sym has.1
 
@@ -31,11 +31,11 @@ shelf-on :
 unfolding plan_point_of expects_of
 shelf-on shelf o v None below is = expects-none (Large (large.LoadShelf shelf) o) v
 shelf-on shelf o v (Some Nothing) below is =
-    load-seen (Large (large.LoadShelf shelf) o) v (name.Shelf shelf) (shelf_word Nothing) [] refl (shelf-said v Nothing below is)
+    load-seen (Large (large.LoadShelf shelf) o) v (name.Shelf shelf) (shelf_word Nothing) [] refl (shelf-word-back v Nothing below is)
     (expects-none (Large (large.LoadShelf shelf) o) v)
 shelf-on shelf o v (Some (Block place need)) below is =
     load-seen (Large (large.LoadShelf shelf) o) v (name.Shelf shelf) (shelf_word (Block place need)) [] refl
-    (shelf-said v (Block place need) below is) (expects-none (Large (large.LoadShelf shelf) o) v)
+    (shelf-word-back v (Block place need) below is) (expects-none (Large (large.LoadShelf shelf) o) v)
 
 -- what a caller expects after a step there the step saw
 pub large-expects : (p : LargePoint) (o : Onward) (v : ℕ) → v < 2 ^ 64 → ExpectsOn (Large p o) v

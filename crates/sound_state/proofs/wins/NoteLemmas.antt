@@ -10,9 +10,9 @@ use Rattle.errand_steps.specs.Errands.{settle_of, raised, counts_won, is_lost_ex
 use Rattle.errand_steps.specs.Steps.{State, Step, action_at, name_at, word_at, found_at}
 use Rattle.sound_state.specs.Contention.{IsExpected, IsNoted, IsDirty, is_by, is_against, dirty_since}
 use Rattle.sound_state.specs.Expectations.{Expected, expects_of}
-use Rattle.sound_state.specs.Wins.{Win, Wins, win_at, list_after, note_at, confirms, wins_after}
-use Rattle.sound_state.proofs.wins.CountLemmas.{count-append}
+use Rattle.sound_state.specs.Wins.{Win, Wins, win_at, win_list_after, note_at, is_self_exchange, wins_after}
 use Rattle.sound_state.proofs.shared.CallerLemmas.{each-other}
+use Rattle.sound_state.proofs.wins.CountLemmas.{count-append}
 use Rattle.sound_state.proofs.wins.DirtyLemmas.{IsPast, dirty-stays, dirty-now}
 use Rattle.sound_state.proofs.wins.ExpectLemmas.{in-all}
 use Rattle.sound_state.proofs.wins.StepWins.{IsStore, word-stays, the_win, list-least, all-win, no-count, no-won, one-count, against-other, noted-others, noted-apart, noted-own, note-seen, note-lost, note-confirmed}
@@ -50,7 +50,7 @@ is-own s who = eq-eqb who who refl
 -- each caller counts its own
 won-after :
     (g : Geometry) (s : State) (who : ℕ) (s' : State) (w : Wins) → who < g.callers → Step s who s' → IsNoted g s w → (i : ℕ) → i < g.callers
-    → (s'.errand i).won ≡ min (count_by (is_by i) (list_after s who w.list)) (2 ^ 64 - 1)
+    → (s'.errand i).won ≡ min (count_by (is_by i) (win_list_after s who w.list)) (2 ^ 64 - 1)
 won-after g s who s' w has step old =
     let more = option_to_list (win_at s who) in
     let both = λ (i : ℕ). count-append (is_by i) w.list more in
@@ -65,14 +65,14 @@ won-after g s who s' w has step old =
 -- no note is of wins to come
 note-past :
     (s : State) (who : ℕ) (list : List Win) (old : Option ℕ) → IsPast list old
-    → IsPast (list_after s who list) (note_at s who (length (list_after s who list)) old)
+    → IsPast (win_list_after s who list) (note_at s who (length (win_list_after s who list)) old)
 note-past s who list old past =
-    let after = list_after s who list in
+    let after = win_list_after s who list in
     let longer = list-least s who list in
     elim (cases_Bool (is_lost_exchange (action_at s who) (found_at s who))) [
       | inl lost ↦ subst (IsPast after) (sym (note-lost s who (length after) old lost)) (λ wins is. absurd (cc))
       | inr kept ↦
-          elim (cases_Bool (confirms (action_at s who))) [
+          elim (cases_Bool (is_self_exchange (action_at s who))) [
             | inl same ↦
                 subst (IsPast after) (sym (note-confirmed s who (length after) old kept same)) (λ wins is. omega (arith, longer, past wins is))
             | inr new ↦
@@ -83,19 +83,19 @@ note-past s who list old past =
 
 pub past-after :
     (g : Geometry) (s : State) (who : ℕ) (w : Wins) → IsNoted g s w → (i : ℕ) (m : WordName)
-    → IsPast (list_after s who w.list) ((wins_after s who w).noted i m)
+    → IsPast (win_list_after s who w.list) ((wins_after s who w).noted i m)
 past-after g s who w old i m =
     let longer = list-least s who w.list in
-    let still : IsPast (list_after s who w.list) (w.noted i m) = λ wins is. omega (arith, longer, old.past i m wins is) in
+    let still : IsPast (win_list_after s who w.list) (w.noted i m) = λ wins is. omega (arith, longer, old.past i m wins is) in
     elim (cases_eq i who) [
-      | inr other ↦ subst (IsPast (list_after s who w.list)) (sym (noted-others s who w i m other)) still
+      | inr other ↦ subst (IsPast (win_list_after s who w.list)) (sym (noted-others s who w i m other)) still
       | inl is ↦
           elim (cases_name m (name_at s who)) [
-            | inr differ ↦ subst (IsPast (list_after s who w.list)) (sym (noted-apart s who w i m differ)) still
+            | inr differ ↦ subst (IsPast (win_list_after s who w.list)) (sym (noted-apart s who w i m differ)) still
             | inl here ↦
-                let P : ℕ → Type 0 = λ k. IsPast (list_after s who w.list) ((wins_after s who w).noted k m) in
+                let P : ℕ → Type 0 = λ k. IsPast (win_list_after s who w.list) ((wins_after s who w).noted k m) in
                 subst P (sym is)
-                (subst (IsPast (list_after s who w.list)) (sym (noted-own s who w m here)) (note-past s who w.list (w.noted who m) (old.past who m)))
+                (subst (IsPast (win_list_after s who w.list)) (sym (noted-own s who w m here)) (note-past s who w.list (w.noted who m) (old.past who m)))
           ]
     ]
 
@@ -104,7 +104,7 @@ still-dirty :
     (g : Geometry) (s : State) (who : ℕ) (w : Wins) → IsNoted g s w → (i : ℕ) (m : WordName)
     → (wins_after s who w).noted i m ≡ w.noted i m → IsDirty w i m → IsDirty (wins_after s who w) i m
 still-dirty g s who w old i m same dirty =
-    subst (λ o. IsTrue (dirty_since (list_after s who w.list) i m o)) (sym same)
+    subst (λ o. IsTrue (dirty_since (win_list_after s who w.list) i m o)) (sym same)
     (dirty-stays w.list (option_to_list (win_at s who)) i m (w.noted i m) (old.past i m) dirty)
 
 -- what another caller expects
@@ -130,7 +130,7 @@ expected-others g s who s' w step old i other e store h =
                     | inl won ↦
                         let once = one-count (is_against i e.word) s who won (against-other s who i e.word other here) in
                         inr
-                        (subst (λ o. IsTrue (dirty_since (list_after s who w.list) i e.word o)) (sym (same ∙ h.noted))
+                        (subst (λ o. IsTrue (dirty_since (win_list_after s who w.list) i e.word o)) (sym (same ∙ h.noted))
                         (dirty-now w.list (option_to_list (win_at s who)) i e.word h.wins (old.past i e.word h.wins h.noted) (omega (arith, once))))
                   ]
             ]
@@ -157,8 +157,8 @@ expected-seen :
     (s : State) (who : ℕ) (s' : State) (w : Wins) → Step s who s' → (e : Expected) → IsSeen (action_at s who) (found_at s who) e
     → IsExpected s' (wins_after s who w) who e
 expected-seen s who s' w step e seen = record {
-  wins = length (list_after s who w.list);
-  noted = noted-own s who w e.word seen.word ∙ note-seen s who (length (list_after s who w.list)) (w.noted who e.word) seen.kept seen.noted;
+  wins = length (win_list_after s who w.list);
+  noted = noted-own s who w e.word seen.word ∙ note-seen s who (length (win_list_after s who w.list)) (w.noted who e.word) seen.kept seen.noted;
   so = inl (ap s'.word seen.word ∙ (step.word.here ∙ seen.value));
 }
 

@@ -34,13 +34,13 @@ partial-apart : (p : PartialPoint) → active_name (seat_of_partial p) ≢ name_
 partial-apart p = grind (arith)
 
 -- where a step from p leads to q, it carries or sees all that its caller expects after it
-abbrev LeadsOn : PartialPoint → Onward → ℕ → PartialPoint → Type 0
-LeadsOn p o v q = MayAll (Partial p o) v (next_expects (enter_partial q o))
+abbrev PartialCarries : PartialPoint → Onward → ℕ → PartialPoint → Type 0
+PartialCarries p o v q = MayAll (Partial p o) v (next_expects (enter_partial q o))
 
 -- what waits behind the part is carried
-waits-on : (p : PartialPoint) (o : Onward) (v : ℕ) → has_left_partial p ≡ false → MayAll (Partial p o) v (onward_expects (seat_of_partial p) o)
+partial-onward-carried : (p : PartialPoint) (o : Onward) (v : ℕ) → has_left_partial p ≡ false → MayAll (Partial p o) v (onward_expects (seat_of_partial p) o)
 unfolding plan_point_of
-waits-on p o v inside = onward-carried (Partial p o) v (seat_of_partial p) o (partial-holds p o inside) (partial-apart p)
+partial-onward-carried p o v inside = onward-carried (Partial p o) v (seat_of_partial p) o (partial-holds p o inside) (partial-apart p)
 
 -- a step at a partial superblock carries or sees all that its caller expects after it
 pub partial-expects :
@@ -48,40 +48,40 @@ pub partial-expects :
 unfolding plan_point_of next_of expects_of
 partial-expects g who (partial.LoadSlot s) o v fits below =
     let p = partial.LoadSlot s in
-    cond_both (v == 0) (partial.SlotEmpty s) (after_kept s (desc_named s.geometry v)) (LeadsOn p o v) (λ bare. waits-on p o v refl)
+    cond_both (v == 0) (partial.SlotEmpty s) (after_kept s (desc_named s.geometry v)) (PartialCarries p o v) (λ bare. partial-onward-carried p o v refl)
     (λ some.
-    option_both (after_kept s) (desc_named s.geometry v) (LeadsOn p o v) (waits-on p o v refl)
-    (λ d is. load-seen (Partial p o) v (slot_name s) (d + 1) (onward_expects s o) refl (named-desc s.geometry v d is) (waits-on p o v refl)))
-partial-expects g who (partial.TakeSlot s d) o v fits below = grind (arith, waits-on (partial.TakeSlot s d) o v refl)
+    option_both (after_kept s) (desc_named s.geometry v) (PartialCarries p o v) (partial-onward-carried p o v refl)
+    (λ d is. load-seen (Partial p o) v (slot_name s) (d + 1) (onward_expects s o) refl (named-desc s.geometry v d is) (partial-onward-carried p o v refl)))
+partial-expects g who (partial.TakeSlot s d) o v fits below = grind (arith, partial-onward-carried (partial.TakeSlot s d) o v refl)
 partial-expects g who (partial.LoadTakenInfo s d) o v fits below =
     let p = partial.LoadTakenInfo s d in
-    option_both (after_taken_info s d) (info_in s.geometry v) (LeadsOn p o v) (waits-on p o v refl) (λ info is. waits-on p o v refl)
-partial-expects g who (partial.StoreOwner at) o v fits below = waits-on (partial.StoreOwner at) o v refl
+    option_both (after_taken_info s d) (info_in s.geometry v) (PartialCarries p o v) (partial-onward-carried p o v refl) (λ info is. partial-onward-carried p o v refl)
+partial-expects g who (partial.StoreOwner at) o v fits below = partial-onward-carried (partial.StoreOwner at) o v refl
 partial-expects g who (partial.LoadGrantAnchor at) o v fits below =
     let p = partial.LoadGrantAnchor at in
-    cond_both (is_empty (anchor_of v).state) (partial.TookEmpty at) (after_live at (anchor_in at.seat.class v)) (LeadsOn p o v)
-    (λ bare. alloc-active (MayOne (Partial p o) v) at.seat o fits.goes (waits-on p o v refl))
+    cond_both (is_empty (anchor_of v).state) (partial.TookEmpty at) (after_live at (anchor_in at.seat.class v)) (PartialCarries p o v)
+    (λ bare. alloc-active (MayOne (Partial p o) v) at.seat o fits.goes (partial-onward-carried p o v refl))
     (λ live.
-    option_both (after_live at) (anchor_in at.seat.class v) (LeadsOn p o v) (waits-on p o v refl)
+    option_both (after_live at) (anchor_in at.seat.class v) (PartialCarries p o v) (partial-onward-carried p o v refl)
     (λ a is. load-seen (Partial p o) v (name.Anchor at.desc) (anchor_word a) (onward_expects at.seat o) refl (read-anchor at.seat.class v a below is)
-    (waits-on p o v refl)))
+    (partial-onward-carried p o v refl)))
 partial-expects g who (partial.Grant at a) o v fits below =
     let p = partial.Grant at a in
-    cond_both (v == anchor_word a) (partial.Granted at (grant_more a.count)) (partial.LoadGrantAnchor at) (LeadsOn p o v)
-    (λ won. alloc-active (MayOne (Partial p o) v) at.seat o fits.goes (waits-on p o v refl)) (λ lost. waits-on p o v refl)
+    cond_both (v == anchor_word a) (partial.Granted at (grant_more a.count)) (partial.LoadGrantAnchor at) (PartialCarries p o v)
+    (λ won. alloc-active (MayOne (Partial p o) v) at.seat o fits.goes (partial-onward-carried p o v refl)) (λ lost. partial-onward-carried p o v refl)
 partial-expects g who (partial.LoadOwner s d) o v fits below =
     let p = partial.LoadOwner s d in
-    option_both (after_owner s d) (info_in s.geometry v) (LeadsOn p o v) (waits-on p o v refl) (λ info is. waits-on p o v refl)
+    option_both (after_owner s d) (info_in s.geometry v) (PartialCarries p o v) (partial-onward-carried p o v refl) (λ info is. partial-onward-carried p o v refl)
 partial-expects g who (partial.PutSlot s d heap) o v fits below =
     let p = partial.PutSlot s d heap in
-    cond_both (v == 0) (partial.SlotFilled s) (after_displaced s d heap (desc_named s.geometry v)) (LeadsOn p o v)
+    cond_both (v == 0) (partial.SlotFilled s) (after_displaced s d heap (desc_named s.geometry v)) (PartialCarries p o v)
     (λ bare. put-leads (MayOne (Partial p o) v) s o)
     (λ some.
-    option_both (after_displaced s d heap) (desc_named s.geometry v) (LeadsOn p o v) (waits-on p o v refl) (λ other is. waits-on p o v refl))
+    option_both (after_displaced s d heap) (desc_named s.geometry v) (PartialCarries p o v) (partial-onward-carried p o v refl) (λ other is. partial-onward-carried p o v refl))
 partial-expects g who (partial.LoadHeldSlot s d heap) o v fits below =
     let p = partial.LoadHeldSlot s d heap in
-    cond_both (v == d + 1) (partial.RemoveFromSlot s d heap) (partial.NotInSlot s) (LeadsOn p o v)
-    (λ same. load-seen (Partial p o) v (slot_of s heap) (d + 1) (onward_expects s o) refl (eqb-true v (d + 1) same) (waits-on p o v refl))
+    cond_both (v == d + 1) (partial.RemoveFromSlot s d heap) (partial.NotInSlot s) (PartialCarries p o v)
+    (λ same. load-seen (Partial p o) v (slot_of s heap) (d + 1) (onward_expects s o) refl (eqb-true v (d + 1) same) (partial-onward-carried p o v refl))
     (λ other. expects-none (Partial p o) v)
 partial-expects g who (partial.RemoveFromSlot s d heap) o v fits below =
     grind (arith, expects-none (Partial (partial.RemoveFromSlot s d heap) o) v)

@@ -45,18 +45,18 @@ unfolding expects_of
 stack-holds p o inside = grind (arith, inside, all-in, all-in_rest)
 
 -- a head that is read for a pop
-top-leads :
+top-expects :
     (P : Expected → Type 0) (s : SeatFields) (pile : Pile) (h : HeadFields) (o : Onward) → All P (onward_expects s o)
     → All P (head_still s pile h o) → All P (next_expects (enter_stack (after_top s pile h) o))
 unfolding expects_of
-top-leads P s pile h o rest all = grind (arith, rest, all)
+top-expects P s pile h o rest all = grind (arith, rest, all)
 
 -- the next word of the index on top
-below-leads :
+below-expects :
     (P : Expected → Type 0) (s : SeatFields) (pile : Pile) (h : HeadFields) (below : ℕ) (o : Onward) → All P (head_still s pile h o)
     → All P (next_expects (enter_stack (after_below s pile h below) o))
 unfolding expects_of
-below-leads P s pile h below o all = grind (arith, all)
+below-expects P s pile h below o all = grind (arith, all)
 
 -- an index was popped
 popped-leads :
@@ -76,15 +76,15 @@ unfolding expects_of
 put-leads P s o = grind (arith, All-nil P)
 
 -- where a step from p leads to q, it carries or sees all that its caller expects after it
-abbrev LeadsOn : StackPoint → Onward → ℕ → StackPoint → Type 0
-LeadsOn p o v q = MayAll (Stack p o) v (next_expects (enter_stack q o))
+abbrev StackCarries : StackPoint → Onward → ℕ → StackPoint → Type 0
+StackCarries p o v q = MayAll (Stack p o) v (next_expects (enter_stack q o))
 
 -- what waits behind the part is carried
-waits-on :
+stack-onward-carried :
     (p : StackPoint) (o : Onward) (v : ℕ) → has_left_stack p ≡ false → active_name (seat_of_stack p) ≢ name_of (plan_stack_of p)
     → MayAll (Stack p o) v (onward_expects (seat_of_stack p) o)
 unfolding plan_point_of
-waits-on p o v inside apart = onward-carried (Stack p o) v (seat_of_stack p) o (stack-holds p o inside) apart
+stack-onward-carried p o v inside apart = onward-carried (Stack p o) v (seat_of_stack p) o (stack-holds p o inside) apart
 
 -- a step at a stack carries or sees all that its caller expects after it
 pub stack-expects :
@@ -92,32 +92,32 @@ pub stack-expects :
 unfolding plan_point_of next_of expects_of
 stack-expects g who (stack.LoadTop s pile) o v fits below =
     let p = stack.LoadTop s pile in
-    let rest = waits-on p o v refl (head-apart s pile) in
-    top-leads (MayOne (Stack p o) v) s pile (head_of v) o rest
+    let rest = stack-onward-carried p o v refl (head-apart s pile) in
+    top-expects (MayOne (Stack p o) v) s pile (head_of v) o rest
     (load-seen (Stack p o) v (head_name s pile) (head_word (head_of v)) (onward_expects s o) refl (sym (head_word-head_of v below)) rest)
 stack-expects g who (stack.LoadBelow s pile h) o v fits below =
-    below-leads (MayOne (Stack (stack.LoadBelow s pile h) o) v) s pile h v o
+    below-expects (MayOne (Stack (stack.LoadBelow s pile h) o) v) s pile h v o
     (both-carried (Stack (stack.LoadBelow s pile h) o) v (head_name s pile) (head_word h) s o
     (all-in (head_still s pile h o)) (below-apart s pile (h.top - 1)) (next-apart s pile (h.top - 1)))
 stack-expects g who (stack.PopTop s pile h next) o v fits below =
     let p = stack.PopTop s pile h next in
-    let rest = waits-on p o v refl (head-apart s pile) in
-    cond_both (v == head_word h) (stack.Popped s pile (h.top - 1)) (stack.LoadTop s pile) (LeadsOn p o v)
+    let rest = stack-onward-carried p o v refl (head-apart s pile) in
+    cond_both (v == head_word h) (stack.Popped s pile (h.top - 1)) (stack.LoadTop s pile) (StackCarries p o v)
     (λ won. popped-leads (MayOne (Stack p o) v) s (h.top - 1) o rest) (λ lost. rest)
 stack-expects g who (stack.ConfirmEmpty s pile h) o v fits below =
     let p = stack.ConfirmEmpty s pile h in
-    let rest = waits-on p o v refl (head-apart s pile) in
-    cond_both (v == head_word h) (stack.ConfirmedEmpty s pile) (stack.LoadTop s pile) (LeadsOn p o v)
+    let rest = stack-onward-carried p o v refl (head-apart s pile) in
+    cond_both (v == head_word h) (stack.ConfirmedEmpty s pile) (stack.LoadTop s pile) (StackCarries p o v)
     (λ won. confirmed-leads (MayOne (Stack p o) v) s o rest) (λ lost. rest)
 stack-expects g who (stack.LoadTopToPush s pile i) o v fits below =
     let p = stack.LoadTopToPush s pile i in
     load-seen (Stack p o) v (head_name s pile) (head_word (head_of v)) (onward_expects s o) refl (sym (head_word-head_of v below))
-    (waits-on p o v refl (head-apart s pile))
+    (stack-onward-carried p o v refl (head-apart s pile))
 stack-expects g who (stack.StoreBelow s pile i h) o v fits below =
     both-carried (Stack (stack.StoreBelow s pile i h) o) v (head_name s pile) (head_word h) s o
     (all-in (head_still s pile h o)) (below-apart s pile i) (next-apart s pile i)
 stack-expects g who (stack.PushTop s pile i h) o v fits below =
     let p = stack.PushTop s pile i h in
-    cond_both (v == head_word h) (stack.Pushed s pile) (stack.LoadTopToPush s pile i) (LeadsOn p o v)
-    (λ won. put-leads (MayOne (Stack p o) v) s o) (λ lost. waits-on p o v refl (head-apart s pile))
+    cond_both (v == head_word h) (stack.Pushed s pile) (stack.LoadTopToPush s pile i) (StackCarries p o v)
+    (λ won. put-leads (MayOne (Stack p o) v) s o) (λ lost. stack-onward-carried p o v refl (head-apart s pile))
 stack-expects g who p o v fits below = absurd (true≢false fits.inside)

@@ -10,7 +10,7 @@ use Rattle.word_plan.specs.Actions.{after_action, found_by}
 use Rattle.errand_steps.specs.Errands.{counts_won, is_lost_exchange}
 use Rattle.errand_steps.specs.Steps.{State, action_at, name_at, found_at}
 use Rattle.sound_state.specs.Contention.{is_against}
-use Rattle.sound_state.specs.Wins.{Win, Wins, same_name, offers, win_at, list_after, note_at, confirms, wins_after}
+use Rattle.sound_state.specs.Wins.{Win, Wins, same_name, offers, win_at, win_list_after, note_at, is_self_exchange, wins_after}
 use Rattle.sound_state.proofs.wins.CountLemmas.{count-one, count-other}
 use Rattle.sound_state.proofs.wins.SameNames.{same-name-one, same-name-differs}
 
@@ -47,16 +47,16 @@ win-none s who none = cond-false (counts_won (action_at s who) (found_at s who))
 
 -- so the list stays, or has one more
 pub list-stays :
-    (s : State) (who : ℕ) (list : List Win) → counts_won (action_at s who) (found_at s who) ≡ false → list_after s who list ≡ list
+    (s : State) (who : ℕ) (list : List Win) → counts_won (action_at s who) (found_at s who) ≡ false → win_list_after s who list ≡ list
 list-stays s who list none = ap (λ o. list ++ option_to_list o) (win-none s who none) ∙ append-nil list
 
 pub list-longer :
     (s : State) (who : ℕ) (list : List Win) → counts_won (action_at s who) (found_at s who) ≡ true
-    → length (list_after s who list) ≡ length list + 1
+    → length (win_list_after s who list) ≡ length list + 1
 list-longer s who list won =
     ap (λ o. length (list ++ option_to_list o)) (win-some s who won) ∙ length-append list (the_win s who ∷ [])
 
-pub list-least : (s : State) (who : ℕ) (list : List Win) → length list ≤ length (list_after s who list)
+pub list-least : (s : State) (who : ℕ) (list : List Win) → length list ≤ length (win_list_after s who list)
 list-least s who list = omega (arith, length-append list (option_to_list (win_at s who)))
 
 -- what holds of what it wins, if anything, holds of each such win
@@ -106,40 +106,40 @@ against-other s who i m other is =
 pub noted-others :
     (s : State) (who : ℕ) (w : Wins) (i : ℕ) (m : WordName) → i ≢ who → (wins_after s who w).noted i m ≡ w.noted i m
 noted-others s who w i m other =
-    cond-false ((i == who) && same_name m (name_at s who)) (note_at s who (length (list_after s who w.list)) (w.noted who m)) (w.noted i m)
+    cond-false ((i == who) && same_name m (name_at s who)) (note_at s who (length (win_list_after s who w.list)) (w.noted who m)) (w.noted i m)
     (and_left (i == who) (same_name m (name_at s who)) (ne_eqb i who other))
 
 pub noted-apart :
     (s : State) (who : ℕ) (w : Wins) (i : ℕ) (m : WordName) → m ≢ name_at s who → (wins_after s who w).noted i m ≡ w.noted i m
 noted-apart s who w i m differ =
-    cond-false ((i == who) && same_name m (name_at s who)) (note_at s who (length (list_after s who w.list)) (w.noted who m)) (w.noted i m)
+    cond-false ((i == who) && same_name m (name_at s who)) (note_at s who (length (win_list_after s who w.list)) (w.noted who m)) (w.noted i m)
     (and_right (i == who) (same_name m (name_at s who)) (same-name-differs m (name_at s who) differ))
 
 -- the caller notes its word
 pub noted-own :
     (s : State) (who : ℕ) (w : Wins) (m : WordName) → m ≡ name_at s who
-    → (wins_after s who w).noted who m ≡ note_at s who (length (list_after s who w.list)) (w.noted who m)
+    → (wins_after s who w).noted who m ≡ note_at s who (length (win_list_after s who w.list)) (w.noted who m)
 noted-own s who w m is =
-    cond-true ((who == who) && same_name m (name_at s who)) (note_at s who (length (list_after s who w.list)) (w.noted who m)) (w.noted who m)
+    cond-true ((who == who) && same_name m (name_at s who)) (note_at s who (length (win_list_after s who w.list)) (w.noted who m)) (w.noted who m)
     (and_from (who == who) (same_name m (name_at s who)) (eq-eqb who who refl) (same-name-one m (name_at s who) is))
 
 -- of a load, a store and a change that it won it notes all wins; of an exchange that it lost none
 pub note-seen :
-    (s : State) (who wins : ℕ) (old : Option ℕ) → is_lost_exchange (action_at s who) (found_at s who) ≡ false → confirms (action_at s who) ≡ false
+    (s : State) (who wins : ℕ) (old : Option ℕ) → is_lost_exchange (action_at s who) (found_at s who) ≡ false → is_self_exchange (action_at s who) ≡ false
     → note_at s who wins old ≡ Some wins
 note-seen s who wins old kept new =
-    cond-false (is_lost_exchange (action_at s who) (found_at s who)) None (if confirms (action_at s who) then old else Some wins) kept
-    ∙ cond-false (confirms (action_at s who)) old (Some wins) new
+    cond-false (is_lost_exchange (action_at s who) (found_at s who)) None (if is_self_exchange (action_at s who) then old else Some wins) kept
+    ∙ cond-false (is_self_exchange (action_at s who)) old (Some wins) new
 
 pub note-lost :
     (s : State) (who wins : ℕ) (old : Option ℕ) → is_lost_exchange (action_at s who) (found_at s who) ≡ true → note_at s who wins old ≡ None
 note-lost s who wins old lost =
-    cond-true (is_lost_exchange (action_at s who) (found_at s who)) None (if confirms (action_at s who) then old else Some wins) lost
+    cond-true (is_lost_exchange (action_at s who) (found_at s who)) None (if is_self_exchange (action_at s who) then old else Some wins) lost
 
 -- of an exchange of a number for itself what it had noted
 pub note-confirmed :
-    (s : State) (who wins : ℕ) (old : Option ℕ) → is_lost_exchange (action_at s who) (found_at s who) ≡ false → confirms (action_at s who) ≡ true
+    (s : State) (who wins : ℕ) (old : Option ℕ) → is_lost_exchange (action_at s who) (found_at s who) ≡ false → is_self_exchange (action_at s who) ≡ true
     → note_at s who wins old ≡ old
 note-confirmed s who wins old kept same =
-    cond-false (is_lost_exchange (action_at s who) (found_at s who)) None (if confirms (action_at s who) then old else Some wins) kept
-    ∙ cond-true (confirms (action_at s who)) old (Some wins) same
+    cond-false (is_lost_exchange (action_at s who) (found_at s who)) None (if is_self_exchange (action_at s who) then old else Some wins) kept
+    ∙ cond-true (is_self_exchange (action_at s who)) old (Some wins) same

@@ -36,7 +36,8 @@ use Rattle.sound_state.specs.Lists.{Lists}
 use Rattle.sound_state.specs.Recalls.{IsSo, block_recalls, recalls_of}
 use Rattle.sound_state.specs.Sound.{IsSoundWith}
 use Rattle.sound_state.specs.Superblocks.{is_bound, kept_among, errand_keeps}
-use Rattle.sound_state.proofs.stores.InfoPlaces.{IsUnplaced, way-unplaced}
+use Rattle.sound_state.proofs.shared.HasLemmas.{kept-itself}
+use Rattle.sound_state.proofs.shared.UnplacedLemmas.{IsUnplaced, way-unplaced}
 use Rattle.sound_state.proofs.wins.StepWins.{IsStore}
 use Rattle.sound_state.proofs.shared.RecallTables.{bound-differs}
 
@@ -55,10 +56,6 @@ IsApartFrom Q n = ⊥
 abbrev pub AreApart : (ℕ → Type 0) → List Expected → Type 0
 AreApart Q = AllByRecursion (λ e. IsApartFrom Q e.word)
 
--- what is kept is among what is kept
-partly-here : (d class : ℕ) → 1 ≤ kept_among partly_used d (keep d class partly_used)
-partly-here d class = rw (eq-eqb d d refl) (omega arith)
-
 way-here : (d class : ℕ) → 1 ≤ kept_among on_its_way d (keep d class on_its_way)
 way-here d class = rw (eq-eqb d d refl) (omega arith)
 
@@ -70,53 +67,53 @@ module _ (g : Geometry) (s : State) (l : Lists) (i : ℕ) (Q : ℕ → Type 0) w
   apart-share seat (Grant more) = (tt, tt)
 
   -- in a superblock, whose descriptor is bound
-  apart-block :
+  expects-apart-block :
       (p : BlockPoint) → ((d : ℕ) → IsTrue (is_bound g s l d) → Q d) → AllByRecursion (IsSo g s l i) (block_recalls p)
       → AreApart Q (block_expects p)
-  apart-block (block.LoadInfo seat e share) free so = apart-share seat share
-  apart-block (block.LoadAnchor at share) free so = apart-share at.seat share
-  apart-block (block.LoadLink at share a) free so = (free at.desc so.1.0.0, apart-share at.seat share)
-  apart-block (block.PopBlock at share a prefix) free so = (free at.desc so.1.1.0.0, apart-share at.seat share)
-  apart-block (block.ReturnCredits at k more a) free so = (free at.desc so.0.0, tt)
-  apart-block (block.StoreGuard at k a) free so = (free at.desc so.0.0, tt)
-  apart-block (block.LoadOwner at k a) free so = (free at.desc so.0.0, tt)
-  apart-block (block.StoreLink at k a stored heap) free so = (free at.desc so.0.0, tt)
-  apart-block (block.PushBlock at k a stored heap) free so = (free at.desc so.1.0.0, tt)
-  apart-block p free so = grind (arith)
+  expects-apart-block (block.LoadInfo seat e share) free so = apart-share seat share
+  expects-apart-block (block.LoadAnchor at share) free so = apart-share at.seat share
+  expects-apart-block (block.LoadLink at share a) free so = (free at.desc so.1.0.0, apart-share at.seat share)
+  expects-apart-block (block.PopBlock at share a prefix) free so = (free at.desc so.1.1.0.0, apart-share at.seat share)
+  expects-apart-block (block.ReturnCredits at k more a) free so = (free at.desc so.0.0, tt)
+  expects-apart-block (block.StoreGuard at k a) free so = (free at.desc so.0.0, tt)
+  expects-apart-block (block.LoadOwner at k a) free so = (free at.desc so.0.0, tt)
+  expects-apart-block (block.StoreLink at k a stored heap) free so = (free at.desc so.0.0, tt)
+  expects-apart-block (block.PushBlock at k a stored heap) free so = (free at.desc so.1.0.0, tt)
+  expects-apart-block p free so = grind (arith)
 
   -- behind a part
-  apart-onward : (seat : SeatFields) (o : Onward) → AreApart Q (onward_expects seat o)
-  apart-onward seat o = grind (arith)
+  expects-apart-onward : (seat : SeatFields) (o : Onward) → AreApart Q (onward_expects seat o)
+  expects-apart-onward seat o = grind (arith)
 
   apart-head : (seat : SeatFields) (pile : Pile) → IsApartFrom Q (head_name seat pile)
   apart-head seat Frames = tt
   apart-head seat Partials = tt
 
   -- at a stack
-  apart-stack : (p : StackPoint) (o : Onward) → AreApart Q (stack_expects p o)
-  apart-stack p o = grind (arith, apart-head, apart-onward)
+  expects-apart-stack : (p : StackPoint) (o : Onward) → AreApart Q (stack_expects p o)
+  expects-apart-stack p o = grind (arith, apart-head, expects-apart-onward)
 
   -- at the descriptors or the hazard words
-  apart-desc : (p : DescPoint) (o : Onward) → AreApart Q (desc_expects p o)
-  apart-desc p o = grind (arith, apart-onward)
+  expects-apart-desc : (p : DescPoint) (o : Onward) → AreApart Q (desc_expects p o)
+  expects-apart-desc p o = grind (arith, expects-apart-onward)
 
   -- at a partial superblock: a grant keeps its descriptor
-  apart-partial :
+  expects-apart-partial :
       (p : PartialPoint) (o : Onward) → ((d : ℕ) → 1 ≤ kept_among partly_used d (partial_holds p o).kept → Q d) → AreApart Q (partial_expects p o)
-  apart-partial (partial.Grant at a) o kept = (kept at.desc (partly-here at.desc at.seat.class), apart-onward at.seat o)
-  apart-partial p o kept = grind (arith, apart-onward)
+  expects-apart-partial (partial.Grant at a) o kept = (kept at.desc (kept-itself partly_used at.desc at.seat.class), expects-apart-onward at.seat o)
+  expects-apart-partial p o kept = grind (arith, expects-apart-onward)
 
   -- at a large block or a shelf
-  apart-large : (p : LargePoint) → AreApart Q (large_expects p)
-  apart-large p = grind (arith)
+  expects-apart-large : (p : LargePoint) → AreApart Q (large_expects p)
+  expects-apart-large p = grind (arith)
 
-  apart-point :
+  expects-apart-point :
       (p : Point) → ((d : ℕ) → IsTrue (is_bound g s l d) → Q d) → ((d : ℕ) → 1 ≤ kept_among partly_used d (holds_of p).kept → Q d)
       → AllByRecursion (IsSo g s l i) (recalls_of p) → AreApart Q (expects_of p)
   unfolding holds_of recalls_of expects_of
-  apart-point (point.Block p o) free kept so = apart-block p free so
-  apart-point (point.Partial p o) free kept so = apart-partial p o kept
-  apart-point p free kept so = grind (arith, apart-head, apart-onward)
+  expects-apart-point (point.Block p o) free kept so = expects-apart-block p free so
+  expects-apart-point (point.Partial p o) free kept so = expects-apart-partial p o kept
+  expects-apart-point p free kept so = grind (arith, apart-head, expects-apart-onward)
 
 -- a point that stores a word: it is one that nobody exchanges, or the anchor of its caller's new superblock
 abbrev StoresApart : Point → Type 0
@@ -148,7 +145,7 @@ stores-unexpected g s l who other old has has_other differ =
       | inl unshared ↦
           λ is.
           let shared : All (λ x. IsApartFrom (λ d. Unit {0}) x.word) (expects_of q) =
-          All-from_recursion _ (expects_of q) (apart-point g s l other (λ d. Unit {0}) q (λ d bound. tt) (λ d kept. tt) so) in
+          All-from_recursion _ (expects_of q) (expects-apart-point g s l other (λ d. Unit {0}) q (λ d bound. tt) (λ d kept. tt) so) in
           unshared (subst (IsApartFrom (λ d. Unit {0})) is (shared k e lt))
       | inr new ↦
           λ is.
@@ -161,7 +158,7 @@ stores-unexpected g s l who other old has has_other differ =
           let none : IsUnplaced g s l d = way-unplaced g s l who d old has below new.1 in
           let apart : All (λ x. IsApartFrom (λ j. j ≢ d) x.word) (expects_of q) =
           All-from_recursion _ (expects_of q)
-          (apart-point g s l other (λ j. j ≢ d) q
+          (expects-apart-point g s l other (λ j. j ≢ d) q
           (bound-differs g s l d none.bound)
           (λ j kept same.
           let some : 1 ≤ errand_keeps partly_used d (s.errand other) = subst (λ i. 1 ≤ kept_among partly_used i (holds_of q).kept) same kept in

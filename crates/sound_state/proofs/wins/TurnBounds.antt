@@ -14,7 +14,7 @@ use Rattle.sound_state.specs.Turns.{one_if, gives_small, refuses_small, is_small
 use Rattle.sound_state.specs.Wins.{Win, Wins}
 use Rattle.sound_state.specs.Won.{IsWon}
 use Rattle.sound_state.proofs.shared.SumLemmas.{sum-same, sum-none, sum-once, sum-least, sum-change, term-sum}
-use Rattle.sound_state.proofs.wins.CountLemmas.{count-append, counts-first}
+use Rattle.sound_state.proofs.wins.CountLemmas.{counts-first, count-append}
 
 -- an install is its caller's
 install-of-one :
@@ -47,10 +47,10 @@ given n caller true = omega (
 )
 given n caller false = omega (arith, sum-none n (λ who. cond {A = ℕ} ((caller == who) && false) 1 0) (λ who lt. grind (arith)))
 
-given-once :
+given-alloc :
     (n : ℕ) (e : Event) → sum_below n (λ who. cond {A = ℕ} (gives_small who e) 1 0) ≤ cond (is_small_alloc e) 1 0
-given-once n (Alloc caller words place) = given n caller (nat_le words SMALL_MOST)
-given-once n e = omega (arith, sum-none n (λ who. 0) (λ who lt. refl))
+given-alloc n (Alloc caller words place) = given n caller (nat_le words SMALL_MOST)
+given-alloc n e = omega (arith, sum-none n (λ who. 0) (λ who lt. refl))
 
 all-given :
     (n : ℕ) (history : List Event) → sum_below n (λ who. count_by (gives_small who) history) ≤ count_by is_small_alloc history
@@ -60,7 +60,7 @@ all-given n (e ∷ history) =
       arith,
       counts-first n gives_small e history,
       sum-same n (λ who. cond {A = ℕ} (gives_small who e) 1 0) (λ who. count_by (gives_small who) (e ∷ [])) (λ who lt. omega arith),
-      given-once n e,
+      given-alloc n e,
       count-append is_small_alloc (e ∷ []) history,
       all-given n history,
     )

@@ -1,6 +1,6 @@
 -- How a part is left where the retired list or the turn limit has its part in what follows.
 use Rattle.std.proofs.Common.{ℕ, ◌≡◌, ◌≤◌, arith}
-use Rattle.std.specs.Prelude.{◌&&◌, IsTrue}
+use Rattle.std.specs.Prelude.{IsTrue}
 use Rattle.heap_geometry.specs.declared.geometry.Geometry.{Geometry}
 use Rattle.word_plan.specs.declared.action.Found.{Found}
 use Rattle.errand_steps.specs.declared.next.Next.{Next}
@@ -11,7 +11,8 @@ use Rattle.errand_steps.specs.declared.point.Point.TheVariants as point
 use Rattle.errand_steps.specs.Fits.{FitsPoint}
 use Rattle.errand_steps.specs.Nexts.{next_of}
 use Rattle.errand_steps.specs.Onwards.{resumes}
-use Rattle.sound_state.specs.Turns.{one_if, in_turn, is_discarding_at}
+use Rattle.sound_state.specs.TurnStages.{turn_stage_of, is_unneeded}
+use Rattle.sound_state.specs.Turns.{one_if}
 use Rattle.sound_state.proofs.wins.WinDefs.{next_discards}
 
 -- 1 where a turn may end, since the new superblock wasn't needed
@@ -25,18 +26,18 @@ WaitsWith o (point.Desc p r) = r ≡ o
 WaitsWith o p = ⊥
 
 -- a retirement is gone on with from where it stands, and a look through the hazard words is one from such a point
-abbrev pub GoesOn : Point → Next → Type 0
-GoesOn p (At q) = Unit {0}
-GoesOn p (End r) = Unit {0}
-GoesOn p (Turn s need) = Unit {0}
-GoesOn p (Retire s d o) = IsTrue (resumes o)
-GoesOn p (Pick s held o) = IsTrue (resumes o) × WaitsWith o p
-GoesOn p (Unlist s d o) = IsTrue (resumes o)
+abbrev pub ResumesFrom : Point → Next → Type 0
+ResumesFrom p (At q) = Unit {0}
+ResumesFrom p (End r) = Unit {0}
+ResumesFrom p (Turn s need) = Unit {0}
+ResumesFrom p (Retire s d o) = IsTrue (resumes o)
+ResumesFrom p (Pick s held o) = IsTrue (resumes o) × WaitsWith o p
+ResumesFrom p (Unlist s d o) = IsTrue (resumes o)
 
 -- what follows a step goes on so, and ends a turn only where it was discarding
 pub record EndsTo (p : Point) (n : Next) : Type 0 where
-  pub goes : GoesOn p n
-  pub ends : next_ends n ≤ one_if (in_turn p && is_discarding_at p)
+  pub goes : ResumesFrom p n
+  pub ends : next_ends n ≤ one_if (is_unneeded (turn_stage_of p))
 
 -- at each point
 pub ends-to : (g : Geometry) (who : ℕ) (p : Point) (x : Found) → FitsPoint g who p → EndsTo p (next_of p x)

@@ -27,7 +27,7 @@ use Rattle.errand_steps.specs.Nexts.{enter_stack, enter_desc, enter_partial, ent
 use Rattle.errand_steps.specs.Onwards.{goes_stack, goes_desc, goes_partial, GoesLarge, has_left_stack, has_left_desc, has_left_partial, has_left_large, goes_block, has_left_block}
 use Rattle.errand_steps.specs.Points.{asked}
 use Rattle.errand_steps.specs.declared.onward.Onward.TheVariants as onward
-use Rattle.sound_state.specs.Turns.{is_onward_giving}
+use Rattle.sound_state.specs.TurnStages.{onward_turn_stage, is_turn}
 use Rattle.sound_state.proofs.wins.WinDefs.{TurnsTo}
 
 -- an active word that says null is null
@@ -47,7 +47,7 @@ active-turns who s words x (Some (Held d credits)) is = grind (arith)
 
 -- in a superblock, where an allocation is of a small block
 pub block-turns :
-    (who : ℕ) (p : BlockPoint) (o : Onward) (x : Found) → (IsTrue (is_onward_giving o) → nat_le (asked o) SMALL_MOST ≡ true)
+    (who : ℕ) (p : BlockPoint) (o : Onward) (x : Found) → (IsTrue (is_turn (onward_turn_stage o)) → nat_le (asked o) SMALL_MOST ≡ true)
     → IsTrue (goes_block p o) → has_left_block p ≡ false
     → TurnsTo who (point.Block p o) x.value x.won (event_of who (point.Block p o) x) (enter_block (settle_block_of p x) o)
 unfolding event_of
@@ -56,7 +56,7 @@ block-turns who p o x small goes inside = grind (arith)
 
 -- at a stack, where an allocation is of a small block
 pub stack-turns :
-    (who : ℕ) (p : StackPoint) (o : Onward) (x : Found) → (IsTrue (is_onward_giving o) → nat_le (asked o) SMALL_MOST ≡ true)
+    (who : ℕ) (p : StackPoint) (o : Onward) (x : Found) → (IsTrue (is_turn (onward_turn_stage o)) → nat_le (asked o) SMALL_MOST ≡ true)
     → IsTrue (goes_stack p o) → has_left_stack p ≡ false
     → TurnsTo who (point.Stack p o) x.value x.won (event_of who (point.Stack p o) x)
     (enter_stack (settle_stack_of p x) o)

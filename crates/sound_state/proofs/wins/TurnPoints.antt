@@ -14,14 +14,14 @@ use Rattle.errand_steps.specs.Events.{event_of}
 use Rattle.errand_steps.specs.Fits.{FitsPoint, FitsOnward}
 use Rattle.errand_steps.specs.Nexts.{next_of}
 use Rattle.errand_steps.specs.Points.{asked}
-use Rattle.sound_state.specs.Turns.{is_onward_giving}
-use Rattle.sound_state.proofs.pops.PopTurns.{small-served}
+use Rattle.sound_state.specs.TurnStages.{onward_turn_stage, is_turn}
+use Rattle.sound_state.proofs.shared.TurnEffects.{small-served}
 use Rattle.sound_state.proofs.wins.TurnParts.{block-turns, stack-turns, desc-turns, partial-turns, large-turns}
 use Rattle.sound_state.proofs.wins.WinDefs.{TurnsOn, TurnsTo, found_in}
 
 -- an allocation in a turn is of a small block
 pub giving-small :
-    (g : Geometry) (who : ℕ) (s : SeatFields) (o : Onward) → FitsOnward g who s o → IsTrue (is_onward_giving o)
+    (g : Geometry) (who : ℕ) (s : SeatFields) (o : Onward) → FitsOnward g who s o → IsTrue (is_turn (onward_turn_stage o))
     → nat_le (asked o) SMALL_MOST ≡ true
 giving-small g who s o fits gives = grind (arith, small-served)
 

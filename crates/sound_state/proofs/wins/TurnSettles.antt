@@ -1,27 +1,28 @@
 -- What the retired list and the turn limit make of a caller's turn.
 use Rattle.std.proofs.Common.{ℕ, Bool, false, ◌≡◌, ◌≤◌, ◌+◌, arith}
-use Rattle.std.specs.Prelude.{◌&&◌, not, IsTrue}
+use Rattle.std.specs.Prelude.{IsTrue}
 use Rattle.heap_geometry.specs.declared.geometry.Geometry.{Geometry}
 use Rattle.word_plan.specs.declared.action.Found.{Found}
 use Rattle.errand_steps.specs.declared.next.Next.{Next}
 use Rattle.errand_steps.specs.declared.next.Next.TheVariants.{At}
 use Rattle.errand_steps.specs.declared.point.Point.{Point}
-use Rattle.errand_steps.specs.Errands.{ErrandFields, after_list, after_turn, point_after, begins_turn, raised, settle_of, course_of}
+use Rattle.errand_steps.specs.Errands.{ErrandFields, after_list, after_turn, point_after, begins_turn, settle_of, course_of}
 use Rattle.errand_steps.specs.Fits.{FitsPoint}
 use Rattle.errand_steps.specs.Nexts.{next_of}
-use Rattle.sound_state.specs.Installs.{is_seeking, has_offer}
-use Rattle.sound_state.specs.Turns.{one_if, in_turn, has_refused, is_discarding_at, errand_discards}
+use Rattle.sound_state.specs.TurnStages.{turn_stage_of, lacks_answer, is_seeking, is_unneeded, is_offering}
+use Rattle.sound_state.specs.Turns.{one_if, errand_discards}
 use Rattle.sound_state.specs.Wins.{is_between}
-use Rattle.sound_state.proofs.wins.TurnEnds.{GoesOn, next_ends, ends-to}
+use Rattle.sound_state.proofs.shared.StepLemmas.{raised-most}
+use Rattle.sound_state.proofs.wins.TurnEnds.{ResumesFrom, next_ends, ends-to}
 use Rattle.sound_state.proofs.wins.WinDefs.{next_unanswered, next_discards, next_offers, next_seeks}
 
 -- where a step that leads to n ends up at a point, and a turn begins there or not
 pub record SettlesTo (begins_one : Bool) (q : Point) (n : Next) : Type 0 where
-  pub turn : one_if begins_one + next_unanswered n ≤ one_if (in_turn q && not (has_refused q)) + next_ends n
-  pub stays : is_between q ≡ false → next_unanswered n ≤ one_if (in_turn q && not (has_refused q))
-  pub discards : one_if (in_turn q && is_discarding_at q) ≤ next_discards n
-  pub offers : one_if (has_offer q) ≤ next_offers n
-  pub seeks : IsTrue (is_seeking q) → IsTrue (next_seeks n)
+  pub turn : one_if begins_one + next_unanswered n ≤ one_if (lacks_answer (turn_stage_of q)) + next_ends n
+  pub stays : is_between q ≡ false → next_unanswered n ≤ one_if (lacks_answer (turn_stage_of q))
+  pub discards : one_if (is_unneeded (turn_stage_of q)) ≤ next_discards n
+  pub offers : one_if (is_offering (turn_stage_of q)) ≤ next_offers n
+  pub seeks : IsTrue (is_seeking (turn_stage_of q)) → IsTrue (next_seeks n)
   pub begins : is_between q ≡ false → begins_one ≡ false
 
 -- where m follows the list's part in what follows the step
@@ -33,7 +34,7 @@ at-settles : (e : ErrandFields) (p : Point) → SettlesBy e (At p) (At p)
 at-settles e p = grind (arith)
 
 -- by what follows
-settles-to : (e : ErrandFields) (n : Next) → GoesOn e.point n → SettlesBy e n (after_list e n)
+settles-to : (e : ErrandFields) (n : Next) → ResumesFrom e.point n → SettlesBy e n (after_list e n)
 settles-to e (At p) goes = at-settles e p
 settles-to e n goes = grind (arith)
 
@@ -42,10 +43,6 @@ pub record TurnSettles (e : ErrandFields) (x : Found) : Type 0 where
   pub to : SettlesTo (begins_turn e (after_list e (next_of e.point x))) (settle_of e x).point (next_of e.point x)
   pub ends : next_ends (next_of e.point x) ≤ errand_discards e
   pub turns : (settle_of e x).turns ≤ e.turns + one_if (begins_turn e (after_list e (next_of e.point x)))
-
--- the turns rise by one where one begins
-raised-most : (b : Bool) (n : ℕ) → raised b n ≤ n + one_if b
-raised-most b n = grind (arith)
 
 -- at each point where the caller may stand
 pub settles-turn : (g : Geometry) (who : ℕ) (e : ErrandFields) (x : Found) → FitsPoint g who e.point → TurnSettles e x

@@ -1,15 +1,16 @@
 -- A step keeps what bounds its caller's turns by the installs.
 use Rattle.std.proofs.Common.{ℕ, false, ◌≡◌, ◌<◌, ◌≤◌, ◌+◌, List, arith, ap, inl, inr, ◌∙◌}
-use Rattle.std.specs.Prelude.{◌&&◌, count_by}
+use Rattle.std.specs.Prelude.{count_by}
 use Rattle.std.proofs.lemmas.Bool.{cases_Bool}
 use Rattle.heap_geometry.specs.declared.geometry.Geometry.{Geometry}
 use Rattle.errand_steps.specs.Errands.{ErrandFields, settle_of, after_list, begins_turn}
 use Rattle.errand_steps.specs.Fits.{FitsPoint}
 use Rattle.errand_steps.specs.Nexts.{next_of}
 use Rattle.errand_steps.specs.Steps.{State, Step, word_at, found_at, event_at}
-use Rattle.sound_state.specs.Installs.{IsInstalled, IsUnmet, installs_by, installs_against, errand_offers, turns_allowed}
-use Rattle.sound_state.specs.Turns.{one_if, in_turn, is_discarding_at, gives_small, refuses_small, turn_unanswered, errand_discards}
-use Rattle.sound_state.specs.Wins.{Win, Wins, win_at, list_after, is_between}
+use Rattle.sound_state.specs.Installs.{IsInstalled, HoldsSince, installs_by, installs_against, errand_offers, turns_allowed}
+use Rattle.sound_state.specs.TurnStages.{turn_stage_of, is_unneeded}
+use Rattle.sound_state.specs.Turns.{one_if, gives_small, refuses_small, turn_unanswered, errand_discards}
+use Rattle.sound_state.specs.Wins.{Win, Wins, win_at, win_list_after, is_between}
 use Rattle.sound_state.proofs.wins.ActiveChanges.{discards-seeks}
 use Rattle.sound_state.proofs.wins.InstallCounts.{count-gives, count-refuses, own-install, none-against}
 use Rattle.sound_state.proofs.wins.CountLemmas.{count-parts, count-win}
@@ -42,7 +43,7 @@ step-turned g s who s' fits step = record {
 -- its own installs
 pub own-after :
     (g : Geometry) (s : State) (w : Wins) (who : ℕ) (s' : State) → who < g.callers → Turned s who s' → IsInstalled g s w
-    → count_by (installs_by who) (list_after s who w.list) + errand_offers (settled s who) ≤ count_by (gives_small who) s'.history
+    → count_by (installs_by who) (win_list_after s who w.list) + errand_offers (settled s who) ≤ count_by (gives_small who) s'.history
 own-after g s w who s' has h old =
     omega (
       arith,
@@ -80,11 +81,11 @@ ends-installed :
     → (s.errand who).turns + next_ends (next_of (s.errand who).point (found_at s who)) ≤ turns_allowed s who (count_by (installs_against who) w.list)
 ends-installed g s w who s' has h old =
     let p = (s.errand who).point in
-    elim (cases_Bool (in_turn p && is_discarding_at p)) [
+    elim (cases_Bool (is_unneeded (turn_stage_of p))) [
       | inl discards ↦
-          let noted = old.seeking who has (discards-seeks p discards) in
-          let unmet : IsUnmet s w who noted.0 = old.unmet who noted.0 has noted.1 in
-          omega (arith, unmet.turns, unmet.discards, h.settles.ends, count-parts (installs_against who) noted.0 w.list)
+          let noted = old.found who has (discards-seeks p discards) in
+          let since : HoldsSince s w who noted.0 = old.since who noted.0 has noted.1 in
+          omega (arith, since.turns, since.discards, h.settles.ends, count-parts (installs_against who) noted.0 w.list)
       | inr stays ↦
           let none : errand_discards (s.errand who) ≡ 0 = ap one_if stays in
           omega (arith, old.turns who has, none, h.settles.ends)
@@ -92,14 +93,14 @@ ends-installed g s w who s' has h old =
 
 -- its own step adds no install of others to the list
 pub against-stays :
-    (s : State) (who : ℕ) (list : List Win) → count_by (installs_against who) (list_after s who list) ≡ count_by (installs_against who) list
+    (s : State) (who : ℕ) (list : List Win) → count_by (installs_against who) (win_list_after s who list) ≡ count_by (installs_against who) list
 against-stays s who list = omega (arith, count-win (installs_against who) list (win_at s who), none-against s who)
 
 -- its turns after the step
 pub own-turns :
     (g : Geometry) (s : State) (w : Wins) (who : ℕ) (s' : State) → who < g.callers → Turned s who s' → IsInstalled g s w
     → (settled s who).turns
-    ≤ count_by (gives_small who) s'.history + count_by (refuses_small who) s'.history + count_by (installs_against who) (list_after s who w.list)
+    ≤ count_by (gives_small who) s'.history + count_by (refuses_small who) s'.history + count_by (installs_against who) (win_list_after s who w.list)
     + turn_unanswered (settled s who)
 own-turns g s w who s' has h old =
     omega (arith, turn-after s who s' (count_by (installs_against who) w.list) h (ends-installed g s w who s' has h old), against-stays s who w.list)

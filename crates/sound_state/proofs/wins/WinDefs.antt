@@ -19,9 +19,9 @@ use Rattle.errand_steps.specs.Events.{event_of}
 use Rattle.errand_steps.specs.Nexts.{next_of}
 use Rattle.errand_steps.specs.Points.{plan_point_of}
 use Rattle.sound_state.specs.Expectations.{Expected, expects_of, onward_expects}
-use Rattle.sound_state.specs.Installs.{is_seeking, has_offer}
-use Rattle.sound_state.specs.Turns.{one_if, in_turn, has_refused, is_discarding_at, is_onward_giving, is_refused, is_discarding, gives_small, refuses_small}
-use Rattle.sound_state.specs.Wins.{confirms, offers}
+use Rattle.sound_state.specs.TurnStages.{turn_stage_of, onward_turn_stage, is_turn, lacks_answer, is_seeking, is_unneeded, is_offering}
+use Rattle.sound_state.specs.Turns.{one_if, gives_small, refuses_small}
+use Rattle.sound_state.specs.Wins.{is_self_exchange, offers}
 
 -- what a caller expected before, of another word than that of the step
 abbrev pub IsCarried : Point → WordName → Expected → Type 0
@@ -32,7 +32,7 @@ pub record IsSeen (a : Action) (x : Found) (e : Expected) : Type 0 where
   pub word : e.word ≡ name_of a
   pub value : after_action a x.value ≡ e.value
   pub kept : is_lost_exchange a x ≡ false
-  pub noted : confirms a ≡ false
+  pub noted : is_self_exchange a ≡ false
 
 abbrev pub MayExpect : Point → Action → Found → Expected → Type 0
 MayExpect p a x e = IsCarried p (name_of a) e ⊎ IsSeen a x e
@@ -48,31 +48,31 @@ next_expects (Unlist s d o) = onward_expects s o
 
 -- 1 where it has no answer yet there; where its new superblock wasn't needed; where it found none active
 abbrev pub next_unanswered : Next → ℕ
-next_unanswered (At p) = one_if (in_turn p && not (has_refused p))
+next_unanswered (At p) = one_if (lacks_answer (turn_stage_of p))
 next_unanswered (End r) = 0
 next_unanswered (Turn s need) = 1
-next_unanswered (Retire s d o) = one_if (is_onward_giving o && not (is_refused o))
-next_unanswered (Pick s held o) = one_if (is_onward_giving o && not (is_refused o))
-next_unanswered (Unlist s d o) = one_if (is_onward_giving o && not (is_refused o))
+next_unanswered (Retire s d o) = one_if (lacks_answer (onward_turn_stage o))
+next_unanswered (Pick s held o) = one_if (lacks_answer (onward_turn_stage o))
+next_unanswered (Unlist s d o) = one_if (lacks_answer (onward_turn_stage o))
 
 abbrev pub next_discards : Next → ℕ
-next_discards (At p) = one_if (in_turn p && is_discarding_at p)
+next_discards (At p) = one_if (is_unneeded (turn_stage_of p))
 next_discards (End r) = 0
 next_discards (Turn s need) = 1
-next_discards (Retire s d o) = one_if (is_discarding o)
-next_discards (Pick s held o) = one_if (is_discarding o)
-next_discards (Unlist s d o) = one_if (is_discarding o)
+next_discards (Retire s d o) = one_if (is_unneeded (onward_turn_stage o))
+next_discards (Pick s held o) = one_if (is_unneeded (onward_turn_stage o))
+next_discards (Unlist s d o) = one_if (is_unneeded (onward_turn_stage o))
 
 abbrev pub next_seeks : Next → Bool
-next_seeks (At p) = is_seeking p
+next_seeks (At p) = is_seeking (turn_stage_of p)
 next_seeks (End r) = false
 next_seeks (Turn s need) = false
-next_seeks (Retire s d o) = is_onward_giving o
-next_seeks (Pick s held o) = is_onward_giving o
-next_seeks (Unlist s d o) = is_onward_giving o
+next_seeks (Retire s d o) = is_turn (onward_turn_stage o)
+next_seeks (Pick s held o) = is_turn (onward_turn_stage o)
+next_seeks (Unlist s d o) = is_turn (onward_turn_stage o)
 
 abbrev pub next_offers : Next → ℕ
-next_offers (At p) = one_if (has_offer p)
+next_offers (At p) = one_if (is_offering (turn_stage_of p))
 next_offers n = 0
 
 -- the caller loads the active word
@@ -114,10 +114,10 @@ refused_by who (Some e) = one_if (refuses_small who e)
 
 -- what a step does to its caller's turn that finds v, is won or isn't, adds this event and leads there
 pub record TurnsTo (who : ℕ) (p : Point) (v : ℕ) (won : Bool) (e : Option Event) (n : Next) : Type 0 where
-  pub unanswered : one_if (in_turn p && not (has_refused p)) ≤ given_by who e + refused_by who e + next_unanswered n
-  pub discards : next_discards n ≤ one_if (in_turn p && is_discarding_at p) + one_if (offers_new p && not won)
-  pub offers : next_offers n + one_if (offers p && won) ≤ one_if (has_offer p) + given_by who e
-  pub seeks : IsTrue (next_seeks n) → IsTrue (is_seeking p) ⊎ (IsTrue (looks_active p) × (v ≡ active_word Null))
+  pub unanswered : one_if (lacks_answer (turn_stage_of p)) ≤ given_by who e + refused_by who e + next_unanswered n
+  pub discards : next_discards n ≤ one_if (is_unneeded (turn_stage_of p)) + one_if (offers_new p && not won)
+  pub offers : next_offers n + one_if (offers p && won) ≤ one_if (is_offering (turn_stage_of p)) + given_by who e
+  pub seeks : IsTrue (next_seeks n) → IsTrue (is_seeking (turn_stage_of p)) ⊎ (IsTrue (looks_active p) × (v ≡ active_word Null))
 
 -- the same, with what the step finds where its word is v
 abbrev pub TurnsOn : ℕ → Point → ℕ → Type 0

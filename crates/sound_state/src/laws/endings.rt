@@ -7,7 +7,7 @@ ghost use Rattle.errand_steps.specs.Begins.{IsIdle, IsBusy};
 ghost use Rattle.errand_steps.specs.Calls.{Call, begun_by};
 ghost use Rattle.errand_steps.specs.Errands.{counts_lost, ErrandFields, counts_cleared};
 ghost use Rattle.errand_steps.specs.Steps.{State, Step, Run, found_at, name_at};
-ghost use Rattle.sound_state.specs.Alone.{alone_left, stale_words, clearings, is_stale, available_in, empty_for};
+ghost use Rattle.sound_state.specs.Alone.{alone_left, stale_words, clearings, is_stale, available_in, empty_for, emptied_for};
 ghost use Rattle.sound_state.specs.Moves.{BeginsNothing, is_begin_of, is_step_of};
 ghost use Rattle.sound_state.specs.Runs.{Move, Reaches};
 ghost use Rattle.word_plan.specs.declared.name.WordName.{WordName};
@@ -15,8 +15,10 @@ ghost use Rattle.sound_state.specs.Expectations.{expects_of};
 ghost use Rattle.word_plan.specs.Counts.{descriptor_count};
 ghost use Rattle.sound_state.specs.Lists.{Lists, IsListed};
 ghost use Rattle.sound_state.specs.Sound.{IsSound};
+ghost use Rattle.sound_state.specs.TurnStages.{in_turn};
 ghost use Rattle.sound_state.specs.StepsLeft.{GoesOn, steps_left};
-ghost use Rattle.sound_state.specs.Turns.{one_if, in_turn};
+ghost use Rattle.sound_state.specs.Turns.{one_if, cleared_of, is_small_free};
+ghost use Rattle.sound_state.specs.Sums.{callers_sum};
 
 /// A step of a call loses, clears an empty superblock, or leaves fewer steps to do. So it never meets a
 /// word that it does not expect, at which it would be made again.
@@ -85,8 +87,9 @@ pub fn begun_calls_expect_nothing()
 {}
 
 /// A step of an allocation's turn leaves no more EMPTY superblocks out for any class: it empties none, and
-/// brings none back whose descriptor was away. One that clears leaves one fewer for its own class. The
-/// available descriptors, which don't count there, are those of the list that the head and the next words make.
+/// brings none back whose descriptor was away. One that clears leaves one fewer for its own class. No more are
+/// out than small blocks were freed and superblocks not cleared yet. The available descriptors, which don't
+/// count there, are those of the list that the head and the next words make.
 pub fn turns_empty_no_superblock()
     ensures kept { (g : Geometry) (s : State) (who : ℕ) (after : State) (class d : ℕ) → IsSound g s
         → who < g.callers → in_turn (s.errand who).point ≡ true → Step s who after → d < descriptor_count g
@@ -94,6 +97,8 @@ pub fn turns_empty_no_superblock()
     ensures falls { (g : Geometry) (s : State) (who : ℕ) (after : State) → IsSound g s → who < g.callers
         → Step s who after
         → clearings g after who + one_if (counts_cleared (s.errand who).point (found_at s who)) ≤ clearings g s who }
+    ensures freed { (g : Geometry) (s : State) (class : ℕ) → IsSound g s
+        → emptied_for g s class + callers_sum g cleared_of s.errand ≤ count_by (is_small_free g) s.history }
     ensures available { (g : Geometry) (s : State) (l : Lists) → IsSound g s → IsListed g s.word l
         → available_in g s ≡ l.available }
 {}

@@ -5,7 +5,7 @@ use Rattle.stack_parts.specs.Stacks.{next_in}
 use Rattle.stack_parts.proofs.StackLemmas.{stacked-one}
 use Rattle.sound_state.proofs.CountedLemmas.{without-counts, steps-counted}
 use Rattle.sound_state.proofs.endings.AvailableLemmas.{available-is}
-use Rattle.sound_state.proofs.endings.EmptiedLemmas.{empties-fall, clearings-fall}
+use Rattle.sound_state.proofs.endings.EmptiedLemmas.{empties-fall, clearings-fall, emptied-freed}
 use Rattle.sound_state.proofs.laws.endings.turns_empty_no_superblock.Goals as goal
 
 pub returns-clause-kept : goal.returns-clause-kept
@@ -17,6 +17,9 @@ pub returns-clause-falls : goal.returns-clause-falls
 returns-clause-falls c =
     λ g s who after sound has step.
     clearings-fall g s who after (without-counts g s sound) (without-counts g after (steps-counted g s who after sound has step)) has step
+
+pub returns-clause-freed : goal.returns-clause-freed
+returns-clause-freed c = λ g s class sound. emptied-freed g s class (without-counts g s sound)
 
 pub returns-clause-available : goal.returns-clause-available
 returns-clause-available c =

@@ -1,0 +1,173 @@
+-- An ACTIVE superblock has a block reserved.
+use Rattle.std.proofs.Common.{ℕ, Option, Some, None, ◌≡◌, ◌≢◌, ◌<◌, ◌≤◌, ◌+◌, List, [], ◌∷◌, refl, arith, ap, sym, subst, inl, inr, ◌∙◌}
+use Rattle.std.proofs.lemmas.Bool.{cases_eq, cond-false, ne_eqb}
+use Rattle.std.proofs.lemmas.List.Elements.{All-head, All-tail}
+use Rattle.std.specs.Prelude.{◌==◌, ◌&&◌, All, IsTrue, if◌then◌else◌}
+use Rattle.heap_geometry.specs.declared.geometry.Geometry.{Geometry}
+use Rattle.heap_geometry.specs.declared.limits.TheConstants.{CLASSES}
+use Rattle.packed_words.specs.Active.{active_of}
+use Rattle.packed_words.specs.declared.active.ActiveWord.TheVariants.{Null, Held}
+use Rattle.packed_words.specs.declared.active.ActiveWord.{ActiveWord}
+use Rattle.packed_words.specs.declared.anchor.State.TheVariants as phase
+use Rattle.word_plan.proofs.TableLemmas.{word_name-Exists}
+use Rattle.word_plan.specs.Counts.{descriptor_count, word_count}
+use Rattle.word_plan.specs.Table.{Exists, word_name}
+use Rattle.word_plan.specs.declared.name.WordName.TheVariants as name
+use Rattle.word_plan.specs.declared.name.WordName.{WordName}
+use Rattle.word_plan.specs.declared.seat.Site.{Site}
+use Rattle.superblock_parts.specs.Chains.{occurs}
+use Rattle.superblock_parts.specs.Fits.{FitsBlock}
+use Rattle.superblock_parts.specs.declared.point.BlockPoint.TheVariants as block
+use Rattle.superblock_parts.specs.declared.point.BlockPoint.{BlockPoint}
+use Rattle.superblock_parts.specs.declared.point.Share.TheVariants.{Credit, LastCredit, Grant}
+use Rattle.superblock_parts.specs.declared.point.Share.{Share}
+use Rattle.stack_parts.specs.declared.point.StackPoint.{StackPoint}
+use Rattle.hazard_parts.specs.declared.point.DescPoint.{DescPoint}
+use Rattle.partial_parts.specs.declared.point.PartialPoint.{PartialPoint}
+use Rattle.large_parts.specs.declared.point.LargePoint.{LargePoint}
+use Rattle.errand_steps.specs.Fits.{FitsPoint}
+use Rattle.errand_steps.specs.Steps.{State}
+use Rattle.errand_steps.specs.declared.onward.Onward.{Onward}
+use Rattle.errand_steps.specs.declared.point.Point.TheVariants as point
+use Rattle.errand_steps.specs.declared.point.Point.{Point}
+use Rattle.sound_state.specs.Holdings.{Holding, Kept, Status, reserving, waiting, partly_used, on_its_way, holds_before_pop, holds_after_pop, holds_of, block_holds, stack_holds, desc_holds, partial_holds, large_holds}
+use Rattle.sound_state.specs.Keepers.{IsKept, IsPartlyUsed, IsKeptAs, errand_has, full_keeps, active_keeps, word_keeps}
+use Rattle.sound_state.specs.Lists.{Lists}
+use Rattle.sound_state.specs.Sound.{IsSoundWith}
+use Rattle.sound_state.specs.Sums.{sum_below, words_sum, callers_sum}
+use Rattle.sound_state.specs.Superblocks.{anchor_for, is_bound, away_of, errand_away, errand_reserves, word_reserves, offered, reserved_of, reserved_among, kept_among, same_status}
+use Rattle.sound_state.proofs.shared.HasLemmas.{bound-away}
+use Rattle.sound_state.proofs.shared.PointLemmas.{fits-at}
+use Rattle.sound_state.proofs.shared.SumLemmas.{sum-none, term-sum}
+
+-- who keeps an ACTIVE superblock has a block of it reserved: in a superblock
+before-keeps :
+    (d x class : ℕ) (share : Share) → reserved_among d (holds_before_pop x class share).credits ≡ 0
+    → kept_among reserving d (holds_before_pop x class share).kept + kept_among waiting d (holds_before_pop x class share).kept ≡ 0
+before-keeps d x class Credit none = grind (arith, none)
+before-keeps d x class LastCredit none = grind (arith, none)
+before-keeps d x class (Grant more) none = grind (arith, none)
+
+after-keeps :
+    (d : ℕ) (at : Site) (k more : ℕ) → 1 ≤ more → reserved_among d (holds_after_pop at k more).credits ≡ 0
+    → kept_among reserving d (holds_after_pop at k more).kept + kept_among waiting d (holds_after_pop at k more).kept ≡ 0
+after-keeps d at k more some none = grind (arith, some, none)
+
+abbrev KeepsNone : ℕ → Holding → Type 0
+KeepsNone d h = kept_among reserving d h.kept + kept_among waiting d h.kept ≡ 0
+
+block-keeps :
+    (g : Geometry) (who d : ℕ) (p : BlockPoint) → FitsBlock g who p → reserved_among d (block_holds p).credits ≡ 0 → KeepsNone d (block_holds p)
+block-keeps g who d (block.LoadInfo s x share) fits none = before-keeps d x s.class share none
+block-keeps g who d (block.LoadAnchor at share) fits none = before-keeps d at.desc at.seat.class share none
+block-keeps g who d (block.LoadLink at share a) fits none = before-keeps d at.desc at.seat.class share none
+block-keeps g who d (block.PopBlock at share a prefix) fits none = before-keeps d at.desc at.seat.class share none
+block-keeps g who d (block.InstallCredits at k more) fits none = after-keeps d at k more fits.1.0 none
+block-keeps g who d (block.InstallSuperblock at) fits none = grind (arith, none)
+block-keeps g who d (block.LoadReturn at k more) fits none = after-keeps d at k more fits.1.0 none
+block-keeps g who d (block.ReturnCredits at k more a) fits none = after-keeps d at k more fits.1.0 none
+block-keeps g who d p fits none = grind (arith)
+
+stack-keeps : (d : ℕ) (p : StackPoint) (o : Onward) → KeepsNone d (stack_holds p o)
+stack-keeps d p o = grind (arith)
+
+desc-keeps : (d : ℕ) (p : DescPoint) (o : Onward) → KeepsNone d (desc_holds p o)
+desc-keeps d p o = grind (arith)
+
+partial-keeps : (d : ℕ) (p : PartialPoint) (o : Onward) → KeepsNone d (partial_holds p o)
+partial-keeps d p o = grind (arith)
+
+large-keeps : (d : ℕ) (p : LargePoint) → KeepsNone d (large_holds p)
+large-keeps d p = grind (arith)
+
+-- among all points
+point-keeps :
+    (g : Geometry) (who d : ℕ) (p : Point) → FitsPoint g who p → reserved_among d (holds_of p).credits ≡ 0 → KeepsNone d (holds_of p)
+unfolding holds_of
+point-keeps g who d point.Idle fits none = refl
+point-keeps g who d (point.Block p o) fits none = block-keeps g who d p fits.point none
+point-keeps g who d (point.Stack p o) fits none = stack-keeps d p o
+point-keeps g who d (point.Desc p o) fits none = desc-keeps d p o
+point-keeps g who d (point.Partial p o) fits none = partial-keeps d p o
+point-keeps g who d (point.Large p o) fits none = large-keeps d p
+
+-- an ACTIVE one isn't partly used, so none is kept so
+not-partly : (s : State) (d c : ℕ) → (anchor_for s d).state ≡ phase.Active → IsPartlyUsed s d c → ⊥
+not-partly s d c active is =
+    elim is.state [
+      | inl some ↦ let bad : phase.Active ≡ phase.Partial = sym active ∙ some.0 in cc
+      | inr empty ↦ let bad : phase.Active ≡ phase.Empty = sym active ∙ empty in cc
+    ]
+
+one-partly :
+    (s : State) (d x class : ℕ) (status : Status) → (anchor_for s d).state ≡ phase.Active → IsKeptAs s status x class
+    → ◌≡◌ {A = ℕ} (if (x == d) && same_status status partly_used then 1 else 0) 0
+one-partly s d x class reserving active is = grind (arith)
+one-partly s d x class waiting active is = grind (arith)
+one-partly s d x class on_its_way active is = grind (arith)
+one-partly s d x class partly_used active is =
+    elim (cases_eq x d) [
+      | inl same ↦ absurd (not-partly s d class active (subst (λ k. IsPartlyUsed s k class) same is))
+      | inr differ ↦ rw (ne_eqb x d differ) refl
+    ]
+
+active-none-partly :
+    (s : State) (d : ℕ) (ks : List Kept) → (anchor_for s d).state ≡ phase.Active → All (λ k. IsKeptAs s k.status k.desc k.class) ks
+    → kept_among partly_used d ks ≡ 0
+active-none-partly s d [] active all = refl
+active-none-partly s d (k ∷ ks) active all =
+    omega (
+      arith,
+      one-partly s d k.desc k.class k.status active (All-head (λ k. IsKeptAs s k.status k.desc k.class) k ks all),
+      active-none-partly s d ks active (All-tail (λ k. IsKeptAs s k.status k.desc k.class) k ks all),
+    )
+
+-- what isn't so of d, and so of all of a list, keeps d off the list
+occurs-none : (P : ℕ → Type 0) (d : ℕ) (xs : List ℕ) → (P d → ⊥) → All P xs → occurs d xs ≡ 0
+occurs-none P d [] bad all = refl
+occurs-none P d (x ∷ xs) bad all =
+    let differ : x ≢ d = λ same. bad (subst P same (All-head P x xs all)) in
+    omega (arith, cond-false {A = ℕ} (x == d) 1 0 (ne_eqb x d differ), occurs-none P d xs bad (All-tail P x xs all))
+
+-- nor does a word hold it
+none-offered : (d : ℕ) (o : Option ActiveWord) → offered d o ≡ 0 → active_keeps d o ≡ 0
+none-offered d None none = refl
+none-offered d (Some Null) none = refl
+none-offered d (Some (Held x credits)) none = grind (arith, none)
+
+word-keeps-none :
+    (g : Geometry) (s : State) (l : Lists) (d : ℕ) (n : WordName) → IsKept g s l → Exists g n → (anchor_for s d).state ≡ phase.Active
+    → word_reserves d n (s.word n) ≡ 0 → word_keeps d n (s.word n) ≡ 0
+word-keeps-none g s l d (name.Active heap class) kept has active none = none-offered d (active_of (s.word (name.Active heap class))) none
+word-keeps-none g s l d (name.Slot heap class) kept has active none =
+    cond-false {A = ℕ} (s.word (name.Slot heap class) == d + 1) 1 0
+    (ne_eqb (s.word (name.Slot heap class)) (d + 1) (λ is. not-partly s d class active (kept.slot heap class d has.0 has.1 is).1))
+word-keeps-none g s l d n kept has active none = refl
+
+-- so an ACTIVE superblock has a block reserved
+pub active-reserves :
+    (g : Geometry) (s : State) (l : Lists) (d : ℕ) → IsSoundWith g s l → d < descriptor_count g → IsTrue (is_bound g s l d)
+    → (anchor_for s d).state ≡ phase.Active → reserved_of g s d ≡ 0 → ⊥
+unfolding words_sum callers_sum
+active-reserves g s l d old has bound active none =
+    let kept : IsKept g s l = old.kept in
+    let out : away_of g s l d ≡ 0 = bound-away g s l d bound in
+    let words : words_sum g (word_keeps d) s.word ≡ 0 =
+    sum-none (word_count g) (λ k. word_keeps d (word_name g k) (s.word (word_name g k)))
+    (λ k lt. word-keeps-none g s l d (word_name g k) kept (word_name-Exists g k lt) active
+    (omega (arith, none, term-sum (word_count g) (λ k. word_reserves d (word_name g k) (s.word (word_name g k))) k lt))) in
+    let listed : sum_below CLASSES (λ class. occurs d (l.partials class)) ≡ 0 =
+    sum-none CLASSES (λ class. occurs d (l.partials class))
+    (λ class lt. occurs-none (λ x. IsPartlyUsed s x class) d (l.partials class) (not-partly s d class active) (kept.listed class lt)) in
+    let held : callers_sum g (errand_has d) s.errand ≡ 0 =
+    sum-none g.callers (λ who. errand_has d (s.errand who))
+    (λ who lt.
+    let away : errand_away d (s.errand who) ≤ callers_sum g (errand_away d) s.errand =
+    term-sum g.callers (λ j. errand_away d (s.errand j)) who lt in
+    let reserved : errand_reserves d (s.errand who) ≤ callers_sum g (errand_reserves d) s.errand =
+    term-sum g.callers (λ j. errand_reserves d (s.errand j)) who lt in
+    let others = point-keeps g who d (s.errand who).point (fits-at g s l who (s.errand who).point old lt refl) (omega (arith, reserved, none)) in
+    let partly = active-none-partly s d (holds_of (s.errand who).point).kept active (kept.errand who lt) in
+    omega (arith, away, out, others, partly)) in
+    let full : full_keeps (anchor_for s d).state ≡ 0 = ap full_keeps active in
+    omega (arith, kept.once d has, words, listed, held, full, out)

@@ -1,0 +1,38 @@
+-- Counts of events, and a caller's own events, after one event more.
+use Rattle.std.proofs.Common.{ℕ, Bool, false, cond, ◌≡◌, ◌≢◌, ◌+◌, List, [], ◌∷◌, ◌++◌, arith, ◌∙◌, append-nil, refl, ap, eq-eqb, append_assoc}
+use Rattle.std.proofs.lemmas.Bool.{ne_eqb, cond-false}
+use Rattle.std.proofs.lemmas.List.Sums.{sum_by_push}
+use Rattle.std.specs.Prelude.{count_by}
+use Rattle.heap_geometry.specs.Need.{need_of}
+use Rattle.heap_geometry.specs.declared.need.Need.TheVariants.{Small}
+use Rattle.pool_model.proofs.HistoryLemmas.{own-append}
+use Rattle.pool_model.specs.Histories.{own, caller_of, EndsWith}
+use Rattle.pool_model.specs.declared.event.Event.TheVariants.{Looked, Refuse}
+use Rattle.pool_model.specs.declared.event.Event.{Event}
+use Rattle.sound_state.specs.Recalls.{EndsRefused}
+
+-- counts of events after one more
+pub told-counts : (P : Event → Bool) (history : List Event) (event : Event) → count_by P (history ++ event ∷ []) ≡ count_by P history + cond (P event) 1 0
+told-counts P history event = sum_by_push (λ e. cond (P e) 1 0) history event
+
+-- one that isn't counted
+pub counted-not : (P : Event → Bool) (history : List Event) (event : Event) → P event ≡ false → count_by P (history ++ event ∷ []) ≡ count_by P history
+counted-not P history event none = omega (arith, told-counts P history event, cond-false {A = ℕ} (P event) 1 0 none)
+
+-- the others' events stay
+pub told-own : (i : ℕ) (history : List Event) (event : Event) → caller_of event ≢ i → own i (history ++ event ∷ []) ≡ own i history
+told-own i history event other =
+    own-append i history (event ∷ []) ∙ rw (ne_eqb (caller_of event) i other) (append-nil (own i history))
+
+-- a refusal behind a look: the caller's last two events
+pub refused-ends :
+    (who : ℕ) (history : List Event) (words class : ℕ) → need_of words ≡ Small class → EndsWith (own who history) (Looked who class)
+    → EndsRefused (own who (history ++ Refuse who words ∷ [])) who class
+refused-ends who history words class served ends =
+    let last : own who (history ++ Refuse who words ∷ []) ≡ own who history ++ Refuse who words ∷ [] =
+    own-append who history (Refuse who words ∷ []) ∙ rw (eq-eqb who who refl) refl in (
+      ends.0,
+      words,
+      served,
+      last ∙ ap (λ xs. xs ++ Refuse who words ∷ []) ends.1 ∙ append_assoc ends.0 (Looked who class ∷ []) (Refuse who words ∷ []),
+    )

@@ -1,0 +1,102 @@
+-- Who owns a block.
+use Rattle.std.proofs.Common.{ℕ, ◌≡◌, ◌≢◌, ap, inl, inr, Option, Some, None, ◌∙◌, ◌<◌, sym, subst, false, ◌*◌, []}
+use Rattle.std.proofs.lemmas.Bool.{cases_eq}
+use Rattle.std.proofs.lemmas.List.Elements.{All-head}
+use Rattle.std.specs.Prelude.{◌⊎◌, All, IsTrue}
+use Rattle.heap_geometry.specs.Place.{block_place}
+use Rattle.heap_geometry.specs.declared.geometry.Geometry.{Geometry}
+use Rattle.heap_geometry.specs.declared.need.Need.TheVariants as need
+use Rattle.heap_geometry.specs.declared.need.Need.{Need}
+use Rattle.packed_words.specs.declared.prefix.Prefix.TheVariants.{Small}
+use Rattle.word_plan.specs.Seats.{SeatFields}
+use Rattle.word_plan.specs.declared.name.WordName.TheVariants as name
+use Rattle.superblock_parts.specs.declared.point.BlockPoint.TheVariants as block
+use Rattle.pool_model.specs.Pool.{Block as Live, block_at, pool_of}
+use Rattle.pool_model.specs.declared.owner.Owner.TheVariants.{Caller, Shelf}
+use Rattle.pool_model.specs.declared.owner.Owner.{Owner}
+use Rattle.errand_steps.specs.Steps.{State}
+use Rattle.errand_steps.specs.declared.onward.Onward.{Onward}
+use Rattle.errand_steps.specs.declared.point.Point.TheVariants.{Block}
+use Rattle.sound_state.specs.Holdings.{Handed, Freed, Holding, holds_of}
+use Rattle.sound_state.specs.Lists.{Lists}
+use Rattle.sound_state.specs.Recalls.{IsOwned}
+use Rattle.sound_state.specs.Sound.{IsSoundWith}
+use Rattle.sound_state.specs.Ties.{IsExcepted, IsBlockOfDesc}
+use Rattle.sound_state.proofs.shared.ListFacts.{any-none, any-one}
+use Rattle.sound_state.proofs.shared.StepLemmas.{HoldsException}
+
+-- the number of an owner
+abbrev pub owner_number : Owner → ℕ
+owner_number (Caller i) = i
+owner_number (Shelf k) = k
+
+-- whether an owner is this shelf
+pub is-shelf : (owner : Owner) (k : ℕ) → (owner ≡ Shelf k) ⊎ (owner ≢ Shelf k)
+is-shelf (Caller i) k = inr (λ same. cc)
+is-shelf (Shelf j) k = elim (cases_eq j k) [ inl is ↦ inl (ap Shelf is) | inr differ ↦ inr (λ same. differ (ap owner_number same)) ]
+
+-- the owner of the block that is live at a place
+abbrev pub owner_there : Option Live → ℕ
+owner_there None = 0
+owner_there (Some b) = owner_number b.owner
+
+pub owner-there : (s : State) (i place : ℕ) (n : Need) → IsOwned s i place n → owner_there (block_at place (pool_of s.history)) ≡ i
+owner-there s i place n owned = ap owner_there owned.block.1 ∙ ap owner_number owned.block.2
+
+-- who excepts a block owns it
+excepter-owns :
+    (s : State) (j place : ℕ) (h : Holding) → All (λ x. IsOwned s j x.place x.need) h.hands → All (λ x. IsOwned s j x.place x.need) h.frees
+    → HoldsException h place → (n : Need) × IsOwned s j place n
+excepter-owns s j place h hands frees (inl a) =
+    (a.1.need, subst (λ p. IsOwned s j p a.1.need) a.4 (subst (λ (x : Handed). IsOwned s j x.place x.need) a.3 (hands a.0 a.1 a.2)))
+excepter-owns s j place h hands frees (inr a) =
+    (a.1.need, subst (λ p. IsOwned s j p a.1.need) a.4.0 (subst (λ (x : Freed). IsOwned s j x.place x.need) a.3 (frees a.0 a.1 a.2)))
+
+-- so only its owner excepts a block
+pub only-owner :
+    (g : Geometry) (s : State) (l : Lists) (who place : ℕ) (n : Need) → IsSoundWith g s l → IsOwned s who place n → IsExcepted g s place
+    → HoldsException (holds_of (s.errand who).point) place
+only-owner g s l who place n old owned x =
+    let j : ℕ = x.who.0 in
+    let has : j < g.callers = x.who.1 in
+    let excepts : HoldsException (holds_of (s.errand j).point) place = x.who.2 in
+    let his = excepter-owns s j place (holds_of (s.errand j).point) (old.tied.hands j has) (old.tied.frees j has) excepts in
+    let same : j ≡ who = sym (owner-there s j place his.0 his.1) ∙ owner-there s who place n owned in
+    subst (λ k. HoldsException (holds_of (s.errand k).point) place) same excepts
+
+-- who begins to free a block excepts none
+pub begins-free : (seat : SeatFields) (frame i : ℕ) (o : Onward) (place : ℕ) → HoldsException (holds_of (Block (block.LoadPrefix seat frame i) o)) place → ⊥
+unfolding holds_of
+begins-free seat frame i o place (inl a) = any-none (λ (b : Handed). b.place ≡ place) a
+begins-free seat frame i o place (inr a) =
+    let end : (block_place frame seat.class i ≡ place) × IsTrue false =
+    any-one (λ (b : Freed). (b.place ≡ place) × IsTrue b.overwritten)
+    (record { place = block_place frame seat.class i; need = need.Small seat.class; overwritten = false }) a in
+    let bad : IsTrue false = end.1 in cc
+
+-- and owns the block
+pub begins-owned :
+    (g : Geometry) (s : State) (l : Lists) (who : ℕ) (seat : SeatFields) (frame i : ℕ) (o : Onward) → IsSoundWith g s l → who < g.callers
+    → (s.errand who).point ≡ Block (block.LoadPrefix seat frame i) o
+    → IsOwned s who (block_place frame seat.class i) (need.Small seat.class)
+unfolding holds_of
+begins-owned g s l who seat frame i o old has at =
+    All-head (λ (b : Freed). IsOwned s who b.place b.need)
+    (record { place = block_place frame seat.class i; need = need.Small seat.class; overwritten = false }) []
+    (subst (λ p. All (λ b. IsOwned s who b.place b.need) (holds_of p).frees) at (old.tied.frees who has))
+
+-- the prefix word of a block that is freed says whose superblock's it is
+pub prefix-ties :
+    (g : Geometry) (s : State) (l : Lists) (who : ℕ) (seat : SeatFields) (frame i : ℕ) (o : Onward) → IsSoundWith g s l → who < g.callers
+    → (s.errand who).point ≡ Block (block.LoadPrefix seat frame i) o
+    → (d : ℕ) × IsBlockOfDesc g s l (block_place frame seat.class i) seat.class d × (s.word (name.Arena (block_place frame seat.class i)) ≡ 2 * d)
+prefix-ties g s l who seat frame i o old has at =
+    let place : ℕ = block_place frame seat.class i in
+    let owned : IsOwned s who place (need.Small seat.class) = begins-owned g s l who seat frame i o old has at in
+    let (d, of, excepted) = old.tied.small place seat.class owned.block.0 owned.block.1 owned.block.3 in
+    elim excepted [
+      | inl x ↦
+          absurd (begins-free seat frame i o place
+          (subst (λ p. HoldsException (holds_of p) place) at (only-owner g s l who place (need.Small seat.class) old owned x)))
+      | inr says ↦ (d, of, says)
+    ]

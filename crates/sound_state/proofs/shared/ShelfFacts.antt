@@ -1,0 +1,88 @@
+-- What lies on a shelf is what its word says.
+use Rattle.std.proofs.Common.{ℕ, Some, ◌≡◌, ◌≢◌, ◌<◌, ◌+◌, [], ◌∷◌, arith, sym, subst, inl, inr, ◌∙◌}
+use Rattle.std.proofs.lemmas.Nat.{pow_pos}
+use Rattle.std.specs.Prelude.{◌⊎◌}
+use Rattle.heap_geometry.proofs.PlaceLemmas.{block-within}
+use Rattle.heap_geometry.specs.Geometry.{IsChecked}
+use Rattle.heap_geometry.specs.Need.{IsNeed}
+use Rattle.heap_geometry.specs.declared.geometry.Geometry.{Geometry}
+use Rattle.heap_geometry.specs.declared.limits.TheConstants.{SHELVES}
+use Rattle.heap_geometry.specs.declared.need.Need.TheVariants as need
+use Rattle.heap_geometry.specs.declared.need.Need.{Need}
+use Rattle.packed_words.proofs.ShelfLemmas.{shelf-exact}
+use Rattle.packed_words.specs.Shelf.{IsShelfWord, shelf_word}
+use Rattle.packed_words.specs.declared.shelf.ShelfWord.TheVariants as shelf
+use Rattle.packed_words.specs.declared.shelf.TheConstants.{MAX_ARENA_WORDS}
+use Rattle.word_plan.specs.declared.name.WordName.TheVariants as name
+use Rattle.pool_model.proofs.PoolLemmas.{Every, every-each, every-found}
+use Rattle.pool_model.proofs.WellFormedLemmas.{sound-of, sound-differ, found-itself}
+use Rattle.pool_model.specs.Legal.{IsEmptyShelf}
+use Rattle.pool_model.specs.Pool.{Block, Pool, block_at, pool_of}
+use Rattle.pool_model.specs.WellFormed.{IsWellFormed, IsPlaceFor}
+use Rattle.pool_model.specs.declared.owner.Owner.TheVariants.{Shelf}
+use Rattle.errand_steps.specs.Steps.{State}
+use Rattle.errand_steps.specs.declared.point.Point.TheVariants.{Large}
+use Rattle.sound_state.specs.Lists.{Lists}
+use Rattle.sound_state.specs.Sound.{IsSoundWithoutCounts, IsSoundWith}
+use Rattle.sound_state.specs.Ties.{IsLive}
+use Rattle.sound_state.proofs.shared.OwnerLemmas.{is-shelf}
+
+-- a shelf's word with a block isn't that of an empty one
+pub shelf-some : (place : ℕ) (n : Need) → shelf_word (shelf.Block place n) ≡ shelf_word shelf.Nothing → ⊥
+unfolding shelf_word
+shelf-some place n same = omega (arith, same)
+
+-- a small block lies in the arena
+small-place : (g : Geometry) (class place : ℕ) → IsChecked g → IsPlaceFor g (need.Small class) place → place < MAX_ARENA_WORDS
+small-place g class place checked at =
+    omega (arith, at.2, at.4, block-within class at.1 at.3, pow_pos (class + 1), checked.frames.1, checked.units.1)
+
+-- a live block's place and need fit a shelf's word
+pub shelf-fits : (g : Geometry) (n : Need) (place : ℕ) → IsChecked g → IsNeed n → IsPlaceFor g n place → IsShelfWord (shelf.Block place n)
+shelf-fits g (need.Small class) place checked is at = (small-place g class place checked at, is)
+shelf-fits g (need.Large units) place checked is at = (omega (arith, at.1, at.2, is.0, checked.frames.1, checked.units.1), is)
+shelf-fits g need.TooLarge place checked is at = absurd at
+
+-- some block is owned so, or none
+pub owned-or-none :
+    (all pool : Pool) (k : ℕ) → Every (λ b. block_at b.place all ≡ Some b) pool
+    → ((b : Block) × (block_at b.place all ≡ Some b) × (b.owner ≡ Shelf k)) ⊎ Every (λ b. b.owner ≢ Shelf k) pool
+owned-or-none all [] k found = inr tt
+owned-or-none all (b ∷ pool) k found =
+    elim (is-shelf b.owner k) [
+      | inl is ↦ inl (b, found.0, is)
+      | inr differ ↦
+          elim (owned-or-none all pool k found.1) [
+            | inl one ↦ inl one
+            | inr none ↦ inr (differ, none)
+          ]
+    ]
+
+-- the block of which a shelf's word says that it lies there does
+pub shelved-block :
+    (g : Geometry) (s : State) (l : Lists) (k place : ℕ) (n : Need) → IsSoundWithoutCounts g s → IsSoundWith g s l → k < SHELVES
+    → IsShelfWord (shelf.Block place n) → s.word (name.Shelf k) ≡ shelf_word (shelf.Block place n)
+    → (b : Block) × IsLive s place b × (b.owner ≡ Shelf k) × (b.need ≡ n)
+shelved-block g s l k place n sound old has fit word =
+    let pool = sound-of g s.history sound.legal in
+    elim (owned-or-none (pool_of s.history) (pool_of s.history) k (found-itself (pool_of s.history) (sound-differ g (pool_of s.history) pool))) [
+      | inl one ↦
+          let formed : IsWellFormed g one.0 = every-found (IsWellFormed g) one.0.place (pool_of s.history) one.0 pool.each one.1 in
+          let says : shelf_word (shelf.Block one.0.place one.0.need) ≡ shelf_word (shelf.Block place n) =
+          sym (old.tied.shelved k one.0.place one.0 has one.1 one.2) ∙ word in
+          let same : shelf.Block one.0.place one.0.need ≡ shelf.Block place n =
+          shelf-exact.one_word (shelf.Block one.0.place one.0.need) (shelf.Block place n)
+          (shelf-fits g one.0.need one.0.place sound.checked formed.need formed.place) fit says in
+          let here : one.0.place ≡ place = cc in
+          (one.0, subst (λ p. IsLive s p one.0) here one.1, one.2, (cc))
+      | inr none ↦
+          absurd
+          (shelf-some place n
+          (sym word ∙ old.tied.bare_shelf k has (λ p b live on. every-each (λ x. x.owner ≢ Shelf k) (pool_of s.history) none p b live on)))
+    ]
+
+-- where the word says so, no block lies on the shelf
+pub empty-shelf :
+    (g : Geometry) (s : State) (l : Lists) (k : ℕ) → IsSoundWith g s l → k < SHELVES → s.word (name.Shelf k) ≡ shelf_word shelf.Nothing
+    → IsEmptyShelf (pool_of s.history) k
+empty-shelf g s l k old has word place b live on = shelf-some place b.need (sym (old.tied.shelved k place b has live on) ∙ word)

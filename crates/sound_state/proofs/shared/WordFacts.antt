@@ -1,0 +1,86 @@
+-- What single words say: active words, next words, shelves, descriptors and the names of the arena.
+use Rattle.std.proofs.Common.{ℕ, false, Some, ◌≡◌, ◌<◌, ◌+◌, ◌*◌, ◌^◌, refl, arith, ap, ne_eqb, Option, None, ◌%◌, sym, subst}
+use Rattle.std.specs.Prelude.{◌==◌, IsSome}
+use Rattle.heap_geometry.specs.Geometry.{IsChecked}
+use Rattle.heap_geometry.specs.declared.geometry.Geometry.{Geometry}
+use Rattle.packed_words.proofs.ActiveLemmas.{active-exact}
+use Rattle.packed_words.specs.Active.{IsActiveWord, active_word, active_of}
+use Rattle.packed_words.specs.Info.{InfoFields, IsInfo}
+use Rattle.packed_words.specs.Shelf.{shelf_word}
+use Rattle.packed_words.specs.declared.active.ActiveWord.TheVariants.{Null, Held}
+use Rattle.packed_words.specs.declared.shelf.ShelfWord.TheVariants as shelf
+use Rattle.packed_words.specs.declared.widths.TheConstants.{CREDIT_BITS}
+use Rattle.word_plan.proofs.CountLemmas.{descriptor_count_within}
+use Rattle.word_plan.proofs.SeatLemmas.{heap_of-within}
+use Rattle.word_plan.specs.Counts.{descriptor_count, arena_words}
+use Rattle.word_plan.specs.Seats.{SeatFields, heap_of, info_within}
+use Rattle.word_plan.specs.Sites.{IsSeatOf, active_name, info_at, IsSiteOf}
+use Rattle.word_plan.specs.Table.{Exists}
+use Rattle.word_plan.specs.declared.seat.Site.{Site}
+use Rattle.hazard_parts.specs.Points.{link_in}
+use Rattle.sound_state.specs.Superblocks.{info_or_zero}
+
+-- the numbers of an active word fit, and it says them
+pub held-fits : (g : Geometry) (d credits : ℕ) → IsChecked g → d < descriptor_count g → credits < 2 ^ CREDIT_BITS → IsActiveWord (Held d credits)
+held-fits g d credits checked has few = (omega (arith, has, descriptor_count_within g checked), few)
+
+pub held-said : (d credits : ℕ) → IsActiveWord (Held d credits) → active_of (active_word (Held d credits)) ≡ Some (Held d credits)
+held-said d credits fit = active-exact.back (Held d credits) fit
+
+-- it isn't 0, and null is
+pub held-not-zero : (d credits : ℕ) → (active_word (Held d credits) == 0) ≡ false
+unfolding active_word
+held-not-zero d credits = ne_eqb (credits + (d + 1) * 2 ^ CREDIT_BITS) 0 (λ e. let bad : ⊥ = omega (arith, e) in bad)
+
+pub null-none : active_word Null ≡ 0
+unfolding active_word
+null-none = refl
+
+pub null-said : active_of (active_word Null) ≡ Some Null
+null-said = active-exact.back Null tt
+
+-- a seat's active word is one of the heap's
+pub seat-active : (g : Geometry) (who : ℕ) (seat : SeatFields) → IsChecked g → IsSeatOf g who seat → Exists g (active_name seat)
+seat-active g who seat checked of =
+    let heaps : seat.geometry.heaps ≡ g.heaps = ap (λ (h : Geometry). h.heaps) of.geometry in
+    let within : heap_of seat < seat.geometry.heaps = heap_of-within seat (omega (arith, heaps, checked.heaps.0)) in
+    (omega (arith, within, heaps), of.class)
+
+-- an active word names one descriptor
+pub held-desc : (d credits e others : ℕ) → Some (Held d credits) ≡ Some (Held e others) → d ≡ e
+held-desc d credits e others same = cc
+
+-- a next word that names an index, or none, is the number that it says
+pub link-some : (g : Geometry) (word next : ℕ) → link_in g word ≡ Some next → word ≡ next
+link-some g word next is = grind (arith)
+
+-- the word of a shelf on which nothing lies
+pub shelf-nothing : shelf_word shelf.Nothing ≡ 0
+unfolding shelf_word
+shelf-nothing = refl
+
+-- a descriptor's frame is one of the heap's
+pub frame-of-within : (g : Geometry) (o : Option InfoFields) → IsSome (info_within g o) → (info_or_zero o).frame < g.frames
+frame-of-within g None some = absurd (cc)
+frame-of-within g (Some i) some = grind (arith, some)
+
+-- the arena's names are of 32 bits
+pub payload-uncut : (g : Geometry) (place i : ℕ) → IsChecked g → place + 1 + i < arena_words g → (place + 1 + i) % 2 ^ 32 ≡ place + 1 + i
+payload-uncut g place i checked within = omega (arith, within, checked.frames.1, checked.units.1)
+
+-- the name of a descriptor fits a word
+pub name-below : (g : Geometry) (d : ℕ) → IsChecked g → d < descriptor_count g → d + 1 < 2 ^ 64
+name-below g d checked exists = omega (arith, descriptor_count_within g checked, exists)
+
+-- what a descriptor says of a superblock at hand is within the limits of the heap
+pub site-heap : (g : Geometry) (who : ℕ) (at : Site) → IsChecked g → IsSiteOf g who at → heap_of at.seat < g.heaps
+site-heap g who at checked site =
+    let heaps : 0 < at.seat.geometry.heaps = subst (λ h. 0 < h.heaps) (sym site.seat.geometry) (omega (arith, checked.heaps.0)) in
+    subst (λ h. heap_of at.seat < h.heaps) site.seat.geometry (heap_of-within at.seat heaps)
+
+pub site-info : (g : Geometry) (who : ℕ) (at : Site) → IsChecked g → IsSiteOf g who at → IsInfo (info_at at)
+site-info g who at checked site = record {
+  frame = omega (arith, site.frame, checked.frames.1);
+  heap = omega (arith, site-heap g who at checked site, checked.heaps.1);
+  class = site.seat.class;
+}
