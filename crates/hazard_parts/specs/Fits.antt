@@ -3,15 +3,10 @@ use Rattle.std.specs.Prelude.{ℕ, List, length, ◌≡◌, ◌<◌, ◌≤◌}
 use Rattle.heap_geometry.specs.declared.geometry.Geometry.{Geometry}
 use Rattle.word_plan.specs.Counts.{descriptor_count}
 use Rattle.word_plan.specs.Seats.{SeatFields}
-use Rattle.word_plan.specs.Sites.{IsSeatOf}
+use Rattle.word_plan.specs.Sites.{IsSeatOf, IsDescOf}
 use Rattle.hazard_parts.specs.declared.limits.TheConstants.{HELD_MOST}
 use Rattle.hazard_parts.specs.declared.point.DescPoint.{DescPoint}
 use Rattle.hazard_parts.specs.declared.point.DescPoint.TheVariants.{LoadDescHead, StoreHazard, ReloadDescHead, LoadNextDesc, PopDesc, ClearAfterPop, ClearHazard, ReadHazard, LoadHeadToPush, StoreNextDesc, PushDesc, Got, Cleared, Scanned, Pushed}
-
--- a seat of this caller of this heap, and a descriptor that the heap has
-pub record IsDescOf (g : Geometry) (who : ℕ) (s : SeatFields) (d : ℕ) : Type 0 where
-  pub seat : IsSeatOf g who s
-  pub desc : d < descriptor_count g
 
 -- the same, with a word that is 0 or names a descriptor that the heap has
 pub record IsLinkOf (g : Geometry) (who : ℕ) (s : SeatFields) (d word : ℕ) : Type 0 where

@@ -5,9 +5,9 @@ ghost use Rattle.word_plan.specs.Seats.{desc_named};
 ghost use Rattle.hazard_parts.specs.Points.{link_in, after_head, after_reload, after_next, after_hazard, after_top};
 
 use crate::limits::HELD_MOST;
-use crate::plan::name_of_desc;
 use crate::point::DescPoint;
 use word_plan::seat::Seat;
+use word_plan::name::name_of_desc;
 
 /// A word that is 0 or names a descriptor that the heap has; `None` where it does neither.
 fn link_in(seat: Seat, word: u64) -> Option<u16>

@@ -5,7 +5,7 @@ ghost use Rattle.hazard_parts.specs.Points.{plan_desc_of};
 
 use crate::point::DescPoint;
 use word_plan::action::Action;
-use word_plan::name::WordName;
+use word_plan::name::{WordName, name_of_desc};
 
 /// The action of a point. Who left makes none, and its action here stands for nothing.
 pub fn plan_desc(point: &DescPoint) -> Action
@@ -41,11 +41,4 @@ pub fn plan_desc(point: &DescPoint) -> Action
         | DescPoint::Scanned { .. }
         | DescPoint::Pushed { .. } => Action::Load(WordName::FrameHead),
     }
-}
-
-/// The word that names a descriptor by its index plus 1.
-pub fn name_of_desc(desc: u16) -> u64
-    ensures { result ≡ desc + 1 }
-{
-    u64::from(desc) + 1
 }

@@ -5,8 +5,8 @@ ghost use Rattle.hazard_parts.specs.Retired.{is_held, first_unheld, without};
 ghost use Rattle.hazard_parts.specs.declared.limits.TheConstants.{HELD_MOST, RETIRED_MOST};
 
 use crate::limits::{HELD_MOST, RETIRED_MOST};
-use crate::plan::name_of_desc;
 use std::marker::Model;
+use word_plan::name::name_of_desc;
 
 /// A list of retired descriptors, the longest retired first.
 #[derive(Drop)]

@@ -14,12 +14,12 @@ use Rattle.word_plan.specs.declared.action.Found.{Found}
 use Rattle.word_plan.specs.Actions.{name_of}
 use Rattle.word_plan.specs.Counts.{descriptor_count}
 use Rattle.word_plan.specs.Seats.{SeatFields, heap_of, desc_named, info_within, info_in, anchor_in}
-use Rattle.word_plan.specs.Sites.{IsSeatOf, IsAnchorOf}
+use Rattle.word_plan.specs.Sites.{IsSeatOf, IsAnchorOf, IsDescOf}
 use Rattle.word_plan.specs.Table.{Exists}
-use Rattle.word_plan.proofs.SeatLemmas.{heap_of-within}
+use Rattle.word_plan.proofs.SeatLemmas.{heap_of-within, each-info, each-anchor}
 use Rattle.partial_parts.specs.declared.point.PartialPoint.{PartialPoint}
 use Rattle.partial_parts.specs.declared.point.PartialPoint.TheVariants.{LoadSlot, TakeSlot, LoadTakenInfo, StoreOwner, LoadGrantAnchor, Grant, LoadOwner, PutSlot, LoadHeldSlot, RemoveFromSlot, LoadListedAnchor, SlotEmpty, Granted, TookEmpty, SlotFilled, Displaced, NotInSlot, Removed, ListedEmpty, ListedPartial}
-use Rattle.partial_parts.specs.Fits.{IsDescOf, FitsPartial}
+use Rattle.partial_parts.specs.Fits.{FitsPartial}
 use Rattle.partial_parts.specs.Grants.{grant_more, is_empty}
 use Rattle.partial_parts.specs.Points.{plan_partial_of, settle_partial_of, after_kept, after_taken_info, after_live, after_owner, after_displaced}
 use Rattle.partial_parts.proofs.GrantLemmas.{grant_more-within}
@@ -78,27 +78,6 @@ each-desc g who s word P seat none some =
       seat = seat;
       desc = less-below word count (descriptor_count g) (leb-true 1 word parts.0) (leb-true word count parts.1) (ap descriptor_count seat.geometry);
     }))
-    (λ e. none)
-
--- what holds of an info that the heap has, and of none, holds of what a word says
-each-info :
-    (g : Geometry) (P : Option InfoFields → Type 0) (o : Option InfoFields) → P None
-    → ((i : InfoFields) → i.frame < g.frames → i.heap < g.heaps → P (Some i)) → P (info_within g o)
-each-info g P None none some = none
-each-info g P (Some i) none some =
-    cond_both (nat_lt i.frame g.frames && nat_lt i.heap g.heaps) (Some i) None P
-    (λ e. let parts = and_parts (nat_lt i.frame g.frames) (nat_lt i.heap g.heaps) e in
-    some i (ltb-true i.frame g.frames parts.0) (ltb-true i.heap g.heaps parts.1))
-    (λ e. none)
-
--- what holds of an anchor of the class, and of none, holds of what a word says
-each-anchor :
-    (class word : ℕ) (P : Option AnchorFields → Type 0) → P None
-    → ((a : AnchorFields) → IsAnchorOf class a → P (Some a)) → P (anchor_in class word)
-each-anchor class word P none some =
-    let a = anchor_of word in
-    cond_both (nat_lt a.avail (block_count_of class)) (Some a) None P
-    (λ e. some a (record { fits = IsAnchor-anchor_of word; avail = ltb-true a.avail (block_count_of class) e }))
     (λ e. none)
 
 -- where the word of a taken descriptor leads

@@ -4,14 +4,9 @@ use Rattle.heap_geometry.specs.declared.geometry.Geometry.{Geometry}
 use Rattle.word_plan.specs.declared.limits.TheConstants.{MOST_CREDITS}
 use Rattle.word_plan.specs.Counts.{descriptor_count}
 use Rattle.word_plan.specs.Seats.{SeatFields}
-use Rattle.word_plan.specs.Sites.{IsSeatOf, IsSiteOf, IsAnchorOf}
+use Rattle.word_plan.specs.Sites.{IsSeatOf, IsSiteOf, IsAnchorOf, IsDescOf}
 use Rattle.partial_parts.specs.declared.point.PartialPoint.{PartialPoint}
 use Rattle.partial_parts.specs.declared.point.PartialPoint.TheVariants.{LoadSlot, TakeSlot, LoadTakenInfo, StoreOwner, LoadGrantAnchor, Grant, LoadOwner, PutSlot, LoadHeldSlot, RemoveFromSlot, LoadListedAnchor, SlotEmpty, Granted, TookEmpty, SlotFilled, Displaced, NotInSlot, Removed, ListedEmpty, ListedPartial}
-
--- a seat of this caller of this heap, and a descriptor that the heap has
-pub record IsDescOf (g : Geometry) (who : ℕ) (s : SeatFields) (d : ℕ) : Type 0 where
-  pub seat : IsSeatOf g who s
-  pub desc : d < descriptor_count g
 
 -- the same, and the processor heap that the superblock was last taken for
 pub record IsOwnedBy (g : Geometry) (who : ℕ) (s : SeatFields) (d heap : ℕ) : Type 0 where

@@ -5,9 +5,9 @@ ghost use Rattle.partial_parts.specs.Points.{plan_partial_of};
 
 use crate::grants::granted;
 use crate::point::PartialPoint;
-use crate::words::{name_of_desc, slot_name, slot_of};
+use crate::words::{slot_name, slot_of};
 use word_plan::action::Action;
-use word_plan::name::WordName;
+use word_plan::name::{WordName, name_of_desc};
 
 /// The action of a point. Who left makes none, and its action here stands for nothing.
 pub fn plan_partial(point: &PartialPoint) -> Action

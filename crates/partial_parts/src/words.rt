@@ -20,10 +20,3 @@ pub fn slot_of(seat: Seat, heap: u8) -> WordName
 {
     WordName::Slot(heap, seat.class())
 }
-
-/// The word that names a descriptor by its index plus 1.
-pub fn name_of_desc(desc: u16) -> u64
-    ensures { result ≡ desc + 1 }
-{
-    u64::from(desc) + 1
-}

@@ -3,7 +3,7 @@ use Rattle.std.specs.Prelude.{ℕ, ◌≡◌, ◌≢◌, ◌<◌, ◌+◌, Some,
 use Rattle.heap_geometry.specs.declared.geometry.Geometry.{Geometry}
 use Rattle.word_plan.specs.declared.action.Action.TheVariants.{Store}
 use Rattle.word_plan.specs.declared.name.WordName.TheVariants as name
-use Rattle.superblock_parts.specs.Chains.{occurs}
+use Rattle.word_plan.specs.Occurs.{occurs}
 use Rattle.errand_steps.specs.Fits.{pushed_by}
 use Rattle.errand_steps.specs.Steps.{State, action_at}
 use Rattle.sound_state.specs.Guards.{passed_by, held_by}

@@ -12,7 +12,8 @@ use Rattle.word_plan.specs.Counts.{descriptor_count}
 use Rattle.word_plan.specs.Seats.{info_in}
 use Rattle.word_plan.specs.declared.name.WordName.{WordName}
 use Rattle.word_plan.specs.declared.name.WordName.TheVariants as name
-use Rattle.superblock_parts.specs.Chains.{occurs, chain_of, link_in}
+use Rattle.word_plan.specs.Occurs.{occurs}
+use Rattle.superblock_parts.specs.Chains.{chain_of, link_in}
 use Rattle.partial_parts.specs.Grants.{is_empty}
 use Rattle.pool_model.specs.Pool.{Block, block_at, pool_of}
 use Rattle.errand_steps.specs.Errands.{ErrandFields}

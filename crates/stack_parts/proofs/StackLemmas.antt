@@ -6,10 +6,11 @@ use Rattle.packed_words.specs.declared.widths.TheConstants.{TOP_BITS}
 use Rattle.packed_words.specs.Head.{HeadFields}
 use Rattle.word_plan.specs.declared.name.WordName.{WordName}
 use Rattle.word_plan.specs.Words.{Writes}
+use Rattle.word_plan.specs.Occurs.{occurs}
 use Rattle.stack_parts.specs.declared.point.Pile.{Pile}
 use Rattle.stack_parts.specs.declared.point.Pile.TheVariants.{Frames, Partials}
 use Rattle.stack_parts.specs.Piles.{next_name, popped_head, pushed_head}
-use Rattle.stack_parts.specs.Stacks.{occurs, Stacked, next_in}
+use Rattle.stack_parts.specs.Stacks.{Stacked, next_in}
 
 -- a list that begins with an index has it once more than the rest
 occurs-here : (i : ℕ) (xs : List ℕ) → occurs i (i ∷ xs) ≡ 1 + occurs i xs

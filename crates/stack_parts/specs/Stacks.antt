@@ -1,13 +1,8 @@
 -- A stack as a list.
-use Rattle.std.specs.Prelude.{ℕ, ◌≡◌, ◌+◌, ◌==◌, if◌then◌else◌, List, [], ◌∷◌}
+use Rattle.std.specs.Prelude.{ℕ, ◌≡◌, ◌+◌, List, [], ◌∷◌}
 use Rattle.word_plan.specs.declared.name.WordName.{WordName}
 use Rattle.stack_parts.specs.declared.point.Pile.{Pile}
 use Rattle.stack_parts.specs.Piles.{next_name}
-
--- how often an index is in the list
-abbrev pub occurs : ℕ → List ℕ → ℕ
-occurs i [] = 0
-occurs i (x ∷ xs) = (if x == i then 1 else 0) + occurs i xs
 
 -- the stack with this top and these next words is the list, from the top on: each names the index
 -- plus 1, and behind the last stands 0

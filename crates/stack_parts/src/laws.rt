@@ -10,10 +10,11 @@ ghost use Rattle.word_plan.specs.declared.name.WordName.{WordName};
 ghost use Rattle.word_plan.specs.Actions.{name_of};
 ghost use Rattle.word_plan.specs.Table.{Exists};
 ghost use Rattle.word_plan.specs.Words.{Writes};
+ghost use Rattle.word_plan.specs.Occurs.{occurs};
 ghost use Rattle.stack_parts.specs.Fits.{FitsStack};
 ghost use Rattle.stack_parts.specs.Piles.{next_name, popped_head, pushed_head};
 ghost use Rattle.stack_parts.specs.Points.{plan_stack_of, seat_of_stack, settle_stack_of};
-ghost use Rattle.stack_parts.specs.Stacks.{occurs, Stacked, next_in};
+ghost use Rattle.stack_parts.specs.Stacks.{Stacked, next_in};
 ghost use Rattle.stack_parts.specs.declared.point.Pile.{Pile};
 ghost use Rattle.stack_parts.specs.declared.point.StackPoint.{StackPoint};
 

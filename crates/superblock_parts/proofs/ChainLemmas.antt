@@ -9,7 +9,8 @@ use Rattle.packed_words.specs.Prefix.{link_of}
 use Rattle.word_plan.specs.declared.name.WordName.{WordName}
 use Rattle.word_plan.specs.declared.name.WordName.TheVariants.{Arena}
 use Rattle.word_plan.specs.Words.{Writes}
-use Rattle.superblock_parts.specs.Chains.{occurs, chain_of, prefix_name, link_in, chain_in}
+use Rattle.word_plan.specs.Occurs.{occurs}
+use Rattle.superblock_parts.specs.Chains.{chain_of, prefix_name, link_in, chain_in}
 
 -- a list that begins with an index has it once more than the rest
 pub occurs-here : (i : ℕ) (xs : List ℕ) → occurs i (i ∷ xs) ≡ 1 + occurs i xs

@@ -27,7 +27,7 @@ use Rattle.word_plan.specs.Counts.{descriptor_count}
 use Rattle.word_plan.specs.Seats.{SeatFields, heap_of, info_within, info_in, anchor_in}
 use Rattle.word_plan.specs.Sites.{IsSeatOf, IsSiteOf, IsAnchorOf}
 use Rattle.word_plan.specs.Table.{Exists}
-use Rattle.word_plan.proofs.SeatLemmas.{block_place-within, heap_of-within, block_count_of-least}
+use Rattle.word_plan.proofs.SeatLemmas.{block_place-within, heap_of-within, block_count_of-least, each-info, each-anchor}
 use Rattle.superblock_parts.specs.declared.point.Share.{Share}
 use Rattle.superblock_parts.specs.declared.point.Share.TheVariants.{Credit, LastCredit, Grant}
 use Rattle.superblock_parts.specs.declared.point.BlockPoint.{BlockPoint}
@@ -84,27 +84,6 @@ either :
     (g : Geometry) (who : ℕ) (b : Bool) (x y : BlockPoint) → (b ≡ true → FitsBlock g who x) → (b ≡ false → FitsBlock g who y)
     → FitsBlock g who (if b then x else y)
 either g who b x y = cond_both b x y (FitsBlock g who)
-
--- what holds of an info that the heap has, and of none, holds of what a word says
-each-info :
-    (g : Geometry) (P : Option InfoFields → Type 0) (o : Option InfoFields) → P None
-    → ((i : InfoFields) → i.frame < g.frames → i.heap < g.heaps → P (Some i)) → P (info_within g o)
-each-info g P None none some = none
-each-info g P (Some i) none some =
-    cond_both (nat_lt i.frame g.frames && nat_lt i.heap g.heaps) (Some i) None P
-    (λ e. let parts = and_parts (nat_lt i.frame g.frames) (nat_lt i.heap g.heaps) e in
-    some i (ltb-true i.frame g.frames parts.0) (ltb-true i.heap g.heaps parts.1))
-    (λ e. none)
-
--- what holds of an anchor of the class, and of none, holds of what a word says
-each-anchor :
-    (class word : ℕ) (P : Option AnchorFields → Type 0) → P None
-    → ((a : AnchorFields) → IsAnchorOf class a → P (Some a)) → P (anchor_in class word)
-each-anchor class word P none some =
-    let a = anchor_of word in
-    cond_both (nat_lt a.avail (block_count_of class)) (Some a) None P
-    (λ e. some a (record { fits = IsAnchor-anchor_of word; avail = ltb-true a.avail (block_count_of class) e }))
-    (λ e. none)
 
 -- where an active word leads
 fits-active :

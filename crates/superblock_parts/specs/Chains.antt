@@ -1,14 +1,9 @@
 -- The chain of a superblock's free blocks.
-use Rattle.std.specs.Prelude.{ℕ, zero, suc, ◌+◌, ◌==◌, if◌then◌else◌, List, [], ◌∷◌}
+use Rattle.std.specs.Prelude.{ℕ, zero, suc, List, [], ◌∷◌}
 use Rattle.heap_geometry.specs.Place.{block_place}
 use Rattle.packed_words.specs.Prefix.{link_of}
 use Rattle.word_plan.specs.declared.name.WordName.{WordName}
 use Rattle.word_plan.specs.declared.name.WordName.TheVariants.{Arena}
-
--- how often an index is in the list
-abbrev pub occurs : ℕ → List ℕ → ℕ
-occurs i [] = 0
-occurs i (x ∷ xs) = (if x == i then 1 else 0) + occurs i xs
 
 -- the k indexes met from one on by links
 abbrev pub chain_of : (ℕ → ℕ) → ℕ → ℕ → List ℕ

@@ -5,12 +5,9 @@ ghost use Rattle.superblock_parts.specs.Points.{plan_block_of};
 
 use crate::anchors::{new_anchor, new_credits, popped, pushed, returned};
 use crate::point::BlockPoint;
-use crate::words::{
-    active_name, block_name, credit_taken, held_word, live_prefix, name_of_desc, new_link,
-    null_word,
-};
+use crate::words::{active_name, block_name, credit_taken, held_word, live_prefix, new_link, null_word};
 use word_plan::action::Action;
-use word_plan::name::WordName;
+use word_plan::name::{WordName, name_of_desc};
 
 /// The action of a point. Who left makes none, and its action here stands for nothing.
 pub fn plan_block(point: &BlockPoint) -> Action

@@ -63,13 +63,6 @@ pub fn live_prefix(desc: u16) -> u64
     u64::from(desc) << KIND_BITS
 }
 
-/// The word that names a descriptor by its index plus 1.
-pub fn name_of_desc(desc: u16) -> u64
-    ensures { result ≡ desc + 1 }
-{
-    u64::from(desc) + 1
-}
-
 /// The link of a new superblock's block.
 pub fn new_link(seat: Seat, index: u16) -> u64
     ensures { result ≡ new_link seat.class index }

@@ -1,5 +1,7 @@
 -- The words of a caller's seat, and of its superblocks.
-use Rattle.std.proofs.Common.{ℕ, ◌+◌, ◌*◌, ◌/◌, ◌^◌, ◌<◌, ◌≤◌, arith}
+use Rattle.std.proofs.Common.{ℕ, ◌+◌, ◌*◌, ◌/◌, ◌^◌, ◌<◌, ◌≤◌, Option, Some, None, arith}
+use Rattle.std.specs.Prelude.{nat_lt, ◌&&◌}
+use Rattle.std.proofs.lemmas.Bool.{cond_both, ltb-true, and_parts}
 use Rattle.std.proofs.Math.Nat.{div-mul-le_self}
 use Rattle.std.proofs.lemmas.Nat.{le-div, mul-le, pow_pos}
 use Rattle.heap_geometry.specs.declared.geometry.Geometry.{Geometry}
@@ -7,8 +9,12 @@ use Rattle.std.proofs.Math.Pow.{pow_mono}
 use Rattle.heap_geometry.specs.declared.limits.TheConstants.{CLASSES, FRAME_WORDS}
 use Rattle.heap_geometry.specs.Need.{block_words_of, block_count_of}
 use Rattle.heap_geometry.specs.Place.{block_place}
+use Rattle.packed_words.specs.Anchor.{AnchorFields, anchor_of}
+use Rattle.packed_words.specs.Info.{InfoFields}
+use Rattle.packed_words.proofs.AnchorLemmas.{IsAnchor-anchor_of}
 use Rattle.word_plan.specs.Counts.{arena_words}
-use Rattle.word_plan.specs.Seats.{SeatFields, heap_of}
+use Rattle.word_plan.specs.Seats.{SeatFields, heap_of, info_within, anchor_in}
+use Rattle.word_plan.specs.Sites.{IsAnchorOf}
 
 -- a frame's blocks lie in the arena
 pub block_place-within :
@@ -37,3 +43,24 @@ block_count_of-most class =
     let least : 2 ^ 1 ≤ 2 ^ (class + 1) = pow_mono above in
     let whole : FRAME_WORDS / 2 ^ (class + 1) * 2 ^ (class + 1) ≤ FRAME_WORDS = div-mul-le_self FRAME_WORDS (2 ^ (class + 1)) in
     omega (arith, mul-le (FRAME_WORDS / 2 ^ (class + 1)) 2 (FRAME_WORDS / 2 ^ (class + 1)) (2 ^ (class + 1)) (omega arith) (omega arith))
+
+-- what holds of an info that the heap has, and of none, holds of what a word says
+pub each-info :
+    (g : Geometry) (P : Option InfoFields → Type 0) (o : Option InfoFields) → P None
+    → ((i : InfoFields) → i.frame < g.frames → i.heap < g.heaps → P (Some i)) → P (info_within g o)
+each-info g P None none some = none
+each-info g P (Some i) none some =
+    cond_both (nat_lt i.frame g.frames && nat_lt i.heap g.heaps) (Some i) None P
+    (λ e. let parts = and_parts (nat_lt i.frame g.frames) (nat_lt i.heap g.heaps) e in
+    some i (ltb-true i.frame g.frames parts.0) (ltb-true i.heap g.heaps parts.1))
+    (λ e. none)
+
+-- what holds of an anchor of the class, and of none, holds of what a word says
+pub each-anchor :
+    (class word : ℕ) (P : Option AnchorFields → Type 0) → P None
+    → ((a : AnchorFields) → IsAnchorOf class a → P (Some a)) → P (anchor_in class word)
+each-anchor class word P none some =
+    let a = anchor_of word in
+    cond_both (nat_lt a.avail (block_count_of class)) (Some a) None P
+    (λ e. some a (record { fits = IsAnchor-anchor_of word; avail = ltb-true a.avail (block_count_of class) e }))
+    (λ e. none)

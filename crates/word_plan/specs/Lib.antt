@@ -1,5 +1,6 @@
 pub mod Actions
 pub mod Counts
+pub mod Occurs
 pub mod Seats
 pub mod Sites
 pub mod Table

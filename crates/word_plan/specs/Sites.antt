@@ -34,6 +34,11 @@ pub record IsSeatOf (g : Geometry) (who : ℕ) (s : SeatFields) : Type 0 where
   pub caller : s.caller ≡ who
   pub class : s.class < CLASSES
 
+-- a seat of this caller of this heap, and a descriptor that the heap has
+pub record IsDescOf (g : Geometry) (who : ℕ) (s : SeatFields) (d : ℕ) : Type 0 where
+  pub seat : IsSeatOf g who s
+  pub desc : d < descriptor_count g
+
 -- the superblock is at hand for this caller, and this heap has its descriptor and its frame
 pub record IsSiteOf (g : Geometry) (who : ℕ) (at : Site) : Type 0 where
   pub seat : IsSeatOf g who at.seat

@@ -1,5 +1,7 @@
 //! The names of the shared words.
 
+ghost use Rattle.std.specs.Prelude.{◌≡◌, ◌+◌};
+
 /// The name of a shared word. Numbers count from 0.
 #[derive(Clone, Copy, Debug, PartialEq, Eq)]
 pub enum WordName {
@@ -29,4 +31,11 @@ pub enum WordName {
     Units,
     /// A shelf, on which a block is handed over.
     Shelf(u8),
+}
+
+/// The word that names a descriptor by its index plus 1.
+pub fn name_of_desc(desc: u16) -> u64
+    ensures { result ≡ desc + 1 }
+{
+    u64::from(desc) + 1
 }

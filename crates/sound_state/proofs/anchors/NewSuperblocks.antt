@@ -17,8 +17,9 @@ use Rattle.word_plan.specs.declared.name.WordName.TheVariants as name
 use Rattle.word_plan.specs.Counts.{word_count}
 use Rattle.word_plan.specs.Table.{word_name}
 use Rattle.word_plan.proofs.SeatLemmas.{block_count_of-least, block_count_of-most}
+use Rattle.word_plan.specs.Occurs.{occurs}
 use Rattle.superblock_parts.specs.Anchors.{new_anchor, new_credits, new_link}
-use Rattle.superblock_parts.specs.Chains.{occurs, chain_of, link_in}
+use Rattle.superblock_parts.specs.Chains.{chain_of, link_in}
 use Rattle.superblock_parts.specs.declared.point.BlockPoint.{BlockPoint}
 use Rattle.superblock_parts.specs.declared.point.BlockPoint.TheVariants as block
 use Rattle.superblock_parts.specs.declared.point.Share.{Share}

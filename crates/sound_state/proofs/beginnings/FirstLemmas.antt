@@ -25,7 +25,7 @@ use Rattle.word_plan.specs.declared.name.WordName.TheVariants as name
 use Rattle.word_plan.specs.Counts.{descriptor_count}
 use Rattle.word_plan.specs.Seats.{info_in, info_within}
 use Rattle.word_plan.specs.Table.{exists}
-use Rattle.superblock_parts.specs.Chains.{occurs}
+use Rattle.word_plan.specs.Occurs.{occurs}
 use Rattle.stack_parts.specs.declared.point.Pile.TheVariants.{Frames, Partials}
 use Rattle.stack_parts.specs.Stacks.{Stacked, next_in}
 use Rattle.pool_model.specs.declared.event.Event.{Event}

@@ -25,7 +25,8 @@ use Rattle.word_plan.specs.Table.{exists}
 use Rattle.word_plan.specs.Seats.{info_in, info_within}
 use Rattle.word_plan.proofs.CountLemmas.{descriptor_count_within}
 use Rattle.word_plan.proofs.SeatLemmas.{block_place-within, block_count_of-least, block_count_of-most}
-use Rattle.superblock_parts.specs.Chains.{occurs, chain_of, prefix_name, link_in}
+use Rattle.word_plan.specs.Occurs.{occurs}
+use Rattle.superblock_parts.specs.Chains.{chain_of, prefix_name, link_in}
 use Rattle.pool_model.specs.Legal.{IsLegalEvent}
 use Rattle.errand_steps.specs.Openings.{installed, link_at, full_credits, full_anchor, IsOpening}
 use Rattle.errand_steps.specs.Steps.{State}

@@ -9,7 +9,7 @@ use Rattle.word_plan.specs.declared.name.WordName.TheVariants as name
 use Rattle.word_plan.specs.Counts.{descriptor_count}
 use Rattle.word_plan.specs.Table.{exists}
 use Rattle.word_plan.proofs.CountLemmas.{descriptor_count_within}
-use Rattle.superblock_parts.specs.Chains.{occurs}
+use Rattle.word_plan.specs.Occurs.{occurs}
 use Rattle.pool_model.specs.Legal.{IsLegalEvent}
 use Rattle.errand_steps.specs.Openings.{opening, IsOpening}
 use Rattle.errand_steps.specs.Steps.{State}

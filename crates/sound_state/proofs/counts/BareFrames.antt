@@ -16,8 +16,8 @@ use Rattle.word_plan.specs.declared.name.WordName.{WordName}
 use Rattle.word_plan.specs.declared.name.WordName.TheVariants as name
 use Rattle.word_plan.specs.declared.seat.Site.{Site}
 use Rattle.word_plan.specs.Counts.{descriptor_count}
+use Rattle.word_plan.specs.Occurs.{occurs}
 use Rattle.superblock_parts.specs.Anchors.{new_credits}
-use Rattle.superblock_parts.specs.Chains.{occurs}
 use Rattle.superblock_parts.specs.declared.point.BlockPoint.{BlockPoint}
 use Rattle.superblock_parts.specs.declared.point.BlockPoint.TheVariants as block
 use Rattle.superblock_parts.specs.declared.point.Share.{Share}

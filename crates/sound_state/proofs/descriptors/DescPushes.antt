@@ -10,7 +10,7 @@ use Rattle.word_plan.specs.Actions.{name_of, after_action}
 use Rattle.word_plan.specs.Counts.{descriptor_count}
 use Rattle.word_plan.specs.Seats.{SeatFields}
 use Rattle.word_plan.specs.Words.{Writes}
-use Rattle.superblock_parts.specs.Chains.{occurs}
+use Rattle.word_plan.specs.Occurs.{occurs}
 use Rattle.superblock_parts.specs.declared.point.BlockPoint.TheVariants as block
 use Rattle.stack_parts.specs.declared.point.Pile.TheVariants.{Partials}
 use Rattle.stack_parts.specs.Stacks.{Stacked, next_in}

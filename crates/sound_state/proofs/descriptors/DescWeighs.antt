@@ -9,7 +9,7 @@ use Rattle.word_plan.specs.Counts.{descriptor_count}
 use Rattle.word_plan.specs.Table.{Exists}
 use Rattle.word_plan.specs.Words.{Writes}
 use Rattle.word_plan.proofs.NameLemmas.{cases_name}
-use Rattle.superblock_parts.specs.Chains.{occurs}
+use Rattle.word_plan.specs.Occurs.{occurs}
 use Rattle.stack_parts.specs.declared.point.Pile.TheVariants.{Partials}
 use Rattle.stack_parts.specs.Stacks.{Stacked, next_in}
 use Rattle.errand_steps.specs.Errands.{ErrandFields}

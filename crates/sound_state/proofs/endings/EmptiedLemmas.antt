@@ -6,9 +6,9 @@ use Rattle.std.proofs.lemmas.List.Elements.{All-head}
 use Rattle.heap_geometry.specs.declared.geometry.Geometry.{Geometry}
 use Rattle.word_plan.specs.declared.seat.Site.{Site}
 use Rattle.word_plan.specs.Counts.{descriptor_count}
+use Rattle.word_plan.specs.Occurs.{occurs}
 use Rattle.partial_parts.specs.Grants.{is_empty}
 use Rattle.partial_parts.specs.declared.point.PartialPoint.TheVariants as partial
-use Rattle.superblock_parts.specs.Chains.{occurs}
 use Rattle.errand_steps.specs.declared.next.Next.TheVariants.{Retire}
 use Rattle.errand_steps.specs.declared.onward.Onward.{Onward}
 use Rattle.errand_steps.specs.declared.onward.Onward.TheVariants as onward

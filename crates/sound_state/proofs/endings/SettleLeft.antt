@@ -11,7 +11,7 @@ use Rattle.word_plan.specs.declared.action.Found.{Found}
 use Rattle.word_plan.specs.declared.name.WordName.TheVariants as name
 use Rattle.word_plan.specs.Counts.{descriptor_count}
 use Rattle.word_plan.specs.Seats.{SeatFields}
-use Rattle.superblock_parts.specs.Chains.{occurs}
+use Rattle.word_plan.specs.Occurs.{occurs}
 use Rattle.superblock_parts.specs.Points.{settle_block_of}
 use Rattle.stack_parts.specs.Points.{settle_stack_of}
 use Rattle.hazard_parts.specs.declared.point.DescPoint.{DescPoint}

@@ -10,7 +10,7 @@ use Rattle.word_plan.specs.Actions.{after_action}
 use Rattle.word_plan.specs.Counts.{descriptor_count}
 use Rattle.word_plan.specs.Seats.{SeatFields}
 use Rattle.word_plan.proofs.NameLemmas.{cases_name}
-use Rattle.superblock_parts.specs.Chains.{occurs}
+use Rattle.word_plan.specs.Occurs.{occurs}
 use Rattle.superblock_parts.proofs.ChainLemmas.{occurs-here, occurs-more}
 use Rattle.stack_parts.specs.Stacks.{Stacked, next_in}
 use Rattle.stack_parts.specs.declared.point.Pile.TheVariants.{Partials}

@@ -8,7 +8,6 @@ use Rattle.word_plan.specs.declared.name.WordName.{WordName}
 use Rattle.word_plan.specs.declared.name.WordName.TheVariants as name
 use Rattle.word_plan.specs.Actions.{name_of, after_action}
 use Rattle.word_plan.specs.Words.{Writes}
-use Rattle.superblock_parts.specs.Chains.{occurs}
 use Rattle.errand_steps.specs.declared.next.Next.TheVariants.{At, End, Pick}
 use Rattle.errand_steps.specs.declared.onward.Onward.{Onward}
 use Rattle.errand_steps.specs.declared.point.Point.{Point}
@@ -17,6 +16,7 @@ use Rattle.errand_steps.specs.declared.reply.Reply.{Reply}
 use Rattle.hazard_parts.specs.declared.point.DescPoint.TheVariants as desc
 use Rattle.hazard_parts.specs.Retired.{first_unheld}
 use Rattle.word_plan.specs.Seats.{SeatFields}
+use Rattle.word_plan.specs.Occurs.{occurs}
 use Rattle.errand_steps.specs.Errands.{ErrandFields, counts_cleared, settle_of, course_of}
 use Rattle.errand_steps.specs.Events.{event_of}
 use Rattle.errand_steps.specs.Fits.{spare_of, pushed_by}

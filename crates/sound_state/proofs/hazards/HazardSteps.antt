@@ -15,8 +15,8 @@ use Rattle.heap_geometry.specs.declared.geometry.Geometry.{Geometry}
 use Rattle.word_plan.specs.declared.name.WordName.TheVariants as name
 use Rattle.word_plan.specs.declared.seat.Site.{Site}
 use Rattle.word_plan.specs.Seats.{SeatFields}
+use Rattle.word_plan.specs.Occurs.{occurs}
 use Rattle.packed_words.specs.Anchor.{AnchorFields}
-use Rattle.superblock_parts.specs.Chains.{occurs}
 use Rattle.superblock_parts.specs.declared.point.BlockPoint.TheVariants as block
 use Rattle.stack_parts.specs.Stacks.{Stacked, next_in}
 use Rattle.stack_parts.specs.declared.point.Pile.TheVariants.{Frames, Partials}

@@ -8,8 +8,8 @@ use Rattle.packed_words.specs.Anchor.{anchor_of}
 use Rattle.word_plan.specs.declared.name.WordName.TheVariants as name
 use Rattle.word_plan.specs.declared.seat.Site.{Site}
 use Rattle.word_plan.specs.Sites.{active_name}
+use Rattle.word_plan.specs.Occurs.{occurs}
 use Rattle.superblock_parts.specs.Anchors.{new_credits}
-use Rattle.superblock_parts.specs.Chains.{occurs}
 use Rattle.pool_model.specs.Pool.{block_at, fresh_block, pool_of}
 use Rattle.errand_steps.specs.Errands.{ErrandFields}
 use Rattle.errand_steps.specs.Steps.{State}

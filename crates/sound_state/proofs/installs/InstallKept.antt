@@ -10,8 +10,8 @@ use Rattle.word_plan.specs.Counts.{descriptor_count}
 use Rattle.word_plan.specs.declared.seat.Site.{Site}
 use Rattle.word_plan.specs.Seats.{heap_of}
 use Rattle.word_plan.specs.Sites.{active_name}
+use Rattle.word_plan.specs.Occurs.{occurs}
 use Rattle.superblock_parts.specs.Anchors.{new_credits}
-use Rattle.superblock_parts.specs.Chains.{occurs}
 use Rattle.errand_steps.specs.Errands.{ErrandFields}
 use Rattle.errand_steps.specs.Steps.{State}
 use Rattle.sound_state.specs.Frames.{IsFramed, errand_frames, fills_frame}

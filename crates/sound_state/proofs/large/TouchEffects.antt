@@ -17,7 +17,8 @@ use Rattle.word_plan.specs.declared.name.WordName.TheVariants as name
 use Rattle.word_plan.specs.Counts.{descriptor_count, word_count}
 use Rattle.word_plan.specs.Seats.{SeatFields, info_in}
 use Rattle.word_plan.specs.Table.{word_name}
-use Rattle.superblock_parts.specs.Chains.{occurs, chain_of, prefix_name, link_in}
+use Rattle.word_plan.specs.Occurs.{occurs}
+use Rattle.superblock_parts.specs.Chains.{chain_of, prefix_name, link_in}
 use Rattle.superblock_parts.proofs.ChainLemmas.{chain_of-same}
 use Rattle.stack_parts.specs.declared.point.Pile.{Pile}
 use Rattle.stack_parts.specs.declared.point.Pile.TheVariants.{Frames, Partials}

@@ -11,7 +11,8 @@ use Rattle.word_plan.specs.declared.name.WordName.{WordName}
 use Rattle.word_plan.specs.declared.name.WordName.TheVariants as name
 use Rattle.word_plan.specs.declared.seat.Site.{Site}
 use Rattle.word_plan.specs.Counts.{descriptor_count}
-use Rattle.superblock_parts.specs.Chains.{occurs, chain_of, prefix_name, link_in}
+use Rattle.word_plan.specs.Occurs.{occurs}
+use Rattle.superblock_parts.specs.Chains.{chain_of, prefix_name, link_in}
 use Rattle.superblock_parts.specs.Fits.{FitsBlock}
 use Rattle.superblock_parts.proofs.ChainLemmas.{chain_of-same}
 use Rattle.superblock_parts.specs.declared.point.BlockPoint.{BlockPoint}

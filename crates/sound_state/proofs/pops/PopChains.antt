@@ -4,8 +4,9 @@ use Rattle.std.specs.Prelude.{IsTrue}
 use Rattle.heap_geometry.specs.declared.geometry.Geometry.{Geometry}
 use Rattle.packed_words.specs.Anchor.{AnchorFields}
 use Rattle.word_plan.specs.declared.seat.Site.{Site}
+use Rattle.word_plan.specs.Occurs.{occurs}
 use Rattle.superblock_parts.specs.Anchors.{taken_off, more_of}
-use Rattle.superblock_parts.specs.Chains.{occurs, chain_of}
+use Rattle.superblock_parts.specs.Chains.{chain_of}
 use Rattle.superblock_parts.specs.declared.point.Share.{Share}
 use Rattle.superblock_parts.specs.declared.point.Share.TheVariants.{Credit, LastCredit, Grant}
 use Rattle.superblock_parts.proofs.ChainLemmas.{chain_of-first, occurs-here, occurs-more}

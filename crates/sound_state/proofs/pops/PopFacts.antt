@@ -10,8 +10,9 @@ use Rattle.partial_parts.specs.Grants.{is_empty}
 use Rattle.word_plan.specs.declared.name.WordName.{WordName}
 use Rattle.word_plan.specs.declared.name.WordName.TheVariants as name
 use Rattle.word_plan.specs.declared.seat.Site.{Site}
+use Rattle.word_plan.specs.Occurs.{occurs}
 use Rattle.superblock_parts.specs.Anchors.{taken_off, popped_state, more_of}
-use Rattle.superblock_parts.specs.Chains.{occurs, chain_of}
+use Rattle.superblock_parts.specs.Chains.{chain_of}
 use Rattle.superblock_parts.specs.declared.point.Share.{Share}
 use Rattle.superblock_parts.specs.declared.point.Share.TheVariants.{Credit, LastCredit, Grant}
 use Rattle.superblock_parts.proofs.ChainLemmas.{chain_of-first, occurs-here}

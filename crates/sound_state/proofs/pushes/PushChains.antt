@@ -8,7 +8,8 @@ use Rattle.heap_geometry.specs.Place.{block_place}
 use Rattle.packed_words.specs.Anchor.{AnchorFields}
 use Rattle.word_plan.specs.Counts.{descriptor_count}
 use Rattle.word_plan.specs.declared.seat.Site.{Site}
-use Rattle.superblock_parts.specs.Chains.{occurs, chain_of}
+use Rattle.word_plan.specs.Occurs.{occurs}
+use Rattle.superblock_parts.specs.Chains.{chain_of}
 use Rattle.superblock_parts.proofs.ChainLemmas.{chain_of-first}
 use Rattle.errand_steps.specs.Errands.{ErrandFields}
 use Rattle.errand_steps.specs.Steps.{State}

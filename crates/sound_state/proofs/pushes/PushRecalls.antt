@@ -10,7 +10,7 @@ use Rattle.heap_geometry.specs.Need.{block_count_of}
 use Rattle.heap_geometry.specs.Place.{block_place}
 use Rattle.packed_words.specs.Anchor.{AnchorFields}
 use Rattle.word_plan.specs.declared.seat.Site.{Site}
-use Rattle.superblock_parts.specs.Chains.{occurs}
+use Rattle.word_plan.specs.Occurs.{occurs}
 use Rattle.superblock_parts.proofs.ChainLemmas.{occurs-more}
 use Rattle.partial_parts.specs.Grants.{is_empty}
 use Rattle.pool_model.specs.declared.event.Event.TheVariants.{Free}

@@ -14,7 +14,7 @@ use Rattle.word_plan.specs.Words.{Writes}
 use Rattle.word_plan.specs.Seats.{SeatFields}
 use Rattle.word_plan.proofs.NameLemmas.{cases_name}
 use Rattle.word_plan.proofs.CountLemmas.{descriptor_count_within}
-use Rattle.superblock_parts.specs.Chains.{occurs}
+use Rattle.word_plan.specs.Occurs.{occurs}
 use Rattle.stack_parts.specs.declared.point.Pile.{Pile}
 use Rattle.stack_parts.specs.declared.point.Pile.TheVariants.{Frames, Partials}
 use Rattle.stack_parts.specs.declared.point.StackPoint.TheVariants as stack

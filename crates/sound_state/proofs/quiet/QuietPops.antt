@@ -7,7 +7,8 @@ use Rattle.packed_words.specs.Info.{InfoFields, info_of}
 use Rattle.word_plan.specs.declared.name.WordName.TheVariants as name
 use Rattle.word_plan.specs.declared.seat.Site.{Site}
 use Rattle.word_plan.specs.Seats.{SeatFields, info_in, info_within, anchor_in}
-use Rattle.superblock_parts.specs.Chains.{occurs, chain_of, prefix_name}
+use Rattle.word_plan.specs.Occurs.{occurs}
+use Rattle.superblock_parts.specs.Chains.{chain_of, prefix_name}
 use Rattle.superblock_parts.specs.declared.point.BlockPoint.TheVariants as block
 use Rattle.superblock_parts.specs.declared.point.Share.{Share}
 use Rattle.superblock_parts.specs.declared.point.Share.TheVariants.{Credit, LastCredit, Grant}

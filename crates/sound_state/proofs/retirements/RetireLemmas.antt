@@ -11,12 +11,12 @@ use Rattle.word_plan.specs.declared.action.Found.{Found}
 use Rattle.word_plan.specs.declared.name.WordName.{WordName}
 use Rattle.word_plan.specs.declared.name.WordName.TheVariants as name
 use Rattle.word_plan.specs.Counts.{descriptor_count}
-use Rattle.superblock_parts.specs.Chains.{occurs}
 use Rattle.word_plan.specs.Actions.{name_of, after_action}
 use Rattle.word_plan.specs.Seats.{SeatFields}
 use Rattle.word_plan.specs.Table.{Exists}
 use Rattle.word_plan.specs.Words.{Writes}
 use Rattle.word_plan.proofs.NameLemmas.{cases_name}
+use Rattle.word_plan.specs.Occurs.{occurs}
 use Rattle.pool_model.specs.declared.event.Event.{Event}
 use Rattle.pool_model.specs.Legal.{IsLegalWithoutCounts}
 use Rattle.hazard_parts.specs.declared.point.DescPoint.TheVariants as desc

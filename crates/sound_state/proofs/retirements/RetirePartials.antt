@@ -8,8 +8,7 @@ use Rattle.word_plan.specs.Seats.{SeatFields}
 use Rattle.hazard_parts.specs.declared.point.DescPoint.TheVariants as desc
 use Rattle.partial_parts.specs.declared.point.PartialPoint.TheVariants as partial
 use Rattle.partial_parts.specs.Grants.{is_empty}
-use Rattle.partial_parts.specs.Fits.{IsDescOf}
-use Rattle.word_plan.specs.Sites.{IsSiteOf}
+use Rattle.word_plan.specs.Sites.{IsSiteOf, IsDescOf}
 use Rattle.errand_steps.specs.declared.onward.Onward.TheVariants.{Alloc, Look, EndFree, Clear, Retire}
 use Rattle.errand_steps.specs.declared.point.Point.TheVariants.{Idle, Desc, Partial}
 use Rattle.errand_steps.specs.declared.reply.Reply.TheVariants as reply

@@ -8,7 +8,7 @@ use Rattle.heap_geometry.specs.declared.need.Need.TheVariants.{Small, Large, Too
 use Rattle.heap_geometry.specs.declared.need.Need.{Need}
 use Rattle.word_plan.specs.Counts.{descriptor_count}
 use Rattle.word_plan.specs.declared.seat.Site.{Site}
-use Rattle.superblock_parts.specs.Chains.{occurs}
+use Rattle.word_plan.specs.Occurs.{occurs}
 use Rattle.pool_model.proofs.PoolLemmas.{place-found}
 use Rattle.pool_model.proofs.WellFormedLemmas.{large-frame}
 use Rattle.pool_model.specs.Pool.{Block, pool_of}

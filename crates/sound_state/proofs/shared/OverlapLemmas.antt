@@ -8,7 +8,7 @@ use Rattle.heap_geometry.specs.Need.{block_count_of}
 use Rattle.heap_geometry.specs.Place.{IsApart, block_place, frame_of}
 use Rattle.heap_geometry.proofs.PlaceLemmas.{frame_of-block_place}
 use Rattle.word_plan.specs.Counts.{descriptor_count}
-use Rattle.superblock_parts.specs.Chains.{occurs}
+use Rattle.word_plan.specs.Occurs.{occurs}
 use Rattle.pool_model.specs.Pool.{Block, block_at, span_of, pool_of}
 use Rattle.pool_model.specs.WellFormed.{IsPlaceFor, IsWellFormed}
 use Rattle.pool_model.proofs.PoolLemmas.{place-found, every-found}

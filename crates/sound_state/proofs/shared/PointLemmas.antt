@@ -16,7 +16,7 @@ use Rattle.word_plan.specs.Table.{Exists}
 use Rattle.word_plan.specs.Words.{Writes}
 use Rattle.word_plan.proofs.NameLemmas.{cases_name}
 use Rattle.word_plan.specs.declared.seat.Site.{Site}
-use Rattle.superblock_parts.specs.Chains.{occurs}
+use Rattle.word_plan.specs.Occurs.{occurs}
 use Rattle.hazard_parts.specs.declared.point.DescPoint.TheVariants as desc
 use Rattle.errand_steps.specs.declared.onward.Onward.{Onward}
 use Rattle.errand_steps.specs.declared.onward.Onward.TheVariants as onward

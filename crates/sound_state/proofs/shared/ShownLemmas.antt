@@ -21,12 +21,13 @@ use Rattle.word_plan.specs.declared.name.WordName.{WordName}
 use Rattle.word_plan.specs.declared.name.WordName.TheVariants as name
 use Rattle.word_plan.specs.Counts.{descriptor_count}
 use Rattle.word_plan.specs.Seats.{info_in}
-use Rattle.superblock_parts.specs.Chains.{occurs, prefix_name, link_in}
+use Rattle.superblock_parts.specs.Chains.{prefix_name, link_in}
 use Rattle.stack_parts.specs.declared.point.Pile.{Pile}
 use Rattle.stack_parts.specs.declared.point.Pile.TheVariants.{Frames, Partials}
 use Rattle.stack_parts.specs.Piles.{head_name, next_name}
 use Rattle.stack_parts.specs.Stacks.{Stacked, next_in}
 use Rattle.word_plan.specs.Seats.{SeatFields}
+use Rattle.word_plan.specs.Occurs.{occurs}
 use Rattle.pool_model.specs.declared.event.Event.TheVariants.{Looked}
 use Rattle.pool_model.specs.Histories.{own, EndsWith}
 use Rattle.pool_model.specs.Pool.{Block, block_at, pool_of}

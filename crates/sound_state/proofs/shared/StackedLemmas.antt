@@ -7,7 +7,7 @@ use Rattle.heap_geometry.specs.declared.geometry.Geometry.{Geometry}
 use Rattle.heap_geometry.specs.declared.limits.TheConstants.{CLASSES}
 use Rattle.packed_words.specs.Head.{head_of}
 use Rattle.word_plan.specs.Seats.{SeatFields}
-use Rattle.superblock_parts.specs.Chains.{occurs}
+use Rattle.word_plan.specs.Occurs.{occurs}
 use Rattle.stack_parts.specs.Piles.{head_name, pile_limit}
 use Rattle.stack_parts.specs.Stacks.{Stacked, next_in}
 use Rattle.stack_parts.specs.declared.point.Pile.TheVariants.{Frames, Partials}

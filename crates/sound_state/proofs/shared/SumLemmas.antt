@@ -8,7 +8,7 @@ use Rattle.word_plan.specs.Counts.{word_count}
 use Rattle.word_plan.specs.Table.{Exists, word_index, word_name}
 use Rattle.word_plan.specs.Words.{Writes}
 use Rattle.word_plan.proofs.TableLemmas.{word_index-within, word_name-word_index, word_index-word_name}
-use Rattle.superblock_parts.specs.Chains.{occurs}
+use Rattle.word_plan.specs.Occurs.{occurs}
 use Rattle.errand_steps.specs.Errands.{ErrandFields}
 use Rattle.errand_steps.specs.Steps.{Moves}
 use Rattle.sound_state.specs.Sums.{sum_below, words_sum, callers_sum}

@@ -18,8 +18,9 @@ use Rattle.word_plan.specs.Seats.{info_in}
 use Rattle.word_plan.specs.Sites.{IsSiteOf}
 use Rattle.word_plan.specs.Table.{word_name}
 use Rattle.word_plan.proofs.NameLemmas.{cases_name}
+use Rattle.word_plan.specs.Occurs.{occurs}
 use Rattle.superblock_parts.proofs.ChainLemmas.{occurs-here}
-use Rattle.superblock_parts.specs.Chains.{occurs, link_in, prefix_name}
+use Rattle.superblock_parts.specs.Chains.{link_in, prefix_name}
 use Rattle.pool_model.specs.declared.event.Event.{Event}
 use Rattle.pool_model.specs.declared.event.Event.TheVariants.{Alloc}
 use Rattle.pool_model.specs.Pool.{block_at, fresh_block, pool_of}

@@ -7,7 +7,7 @@ use Rattle.heap_geometry.specs.declared.limits.TheConstants.{CLASSES}
 use Rattle.word_plan.specs.Counts.{descriptor_count}
 use Rattle.word_plan.specs.Table.{Exists}
 use Rattle.word_plan.specs.declared.name.WordName.{WordName}
-use Rattle.superblock_parts.specs.Chains.{occurs}
+use Rattle.word_plan.specs.Occurs.{occurs}
 use Rattle.errand_steps.specs.Steps.{State}
 use Rattle.sound_state.specs.Holdings.{Status, reserving, waiting, partly_used, on_its_way}
 use Rattle.sound_state.specs.Keepers.{errand_has, word_keeps, full_keeps}

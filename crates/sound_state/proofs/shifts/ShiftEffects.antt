@@ -10,7 +10,7 @@ use Rattle.word_plan.specs.declared.name.WordName.{WordName}
 use Rattle.word_plan.specs.declared.name.WordName.TheVariants as name
 use Rattle.word_plan.specs.declared.seat.Site.{Site}
 use Rattle.word_plan.specs.Sites.{IsSiteOf}
-use Rattle.superblock_parts.specs.Chains.{occurs}
+use Rattle.word_plan.specs.Occurs.{occurs}
 use Rattle.errand_steps.specs.Errands.{ErrandFields}
 use Rattle.errand_steps.specs.Steps.{State, Moves}
 use Rattle.sound_state.specs.Holdings.{waiting, on_its_way, clear, holds_of}

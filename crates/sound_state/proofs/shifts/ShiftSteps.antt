@@ -22,8 +22,8 @@ use Rattle.word_plan.specs.declared.name.WordName.TheVariants as name
 use Rattle.word_plan.specs.declared.seat.Site.{Site}
 use Rattle.word_plan.specs.Seats.{heap_of}
 use Rattle.word_plan.proofs.SeatLemmas.{block_count_of-most}
+use Rattle.word_plan.specs.Occurs.{occurs}
 use Rattle.superblock_parts.specs.Anchors.{returned}
-use Rattle.superblock_parts.specs.Chains.{occurs}
 use Rattle.superblock_parts.specs.declared.point.BlockPoint.TheVariants as block
 use Rattle.superblock_parts.specs.declared.point.Share.TheVariants.{Grant}
 use Rattle.errand_steps.specs.declared.onward.Onward.{Onward}

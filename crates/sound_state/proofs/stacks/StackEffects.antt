@@ -8,7 +8,7 @@ use Rattle.packed_words.specs.Head.{head_of}
 use Rattle.word_plan.specs.declared.name.WordName.{WordName}
 use Rattle.word_plan.specs.declared.name.WordName.TheVariants as name
 use Rattle.word_plan.specs.Seats.{SeatFields}
-use Rattle.superblock_parts.specs.Chains.{occurs}
+use Rattle.word_plan.specs.Occurs.{occurs}
 use Rattle.stack_parts.specs.declared.point.Pile.{Pile}
 use Rattle.stack_parts.specs.Piles.{head_name}
 use Rattle.errand_steps.specs.Errands.{ErrandFields}

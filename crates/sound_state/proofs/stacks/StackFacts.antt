@@ -18,7 +18,7 @@ use Rattle.packed_words.specs.Prefix.{link_of}
 use Rattle.word_plan.specs.declared.name.WordName.{WordName}
 use Rattle.word_plan.specs.declared.name.WordName.TheVariants as name
 use Rattle.word_plan.specs.Counts.{descriptor_count}
-use Rattle.superblock_parts.specs.Chains.{occurs, prefix_name, link_in}
+use Rattle.superblock_parts.specs.Chains.{prefix_name, link_in}
 use Rattle.superblock_parts.specs.declared.point.BlockPoint.{BlockPoint}
 use Rattle.stack_parts.specs.declared.point.StackPoint.{StackPoint}
 use Rattle.stack_parts.specs.declared.point.StackPoint.TheVariants as stack
@@ -32,6 +32,7 @@ use Rattle.stack_parts.specs.declared.point.Pile.{Pile}
 use Rattle.stack_parts.specs.declared.point.Pile.TheVariants.{Frames, Partials}
 use Rattle.stack_parts.specs.Piles.{head_name, next_name}
 use Rattle.word_plan.specs.Seats.{SeatFields, info_in}
+use Rattle.word_plan.specs.Occurs.{occurs}
 use Rattle.pool_model.specs.declared.event.Event.TheVariants.{Looked}
 use Rattle.pool_model.specs.Histories.{own, EndsWith}
 use Rattle.pool_model.specs.Pool.{block_at, pool_of}

@@ -11,7 +11,6 @@ use Rattle.word_plan.specs.declared.name.WordName.{WordName}
 use Rattle.word_plan.specs.declared.name.WordName.TheVariants as name
 use Rattle.word_plan.specs.Seats.{SeatFields}
 use Rattle.word_plan.specs.Words.{Writes}
-use Rattle.superblock_parts.specs.Chains.{occurs}
 use Rattle.superblock_parts.specs.declared.point.BlockPoint.TheVariants as block
 use Rattle.stack_parts.specs.declared.point.Pile.{Pile}
 use Rattle.stack_parts.specs.declared.point.Pile.TheVariants.{Frames, Partials}
@@ -26,6 +25,7 @@ use Rattle.errand_steps.specs.declared.point.Point.TheVariants.{Idle, Block, Sta
 use Rattle.word_plan.specs.declared.action.Found.{Found}
 use Rattle.word_plan.specs.Actions.{name_of, after_action}
 use Rattle.word_plan.proofs.NameLemmas.{cases_name}
+use Rattle.word_plan.specs.Occurs.{occurs}
 use Rattle.hazard_parts.specs.declared.limits.TheConstants.{HELD_MOST}
 use Rattle.packed_words.specs.declared.anchor.State.TheVariants as phase
 use Rattle.errand_steps.specs.Errands.{ErrandFields, IsErrand, settle_of, course_of, plan_of, raised, one_more, is_full, is_spent, no_words, counts_won, counts_lost, counts_cleared}

@@ -14,7 +14,8 @@ use Rattle.word_plan.specs.declared.name.WordName.TheVariants as name
 use Rattle.word_plan.specs.declared.seat.Site.{Site}
 use Rattle.word_plan.specs.Counts.{descriptor_count}
 use Rattle.word_plan.specs.Words.{Writes}
-use Rattle.superblock_parts.specs.Chains.{occurs, prefix_name}
+use Rattle.word_plan.specs.Occurs.{occurs}
+use Rattle.superblock_parts.specs.Chains.{prefix_name}
 use Rattle.superblock_parts.specs.declared.point.BlockPoint.TheVariants as block
 use Rattle.pool_model.specs.Pool.{Block, block_at, pool_of}
 use Rattle.pool_model.specs.WellFormed.{IsPlaceFor, IsWellFormed}

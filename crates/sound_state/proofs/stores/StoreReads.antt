@@ -13,7 +13,8 @@ use Rattle.word_plan.specs.declared.seat.Site.{Site}
 use Rattle.word_plan.specs.Counts.{descriptor_count}
 use Rattle.word_plan.specs.Seats.{SeatFields, info_in}
 use Rattle.word_plan.specs.Words.{Writes}
-use Rattle.superblock_parts.specs.Chains.{occurs, prefix_name}
+use Rattle.word_plan.specs.Occurs.{occurs}
+use Rattle.superblock_parts.specs.Chains.{prefix_name}
 use Rattle.superblock_parts.specs.Fits.{FitsBlock}
 use Rattle.superblock_parts.specs.declared.point.BlockPoint.{BlockPoint}
 use Rattle.superblock_parts.specs.declared.point.BlockPoint.TheVariants as block

@@ -10,7 +10,7 @@ ghost use Rattle.packed_words.specs.Head.{head_of};
 ghost use Rattle.word_plan.specs.declared.name.WordName.TheVariants as name;
 ghost use Rattle.word_plan.specs.Counts.{descriptor_count};
 ghost use Rattle.word_plan.specs.Seats.{SeatFields};
-ghost use Rattle.superblock_parts.specs.Chains.{occurs};
+ghost use Rattle.word_plan.specs.Occurs.{occurs};
 ghost use Rattle.pool_model.specs.Pool.{Block, block_at, span_of, pool_of};
 ghost use Rattle.hazard_parts.specs.declared.point.DescPoint.TheVariants.{LoadDescHead};
 ghost use Rattle.errand_steps.specs.declared.onward.Onward.{Onward};
