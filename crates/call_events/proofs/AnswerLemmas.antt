@@ -21,10 +21,10 @@ use Rattle.call_events.proofs.LeadsDefs.{outcome_of, SoFarAt}
 
 -- a call that goes on stands at a point
 goes-at :
-    (who : ℕ) (call : Call) (n : Next) (es : List Event) → SoFarAt who call (outcome_of n) es → is_idle (point_after n) ≡ false
-    → IsUnderWay who call (point_after n) es
-goes-at who call (next.At p) es so busy = so
-goes-at who call n es so busy = absurd (true≢false busy)
+    (caller : ℕ) (call : Call) (n : Next) (es : List Event) → SoFarAt caller call (outcome_of n) es → is_idle (point_after n) ≡ false
+    → IsUnderWay caller call (point_after n) es
+goes-at caller call (next.At p) es so busy = so
+goes-at caller call n es so busy = absurd (true≢false busy)
 
 pub step-goes_on :
     (e : ErrandFields) (x : Found) (call : Call) (es : List Event) → IsErrand e → x.value < 2 ^ 64

@@ -10,7 +10,7 @@ use Rattle.hazard_parts.specs.Retired.{first_unheld}
 use Rattle.pool_model.specs.declared.event.Event.{Event}
 use Rattle.errand_steps.specs.declared.next.Next.{Next}
 use Rattle.errand_steps.specs.declared.next.Next.TheVariants as next
-use Rattle.errand_steps.specs.declared.onward.Onward.{Onward}
+use Rattle.errand_steps.specs.declared.continuation.Continuation.{Continuation}
 use Rattle.errand_steps.specs.declared.point.Point.{Point}
 use Rattle.errand_steps.specs.declared.point.Point.TheVariants as point
 use Rattle.errand_steps.specs.declared.reply.Reply.TheVariants as reply
@@ -19,12 +19,12 @@ use Rattle.errand_steps.specs.Errands.{ErrandFields, IsErrand, plan_of, after_li
 use Rattle.errand_steps.specs.Events.{event_of}
 use Rattle.errand_steps.specs.Fits.{FitsPoint, spare_of, pushed_by}
 use Rattle.errand_steps.specs.Nexts.{next_of, resumed}
-use Rattle.errand_steps.specs.Onwards.{resumes}
+use Rattle.errand_steps.specs.Continuations.{resumes}
 use Rattle.errand_steps.specs.Points.{plan_point_of}
 use Rattle.errand_steps.specs.Steps.{with_event}
 use Rattle.errand_steps.proofs.NextLemmas.{Follows}
 use Rattle.errand_steps.proofs.StepLemmas.{follows-next}
-use Rattle.call_events.specs.Stages.{asking, stage_of, onward_stage}
+use Rattle.call_events.specs.Stages.{asking, stage_of, continuation_stage}
 use Rattle.call_events.specs.UnderWay.{SoFar}
 use Rattle.call_events.proofs.BlockEvents.{block-leads}
 use Rattle.call_events.proofs.LargeEvents.{large-leads}
@@ -34,62 +34,62 @@ use Rattle.call_events.proofs.SoFarLemmas.{so-leads}
 
 -- each part's point leads on
 point-leads :
-    (g : Geometry) (who : ℕ) (p : Point) (x : Found) → FitsPoint g who p → x.won ≡ is_won (plan_point_of p) x.value
-    → Leads who (stage_of p) (event_of who p x) (outcome_of (next_of p x))
+    (g : Geometry) (caller : ℕ) (p : Point) (x : Found) → FitsPoint g caller p → x.won ≡ is_won (plan_point_of p) x.value
+    → Leads caller (stage_of p) (event_of caller p x) (outcome_of (next_of p x))
 unfolding plan_point_of event_of
-point-leads g who point.Idle x fits won = grind (arith)
-point-leads g who (point.Block p o) x fits won = block-leads who p o x fits.goes fits.inside
-point-leads g who (point.Stack p o) x fits won = stack-leads who p o x fits.goes fits.inside
-point-leads g who (point.Desc p o) x fits won = desc-leads who p o x fits.goes fits.inside
-point-leads g who (point.Partial p o) x fits won = partial-leads who p o x fits.goes fits.inside
-point-leads g who (point.Large p o) x fits won = large-leads who p o x fits.goes fits.inside won
+point-leads g caller point.Idle x fits won = grind (arith)
+point-leads g caller (point.Block p o) x fits won = block-leads caller p o x fits.goes fits.inside
+point-leads g caller (point.Stack p o) x fits won = stack-leads caller p o x fits.goes fits.inside
+point-leads g caller (point.Desc p o) x fits won = desc-leads caller p o x fits.goes fits.inside
+point-leads g caller (point.Partial p o) x fits won = partial-leads caller p o x fits.goes fits.inside
+point-leads g caller (point.Large p o) x fits won = large-leads caller p o x fits.goes fits.inside won
 
 -- a retirement leads to a scan, and to what is resumed
-scan-leads : (who : ℕ) (s : SeatFields) (o : Onward) → IsTrue (resumes o) → Leads who (onward_stage false s o) None (still (onward_stage true s o))
-scan-leads who s o goes = grind (arith)
+scan-leads : (caller : ℕ) (s : SeatFields) (o : Continuation) → IsTrue (resumes o) → Leads caller (continuation_stage false s o) None (still (continuation_stage true s o))
+scan-leads caller s o goes = grind (arith)
 
 resumed-leads :
-    (e : ErrandFields) (who : ℕ) (s : SeatFields) (o : Onward) → IsTrue (resumes o)
-    → Leads who (onward_stage false s o) None (outcome_of (after_turn e (resumed s o)))
-resumed-leads e who s o goes = grind (arith)
+    (e : ErrandFields) (caller : ℕ) (s : SeatFields) (o : Continuation) → IsTrue (resumes o)
+    → Leads caller (continuation_stage false s o) None (outcome_of (after_turn e (resumed s o)))
+resumed-leads e caller s o goes = grind (arith)
 
 -- a scan picks at a point that adds no event
-pick-none : (who : ℕ) (p : Point) (x : Found) (s : SeatFields) (held : List ℕ) (o : Onward) → next_of p x ≡ next.Pick s held o → event_of who p x ≡ None
+pick-none : (caller : ℕ) (p : Point) (x : Found) (s : SeatFields) (held : List ℕ) (o : Continuation) → next_of p x ≡ next.Pick s held o → event_of caller p x ≡ None
 unfolding next_of event_of
-pick-none who point.Idle x s held o is = grind (arith)
-pick-none who (point.Block p q) x s held o is = grind (arith)
-pick-none who (point.Stack p q) x s held o is = grind (arith)
-pick-none who (point.Desc p q) x s held o is = grind (arith)
-pick-none who (point.Partial p q) x s held o is = grind (arith)
-pick-none who (point.Large p q) x s held o is = grind (arith)
+pick-none caller point.Idle x s held o is = grind (arith)
+pick-none caller (point.Block p q) x s held o is = grind (arith)
+pick-none caller (point.Stack p q) x s held o is = grind (arith)
+pick-none caller (point.Desc p q) x s held o is = grind (arith)
+pick-none caller (point.Partial p q) x s held o is = grind (arith)
+pick-none caller (point.Large p q) x s held o is = grind (arith)
 
 -- the events stand, whatever the list and the limit make of it
 so-course :
-    (e : ErrandFields) (who : ℕ) (call : Call) (spare : ℕ) (pushed : Option ℕ) (n : Next) (es : List Event)
-    → Follows e.geometry e.caller spare pushed n → SoFarAt who call (outcome_of n) es
-    → ((s : SeatFields) (held : List ℕ) (o : Onward) → n ≡ next.Pick s held o → SoFar who call (stage_of e.point) es)
-    → SoFarAt who call (outcome_of (after_turn e (after_list e n))) es
-so-course e who call spare pushed (next.At p) es follows so stays = so
-so-course e who call spare pushed (next.End r) es follows so stays = so
-so-course e who call spare pushed (next.Turn s w) es follows so stays =
+    (e : ErrandFields) (caller : ℕ) (call : Call) (spare : ℕ) (pushed : Option ℕ) (n : Next) (es : List Event)
+    → Follows e.geometry e.caller spare pushed n → SoFarAt caller call (outcome_of n) es
+    → ((s : SeatFields) (held : List ℕ) (o : Continuation) → n ≡ next.Pick s held o → SoFar caller call (stage_of e.point) es)
+    → SoFarAt caller call (outcome_of (after_turn e (after_list e n))) es
+so-course e caller call spare pushed (next.At p) es follows so stays = so
+so-course e caller call spare pushed (next.End r) es follows so stays = so
+so-course e caller call spare pushed (next.Turn s w) es follows so stays =
     elim (cases_Bool (is_spent e)) [
-      | inl spent ↦ rw spent (so-leads who call (asking w s.class false) None (over reply.Spent) es so tt)
+      | inl spent ↦ rw spent (so-leads caller call (asking w s.class false) None (over reply.Spent) es so tt)
       | inr left ↦ rw left so
     ]
-so-course e who call spare pushed (next.Retire s d o) es follows so stays =
+so-course e caller call spare pushed (next.Retire s d o) es follows so stays =
     elim (cases_Bool (is_full e)) [
-      | inl full ↦ rw full (so-leads who call (onward_stage false s o) None (still (onward_stage true s o)) es so (scan-leads who s o follows.fits.1.goes))
+      | inl full ↦ rw full (so-leads caller call (continuation_stage false s o) None (still (continuation_stage true s o)) es so (scan-leads caller s o follows.fits.1.goes))
       | inr room ↦
-          rw room (so-leads who call (onward_stage false s o) None (outcome_of (after_turn e (resumed s o))) es so (resumed-leads e who s o follows.fits.1.goes))
+          rw room (so-leads caller call (continuation_stage false s o) None (outcome_of (after_turn e (resumed s o))) es so (resumed-leads e caller s o follows.fits.1.goes))
     ]
-so-course e who call spare pushed (next.Unlist s d o) es follows so stays =
-    so-leads who call (onward_stage false s o) None (outcome_of (after_turn e (resumed s o))) es so (resumed-leads e who s o follows.fits.goes)
-so-course e who call spare pushed (next.Pick s held o) es follows so stays =
+so-course e caller call spare pushed (next.Unlist s d o) es follows so stays =
+    so-leads caller call (continuation_stage false s o) None (outcome_of (after_turn e (resumed s o))) es so (resumed-leads e caller s o follows.fits.goes)
+so-course e caller call spare pushed (next.Pick s held o) es follows so stays =
     so-picked (first_unheld held e.retired)
   where
-    so-picked : (d : Option ℕ) → SoFarAt who call (outcome_of (after_turn e (picked e s o d))) es
+    so-picked : (d : Option ℕ) → SoFarAt caller call (outcome_of (after_turn e (picked e s o d))) es
     so-picked None = stays s held o refl
-    so-picked (Some d) = so-leads who call (onward_stage false s o) None (still (onward_stage true s o)) es so (scan-leads who s o follows.fits.goes)
+    so-picked (Some d) = so-leads caller call (continuation_stage false s o) None (still (continuation_stage true s o)) es so (scan-leads caller s o follows.fits.goes)
 
 -- a step of an errand adds the next event of its call
 pub step-adds :

@@ -16,35 +16,35 @@ use Rattle.call_events.proofs.EventLists.{spending, refusing-run}
 use Rattle.call_events.proofs.SoFarLemmas.{one-event}
 
 -- all events of an end are there; one is still to come
-all-there : (who : ℕ) (end : Ended) (es : List Event) → EventsOf who end es → EventsSoFar who end es
-all-there who end es of = (es, of, ([], sym (append-nil es)))
+all-there : (caller : ℕ) (end : Ended) (es : List Event) → EventsOf caller end es → EventsSoFar caller end es
+all-there caller end es of = (es, of, ([], sym (append-nil es)))
 
-one-comes : (who : ℕ) (end : Ended) (es : List Event) (e : Event) → EventsOf who end (es ++ e ∷ []) → EventsSoFar who end es
-one-comes who end es e of = (es ++ e ∷ [], of, (e ∷ [], refl))
+one-comes : (caller : ℕ) (end : Ended) (es : List Event) (e : Event) → EventsOf caller end (es ++ e ∷ []) → EventsSoFar caller end es
+one-comes caller end es e of = (es ++ e ∷ [], of, (e ∷ [], refl))
 
 pub can-end :
-    (who : ℕ) (call : Call) (stage : Stage) (es : List Event) → SoFar who call stage es
-    → (r : Reply) × (end : Ended) × (end_of call r ≡ Some end) × EventsSoFar who end es
-can-end who (alloc n) (asking w c looked) es so =
-    (reply.Spent, alloc_spent n, refl, all-there who (alloc_spent n) es (spending who n c looked es so.1 so.2))
-can-end who (alloc n) (asking_run w units) es so =
-    (reply.Refused, alloc_refused n, refl, one-comes who (alloc_refused n) es (event.Refuse who n) (refusing-run who n units es so.1 so.2))
-can-end who (alloc n) refused es so = (reply.Refused, alloc_refused n, refl, all-there who (alloc_refused n) es so)
-can-end who (alloc n) (given p m) es so = (reply.Given p m, alloc_given n p, refl, all-there who (alloc_given n p) es so.1)
-can-end who (free p n) (freeing q m) es so =
-    (reply.Freed, ended.freed p, refl, one-comes who (ended.freed p) es (event.Free who p) (one-event es (event.Free who p) (event.Free who p) so.2 refl))
-can-end who (free p n) freed es so = (reply.Freed, ended.freed p, refl, all-there who (ended.freed p) es so)
-can-end who (write p n j v) (writing q i u) es so = (
+    (caller : ℕ) (call : Call) (stage : Stage) (es : List Event) → SoFar caller call stage es
+    → (r : Reply) × (end : Ended) × (end_of call r ≡ Some end) × EventsSoFar caller end es
+can-end caller (alloc n) (asking w c looked) es so =
+    (reply.Spent, alloc_spent n, refl, all-there caller (alloc_spent n) es (spending caller n c looked es so.1 so.2))
+can-end caller (alloc n) (asking_run w units) es so =
+    (reply.Refused, alloc_refused n, refl, one-comes caller (alloc_refused n) es (event.Refuse caller n) (refusing-run caller n units es so.1 so.2))
+can-end caller (alloc n) refused es so = (reply.Refused, alloc_refused n, refl, all-there caller (alloc_refused n) es so)
+can-end caller (alloc n) (given p m) es so = (reply.Given p m, alloc_given n p, refl, all-there caller (alloc_given n p) es so.1)
+can-end caller (free p n) (freeing q m) es so =
+    (reply.Freed, ended.freed p, refl, one-comes caller (ended.freed p) es (event.Free caller p) (one-event es (event.Free caller p) (event.Free caller p) so.2 refl))
+can-end caller (free p n) freed es so = (reply.Freed, ended.freed p, refl, all-there caller (ended.freed p) es so)
+can-end caller (write p n j v) (writing q i u) es so = (
   reply.Wrote,
   wrote p j v,
   refl,
-  one-comes who (wrote p j v) es (event.Write who p j v) (one-event es (event.Write who p j v) (event.Write who p j v) so.3 refl),
+  one-comes caller (wrote p j v) es (event.Write caller p j v) (one-event es (event.Write caller p j v) (event.Write caller p j v) so.3 refl),
 )
-can-end who (read p n j) (reading q i) es so = (reply.Word 0, ended.read, refl, all-there who ended.read es so.2)
-can-end who (put p n k) (putting q m h) es so = (reply.Full 0, put_full, refl, all-there who put_full es so.3)
-can-end who (take k) (taking h) es so = (reply.Missed 0 0, take_missed, refl, all-there who take_missed es so.1)
-can-end who call stage es so = absurd so
+can-end caller (read p n j) (reading q i) es so = (reply.Word 0, ended.read, refl, all-there caller ended.read es so.2)
+can-end caller (put p n k) (putting q m h) es so = (reply.Full 0, put_full, refl, all-there caller put_full es so.3)
+can-end caller (take k) (taking h) es so = (reply.Missed 0 0, take_missed, refl, all-there caller take_missed es so.1)
+can-end caller call stage es so = absurd so
 
 -- its caller is busy
-pub way-busy : (who : ℕ) (call : Call) (p : Point) (es : List Event) → IsUnderWay who call p es → is_idle p ≡ false
-way-busy who call p es so = grind (arith)
+pub way-busy : (caller : ℕ) (call : Call) (p : Point) (es : List Event) → IsUnderWay caller call p es → is_idle p ≡ false
+way-busy caller call p es so = grind (arith)

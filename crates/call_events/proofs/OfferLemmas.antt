@@ -11,9 +11,9 @@ use Rattle.errand_steps.specs.Offers.{offered_at}
 use Rattle.call_events.specs.UnderWay.{IsUnderWay}
 
 pub put-offers :
-    (who place : ℕ) (need : Need) (shelf : ℕ) (p : Point) (es : List Event) → IsUnderWay who (put place need shelf) p es
+    (caller place : ℕ) (need : Need) (shelf : ℕ) (p : Point) (es : List Event) → IsUnderWay caller (put place need shelf) p es
     → offered_at p ≡ Some (record { place = place; need = need })
-put-offers who place need shelf p es so = grind (arith)
+put-offers caller place need shelf p es so = grind (arith)
 
 -- the shelf of a put
 abbrev shelf_at : Point → ℕ
@@ -21,6 +21,6 @@ shelf_at (Large (PutBlock shelf place need) o) = shelf
 shelf_at p = 0
 
 pub offers-put :
-    (who : ℕ) (call : Call) (p : Point) (es : List Event) (offer : Offer) → IsUnderWay who call p es → offered_at p ≡ Some offer
+    (caller : ℕ) (call : Call) (p : Point) (es : List Event) (offer : Offer) → IsUnderWay caller call p es → offered_at p ≡ Some offer
     → (shelf : ℕ) × (call ≡ put offer.place offer.need shelf)
-offers-put who call p es offer so is = (shelf_at p, grind (arith))
+offers-put caller call p es offer so is = (shelf_at p, grind (arith))

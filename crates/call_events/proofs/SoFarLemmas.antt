@@ -19,90 +19,90 @@ pub one-event : (es : List Event) (e f : Event) → es ≡ [] → e ≡ f → es
 one-event es e f empty is = ap (λ (k : List Event). k ++ e ∷ []) empty ∙ ap (λ (y : Event). y ∷ []) is
 
 pub so-leads :
-    (who : ℕ) (call : Call) (stage : Stage) (event : Option Event) (outcome : Outcome) (es : List Event) → SoFar who call stage es
-    → Leads who stage event outcome → SoFarAt who call outcome (with_event es event)
-so-leads who (alloc n) (asking w c looked) None (still (asking w' c' looked')) es so f =
-    (f.0 ∙ so.0, so.1 ∙ ap Small (sym f.1), subst (λ k. HasLooked who k looked' es) (sym f.1) (looked-less who c looked looked' es f.2 so.2))
-so-leads who (alloc n) (asking w c looked) None (over reply.Spent) es so f =
-    record { ended = (alloc_spent n, refl, spending who n c looked es so.1 so.2); serves = tt }
-so-leads who (alloc n) (asking w c looked) (Some e) (still (asking w' c' looked')) es so f = (
+    (caller : ℕ) (call : Call) (stage : Stage) (event : Option Event) (outcome : Outcome) (es : List Event) → SoFar caller call stage es
+    → Leads caller stage event outcome → SoFarAt caller call outcome (with_event es event)
+so-leads caller (alloc n) (asking w c looked) None (still (asking w' c' looked')) es so f =
+    (f.0 ∙ so.0, so.1 ∙ ap Small (sym f.1), subst (λ k. HasLooked caller k looked' es) (sym f.1) (looked-less caller c looked looked' es f.2 so.2))
+so-leads caller (alloc n) (asking w c looked) None (over reply.Spent) es so f =
+    record { ended = (alloc_spent n, refl, spending caller n c looked es so.1 so.2); serves = tt }
+so-leads caller (alloc n) (asking w c looked) (Some e) (still (asking w' c' looked')) es so f = (
   f.0 ∙ so.0,
   so.1 ∙ ap Small (sym f.1),
-  subst (λ k. HasLooked who k looked' (es ++ e ∷ [])) (sym f.1)
-      (subst (λ y. HasLooked who c looked' (es ++ y ∷ [])) (sym f.2) (looked-more who c looked looked' es so.2)),
+  subst (λ k. HasLooked caller k looked' (es ++ e ∷ [])) (sym f.1)
+      (subst (λ y. HasLooked caller c looked' (es ++ y ∷ [])) (sym f.2) (looked-more caller c looked looked' es so.2)),
 )
-so-leads who (alloc n) (asking w c looked) (Some e) (still refused) es so f =
-    subst (λ y. IsRefusing who n (need_of n) (es ++ y ∷ [])) (sym (f.1 ∙ ap (event.Refuse who) so.0))
-    (refusing who n c es so.1 (subst (λ b. HasLooked who c b es) f.0 so.2))
-so-leads who (alloc n) (asking w c looked) (Some e) (still (given place need)) es so f = (
+so-leads caller (alloc n) (asking w c looked) (Some e) (still refused) es so f =
+    subst (λ y. IsRefusing caller n (need_of n) (es ++ y ∷ [])) (sym (f.1 ∙ ap (event.Refuse caller) so.0))
+    (refusing caller n c es so.1 (subst (λ b. HasLooked caller c b es) f.0 so.2))
+so-leads caller (alloc n) (asking w c looked) (Some e) (still (given place need)) es so f = (
   f.0 ∙ sym so.1,
-  subst (λ y. IsGiving who n place (need_of n) (es ++ y ∷ [])) (sym (f.1 ∙ ap (λ k. event.Alloc who k place) so.0))
-      (giving who n c place looked es so.1 so.2),
+  subst (λ y. IsGiving caller n place (need_of n) (es ++ y ∷ [])) (sym (f.1 ∙ ap (λ k. event.Alloc caller k place) so.0))
+      (giving caller n c place looked es so.1 so.2),
 )
-so-leads who (alloc n) (asking_run w units) None (still (asking_run w' units')) es so f =
+so-leads caller (alloc n) (asking_run w units) None (still (asking_run w' units')) es so f =
     (f.0 ∙ so.0, so.1 ∙ ap Large (sym f.1), so.2)
-so-leads who (alloc n) (asking_run w units) (Some e) (over reply.Refused) es so f = record {
+so-leads caller (alloc n) (asking_run w units) (Some e) (over reply.Refused) es so f = record {
   ended = (
     alloc_refused n,
     refl,
-    subst (λ y. IsRefusing who n (need_of n) (es ++ y ∷ [])) (sym (f ∙ ap (event.Refuse who) so.0))
-        (refusing-run who n units es so.1 so.2),
+    subst (λ y. IsRefusing caller n (need_of n) (es ++ y ∷ [])) (sym (f ∙ ap (event.Refuse caller) so.0))
+        (refusing-run caller n units es so.1 so.2),
   );
   serves = tt;
 }
-so-leads who (alloc n) (asking_run w units) (Some e) (still (given place need)) es so f = (
+so-leads caller (alloc n) (asking_run w units) (Some e) (still (given place need)) es so f = (
   f.0 ∙ sym so.1,
-  subst (λ y. IsGiving who n place (need_of n) (es ++ y ∷ [])) (sym (f.1 ∙ ap (λ k. event.Alloc who k place) so.0))
-      (giving-run who n units place es so.1 so.2),
+  subst (λ y. IsGiving caller n place (need_of n) (es ++ y ∷ [])) (sym (f.1 ∙ ap (λ k. event.Alloc caller k place) so.0))
+      (giving-run caller n units place es so.1 so.2),
 )
-so-leads who (alloc n) refused None (still refused) es so f = so
-so-leads who (alloc n) refused None (over reply.Refused) es so f = record { ended = (alloc_refused n, refl, so); serves = tt }
-so-leads who (alloc n) (given p m) None (still (given p' m')) es so f =
-    (f.1 ∙ so.0, subst (λ q. IsGiving who n q (need_of n) es) (sym f.0) so.1)
-so-leads who (alloc n) (given p m) None (over (reply.Given p' m')) es so f = record {
-  ended = (alloc_given n p', refl, subst (λ q. IsGiving who n q (need_of n) es) (sym f.0) so.1);
+so-leads caller (alloc n) refused None (still refused) es so f = so
+so-leads caller (alloc n) refused None (over reply.Refused) es so f = record { ended = (alloc_refused n, refl, so); serves = tt }
+so-leads caller (alloc n) (given p m) None (still (given p' m')) es so f =
+    (f.1 ∙ so.0, subst (λ q. IsGiving caller n q (need_of n) es) (sym f.0) so.1)
+so-leads caller (alloc n) (given p m) None (over (reply.Given p' m')) es so f = record {
+  ended = (alloc_given n p', refl, subst (λ q. IsGiving caller n q (need_of n) es) (sym f.0) so.1);
   serves = f.1 ∙ so.0;
 }
-so-leads who (free p n) (freeing q m) None (still (freeing q' m')) es so f = (f.0 ∙ so.0, f.1 ∙ so.1, so.2)
-so-leads who (free p n) (freeing q m) (Some e) (still freed) es so f = one-event es e (event.Free who p) so.2 (f ∙ ap (event.Free who) so.0)
-so-leads who (free p n) (freeing q m) (Some e) (over reply.Freed) es so f =
-    record { ended = (ended.freed p, refl, one-event es e (event.Free who p) so.2 (f ∙ ap (event.Free who) so.0)); serves = tt }
-so-leads who (free p n) freed None (still freed) es so f = so
-so-leads who (free p n) freed None (over reply.Freed) es so f = record { ended = (ended.freed p, refl, so); serves = tt }
-so-leads who (write p n j v) (writing q i u) (Some e) (over reply.Wrote) es so f = record {
+so-leads caller (free p n) (freeing q m) None (still (freeing q' m')) es so f = (f.0 ∙ so.0, f.1 ∙ so.1, so.2)
+so-leads caller (free p n) (freeing q m) (Some e) (still freed) es so f = one-event es e (event.Free caller p) so.2 (f ∙ ap (event.Free caller) so.0)
+so-leads caller (free p n) (freeing q m) (Some e) (over reply.Freed) es so f =
+    record { ended = (ended.freed p, refl, one-event es e (event.Free caller p) so.2 (f ∙ ap (event.Free caller) so.0)); serves = tt }
+so-leads caller (free p n) freed None (still freed) es so f = so
+so-leads caller (free p n) freed None (over reply.Freed) es so f = record { ended = (ended.freed p, refl, so); serves = tt }
+so-leads caller (write p n j v) (writing q i u) (Some e) (over reply.Wrote) es so f = record {
   ended = (
     wrote p j v,
     refl,
-    one-event es e (event.Write who p j v) so.3
-        (f ∙ ap (λ k. event.Write who k i u) so.0 ∙ ap (λ k. event.Write who p k u) so.1 ∙ ap (event.Write who p j) so.2),
+    one-event es e (event.Write caller p j v) so.3
+        (f ∙ ap (λ k. event.Write caller k i u) so.0 ∙ ap (λ k. event.Write caller p k u) so.1 ∙ ap (event.Write caller p j) so.2),
   );
   serves = tt;
 }
-so-leads who (read p n j) (reading q i) None (over (reply.Word v)) es so f = record { ended = (ended.read, refl, so.2); serves = tt }
-so-leads who (put p n k) (putting q m h) None (over (reply.Full found)) es so f = record { ended = (put_full, refl, so.3); serves = tt }
-so-leads who (put p n k) (putting q m h) (Some e) (over reply.Put) es so f = record {
+so-leads caller (read p n j) (reading q i) None (over (reply.Word v)) es so f = record { ended = (ended.read, refl, so.2); serves = tt }
+so-leads caller (put p n k) (putting q m h) None (over (reply.Full found)) es so f = record { ended = (put_full, refl, so.3); serves = tt }
+so-leads caller (put p n k) (putting q m h) (Some e) (over reply.Put) es so f = record {
   ended = (
     put_done p k,
     refl,
-    one-event es e (event.Put who p k) so.3 (f ∙ ap (λ x. event.Put who x h) so.0 ∙ ap (event.Put who p) so.2),
+    one-event es e (event.Put caller p k) so.3 (f ∙ ap (λ x. event.Put caller x h) so.0 ∙ ap (event.Put caller p) so.2),
   );
   serves = tt;
 }
-so-leads who (take k) (taking h) None (still (taking h')) es so f = (f ∙ so.0, so.1)
-so-leads who (take k) (taking h) None (over (reply.Missed expected found)) es so f =
+so-leads caller (take k) (taking h) None (still (taking h')) es so f = (f ∙ so.0, so.1)
+so-leads caller (take k) (taking h) None (over (reply.Missed expected found)) es so f =
     record { ended = (take_missed, refl, so.1); serves = tt }
-so-leads who (take k) (taking h) (Some e) (over (reply.Got p n)) es so f =
-    record { ended = (take_got k p, refl, one-event es e (event.Take who k p) so.1 (f ∙ ap (λ x. event.Take who x p) so.0)); serves = tt }
-so-leads who (take k) (taking h) (Some e) (over reply.Empty) es so f =
-    record { ended = (take_empty k, refl, one-event es e (event.TakeNone who k) so.1 (f ∙ ap (event.TakeNone who) so.0)); serves = tt }
-so-leads who (alloc n) (asking w c looked) event outcome es so f = absurd f
-so-leads who (alloc n) (asking_run w units) event outcome es so f = absurd f
-so-leads who (alloc n) refused event outcome es so f = absurd f
-so-leads who (alloc n) (given p m) event outcome es so f = absurd f
-so-leads who (free p n) (freeing q m) event outcome es so f = absurd f
-so-leads who (free p n) freed event outcome es so f = absurd f
-so-leads who (write p n j v) (writing q i u) event outcome es so f = absurd f
-so-leads who (read p n j) (reading q i) event outcome es so f = absurd f
-so-leads who (put p n k) (putting q m h) event outcome es so f = absurd f
-so-leads who (take k) (taking h) event outcome es so f = absurd f
-so-leads who call stage event outcome es so f = absurd so
+so-leads caller (take k) (taking h) (Some e) (over (reply.Got p n)) es so f =
+    record { ended = (take_got k p, refl, one-event es e (event.Take caller k p) so.1 (f ∙ ap (λ x. event.Take caller x p) so.0)); serves = tt }
+so-leads caller (take k) (taking h) (Some e) (over reply.Empty) es so f =
+    record { ended = (take_empty k, refl, one-event es e (event.TakeNone caller k) so.1 (f ∙ ap (event.TakeNone caller) so.0)); serves = tt }
+so-leads caller (alloc n) (asking w c looked) event outcome es so f = absurd f
+so-leads caller (alloc n) (asking_run w units) event outcome es so f = absurd f
+so-leads caller (alloc n) refused event outcome es so f = absurd f
+so-leads caller (alloc n) (given p m) event outcome es so f = absurd f
+so-leads caller (free p n) (freeing q m) event outcome es so f = absurd f
+so-leads caller (free p n) freed event outcome es so f = absurd f
+so-leads caller (write p n j v) (writing q i u) event outcome es so f = absurd f
+so-leads caller (read p n j) (reading q i) event outcome es so f = absurd f
+so-leads caller (put p n k) (putting q m h) event outcome es so f = absurd f
+so-leads caller (take k) (taking h) event outcome es so f = absurd f
+so-leads caller call stage event outcome es so f = absurd so

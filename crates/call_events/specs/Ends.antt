@@ -29,6 +29,6 @@ Serves (alloc words) (Given place need) = need ≡ need_of words
 Serves call reply = Unit {0}
 
 -- a caller's call has ended with this answer, and these are the caller's events of it, in their order
-pub record HasEnded (who : ℕ) (call : Call) (reply : Reply) (events : List Event) : Type 0 where
-  pub ended : (end : Ended) × (end_of call reply ≡ Some end) × EventsOf who end events
+pub record HasEnded (caller : ℕ) (call : Call) (reply : Reply) (events : List Event) : Type 0 where
+  pub ended : (end : Ended) × (end_of call reply ≡ Some end) × EventsOf caller end events
   pub serves : Serves call reply

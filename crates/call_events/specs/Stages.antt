@@ -13,8 +13,8 @@ use Rattle.hazard_parts.specs.Points.{seat_of_desc}
 use Rattle.partial_parts.specs.Points.{seat_of_partial}
 use Rattle.large_parts.specs.declared.point.LargePoint.{LargePoint}
 use Rattle.large_parts.specs.declared.point.LargePoint.TheVariants as large
-use Rattle.errand_steps.specs.declared.onward.Onward.{Onward}
-use Rattle.errand_steps.specs.declared.onward.Onward.TheVariants as onward
+use Rattle.errand_steps.specs.declared.continuation.Continuation.{Continuation}
+use Rattle.errand_steps.specs.declared.continuation.Continuation.TheVariants as continuation
 use Rattle.errand_steps.specs.declared.point.Point.{Point}
 use Rattle.errand_steps.specs.declared.point.Point.TheVariants as point
 use Rattle.errand_steps.specs.Points.{asked}
@@ -41,33 +41,33 @@ abbrev pub block_freeing : Site → ℕ → Stage
 block_freeing at i = freeing (block_place at.frame at.seat.class i) (Small at.seat.class)
 
 -- in a superblock
-abbrev pub block_stage : BlockPoint → Onward → Stage
+abbrev pub block_stage : BlockPoint → Continuation → Stage
 block_stage (block.StorePrefix at i) o = block_given at i
 block_stage (block.InstallCredits at i more) o = block_given at i
 block_stage (block.LoadReturn at i more) o = block_given at i
 block_stage (block.ReturnCredits at i more a) o = block_given at i
 block_stage (block.LoadPrefix s frame i) o = freeing (block_place frame s.class i) (Small s.class)
-block_stage (block.LoadPushAnchor at i guarded) o = block_freeing at i
+block_stage (block.LoadPushAnchor at i stored) o = block_freeing at i
 block_stage (block.StoreGuard at i a) o = block_freeing at i
 block_stage (block.LoadOwner at i a) o = block_freeing at i
-block_stage (block.StoreLink at i a guarded heap) o = block_freeing at i
-block_stage (block.PushBlock at i a guarded heap) o = block_freeing at i
+block_stage (block.StoreLink at i a stored heap) o = block_freeing at i
+block_stage (block.PushBlock at i a stored heap) o = block_freeing at i
 block_stage p o = asking (asked o) (seat_of_block p).class false
 
 -- at a stack, at the descriptors and at a partial superblock it is what the caller goes on with; an allocation has looked where its part says so, or where it takes a frame
-abbrev pub onward_stage : Bool → SeatFields → Onward → Stage
-onward_stage looked s (onward.Alloc words) = asking words s.class looked
-onward_stage looked s (onward.TakeFrame words d) = asking words s.class true
-onward_stage looked s (onward.GiveBlock words at i) = block_given at i
-onward_stage looked s (onward.Discard words d) = asking words s.class false
-onward_stage looked s (onward.Turn words) = asking words s.class false
-onward_stage looked s (onward.Look words) = asking words s.class false
-onward_stage looked s onward.Refuse = refused
-onward_stage looked s onward.Nothing = none
-onward_stage looked s o = freed
+abbrev pub continuation_stage : Bool → SeatFields → Continuation → Stage
+continuation_stage looked s (continuation.Alloc words) = asking words s.class looked
+continuation_stage looked s (continuation.TakeFrame words d) = asking words s.class true
+continuation_stage looked s (continuation.GiveBlock words at i) = block_given at i
+continuation_stage looked s (continuation.Discard words d) = asking words s.class false
+continuation_stage looked s (continuation.Turn words) = asking words s.class false
+continuation_stage looked s (continuation.Look words) = asking words s.class false
+continuation_stage looked s continuation.Refuse = refused
+continuation_stage looked s continuation.Nothing = none
+continuation_stage looked s o = freed
 
 -- at a large block, a usable word or a shelf
-abbrev pub large_stage : LargePoint → Onward → Stage
+abbrev pub large_stage : LargePoint → Continuation → Stage
 large_stage (large.LoadUnits w) o = asking_run (asked o) w.units
 large_stage (large.TakeRun w bits) o = asking_run (asked o) w.units
 large_stage (large.StoreRunPrefix place run) o = given place (Large run.units)
@@ -85,7 +85,7 @@ large_stage p o = none
 abbrev pub stage_of : Point → Stage
 stage_of point.Idle = none
 stage_of (point.Block p o) = block_stage p o
-stage_of (point.Stack p o) = onward_stage false (seat_of_stack p) o
-stage_of (point.Desc p o) = onward_stage true (seat_of_desc p) o
-stage_of (point.Partial p o) = onward_stage false (seat_of_partial p) o
+stage_of (point.Stack p o) = continuation_stage false (seat_of_stack p) o
+stage_of (point.Desc p o) = continuation_stage true (seat_of_desc p) o
+stage_of (point.Partial p o) = continuation_stage false (seat_of_partial p) o
 stage_of (point.Large p o) = large_stage p o

@@ -13,26 +13,26 @@ use Rattle.call_events.specs.Stages.{Stage, asking, asking_run, refused, given, 
 
 -- these are looks for a class: any number of them; at least one
 abbrev pub HasLooked : ℕ → ℕ → Bool → List Event → Type 0
-HasLooked who class false events = (count : ℕ) × (events ≡ looks who class count)
-HasLooked who class true events = (count : ℕ) × (events ≡ looks who class (suc count))
+HasLooked caller class false events = (count : ℕ) × (events ≡ looks caller class count)
+HasLooked caller class true events = (count : ℕ) × (events ≡ looks caller class (suc count))
 
 -- the call is at this stage, and these are its caller's events since it began; no other stage is one of the call
 abbrev pub SoFar : ℕ → Call → Stage → List Event → Type 0
-SoFar who (alloc n) (asking words class looked) events = (words ≡ n) × (need_of n ≡ Small class) × HasLooked who class looked events
-SoFar who (alloc n) (asking_run words units) events = (words ≡ n) × (need_of n ≡ Large units) × (events ≡ [])
-SoFar who (alloc n) refused events = IsRefusing who n (need_of n) events
-SoFar who (alloc n) (given place need) events = (need ≡ need_of n) × IsGiving who n place (need_of n) events
-SoFar who (free p n) (freeing place need) events = (place ≡ p) × (need ≡ n) × (events ≡ [])
-SoFar who (free p n) freed events = events ≡ Free who p ∷ []
-SoFar who (write p n j v) (writing place i value) events = (place ≡ p) × (i ≡ j) × (value ≡ v) × (events ≡ [])
-SoFar who (read p n j) (reading place i) events = (place ≡ p) × (i ≡ j) × (events ≡ [])
-SoFar who (put p n k) (putting place need shelf) events = (place ≡ p) × (need ≡ n) × (shelf ≡ k) × (events ≡ [])
-SoFar who (take k) (taking shelf) events = (shelf ≡ k) × (events ≡ [])
-SoFar who call stage events = ⊥
+SoFar caller (alloc n) (asking words class looked) events = (words ≡ n) × (need_of n ≡ Small class) × HasLooked caller class looked events
+SoFar caller (alloc n) (asking_run words units) events = (words ≡ n) × (need_of n ≡ Large units) × (events ≡ [])
+SoFar caller (alloc n) refused events = IsRefusing caller n (need_of n) events
+SoFar caller (alloc n) (given place need) events = (need ≡ need_of n) × IsGiving caller n place (need_of n) events
+SoFar caller (free p n) (freeing place need) events = (place ≡ p) × (need ≡ n) × (events ≡ [])
+SoFar caller (free p n) freed events = events ≡ Free caller p ∷ []
+SoFar caller (write p n j v) (writing place i value) events = (place ≡ p) × (i ≡ j) × (value ≡ v) × (events ≡ [])
+SoFar caller (read p n j) (reading place i) events = (place ≡ p) × (i ≡ j) × (events ≡ [])
+SoFar caller (put p n k) (putting place need shelf) events = (place ≡ p) × (need ≡ n) × (shelf ≡ k) × (events ≡ [])
+SoFar caller (take k) (taking shelf) events = (shelf ≡ k) × (events ≡ [])
+SoFar caller call stage events = ⊥
 
 -- a caller that began this call stands at this point, and these are its own events since, in their order
 abbrev pub IsUnderWay : ℕ → Call → Point → List Event → Type 0
-IsUnderWay who call point events = SoFar who call (stage_of point) events
+IsUnderWay caller call point events = SoFar caller call (stage_of point) events
 
 -- the block that a call is about is one of this heap's, live or not
 abbrev pub IsAboutBlock : Geometry → Call → Type 0

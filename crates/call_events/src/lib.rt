@@ -54,20 +54,20 @@ pub fn steps_add_the_events_of_a_call()
 /// A call that is under way has a caller that is busy, and its events so far are the first ones of a
 /// call that ends with some answer of its own.
 pub fn calls_under_way_can_end()
-    ensures busy { (who : ℕ) (call : Call) (point : Point) (events : List Event)
-        → IsUnderWay who call point events → is_idle point ≡ false }
-    ensures so_far { (who : ℕ) (call : Call) (point : Point) (events : List Event)
-        → IsUnderWay who call point events
-        → (reply : Reply) × (end : Ended) × (end_of call reply ≡ Some end) × EventsSoFar who end events }
+    ensures busy { (caller : ℕ) (call : Call) (point : Point) (events : List Event)
+        → IsUnderWay caller call point events → is_idle point ≡ false }
+    ensures so_far { (caller : ℕ) (call : Call) (point : Point) (events : List Event)
+        → IsUnderWay caller call point events
+        → (reply : Reply) × (end : Ended) × (end_of call reply ≡ Some end) × EventsSoFar caller end events }
 {}
 
 /// A put that is under way offers the block that it began with, and no other call offers one. So where
 /// the shelf is full its caller has its own block back.
 pub fn puts_offer_their_block()
-    ensures puts { (who place : ℕ) (need : Need) (shelf : ℕ) (point : Point) (events : List Event)
-        → IsUnderWay who (put place need shelf) point events
+    ensures puts { (caller place : ℕ) (need : Need) (shelf : ℕ) (point : Point) (events : List Event)
+        → IsUnderWay caller (put place need shelf) point events
         → offered_at point ≡ Some (record { place = place; need = need }) }
-    ensures others { (who : ℕ) (call : Call) (point : Point) (events : List Event) (offer : Offer)
-        → IsUnderWay who call point events → offered_at point ≡ Some offer
+    ensures others { (caller : ℕ) (call : Call) (point : Point) (events : List Event) (offer : Offer)
+        → IsUnderWay caller call point events → offered_at point ≡ Some offer
         → (shelf : ℕ) × (call ≡ put offer.place offer.need shelf) }
 {}

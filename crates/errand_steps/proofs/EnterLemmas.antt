@@ -20,44 +20,44 @@ use Rattle.partial_parts.specs.Fits.{FitsPartial}
 use Rattle.partial_parts.specs.Points.{seat_of_partial}
 use Rattle.large_parts.specs.declared.point.LargePoint.{LargePoint}
 use Rattle.large_parts.specs.Fits.{FitsLarge}
-use Rattle.errand_steps.specs.declared.onward.Onward.{Onward}
-use Rattle.errand_steps.specs.Fits.{FitsOnward, spare_of_desc, pushed_by_desc}
+use Rattle.errand_steps.specs.declared.continuation.Continuation.{Continuation}
+use Rattle.errand_steps.specs.Fits.{FitsContinuation, spare_of_desc, pushed_by_desc}
 use Rattle.errand_steps.specs.Nexts.{enter_block, enter_stack, enter_desc, enter_partial, enter_large}
-use Rattle.errand_steps.specs.Onwards.{goes_block, goes_stack, goes_desc, goes_partial, GoesLarge}
+use Rattle.errand_steps.specs.Continuations.{goes_block, goes_stack, goes_desc, goes_partial, GoesLarge}
 use Rattle.errand_steps.proofs.NextLemmas.{Follows}
-use Rattle.errand_steps.proofs.OnwardLemmas.{alloc-asked}
+use Rattle.errand_steps.proofs.ContinuationLemmas.{alloc-asked}
 
 -- the processor heap of a seat exists
-heap-exists : (g : Geometry) (who : ℕ) (s : SeatFields) → IsChecked g → IsSeatOf g who s → heap_of s < g.heaps
-heap-exists g who s checked seat =
+heap-exists : (g : Geometry) (caller : ℕ) (s : SeatFields) → IsChecked g → IsSeatOf g caller s → heap_of s < g.heaps
+heap-exists g caller s checked seat =
     let same = ap (λ x. x.heaps) seat.geometry in omega (arith, heap_of-within s (omega (arith, checked.heaps.0, same)), same)
 
 -- from a superblock
 pub enters-block :
-    (g : Geometry) (who : ℕ) (p : BlockPoint) (o : Onward) → IsChecked g → FitsBlock g who p
-    → FitsOnward g who (seat_of_block p) o → IsTrue (goes_block p o) → Follows g who 0 None (enter_block p o)
-enters-block g who p o checked h w goes = grind (arith, alloc-asked g who (seat_of_block p) o, heap-exists g who (seat_of_block p) checked)
+    (g : Geometry) (caller : ℕ) (p : BlockPoint) (o : Continuation) → IsChecked g → FitsBlock g caller p
+    → FitsContinuation g caller (seat_of_block p) o → IsTrue (goes_block p o) → Follows g caller 0 None (enter_block p o)
+enters-block g caller p o checked h w goes = grind (arith, alloc-asked g caller (seat_of_block p) o, heap-exists g caller (seat_of_block p) checked)
 
 -- from a stack
 pub enters-stack :
-    (g : Geometry) (who : ℕ) (p : StackPoint) (o : Onward) → FitsStack g who p
-    → FitsOnward g who (seat_of_stack p) o → IsTrue (goes_stack p o) → Follows g who 0 None (enter_stack p o)
-enters-stack g who p o h w goes = grind (arith, block_count_of-least)
+    (g : Geometry) (caller : ℕ) (p : StackPoint) (o : Continuation) → FitsStack g caller p
+    → FitsContinuation g caller (seat_of_stack p) o → IsTrue (goes_stack p o) → Follows g caller 0 None (enter_stack p o)
+enters-stack g caller p o h w goes = grind (arith, block_count_of-least)
 
 -- from the descriptors or the hazard words
 pub enters-desc :
-    (g : Geometry) (who : ℕ) (p : DescPoint) (o : Onward) → FitsDesc g who p
-    → FitsOnward g who (seat_of_desc p) o → IsTrue (goes_desc p o)
-    → Follows g who (spare_of_desc p) (pushed_by_desc p) (enter_desc p o)
-enters-desc g who p o h w goes = grind (arith, alloc-asked g who (seat_of_desc p) o)
+    (g : Geometry) (caller : ℕ) (p : DescPoint) (o : Continuation) → FitsDesc g caller p
+    → FitsContinuation g caller (seat_of_desc p) o → IsTrue (goes_desc p o)
+    → Follows g caller (spare_of_desc p) (pushed_by_desc p) (enter_desc p o)
+enters-desc g caller p o h w goes = grind (arith, alloc-asked g caller (seat_of_desc p) o)
 
 -- from a partial superblock
 pub enters-partial :
-    (g : Geometry) (who : ℕ) (p : PartialPoint) (o : Onward) → FitsPartial g who p
-    → FitsOnward g who (seat_of_partial p) o → IsTrue (goes_partial p o) → Follows g who 0 None (enter_partial p o)
-enters-partial g who p o h w goes = grind (arith, alloc-asked g who (seat_of_partial p) o)
+    (g : Geometry) (caller : ℕ) (p : PartialPoint) (o : Continuation) → FitsPartial g caller p
+    → FitsContinuation g caller (seat_of_partial p) o → IsTrue (goes_partial p o) → Follows g caller 0 None (enter_partial p o)
+enters-partial g caller p o h w goes = grind (arith, alloc-asked g caller (seat_of_partial p) o)
 
 -- from a large block, a usable word or a shelf
 pub enters-large :
-    (g : Geometry) (who : ℕ) (p : LargePoint) (o : Onward) → FitsLarge g p → GoesLarge p o → Follows g who 0 None (enter_large p o)
-enters-large g who p o h goes = grind (arith)
+    (g : Geometry) (caller : ℕ) (p : LargePoint) (o : Continuation) → FitsLarge g p → GoesLarge p o → Follows g caller 0 None (enter_large p o)
+enters-large g caller p o h goes = grind (arith)

@@ -11,7 +11,7 @@ use Rattle.word_plan.specs.Seats.{SeatFields}
 use Rattle.hazard_parts.specs.declared.point.DescPoint.TheVariants as desc
 use Rattle.hazard_parts.specs.Retired.{first_unheld, without}
 use Rattle.hazard_parts.proofs.PickLemmas.{some-listed}
-use Rattle.errand_steps.specs.declared.onward.Onward.{Onward}
+use Rattle.errand_steps.specs.declared.continuation.Continuation.{Continuation}
 use Rattle.errand_steps.specs.declared.point.Point.{Point}
 use Rattle.errand_steps.specs.declared.point.Point.TheVariants.{Desc}
 use Rattle.errand_steps.specs.declared.next.Next.{Next}
@@ -59,7 +59,7 @@ stands-of e ds n f room listed = grind (arith)
 
 -- one more entry
 stands-added :
-    (e : ErrandFields) (s : SeatFields) (d : ℕ) (o : Onward) → IsErrand e → FollowsIn e (Retire s d o)
+    (e : ErrandFields) (s : SeatFields) (d : ℕ) (o : Continuation) → IsErrand e → FollowsIn e (Retire s d o)
     → Stands e (e.retired ++ d ∷ []) (after_list e (Retire s d o))
 stands-added e s d o h f =
     let listed : AreListed e (e.retired ++ d ∷ []) =
@@ -70,7 +70,7 @@ stands-added e s d o h f =
     (λ full. record {
       fits = record {
         point = (record { seat = f.fits.1.seat; words = refl }, omega (arith, h.geometry.callers.0));
-        onward = f.fits.1.onward;
+        continuation = f.fits.1.continuation;
         goes = f.fits.1.goes;
         inside = refl;
       };
@@ -83,7 +83,7 @@ stands-added e s d o h f =
 
 -- the picked one
 stands-picked :
-    (e : ErrandFields) (s : SeatFields) (held : List ℕ) (o : Onward) (r : Option ℕ) → IsErrand e
+    (e : ErrandFields) (s : SeatFields) (held : List ℕ) (o : Continuation) (r : Option ℕ) → IsErrand e
     → IsResuming e.geometry e.caller s o → first_unheld held e.retired ≡ r → Stands e e.retired (picked e s o r)
 stands-picked e s held o None h w is = record { fits = h.point; room = h.room; pushed = h.pushed; listed = h.listed }
 stands-picked e s held o (Some d) h w is =
@@ -91,7 +91,7 @@ stands-picked e s held o (Some d) h w is =
     record {
       fits = record {
         point = record { seat = w.seat; desc = All-contains (λ k. k < descriptor_count e.geometry) e.retired d h.listed has };
-        onward = w.onward;
+        continuation = w.continuation;
         goes = w.goes;
         inside = refl;
       };
@@ -102,7 +102,7 @@ stands-picked e s held o (Some d) h w is =
 
 -- one entry less
 stands-removed :
-    (e : ErrandFields) (s : SeatFields) (d : ℕ) (o : Onward) → IsErrand e → FollowsIn e (Unlist s d o)
+    (e : ErrandFields) (s : SeatFields) (d : ℕ) (o : Continuation) → IsErrand e → FollowsIn e (Unlist s d o)
     → Stands e (without d e.retired) (resumed s o)
 stands-removed e s d o h f =
     let has = listable-at e (Unlist s d o) h f in
@@ -130,8 +130,8 @@ stands-after_turn : (e : ErrandFields) (ds : List ℕ) (n : Next) → Stands e d
 stands-after_turn e ds n h = grind (arith)
 
 -- the point at which the caller stands
-point-fits : (g : Geometry) (who : ℕ) (n : Next) → FitsNext g who n → FitsPoint g who (point_after n)
-point-fits g who n h = grind (arith)
+point-fits : (g : Geometry) (caller : ℕ) (n : Next) → FitsNext g caller n → FitsPoint g caller (point_after n)
+point-fits g caller n h = grind (arith)
 
 -- a turn begins only where one is left
 turns-within :

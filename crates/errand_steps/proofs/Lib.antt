@@ -5,7 +5,7 @@ pub mod EnterLemmas
 pub mod ErrandLemmas
 pub mod EventLemmas
 pub mod NextLemmas
-pub mod OnwardLemmas
+pub mod ContinuationLemmas
 pub mod PlanLemmas
 pub mod RetiredLemmas
 pub mod SpentLemmas

@@ -15,12 +15,12 @@ use Rattle.errand_steps.specs.Fits.{FitsPoint}
 use Rattle.errand_steps.specs.Points.{plan_point_of}
 
 pub plan-exists :
-    (g : Geometry) (who : ℕ) (p : Point) → IsChecked g → who < g.callers → FitsPoint g who p
+    (g : Geometry) (caller : ℕ) (p : Point) → IsChecked g → caller < g.callers → FitsPoint g caller p
     → Exists g (name_of (plan_point_of p))
 unfolding plan_point_of
-plan-exists g who Idle checked has h = tt
-plan-exists g who (Block p o) checked has h = block.plan-exists g who p checked has h.point
-plan-exists g who (Stack p o) checked has h = stack.plan-exists g who p checked has h.point
-plan-exists g who (Desc p o) checked has h = desc.plan-exists g who p checked has h.point
-plan-exists g who (Partial p o) checked has h = partial.plan-exists g who p checked has h.point
-plan-exists g who (Large p o) checked has h = large.plan-exists g p checked h.point
+plan-exists g caller Idle checked has h = tt
+plan-exists g caller (Block p o) checked has h = block.plan-exists g caller p checked has h.point
+plan-exists g caller (Stack p o) checked has h = stack.plan-exists g caller p checked has h.point
+plan-exists g caller (Desc p o) checked has h = desc.plan-exists g caller p checked has h.point
+plan-exists g caller (Partial p o) checked has h = partial.plan-exists g caller p checked has h.point
+plan-exists g caller (Large p o) checked has h = large.plan-exists g p checked h.point

@@ -23,28 +23,28 @@ use Rattle.partial_parts.proofs.SeatLemmas as partial_seat
 use Rattle.large_parts.specs.declared.point.LargePoint.{LargePoint}
 use Rattle.large_parts.specs.Points.{settle_large_of}
 use Rattle.large_parts.proofs.FitLemmas as large
-use Rattle.errand_steps.specs.declared.onward.Onward.{Onward}
+use Rattle.errand_steps.specs.declared.continuation.Continuation.{Continuation}
 use Rattle.errand_steps.specs.declared.point.Point.{Point}
 use Rattle.errand_steps.specs.declared.point.Point.TheVariants.{Idle, Block, Stack, Desc, Partial, Large}
-use Rattle.errand_steps.specs.Fits.{FitsOnward, FitsPoint, spare_of, spare_of_desc, pushed_by, pushed_by_desc}
+use Rattle.errand_steps.specs.Fits.{FitsContinuation, FitsPoint, spare_of, spare_of_desc, pushed_by, pushed_by_desc}
 use Rattle.errand_steps.specs.Nexts.{next_of, enter_desc}
-use Rattle.errand_steps.specs.Onwards.{goes_block, goes_stack, goes_desc, goes_partial, GoesLarge}
+use Rattle.errand_steps.specs.Continuations.{goes_block, goes_stack, goes_desc, goes_partial, GoesLarge}
 use Rattle.errand_steps.proofs.EnterLemmas.{enters-block, enters-stack, enters-desc, enters-partial, enters-large}
 use Rattle.errand_steps.proofs.NextLemmas.{Follows}
 
-goes-block : (p : BlockPoint) (o : Onward) (x : Found) → IsTrue (goes_block p o) → IsTrue (goes_block (settle_block_of p x) o)
+goes-block : (p : BlockPoint) (o : Continuation) (x : Found) → IsTrue (goes_block p o) → IsTrue (goes_block (settle_block_of p x) o)
 goes-block p o x goes = grind (arith)
 
-goes-stack : (p : StackPoint) (o : Onward) (x : Found) → IsTrue (goes_stack p o) → IsTrue (goes_stack (settle_stack_of p x) o)
+goes-stack : (p : StackPoint) (o : Continuation) (x : Found) → IsTrue (goes_stack p o) → IsTrue (goes_stack (settle_stack_of p x) o)
 goes-stack p o x goes = grind (arith)
 
-goes-desc : (p : DescPoint) (o : Onward) (x : Found) → IsTrue (goes_desc p o) → IsTrue (goes_desc (settle_desc_of p x) o)
+goes-desc : (p : DescPoint) (o : Continuation) (x : Found) → IsTrue (goes_desc p o) → IsTrue (goes_desc (settle_desc_of p x) o)
 goes-desc p o x goes = grind (arith)
 
-goes-partial : (p : PartialPoint) (o : Onward) (x : Found) → IsTrue (goes_partial p o) → IsTrue (goes_partial (settle_partial_of p x) o)
+goes-partial : (p : PartialPoint) (o : Continuation) (x : Found) → IsTrue (goes_partial p o) → IsTrue (goes_partial (settle_partial_of p x) o)
 goes-partial p o x goes = grind (arith)
 
-goes-large : (p : LargePoint) (o : Onward) (x : Found) → GoesLarge p o → GoesLarge (settle_large_of p x) o
+goes-large : (p : LargePoint) (o : Continuation) (x : Found) → GoesLarge p o → GoesLarge (settle_large_of p x) o
 goes-large p o x goes = grind (arith)
 
 -- a step leaves how many spare entries the list may have, and which one is pushed
@@ -56,23 +56,23 @@ pushed-settle p x = grind (arith)
 
 -- what follows a step of a caller fits
 pub follows-next :
-    (g : Geometry) (who : ℕ) (p : Point) (x : Found) → IsChecked g → x.value < 2 ^ 64 → FitsPoint g who p
-    → Follows g who (spare_of p) (pushed_by p) (next_of p x)
+    (g : Geometry) (caller : ℕ) (p : Point) (x : Found) → IsChecked g → x.value < 2 ^ 64 → FitsPoint g caller p
+    → Follows g caller (spare_of p) (pushed_by p) (next_of p x)
 unfolding next_of
-follows-next g who Idle x checked word h = grind (arith)
-follows-next g who (Block p o) x checked word h =
-    enters-block g who (settle_block_of p x) o checked (block.settle-fits g who p x checked word h.point)
-    (subst (λ s. FitsOnward g who s o) (sym (block_seat.settle-seat p x)) h.onward) (goes-block p o x h.goes)
-follows-next g who (Stack p o) x checked word h =
-    enters-stack g who (settle_stack_of p x) o (stack.settle-fits g who p x checked word h.point)
-    (subst (λ s. FitsOnward g who s o) (sym (stack_seat.settle-seat p x)) h.onward) (goes-stack p o x h.goes)
-follows-next g who (Desc p o) x checked word h =
-    let follows = enters-desc g who (settle_desc_of p x) o (desc.settle-fits g who p x checked word h.point)
-    (subst (λ s. FitsOnward g who s o) (sym (desc_seat.settle-seat p x)) h.onward) (goes-desc p o x h.goes) in
-    subst (λ n. Follows g who n (pushed_by_desc p) (enter_desc (settle_desc_of p x) o)) (spare-settle p x)
-    (subst (λ d. Follows g who (spare_of_desc (settle_desc_of p x)) d (enter_desc (settle_desc_of p x) o)) (pushed-settle p x) follows)
-follows-next g who (Partial p o) x checked word h =
-    enters-partial g who (settle_partial_of p x) o (partial.settle-fits g who p x checked word h.point)
-    (subst (λ s. FitsOnward g who s o) (sym (partial_seat.settle-seat p x)) h.onward) (goes-partial p o x h.goes)
-follows-next g who (Large p o) x checked word h =
-    enters-large g who (settle_large_of p x) o (large.settle-fits g p x checked word h.point) (goes-large p o x h.goes)
+follows-next g caller Idle x checked word h = grind (arith)
+follows-next g caller (Block p o) x checked word h =
+    enters-block g caller (settle_block_of p x) o checked (block.settle-fits g caller p x checked word h.point)
+    (subst (λ s. FitsContinuation g caller s o) (sym (block_seat.settle-seat p x)) h.continuation) (goes-block p o x h.goes)
+follows-next g caller (Stack p o) x checked word h =
+    enters-stack g caller (settle_stack_of p x) o (stack.settle-fits g caller p x checked word h.point)
+    (subst (λ s. FitsContinuation g caller s o) (sym (stack_seat.settle-seat p x)) h.continuation) (goes-stack p o x h.goes)
+follows-next g caller (Desc p o) x checked word h =
+    let follows = enters-desc g caller (settle_desc_of p x) o (desc.settle-fits g caller p x checked word h.point)
+    (subst (λ s. FitsContinuation g caller s o) (sym (desc_seat.settle-seat p x)) h.continuation) (goes-desc p o x h.goes) in
+    subst (λ n. Follows g caller n (pushed_by_desc p) (enter_desc (settle_desc_of p x) o)) (spare-settle p x)
+    (subst (λ d. Follows g caller (spare_of_desc (settle_desc_of p x)) d (enter_desc (settle_desc_of p x) o)) (pushed-settle p x) follows)
+follows-next g caller (Partial p o) x checked word h =
+    enters-partial g caller (settle_partial_of p x) o (partial.settle-fits g caller p x checked word h.point)
+    (subst (λ s. FitsContinuation g caller s o) (sym (partial_seat.settle-seat p x)) h.continuation) (goes-partial p o x h.goes)
+follows-next g caller (Large p o) x checked word h =
+    enters-large g caller (settle_large_of p x) o (large.settle-fits g p x checked word h.point) (goes-large p o x h.goes)

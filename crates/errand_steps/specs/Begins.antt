@@ -10,7 +10,7 @@ use Rattle.pool_model.specs.WellFormed.{IsPlaceFor}
 use Rattle.word_plan.specs.Seats.{SeatFields}
 use Rattle.superblock_parts.specs.declared.point.BlockPoint.TheVariants.{LoadActive, LoadPrefix}
 use Rattle.large_parts.specs.declared.point.LargePoint.TheVariants.{LoadUnits, LoadRunPrefix, StoreWord, LoadWord, PutBlock, LoadShelf}
-use Rattle.errand_steps.specs.declared.onward.Onward.TheVariants.{Alloc, Free, Nothing}
+use Rattle.errand_steps.specs.declared.continuation.Continuation.TheVariants.{Alloc, Free, Nothing}
 use Rattle.errand_steps.specs.declared.point.Point.{Point}
 use Rattle.errand_steps.specs.declared.point.Point.TheVariants as point
 use Rattle.errand_steps.specs.declared.reply.Begun.{Begun}

@@ -15,8 +15,8 @@ use Rattle.hazard_parts.specs.Retired.{first_unheld, without}
 use Rattle.partial_parts.specs.declared.point.PartialPoint.TheVariants as partial
 use Rattle.partial_parts.specs.Grants.{is_empty}
 use Rattle.large_parts.specs.declared.point.LargePoint.TheVariants as large
-use Rattle.errand_steps.specs.declared.onward.Onward.{Onward}
-use Rattle.errand_steps.specs.declared.onward.Onward.TheVariants as onward
+use Rattle.errand_steps.specs.declared.continuation.Continuation.{Continuation}
+use Rattle.errand_steps.specs.declared.continuation.Continuation.TheVariants as continuation
 use Rattle.errand_steps.specs.declared.point.Point.{Point}
 use Rattle.errand_steps.specs.declared.point.Point.TheVariants.{Idle, Block, Desc, Partial, Large}
 use Rattle.errand_steps.specs.declared.reply.Progress.{Progress}
@@ -71,7 +71,7 @@ abbrev pub is_full : ErrandFields → Bool
 is_full e = nat_le e.geometry.callers (length e.retired)
 
 -- the picked descriptor is pushed; where there is none the point stays
-abbrev pub picked : ErrandFields → SeatFields → Onward → Option ℕ → Next
+abbrev pub picked : ErrandFields → SeatFields → Continuation → Option ℕ → Next
 picked e s o None = At e.point
 picked e s o (Some d) = At (Desc (desc.LoadHeadToPush s d) o)
 
@@ -86,7 +86,7 @@ after_list e (Unlist s d o) = resumed s o
 
 -- a turn begins where the caller has one left; where it has none the call ends
 abbrev pub turned : ErrandFields → SeatFields → ℕ → Next
-turned e s need = if is_spent e then End reply.Spent else At (Block (block.LoadActive s) (onward.Alloc need))
+turned e s need = if is_spent e then End reply.Spent else At (Block (block.LoadActive s) (continuation.Alloc need))
 
 -- the turn limit's part
 abbrev pub after_turn : ErrandFields → Next → Next

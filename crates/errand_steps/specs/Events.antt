@@ -20,43 +20,43 @@ use Rattle.errand_steps.specs.Points.{asked}
 
 -- a pop and the install of a new superblock give a block, a push frees one
 abbrev pub block_event : ℕ → ℕ → BlockPoint → Option Event
-block_event who need (PopBlock at share a prefix) = Some (Alloc who need (block_place at.frame at.seat.class a.avail))
-block_event who need (InstallSuperblock at) = Some (Alloc who need (block_place at.frame at.seat.class 0))
-block_event who need (PushBlock at i a guarded heap) = Some (Free who (block_place at.frame at.seat.class i))
-block_event who need p = None
+block_event caller need (PopBlock at share a prefix) = Some (Alloc caller need (block_place at.frame at.seat.class a.avail))
+block_event caller need (InstallSuperblock at) = Some (Alloc caller need (block_place at.frame at.seat.class 0))
+block_event caller need (PushBlock at i a stored heap) = Some (Free caller (block_place at.frame at.seat.class i))
+block_event caller need p = None
 
 -- that there is no partial superblock is a look that found none; that there is no frame is a refusal
 abbrev pub empty_event : ℕ → ℕ → Pile → ℕ → Event
-empty_event who need Frames class = Refuse who need
-empty_event who need Partials class = Looked who class
+empty_event caller need Frames class = Refuse caller need
+empty_event caller need Partials class = Looked caller class
 
 abbrev pub stack_event : ℕ → ℕ → StackPoint → Option Event
-stack_event who need (ConfirmEmpty s pile h) = Some (empty_event who need pile s.class)
-stack_event who need p = None
+stack_event caller need (ConfirmEmpty s pile h) = Some (empty_event caller need pile s.class)
+stack_event caller need p = None
 
 -- a run is given, where there is one
 abbrev pub run_event : ℕ → ℕ → WantFields → Option ℕ → Event
-run_event who need w None = Refuse who need
-run_event who need w (Some first) = Alloc who need (unit_place w.geometry.frames first)
+run_event caller need w None = Refuse caller need
+run_event caller need w (Some first) = Alloc caller need (unit_place w.geometry.frames first)
 
 abbrev pub large_event : ℕ → ℕ → LargePoint → Option Event
-large_event who need (TakeRun w bits) = Some (run_event who need w (first_wanted w bits))
-large_event who need (FreeRun place run) = Some (Free who place)
-large_event who need (StoreWord place i value) = Some (Write who place i value)
-large_event who need (PutBlock shelf place block) = Some (Put who place shelf)
-large_event who need (TakeBlock shelf place block) = Some (Take who shelf place)
-large_event who need (ConfirmNothing shelf) = Some (TakeNone who shelf)
-large_event who need p = None
+large_event caller need (TakeRun w bits) = Some (run_event caller need w (first_wanted w bits))
+large_event caller need (FreeRun place run) = Some (Free caller place)
+large_event caller need (StoreWord place i value) = Some (Write caller place i value)
+large_event caller need (PutBlock shelf place block) = Some (Put caller place shelf)
+large_event caller need (TakeBlock shelf place block) = Some (Take caller shelf place)
+large_event caller need (ConfirmNothing shelf) = Some (TakeNone caller shelf)
+large_event caller need p = None
 
 -- the event of a point's action where it is not lost
 abbrev pub won_event : ℕ → Point → Option Event
-won_event who Idle = None
-won_event who (Block p o) = block_event who (asked o) p
-won_event who (Stack p o) = stack_event who (asked o) p
-won_event who (Desc p o) = None
-won_event who (Partial p o) = None
-won_event who (Large p o) = large_event who (asked o) p
+won_event caller Idle = None
+won_event caller (Block p o) = block_event caller (asked o) p
+won_event caller (Stack p o) = stack_event caller (asked o) p
+won_event caller (Desc p o) = None
+won_event caller (Partial p o) = None
+won_event caller (Large p o) = large_event caller (asked o) p
 
 -- the event of the step in which a point's action found something
 unfoldable pub event_of : ℕ → Point → Found → Option Event
-event_of who p x = if x.won then won_event who p else None
+event_of caller p x = if x.won then won_event caller p else None

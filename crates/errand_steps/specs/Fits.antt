@@ -21,11 +21,11 @@ use Rattle.partial_parts.specs.Fits.{FitsPartial}
 use Rattle.partial_parts.specs.Points.{seat_of_partial}
 use Rattle.large_parts.specs.declared.point.LargePoint.{LargePoint}
 use Rattle.large_parts.specs.Fits.{FitsLarge}
-use Rattle.errand_steps.specs.declared.onward.Onward.{Onward}
-use Rattle.errand_steps.specs.declared.onward.Onward.TheVariants.{Alloc, TakeFrame, GiveBlock, Discard, Turn, Look, Refuse, Free, Remove, Clear, ClearSecond, Retire, PushFirst, Finish, EndFree, Nothing}
+use Rattle.errand_steps.specs.declared.continuation.Continuation.{Continuation}
+use Rattle.errand_steps.specs.declared.continuation.Continuation.TheVariants.{Alloc, TakeFrame, GiveBlock, Discard, Turn, Look, Refuse, Free, Remove, Clear, ClearSecond, Retire, PushFirst, Finish, EndFree, Nothing}
 use Rattle.errand_steps.specs.declared.point.Point.{Point}
 use Rattle.errand_steps.specs.declared.point.Point.TheVariants as point
-use Rattle.errand_steps.specs.Onwards.{goes_block, goes_stack, goes_desc, goes_partial, GoesLarge, has_left_block, has_left_stack, has_left_desc, has_left_partial, has_left_large}
+use Rattle.errand_steps.specs.Continuations.{goes_block, goes_stack, goes_desc, goes_partial, GoesLarge, has_left_block, has_left_stack, has_left_desc, has_left_partial, has_left_large}
 
 -- blocks of the class serve so many words
 abbrev pub IsSmallFor : SeatFields → ℕ → Type 0
@@ -36,72 +36,72 @@ abbrev pub IsAllocWith : Geometry → SeatFields → ℕ → ℕ → Type 0
 IsAllocWith g s words d = IsSmallFor s words × (d < descriptor_count g)
 
 -- a block that waits to be handed out is one of the seat's class
-pub record IsWaiting (g : Geometry) (who : ℕ) (s : SeatFields) (words : ℕ) (at : Site) (i : ℕ) : Type 0 where
+pub record IsWaiting (g : Geometry) (caller : ℕ) (s : SeatFields) (words : ℕ) (at : Site) (i : ℕ) : Type 0 where
   pub asked : IsSmallFor s words
-  pub block : IsBlockOf g who at i
+  pub block : IsBlockOf g caller at i
   pub seat : at.seat ≡ s
 
 -- everything that the continuation remembers exists in this heap, and its words are served by the seat's class
-abbrev pub FitsOnward : Geometry → ℕ → SeatFields → Onward → Type 0
-FitsOnward g who s (Alloc words) = IsSmallFor s words
-FitsOnward g who s (TakeFrame words d) = IsAllocWith g s words d
-FitsOnward g who s (GiveBlock words at i) = IsWaiting g who s words at i
-FitsOnward g who s (Discard words d) = IsAllocWith g s words d
-FitsOnward g who s (Turn words) = IsSmallFor s words
-FitsOnward g who s (Look words) = IsSmallFor s words
-FitsOnward g who s Refuse = Unit {0}
-FitsOnward g who s Free = Unit {0}
-FitsOnward g who s (Remove d heap) = (d < descriptor_count g) × (heap < g.heaps)
-FitsOnward g who s Clear = Unit {0}
-FitsOnward g who s (ClearSecond first) = first < descriptor_count g
-FitsOnward g who s (Retire d) = d < descriptor_count g
-FitsOnward g who s (PushFirst first) = first < descriptor_count g
-FitsOnward g who s (Finish guarded) = Unit {0}
-FitsOnward g who s EndFree = Unit {0}
-FitsOnward g who s Nothing = Unit {0}
+abbrev pub FitsContinuation : Geometry → ℕ → SeatFields → Continuation → Type 0
+FitsContinuation g caller s (Alloc words) = IsSmallFor s words
+FitsContinuation g caller s (TakeFrame words d) = IsAllocWith g s words d
+FitsContinuation g caller s (GiveBlock words at i) = IsWaiting g caller s words at i
+FitsContinuation g caller s (Discard words d) = IsAllocWith g s words d
+FitsContinuation g caller s (Turn words) = IsSmallFor s words
+FitsContinuation g caller s (Look words) = IsSmallFor s words
+FitsContinuation g caller s Refuse = Unit {0}
+FitsContinuation g caller s Free = Unit {0}
+FitsContinuation g caller s (Remove d heap) = (d < descriptor_count g) × (heap < g.heaps)
+FitsContinuation g caller s Clear = Unit {0}
+FitsContinuation g caller s (ClearSecond first) = first < descriptor_count g
+FitsContinuation g caller s (Retire d) = d < descriptor_count g
+FitsContinuation g caller s (PushFirst first) = first < descriptor_count g
+FitsContinuation g caller s (Finish stored) = Unit {0}
+FitsContinuation g caller s EndFree = Unit {0}
+FitsContinuation g caller s Nothing = Unit {0}
 
 -- a point of a superblock at which this caller of this heap may stand
-pub record FitsInBlock (g : Geometry) (who : ℕ) (p : BlockPoint) (o : Onward) : Type 0 where
-  pub point : FitsBlock g who p
-  pub onward : FitsOnward g who (seat_of_block p) o
+pub record FitsInBlock (g : Geometry) (caller : ℕ) (p : BlockPoint) (o : Continuation) : Type 0 where
+  pub point : FitsBlock g caller p
+  pub continuation : FitsContinuation g caller (seat_of_block p) o
   pub goes : IsTrue (goes_block p o)
   pub inside : has_left_block p ≡ false
 
 -- of a stack
-pub record FitsInStack (g : Geometry) (who : ℕ) (p : StackPoint) (o : Onward) : Type 0 where
-  pub point : FitsStack g who p
-  pub onward : FitsOnward g who (seat_of_stack p) o
+pub record FitsInStack (g : Geometry) (caller : ℕ) (p : StackPoint) (o : Continuation) : Type 0 where
+  pub point : FitsStack g caller p
+  pub continuation : FitsContinuation g caller (seat_of_stack p) o
   pub goes : IsTrue (goes_stack p o)
   pub inside : has_left_stack p ≡ false
 
 -- of the descriptors or the hazard words
-pub record FitsInDesc (g : Geometry) (who : ℕ) (p : DescPoint) (o : Onward) : Type 0 where
-  pub point : FitsDesc g who p
-  pub onward : FitsOnward g who (seat_of_desc p) o
+pub record FitsInDesc (g : Geometry) (caller : ℕ) (p : DescPoint) (o : Continuation) : Type 0 where
+  pub point : FitsDesc g caller p
+  pub continuation : FitsContinuation g caller (seat_of_desc p) o
   pub goes : IsTrue (goes_desc p o)
   pub inside : has_left_desc p ≡ false
 
 -- of a partial superblock
-pub record FitsInPartial (g : Geometry) (who : ℕ) (p : PartialPoint) (o : Onward) : Type 0 where
-  pub point : FitsPartial g who p
-  pub onward : FitsOnward g who (seat_of_partial p) o
+pub record FitsInPartial (g : Geometry) (caller : ℕ) (p : PartialPoint) (o : Continuation) : Type 0 where
+  pub point : FitsPartial g caller p
+  pub continuation : FitsContinuation g caller (seat_of_partial p) o
   pub goes : IsTrue (goes_partial p o)
   pub inside : has_left_partial p ≡ false
 
 -- of a large block, a usable word or a shelf
-pub record FitsInLarge (g : Geometry) (p : LargePoint) (o : Onward) : Type 0 where
+pub record FitsInLarge (g : Geometry) (p : LargePoint) (o : Continuation) : Type 0 where
   pub point : FitsLarge g p
   pub goes : GoesLarge p o
   pub inside : has_left_large p ≡ false
 
 -- a point at which this caller of this heap may stand
 abbrev pub FitsPoint : Geometry → ℕ → Point → Type 0
-FitsPoint g who point.Idle = Unit {0}
-FitsPoint g who (point.Block p o) = FitsInBlock g who p o
-FitsPoint g who (point.Stack p o) = FitsInStack g who p o
-FitsPoint g who (point.Desc p o) = FitsInDesc g who p o
-FitsPoint g who (point.Partial p o) = FitsInPartial g who p o
-FitsPoint g who (point.Large p o) = FitsInLarge g p o
+FitsPoint g caller point.Idle = Unit {0}
+FitsPoint g caller (point.Block p o) = FitsInBlock g caller p o
+FitsPoint g caller (point.Stack p o) = FitsInStack g caller p o
+FitsPoint g caller (point.Desc p o) = FitsInDesc g caller p o
+FitsPoint g caller (point.Partial p o) = FitsInPartial g caller p o
+FitsPoint g caller (point.Large p o) = FitsInLarge g p o
 
 -- how many entries the caller's list may have beyond its callers: one during a scan and the push after it
 abbrev pub spare_of_desc : DescPoint → ℕ

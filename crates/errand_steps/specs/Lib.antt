@@ -5,7 +5,7 @@ pub mod Events
 pub mod Fits
 pub mod Nexts
 pub mod Offers
-pub mod Onwards
+pub mod Continuations
 pub mod Openings
 pub mod Points
 pub mod Steps

@@ -69,5 +69,5 @@ installed g class (Shelf shelf) = 0
 -- no step is made: these are the words of the heap, and 0 for a name that it hasn't; every caller is idle, and nothing has happened
 pub record IsOpening (g : Geometry) (first : WordName → ℕ) (s : State) : Type 0 where
   pub word : (n : WordName) → s.word n ≡ (if exists g n then first n else 0)
-  pub errand : (who : ℕ) → who < g.callers → s.errand who ≡ open_errand who g
+  pub errand : (caller : ℕ) → caller < g.callers → s.errand caller ≡ open_errand caller g
   pub history : s.history ≡ []

@@ -8,13 +8,13 @@ use Rattle.stack_parts.specs.Points.{plan_stack_of}
 use Rattle.hazard_parts.specs.Points.{plan_desc_of}
 use Rattle.partial_parts.specs.Points.{plan_partial_of}
 use Rattle.large_parts.specs.Points.{plan_large_of}
-use Rattle.errand_steps.specs.declared.onward.Onward.{Onward}
-use Rattle.errand_steps.specs.declared.onward.Onward.TheVariants.{Alloc, TakeFrame, GiveBlock, Discard, Turn, Look, Refuse, Free, Remove, Clear, ClearSecond, Retire, PushFirst, Finish, EndFree, Nothing}
+use Rattle.errand_steps.specs.declared.continuation.Continuation.{Continuation}
+use Rattle.errand_steps.specs.declared.continuation.Continuation.TheVariants.{Alloc, TakeFrame, GiveBlock, Discard, Turn, Look, Refuse, Free, Remove, Clear, ClearSecond, Retire, PushFirst, Finish, EndFree, Nothing}
 use Rattle.errand_steps.specs.declared.point.Point.{Point}
 use Rattle.errand_steps.specs.declared.point.Point.TheVariants.{Idle, Block, Stack, Desc, Partial, Large}
 
 -- the usable words that an allocation asked for; 0 for other calls
-abbrev pub asked : Onward → ℕ
+abbrev pub asked : Continuation → ℕ
 asked (Alloc need) = need
 asked (TakeFrame need d) = need
 asked (GiveBlock need at i) = need
@@ -28,7 +28,7 @@ asked Clear = 0
 asked (ClearSecond first) = 0
 asked (Retire d) = 0
 asked (PushFirst first) = 0
-asked (Finish guarded) = 0
+asked (Finish stored) = 0
 asked EndFree = 0
 asked Nothing = 0
 

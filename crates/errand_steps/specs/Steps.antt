@@ -17,9 +17,9 @@ pub record State : Type 0 where
   pub history : List Event
 
 -- the errand of this caller is e now, and that of every other one is what it was
-pub record Moves (before : ℕ → ErrandFields) (who : ℕ) (e : ErrandFields) (after : ℕ → ErrandFields) : Type 0 where
-  pub here : after who ≡ e
-  pub elsewhere : (other : ℕ) → other ≢ who → after other ≡ before other
+pub record Moves (before : ℕ → ErrandFields) (caller : ℕ) (e : ErrandFields) (after : ℕ → ErrandFields) : Type 0 where
+  pub here : after caller ≡ e
+  pub elsewhere : (other : ℕ) → other ≢ caller → after other ≡ before other
 
 -- the events with one more, where there is one
 abbrev pub with_event : List Event → Option Event → List Event
@@ -28,40 +28,40 @@ with_event events (Some event) = events ++ event ∷ []
 
 -- the action that a caller makes next, the word that it is on, what stands there, and what the action finds
 abbrev pub action_at : State → ℕ → Action
-action_at s who = plan_of (s.errand who)
+action_at s caller = plan_of (s.errand caller)
 
 abbrev pub name_at : State → ℕ → WordName
-name_at s who = name_of (action_at s who)
+name_at s caller = name_of (action_at s caller)
 
 abbrev pub word_at : State → ℕ → ℕ
-word_at s who = s.word (name_at s who)
+word_at s caller = s.word (name_at s caller)
 
 abbrev pub found_at : State → ℕ → Found
-found_at s who = found_by (action_at s who) (word_at s who)
+found_at s caller = found_by (action_at s caller) (word_at s caller)
 
 -- the event of that step, if it has one
 abbrev pub event_at : State → ℕ → Option Event
-event_at s who = event_of who (s.errand who).point (found_at s who)
+event_at s caller = event_of caller (s.errand caller).point (found_at s caller)
 
 -- a step of a caller that is in a call: its action changes one word, its errand goes on by what the action found, and the events gain that of the step, where it has one
-pub record Step (s : State) (who : ℕ) (s' : State) : Type 0 where
-  pub busy : IsBusy (s.errand who)
-  pub word : Writes s.word (name_at s who) (after_action (action_at s who) (word_at s who)) s'.word
-  pub errand : Moves s.errand who (settle_of (s.errand who) (found_at s who)) s'.errand
-  pub history : s'.history ≡ with_event s.history (event_at s who)
+pub record Step (s : State) (caller : ℕ) (s' : State) : Type 0 where
+  pub busy : IsBusy (s.errand caller)
+  pub word : Writes s.word (name_at s caller) (after_action (action_at s caller) (word_at s caller)) s'.word
+  pub errand : Moves s.errand caller (settle_of (s.errand caller) (found_at s caller)) s'.errand
+  pub history : s'.history ≡ with_event s.history (event_at s caller)
 
--- a turn of a caller, which makes so many steps: one where the caller is in a call; else none, and nothing changes
-abbrev pub Turn : State → ℕ → ℕ → State → Type 0
-Turn s who n s' = (IsIdle (s.errand who) × (n ≡ 0) × (s' ≡ s)) ⊎ (Step s who s' × (n ≡ 1))
+-- a slot of a schedule for a caller, which makes so many steps: one where the caller is in a call; else none, and nothing changes
+abbrev pub Slot : State → ℕ → ℕ → State → Type 0
+Slot s caller n s' = (IsIdle (s.errand caller) × (n ≡ 0) × (s' ≡ s)) ⊎ (Step s caller s' × (n ≡ 1))
 
--- turns of these callers, one after the other, which make so many steps
+-- slots for these callers, one after the other, which make so many steps
 abbrev pub Run : State → List ℕ → ℕ → State → Type 0
 Run s [] n s' = (n ≡ 0) × (s' ≡ s)
-Run s (who ∷ rest) n s' =
-    (next : State) × (first : ℕ) × (others : ℕ) × Turn s who first next × Run next rest others s' × (n ≡ first + others)
+Run s (caller ∷ rest) n s' =
+    (next : State) × (first : ℕ) × (others : ℕ) × Slot s caller first next × Run next rest others s' × (n ≡ first + others)
 
 -- two states have the same words, errands and events
 pub record IsSame (a b : State) : Type 0 where
   pub word : (name : WordName) → a.word name ≡ b.word name
-  pub errand : (who : ℕ) → a.errand who ≡ b.errand who
+  pub errand : (caller : ℕ) → a.errand caller ≡ b.errand caller
   pub history : a.history ≡ b.history

@@ -3,12 +3,12 @@
 ghost use Rattle.std.specs.Prelude.{◌≡◌, ◌<◌};
 ghost use Rattle.heap_geometry.specs.Need.{usable_words};
 ghost use Rattle.heap_geometry.specs.declared.limits.TheConstants.{CLASSES, MAX_UNITS, SHELVES};
-ghost use Rattle.errand_steps.specs.declared.onward.Onward.{Onward};
+ghost use Rattle.errand_steps.specs.declared.continuation.Continuation.{Continuation};
 ghost use Rattle.errand_steps.specs.declared.point.Point.{Point};
 ghost use Rattle.errand_steps.specs.Begins.{IsIdle, IsHeapBlock, alloc_begun, alloc_answer, free_point, free_begun, write_begun, read_begun, put_begun, take_begun, seat_of, unit_of};
 
+use crate::continuation::Continuation;
 use crate::errand::Errand;
-use crate::onward::Onward;
 use crate::point::Point;
 use crate::reply::Begun;
 use heap_geometry::limits::UNIT_WORDS;
@@ -36,7 +36,7 @@ impl Errand {
                     at: BlockPoint::LoadActive {
                         seat: self.seat(class),
                     },
-                    onward: Onward::Alloc { need },
+                    continuation: Continuation::Alloc { need },
                 };
                 self.turns += 1;
                 Begun::Started
@@ -46,7 +46,7 @@ impl Errand {
                     at: LargePoint::LoadUnits {
                         want: Want::new(self.geometry, units),
                     },
-                    onward: Onward::Alloc { need },
+                    continuation: Continuation::Alloc { need },
                 };
                 Begun::Started
             }
@@ -70,7 +70,7 @@ impl Errand {
                         frame: frame as u16,
                         index: index as u16,
                     },
-                    onward: Onward::Free,
+                    continuation: Continuation::Free,
                 };
             }
             Need::Large(units) => {
@@ -142,10 +142,10 @@ impl Errand {
 
 /// A point of a call that ends with its part.
 fn last(at: LargePoint) -> Point
-    ensures { result ≡ Point.Large at Onward.Nothing }
+    ensures { result ≡ Point.Large at Continuation.Nothing }
 {
     Point::Large {
         at,
-        onward: Onward::Nothing,
+        continuation: Continuation::Nothing,
     }
 }

@@ -10,13 +10,13 @@ ghost use Rattle.std.specs.Prelude.{◌≡◌};
 ghost use Rattle.errand_steps.specs.Nexts.{next_of, resumed};
 ghost use Rattle.errand_steps.specs.Points.{plan_point_of};
 
+use crate::continuation::Continuation;
 use crate::enter::blocks::enter_block;
 use crate::enter::descriptors::enter_desc;
 use crate::enter::large::enter_large;
 use crate::enter::partials::enter_partial;
 use crate::enter::stacks::enter_stack;
 use crate::next::Next;
-use crate::onward::Onward;
 use crate::point::Point;
 use crate::reply::Reply;
 use hazard_parts::plan::plan_desc;
@@ -56,27 +56,30 @@ pub fn next_of(point: &Point, found: Found) -> Next
 {
     match *point {
         Point::Idle => Next::At { point: Point::Idle },
-        Point::Block { at, onward } => enter_block(settle_block(at, found), onward),
-        Point::Stack { at, onward } => enter_stack(settle_stack(at, found), onward),
-        Point::Desc { at, onward } => enter_desc(settle_desc(at, found), onward),
-        Point::Partial { at, onward } => enter_partial(settle_partial(at, found), onward),
-        Point::Large { at, onward } => enter_large(settle_large(at, found), onward),
+        Point::Block { at, continuation } => enter_block(settle_block(at, found), continuation),
+        Point::Stack { at, continuation } => enter_stack(settle_stack(at, found), continuation),
+        Point::Desc { at, continuation } => enter_desc(settle_desc(at, found), continuation),
+        Point::Partial { at, continuation } => enter_partial(
+            settle_partial(at, found),
+            continuation,
+        ),
+        Point::Large { at, continuation } => enter_large(settle_large(at, found), continuation),
     }
 }
 
 /// How a call goes on after a retirement.
-pub fn resumed(seat: Seat, onward: Onward) -> Next
-    ensures { result ≡ resumed seat onward }
+pub fn resumed(seat: Seat, continuation: Continuation) -> Next
+    ensures { result ≡ resumed seat continuation }
 {
-    match onward {
-        Onward::Turn { need } => Next::Turn { seat, need },
-        Onward::Look { need } => Next::At {
+    match continuation {
+        Continuation::Turn { need } => Next::Turn { seat, need },
+        Continuation::Look { need } => Next::At {
             point: Point::Partial {
                 at: PartialPoint::LoadSlot { seat },
-                onward: Onward::Alloc { need },
+                continuation: Continuation::Alloc { need },
             },
         },
-        Onward::Refuse => Next::End {
+        Continuation::Refuse => Next::End {
             reply: Reply::Refused,
         },
         _ => Next::End {

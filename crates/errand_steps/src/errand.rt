@@ -15,10 +15,10 @@ ghost use Rattle.errand_steps.specs.Events.{event_of};
 ghost use Rattle.errand_steps.specs.Offers.{offered_at};
 ghost use Rattle.errand_steps.specs.Points.{is_idle};
 
+use crate::continuation::Continuation;
 use crate::count::{counts_cleared, counts_lost, counts_won, raised};
 use crate::enter::{next_of, plan_point, resumed};
 use crate::next::Next;
-use crate::onward::Onward;
 use crate::point::Point;
 use crate::reply::{Offer, Progress, Reply};
 use hazard_parts::limits::HELD_MOST;
@@ -167,7 +167,11 @@ impl Errand {
     {
         match *next {
             Next::At { .. } | Next::End { .. } | Next::Turn { .. } => *next,
-            Next::Retire { seat, onward, .. } => {
+            Next::Retire {
+                seat,
+                continuation,
+                ..
+            } => {
                 if self.is_full() {
                     Next::desc(
                         DescPoint::ReadHazard {
@@ -175,18 +179,22 @@ impl Errand {
                             held: [0; HELD_MOST],
                             at: 0,
                         },
-                        onward,
+                        continuation,
                     )
                 } else {
-                    resumed(seat, onward)
+                    resumed(seat, continuation)
                 }
             }
-            Next::Pick { seat, held, onward } => self.picked(
+            Next::Pick {
                 seat,
-                onward,
-                self.retired.pick(&held),
-            ),
-            Next::Unlist { seat, onward, .. } => resumed(seat, onward),
+                held,
+                continuation,
+            } => self.picked(seat, continuation, self.retired.pick(&held)),
+            Next::Unlist {
+                seat,
+                continuation,
+                ..
+            } => resumed(seat, continuation),
         }
     }
 
@@ -198,11 +206,11 @@ impl Errand {
     }
 
     /// The picked descriptor is pushed; where there is none the point stays.
-    fn picked(&self, seat: Seat, onward: Onward, desc: Option<u16>) -> Next
-        ensures { result ≡ picked self.now seat onward desc }
+    fn picked(&self, seat: Seat, continuation: Continuation, desc: Option<u16>) -> Next
+        ensures { result ≡ picked self.now seat continuation desc }
     {
         match desc {
-            Some(desc) => Next::desc(DescPoint::LoadHeadToPush { seat, desc }, onward),
+            Some(desc) => Next::desc(DescPoint::LoadHeadToPush { seat, desc }, continuation),
             None => Next::At { point: self.point },
         }
     }
@@ -224,7 +232,10 @@ impl Errand {
         if self.is_spent() {
             Next::end(Reply::Spent)
         } else {
-            Next::block(BlockPoint::LoadActive { seat }, Onward::Alloc { need })
+            Next::block(
+                BlockPoint::LoadActive { seat },
+                Continuation::Alloc { need },
+            )
         }
     }
 
@@ -322,7 +333,7 @@ pub fn event(errand: &Errand, found: Found) -> Option<Event>
     requires { IsBusy errand.now }
     ensures value { result ≡ event_of errand.now.caller errand.now.point found }
     ensures own { (e : Event) → result ≡ Some e → caller_of e ≡ errand.now.caller }
-    ensures given { (who need place : ℕ) → result ≡ Some (Alloc who need place)
+    ensures given { (caller need place : ℕ) → result ≡ Some (Alloc caller need place)
         → IsHeapBlock errand.now.geometry place (need_of need) }
 {
     crate::event::event_of(errand.caller(), &errand.point, found)

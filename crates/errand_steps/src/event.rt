@@ -4,7 +4,7 @@ ghost use Rattle.std.specs.Prelude.{◌≡◌};
 ghost use Rattle.large_parts.specs.Points.{first_wanted};
 ghost use Rattle.errand_steps.specs.Events.{block_event, stack_event, large_event, empty_event, run_event, won_event, event_of};
 
-use crate::onward::asked;
+use crate::continuation::asked;
 use crate::point::Point;
 use heap_geometry::place::place_of_unit;
 use large_parts::point::LargePoint;
@@ -32,9 +32,9 @@ fn won_event(caller: u32, point: &Point) -> Option<Event>
 {
     match *point {
         Point::Idle | Point::Desc { .. } | Point::Partial { .. } => None,
-        Point::Block { at, onward } => block_event(caller, asked(onward), at),
-        Point::Stack { at, onward } => stack_event(caller, asked(onward), at),
-        Point::Large { at, onward } => large_event(caller, asked(onward), at),
+        Point::Block { at, continuation } => block_event(caller, asked(continuation), at),
+        Point::Stack { at, continuation } => stack_event(caller, asked(continuation), at),
+        Point::Large { at, continuation } => large_event(caller, asked(continuation), at),
     }
 }
 

@@ -29,8 +29,8 @@ pub fn errands_stay_in_their_heap()
 pub fn events_are_of_the_heap()
     ensures own { (e : ErrandFields) (x : Found) (event : Event)
         → event_of e.caller e.point x ≡ Some event → caller_of event ≡ e.caller }
-    ensures given { (e : ErrandFields) (x : Found) (who need place : ℕ) → IsErrand e
-        → event_of e.caller e.point x ≡ Some (Alloc who need place)
+    ensures given { (e : ErrandFields) (x : Found) (caller need place : ℕ) → IsErrand e
+        → event_of e.caller e.point x ≡ Some (Alloc caller need place)
         → IsHeapBlock e.geometry place (need_of need) }
 {}
 

@@ -8,13 +8,13 @@
 #![tactic(auto)]
 
 pub mod begin;
+pub mod continuation;
 pub mod count;
 pub mod enter;
 pub mod errand;
 pub mod event;
 pub mod laws;
 pub mod next;
-pub mod onward;
 pub mod point;
 pub mod reply;
 #[cfg(test)]

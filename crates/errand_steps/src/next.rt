@@ -4,7 +4,7 @@ ghost use Rattle.std.specs.Prelude.{◌≡◌};
 ghost use Rattle.errand_steps.specs.declared.next.Next.TheVariants.{At, End};
 ghost use Rattle.errand_steps.specs.declared.point.Point.TheVariants.{Block, Stack, Desc, Partial, Large};
 
-use crate::onward::Onward;
+use crate::continuation::Continuation;
 use crate::point::Point;
 use crate::reply::Reply;
 use hazard_parts::limits::HELD_MOST;
@@ -35,65 +35,65 @@ pub enum Next {
     Retire {
         seat: Seat,
         desc: u16,
-        onward: Onward,
+        continuation: Continuation,
     },
     /// A retired descriptor that none of these hazard words names is pushed.
     Pick {
         seat: Seat,
         held: [u64; HELD_MOST],
-        onward: Onward,
+        continuation: Continuation,
     },
     /// The descriptor is available again and no longer retired, and the caller goes on.
     Unlist {
         seat: Seat,
         desc: u16,
-        onward: Onward,
+        continuation: Continuation,
     },
 }
 
 impl Next {
     /// The caller stands in a superblock.
-    pub fn block(at: BlockPoint, onward: Onward) -> Next
-        ensures { result ≡ At (Block at onward) }
+    pub fn block(at: BlockPoint, continuation: Continuation) -> Next
+        ensures { result ≡ At (Block at continuation) }
     {
         Next::At {
-            point: Point::Block { at, onward },
+            point: Point::Block { at, continuation },
         }
     }
 
     /// The caller stands at a stack.
-    pub fn stack(at: StackPoint, onward: Onward) -> Next
-        ensures { result ≡ At (Stack at onward) }
+    pub fn stack(at: StackPoint, continuation: Continuation) -> Next
+        ensures { result ≡ At (Stack at continuation) }
     {
         Next::At {
-            point: Point::Stack { at, onward },
+            point: Point::Stack { at, continuation },
         }
     }
 
     /// The caller stands at the descriptors or the hazard words.
-    pub fn desc(at: DescPoint, onward: Onward) -> Next
-        ensures { result ≡ At (Desc at onward) }
+    pub fn desc(at: DescPoint, continuation: Continuation) -> Next
+        ensures { result ≡ At (Desc at continuation) }
     {
         Next::At {
-            point: Point::Desc { at, onward },
+            point: Point::Desc { at, continuation },
         }
     }
 
     /// The caller stands at a partial superblock.
-    pub fn partial(at: PartialPoint, onward: Onward) -> Next
-        ensures { result ≡ At (Partial at onward) }
+    pub fn partial(at: PartialPoint, continuation: Continuation) -> Next
+        ensures { result ≡ At (Partial at continuation) }
     {
         Next::At {
-            point: Point::Partial { at, onward },
+            point: Point::Partial { at, continuation },
         }
     }
 
     /// The caller stands at a large block, a usable word or a shelf.
-    pub fn large(at: LargePoint, onward: Onward) -> Next
-        ensures { result ≡ At (Large at onward) }
+    pub fn large(at: LargePoint, continuation: Continuation) -> Next
+        ensures { result ≡ At (Large at continuation) }
     {
         Next::At {
-            point: Point::Large { at, onward },
+            point: Point::Large { at, continuation },
         }
     }
 

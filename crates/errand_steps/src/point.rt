@@ -1,6 +1,6 @@
 //! The points of all parts.
 
-use crate::onward::Onward;
+use crate::continuation::Continuation;
 use hazard_parts::point::DescPoint;
 use large_parts::point::LargePoint;
 use partial_parts::point::PartialPoint;
@@ -13,13 +13,28 @@ pub enum Point {
     /// In no call.
     Idle,
     /// In a superblock.
-    Block { at: BlockPoint, onward: Onward },
+    Block {
+        at: BlockPoint,
+        continuation: Continuation,
+    },
     /// At a stack of frames or of partial superblocks.
-    Stack { at: StackPoint, onward: Onward },
+    Stack {
+        at: StackPoint,
+        continuation: Continuation,
+    },
     /// At the descriptors or the hazard words.
-    Desc { at: DescPoint, onward: Onward },
+    Desc {
+        at: DescPoint,
+        continuation: Continuation,
+    },
     /// At a partial superblock.
-    Partial { at: PartialPoint, onward: Onward },
+    Partial {
+        at: PartialPoint,
+        continuation: Continuation,
+    },
     /// At a large block, a usable word or a shelf.
-    Large { at: LargePoint, onward: Onward },
+    Large {
+        at: LargePoint,
+        continuation: Continuation,
+    },
 }

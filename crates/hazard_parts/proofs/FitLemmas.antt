@@ -18,29 +18,29 @@ use Rattle.hazard_parts.specs.Points.{plan_desc_of, settle_desc_of, link_in, aft
 
 -- the word that a point's action is on exists
 pub plan-exists :
-    (g : Geometry) (who : ℕ) (p : DescPoint) → IsChecked g → who < g.callers → FitsDesc g who p
+    (g : Geometry) (caller : ℕ) (p : DescPoint) → IsChecked g → caller < g.callers → FitsDesc g caller p
     → Exists g (name_of (plan_desc_of p))
-plan-exists g who (LoadDescHead s) checked has h = tt
-plan-exists g who (StoreHazard s d) checked has h = omega (arith, h.seat.caller)
-plan-exists g who (ReloadDescHead s d) checked has h = tt
-plan-exists g who (LoadNextDesc s d) checked has h = h.desc
-plan-exists g who (PopDesc s d next) checked has h = tt
-plan-exists g who (ClearAfterPop s d) checked has h = omega (arith, h.seat.caller)
-plan-exists g who (ClearHazard s) checked has h = omega (arith, h.caller)
-plan-exists g who (ReadHazard s held at) checked has h = h.1
-plan-exists g who (LoadHeadToPush s d) checked has h = tt
-plan-exists g who (StoreNextDesc s d top) checked has h = h.desc.desc
-plan-exists g who (PushDesc s d top) checked has h = tt
-plan-exists g who (Got s d) checked has h = tt
-plan-exists g who (Cleared s) checked has h = tt
-plan-exists g who (Scanned s held) checked has h = tt
-plan-exists g who (Pushed s d) checked has h = tt
+plan-exists g caller (LoadDescHead s) checked has h = tt
+plan-exists g caller (StoreHazard s d) checked has h = omega (arith, h.seat.number)
+plan-exists g caller (ReloadDescHead s d) checked has h = tt
+plan-exists g caller (LoadNextDesc s d) checked has h = h.desc
+plan-exists g caller (PopDesc s d next) checked has h = tt
+plan-exists g caller (ClearAfterPop s d) checked has h = omega (arith, h.seat.number)
+plan-exists g caller (ClearHazard s) checked has h = omega (arith, h.number)
+plan-exists g caller (ReadHazard s held at) checked has h = h.1
+plan-exists g caller (LoadHeadToPush s d) checked has h = tt
+plan-exists g caller (StoreNextDesc s d top) checked has h = h.desc.desc
+plan-exists g caller (PushDesc s d top) checked has h = tt
+plan-exists g caller (Got s d) checked has h = tt
+plan-exists g caller (Cleared s) checked has h = tt
+plan-exists g caller (Scanned s held) checked has h = tt
+plan-exists g caller (Pushed s d) checked has h = tt
 
 -- a choice fits where both points do
 either :
-    (g : Geometry) (who : ℕ) (b : Bool) (x y : DescPoint) → (b ≡ true → FitsDesc g who x) → (b ≡ false → FitsDesc g who y)
-    → FitsDesc g who (if b then x else y)
-either g who b x y = cond_both b x y (FitsDesc g who)
+    (g : Geometry) (caller : ℕ) (b : Bool) (x y : DescPoint) → (b ≡ true → FitsDesc g caller x) → (b ≡ false → FitsDesc g caller y)
+    → FitsDesc g caller (if b then x else y)
+either g caller b x y = cond_both b x y (FitsDesc g caller)
 
 -- what holds of each descriptor that the heap has, and of none, holds of what a word names
 each-desc :
@@ -62,45 +62,45 @@ each-link g P word none some =
     (λ e. none)
 
 -- the heap of a seat has the descriptors of the caller's heap
-same-count : (g : Geometry) (who : ℕ) (s : SeatFields) → IsSeatOf g who s → descriptor_count s.geometry ≡ descriptor_count g
-same-count g who s seat = ap descriptor_count seat.geometry
+same-count : (g : Geometry) (caller : ℕ) (s : SeatFields) → IsSeatOf g caller s → descriptor_count s.geometry ≡ descriptor_count g
+same-count g caller s seat = ap descriptor_count seat.geometry
 
 -- where a caller's hazard word leads
 fits-hazard :
-    (g : Geometry) (who : ℕ) (s : SeatFields) (held : List ℕ) (at word : ℕ) → IsScanOf g who s held
-    → FitsDesc g who (after_hazard s held at word)
-fits-hazard g who s held at word h =
+    (g : Geometry) (caller : ℕ) (s : SeatFields) (held : List ℕ) (at word : ℕ) → IsScanOf g caller s held
+    → FitsDesc g caller (after_hazard s held at word)
+fits-hazard g caller s held at word h =
     let noted = slice_set held at word in
-    let scan : IsScanOf g who s noted = record { seat = h.seat; words = length-set held at word ∙ h.words } in
-    either g who (nat_lt (at + 1) s.geometry.callers) (ReadHazard s noted (at + 1)) (Scanned s noted)
+    let scan : IsScanOf g caller s noted = record { seat = h.seat; words = length-set held at word ∙ h.words } in
+    either g caller (nat_lt (at + 1) s.geometry.callers) (ReadHazard s noted (at + 1)) (Scanned s noted)
     (λ e. (scan, omega (arith, ltb-true (at + 1) s.geometry.callers e, ap (λ x. x.callers) h.seat.geometry)))
     (λ e. scan)
 
 -- the point after a step fits
 pub settle-fits :
-    (g : Geometry) (who : ℕ) (p : DescPoint) (x : Found) → IsChecked g → x.value < 2 ^ 64 → FitsDesc g who p
-    → FitsDesc g who (settle_desc_of p x)
-settle-fits g who (LoadDescHead s) x checked word h =
-    each-desc s.geometry (λ o. FitsDesc g who (after_head s o)) x.value h
-    (λ d has. record { seat = h; desc = omega (arith, has, same-count g who s h) })
-settle-fits g who (StoreHazard s d) x checked word h = h
-settle-fits g who (ReloadDescHead s d) x checked word h =
-    either g who (x.value == d + 1) (LoadNextDesc s d) (LoadDescHead s) (λ e. h) (λ e. h.seat)
-settle-fits g who (LoadNextDesc s d) x checked word h =
-    each-link s.geometry (λ o. FitsDesc g who (after_next s d o)) x.value h
-    (λ most. record { desc = h; link = omega (arith, most, same-count g who s h.seat) })
-settle-fits g who (PopDesc s d next) x checked word h =
-    either g who x.won (ClearAfterPop s d) (LoadDescHead s) (λ e. h.desc) (λ e. h.desc.seat)
-settle-fits g who (ClearAfterPop s d) x checked word h = h
-settle-fits g who (ClearHazard s) x checked word h = h
-settle-fits g who (ReadHazard s held at) x checked word h = fits-hazard g who s held at x.value h.0
-settle-fits g who (LoadHeadToPush s d) x checked word h =
-    each-link s.geometry (λ o. FitsDesc g who (after_top s d o)) x.value h
-    (λ most. record { desc = h; link = omega (arith, most, same-count g who s h.seat) })
-settle-fits g who (StoreNextDesc s d top) x checked word h = h
-settle-fits g who (PushDesc s d top) x checked word h =
-    either g who x.won (Pushed s d) (LoadHeadToPush s d) (λ e. h.desc) (λ e. h.desc)
-settle-fits g who (Got s d) x checked word h = h
-settle-fits g who (Cleared s) x checked word h = h
-settle-fits g who (Scanned s held) x checked word h = h
-settle-fits g who (Pushed s d) x checked word h = h
+    (g : Geometry) (caller : ℕ) (p : DescPoint) (x : Found) → IsChecked g → x.value < 2 ^ 64 → FitsDesc g caller p
+    → FitsDesc g caller (settle_desc_of p x)
+settle-fits g caller (LoadDescHead s) x checked word h =
+    each-desc s.geometry (λ o. FitsDesc g caller (after_head s o)) x.value h
+    (λ d has. record { seat = h; desc = omega (arith, has, same-count g caller s h) })
+settle-fits g caller (StoreHazard s d) x checked word h = h
+settle-fits g caller (ReloadDescHead s d) x checked word h =
+    either g caller (x.value == d + 1) (LoadNextDesc s d) (LoadDescHead s) (λ e. h) (λ e. h.seat)
+settle-fits g caller (LoadNextDesc s d) x checked word h =
+    each-link s.geometry (λ o. FitsDesc g caller (after_next s d o)) x.value h
+    (λ most. record { desc = h; link = omega (arith, most, same-count g caller s h.seat) })
+settle-fits g caller (PopDesc s d next) x checked word h =
+    either g caller x.won (ClearAfterPop s d) (LoadDescHead s) (λ e. h.desc) (λ e. h.desc.seat)
+settle-fits g caller (ClearAfterPop s d) x checked word h = h
+settle-fits g caller (ClearHazard s) x checked word h = h
+settle-fits g caller (ReadHazard s held at) x checked word h = fits-hazard g caller s held at x.value h.0
+settle-fits g caller (LoadHeadToPush s d) x checked word h =
+    each-link s.geometry (λ o. FitsDesc g caller (after_top s d o)) x.value h
+    (λ most. record { desc = h; link = omega (arith, most, same-count g caller s h.seat) })
+settle-fits g caller (StoreNextDesc s d top) x checked word h = h
+settle-fits g caller (PushDesc s d top) x checked word h =
+    either g caller x.won (Pushed s d) (LoadHeadToPush s d) (λ e. h.desc) (λ e. h.desc)
+settle-fits g caller (Got s d) x checked word h = h
+settle-fits g caller (Cleared s) x checked word h = h
+settle-fits g caller (Scanned s held) x checked word h = h
+settle-fits g caller (Pushed s d) x checked word h = h

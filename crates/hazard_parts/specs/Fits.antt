@@ -9,29 +9,29 @@ use Rattle.hazard_parts.specs.declared.point.DescPoint.{DescPoint}
 use Rattle.hazard_parts.specs.declared.point.DescPoint.TheVariants.{LoadDescHead, StoreHazard, ReloadDescHead, LoadNextDesc, PopDesc, ClearAfterPop, ClearHazard, ReadHazard, LoadHeadToPush, StoreNextDesc, PushDesc, Got, Cleared, Scanned, Pushed}
 
 -- the same, with a word that is 0 or names a descriptor that the heap has
-pub record IsLinkOf (g : Geometry) (who : ℕ) (s : SeatFields) (d word : ℕ) : Type 0 where
-  pub desc : IsDescOf g who s d
+pub record IsLinkOf (g : Geometry) (caller : ℕ) (s : SeatFields) (d word : ℕ) : Type 0 where
+  pub desc : IsDescOf g caller s d
   pub link : word ≤ descriptor_count g
 
 -- a seat of this caller of this heap, and the hazard words that were read
-pub record IsScanOf (g : Geometry) (who : ℕ) (s : SeatFields) (held : List ℕ) : Type 0 where
-  pub seat : IsSeatOf g who s
+pub record IsScanOf (g : Geometry) (caller : ℕ) (s : SeatFields) (held : List ℕ) : Type 0 where
+  pub seat : IsSeatOf g caller s
   pub words : length held ≡ HELD_MOST
 
 -- the point is of this caller of this heap, and everything that it remembers exists there
 abbrev pub FitsDesc : Geometry → ℕ → DescPoint → Type 0
-FitsDesc g who (LoadDescHead s) = IsSeatOf g who s
-FitsDesc g who (StoreHazard s d) = IsDescOf g who s d
-FitsDesc g who (ReloadDescHead s d) = IsDescOf g who s d
-FitsDesc g who (LoadNextDesc s d) = IsDescOf g who s d
-FitsDesc g who (PopDesc s d next) = IsLinkOf g who s d next
-FitsDesc g who (ClearAfterPop s d) = IsDescOf g who s d
-FitsDesc g who (ClearHazard s) = IsSeatOf g who s
-FitsDesc g who (ReadHazard s held at) = IsScanOf g who s held × (at < g.callers)
-FitsDesc g who (LoadHeadToPush s d) = IsDescOf g who s d
-FitsDesc g who (StoreNextDesc s d top) = IsLinkOf g who s d top
-FitsDesc g who (PushDesc s d top) = IsLinkOf g who s d top
-FitsDesc g who (Got s d) = IsDescOf g who s d
-FitsDesc g who (Cleared s) = IsSeatOf g who s
-FitsDesc g who (Scanned s held) = IsScanOf g who s held
-FitsDesc g who (Pushed s d) = IsDescOf g who s d
+FitsDesc g caller (LoadDescHead s) = IsSeatOf g caller s
+FitsDesc g caller (StoreHazard s d) = IsDescOf g caller s d
+FitsDesc g caller (ReloadDescHead s d) = IsDescOf g caller s d
+FitsDesc g caller (LoadNextDesc s d) = IsDescOf g caller s d
+FitsDesc g caller (PopDesc s d next) = IsLinkOf g caller s d next
+FitsDesc g caller (ClearAfterPop s d) = IsDescOf g caller s d
+FitsDesc g caller (ClearHazard s) = IsSeatOf g caller s
+FitsDesc g caller (ReadHazard s held at) = IsScanOf g caller s held × (at < g.callers)
+FitsDesc g caller (LoadHeadToPush s d) = IsDescOf g caller s d
+FitsDesc g caller (StoreNextDesc s d top) = IsLinkOf g caller s d top
+FitsDesc g caller (PushDesc s d top) = IsLinkOf g caller s d top
+FitsDesc g caller (Got s d) = IsDescOf g caller s d
+FitsDesc g caller (Cleared s) = IsSeatOf g caller s
+FitsDesc g caller (Scanned s held) = IsScanOf g caller s held
+FitsDesc g caller (Pushed s d) = IsDescOf g caller s d

@@ -6,8 +6,8 @@ ghost use Rattle.hazard_parts.specs.Points.{link_in, after_head, after_reload, a
 
 use crate::limits::HELD_MOST;
 use crate::point::DescPoint;
-use word_plan::seat::Seat;
 use word_plan::name::name_of_desc;
+use word_plan::seat::Seat;
 
 /// A word that is 0 or names a descriptor that the heap has; `None` where it does neither.
 fn link_in(seat: Seat, word: u64) -> Option<u16>

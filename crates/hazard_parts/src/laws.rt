@@ -15,10 +15,10 @@ ghost use Rattle.hazard_parts.specs.declared.point.DescPoint.{DescPoint};
 /// A point whose memory exists in a heap acts on a word that exists there, and leads to such a
 /// point of the same seat, whatever it finds.
 pub fn points_fit()
-    ensures names { (g : Geometry) (who : ℕ) (p : DescPoint) → IsChecked g → who < g.callers
-        → FitsDesc g who p → Exists g (name_of (plan_desc_of p)) }
-    ensures keeps { (g : Geometry) (who : ℕ) (p : DescPoint) (x : Found) → IsChecked g
-        → x.value < 2 ^ 64 → FitsDesc g who p → FitsDesc g who (settle_desc_of p x) }
+    ensures names { (g : Geometry) (caller : ℕ) (p : DescPoint) → IsChecked g → caller < g.callers
+        → FitsDesc g caller p → Exists g (name_of (plan_desc_of p)) }
+    ensures keeps { (g : Geometry) (caller : ℕ) (p : DescPoint) (x : Found) → IsChecked g
+        → x.value < 2 ^ 64 → FitsDesc g caller p → FitsDesc g caller (settle_desc_of p x) }
     ensures seat { (p : DescPoint) (x : Found)
         → seat_of_desc (settle_desc_of p x) ≡ seat_of_desc p }
 {}

@@ -25,41 +25,41 @@ use Rattle.partial_parts.specs.Points.{plan_partial_of, settle_partial_of, after
 use Rattle.partial_parts.proofs.GrantLemmas.{grant_more-within}
 
 -- the slot of a caller's processor heap exists
-slot-exists : (g : Geometry) (who : ℕ) (s : SeatFields) → IsChecked g → IsSeatOf g who s → (heap_of s < g.heaps) × (s.class < CLASSES)
-slot-exists g who s checked seat =
+slot-exists : (g : Geometry) (caller : ℕ) (s : SeatFields) → IsChecked g → IsSeatOf g caller s → (heap_of s < g.heaps) × (s.class < CLASSES)
+slot-exists g caller s checked seat =
     let same : s.geometry.heaps ≡ g.heaps = ap (λ x. x.heaps) seat.geometry in
     (omega (arith, heap_of-within s (omega (arith, checked.heaps.0)), same), seat.class)
 
 -- the word that a point's action is on exists
 pub plan-exists :
-    (g : Geometry) (who : ℕ) (p : PartialPoint) → IsChecked g → who < g.callers → FitsPartial g who p
+    (g : Geometry) (caller : ℕ) (p : PartialPoint) → IsChecked g → caller < g.callers → FitsPartial g caller p
     → Exists g (name_of (plan_partial_of p))
-plan-exists g who (LoadSlot s) checked has h = slot-exists g who s checked h
-plan-exists g who (TakeSlot s d) checked has h = slot-exists g who s checked h.seat
-plan-exists g who (LoadTakenInfo s d) checked has h = h.desc
-plan-exists g who (StoreOwner at) checked has h = h.desc
-plan-exists g who (LoadGrantAnchor at) checked has h = h.desc
-plan-exists g who (Grant at a) checked has h = h.0.desc
-plan-exists g who (LoadOwner s d) checked has h = h.desc
-plan-exists g who (PutSlot s d heap) checked has h = (h.owner, h.seat.class)
-plan-exists g who (LoadHeldSlot s d heap) checked has h = (h.owner, h.seat.class)
-plan-exists g who (RemoveFromSlot s d heap) checked has h = (h.owner, h.seat.class)
-plan-exists g who (LoadListedAnchor s d) checked has h = h.desc
-plan-exists g who (SlotEmpty s) checked has h = tt
-plan-exists g who (Granted at more) checked has h = tt
-plan-exists g who (TookEmpty at) checked has h = tt
-plan-exists g who (SlotFilled s) checked has h = tt
-plan-exists g who (Displaced s d) checked has h = tt
-plan-exists g who (NotInSlot s) checked has h = tt
-plan-exists g who (Removed s d) checked has h = tt
-plan-exists g who (ListedEmpty s d) checked has h = tt
-plan-exists g who (ListedPartial s d) checked has h = tt
+plan-exists g caller (LoadSlot s) checked has h = slot-exists g caller s checked h
+plan-exists g caller (TakeSlot s d) checked has h = slot-exists g caller s checked h.seat
+plan-exists g caller (LoadTakenInfo s d) checked has h = h.desc
+plan-exists g caller (StoreOwner at) checked has h = h.desc
+plan-exists g caller (LoadGrantAnchor at) checked has h = h.desc
+plan-exists g caller (Grant at a) checked has h = h.0.desc
+plan-exists g caller (LoadOwner s d) checked has h = h.desc
+plan-exists g caller (PutSlot s d heap) checked has h = (h.owner, h.seat.class)
+plan-exists g caller (LoadHeldSlot s d heap) checked has h = (h.owner, h.seat.class)
+plan-exists g caller (RemoveFromSlot s d heap) checked has h = (h.owner, h.seat.class)
+plan-exists g caller (LoadListedAnchor s d) checked has h = h.desc
+plan-exists g caller (SlotEmpty s) checked has h = tt
+plan-exists g caller (Granted at more) checked has h = tt
+plan-exists g caller (TookEmpty at) checked has h = tt
+plan-exists g caller (SlotFilled s) checked has h = tt
+plan-exists g caller (Displaced s d) checked has h = tt
+plan-exists g caller (NotInSlot s) checked has h = tt
+plan-exists g caller (Removed s d) checked has h = tt
+plan-exists g caller (ListedEmpty s d) checked has h = tt
+plan-exists g caller (ListedPartial s d) checked has h = tt
 
 -- a choice fits where both points do
 either :
-    (g : Geometry) (who : ℕ) (b : Bool) (x y : PartialPoint) → (b ≡ true → FitsPartial g who x)
-    → (b ≡ false → FitsPartial g who y) → FitsPartial g who (if b then x else y)
-either g who b x y = cond_both b x y (FitsPartial g who)
+    (g : Geometry) (caller : ℕ) (b : Bool) (x y : PartialPoint) → (b ≡ true → FitsPartial g caller x)
+    → (b ≡ false → FitsPartial g caller y) → FitsPartial g caller (if b then x else y)
+either g caller b x y = cond_both b x y (FitsPartial g caller)
 
 -- a number between 1 and a limit, less 1, is below the limit
 less-below : (n limit same : ℕ) → 1 ≤ n → n ≤ limit → limit ≡ same → n - 1 < same
@@ -67,9 +67,9 @@ less-below n limit same some within is = omega arith
 
 -- what holds of a descriptor that the seat's heap has, and of none, holds of what a word names
 each-desc :
-    (g : Geometry) (who : ℕ) (s : SeatFields) (word : ℕ) (P : Option ℕ → Type 0) → IsSeatOf g who s → P None
-    → ((d : ℕ) → IsDescOf g who s d → P (Some d)) → P (desc_named s.geometry word)
-each-desc g who s word P seat none some =
+    (g : Geometry) (caller : ℕ) (s : SeatFields) (word : ℕ) (P : Option ℕ → Type 0) → IsSeatOf g caller s → P None
+    → ((d : ℕ) → IsDescOf g caller s d → P (Some d)) → P (desc_named s.geometry word)
+each-desc g caller s word P seat none some =
     let count = descriptor_count s.geometry in
     cond_both (is_within 1 count word) (Some (word - 1)) None P
     (λ e. let parts = and_parts (nat_le 1 word) (nat_le word count) e in
@@ -82,10 +82,10 @@ each-desc g who s word P seat none some =
 
 -- where the word of a taken descriptor leads
 fits-taken_info :
-    (g : Geometry) (who : ℕ) (s : SeatFields) (d word : ℕ) → IsDescOf g who s d
-    → FitsPartial g who (after_taken_info s d (info_in s.geometry word))
-fits-taken_info g who s d word h =
-    each-info s.geometry (λ o. FitsPartial g who (after_taken_info s d o)) (info_of word) h
+    (g : Geometry) (caller : ℕ) (s : SeatFields) (d word : ℕ) → IsDescOf g caller s d
+    → FitsPartial g caller (after_taken_info s d (info_in s.geometry word))
+fits-taken_info g caller s d word h =
+    each-info s.geometry (λ o. FitsPartial g caller (after_taken_info s d o)) (info_of word) h
     (λ i frame heap. record {
       seat = h.seat;
       desc = h.desc;
@@ -94,10 +94,10 @@ fits-taken_info g who s d word h =
 
 -- where the word of a descriptor leads whose superblock became partial
 fits-owner :
-    (g : Geometry) (who : ℕ) (s : SeatFields) (d word : ℕ) → IsDescOf g who s d
-    → FitsPartial g who (after_owner s d (info_in s.geometry word))
-fits-owner g who s d word h =
-    each-info s.geometry (λ o. FitsPartial g who (after_owner s d o)) (info_of word) h
+    (g : Geometry) (caller : ℕ) (s : SeatFields) (d word : ℕ) → IsDescOf g caller s d
+    → FitsPartial g caller (after_owner s d (info_in s.geometry word))
+fits-owner g caller s d word h =
+    each-info s.geometry (λ o. FitsPartial g caller (after_owner s d o)) (info_of word) h
     (λ i frame heap. record {
       seat = h.seat;
       desc = h.desc;
@@ -106,41 +106,41 @@ fits-owner g who s d word h =
 
 -- the point after a step fits
 pub settle-fits :
-    (g : Geometry) (who : ℕ) (p : PartialPoint) (x : Found) → IsChecked g → x.value < 2 ^ 64 → FitsPartial g who p
-    → FitsPartial g who (settle_partial_of p x)
-settle-fits g who (LoadSlot s) x checked word h =
-    either g who (x.value == 0) (SlotEmpty s) (after_kept s (desc_named s.geometry x.value))
+    (g : Geometry) (caller : ℕ) (p : PartialPoint) (x : Found) → IsChecked g → x.value < 2 ^ 64 → FitsPartial g caller p
+    → FitsPartial g caller (settle_partial_of p x)
+settle-fits g caller (LoadSlot s) x checked word h =
+    either g caller (x.value == 0) (SlotEmpty s) (after_kept s (desc_named s.geometry x.value))
     (λ e. h)
-    (λ e. each-desc g who s x.value (λ o. FitsPartial g who (after_kept s o)) h h (λ d held. held))
-settle-fits g who (TakeSlot s d) x checked word h =
-    either g who x.won (LoadTakenInfo s d) (LoadSlot s) (λ e. h) (λ e. h.seat)
-settle-fits g who (LoadTakenInfo s d) x checked word h = fits-taken_info g who s d x.value h
-settle-fits g who (StoreOwner at) x checked word h = h
-settle-fits g who (LoadGrantAnchor at) x checked word h =
-    either g who (is_empty (anchor_of x.value).state) (TookEmpty at) (after_live at (anchor_in at.seat.class x.value))
+    (λ e. each-desc g caller s x.value (λ o. FitsPartial g caller (after_kept s o)) h h (λ d held. held))
+settle-fits g caller (TakeSlot s d) x checked word h =
+    either g caller x.won (LoadTakenInfo s d) (LoadSlot s) (λ e. h) (λ e. h.seat)
+settle-fits g caller (LoadTakenInfo s d) x checked word h = fits-taken_info g caller s d x.value h
+settle-fits g caller (StoreOwner at) x checked word h = h
+settle-fits g caller (LoadGrantAnchor at) x checked word h =
+    either g caller (is_empty (anchor_of x.value).state) (TookEmpty at) (after_live at (anchor_in at.seat.class x.value))
     (λ e. h)
-    (λ e. each-anchor at.seat.class x.value (λ o. FitsPartial g who (after_live at o)) h (λ a anchor. (h, anchor)))
-settle-fits g who (Grant at a) x checked word h =
-    either g who x.won (Granted at (grant_more a.count)) (LoadGrantAnchor at)
+    (λ e. each-anchor at.seat.class x.value (λ o. FitsPartial g caller (after_live at o)) h (λ a anchor. (h, anchor)))
+settle-fits g caller (Grant at a) x checked word h =
+    either g caller x.won (Granted at (grant_more a.count)) (LoadGrantAnchor at)
     (λ e. (h.0, grant_more-within a.count))
     (λ e. h.0)
-settle-fits g who (LoadOwner s d) x checked word h = fits-owner g who s d x.value h
-settle-fits g who (PutSlot s d heap) x checked word h =
-    either g who (x.value == 0) (SlotFilled s) (after_displaced s d heap (desc_named s.geometry x.value))
+settle-fits g caller (LoadOwner s d) x checked word h = fits-owner g caller s d x.value h
+settle-fits g caller (PutSlot s d heap) x checked word h =
+    either g caller (x.value == 0) (SlotFilled s) (after_displaced s d heap (desc_named s.geometry x.value))
     (λ e. h.seat)
-    (λ e. each-desc g who s x.value (λ o. FitsPartial g who (after_displaced s d heap o)) h.seat h (λ d held. held))
-settle-fits g who (LoadHeldSlot s d heap) x checked word h =
-    either g who (x.value == d + 1) (RemoveFromSlot s d heap) (NotInSlot s) (λ e. h) (λ e. h.seat)
-settle-fits g who (RemoveFromSlot s d heap) x checked word h =
-    either g who x.won (Removed s d) (NotInSlot s) (λ e. record { seat = h.seat; desc = h.desc }) (λ e. h.seat)
-settle-fits g who (LoadListedAnchor s d) x checked word h =
-    either g who (is_empty (anchor_of x.value).state) (ListedEmpty s d) (ListedPartial s d) (λ e. h) (λ e. h)
-settle-fits g who (SlotEmpty s) x checked word h = h
-settle-fits g who (Granted at more) x checked word h = h
-settle-fits g who (TookEmpty at) x checked word h = h
-settle-fits g who (SlotFilled s) x checked word h = h
-settle-fits g who (Displaced s d) x checked word h = h
-settle-fits g who (NotInSlot s) x checked word h = h
-settle-fits g who (Removed s d) x checked word h = h
-settle-fits g who (ListedEmpty s d) x checked word h = h
-settle-fits g who (ListedPartial s d) x checked word h = h
+    (λ e. each-desc g caller s x.value (λ o. FitsPartial g caller (after_displaced s d heap o)) h.seat h (λ d held. held))
+settle-fits g caller (LoadHeldSlot s d heap) x checked word h =
+    either g caller (x.value == d + 1) (RemoveFromSlot s d heap) (NotInSlot s) (λ e. h) (λ e. h.seat)
+settle-fits g caller (RemoveFromSlot s d heap) x checked word h =
+    either g caller x.won (Removed s d) (NotInSlot s) (λ e. record { seat = h.seat; desc = h.desc }) (λ e. h.seat)
+settle-fits g caller (LoadListedAnchor s d) x checked word h =
+    either g caller (is_empty (anchor_of x.value).state) (ListedEmpty s d) (ListedPartial s d) (λ e. h) (λ e. h)
+settle-fits g caller (SlotEmpty s) x checked word h = h
+settle-fits g caller (Granted at more) x checked word h = h
+settle-fits g caller (TookEmpty at) x checked word h = h
+settle-fits g caller (SlotFilled s) x checked word h = h
+settle-fits g caller (Displaced s d) x checked word h = h
+settle-fits g caller (NotInSlot s) x checked word h = h
+settle-fits g caller (Removed s d) x checked word h = h
+settle-fits g caller (ListedEmpty s d) x checked word h = h
+settle-fits g caller (ListedPartial s d) x checked word h = h

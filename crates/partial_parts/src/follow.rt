@@ -8,8 +8,8 @@ ghost use Rattle.partial_parts.specs.Points.{after_slot, after_kept, after_taken
 use crate::grants::is_empty;
 use crate::point::PartialPoint;
 use packed_words::anchor::Anchor;
-use word_plan::seat::{Seat, Site};
 use word_plan::name::name_of_desc;
+use word_plan::seat::{Seat, Site};
 
 /// From the slot of the caller's processor heap.
 pub fn after_slot(seat: Seat, word: u64) -> PartialPoint

@@ -23,9 +23,9 @@ pub fn grants_add_up()
 /// A point whose memory exists in a heap acts on a word that exists there, and leads to such a
 /// point of the same seat, whatever it finds.
 pub fn points_fit()
-    ensures names { (g : Geometry) (who : ℕ) (p : PartialPoint) → IsChecked g → who < g.callers
-        → FitsPartial g who p → Exists g (name_of (plan_partial_of p)) }
-    ensures keeps { (g : Geometry) (who : ℕ) (p : PartialPoint) (x : Found) → IsChecked g → x.value < 2 ^ 64
-        → FitsPartial g who p → FitsPartial g who (settle_partial_of p x) }
+    ensures names { (g : Geometry) (caller : ℕ) (p : PartialPoint) → IsChecked g → caller < g.callers
+        → FitsPartial g caller p → Exists g (name_of (plan_partial_of p)) }
+    ensures keeps { (g : Geometry) (caller : ℕ) (p : PartialPoint) (x : Found) → IsChecked g → x.value < 2 ^ 64
+        → FitsPartial g caller p → FitsPartial g caller (settle_partial_of p x) }
     ensures seat { (p : PartialPoint) (x : Found) → seat_of_partial (settle_partial_of p x) ≡ seat_of_partial p }
 {}

@@ -29,20 +29,20 @@ legal-with g history (Some event) counted legal weaker =
     (EachAfter-last (IsLegalEventWithoutCounts g) history event weaker, counted event refl)
 
 -- what a caller tells next has its number
-pub tells-all : (g : Geometry) (s : State) (who : ℕ) → IsSoundWithoutCounts g s → who < g.callers → TellsCounted g s who
-tells-all g s who sound has =
+pub tells-all : (g : Geometry) (s : State) (caller : ℕ) → IsSoundWithoutCounts g s → caller < g.callers → TellsCounted g s caller
+tells-all g s caller sound has =
     let l = sound.parts.0 in
     let old = sound.parts.1 in
-    tells-counted g s l who old has
-    (λ class is bare unkept unpaid. look-counted g s l who class old has is bare unkept unpaid)
-    (refusal-counted g s l who old has)
+    tells-counted g s l caller old has
+    (λ class is bare unkept unpaid. look-counted g s l caller class old has is bare unkept unpaid)
+    (refusal-counted g s l caller old has)
 
 -- so every step keeps the counts too
-pub steps-counted : (g : Geometry) (s : State) (who : ℕ) (s' : State) → IsSound g s → who < g.callers → Step s who s' → IsSound g s'
-steps-counted g s who s' sound has step =
+pub steps-counted : (g : Geometry) (s : State) (caller : ℕ) (s' : State) → IsSound g s → caller < g.callers → Step s caller s' → IsSound g s'
+steps-counted g s caller s' sound has step =
     let before = without-counts g s sound in
-    let after : IsSoundWithoutCounts g s' = steps-sound g s who s' before has step in
+    let after : IsSoundWithoutCounts g s' = steps-sound g s caller s' before has step in
     with-counts g s' after
     (subst (IsLegal g) (sym step.history)
-    (legal-with g s.history (event_at s who) (tells-all g s who before has) sound.legal
+    (legal-with g s.history (event_at s caller) (tells-all g s caller before has) sound.legal
     (subst (IsLegalWithoutCounts g) step.history after.legal)))

@@ -17,11 +17,11 @@ use Rattle.stack_parts.specs.declared.point.Pile.{Pile}
 use Rattle.stack_parts.specs.declared.point.StackPoint.{StackPoint}
 use Rattle.stack_parts.specs.declared.point.StackPoint.TheVariants as stack
 use Rattle.stack_parts.specs.Piles.{head_name}
-use Rattle.errand_steps.specs.declared.onward.Onward.{Onward}
-use Rattle.errand_steps.specs.declared.onward.Onward.TheVariants as onward
+use Rattle.errand_steps.specs.declared.continuation.Continuation.{Continuation}
+use Rattle.errand_steps.specs.declared.continuation.Continuation.TheVariants as continuation
 use Rattle.errand_steps.specs.declared.point.Point.{Point}
 use Rattle.errand_steps.specs.declared.point.Point.TheVariants.{Idle, Block, Stack, Desc, Partial, Large}
-use Rattle.errand_steps.specs.Onwards.{is_finish, is_clearing, clears}
+use Rattle.errand_steps.specs.Continuations.{is_finish, is_clearing, clears}
 use Rattle.errand_steps.specs.Points.{asked, plan_point_of}
 use Rattle.errand_steps.specs.Points.{is_idle}
 use Rattle.errand_steps.specs.Steps.{State, Step}
@@ -55,195 +55,195 @@ use Rattle.sound_state.proofs.quiet.QuietStacks.{load_top-sound, load_below-soun
 
 -- an empty head: a clearing that has popped nothing ends
 empty-sound :
-    (g : Geometry) (s : State) (who : ℕ) (s' : State) (seat : SeatFields) (pile : Pile) (o : Onward) → IsSoundWithoutCounts g s → who < g.callers
-    → (s.errand who).point ≡ Stack (stack.LoadTop seat pile) o → (head_of (s.word (head_name seat pile))).top ≡ 0 → Step s who s'
+    (g : Geometry) (s : State) (caller : ℕ) (s' : State) (seat : SeatFields) (pile : Pile) (o : Continuation) → IsSoundWithoutCounts g s → caller < g.callers
+    → (s.errand caller).point ≡ Stack (stack.LoadTop seat pile) o → (head_of (s.word (head_name seat pile))).top ≡ 0 → Step s caller s'
     → IsSoundWithoutCounts g s'
-empty-sound g s who s' seat pile onward.Clear sound has at empty step = clear_ends-sound g s who s' seat pile sound has at empty step
-empty-sound g s who s' seat pile o sound has at empty step = load_top-sound g s who s' seat pile o sound has at (λ is. absurd (cc)) step
+empty-sound g s caller s' seat pile continuation.Clear sound has at empty step = clear_ends-sound g s caller s' seat pile sound has at empty step
+empty-sound g s caller s' seat pile o sound has at empty step = load_top-sound g s caller s' seat pile o sound has at (λ is. absurd (cc)) step
 
 -- the load of a head, which may end a clearing
 top-sound :
-    (g : Geometry) (s : State) (who : ℕ) (s' : State) (seat : SeatFields) (pile : Pile) (o : Onward) → IsSoundWithoutCounts g s → who < g.callers
-    → (s.errand who).point ≡ Stack (stack.LoadTop seat pile) o → Step s who s' → IsSoundWithoutCounts g s'
-top-sound g s who s' seat pile o sound has at step =
+    (g : Geometry) (s : State) (caller : ℕ) (s' : State) (seat : SeatFields) (pile : Pile) (o : Continuation) → IsSoundWithoutCounts g s → caller < g.callers
+    → (s.errand caller).point ≡ Stack (stack.LoadTop seat pile) o → Step s caller s' → IsSoundWithoutCounts g s'
+top-sound g s caller s' seat pile o sound has at step =
     elim (cases_eq (head_of (s.word (head_name seat pile))).top 0) [
-      | inl empty ↦ empty-sound g s who s' seat pile o sound has at empty step
-      | inr some ↦ load_top-sound g s who s' seat pile o sound has at (λ clear. some) step
+      | inl empty ↦ empty-sound g s caller s' seat pile o sound has at empty step
+      | inr some ↦ load_top-sound g s caller s' seat pile o sound has at (λ clear. some) step
     ]
 
 stack-sound :
-    (g : Geometry) (s : State) (who : ℕ) (s' : State) (p : StackPoint) (o : Onward) → IsSoundWithoutCounts g s → who < g.callers
-    → (s.errand who).point ≡ Stack p o → Step s who s' → IsSoundWithoutCounts g s'
+    (g : Geometry) (s : State) (caller : ℕ) (s' : State) (p : StackPoint) (o : Continuation) → IsSoundWithoutCounts g s → caller < g.callers
+    → (s.errand caller).point ≡ Stack p o → Step s caller s' → IsSoundWithoutCounts g s'
 unfolding plan_point_of
-stack-sound g s who s' (stack.LoadTop seat pile) o sound has at step = top-sound g s who s' seat pile o sound has at step
-stack-sound g s who s' (stack.LoadBelow seat pile h) o sound has at step = load_below-sound g s who s' seat pile h o sound has at step
-stack-sound g s who s' (stack.PopTop seat pile h below) o sound has at step =
-    pop_top-sound g s who s' seat pile h below o sound has at step
-stack-sound g s who s' (stack.ConfirmEmpty seat pile h) o sound has at step =
-    confirm_empty-sound g s who s' seat pile h o sound has at step
-stack-sound g s who s' (stack.LoadTopToPush seat pile i) o sound has at step =
-    load_top_to_push-sound g s who s' seat pile i o sound has at step
-stack-sound g s who s' (stack.StoreBelow seat pile i h) o sound has at step = store_below-sound g s who s' seat pile i h o sound has at step
-stack-sound g s who s' (stack.PushTop seat pile i h) o sound has at step =
-    push_top-sound g s who s' seat pile i h o sound has at step
-stack-sound g s who s' p o sound has at step = absurd (true≢false (fits-now g s who (Stack p o) sound has at).inside)
+stack-sound g s caller s' (stack.LoadTop seat pile) o sound has at step = top-sound g s caller s' seat pile o sound has at step
+stack-sound g s caller s' (stack.LoadBelow seat pile h) o sound has at step = load_below-sound g s caller s' seat pile h o sound has at step
+stack-sound g s caller s' (stack.PopTop seat pile h below) o sound has at step =
+    pop_top-sound g s caller s' seat pile h below o sound has at step
+stack-sound g s caller s' (stack.ConfirmEmpty seat pile h) o sound has at step =
+    confirm_empty-sound g s caller s' seat pile h o sound has at step
+stack-sound g s caller s' (stack.LoadTopToPush seat pile i) o sound has at step =
+    load_top_to_push-sound g s caller s' seat pile i o sound has at step
+stack-sound g s caller s' (stack.StoreBelow seat pile i h) o sound has at step = store_below-sound g s caller s' seat pile i h o sound has at step
+stack-sound g s caller s' (stack.PushTop seat pile i h) o sound has at step =
+    push_top-sound g s caller s' seat pile i h o sound has at step
+stack-sound g s caller s' p o sound has at step = absurd (true≢false (fits-now g s caller (Stack p o) sound has at).inside)
 
 block-sound :
-    (g : Geometry) (s : State) (who : ℕ) (s' : State) (p : BlockPoint) (o : Onward) → IsSoundWithoutCounts g s → who < g.callers
-    → (s.errand who).point ≡ Block p o → Step s who s' → IsSoundWithoutCounts g s'
+    (g : Geometry) (s : State) (caller : ℕ) (s' : State) (p : BlockPoint) (o : Continuation) → IsSoundWithoutCounts g s → caller < g.callers
+    → (s.errand caller).point ≡ Block p o → Step s caller s' → IsSoundWithoutCounts g s'
 unfolding plan_point_of
-block-sound g s who s' (block.LoadActive seat) o sound has at step =
-    let is : o ≡ onward.Alloc (asked o) = the-alloc o (fits-now g s who _ sound has at).goes in
-    load_active-sound g s who s' seat (asked o) sound has (at ∙ ap (Block (block.LoadActive seat)) is) step
-block-sound g s who s' (block.TakeCredit seat d credits) o sound has at step =
-    take_credit-sound g s who s' seat d credits o sound has at step
-block-sound g s who s' (block.LoadInfo seat d share) o sound has at step = load_info-sound g s who s' seat d share o sound has at step
-block-sound g s who s' (block.LoadAnchor site share) o sound has at step = load_anchor-sound g s who s' site share o sound has at step
-block-sound g s who s' (block.LoadLink site share a) o sound has at step = load_link-sound g s who s' site share a o sound has at step
-block-sound g s who s' (block.PopBlock site share a prefix) o sound has at step =
-    pop_block-sound g s who s' site share a prefix o sound has at step
-block-sound g s who s' (block.StorePrefix site i) o sound has at step = store_prefix-sound g s who s' site i o sound has at step
-block-sound g s who s' (block.InstallCredits site i more) o sound has at step =
-    install_credits-sound g s who s' site i more o sound has at step
-block-sound g s who s' (block.InstallSuperblock site) o sound has at step =
-    install_superblock-sound g s who s' site o sound has at step
-block-sound g s who s' (block.LoadReturn site i more) o sound has at step = load_return-sound g s who s' site i more o sound has at step
-block-sound g s who s' (block.ReturnCredits site i more a) o sound has at step =
-    return_credits-sound g s who s' site i more a o sound has at step
-block-sound g s who s' (block.LoadPrefix seat frame i) o sound has at step = load_prefix-sound g s who s' seat frame i o sound has at step
-block-sound g s who s' (block.LoadPushAnchor site i guarded) o sound has at step =
-    load_push_anchor-sound g s who s' site i guarded o sound has at step
-block-sound g s who s' (block.StoreGuard site i a) o sound has at step = store_guard-sound g s who s' site i a o sound has at step
-block-sound g s who s' (block.LoadOwner site i a) o sound has at step = load_guarded_owner-sound g s who s' site i a o sound has at step
-block-sound g s who s' (block.StoreLink site i a guarded heap) o sound has at step =
-    store_link-sound g s who s' site i a guarded heap o sound has at step
-block-sound g s who s' (block.PushBlock site i a guarded heap) o sound has at step =
-    push_block-sound g s who s' site i a guarded heap o sound has at step
-block-sound g s who s' (block.LinkBlock site i) o sound has at step = link_block-sound g s who s' site i o sound has at step
-block-sound g s who s' (block.StoreInfo site) o sound has at step = store_info-sound g s who s' site o sound has at step
-block-sound g s who s' (block.StoreAnchor site) o sound has at step = store_anchor-sound g s who s' site o sound has at step
-block-sound g s who s' p o sound has at step = absurd (true≢false (fits-now g s who (Block p o) sound has at).inside)
+block-sound g s caller s' (block.LoadActive seat) o sound has at step =
+    let is : o ≡ continuation.Alloc (asked o) = the-alloc o (fits-now g s caller _ sound has at).goes in
+    load_active-sound g s caller s' seat (asked o) sound has (at ∙ ap (Block (block.LoadActive seat)) is) step
+block-sound g s caller s' (block.TakeCredit seat d credits) o sound has at step =
+    take_credit-sound g s caller s' seat d credits o sound has at step
+block-sound g s caller s' (block.LoadInfo seat d share) o sound has at step = load_info-sound g s caller s' seat d share o sound has at step
+block-sound g s caller s' (block.LoadAnchor site share) o sound has at step = load_anchor-sound g s caller s' site share o sound has at step
+block-sound g s caller s' (block.LoadLink site share a) o sound has at step = load_link-sound g s caller s' site share a o sound has at step
+block-sound g s caller s' (block.PopBlock site share a prefix) o sound has at step =
+    pop_block-sound g s caller s' site share a prefix o sound has at step
+block-sound g s caller s' (block.StorePrefix site i) o sound has at step = store_prefix-sound g s caller s' site i o sound has at step
+block-sound g s caller s' (block.InstallCredits site i more) o sound has at step =
+    install_credits-sound g s caller s' site i more o sound has at step
+block-sound g s caller s' (block.InstallSuperblock site) o sound has at step =
+    install_superblock-sound g s caller s' site o sound has at step
+block-sound g s caller s' (block.LoadReturn site i more) o sound has at step = load_return-sound g s caller s' site i more o sound has at step
+block-sound g s caller s' (block.ReturnCredits site i more a) o sound has at step =
+    return_credits-sound g s caller s' site i more a o sound has at step
+block-sound g s caller s' (block.LoadPrefix seat frame i) o sound has at step = load_prefix-sound g s caller s' seat frame i o sound has at step
+block-sound g s caller s' (block.LoadPushAnchor site i guarded) o sound has at step =
+    load_push_anchor-sound g s caller s' site i guarded o sound has at step
+block-sound g s caller s' (block.StoreGuard site i a) o sound has at step = store_guard-sound g s caller s' site i a o sound has at step
+block-sound g s caller s' (block.LoadOwner site i a) o sound has at step = load_guarded_owner-sound g s caller s' site i a o sound has at step
+block-sound g s caller s' (block.StoreLink site i a guarded heap) o sound has at step =
+    store_link-sound g s caller s' site i a guarded heap o sound has at step
+block-sound g s caller s' (block.PushBlock site i a guarded heap) o sound has at step =
+    push_block-sound g s caller s' site i a guarded heap o sound has at step
+block-sound g s caller s' (block.LinkBlock site i) o sound has at step = link_block-sound g s caller s' site i o sound has at step
+block-sound g s caller s' (block.StoreInfo site) o sound has at step = store_info-sound g s caller s' site o sound has at step
+block-sound g s caller s' (block.StoreAnchor site) o sound has at step = store_anchor-sound g s caller s' site o sound has at step
+block-sound g s caller s' p o sound has at step = absurd (true≢false (fits-now g s caller (Block p o) sound has at).inside)
 
 -- a free clears its hazard word to look through the list, to retire what it removed, or to end
 clears-cases :
-    (P : Onward → Type 0) → P onward.Clear → P onward.EndFree → ((d : ℕ) → P (onward.Retire d)) → (o : Onward) → IsTrue (clears o) → P o
-clears-cases P looks ends retires onward.Clear is = looks
-clears-cases P looks ends retires onward.EndFree is = ends
-clears-cases P looks ends retires (onward.Retire d) is = retires d
+    (P : Continuation → Type 0) → P continuation.Clear → P continuation.EndFree → ((d : ℕ) → P (continuation.Retire d)) → (o : Continuation) → IsTrue (clears o) → P o
+clears-cases P looks ends retires continuation.Clear is = looks
+clears-cases P looks ends retires continuation.EndFree is = ends
+clears-cases P looks ends retires (continuation.Retire d) is = retires d
 clears-cases P looks ends retires o is = absurd (true≢false (sym is))
 
 desc-sound :
-    (g : Geometry) (s : State) (who : ℕ) (s' : State) (p : DescPoint) (o : Onward) → IsSoundWithoutCounts g s → who < g.callers
-    → (s.errand who).point ≡ Desc p o → Step s who s' → IsSoundWithoutCounts g s'
+    (g : Geometry) (s : State) (caller : ℕ) (s' : State) (p : DescPoint) (o : Continuation) → IsSoundWithoutCounts g s → caller < g.callers
+    → (s.errand caller).point ≡ Desc p o → Step s caller s' → IsSoundWithoutCounts g s'
 unfolding plan_point_of
-desc-sound g s who s' (desc.LoadDescHead seat) o sound has at step = load_desc_head-sound g s who s' seat o sound has at step
-desc-sound g s who s' (desc.StoreHazard seat d) o sound has at step = store_hazard-sound g s who s' seat d o sound has at step
-desc-sound g s who s' (desc.ReloadDescHead seat d) o sound has at step =
-    reload_desc_head-sound g s who s' seat d o sound has at step
-desc-sound g s who s' (desc.LoadNextDesc seat d) o sound has at step = load_next_desc-sound g s who s' seat d o sound has at step
-desc-sound g s who s' (desc.PopDesc seat d next) o sound has at step =
-    pop_desc-sound g s who s' seat d next o sound has at step
-desc-sound g s who s' (desc.ClearAfterPop seat d) o sound has at step = clear_after_pop-sound g s who s' seat d o sound has at step
-desc-sound g s who s' (desc.ClearHazard seat) o sound has at step =
-    clears-cases (λ o. (s.errand who).point ≡ Desc (desc.ClearHazard seat) o → IsSoundWithoutCounts g s')
-    (λ at. clear_hazard_looks-sound g s who s' seat sound has at step) (λ at. clear_hazard_ends-sound g s who s' seat sound has at step)
-    (λ d at. retired.clear_hazard_retires-sound g s who s' seat d sound has at step) o
-    (fits-now g s who _ sound has at).goes at
-desc-sound g s who s' (desc.ReadHazard seat held i) o sound has at step = read_hazard-sound g s who s' seat held i o sound has at step
-desc-sound g s who s' (desc.LoadHeadToPush seat d) o sound has at step = load_head_to_push-sound g s who s' seat d o sound has at step
-desc-sound g s who s' (desc.StoreNextDesc seat d top) o sound has at step = store_next_desc-sound g s who s' seat d top o sound has at step
-desc-sound g s who s' (desc.PushDesc seat d top) o sound has at step =
-    push_desc-sound g s who s' seat d top o sound has at step
-desc-sound g s who s' p o sound has at step = absurd (true≢false (fits-now g s who (Desc p o) sound has at).inside)
+desc-sound g s caller s' (desc.LoadDescHead seat) o sound has at step = load_desc_head-sound g s caller s' seat o sound has at step
+desc-sound g s caller s' (desc.StoreHazard seat d) o sound has at step = store_hazard-sound g s caller s' seat d o sound has at step
+desc-sound g s caller s' (desc.ReloadDescHead seat d) o sound has at step =
+    reload_desc_head-sound g s caller s' seat d o sound has at step
+desc-sound g s caller s' (desc.LoadNextDesc seat d) o sound has at step = load_next_desc-sound g s caller s' seat d o sound has at step
+desc-sound g s caller s' (desc.PopDesc seat d next) o sound has at step =
+    pop_desc-sound g s caller s' seat d next o sound has at step
+desc-sound g s caller s' (desc.ClearAfterPop seat d) o sound has at step = clear_after_pop-sound g s caller s' seat d o sound has at step
+desc-sound g s caller s' (desc.ClearHazard seat) o sound has at step =
+    clears-cases (λ o. (s.errand caller).point ≡ Desc (desc.ClearHazard seat) o → IsSoundWithoutCounts g s')
+    (λ at. clear_hazard_looks-sound g s caller s' seat sound has at step) (λ at. clear_hazard_ends-sound g s caller s' seat sound has at step)
+    (λ d at. retired.clear_hazard_retires-sound g s caller s' seat d sound has at step) o
+    (fits-now g s caller _ sound has at).goes at
+desc-sound g s caller s' (desc.ReadHazard seat held i) o sound has at step = read_hazard-sound g s caller s' seat held i o sound has at step
+desc-sound g s caller s' (desc.LoadHeadToPush seat d) o sound has at step = load_head_to_push-sound g s caller s' seat d o sound has at step
+desc-sound g s caller s' (desc.StoreNextDesc seat d top) o sound has at step = store_next_desc-sound g s caller s' seat d top o sound has at step
+desc-sound g s caller s' (desc.PushDesc seat d top) o sound has at step =
+    push_desc-sound g s caller s' seat d top o sound has at step
+desc-sound g s caller s' p o sound has at step = absurd (true≢false (fits-now g s caller (Desc p o) sound has at).inside)
 
 -- a clearing has popped none yet, or one
 clearing-cases :
-    (P : Onward → Type 0) → P onward.Clear → ((first : ℕ) → P (onward.ClearSecond first)) → (o : Onward) → IsTrue (is_clearing o) → P o
-clearing-cases P none one onward.Clear is = none
-clearing-cases P none one (onward.ClearSecond first) is = one first
+    (P : Continuation → Type 0) → P continuation.Clear → ((first : ℕ) → P (continuation.ClearSecond first)) → (o : Continuation) → IsTrue (is_clearing o) → P o
+clearing-cases P none one continuation.Clear is = none
+clearing-cases P none one (continuation.ClearSecond first) is = one first
 clearing-cases P none one o is = absurd (true≢false (sym is))
 
 -- a free finishes
 finish-cases :
-    (P : Onward → Type 0) → ((guarded : Bool) → P (onward.Finish guarded)) → (o : Onward) → IsTrue (is_finish o) → P o
-finish-cases P finishes (onward.Finish guarded) is = finishes guarded
+    (P : Continuation → Type 0) → ((guarded : Bool) → P (continuation.Finish guarded)) → (o : Continuation) → IsTrue (is_finish o) → P o
+finish-cases P finishes (continuation.Finish guarded) is = finishes guarded
 finish-cases P finishes o is = absurd (true≢false (sym is))
 
 -- the look at a superblock that was taken
 taken-sound :
-    (g : Geometry) (s : State) (who : ℕ) (s' : State) (site : Site) (need : ℕ) → IsSoundWithoutCounts g s → who < g.callers
-    → (s.errand who).point ≡ Partial (partial.LoadGrantAnchor site) (onward.Alloc need) → Step s who s' → IsSoundWithoutCounts g s'
-taken-sound g s who s' site need sound has at step =
+    (g : Geometry) (s : State) (caller : ℕ) (s' : State) (site : Site) (need : ℕ) → IsSoundWithoutCounts g s → caller < g.callers
+    → (s.errand caller).point ≡ Partial (partial.LoadGrantAnchor site) (continuation.Alloc need) → Step s caller s' → IsSoundWithoutCounts g s'
+taken-sound g s caller s' site need sound has at step =
     elim (cases_Bool (is_empty (anchor_for s site.desc).state)) [
-      | inl empty ↦ retired.load_grant_anchor_empty-sound g s who s' site need sound has at empty step
-      | inr used ↦ partials.load_grant_anchor-sound g s who s' site need sound has at used step
+      | inl empty ↦ retired.load_grant_anchor_empty-sound g s caller s' site need sound has at empty step
+      | inr used ↦ partials.load_grant_anchor-sound g s caller s' site need sound has at used step
     ]
 
 -- at the first one that was popped from the list
 first-listed-sound :
-    (g : Geometry) (s : State) (who : ℕ) (s' : State) (seat : SeatFields) (d : ℕ) → IsSoundWithoutCounts g s → who < g.callers
-    → (s.errand who).point ≡ Partial (partial.LoadListedAnchor seat d) onward.Clear → Step s who s' → IsSoundWithoutCounts g s'
-first-listed-sound g s who s' seat d sound has at step =
+    (g : Geometry) (s : State) (caller : ℕ) (s' : State) (seat : SeatFields) (d : ℕ) → IsSoundWithoutCounts g s → caller < g.callers
+    → (s.errand caller).point ≡ Partial (partial.LoadListedAnchor seat d) continuation.Clear → Step s caller s' → IsSoundWithoutCounts g s'
+first-listed-sound g s caller s' seat d sound has at step =
     elim (cases_Bool (is_empty (anchor_for s d).state)) [
-      | inl empty ↦ retired.load_first_listed_empty-sound g s who s' seat d sound has at empty step
-      | inr used ↦ partials.load_first_listed-sound g s who s' seat d sound has at used step
+      | inl empty ↦ retired.load_first_listed_empty-sound g s caller s' seat d sound has at empty step
+      | inr used ↦ partials.load_first_listed-sound g s caller s' seat d sound has at used step
     ]
 
 -- and at any
 listed-sound :
-    (g : Geometry) (s : State) (who : ℕ) (s' : State) (seat : SeatFields) (d : ℕ) (o : Onward) → IsSoundWithoutCounts g s → who < g.callers
-    → (s.errand who).point ≡ Partial (partial.LoadListedAnchor seat d) o → Step s who s' → IsSoundWithoutCounts g s'
-listed-sound g s who s' seat d o sound has at step =
-    clearing-cases (λ o. (s.errand who).point ≡ Partial (partial.LoadListedAnchor seat d) o → IsSoundWithoutCounts g s')
-    (λ at. first-listed-sound g s who s' seat d sound has at step)
-    (λ first at. partials.load_second-sound g s who s' seat d first sound has at step) o
-    (fits-now g s who _ sound has at).goes at
+    (g : Geometry) (s : State) (caller : ℕ) (s' : State) (seat : SeatFields) (d : ℕ) (o : Continuation) → IsSoundWithoutCounts g s → caller < g.callers
+    → (s.errand caller).point ≡ Partial (partial.LoadListedAnchor seat d) o → Step s caller s' → IsSoundWithoutCounts g s'
+listed-sound g s caller s' seat d o sound has at step =
+    clearing-cases (λ o. (s.errand caller).point ≡ Partial (partial.LoadListedAnchor seat d) o → IsSoundWithoutCounts g s')
+    (λ at. first-listed-sound g s caller s' seat d sound has at step)
+    (λ first at. partials.load_second-sound g s caller s' seat d first sound has at step) o
+    (fits-now g s caller _ sound has at).goes at
 
 partial-sound :
-    (g : Geometry) (s : State) (who : ℕ) (s' : State) (p : PartialPoint) (o : Onward) → IsSoundWithoutCounts g s → who < g.callers
-    → (s.errand who).point ≡ Partial p o → Step s who s' → IsSoundWithoutCounts g s'
+    (g : Geometry) (s : State) (caller : ℕ) (s' : State) (p : PartialPoint) (o : Continuation) → IsSoundWithoutCounts g s → caller < g.callers
+    → (s.errand caller).point ≡ Partial p o → Step s caller s' → IsSoundWithoutCounts g s'
 unfolding plan_point_of
-partial-sound g s who s' (partial.LoadSlot seat) o sound has at step =
-    let is : o ≡ onward.Alloc (asked o) = the-alloc o (fits-now g s who _ sound has at).goes in
-    partials.load_slot-sound g s who s' seat (asked o) sound has (at ∙ ap (Partial (partial.LoadSlot seat)) is) step
-partial-sound g s who s' (partial.TakeSlot seat d) o sound has at step =
-    let is : o ≡ onward.Alloc (asked o) = the-alloc o (fits-now g s who _ sound has at).goes in
-    partials.take_slot-sound g s who s' seat d (asked o) sound has (at ∙ ap (Partial (partial.TakeSlot seat d)) is) step
-partial-sound g s who s' (partial.LoadTakenInfo seat d) o sound has at step =
-    let is : o ≡ onward.Alloc (asked o) = the-alloc o (fits-now g s who _ sound has at).goes in
-    partials.load_taken_info-sound g s who s' seat d (asked o) sound has (at ∙ ap (Partial (partial.LoadTakenInfo seat d)) is) step
-partial-sound g s who s' (partial.StoreOwner site) o sound has at step = store_owner-sound g s who s' site o sound has at step
-partial-sound g s who s' (partial.LoadGrantAnchor site) o sound has at step =
-    let is : o ≡ onward.Alloc (asked o) = the-alloc o (fits-now g s who _ sound has at).goes in
-    taken-sound g s who s' site (asked o) sound has (at ∙ ap (Partial (partial.LoadGrantAnchor site)) is) step
-partial-sound g s who s' (partial.Grant site a) o sound has at step =
-    let is : o ≡ onward.Alloc (asked o) = the-alloc o (fits-now g s who _ sound has at).goes in
-    grant-sound g s who s' site a (asked o) sound has (at ∙ ap (Partial (partial.Grant site a)) is) step
-partial-sound g s who s' (partial.LoadOwner seat d) o sound has at step =
-    finish-cases (λ o. (s.errand who).point ≡ Partial (partial.LoadOwner seat d) o → IsSoundWithoutCounts g s')
-    (λ guarded at. partials.load_partial_owner-sound g s who s' seat d guarded sound has at step) o
-    (fits-now g s who _ sound has at).goes at
-partial-sound g s who s' (partial.PutSlot seat d heap) o sound has at step = partials.put_slot-sound g s who s' seat d heap o sound has at step
-partial-sound g s who s' (partial.LoadHeldSlot seat d heap) o sound has at step =
-    let is : o ≡ onward.Free = the-free o (fits-now g s who _ sound has at).goes in
-    partials.load_held_slot-sound g s who s' seat d heap sound has (at ∙ ap (Partial (partial.LoadHeldSlot seat d heap)) is) step
-partial-sound g s who s' (partial.RemoveFromSlot seat d heap) o sound has at step =
-    let is : o ≡ onward.Free = the-free o (fits-now g s who _ sound has at).goes in
-    partials.remove_from_slot-sound g s who s' seat d heap sound has (at ∙ ap (Partial (partial.RemoveFromSlot seat d heap)) is) step
-partial-sound g s who s' (partial.LoadListedAnchor seat d) o sound has at step = listed-sound g s who s' seat d o sound has at step
-partial-sound g s who s' p o sound has at step = absurd (true≢false (fits-now g s who (Partial p o) sound has at).inside)
+partial-sound g s caller s' (partial.LoadSlot seat) o sound has at step =
+    let is : o ≡ continuation.Alloc (asked o) = the-alloc o (fits-now g s caller _ sound has at).goes in
+    partials.load_slot-sound g s caller s' seat (asked o) sound has (at ∙ ap (Partial (partial.LoadSlot seat)) is) step
+partial-sound g s caller s' (partial.TakeSlot seat d) o sound has at step =
+    let is : o ≡ continuation.Alloc (asked o) = the-alloc o (fits-now g s caller _ sound has at).goes in
+    partials.take_slot-sound g s caller s' seat d (asked o) sound has (at ∙ ap (Partial (partial.TakeSlot seat d)) is) step
+partial-sound g s caller s' (partial.LoadTakenInfo seat d) o sound has at step =
+    let is : o ≡ continuation.Alloc (asked o) = the-alloc o (fits-now g s caller _ sound has at).goes in
+    partials.load_taken_info-sound g s caller s' seat d (asked o) sound has (at ∙ ap (Partial (partial.LoadTakenInfo seat d)) is) step
+partial-sound g s caller s' (partial.StoreOwner site) o sound has at step = store_owner-sound g s caller s' site o sound has at step
+partial-sound g s caller s' (partial.LoadGrantAnchor site) o sound has at step =
+    let is : o ≡ continuation.Alloc (asked o) = the-alloc o (fits-now g s caller _ sound has at).goes in
+    taken-sound g s caller s' site (asked o) sound has (at ∙ ap (Partial (partial.LoadGrantAnchor site)) is) step
+partial-sound g s caller s' (partial.Grant site a) o sound has at step =
+    let is : o ≡ continuation.Alloc (asked o) = the-alloc o (fits-now g s caller _ sound has at).goes in
+    grant-sound g s caller s' site a (asked o) sound has (at ∙ ap (Partial (partial.Grant site a)) is) step
+partial-sound g s caller s' (partial.LoadOwner seat d) o sound has at step =
+    finish-cases (λ o. (s.errand caller).point ≡ Partial (partial.LoadOwner seat d) o → IsSoundWithoutCounts g s')
+    (λ guarded at. partials.load_partial_owner-sound g s caller s' seat d guarded sound has at step) o
+    (fits-now g s caller _ sound has at).goes at
+partial-sound g s caller s' (partial.PutSlot seat d heap) o sound has at step = partials.put_slot-sound g s caller s' seat d heap o sound has at step
+partial-sound g s caller s' (partial.LoadHeldSlot seat d heap) o sound has at step =
+    let is : o ≡ continuation.Free = the-free o (fits-now g s caller _ sound has at).goes in
+    partials.load_held_slot-sound g s caller s' seat d heap sound has (at ∙ ap (Partial (partial.LoadHeldSlot seat d heap)) is) step
+partial-sound g s caller s' (partial.RemoveFromSlot seat d heap) o sound has at step =
+    let is : o ≡ continuation.Free = the-free o (fits-now g s caller _ sound has at).goes in
+    partials.remove_from_slot-sound g s caller s' seat d heap sound has (at ∙ ap (Partial (partial.RemoveFromSlot seat d heap)) is) step
+partial-sound g s caller s' (partial.LoadListedAnchor seat d) o sound has at step = listed-sound g s caller s' seat d o sound has at step
+partial-sound g s caller s' p o sound has at step = absurd (true≢false (fits-now g s caller (Partial p o) sound has at).inside)
 
 -- a step from any point keeps the state sound
 step-at :
-    (g : Geometry) (s : State) (who : ℕ) (s' : State) (p : Point) → IsSoundWithoutCounts g s → who < g.callers → (s.errand who).point ≡ p
-    → Step s who s' → IsSoundWithoutCounts g s'
-step-at g s who s' Idle sound has at step = absurd (true≢false (sym (ap is_idle at) ∙ step.busy))
-step-at g s who s' (Block p o) sound has at step = block-sound g s who s' p o sound has at step
-step-at g s who s' (Stack p o) sound has at step = stack-sound g s who s' p o sound has at step
-step-at g s who s' (Desc p o) sound has at step = desc-sound g s who s' p o sound has at step
-step-at g s who s' (Partial p o) sound has at step = partial-sound g s who s' p o sound has at step
-step-at g s who s' (Large p o) sound has at step = large-sound g s who s' p o sound has at step
+    (g : Geometry) (s : State) (caller : ℕ) (s' : State) (p : Point) → IsSoundWithoutCounts g s → caller < g.callers → (s.errand caller).point ≡ p
+    → Step s caller s' → IsSoundWithoutCounts g s'
+step-at g s caller s' Idle sound has at step = absurd (true≢false (sym (ap is_idle at) ∙ step.busy))
+step-at g s caller s' (Block p o) sound has at step = block-sound g s caller s' p o sound has at step
+step-at g s caller s' (Stack p o) sound has at step = stack-sound g s caller s' p o sound has at step
+step-at g s caller s' (Desc p o) sound has at step = desc-sound g s caller s' p o sound has at step
+step-at g s caller s' (Partial p o) sound has at step = partial-sound g s caller s' p o sound has at step
+step-at g s caller s' (Large p o) sound has at step = large-sound g s caller s' p o sound has at step
 
 pub steps-sound :
-    (g : Geometry) (s : State) (who : ℕ) (s' : State) → IsSoundWithoutCounts g s → who < g.callers → Step s who s' → IsSoundWithoutCounts g s'
-steps-sound g s who s' sound has step = step-at g s who s' (s.errand who).point sound has refl step
+    (g : Geometry) (s : State) (caller : ℕ) (s' : State) → IsSoundWithoutCounts g s → caller < g.callers → Step s caller s' → IsSoundWithoutCounts g s'
+steps-sound g s caller s' sound has step = step-at g s caller s' (s.errand caller).point sound has refl step

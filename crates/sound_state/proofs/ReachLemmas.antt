@@ -12,33 +12,33 @@ use Rattle.sound_state.proofs.beginnings.BegunLemmas.{alloc-sound, free-sound, w
 
 -- a call that begins
 pub begins-sound :
-    (g : Geometry) (s : State) (who : ℕ) (call : Call) (s' : State) → IsSoundWithoutCounts g s → who < g.callers → Begins s who call s'
+    (g : Geometry) (s : State) (caller : ℕ) (call : Call) (s' : State) → IsSoundWithoutCounts g s → caller < g.callers → Begins s caller call s'
     → IsSoundWithoutCounts g s'
-begins-sound g s who (alloc words) s' sound has b =
-    subst (IsSoundWithoutCounts g) (sym b.after) (alloc-sound g s who words b.errands sound has b.idle b.moves)
-begins-sound g s who (free place need) s' sound has b =
-    subst (IsSoundWithoutCounts g) (sym b.after) (free-sound g s who place need b.errands sound has b.idle b.may b.moves)
-begins-sound g s who (write place need i value) s' sound has b =
+begins-sound g s caller (alloc words) s' sound has b =
+    subst (IsSoundWithoutCounts g) (sym b.after) (alloc-sound g s caller words b.errands sound has b.idle b.moves)
+begins-sound g s caller (free place need) s' sound has b =
+    subst (IsSoundWithoutCounts g) (sym b.after) (free-sound g s caller place need b.errands sound has b.idle b.may b.moves)
+begins-sound g s caller (write place need i value) s' sound has b =
     subst (IsSoundWithoutCounts g) (sym b.after)
-    (write-sound g s who place need i value b.errands sound has b.idle b.may.0 b.may.1 b.may.2 b.moves)
-begins-sound g s who (read place need i) s' sound has b =
-    subst (IsSoundWithoutCounts g) (sym b.after) (read-sound g s who place need i b.errands sound has b.idle b.may.0 b.may.1 b.moves)
-begins-sound g s who (put place need shelf) s' sound has b =
-    subst (IsSoundWithoutCounts g) (sym b.after) (put-sound g s who place need shelf b.errands sound has b.idle b.may.0 b.may.1 b.moves)
-begins-sound g s who (take shelf) s' sound has b =
-    subst (IsSoundWithoutCounts g) (sym b.after) (take-sound g s who shelf b.errands sound has b.idle b.may b.moves)
+    (write-sound g s caller place need i value b.errands sound has b.idle b.may.0 b.may.1 b.may.2 b.moves)
+begins-sound g s caller (read place need i) s' sound has b =
+    subst (IsSoundWithoutCounts g) (sym b.after) (read-sound g s caller place need i b.errands sound has b.idle b.may.0 b.may.1 b.moves)
+begins-sound g s caller (put place need shelf) s' sound has b =
+    subst (IsSoundWithoutCounts g) (sym b.after) (put-sound g s caller place need shelf b.errands sound has b.idle b.may.0 b.may.1 b.moves)
+begins-sound g s caller (take shelf) s' sound has b =
+    subst (IsSoundWithoutCounts g) (sym b.after) (take-sound g s caller shelf b.errands sound has b.idle b.may b.moves)
 
 -- it leaves the history, and so its counts
 pub begins-counted :
-    (g : Geometry) (s : State) (who : ℕ) (call : Call) (s' : State) → IsSound g s → who < g.callers → Begins s who call s' → IsSound g s'
-begins-counted g s who call s' sound has b =
-    with-counts g s' (begins-sound g s who call s' (without-counts g s sound) has b)
+    (g : Geometry) (s : State) (caller : ℕ) (call : Call) (s' : State) → IsSound g s → caller < g.callers → Begins s caller call s' → IsSound g s'
+begins-counted g s caller call s' sound has b =
+    with-counts g s' (begins-sound g s caller call s' (without-counts g s sound) has b)
     (subst (λ t. IsLegal g t.history) (sym b.after) sound.legal)
 
 -- a call that begins, or a step
 pub moved-sound : (g : Geometry) (s : State) (move : Move) (s' : State) → IsSound g s → Moved g s move s' → IsSound g s'
-moved-sound g s (begins who call) s' sound moved = begins-counted g s who call s' sound moved.0 moved.1
-moved-sound g s (steps who) s' sound moved = steps-counted g s who s' sound moved.0 moved.1
+moved-sound g s (begins caller call) s' sound moved = begins-counted g s caller call s' sound moved.0 moved.1
+moved-sound g s (steps caller) s' sound moved = steps-counted g s caller s' sound moved.0 moved.1
 
 -- what every move keeps holds of every state that is reached
 reached-keeps :
@@ -54,5 +54,5 @@ reached-sound g s moves s' sound reached = reached-keeps g (IsSound g) (moved-so
 -- a move of any caller keeps the state sound, but for its counts
 pub move-sound :
     (g : Geometry) (s : State) (move : Move) (s' : State) → IsSoundWithoutCounts g s → Moved g s move s' → IsSoundWithoutCounts g s'
-move-sound g s (begins who call) s' sound moved = begins-sound g s who call s' sound moved.0 moved.1
-move-sound g s (steps who) s' sound moved = steps-sound g s who s' sound moved.0 moved.1
+move-sound g s (begins caller call) s' sound moved = begins-sound g s caller call s' sound moved.0 moved.1
+move-sound g s (steps caller) s' sound moved = steps-sound g s caller s' sound moved.0 moved.1

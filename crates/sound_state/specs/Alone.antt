@@ -31,11 +31,11 @@ abbrev pub is_stale_by : State → WordName → Expected → Bool
 is_stale_by s word e = same_name e.word word && not (s.word word == e.value)
 
 abbrev pub is_stale : State → ℕ → WordName → Bool
-is_stale s who word = list_any (is_stale_by s word) (expects_of (s.errand who).point)
+is_stale s caller word = list_any (is_stale_by s word) (expects_of (s.errand caller).point)
 
 -- how many words of the table are stale for it
 abbrev pub stale_words : Geometry → State → ℕ → ℕ
-stale_words g s who = sum_below (word_count g) (λ k. one_if (is_stale s who (word_name g k)))
+stale_words g s caller = sum_below (word_count g) (λ k. one_if (is_stale s caller (word_name g k)))
 
 -- the indices that the next words lead through from a top on, at most so many: each is named by its index plus 1, and 0 ends them
 abbrev pub led_from : (ℕ → ℕ) → ℕ → ℕ → List ℕ
@@ -69,8 +69,8 @@ class_at (Large p o) = 0
 
 -- how many empty superblocks it may still clear: in a turn those that are out for its class, else none
 abbrev pub clearings : Geometry → State → ℕ → ℕ
-clearings g s who = if in_turn (s.errand who).point then emptied_for g s (class_at (s.errand who).point) else 0
+clearings g s caller = if in_turn (s.errand caller).point then emptied_for g s (class_at (s.errand caller).point) else 0
 
 -- how many steps it makes at most until its call ends, where no other caller moves
 abbrev pub alone_left : Geometry → State → ℕ → ℕ
-alone_left g s who = (stale_words g s who + clearings g s who) * CALL_STEPS + steps_left g (s.errand who).point
+alone_left g s caller = (stale_words g s caller + clearings g s caller) * CALL_STEPS + steps_left g (s.errand caller).point

@@ -16,8 +16,8 @@ use Rattle.pool_model.specs.declared.owner.Owner.TheVariants.{Caller, Shelf}
 use Rattle.pool_model.specs.Histories.{own}
 use Rattle.pool_model.specs.Legal.{IsEmptyShelf}
 use Rattle.pool_model.specs.Pool.{Block, pool_of}
-use Rattle.errand_steps.specs.declared.onward.Onward.{Onward}
-use Rattle.errand_steps.specs.declared.onward.Onward.TheVariants as onward
+use Rattle.errand_steps.specs.declared.continuation.Continuation.{Continuation}
+use Rattle.errand_steps.specs.declared.continuation.Continuation.TheVariants as continuation
 use Rattle.errand_steps.specs.declared.point.Point.{Point}
 use Rattle.errand_steps.specs.declared.point.Point.TheVariants as point
 use Rattle.errand_steps.specs.declared.reply.Reply.{Reply}
@@ -27,25 +27,25 @@ use Rattle.sound_state.specs.Recalls.{EndsRefused, IsOwned}
 use Rattle.sound_state.specs.Ties.{IsLive}
 
 -- what waits behind the part in which a caller is; for who is in no call, nothing
-abbrev pub onward_at : Point → Onward
-onward_at point.Idle = onward.Nothing
-onward_at (point.Block p o) = o
-onward_at (point.Stack p o) = o
-onward_at (point.Desc p o) = o
-onward_at (point.Partial p o) = o
-onward_at (point.Large p o) = o
+abbrev pub continuation_at : Point → Continuation
+continuation_at point.Idle = continuation.Nothing
+continuation_at (point.Block p o) = o
+continuation_at (point.Stack p o) = o
+continuation_at (point.Desc p o) = o
+continuation_at (point.Partial p o) = o
+continuation_at (point.Large p o) = o
 
 -- the caller's call is an allocation of so many usable words
 abbrev pub Allocates : State → ℕ → ℕ → Type 0
-Allocates s who words = onward_at (s.errand who).point ≡ onward.Alloc words
+Allocates s caller words = continuation_at (s.errand caller).point ≡ continuation.Alloc words
 
 -- the caller's next step is that of this point of a large block, a usable word or a shelf
 abbrev pub StandsAt : State → ℕ → LargePoint → Type 0
-StandsAt s who p = (o : Onward) × ((s.errand who).point ≡ point.Large p o)
+StandsAt s caller p = (o : Continuation) × ((s.errand caller).point ≡ point.Large p o)
 
 -- and tells this event
 abbrev pub TellsAt : State → ℕ → LargePoint → Event → Type 0
-TellsAt s who p event = StandsAt s who p × (event_at s who ≡ Some event)
+TellsAt s caller p event = StandsAt s caller p × (event_at s caller ≡ Some event)
 
 -- a live block lies on the shelf, and the word names it; nothing lies there, and the word says so
 abbrev pub ShelfHolds : State → ℕ → ℕ → Type 0
@@ -57,59 +57,59 @@ ShelfIsEmpty s k word = IsEmptyShelf (pool_of s.history) k × (word ≡ shelf_wo
 
 -- the allocation has the block: it serves the words that were asked for, and is the caller's, who may free it
 abbrev pub IsGiven : State → ℕ → ℕ → Need → State → Type 0
-IsGiven s who place n after = (words : ℕ) × Allocates s who words × (need_of words ≡ n) × IsOwned after who place n
+IsGiven s caller place n after = (words : ℕ) × Allocates s caller words × (need_of words ≡ n) × IsOwned after caller place n
 
 -- no frame was left for a small need, behind a look in vain for its class; or no run for a large one, and that is the step's event
 abbrev pub IsRefused : State → ℕ → State → Type 0
-IsRefused s who after =
-    ((class : ℕ) × EndsRefused (own who after.history) who class)
-    ⊎ ((words : ℕ) × (units : ℕ) × Allocates s who words × (need_of words ≡ need.Large units) × (event_at s who ≡ Some (Refuse who words)))
+IsRefused s caller after =
+    ((class : ℕ) × EndsRefused (own caller after.history) caller class)
+    ⊎ ((words : ℕ) × (units : ℕ) × Allocates s caller words × (need_of words ≡ need.Large units) × (event_at s caller ≡ Some (Refuse caller words)))
 
 -- a large block is freed by the last step of its call; a small one mostly by an earlier step, which the events of the whole call show
 abbrev pub IsFreed : State → ℕ → Type 0
-IsFreed s who = (place : ℕ) (run : RunFields) → StandsAt s who (large.FreeRun place run) → event_at s who ≡ Some (Free who place)
+IsFreed s caller = (place : ℕ) (run : RunFields) → StandsAt s caller (large.FreeRun place run) → event_at s caller ≡ Some (Free caller place)
 
 -- the word was read in a live block of the caller's; it is what the block holds there, where that was written
 abbrev pub IsRead : State → ℕ → ℕ → State → Type 0
-IsRead s who v after =
-    (place : ℕ) × (i : ℕ) × (b : Block) × StandsAt s who (large.LoadWord place i) × IsLive after place b × (b.owner ≡ Caller who)
+IsRead s caller v after =
+    (place : ℕ) × (i : ℕ) × (b : Block) × StandsAt s caller (large.LoadWord place i) × IsLive after place b × (b.owner ≡ Caller caller)
     × (i < usable_words b.need) × (v ≡ after.word (name.Arena (place + 1 + i)))
     × ((w : ℕ) → slice_index_or b.contents i None ≡ Some w → v ≡ w)
 
 -- another block lies on the shelf, whose word was found; the caller still owns the one that it has not put there
 abbrev pub IsFull : State → ℕ → ℕ → State → Type 0
-IsFull s who found after =
-    (shelf : ℕ) × (place : ℕ) × (n : Need) × StandsAt s who (large.PutBlock shelf place n) × IsOwned after who place n
+IsFull s caller found after =
+    (shelf : ℕ) × (place : ℕ) × (n : Need) × StandsAt s caller (large.PutBlock shelf place n) × IsOwned after caller place n
     × ShelfHolds after shelf found
 
 -- the block that lay on the shelf is the caller's
 abbrev pub IsGot : State → ℕ → ℕ → Need → State → Type 0
-IsGot s who place n after =
-    (shelf : ℕ) × TellsAt s who (large.TakeBlock shelf place n) (Take who shelf place) × IsOwned after who place n
+IsGot s caller place n after =
+    (shelf : ℕ) × TellsAt s caller (large.TakeBlock shelf place n) (Take caller shelf place) × IsOwned after caller place n
 
 -- the caller is about to take what it saw on the shelf, a block or nothing
 abbrev pub Takes : State → ℕ → ℕ → ℕ → Type 0
-Takes s who shelf saw =
-    ((place : ℕ) × (n : Need) × StandsAt s who (large.TakeBlock shelf place n) × (saw ≡ shelf_word (lies.Block place n)))
-    ⊎ (StandsAt s who (large.ConfirmNothing shelf) × (saw ≡ shelf_word lies.Nothing))
+Takes s caller shelf saw =
+    ((place : ℕ) × (n : Need) × StandsAt s caller (large.TakeBlock shelf place n) × (saw ≡ shelf_word (lies.Block place n)))
+    ⊎ (StandsAt s caller (large.ConfirmNothing shelf) × (saw ≡ shelf_word lies.Nothing))
 
 -- something else lies there now than what the caller saw
 abbrev pub IsMissed : State → ℕ → ℕ → ℕ → State → Type 0
-IsMissed s who saw found after =
-    (shelf : ℕ) × Takes s who shelf saw × (saw ≢ found) × (ShelfHolds after shelf found ⊎ ShelfIsEmpty after shelf found)
+IsMissed s caller saw found after =
+    (shelf : ℕ) × Takes s caller shelf saw × (saw ≢ found) × (ShelfHolds after shelf found ⊎ ShelfIsEmpty after shelf found)
 
 -- what the answer of the caller's last step of a call says: of that step, from one state to the other
 abbrev pub IsMeant : Geometry → State → ℕ → Reply → State → Type 0
-IsMeant g s who (reply.Given place n) after = IsGiven s who place n after
-IsMeant g s who reply.Refused after = IsRefused s who after
-IsMeant g s who reply.Spent after = (after.errand who).turns ≡ g.turn_limit
-IsMeant g s who reply.Freed after = IsFreed s who
-IsMeant g s who reply.Wrote after =
-    (place : ℕ) × (i : ℕ) × (v : ℕ) × TellsAt s who (large.StoreWord place i v) (Write who place i v)
-IsMeant g s who (reply.Word v) after = IsRead s who v after
-IsMeant g s who reply.Put after =
-    (place : ℕ) × (shelf : ℕ) × (n : Need) × TellsAt s who (large.PutBlock shelf place n) (Put who place shelf)
-IsMeant g s who (reply.Full found) after = IsFull s who found after
-IsMeant g s who (reply.Got place n) after = IsGot s who place n after
-IsMeant g s who reply.Empty after = (shelf : ℕ) × TellsAt s who (large.ConfirmNothing shelf) (TakeNone who shelf)
-IsMeant g s who (reply.Missed saw found) after = IsMissed s who saw found after
+IsMeant g s caller (reply.Given place n) after = IsGiven s caller place n after
+IsMeant g s caller reply.Refused after = IsRefused s caller after
+IsMeant g s caller reply.Spent after = (after.errand caller).turns ≡ g.turn_limit
+IsMeant g s caller reply.Freed after = IsFreed s caller
+IsMeant g s caller reply.Wrote after =
+    (place : ℕ) × (i : ℕ) × (v : ℕ) × TellsAt s caller (large.StoreWord place i v) (Write caller place i v)
+IsMeant g s caller (reply.Word v) after = IsRead s caller v after
+IsMeant g s caller reply.Put after =
+    (place : ℕ) × (shelf : ℕ) × (n : Need) × TellsAt s caller (large.PutBlock shelf place n) (Put caller place shelf)
+IsMeant g s caller (reply.Full found) after = IsFull s caller found after
+IsMeant g s caller (reply.Got place n) after = IsGot s caller place n after
+IsMeant g s caller reply.Empty after = (shelf : ℕ) × TellsAt s caller (large.ConfirmNothing shelf) (TakeNone caller shelf)
+IsMeant g s caller (reply.Missed saw found) after = IsMissed s caller saw found after

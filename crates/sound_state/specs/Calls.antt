@@ -9,13 +9,13 @@ use Rattle.call_events.specs.Ends.{HasEnded}
 use Rattle.call_events.specs.UnderWay.{IsUnderWay}
 
 -- a caller whose own events were these when it began this call is in it: what it added since are the call's events so far
-pub record IsInCall (who : ℕ) (call : Call) (before : List Event) (s : State) : Type 0 where
+pub record IsInCall (caller : ℕ) (call : Call) (before : List Event) (s : State) : Type 0 where
   pub added : List Event
-  pub events : own who s.history ≡ before ++ added
-  pub under_way : IsUnderWay who call (s.errand who).point added
+  pub events : own caller s.history ≡ before ++ added
+  pub under_way : IsUnderWay caller call (s.errand caller).point added
 
 -- its call has ended with this answer: what it added since are the call's events
-pub record HasEndedCall (who : ℕ) (call : Call) (before : List Event) (reply : Reply) (s : State) : Type 0 where
+pub record HasEndedCall (caller : ℕ) (call : Call) (before : List Event) (reply : Reply) (s : State) : Type 0 where
   pub added : List Event
-  pub events : own who s.history ≡ before ++ added
-  pub ended : HasEnded who call reply added
+  pub events : own caller s.history ≡ before ++ added
+  pub ended : HasEnded caller call reply added

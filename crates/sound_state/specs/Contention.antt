@@ -13,25 +13,25 @@ use Rattle.sound_state.specs.Wins.{Win, Wins, same_name}
 
 -- a win of this caller; one of another caller on this word
 abbrev pub is_by : ℕ → Win → Bool
-is_by who x = x.caller == who
+is_by caller x = x.caller == caller
 
 abbrev pub is_against : ℕ → WordName → Win → Bool
-is_against who word x = not (is_by who x) && same_name x.word word
+is_against caller word x = not (is_by caller x) && same_name x.word word
 
 -- another caller has won on the word since the note
 abbrev pub dirty_since : List Win → ℕ → WordName → Option ℕ → Bool
-dirty_since list who word None = false
-dirty_since list who word (Some wins) = nat_lt 0 (count_by (is_against who word) (drop wins list))
+dirty_since list caller word None = false
+dirty_since list caller word (Some wins) = nat_lt 0 (count_by (is_against caller word) (drop wins list))
 
 abbrev pub is_dirty : Wins → ℕ → WordName → Bool
-is_dirty w who word = dirty_since w.list who word (w.noted who word)
+is_dirty w caller word = dirty_since w.list caller word (w.noted caller word)
 
 abbrev pub IsDirty : Wins → ℕ → WordName → Type 0
-IsDirty w who word = IsTrue (is_dirty w who word)
+IsDirty w caller word = IsTrue (is_dirty w caller word)
 
 -- how many pairs of a caller and a word of the table are dirty
 abbrev pub dirty_on : Geometry → Wins → WordName → ℕ
-dirty_on g w word = sum_below g.callers (λ who. one_if (is_dirty w who word))
+dirty_on g w word = sum_below g.callers (λ caller. one_if (is_dirty w caller word))
 
 abbrev pub dirty_pairs : Geometry → Wins → ℕ
 dirty_pairs g w = sum_below (word_count g) (λ k. dirty_on g w (word_name g k))
@@ -43,17 +43,17 @@ abbrev pub won_of : ErrandFields → ℕ
 won_of e = e.won
 
 -- the caller has noted the word, which is as expected, or another caller has won on it since
-pub record IsExpected (s : State) (w : Wins) (who : ℕ) (e : Expected) : Type 0 where
+pub record IsExpected (s : State) (w : Wins) (caller : ℕ) (e : Expected) : Type 0 where
   pub wins : ℕ
-  pub noted : w.noted who e.word ≡ Some wins
-  pub so : (s.word e.word ≡ e.value) ⊎ IsDirty w who e.word
+  pub noted : w.noted caller e.word ≡ Some wins
+  pub so : (s.word e.word ≡ e.value) ⊎ IsDirty w caller e.word
 
 -- the list is that of the callers' wins, as they count them; no note is of wins to come; and what callers expect they have noted
 pub record IsNoted (g : Geometry) (s : State) (w : Wins) : Type 0 where
   pub callers : All (λ x. x.caller < g.callers) w.list
-  pub won : (who : ℕ) → who < g.callers → (s.errand who).won ≡ min (count_by (is_by who) w.list) (2 ^ 64 - 1)
-  pub past : (who : ℕ) (word : WordName) (wins : ℕ) → w.noted who word ≡ Some wins → wins ≤ length w.list
-  pub expected : (who : ℕ) → who < g.callers → All (IsExpected s w who) (expects_of (s.errand who).point)
+  pub won : (caller : ℕ) → caller < g.callers → (s.errand caller).won ≡ min (count_by (is_by caller) w.list) (2 ^ 64 - 1)
+  pub past : (caller : ℕ) (word : WordName) (wins : ℕ) → w.noted caller word ≡ Some wins → wins ≤ length w.list
+  pub expected : (caller : ℕ) → caller < g.callers → All (IsExpected s w caller) (expects_of (s.errand caller).point)
 
 -- a win makes at most one pair of each other caller dirty, and a lost exchange uses one up
 pub record IsContended (g : Geometry) (s : State) (w : Wins) : Type 0 where

@@ -25,8 +25,8 @@ use Rattle.partial_parts.specs.declared.point.PartialPoint.TheVariants as partia
 use Rattle.partial_parts.specs.Points.{slot_of}
 use Rattle.large_parts.specs.declared.point.LargePoint.{LargePoint}
 use Rattle.large_parts.specs.declared.point.LargePoint.TheVariants as large
-use Rattle.errand_steps.specs.declared.onward.Onward.{Onward}
-use Rattle.errand_steps.specs.declared.onward.Onward.TheVariants as onward
+use Rattle.errand_steps.specs.declared.continuation.Continuation.{Continuation}
+use Rattle.errand_steps.specs.declared.continuation.Continuation.TheVariants as continuation
 use Rattle.errand_steps.specs.declared.point.Point.{Point}
 use Rattle.errand_steps.specs.declared.point.Point.TheVariants.{Idle, Block, Stack, Desc, Partial, Large}
 
@@ -71,59 +71,59 @@ block_expects (block.StoreAnchor at) = none_active at.seat
 block_expects p = []
 
 -- what waits behind a part: an allocation that found none active
-abbrev pub onward_expects : SeatFields → Onward → List Expected
-onward_expects s (onward.Alloc words) = none_active s
-onward_expects s (onward.TakeFrame words d) = none_active s
-onward_expects s (onward.Look words) = none_active s
-onward_expects s o = []
+abbrev pub continuation_expects : SeatFields → Continuation → List Expected
+continuation_expects s (continuation.Alloc words) = none_active s
+continuation_expects s (continuation.TakeFrame words d) = none_active s
+continuation_expects s (continuation.Look words) = none_active s
+continuation_expects s o = []
 
 -- the head is the one that was read
-abbrev pub head_still : SeatFields → Pile → HeadFields → Onward → List Expected
-head_still s pile h o = expect (head_name s pile) (head_word h) (onward_expects s o)
+abbrev pub head_still : SeatFields → Pile → HeadFields → Continuation → List Expected
+head_still s pile h o = expect (head_name s pile) (head_word h) (continuation_expects s o)
 
 -- at a stack
-abbrev pub stack_expects : StackPoint → Onward → List Expected
-stack_expects (stack.LoadTop s pile) o = onward_expects s o
+abbrev pub stack_expects : StackPoint → Continuation → List Expected
+stack_expects (stack.LoadTop s pile) o = continuation_expects s o
 stack_expects (stack.LoadBelow s pile h) o = head_still s pile h o
 stack_expects (stack.PopTop s pile h below) o = head_still s pile h o
 stack_expects (stack.ConfirmEmpty s pile h) o = head_still s pile h o
-stack_expects (stack.LoadTopToPush s pile i) o = onward_expects s o
+stack_expects (stack.LoadTopToPush s pile i) o = continuation_expects s o
 stack_expects (stack.StoreBelow s pile i h) o = head_still s pile h o
 stack_expects (stack.PushTop s pile i h) o = head_still s pile h o
 stack_expects p o = []
 
 -- the top one of the available descriptors is the one that was read
-abbrev pub top_still : ℕ → SeatFields → Onward → List Expected
-top_still top s o = expect name.DescHead top (onward_expects s o)
+abbrev pub top_still : ℕ → SeatFields → Continuation → List Expected
+top_still top s o = expect name.DescHead top (continuation_expects s o)
 
 -- at the descriptors or the hazard words
-abbrev pub desc_expects : DescPoint → Onward → List Expected
-desc_expects (desc.LoadDescHead s) o = onward_expects s o
+abbrev pub desc_expects : DescPoint → Continuation → List Expected
+desc_expects (desc.LoadDescHead s) o = continuation_expects s o
 desc_expects (desc.StoreHazard s d) o = top_still (d + 1) s o
 desc_expects (desc.ReloadDescHead s d) o = top_still (d + 1) s o
 desc_expects (desc.LoadNextDesc s d) o = top_still (d + 1) s o
 desc_expects (desc.PopDesc s d next) o = top_still (d + 1) s o
-desc_expects (desc.ClearAfterPop s d) o = onward_expects s o
-desc_expects (desc.ClearHazard s) o = onward_expects s o
-desc_expects (desc.ReadHazard s held at) o = onward_expects s o
-desc_expects (desc.LoadHeadToPush s d) o = onward_expects s o
+desc_expects (desc.ClearAfterPop s d) o = continuation_expects s o
+desc_expects (desc.ClearHazard s) o = continuation_expects s o
+desc_expects (desc.ReadHazard s held at) o = continuation_expects s o
+desc_expects (desc.LoadHeadToPush s d) o = continuation_expects s o
 desc_expects (desc.StoreNextDesc s d top) o = top_still top s o
 desc_expects (desc.PushDesc s d top) o = top_still top s o
 desc_expects p o = []
 
 -- at a partial superblock
-abbrev pub partial_expects : PartialPoint → Onward → List Expected
-partial_expects (partial.LoadSlot s) o = onward_expects s o
-partial_expects (partial.TakeSlot s d) o = expect (slot_name s) (d + 1) (onward_expects s o)
-partial_expects (partial.LoadTakenInfo s d) o = onward_expects s o
-partial_expects (partial.StoreOwner at) o = onward_expects at.seat o
-partial_expects (partial.LoadGrantAnchor at) o = onward_expects at.seat o
-partial_expects (partial.Grant at a) o = anchor_still at.desc a (onward_expects at.seat o)
-partial_expects (partial.LoadOwner s d) o = onward_expects s o
-partial_expects (partial.PutSlot s d heap) o = onward_expects s o
-partial_expects (partial.LoadHeldSlot s d heap) o = onward_expects s o
-partial_expects (partial.RemoveFromSlot s d heap) o = expect (slot_of s heap) (d + 1) (onward_expects s o)
-partial_expects (partial.LoadListedAnchor s d) o = onward_expects s o
+abbrev pub partial_expects : PartialPoint → Continuation → List Expected
+partial_expects (partial.LoadSlot s) o = continuation_expects s o
+partial_expects (partial.TakeSlot s d) o = expect (slot_name s) (d + 1) (continuation_expects s o)
+partial_expects (partial.LoadTakenInfo s d) o = continuation_expects s o
+partial_expects (partial.StoreOwner at) o = continuation_expects at.seat o
+partial_expects (partial.LoadGrantAnchor at) o = continuation_expects at.seat o
+partial_expects (partial.Grant at a) o = anchor_still at.desc a (continuation_expects at.seat o)
+partial_expects (partial.LoadOwner s d) o = continuation_expects s o
+partial_expects (partial.PutSlot s d heap) o = continuation_expects s o
+partial_expects (partial.LoadHeldSlot s d heap) o = continuation_expects s o
+partial_expects (partial.RemoveFromSlot s d heap) o = expect (slot_of s heap) (d + 1) (continuation_expects s o)
+partial_expects (partial.LoadListedAnchor s d) o = continuation_expects s o
 partial_expects p o = []
 
 -- at a large block, a usable word or a shelf; a put has not seen the shelf

@@ -27,9 +27,9 @@ IsGuard (guarded d) = Unit {0}
 IsGuard owned = Unit {0}
 
 -- the caller guards the descriptor
-pub record Guards (s : State) (who d : ℕ) : Type 0 where
-  pub word : s.word (name.Hazard who) ≡ d + 1
-  pub guard : IsGuard (holds_of (s.errand who).point).hazard
+pub record Guards (s : State) (caller d : ℕ) : Type 0 where
+  pub word : s.word (name.Hazard caller) ≡ d + 1
+  pub guard : IsGuard (holds_of (s.errand caller).point).hazard
 
 -- how many hazard words a caller's scan has passed, and what they said
 abbrev pub passed_by_desc : DescPoint → ℕ
@@ -50,15 +50,15 @@ held_by p = []
 
 -- the hazard words are as the points ask; nobody guards what is pushed; who guards one that a scan retires was seen where the scan has passed, and the words that it has not read are noted as 0; during a scan and the push after it the list is full
 pub record IsGuarded (g : Geometry) (s : State) : Type 0 where
-  pub words : (who : ℕ) → who < g.callers → IsHazard (holds_of (s.errand who).point).hazard (s.word (name.Hazard who))
+  pub words : (caller : ℕ) → caller < g.callers → IsHazard (holds_of (s.errand caller).point).hazard (s.word (name.Hazard caller))
   pub pushed :
-      (who other d : ℕ) → who < g.callers → other < g.callers → Guards s who d
+      (caller other d : ℕ) → caller < g.callers → other < g.callers → Guards s caller d
       → pushed_by (s.errand other).point ≡ Some d → ⊥
   pub passed :
-      (who other d : ℕ) → who < g.callers → other < g.callers → Guards s who d → Contains (s.errand other).retired d
-      → who < passed_by (s.errand other).point → slice_index (held_by (s.errand other).point) who ≡ d + 1
+      (caller other d : ℕ) → caller < g.callers → other < g.callers → Guards s caller d → Contains (s.errand other).retired d
+      → caller < passed_by (s.errand other).point → slice_index (held_by (s.errand other).point) caller ≡ d + 1
   pub unread :
-      (who i : ℕ) → who < g.callers → passed_by (s.errand who).point ≤ i → i < length (held_by (s.errand who).point)
-      → slice_index (held_by (s.errand who).point) i ≡ 0
+      (caller i : ℕ) → caller < g.callers → passed_by (s.errand caller).point ≤ i → i < length (held_by (s.errand caller).point)
+      → slice_index (held_by (s.errand caller).point) i ≡ 0
   pub full :
-      (who : ℕ) → who < g.callers → spare_of (s.errand who).point ≡ 1 → length (s.errand who).retired ≡ g.callers + 1
+      (caller : ℕ) → caller < g.callers → spare_of (s.errand caller).point ≡ 1 → length (s.errand caller).retired ≡ g.callers + 1

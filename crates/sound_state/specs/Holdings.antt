@@ -20,8 +20,8 @@ use Rattle.partial_parts.specs.declared.point.PartialPoint.{PartialPoint}
 use Rattle.partial_parts.specs.declared.point.PartialPoint.TheVariants as partial
 use Rattle.large_parts.specs.declared.point.LargePoint.{LargePoint}
 use Rattle.large_parts.specs.declared.point.LargePoint.TheVariants as large
-use Rattle.errand_steps.specs.declared.onward.Onward.{Onward}
-use Rattle.errand_steps.specs.declared.onward.Onward.TheVariants as onward
+use Rattle.errand_steps.specs.declared.continuation.Continuation.{Continuation}
+use Rattle.errand_steps.specs.declared.continuation.Continuation.TheVariants as continuation
 use Rattle.errand_steps.specs.declared.point.Point.{Point}
 use Rattle.errand_steps.specs.declared.point.Point.TheVariants.{Idle, Block, Stack, Desc, Partial, Large}
 
@@ -158,16 +158,16 @@ block_holds (block.StoreAnchor at) = making at
 block_holds p = nothing
 
 -- what waits behind a part: a descriptor on its way, or partly used ones; the block that is handed out; the hazard word
-abbrev pub onward_holds : SeatFields → Onward → Holding
-onward_holds s (onward.TakeFrame words d) = record nothing { kept = keep d s.class on_its_way }
-onward_holds s (onward.GiveBlock words at i) = record nothing { hands = block_handed at i }
-onward_holds s (onward.Discard words d) = record nothing { kept = keep d s.class on_its_way }
-onward_holds s (onward.Remove d heap) = record nothing { hazard = guarded d }
-onward_holds s (onward.ClearSecond first) = record nothing { kept = keep first s.class partly_used }
-onward_holds s (onward.Retire d) = record nothing { kept = keep d s.class partly_used }
-onward_holds s (onward.PushFirst first) = record nothing { kept = keep first s.class partly_used }
-onward_holds s (onward.Finish stored) = record nothing { hazard = if stored then owned else clear }
-onward_holds s o = nothing
+abbrev pub continuation_holds : SeatFields → Continuation → Holding
+continuation_holds s (continuation.TakeFrame words d) = record nothing { kept = keep d s.class on_its_way }
+continuation_holds s (continuation.GiveBlock words at i) = record nothing { hands = block_handed at i }
+continuation_holds s (continuation.Discard words d) = record nothing { kept = keep d s.class on_its_way }
+continuation_holds s (continuation.Remove d heap) = record nothing { hazard = guarded d }
+continuation_holds s (continuation.ClearSecond first) = record nothing { kept = keep first s.class partly_used }
+continuation_holds s (continuation.Retire d) = record nothing { kept = keep d s.class partly_used }
+continuation_holds s (continuation.PushFirst first) = record nothing { kept = keep first s.class partly_used }
+continuation_holds s (continuation.Finish stored) = record nothing { hazard = if stored then owned else clear }
+continuation_holds s o = nothing
 
 -- and one more partly used descriptor at hand; and a frame
 abbrev pub with_partial : ℕ → ℕ → Holding → Holding
@@ -177,27 +177,27 @@ abbrev pub with_frame : ℕ → Holding → Holding
 with_frame f h = record h { frames = f ∷ h.frames }
 
 -- what is pushed on a stack
-abbrev pub pushed_too : Pile → ℕ → SeatFields → Onward → Holding
-pushed_too Frames i s o = with_frame i (onward_holds s o)
-pushed_too Partials i s o = with_partial i s.class (onward_holds s o)
+abbrev pub pushed_too : Pile → ℕ → SeatFields → Continuation → Holding
+pushed_too Frames i s o = with_frame i (continuation_holds s o)
+pushed_too Partials i s o = with_partial i s.class (continuation_holds s o)
 
 -- at a stack
-abbrev pub stack_holds : StackPoint → Onward → Holding
-stack_holds (stack.LoadTop s pile) o = onward_holds s o
-stack_holds (stack.LoadBelow s pile h) o = onward_holds s o
-stack_holds (stack.PopTop s pile h below) o = onward_holds s o
-stack_holds (stack.ConfirmEmpty s pile h) o = onward_holds s o
+abbrev pub stack_holds : StackPoint → Continuation → Holding
+stack_holds (stack.LoadTop s pile) o = continuation_holds s o
+stack_holds (stack.LoadBelow s pile h) o = continuation_holds s o
+stack_holds (stack.PopTop s pile h below) o = continuation_holds s o
+stack_holds (stack.ConfirmEmpty s pile h) o = continuation_holds s o
 stack_holds (stack.LoadTopToPush s pile i) o = pushed_too pile i s o
 stack_holds (stack.StoreBelow s pile i h) o = pushed_too pile i s o
 stack_holds (stack.PushTop s pile i h) o = pushed_too pile i s o
 stack_holds p o = nothing
 
 -- at the descriptors or the hazard words; the hazard word of a free that clears it names what it removed, or anything
-abbrev pub cleared_holds : SeatFields → Onward → Holding
-cleared_holds s (onward.Retire d) = record nothing { kept = keep d s.class partly_used; hazard = guarded d }
+abbrev pub cleared_holds : SeatFields → Continuation → Holding
+cleared_holds s (continuation.Retire d) = record nothing { kept = keep d s.class partly_used; hazard = guarded d }
 cleared_holds s o = record nothing { hazard = owned }
 
-abbrev pub desc_holds : DescPoint → Onward → Holding
+abbrev pub desc_holds : DescPoint → Continuation → Holding
 desc_holds (desc.LoadDescHead s) o = record nothing { hazard = left }
 desc_holds (desc.StoreHazard s d) o = record nothing { hazard = left }
 desc_holds (desc.ReloadDescHead s d) o = record nothing { hazard = named d }
@@ -208,16 +208,16 @@ desc_holds (desc.ClearHazard s) o = cleared_holds s o
 desc_holds p o = nothing
 
 -- at a partial superblock
-abbrev pub partial_holds : PartialPoint → Onward → Holding
+abbrev pub partial_holds : PartialPoint → Continuation → Holding
 partial_holds (partial.LoadTakenInfo s d) o = record nothing { kept = keep d s.class partly_used }
 partial_holds (partial.StoreOwner at) o = record nothing { kept = keep at.desc at.seat.class partly_used }
 partial_holds (partial.LoadGrantAnchor at) o = record nothing { kept = keep at.desc at.seat.class partly_used }
 partial_holds (partial.Grant at a) o = record nothing { kept = keep at.desc at.seat.class partly_used }
-partial_holds (partial.LoadOwner s d) o = with_partial d s.class (onward_holds s o)
-partial_holds (partial.PutSlot s d heap) o = with_partial d s.class (onward_holds s o)
+partial_holds (partial.LoadOwner s d) o = with_partial d s.class (continuation_holds s o)
+partial_holds (partial.PutSlot s d heap) o = with_partial d s.class (continuation_holds s o)
 partial_holds (partial.LoadHeldSlot s d heap) o = record nothing { hazard = guarded d }
 partial_holds (partial.RemoveFromSlot s d heap) o = record nothing { hazard = guarded d }
-partial_holds (partial.LoadListedAnchor s d) o = with_partial d s.class (onward_holds s o)
+partial_holds (partial.LoadListedAnchor s d) o = with_partial d s.class (continuation_holds s o)
 partial_holds p o = nothing
 
 -- at a large block

@@ -16,13 +16,13 @@ use Rattle.sound_state.specs.Wins.{Win, Wins}
 
 -- an install of this caller; of another one; and of another one on this word
 abbrev pub installs_by : ℕ → Win → Bool
-installs_by who x = x.install && is_by who x
+installs_by caller x = x.install && is_by caller x
 
 abbrev pub installs_against : ℕ → Win → Bool
-installs_against who x = x.install && not (is_by who x)
+installs_against caller x = x.install && not (is_by caller x)
 
 abbrev pub installs_on : ℕ → WordName → Win → Bool
-installs_on who word x = x.install && is_against who word x
+installs_on caller word x = x.install && is_against caller word x
 
 -- 1 where the caller has popped a block and offers what it reserved beside
 abbrev pub errand_offers : ErrandFields → ℕ
@@ -35,31 +35,31 @@ IsActiveName n = ⊥
 
 -- what the events and the installs of others before a length allow
 abbrev pub turns_allowed : State → ℕ → ℕ → ℕ
-turns_allowed s who installs =
-    count_by (gives_small who) s.history + count_by (refuses_small who) s.history + installs
-    + turn_unanswered (s.errand who)
+turns_allowed s caller installs =
+    count_by (gives_small caller) s.history + count_by (refuses_small caller) s.history + installs
+    + turn_unanswered (s.errand caller)
 
 -- on an active word that a caller expects to be null, and that isn't, another has installed since there were so many wins
 abbrev pub IsInstalledSince : State → List Win → ℕ → ℕ → Expected → Type 0
-IsInstalledSince s list who wins e =
-    IsActiveName e.word → e.value ≡ active_word Null → s.word e.word ≢ e.value → 0 < count_by (installs_on who e.word) (drop wins list)
+IsInstalledSince s list caller wins e =
+    IsActiveName e.word → e.value ≡ active_word Null → s.word e.word ≢ e.value → 0 < count_by (installs_on caller e.word) (drop wins list)
 
 -- since a caller found none active, when there were so many wins, in the turn that it is in: it takes no more turns than the installs before allow; what it expects of an active word is so, or another has installed since; and another has where it lost its own install
-pub record HoldsSince (s : State) (w : Wins) (who wins : ℕ) : Type 0 where
+pub record HoldsSince (s : State) (w : Wins) (caller wins : ℕ) : Type 0 where
   pub past : wins ≤ length w.list
-  pub turns : (s.errand who).turns ≤ turns_allowed s who (count_by (installs_against who) (take wins w.list))
-  pub installed : All (IsInstalledSince s w.list who wins) (expects_of (s.errand who).point)
-  pub discards : errand_discards (s.errand who) ≤ count_by (installs_against who) (drop wins w.list)
+  pub turns : (s.errand caller).turns ≤ turns_allowed s caller (count_by (installs_against caller) (take wins w.list))
+  pub installed : All (IsInstalledSince s w.list caller wins) (expects_of (s.errand caller).point)
+  pub discards : errand_discards (s.errand caller) ≤ count_by (installs_against caller) (drop wins w.list)
 
 -- a caller installs at most as often as it is given a small block, and takes a turn beyond what it is given or refused only where another installed
 pub record IsInstalled (g : Geometry) (s : State) (w : Wins) : Type 0 where
   pub own :
-      (who : ℕ) → who < g.callers
-      → count_by (installs_by who) w.list + errand_offers (s.errand who) ≤ count_by (gives_small who) s.history
+      (caller : ℕ) → caller < g.callers
+      → count_by (installs_by caller) w.list + errand_offers (s.errand caller) ≤ count_by (gives_small caller) s.history
   pub turns :
-      (who : ℕ) → who < g.callers
-      → (s.errand who).turns ≤ turns_allowed s who (count_by (installs_against who) w.list)
+      (caller : ℕ) → caller < g.callers
+      → (s.errand caller).turns ≤ turns_allowed s caller (count_by (installs_against caller) w.list)
   pub found :
-      (who : ℕ) → who < g.callers → IsTrue (is_seeking (turn_stage_of (s.errand who).point))
-      → (wins : ℕ) × (w.found_none who ≡ Some wins)
-  pub since : (who wins : ℕ) → who < g.callers → w.found_none who ≡ Some wins → HoldsSince s w who wins
+      (caller : ℕ) → caller < g.callers → IsTrue (is_seeking (turn_stage_of (s.errand caller).point))
+      → (wins : ℕ) × (w.found_none caller ≡ Some wins)
+  pub since : (caller wins : ℕ) → caller < g.callers → w.found_none caller ≡ Some wins → HoldsSince s w caller wins

@@ -98,6 +98,6 @@ pub record IsKept (g : Geometry) (s : State) (l : Lists) : Type 0 where
   pub full : (d : ℕ) → d < descriptor_count g → (anchor_for s d).state ≡ phase.Full → (anchor_for s d).count ≡ 0
   pub listed : (class : ℕ) → class < CLASSES → All (λ d. IsPartlyUsed s d class) (l.partials class)
   pub available : All (IsWithout s) l.available
-  pub retired : (who : ℕ) → who < g.callers → All (IsWithout s) (s.errand who).retired
+  pub retired : (caller : ℕ) → caller < g.callers → All (IsWithout s) (s.errand caller).retired
   pub errand :
-      (who : ℕ) → who < g.callers → All (λ k. IsKeptAs s k.status k.desc k.class) (holds_of (s.errand who).point).kept
+      (caller : ℕ) → caller < g.callers → All (λ k. IsKeptAs s k.status k.desc k.class) (holds_of (s.errand caller).point).kept

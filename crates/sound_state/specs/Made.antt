@@ -7,8 +7,8 @@ use Rattle.sound_state.specs.Wins.{Wins, wins_after}
 
 -- the wins and the notes after a move: a call that begins leaves them, and a step adds what its caller wins and notes by it
 abbrev pub made_by : State → Move → Wins → Wins
-made_by s (begins who call) w = w
-made_by s (steps who) w = wins_after s who w
+made_by s (begins caller call) w = w
+made_by s (steps caller) w = wins_after s caller w
 
 -- these moves, one after the other, lead from one state to the other, and make of these wins and notes those
 abbrev pub ReachesWith : Geometry → State → Wins → List Move → State → Wins → Type 0

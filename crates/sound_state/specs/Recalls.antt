@@ -36,8 +36,8 @@ use Rattle.pool_model.specs.declared.event.Event.TheVariants.{Looked, Refuse}
 use Rattle.pool_model.specs.declared.owner.Owner.TheVariants.{Caller}
 use Rattle.pool_model.specs.Histories.{own, EndsWith}
 use Rattle.pool_model.specs.Pool.{Block, block_at, pool_of}
-use Rattle.errand_steps.specs.declared.onward.Onward.{Onward}
-use Rattle.errand_steps.specs.declared.onward.Onward.TheVariants as onward
+use Rattle.errand_steps.specs.declared.continuation.Continuation.{Continuation}
+use Rattle.errand_steps.specs.declared.continuation.Continuation.TheVariants as continuation
 use Rattle.errand_steps.specs.declared.point.Point.{Point}
 use Rattle.errand_steps.specs.declared.point.Point.TheVariants as point
 use Rattle.errand_steps.specs.Steps.{State}
@@ -110,38 +110,38 @@ block_recalls (block.StoreAnchor at) =
 block_recalls p = []
 
 -- what waits behind a part
-abbrev pub onward_recalls : SeatFields → Onward → List Recall
-onward_recalls s (onward.TakeFrame words d) = looked s.class ∷ []
-onward_recalls s (onward.GiveBlock words at i) = bound_here at
-onward_recalls s (onward.Remove d heap) = emptied d ∷ []
-onward_recalls s (onward.Retire d) = emptied d ∷ []
-onward_recalls s o = []
+abbrev pub continuation_recalls : SeatFields → Continuation → List Recall
+continuation_recalls s (continuation.TakeFrame words d) = looked s.class ∷ []
+continuation_recalls s (continuation.GiveBlock words at i) = bound_here at
+continuation_recalls s (continuation.Remove d heap) = emptied d ∷ []
+continuation_recalls s (continuation.Retire d) = emptied d ∷ []
+continuation_recalls s o = []
 
 -- at a stack
-abbrev pub stack_recalls : StackPoint → Onward → List Recall
-stack_recalls (stack.LoadTop s pile) o = onward_recalls s o
-stack_recalls (stack.LoadBelow s pile h) o = tops s pile h ∷ onward_recalls s o
-stack_recalls (stack.PopTop s pile h below) o = nexts s pile h below ∷ tops s pile h ∷ onward_recalls s o
-stack_recalls (stack.ConfirmEmpty s pile h) o = onward_recalls s o
-stack_recalls (stack.LoadTopToPush s pile i) o = onward_recalls s o
-stack_recalls (stack.StoreBelow s pile i h) o = tops_exist s pile h ∷ onward_recalls s o
-stack_recalls (stack.PushTop s pile i h) o = says (next_name pile i) h.top ∷ tops_exist s pile h ∷ onward_recalls s o
+abbrev pub stack_recalls : StackPoint → Continuation → List Recall
+stack_recalls (stack.LoadTop s pile) o = continuation_recalls s o
+stack_recalls (stack.LoadBelow s pile h) o = tops s pile h ∷ continuation_recalls s o
+stack_recalls (stack.PopTop s pile h below) o = nexts s pile h below ∷ tops s pile h ∷ continuation_recalls s o
+stack_recalls (stack.ConfirmEmpty s pile h) o = continuation_recalls s o
+stack_recalls (stack.LoadTopToPush s pile i) o = continuation_recalls s o
+stack_recalls (stack.StoreBelow s pile i h) o = tops_exist s pile h ∷ continuation_recalls s o
+stack_recalls (stack.PushTop s pile i h) o = says (next_name pile i) h.top ∷ tops_exist s pile h ∷ continuation_recalls s o
 stack_recalls p o = []
 
 -- what waits behind a retirement: who is refused has told so
-abbrev pub resumed_recalls : SeatFields → Onward → List Recall
-resumed_recalls s onward.Refuse = refused s.class ∷ []
+abbrev pub resumed_recalls : SeatFields → Continuation → List Recall
+resumed_recalls s continuation.Refuse = refused s.class ∷ []
 resumed_recalls s o = []
 
 -- at the descriptors or the hazard words
-abbrev pub desc_recalls : DescPoint → Onward → List Recall
+abbrev pub desc_recalls : DescPoint → Continuation → List Recall
 desc_recalls (desc.LoadDescHead s) o = looked s.class ∷ []
 desc_recalls (desc.StoreHazard s d) o = looked s.class ∷ []
 desc_recalls (desc.ReloadDescHead s d) o = looked s.class ∷ []
 desc_recalls (desc.LoadNextDesc s d) o = looked s.class ∷ []
 desc_recalls (desc.PopDesc s d next) o = noted d next ∷ looked s.class ∷ []
 desc_recalls (desc.ClearAfterPop s d) o = looked s.class ∷ []
-desc_recalls (desc.ClearHazard s) o = onward_recalls s o
+desc_recalls (desc.ClearHazard s) o = continuation_recalls s o
 desc_recalls (desc.ReadHazard s held at) o = resumed_recalls s o
 desc_recalls (desc.LoadHeadToPush s d) o = resumed_recalls s o
 desc_recalls (desc.StoreNextDesc s d top) o = resumed_recalls s o
@@ -149,11 +149,11 @@ desc_recalls (desc.PushDesc s d top) o = says (name.Next d) top ∷ resumed_reca
 desc_recalls p o = []
 
 -- at a partial superblock
-abbrev pub partial_recalls : PartialPoint → Onward → List Recall
+abbrev pub partial_recalls : PartialPoint → Continuation → List Recall
 partial_recalls (partial.StoreOwner at) o = located at.desc at.frame at.seat.class ∷ []
 partial_recalls (partial.LoadGrantAnchor at) o = located at.desc at.frame at.seat.class ∷ []
 partial_recalls (partial.Grant at a) o = in_use a ∷ located at.desc at.frame at.seat.class ∷ []
-partial_recalls (partial.PutSlot s d heap) o = onward_recalls s o
+partial_recalls (partial.PutSlot s d heap) o = continuation_recalls s o
 partial_recalls (partial.LoadHeldSlot s d heap) o = emptied d ∷ []
 partial_recalls (partial.RemoveFromSlot s d heap) o = emptied d ∷ []
 partial_recalls p o = []
@@ -205,13 +205,13 @@ pub record IsEmptied (g : Geometry) (s : State) (l : Lists) (d : ℕ) : Type 0 w
   pub standing : callers_sum g (errand_keeps on_its_way d) s.errand ≡ 0
 
 -- the caller owns the live block at the place
-pub record IsOwned (s : State) (who p : ℕ) (n : Need) : Type 0 where
-  pub block : (b : Block) × (block_at p (pool_of s.history) ≡ Some b) × (b.owner ≡ Caller who) × (b.need ≡ n)
+pub record IsOwned (s : State) (caller p : ℕ) (n : Need) : Type 0 where
+  pub block : (b : Block) × (block_at p (pool_of s.history) ≡ Some b) × (b.owner ≡ Caller caller) × (b.need ≡ n)
 
 -- the last two of a caller's events are that it looked for the class in vain, and that a need which blocks of the class serve was refused
 abbrev pub EndsRefused : List Event → ℕ → ℕ → Type 0
-EndsRefused events who class =
-    (before : List Event) × (words : ℕ) × (need_of words ≡ Small class) × (events ≡ before ++ Looked who class ∷ Refuse who words ∷ [])
+EndsRefused events caller class =
+    (before : List Event) × (words : ℕ) × (need_of words ≡ Small class) × (events ≡ before ++ Looked caller class ∷ Refuse caller words ∷ [])
 
 -- the word is none of a processor heap's and no hazard word
 abbrev pub IsPlain : WordName → Type 0
@@ -222,26 +222,26 @@ IsPlain n = Unit {0}
 
 -- what a caller remembers is so
 abbrev pub IsSo : Geometry → State → Lists → ℕ → Recall → Type 0
-IsSo g s l who (bound_for d class) = IsTrue (is_bound g s l d) × ((info_for s d).class ≡ class)
-IsSo g s l who (located d frame class) = IsLocated s d frame class
-IsSo g s l who (bound_at d frame class) = IsTrue (is_bound g s l d) × IsLocated s d frame class
-IsSo g s l who (pops d a) = IsPopped (superblock_of g s d) a
-IsSo g s l who (links d a prefix) =
+IsSo g s l caller (bound_for d class) = IsTrue (is_bound g s l d) × ((info_for s d).class ≡ class)
+IsSo g s l caller (located d frame class) = IsLocated s d frame class
+IsSo g s l caller (bound_at d frame class) = IsTrue (is_bound g s l d) × IsLocated s d frame class
+IsSo g s l caller (pops d a) = IsPopped (superblock_of g s d) a
+IsSo g s l caller (links d a prefix) =
     a.tag ≡ (anchor_for s d).tag → (superblock_of g s d).next a.avail ≡ link_of prefix
-IsSo g s l who (tops seat pile h) = IsTopStill s l seat pile h
-IsSo g s l who (nexts seat pile h below) =
+IsSo g s l caller (tops seat pile h) = IsTopStill s l seat pile h
+IsSo g s l caller (nexts seat pile h below) =
     h.tag ≡ (head_of (s.word (head_name seat pile))).tag → s.word (next_name pile (h.top - 1)) ≡ below
-IsSo g s l who (tops_exist seat pile h) = h.top ≤ pile_limit g pile
-IsSo g s l who (says word_name word) = IsPlain word_name × (s.word word_name ≡ word)
-IsSo g s l who (made frame class blocks) = AreMade s frame class blocks
-IsSo g s l who (in_use a) = IsFalse (is_empty a.state)
-IsSo g s l who (emptied d) = IsEmptied g s l d
-IsSo g s l who (noted d next) = 0 < occurs d l.available → s.word (name.Next d) ≡ next
-IsSo g s l who (owns place i) = (n : Need) × IsOwned s who place n × (i < usable_words n)
-IsSo g s l who (owns_all place need) = IsOwned s who place need
-IsSo g s l who (looked class) = EndsWith (own who s.history) (Looked who class)
-IsSo g s l who (refused class) = EndsRefused (own who s.history) who class
+IsSo g s l caller (tops_exist seat pile h) = h.top ≤ pile_limit g pile
+IsSo g s l caller (says word_name word) = IsPlain word_name × (s.word word_name ≡ word)
+IsSo g s l caller (made frame class blocks) = AreMade s frame class blocks
+IsSo g s l caller (in_use a) = IsFalse (is_empty a.state)
+IsSo g s l caller (emptied d) = IsEmptied g s l d
+IsSo g s l caller (noted d next) = 0 < occurs d l.available → s.word (name.Next d) ≡ next
+IsSo g s l caller (owns place i) = (n : Need) × IsOwned s caller place n × (i < usable_words n)
+IsSo g s l caller (owns_all place need) = IsOwned s caller place need
+IsSo g s l caller (looked class) = EndsWith (own caller s.history) (Looked caller class)
+IsSo g s l caller (refused class) = EndsRefused (own caller s.history) caller class
 
 -- everything that a caller remembers is so
 pub record IsRemembered (g : Geometry) (s : State) (l : Lists) : Type 0 where
-  pub so : (who : ℕ) → who < g.callers → All (IsSo g s l who) (recalls_of (s.errand who).point)
+  pub so : (caller : ℕ) → caller < g.callers → All (IsSo g s l caller) (recalls_of (s.errand caller).point)

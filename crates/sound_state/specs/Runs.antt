@@ -12,29 +12,29 @@ use Rattle.sound_state.specs.Sound.{with_errands}
 
 -- a caller may begin it: a block that it is about is the caller's, and the word or the shelf is there
 abbrev pub MayBegin : State → ℕ → Call → Type 0
-MayBegin s who (alloc words) = Unit {0}
-MayBegin s who (free place need) = IsOwned s who place need
-MayBegin s who (write place need i value) = IsOwned s who place need × (i < usable_words need) × (value < 2 ^ 64)
-MayBegin s who (read place need i) = IsOwned s who place need × (i < usable_words need)
-MayBegin s who (put place need shelf) = IsOwned s who place need × (shelf < SHELVES)
-MayBegin s who (take shelf) = shelf < SHELVES
+MayBegin s caller (alloc words) = Unit {0}
+MayBegin s caller (free place need) = IsOwned s caller place need
+MayBegin s caller (write place need i value) = IsOwned s caller place need × (i < usable_words need) × (value < 2 ^ 64)
+MayBegin s caller (read place need i) = IsOwned s caller place need × (i < usable_words need)
+MayBegin s caller (put place need shelf) = IsOwned s caller place need × (shelf < SHELVES)
+MayBegin s caller (take shelf) = shelf < SHELVES
 
 -- a caller that is in no call begins one
-pub record Begins (s : State) (who : ℕ) (call : Call) (s' : State) : Type 0 where
-  pub idle : IsIdle (s.errand who)
-  pub may : MayBegin s who call
+pub record Begins (s : State) (caller : ℕ) (call : Call) (s' : State) : Type 0 where
+  pub idle : IsIdle (s.errand caller)
+  pub may : MayBegin s caller call
   pub errands : ℕ → ErrandFields
-  pub moves : Moves s.errand who (begun_by (s.errand who) call) errands
+  pub moves : Moves s.errand caller (begun_by (s.errand caller) call) errands
   pub after : s' ≡ with_errands s errands
 
 -- what a caller does: it begins a call, or makes a step of the one that it is in
 pub data Move : Type 0 where
-  begins : (who : ℕ) (call : Call) → Move
-  steps : (who : ℕ) → Move
+  begins : (caller : ℕ) (call : Call) → Move
+  steps : (caller : ℕ) → Move
 
 abbrev pub Moved : Geometry → State → Move → State → Type 0
-Moved g s (begins who call) s' = (who < g.callers) × Begins s who call s'
-Moved g s (steps who) s' = (who < g.callers) × Step s who s'
+Moved g s (begins caller call) s' = (caller < g.callers) × Begins s caller call s'
+Moved g s (steps caller) s' = (caller < g.callers) × Step s caller s'
 
 -- these moves, one after the other, of any callers in any order, lead from one state to the other
 abbrev pub Reaches : Geometry → State → List Move → State → Type 0

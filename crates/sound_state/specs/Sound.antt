@@ -23,8 +23,8 @@ abbrev pub with_errands : State → (ℕ → ErrandFields) → State
 with_errands s errands = record { word = s.word; errand = errands; history = s.history }
 
 -- the errand is this caller's, in this heap, keeps its rule, and counts in 64 bits
-pub record IsOwnErrand (g : Geometry) (who : ℕ) (e : ErrandFields) : Type 0 where
-  pub caller : e.caller ≡ who
+pub record IsOwnErrand (g : Geometry) (caller : ℕ) (e : ErrandFields) : Type 0 where
+  pub number : e.caller ≡ caller
   pub geometry : e.geometry ≡ g
   pub rule : IsErrand e
   pub lost : e.lost < 2 ^ 64
@@ -32,7 +32,7 @@ pub record IsOwnErrand (g : Geometry) (who : ℕ) (e : ErrandFields) : Type 0 wh
 -- the words, the errands and the events go together, with these lists
 pub record IsSoundWith (g : Geometry) (s : State) (l : Lists) : Type 0 where
   pub words : (n : WordName) → s.word n < 2 ^ 64
-  pub errands : (who : ℕ) → who < g.callers → IsOwnErrand g who (s.errand who)
+  pub errands : (caller : ℕ) → caller < g.callers → IsOwnErrand g caller (s.errand caller)
   pub listed : IsListed g s.word l
   pub kept : IsKept g s l
   pub chained : AreChained g s l
@@ -57,4 +57,4 @@ pub record IsSound (g : Geometry) (s : State) : Type 0 where
 
 -- what a caller tells next, if anything, has its number: a look finds few part-used frames of its class, and a refusal few bare frames
 abbrev pub TellsCounted : Geometry → State → ℕ → Type 0
-TellsCounted g s who = (e : Event) → event_at s who ≡ Some e → IsCounted g (pool_of s.history) e
+TellsCounted g s caller = (e : Event) → event_at s caller ≡ Some e → IsCounted g (pool_of s.history) e

@@ -13,8 +13,8 @@ use Rattle.partial_parts.specs.declared.point.PartialPoint.{PartialPoint}
 use Rattle.partial_parts.specs.declared.point.PartialPoint.TheVariants as partial
 use Rattle.large_parts.specs.declared.point.LargePoint.{LargePoint}
 use Rattle.large_parts.specs.declared.point.LargePoint.TheVariants as large
-use Rattle.errand_steps.specs.declared.onward.Onward.{Onward}
-use Rattle.errand_steps.specs.declared.onward.Onward.TheVariants as onward
+use Rattle.errand_steps.specs.declared.continuation.Continuation.{Continuation}
+use Rattle.errand_steps.specs.declared.continuation.Continuation.TheVariants as continuation
 use Rattle.errand_steps.specs.declared.point.Point.{Point}
 use Rattle.errand_steps.specs.declared.point.Point.TheVariants.{Idle, Block, Stack, Desc, Partial, Large}
 use Rattle.errand_steps.specs.Errands.{counts_lost, counts_cleared}
@@ -53,27 +53,27 @@ abbrev pub held_left : Geometry → ℕ
 held_left g = clear_left g + 3
 
 -- what follows a retirement
-abbrev pub resumed_left : Geometry → SeatFields → Onward → ℕ
-resumed_left g s (onward.Turn words) = active_left g s
-resumed_left g s (onward.Look words) = slot_left g s
+abbrev pub resumed_left : Geometry → SeatFields → Continuation → ℕ
+resumed_left g s (continuation.Turn words) = active_left g s
+resumed_left g s (continuation.Look words) = slot_left g s
 resumed_left g s o = 0
 
 -- what follows when something is put away
-abbrev pub put_left : Geometry → SeatFields → Onward → ℕ
-put_left g s (onward.GiveBlock words at i) = 1
-put_left g s (onward.Discard words d) = active_left g s + scan_left g
-put_left g s (onward.Remove d heap) = held_left g
-put_left g s (onward.Retire d) = scan_left g
-put_left g s (onward.PushFirst first) = 3
-put_left g s (onward.Finish stored) = 1
+abbrev pub put_left : Geometry → SeatFields → Continuation → ℕ
+put_left g s (continuation.GiveBlock words at i) = 1
+put_left g s (continuation.Discard words d) = active_left g s + scan_left g
+put_left g s (continuation.Remove d heap) = held_left g
+put_left g s (continuation.Retire d) = scan_left g
+put_left g s (continuation.PushFirst first) = 3
+put_left g s (continuation.Finish stored) = 1
 put_left g s o = 0
 
 -- from the top of a stack on
-abbrev pub top_left : Geometry → SeatFields → Onward → ℕ
-top_left g s (onward.Alloc words) = list_left g s
-top_left g s (onward.TakeFrame words d) = frame_left g s
-top_left g s onward.Clear = clear_left g
-top_left g s (onward.ClearSecond first) = second_left g
+abbrev pub top_left : Geometry → SeatFields → Continuation → ℕ
+top_left g s (continuation.Alloc words) = list_left g s
+top_left g s (continuation.TakeFrame words d) = frame_left g s
+top_left g s continuation.Clear = clear_left g
+top_left g s (continuation.ClearSecond first) = second_left g
 top_left g s o = 3
 
 -- in a superblock
@@ -101,7 +101,7 @@ block_left g (block.StoreAnchor at) = 3
 block_left g p = 0
 
 -- at a stack
-abbrev pub stack_left : Geometry → StackPoint → Onward → ℕ
+abbrev pub stack_left : Geometry → StackPoint → Continuation → ℕ
 stack_left g (stack.LoadTop s pile) o = top_left g s o
 stack_left g (stack.LoadBelow s pile h) o = top_left g s o - 1
 stack_left g (stack.PopTop s pile h below) o = top_left g s o - 2
@@ -112,12 +112,12 @@ stack_left g (stack.PushTop s pile i h) o = put_left g s o + 1
 stack_left g p o = 0
 
 -- at the descriptors or the hazard words
-abbrev pub cleared_left : Geometry → Onward → ℕ
-cleared_left g onward.Clear = clear_left g
-cleared_left g (onward.Retire d) = scan_left g
+abbrev pub cleared_left : Geometry → Continuation → ℕ
+cleared_left g continuation.Clear = clear_left g
+cleared_left g (continuation.Retire d) = scan_left g
 cleared_left g o = 0
 
-abbrev pub desc_point_left : Geometry → DescPoint → Onward → ℕ
+abbrev pub desc_point_left : Geometry → DescPoint → Continuation → ℕ
 desc_point_left g (desc.LoadDescHead s) o = desc_left g s
 desc_point_left g (desc.StoreHazard s d) o = frame_left g s + 5
 desc_point_left g (desc.ReloadDescHead s d) o = frame_left g s + 4
@@ -132,11 +132,11 @@ desc_point_left g (desc.PushDesc s d top) o = resumed_left g s o + 1
 desc_point_left g p o = 0
 
 -- at a partial superblock
-abbrev pub listed_left : Geometry → Onward → ℕ
-listed_left g (onward.ClearSecond first) = scan_left g + 7
+abbrev pub listed_left : Geometry → Continuation → ℕ
+listed_left g (continuation.ClearSecond first) = scan_left g + 7
 listed_left g o = second_left g + 1
 
-abbrev pub partial_left : Geometry → PartialPoint → Onward → ℕ
+abbrev pub partial_left : Geometry → PartialPoint → Continuation → ℕ
 partial_left g (partial.LoadSlot s) o = slot_left g s
 partial_left g (partial.TakeSlot s d) o = 10
 partial_left g (partial.LoadTakenInfo s d) o = 9
@@ -176,6 +176,6 @@ steps_left g (Large p o) = large_left p
 
 -- after a step fewer steps are left, unless it lost or cleared
 abbrev pub GoesOn : Geometry → State → ℕ → State → Type 0
-GoesOn g s who s' =
-    (counts_lost (s.errand who).point (found_at s who) ≡ true) ⊎ (counts_cleared (s.errand who).point (found_at s who) ≡ true)
-    ⊎ (steps_left g (s'.errand who).point < steps_left g (s.errand who).point)
+GoesOn g s caller s' =
+    (counts_lost (s.errand caller).point (found_at s caller) ≡ true) ⊎ (counts_cleared (s.errand caller).point (found_at s caller) ≡ true)
+    ⊎ (steps_left g (s'.errand caller).point < steps_left g (s.errand caller).point)

@@ -17,4 +17,4 @@ words_sum g weight words = sum_below (word_count g) (λ k. weight (word_name g k
 
 -- what the callers' errands weigh together
 unfoldable pub callers_sum : Geometry → (ErrandFields → ℕ) → (ℕ → ErrandFields) → ℕ
-callers_sum g weight errands = sum_below g.callers (λ who. weight (errands who))
+callers_sum g weight errands = sum_below g.callers (λ caller. weight (errands caller))

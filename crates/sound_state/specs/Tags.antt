@@ -21,12 +21,12 @@ pops_at d p = false
 
 -- 1 where the caller's step pops a block of d: it is about to, and its exchange is won
 abbrev pub pops_from : State → ℕ → ℕ → ℕ
-pops_from s who d = one_if (pops_at d (s.errand who).point && (found_at s who).won)
+pops_from s caller d = one_if (pops_at d (s.errand caller).point && (found_at s caller).won)
 
 -- 1 where the move is such a step
 abbrev pub pops_in : State → ℕ → Move → ℕ
-pops_in s d (begins who call) = 0
-pops_in s d (steps who) = pops_from s who d
+pops_in s d (begins caller call) = 0
+pops_in s d (steps caller) = pops_from s caller d
 
 -- these moves of any callers lead from one state to the other; before each of them d has a superblock, and n of them pop a block of it
 abbrev pub ReachesBound : Geometry → ℕ → State → List Move → ℕ → State → Type 0

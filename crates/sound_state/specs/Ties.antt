@@ -29,10 +29,10 @@ pub record IsBlockOfDesc (g : Geometry) (s : State) (l : Lists) (place class d :
 
 -- a caller hands the block at the place out, and has not stored its prefix word; or frees it, and may have stored its link
 pub record IsExcepted (g : Geometry) (s : State) (place : ℕ) : Type 0 where
-  pub who :
-      (who : ℕ) × (who < g.callers)
-      × (Any (λ b. b.place ≡ place) (holds_of (s.errand who).point).hands
-      ⊎ Any (λ b. (b.place ≡ place) × IsTrue b.overwritten) (holds_of (s.errand who).point).frees)
+  pub caller :
+      (caller : ℕ) × (caller < g.callers)
+      × (Any (λ b. b.place ≡ place) (holds_of (s.errand caller).point).hands
+      ⊎ Any (λ b. (b.place ≡ place) × IsTrue b.overwritten) (holds_of (s.errand caller).point).frees)
 
 -- a unit is one of a live run's
 abbrev pub IsCovered : Geometry → State → ℕ → Type 0
@@ -61,6 +61,6 @@ pub record IsTied (g : Geometry) (s : State) (l : Lists) : Type 0 where
       (place i v : ℕ) (b : Block) → IsLive s place b → slice_index_or b.contents i None ≡ Some v
       → s.word (name.Arena (place + 1 + i)) ≡ v
   pub hands :
-      (who : ℕ) → who < g.callers → All (λ b. IsOwned s who b.place b.need) (holds_of (s.errand who).point).hands
+      (caller : ℕ) → caller < g.callers → All (λ b. IsOwned s caller b.place b.need) (holds_of (s.errand caller).point).hands
   pub frees :
-      (who : ℕ) → who < g.callers → All (λ b. IsOwned s who b.place b.need) (holds_of (s.errand who).point).frees
+      (caller : ℕ) → caller < g.callers → All (λ b. IsOwned s caller b.place b.need) (holds_of (s.errand caller).point).frees

@@ -6,8 +6,8 @@ use Rattle.superblock_parts.specs.declared.point.Share.{Share}
 use Rattle.superblock_parts.specs.declared.point.Share.TheVariants.{Grant}
 use Rattle.partial_parts.specs.declared.point.PartialPoint.{PartialPoint}
 use Rattle.partial_parts.specs.declared.point.PartialPoint.TheVariants as partial
-use Rattle.errand_steps.specs.declared.onward.Onward.{Onward}
-use Rattle.errand_steps.specs.declared.onward.Onward.TheVariants as onward
+use Rattle.errand_steps.specs.declared.continuation.Continuation.{Continuation}
+use Rattle.errand_steps.specs.declared.continuation.Continuation.TheVariants as continuation
 use Rattle.errand_steps.specs.declared.point.Point.{Point}
 use Rattle.errand_steps.specs.declared.point.Point.TheVariants as point
 
@@ -51,29 +51,29 @@ block_turn_stage (block.StoreAnchor at) = frame_taken
 block_turn_stage p = out_of_turn
 
 -- what waits behind a part
-abbrev pub onward_turn_stage : Onward → TurnStage
-onward_turn_stage (onward.Alloc words) = searching
-onward_turn_stage (onward.TakeFrame words d) = searching
-onward_turn_stage (onward.Look words) = searching
-onward_turn_stage (onward.Discard words d) = not_needed
-onward_turn_stage (onward.Turn words) = not_needed
-onward_turn_stage onward.Refuse = turned_down
-onward_turn_stage o = out_of_turn
+abbrev pub continuation_turn_stage : Continuation → TurnStage
+continuation_turn_stage (continuation.Alloc words) = searching
+continuation_turn_stage (continuation.TakeFrame words d) = searching
+continuation_turn_stage (continuation.Look words) = searching
+continuation_turn_stage (continuation.Discard words d) = not_needed
+continuation_turn_stage (continuation.Turn words) = not_needed
+continuation_turn_stage continuation.Refuse = turned_down
+continuation_turn_stage o = out_of_turn
 
 -- at a partial superblock
-abbrev pub partial_turn_stage : PartialPoint → Onward → TurnStage
+abbrev pub partial_turn_stage : PartialPoint → Continuation → TurnStage
 partial_turn_stage (partial.LoadTakenInfo s d) o = partial_taken
 partial_turn_stage (partial.StoreOwner at) o = partial_taken
 partial_turn_stage (partial.LoadGrantAnchor at) o = partial_taken
 partial_turn_stage (partial.Grant at a) o = partial_taken
-partial_turn_stage p o = onward_turn_stage o
+partial_turn_stage p o = continuation_turn_stage o
 
 -- at any point
 abbrev pub turn_stage_of : Point → TurnStage
 turn_stage_of point.Idle = out_of_turn
 turn_stage_of (point.Block p o) = block_turn_stage p
-turn_stage_of (point.Stack p o) = onward_turn_stage o
-turn_stage_of (point.Desc p o) = onward_turn_stage o
+turn_stage_of (point.Stack p o) = continuation_turn_stage o
+turn_stage_of (point.Desc p o) = continuation_turn_stage o
 turn_stage_of (point.Partial p o) = partial_turn_stage p o
 turn_stage_of (point.Large p o) = out_of_turn
 

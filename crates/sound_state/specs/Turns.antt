@@ -10,8 +10,8 @@ use Rattle.partial_parts.specs.declared.point.PartialPoint.TheVariants as partia
 use Rattle.partial_parts.specs.Grants.{is_empty}
 use Rattle.pool_model.specs.declared.event.Event.{Event}
 use Rattle.pool_model.specs.declared.event.Event.TheVariants.{Alloc, Refuse, Free}
-use Rattle.errand_steps.specs.declared.onward.Onward.{Onward}
-use Rattle.errand_steps.specs.declared.onward.Onward.TheVariants as onward
+use Rattle.errand_steps.specs.declared.continuation.Continuation.{Continuation}
+use Rattle.errand_steps.specs.declared.continuation.Continuation.TheVariants as continuation
 use Rattle.errand_steps.specs.declared.point.Point.{Point}
 use Rattle.errand_steps.specs.declared.point.Point.TheVariants as point
 use Rattle.errand_steps.specs.Errands.{ErrandFields}
@@ -24,19 +24,19 @@ use Rattle.heap_geometry.specs.Place.{frame_of}
 
 -- whether the event gives a small block to this caller, refuses it one, gives one to anybody, or frees one
 abbrev pub gives_small : ℕ → Event → Bool
-gives_small who (Alloc caller words place) = (caller == who) && nat_le words SMALL_MOST
-gives_small who e = false
+gives_small caller (Alloc by words place) = (by == caller) && nat_le words SMALL_MOST
+gives_small caller e = false
 
 abbrev pub refuses_small : ℕ → Event → Bool
-refuses_small who (Refuse caller words) = (caller == who) && nat_le words SMALL_MOST
-refuses_small who e = false
+refuses_small caller (Refuse by words) = (by == caller) && nat_le words SMALL_MOST
+refuses_small caller e = false
 
 abbrev pub is_small_alloc : Event → Bool
-is_small_alloc (Alloc caller words place) = nat_le words SMALL_MOST
+is_small_alloc (Alloc by words place) = nat_le words SMALL_MOST
 is_small_alloc e = false
 
 abbrev pub is_small_free : Geometry → Event → Bool
-is_small_free g (Free caller place) = nat_le (frame_of place + 1) g.frames
+is_small_free g (Free by place) = nat_le (frame_of place + 1) g.frames
 is_small_free g e = false
 
 -- 1 where it is so, else 0
@@ -54,19 +54,19 @@ abbrev pub turn_unlisted : ErrandFields → ℕ
 turn_unlisted e = one_if (lacks_partial (turn_stage_of e.point))
 
 -- how many pops of a class's list a free that made EMPTY may still make
-abbrev pub onward_pops : Onward → ℕ
-onward_pops (onward.Remove d heap) = 2
-onward_pops onward.Clear = 2
-onward_pops (onward.ClearSecond first) = 1
-onward_pops o = 0
+abbrev pub continuation_pops : Continuation → ℕ
+continuation_pops (continuation.Remove d heap) = 2
+continuation_pops continuation.Clear = 2
+continuation_pops (continuation.ClearSecond first) = 1
+continuation_pops o = 0
 
 abbrev pub pops_left : Point → ℕ
 pops_left (point.Block p o) = 0
-pops_left (point.Stack p o) = onward_pops o
-pops_left (point.Desc p o) = onward_pops o
+pops_left (point.Stack p o) = continuation_pops o
+pops_left (point.Desc p o) = continuation_pops o
 pops_left (point.Partial (partial.LoadHeldSlot s d heap) o) = 2
 pops_left (point.Partial (partial.RemoveFromSlot s d heap) o) = 2
-pops_left (point.Partial (partial.LoadListedAnchor s d) onward.Clear) = 1
+pops_left (point.Partial (partial.LoadListedAnchor s d) continuation.Clear) = 1
 pops_left p = 0
 
 abbrev pub errand_pops : ErrandFields → ℕ
@@ -112,13 +112,13 @@ pops_to_come g s = callers_sum g errand_pops s.errand + callers_sum g turn_unlis
 -- the tags stay below what the turns allow, and the turns below what the events and the lost exchanges allow
 pub record IsTurned (g : Geometry) (s : State) (l : Lists) : Type 0 where
   pub own_turns :
-      (who : ℕ) → who < g.callers
-      → count_by (gives_small who) s.history + turn_open (s.errand who) ≤ (s.errand who).turns
+      (caller : ℕ) → caller < g.callers
+      → count_by (gives_small caller) s.history + turn_open (s.errand caller) ≤ (s.errand caller).turns
   pub own_lost :
-      (who : ℕ) → who < g.callers
-      → (s.errand who).turns + errand_discards (s.errand who)
-      ≤ count_by (gives_small who) s.history + count_by (refuses_small who) s.history + (s.errand who).lost
-      + turn_unanswered (s.errand who)
+      (caller : ℕ) → caller < g.callers
+      → (s.errand caller).turns + errand_discards (s.errand caller)
+      ≤ count_by (gives_small caller) s.history + count_by (refuses_small caller) s.history + (s.errand caller).lost
+      + turn_unanswered (s.errand caller)
   pub anchor_tags : (d : ℕ) → d < descriptor_count g → (anchor_for s d).tag ≤ count_by is_small_alloc s.history
   pub frame_tag : (head_of (s.word name.FrameHead)).tag + callers_sum g turn_unframed s.errand ≤ all_turns g s
   pub emptied : all_emptied g s l + all_cleared g s ≤ small_frees g s

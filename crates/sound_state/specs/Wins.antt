@@ -58,13 +58,13 @@ offers p = false
 
 -- what a caller wins by its next step, if anything
 abbrev pub win_at : State → ℕ → Option Win
-win_at s who =
-    if counts_won (action_at s who) (found_at s who)
-    then Some (record { caller = who; word = name_at s who; install = offers (s.errand who).point })
+win_at s caller =
+    if counts_won (action_at s caller) (found_at s caller)
+    then Some (record { caller = caller; word = name_at s caller; install = offers (s.errand caller).point })
     else None
 
 abbrev pub win_list_after : State → ℕ → List Win → List Win
-win_list_after s who list = list ++ option_to_list (win_at s who)
+win_list_after s caller list = list ++ option_to_list (win_at s caller)
 
 -- an exchange of a number for itself changes nothing
 abbrev pub is_self_exchange : Action → Bool
@@ -73,10 +73,10 @@ is_self_exchange action = false
 
 -- what it notes of the word of that step: nothing where it lost, and that it sees or changes it now; by a self-exchange it notes nothing new
 abbrev pub note_at : State → ℕ → ℕ → Option ℕ → Option ℕ
-note_at s who wins old =
-    if is_lost_exchange (action_at s who) (found_at s who)
+note_at s caller wins old =
+    if is_lost_exchange (action_at s caller) (found_at s caller)
     then None
-    else (if is_self_exchange (action_at s who) then old else Some wins)
+    else (if is_self_exchange (action_at s caller) then old else Some wins)
 
 -- the turn that the caller was in has ended at this point, or begins here
 abbrev pub is_between : Point → Bool
@@ -90,21 +90,21 @@ found_none_by (point.Block (block.LoadActive s) o) x wins old = if x.value == ac
 found_none_by p x wins old = old
 
 abbrev pub found_none_after : State → ℕ → ℕ → Option ℕ → Option ℕ
-found_none_after s who wins old =
-    if is_between (settle_of (s.errand who) (found_at s who)).point
+found_none_after s caller wins old =
+    if is_between (settle_of (s.errand caller) (found_at s caller)).point
     then None
-    else found_none_by (s.errand who).point (found_at s who) wins old
+    else found_none_by (s.errand caller).point (found_at s caller) wins old
 
 -- the wins and the notes after that step
 abbrev pub wins_after : State → ℕ → Wins → Wins
-wins_after s who w =
-    let list = win_list_after s who w.list in
+wins_after s caller w =
+    let list = win_list_after s caller w.list in
     let now = length list in record {
       list = list;
-      noted = λ other word. if (other == who) && same_name word (name_at s who) then note_at s who now (w.noted who word) else w.noted other word;
-      found_none = λ other. if other == who then found_none_after s who now (w.found_none who) else w.found_none other;
+      noted = λ other word. if (other == caller) && same_name word (name_at s caller) then note_at s caller now (w.noted caller word) else w.noted other word;
+      found_none = λ other. if other == caller then found_none_after s caller now (w.found_none caller) else w.found_none other;
     }
 
 -- nothing is won or noted yet
 abbrev pub no_wins : Wins
-no_wins = record { list = []; noted = λ who word. None; found_none = λ who. None }
+no_wins = record { list = []; noted = λ caller word. None; found_none = λ caller. None }

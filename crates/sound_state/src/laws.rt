@@ -39,26 +39,26 @@ pub fn installed_is_sound()
 pub fn counts_follow()
     ensures dropped { (g : Geometry) (s : State) → IsSound g s → IsSoundWithoutCounts g s }
     ensures added { (g : Geometry) (s : State) → IsSoundWithoutCounts g s → IsLegal g s.history → IsSound g s }
-    ensures told { (g : Geometry) (s : State) (who : ℕ) → IsSoundWithoutCounts g s → who < g.callers
-        → TellsCounted g s who }
+    ensures told { (g : Geometry) (s : State) (caller : ℕ) → IsSoundWithoutCounts g s → caller < g.callers
+        → TellsCounted g s caller }
 {}
 
 /// A call that begins under its condition keeps the state sound.
 pub fn begun_calls_keep_sound()
-    ensures { (g : Geometry) (s : State) (who : ℕ) (call : Call) (after : State)
-        → IsSound g s → who < g.callers → Begins s who call after → IsSound g after }
+    ensures { (g : Geometry) (s : State) (caller : ℕ) (call : Call) (after : State)
+        → IsSound g s → caller < g.callers → Begins s caller call after → IsSound g after }
 {}
 
 /// So does every step of every caller, wherever the others stand.
 pub fn steps_keep_sound()
-    ensures { (g : Geometry) (s : State) (who : ℕ) (after : State)
-        → IsSound g s → who < g.callers → Step s who after → IsSound g after }
+    ensures { (g : Geometry) (s : State) (caller : ℕ) (after : State)
+        → IsSound g s → caller < g.callers → Step s caller after → IsSound g after }
 {}
 
 /// And every run of steps, of any callers in any order.
 pub fn runs_keep_sound()
     ensures { (g : Geometry) (s : State) (callers : List ℕ) (n : ℕ) (after : State)
-        → IsSound g s → All (λ who. who < g.callers) callers → Run s callers n after → IsSound g after }
+        → IsSound g s → All (λ caller. caller < g.callers) callers → Run s callers n after → IsSound g after }
 {}
 
 /// Every state that callers reach from the state before the first step is sound, whatever calls they

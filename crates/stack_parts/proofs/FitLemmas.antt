@@ -21,9 +21,9 @@ use Rattle.stack_parts.specs.Piles.{head_name, next_name, pile_limit}
 use Rattle.stack_parts.specs.Points.{plan_stack_of, settle_stack_of, after_top}
 
 -- the head of a stack exists
-head-exists : (g : Geometry) (who : ℕ) (s : SeatFields) (p : Pile) → IsSeatOf g who s → Exists g (head_name s p)
-head-exists g who s Frames seat = tt
-head-exists g who s Partials seat = seat.class
+head-exists : (g : Geometry) (caller : ℕ) (s : SeatFields) (p : Pile) → IsSeatOf g caller s → Exists g (head_name s p)
+head-exists g caller s Frames seat = tt
+head-exists g caller s Partials seat = seat.class
 
 -- the next word of an index exists
 next-exists : (g : Geometry) (p : Pile) (i : ℕ) → i < pile_limit g p → Exists g (next_name p i)
@@ -36,30 +36,30 @@ top-within limit top some within = omega arith
 
 -- the word that a point's action is on exists
 pub plan-exists :
-    (g : Geometry) (who : ℕ) (p : StackPoint) → IsChecked g → who < g.callers → FitsStack g who p
+    (g : Geometry) (caller : ℕ) (p : StackPoint) → IsChecked g → caller < g.callers → FitsStack g caller p
     → Exists g (name_of (plan_stack_of p))
-plan-exists g who (LoadTop s p) checked has h = head-exists g who s p h
-plan-exists g who (LoadBelow s p head) checked has h =
+plan-exists g caller (LoadTop s p) checked has h = head-exists g caller s p h
+plan-exists g caller (LoadBelow s p head) checked has h =
     next-exists g p (head.top - 1) (top-within (pile_limit g p) head.top h.top.0 h.top.1)
-plan-exists g who (PopTop s p head below) checked has h = head-exists g who s p h.0.seat
-plan-exists g who (ConfirmEmpty s p head) checked has h = head-exists g who s p h.seat
-plan-exists g who (LoadTopToPush s p i) checked has h = head-exists g who s p h.seat
-plan-exists g who (StoreBelow s p i head) checked has h = next-exists g p i h.0.index
-plan-exists g who (PushTop s p i head) checked has h = head-exists g who s p h.0.seat
-plan-exists g who (Popped s p i) checked has h = tt
-plan-exists g who (FoundEmpty s p head) checked has h = tt
-plan-exists g who (ConfirmedEmpty s p) checked has h = tt
-plan-exists g who (Pushed s p) checked has h = tt
+plan-exists g caller (PopTop s p head below) checked has h = head-exists g caller s p h.0.seat
+plan-exists g caller (ConfirmEmpty s p head) checked has h = head-exists g caller s p h.seat
+plan-exists g caller (LoadTopToPush s p i) checked has h = head-exists g caller s p h.seat
+plan-exists g caller (StoreBelow s p i head) checked has h = next-exists g p i h.0.index
+plan-exists g caller (PushTop s p i head) checked has h = head-exists g caller s p h.0.seat
+plan-exists g caller (Popped s p i) checked has h = tt
+plan-exists g caller (FoundEmpty s p head) checked has h = tt
+plan-exists g caller (ConfirmedEmpty s p) checked has h = tt
+plan-exists g caller (Pushed s p) checked has h = tt
 
 -- a choice fits where both points do
 either :
-    (g : Geometry) (who : ℕ) (b : Bool) (x y : StackPoint) → (b ≡ true → FitsStack g who x) → (b ≡ false → FitsStack g who y)
-    → FitsStack g who (if b then x else y)
-either g who b x y = cond_both b x y (FitsStack g who)
+    (g : Geometry) (caller : ℕ) (b : Bool) (x y : StackPoint) → (b ≡ true → FitsStack g caller x) → (b ≡ false → FitsStack g caller y)
+    → FitsStack g caller (if b then x else y)
+either g caller b x y = cond_both b x y (FitsStack g caller)
 
 -- a seat's heap has as many indexes for a stack as the heap that the seat is of
-same-limit : (g : Geometry) (who : ℕ) (s : SeatFields) (p : Pile) → IsSeatOf g who s → pile_limit s.geometry p ≡ pile_limit g p
-same-limit g who s p seat = ap (λ x. pile_limit x p) seat.geometry
+same-limit : (g : Geometry) (caller : ℕ) (s : SeatFields) (p : Pile) → IsSeatOf g caller s → pile_limit s.geometry p ≡ pile_limit g p
+same-limit g caller s p seat = ap (λ x. pile_limit x p) seat.geometry
 
 -- what a passed test says
 test-zero : (n : ℕ) → (n == 0) ≡ true → n ≡ 0
@@ -73,41 +73,41 @@ test-within n limit same e is = grind (arith, nat_tests)
 
 -- where a head leads that is read for a pop
 fits-top :
-    (g : Geometry) (who : ℕ) (s : SeatFields) (p : Pile) (head : HeadFields) → IsSeatOf g who s → IsHead head
-    → FitsStack g who (after_top s p head)
-fits-top g who s p head seat is =
+    (g : Geometry) (caller : ℕ) (s : SeatFields) (p : Pile) (head : HeadFields) → IsSeatOf g caller s → IsHead head
+    → FitsStack g caller (after_top s p head)
+fits-top g caller s p head seat is =
     let limit = pile_limit s.geometry p in
-    either g who (head.top == 0) (FoundEmpty s p head) (if nat_le head.top limit then LoadBelow s p head else LoadTop s p)
+    either g caller (head.top == 0) (FoundEmpty s p head) (if nat_le head.top limit then LoadBelow s p head else LoadTop s p)
     (λ none. record { seat = seat; head = is; top = test-zero head.top none })
-    (λ some. either g who (nat_le head.top limit) (LoadBelow s p head) (LoadTop s p)
+    (λ some. either g caller (nat_le head.top limit) (LoadBelow s p head) (LoadTop s p)
     (λ e. record {
       seat = seat;
       head = is;
-      top = (test-some head.top some, test-within head.top limit (pile_limit g p) e (same-limit g who s p seat));
+      top = (test-some head.top some, test-within head.top limit (pile_limit g p) e (same-limit g caller s p seat));
     })
     (λ e. seat))
 
 -- the point after a step fits
 pub settle-fits :
-    (g : Geometry) (who : ℕ) (p : StackPoint) (x : Found) → IsChecked g → x.value < 2 ^ 64 → FitsStack g who p
-    → FitsStack g who (settle_stack_of p x)
-settle-fits g who (LoadTop s p) x checked word h = fits-top g who s p (head_of x.value) h (IsHead-head_of x.value)
-settle-fits g who (LoadBelow s p head) x checked word h =
+    (g : Geometry) (caller : ℕ) (p : StackPoint) (x : Found) → IsChecked g → x.value < 2 ^ 64 → FitsStack g caller p
+    → FitsStack g caller (settle_stack_of p x)
+settle-fits g caller (LoadTop s p) x checked word h = fits-top g caller s p (head_of x.value) h (IsHead-head_of x.value)
+settle-fits g caller (LoadBelow s p head) x checked word h =
     let limit = pile_limit s.geometry p in
-    either g who (nat_le x.value limit) (PopTop s p head x.value) (LoadBelow s p head)
-    (λ e. (h, test-within x.value limit (pile_limit g p) e (same-limit g who s p h.seat)))
+    either g caller (nat_le x.value limit) (PopTop s p head x.value) (LoadBelow s p head)
+    (λ e. (h, test-within x.value limit (pile_limit g p) e (same-limit g caller s p h.seat)))
     (λ e. h)
-settle-fits g who (PopTop s p head below) x checked word h =
-    either g who x.won (Popped s p (head.top - 1)) (LoadTop s p)
+settle-fits g caller (PopTop s p head below) x checked word h =
+    either g caller x.won (Popped s p (head.top - 1)) (LoadTop s p)
     (λ e. record { seat = h.0.seat; index = top-within (pile_limit g p) head.top h.0.top.0 h.0.top.1 })
     (λ e. h.0.seat)
-settle-fits g who (ConfirmEmpty s p head) x checked word h =
-    either g who x.won (ConfirmedEmpty s p) (LoadTop s p) (λ e. h.seat) (λ e. h.seat)
-settle-fits g who (LoadTopToPush s p i) x checked word h = (h, IsHead-head_of x.value)
-settle-fits g who (StoreBelow s p i head) x checked word h = h
-settle-fits g who (PushTop s p i head) x checked word h =
-    either g who x.won (Pushed s p) (LoadTopToPush s p i) (λ e. h.0.seat) (λ e. h.0)
-settle-fits g who (Popped s p i) x checked word h = h
-settle-fits g who (FoundEmpty s p head) x checked word h = h
-settle-fits g who (ConfirmedEmpty s p) x checked word h = h
-settle-fits g who (Pushed s p) x checked word h = h
+settle-fits g caller (ConfirmEmpty s p head) x checked word h =
+    either g caller x.won (ConfirmedEmpty s p) (LoadTop s p) (λ e. h.seat) (λ e. h.seat)
+settle-fits g caller (LoadTopToPush s p i) x checked word h = (h, IsHead-head_of x.value)
+settle-fits g caller (StoreBelow s p i head) x checked word h = h
+settle-fits g caller (PushTop s p i head) x checked word h =
+    either g caller x.won (Pushed s p) (LoadTopToPush s p i) (λ e. h.0.seat) (λ e. h.0)
+settle-fits g caller (Popped s p i) x checked word h = h
+settle-fits g caller (FoundEmpty s p head) x checked word h = h
+settle-fits g caller (ConfirmedEmpty s p) x checked word h = h
+settle-fits g caller (Pushed s p) x checked word h = h

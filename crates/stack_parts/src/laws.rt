@@ -56,9 +56,9 @@ pub fn other_words_leave_a_stack()
 /// A point whose memory exists in a heap acts on a word that exists there, and leads to such a
 /// point of the same seat, whatever it finds.
 pub fn points_fit()
-    ensures names { (g : Geometry) (who : ℕ) (p : StackPoint) → IsChecked g → who < g.callers → FitsStack g who p
+    ensures names { (g : Geometry) (caller : ℕ) (p : StackPoint) → IsChecked g → caller < g.callers → FitsStack g caller p
         → Exists g (name_of (plan_stack_of p)) }
-    ensures keeps { (g : Geometry) (who : ℕ) (p : StackPoint) (x : Found) → IsChecked g → x.value < 2 ^ 64
-        → FitsStack g who p → FitsStack g who (settle_stack_of p x) }
+    ensures keeps { (g : Geometry) (caller : ℕ) (p : StackPoint) (x : Found) → IsChecked g → x.value < 2 ^ 64
+        → FitsStack g caller p → FitsStack g caller (settle_stack_of p x) }
     ensures seat { (p : StackPoint) (x : Found) → seat_of_stack (settle_stack_of p x) ≡ seat_of_stack p }
 {}

@@ -44,101 +44,101 @@ answer-busy e x = told-busy (course_of e x) _ _
 
 -- what the code computes of the errand that it read is what the next step will do
 pub next-made :
-    (c value : CoreFields) (who : ℕ) (x : ErrandFields) (action : Action) (name : WordName) (index word : ℕ) (found : Found)
-    (answer : Progress) (event : Option Event) → IsCore c → c ≡ value → who < value.geometry.callers
-    → x ≡ slice_index_or c.errands who x → action ≡ plan_of x → Exists x.geometry (name_of action) → name ≡ name_of action
+    (c value : CoreFields) (caller : ℕ) (x : ErrandFields) (action : Action) (name : WordName) (index word : ℕ) (found : Found)
+    (answer : Progress) (event : Option Event) → IsCore c → c ≡ value → caller < value.geometry.callers
+    → x ≡ slice_index_or c.errands caller x → action ≡ plan_of x → Exists x.geometry (name_of action) → name ≡ name_of action
     → index ≡ word_index c.geometry name → word ≡ after_action action (word_in value.geometry value.words name)
     → found ≡ found_by action (word_in value.geometry value.words name) → answer ≡ answer_of x found
     → event ≡ event_of x.caller x.point found
-    → IsNext value who (record { index = index; word = word; found = found; progress = answer; event = event })
-next-made c value who x action name index word found answer event core view below read is_action is is_name is_index is_word is_found answers is_event =
-    let here : x ≡ errand_at value.errands who = errand-read c value who x core view below read in
-    let own : IsOwnErrand c.geometry who x = errand-own c value who x core view below read in
+    → IsNext value caller (record { index = index; word = word; found = found; progress = answer; event = event })
+next-made c value caller x action name index word found answer event core view below read is_action is is_name is_index is_word is_found answers is_event =
+    let here : x ≡ errand_at value.errands caller = errand-read c value caller x core view below read in
+    let own : IsOwnErrand c.geometry caller x = errand-own c value caller x core view below read in
     let geometry : x.geometry ≡ value.geometry = own.geometry ∙ ap (λ (v : CoreFields). v.geometry) view in
-    let action_here : action ≡ action_at (state_of value) who = is_action ∙ ap plan_of here in
-    let name_here : name ≡ name_at (state_of value) who = is_name ∙ ap name_of action_here in
+    let action_here : action ≡ action_at (state_of value) caller = is_action ∙ ap plan_of here in
+    let name_here : name ≡ name_at (state_of value) caller = is_name ∙ ap name_of action_here in
     let w : WordName → ℕ = word_in value.geometry value.words in
-    let found_here : found ≡ found_at (state_of value) who =
-    is_found ∙ (ap (λ n. found_by action (w n)) name_here ∙ ap (λ a. found_by a (word_at (state_of value) who)) action_here) in
+    let found_here : found ≡ found_at (state_of value) caller =
+    is_found ∙ (ap (λ n. found_by action (w n)) name_here ∙ ap (λ a. found_by a (word_at (state_of value) caller)) action_here) in
     let G : Geometry → Type 0 = λ g. Exists g (name_of action) in
     let A : Action → Type 0 = λ a. Exists value.geometry (name_of a) in
     record {
       there = subst A action_here (subst G geometry is);
       index = is_index ∙ (ap (λ (v : CoreFields). word_index v.geometry name) view ∙ ap (word_index value.geometry) name_here);
-      word = is_word ∙ (ap (λ n. after_action action (w n)) name_here ∙ ap (λ a. after_action a (word_at (state_of value) who)) action_here);
+      word = is_word ∙ (ap (λ n. after_action action (w n)) name_here ∙ ap (λ a. after_action a (word_at (state_of value) caller)) action_here);
       found = found_here;
       event =
           is_event
-          ∙ (ap (λ k. event_of k x.point found) own.caller
-          ∙ (ap (λ (z : ErrandFields). event_of who z.point found) here ∙ ap (event_of who (errand_at value.errands who).point) found_here));
-      progress = answers ∙ (ap (λ z. answer_of z found) here ∙ ap (answer_of (errand_at value.errands who)) found_here);
+          ∙ (ap (λ k. event_of k x.point found) own.number
+          ∙ (ap (λ (z : ErrandFields). event_of caller z.point found) here ∙ ap (event_of caller (errand_at value.errands caller).point) found_here));
+      progress = answers ∙ (ap (λ z. answer_of z found) here ∙ ap (answer_of (errand_at value.errands caller)) found_here);
     }
 
 -- the parts that a step makes, one after the other, are those of the machine after it
 made-stepped :
-    (c : CoreFields) (who : ℕ) (n : NextStep) (x e : ErrandFields) (events : List Event) (steps : ℕ) → IsNext c who n
-    → x ≡ errand_at c.errands who → e ≡ settle_of x n.found → events ≡ with_event c.events n.event → steps ≡ one_more c.steps
+    (c : CoreFields) (caller : ℕ) (n : NextStep) (x e : ErrandFields) (events : List Event) (steps : ℕ) → IsNext c caller n
+    → x ≡ errand_at c.errands caller → e ≡ settle_of x n.found → events ≡ with_event c.events n.event → steps ≡ one_more c.steps
     → ◌≡◌ {A = CoreFields} (record {
       geometry = c.geometry;
       words = slice_set c.words n.index n.word;
-      errands = slice_set c.errands who e;
+      errands = slice_set c.errands caller e;
       events = events;
       steps = steps;
-    }) (stepped c who)
+    }) (stepped c caller)
 unfolding stepped
-made-stepped c who n x e events steps next here is_errand are_events are_steps =
+made-stepped c caller n x e events steps next here is_errand are_events are_steps =
     rw (are_steps, are_events, is_errand, here, next.index, next.word, next.found, next.event) refl
 
 -- what a step has made of the lists: the machine's rule is kept, and it is the step
-pub record IsKeptStep (c : CoreFields) (who : ℕ) (answer : Progress) (after : CoreFields) : Type 0 where
+pub record IsKeptStep (c : CoreFields) (caller : ℕ) (answer : Progress) (after : CoreFields) : Type 0 where
   pub core : IsCore after
-  pub is : IsStepped c who answer after
+  pub is : IsStepped c caller answer after
 
 pub step-made :
-    (c value : CoreFields) (who : ℕ) (n : NextStep) (x e : ErrandFields) (events : List Event) (steps : ℕ) → IsCore c → c ≡ value
-    → who < value.geometry.callers → IsBusy (errand_at value.errands who) → IsNext value who n
-    → x ≡ slice_index_or c.errands who x → e ≡ settle_of x n.found → events ≡ with_event c.events n.event
+    (c value : CoreFields) (caller : ℕ) (n : NextStep) (x e : ErrandFields) (events : List Event) (steps : ℕ) → IsCore c → c ≡ value
+    → caller < value.geometry.callers → IsBusy (errand_at value.errands caller) → IsNext value caller n
+    → x ≡ slice_index_or c.errands caller x → e ≡ settle_of x n.found → events ≡ with_event c.events n.event
     → steps ≡ one_more c.steps
-    → IsKeptStep value who n.progress (record {
+    → IsKeptStep value caller n.progress (record {
       geometry = c.geometry;
       words = slice_set c.words n.index n.word;
-      errands = slice_set c.errands who e;
+      errands = slice_set c.errands caller e;
       events = events;
       steps = steps;
     })
-step-made c value who n x e events steps core view below busy next read is_errand are_events are_steps =
-    let N : CoreFields → Type 0 = λ v. IsNext v who n in
-    let B : CoreFields → Type 0 = λ v. IsBusy (errand_at v.errands who) in
-    let L : CoreFields → Type 0 = λ v. who < v.geometry.callers in
-    let next' : IsNext c who n = subst N (sym view) next in
-    let below' : who < c.geometry.callers = subst L (sym view) below in
-    let here : x ≡ errand_at c.errands who = errand-read c c who x core refl below' read in
+step-made c value caller n x e events steps core view below busy next read is_errand are_events are_steps =
+    let N : CoreFields → Type 0 = λ v. IsNext v caller n in
+    let B : CoreFields → Type 0 = λ v. IsBusy (errand_at v.errands caller) in
+    let L : CoreFields → Type 0 = λ v. caller < v.geometry.callers in
+    let next' : IsNext c caller n = subst N (sym view) next in
+    let below' : caller < c.geometry.callers = subst L (sym view) below in
+    let here : x ≡ errand_at c.errands caller = errand-read c c caller x core refl below' read in
     let after : CoreFields = record {
       geometry = c.geometry;
       words = slice_set c.words n.index n.word;
-      errands = slice_set c.errands who e;
+      errands = slice_set c.errands caller e;
       events = events;
       steps = steps;
     } in
-    let exact : after ≡ stepped c who = made-stepped c who n x e events steps next' here is_errand are_events are_steps in
+    let exact : after ≡ stepped c caller = made-stepped c caller n x e events steps next' here is_errand are_events are_steps in
     let K : CoreFields → Type 0 = IsCore in
-    let S : CoreFields → Type 0 = λ v. Step (state_of c) who (state_of v) in
-    let T : CoreFields → Type 0 = λ v. IsKeptStep v who n.progress after in
+    let S : CoreFields → Type 0 = λ v. Step (state_of c) caller (state_of v) in
+    let T : CoreFields → Type 0 = λ v. IsKeptStep v caller n.progress after in
     subst T view
     (record {
-      core = subst K (sym exact) (core-stepped c who core below' (subst B (sym view) busy) next'.there);
+      core = subst K (sym exact) (core-stepped c caller core below' (subst B (sym view) busy) next'.there);
       is = record {
-        step = subst S (sym exact) (step-stepped c who core below' (subst B (sym view) busy) next'.there);
+        step = subst S (sym exact) (step-stepped c caller core below' (subst B (sym view) busy) next'.there);
         exact = exact;
         answers = next'.progress;
-        some = λ idle. answer-busy (errand_at c.errands who) (found_at (state_of c) who) (sym next'.progress ∙ idle);
+        some = λ idle. answer-busy (errand_at c.errands caller) (found_at (state_of c) caller) (sym next'.progress ∙ idle);
       };
     })
 
 -- the word of a next step is in the table
 pub next-within :
-    (c value : CoreFields) (who : ℕ) (n : NextStep) → IsCore c → c ≡ value → IsNext value who n → n.index < length c.words
-next-within c value who n core view next =
-    let N : CoreFields → Type 0 = λ v. IsNext v who n in
-    let next' : IsNext c who n = subst N (sym view) next in
-    omega (arith, core.words, next'.index, word_index-within c.geometry (name_at (state_of c) who) next'.there)
+    (c value : CoreFields) (caller : ℕ) (n : NextStep) → IsCore c → c ≡ value → IsNext value caller n → n.index < length c.words
+next-within c value caller n core view next =
+    let N : CoreFields → Type 0 = λ v. IsNext v caller n in
+    let next' : IsNext c caller n = subst N (sym view) next in
+    omega (arith, core.words, next'.index, word_index-within c.geometry (name_at (state_of c) caller) next'.there)

@@ -65,8 +65,8 @@ core-sound c core = run-sound c.geometry (state_of c) c.steps core.run
 counted-more :
     (made : ℕ) (moves : List Move) (move : Move) → made ≡ min (count_by is_step moves) (2 ^ 64 - 1)
     → made_with made move ≡ min (count_by is_step (moves ++ move ∷ [])) (2 ^ 64 - 1)
-counted-more made moves (begins who call) is = omega (arith, is, count-append is_step moves (begins who call ∷ []))
-counted-more made moves (steps who) is = omega (arith, is, count-append is_step moves (steps who ∷ []))
+counted-more made moves (begins caller call) is = omega (arith, is, count-append is_step moves (begins caller call ∷ []))
+counted-more made moves (steps caller) is = omega (arith, is, count-append is_step moves (steps caller ∷ []))
 
 -- a run with one more move
 pub run-more :
@@ -91,76 +91,76 @@ run-longer g s s' made run move moved =
 
 -- a write to the list of errands moves one of them
 pub moves-set :
-    (errands : List ErrandFields) (who : ℕ) (e : ErrandFields) → who < length errands
-    → Moves (errand_at errands) who e (errand_at (slice_set errands who e))
-moves-set errands who e within =
+    (errands : List ErrandFields) (caller : ℕ) (e : ErrandFields) → caller < length errands
+    → Moves (errand_at errands) caller e (errand_at (slice_set errands caller e))
+moves-set errands caller e within =
     record {
-      here = get_or-set_same errands who e no_errand within;
-      elsewhere = λ other differ. get_or-set_other errands who other e no_errand differ;
+      here = get_or-set_same errands caller e no_errand within;
+      elsewhere = λ other differ. get_or-set_other errands caller other e no_errand differ;
     }
 
 -- the errand that is read is the caller's
 pub errand-read :
-    (c value : CoreFields) (who : ℕ) (x : ErrandFields) → IsCore c → c ≡ value → who < value.geometry.callers
-    → x ≡ slice_index_or c.errands who x → x ≡ errand_at value.errands who
-errand-read c value who x core view below read =
+    (c value : CoreFields) (caller : ℕ) (x : ErrandFields) → IsCore c → c ≡ value → caller < value.geometry.callers
+    → x ≡ slice_index_or c.errands caller x → x ≡ errand_at value.errands caller
+errand-read c value caller x core view below read =
     let callers : c.geometry.callers ≡ value.geometry.callers = ap (λ (v : CoreFields). v.geometry.callers) view in
-    get_or_read c.errands who x (omega (arith, core.errands, callers)) read no_errand
-    ∙ ap (λ (v : CoreFields). errand_at v.errands who) view
+    get_or_read c.errands caller x (omega (arith, core.errands, callers)) read no_errand
+    ∙ ap (λ (v : CoreFields). errand_at v.errands caller) view
 
 -- it is of this caller and of this heap
 pub errand-own :
-    (c value : CoreFields) (who : ℕ) (x : ErrandFields) → IsCore c → c ≡ value → who < value.geometry.callers
-    → x ≡ slice_index_or c.errands who x → IsOwnErrand c.geometry who x
-errand-own c value who x core view below read =
+    (c value : CoreFields) (caller : ℕ) (x : ErrandFields) → IsCore c → c ≡ value → caller < value.geometry.callers
+    → x ≡ slice_index_or c.errands caller x → IsOwnErrand c.geometry caller x
+errand-own c value caller x core view below read =
     let callers : c.geometry.callers ≡ value.geometry.callers = ap (λ (v : CoreFields). v.geometry.callers) view in
-    let below' : who < c.geometry.callers = omega (arith, callers) in
-    let P : ErrandFields → Type 0 = IsOwnErrand c.geometry who in
-    subst P (sym (get_or_read c.errands who x (omega (arith, core.errands)) read no_errand)) ((core-sound c core).parts.1.errands who below')
+    let below' : caller < c.geometry.callers = omega (arith, callers) in
+    let P : ErrandFields → Type 0 = IsOwnErrand c.geometry caller in
+    subst P (sym (get_or_read c.errands caller x (omega (arith, core.errands)) read no_errand)) ((core-sound c core).parts.1.errands caller below')
 
 -- so a word of its heap is one of the machine's
 pub errand-heap :
-    (c value : CoreFields) (who : ℕ) (x : ErrandFields) (name : WordName) → IsCore c → c ≡ value → who < value.geometry.callers
-    → x ≡ slice_index_or c.errands who x → Exists x.geometry name → Exists c.geometry name
-errand-heap c value who x name core view below read is =
-    subst (λ g. Exists g name) (errand-own c value who x core view below read).geometry is
+    (c value : CoreFields) (caller : ℕ) (x : ErrandFields) (name : WordName) → IsCore c → c ≡ value → caller < value.geometry.callers
+    → x ≡ slice_index_or c.errands caller x → Exists x.geometry name → Exists c.geometry name
+errand-heap c value caller x name core view below read is =
+    subst (λ g. Exists g name) (errand-own c value caller x core view below read).geometry is
 
 -- the rule is kept where the caller's errand has begun a call
 pub core-begun :
-    (c value : CoreFields) (who : ℕ) (call : Call) (x e : ErrandFields) → IsCore c → c ≡ value → who < value.geometry.callers
-    → x ≡ slice_index_or c.errands who x → IsIdle (errand_at value.errands who) → MayBegin (state_of value) who call
-    → e ≡ begun_by x call → IsCore (with_errand c who e)
-core-begun c value who call x e core view below read idle may begun =
-    let V : CoreFields → Type 0 = λ v. (who < v.geometry.callers) × IsIdle (errand_at v.errands who) × MayBegin (state_of v) who call in
+    (c value : CoreFields) (caller : ℕ) (call : Call) (x e : ErrandFields) → IsCore c → c ≡ value → caller < value.geometry.callers
+    → x ≡ slice_index_or c.errands caller x → IsIdle (errand_at value.errands caller) → MayBegin (state_of value) caller call
+    → e ≡ begun_by x call → IsCore (with_errand c caller e)
+core-begun c value caller call x e core view below read idle may begun =
+    let V : CoreFields → Type 0 = λ v. (caller < v.geometry.callers) × IsIdle (errand_at v.errands caller) × MayBegin (state_of v) caller call in
     let mine : V c = subst V (sym view) (below, idle, may) in
-    let within : who < length c.errands = omega (arith, core.errands, mine.0) in
-    let here : x ≡ errand_at c.errands who = get_or_read c.errands who x within read no_errand in
-    let begun_so : Begins (state_of c) who call (state_of (with_errand c who e)) = record {
+    let within : caller < length c.errands = omega (arith, core.errands, mine.0) in
+    let here : x ≡ errand_at c.errands caller = get_or_read c.errands caller x within read no_errand in
+    let begun_so : Begins (state_of c) caller call (state_of (with_errand c caller e)) = record {
       idle = mine.1;
       may = mine.2;
-      errands = errand_at (slice_set c.errands who e);
+      errands = errand_at (slice_set c.errands caller e);
       moves =
-          subst (λ f. Moves (errand_at c.errands) who f (errand_at (slice_set c.errands who e)))
-          (begun ∙ ap (λ f. begun_by f call) here) (moves-set c.errands who e within);
+          subst (λ f. Moves (errand_at c.errands) caller f (errand_at (slice_set c.errands caller e)))
+          (begun ∙ ap (λ f. begun_by f call) here) (moves-set c.errands caller e within);
       after = refl;
     } in
     record {
       words = core.words;
-      errands = length-set c.errands who e ∙ core.errands;
-      run = run-more c.geometry (state_of c) c.steps (begins who call) (state_of (with_errand c who e)) core.run (mine.0, begun_so);
+      errands = length-set c.errands caller e ∙ core.errands;
+      run = run-more c.geometry (state_of c) c.steps (begins caller call) (state_of (with_errand c caller e)) core.run (mine.0, begun_so);
     }
 
 -- the caller's block is one of its errand's heap
 pub block-begun :
-    (c value : CoreFields) (who place : ℕ) (need : Need) (x : ErrandFields) → IsCore c → c ≡ value → who < value.geometry.callers
-    → x ≡ slice_index_or c.errands who x → OwnsBlock value who place need → IsHeapBlock x.geometry place need
-block-begun c value who place need x core view below read owned =
-    let own : IsOwnErrand c.geometry who x = errand-own c value who x core view below read in
-    let O : CoreFields → Type 0 = λ v. OwnsBlock v who place need in
-    let mine : OwnsBlock c who place need = subst O (sym view) owned in
+    (c value : CoreFields) (caller place : ℕ) (need : Need) (x : ErrandFields) → IsCore c → c ≡ value → caller < value.geometry.callers
+    → x ≡ slice_index_or c.errands caller x → OwnsBlock value caller place need → IsHeapBlock x.geometry place need
+block-begun c value caller place need x core view below read owned =
+    let own : IsOwnErrand c.geometry caller x = errand-own c value caller x core view below read in
+    let O : CoreFields → Type 0 = λ v. OwnsBlock v caller place need in
+    let mine : OwnsBlock c caller place need = subst O (sym view) owned in
     let P : Geometry → Type 0 = λ g. IsHeapBlock g place need in
     subst P (sym own.geometry)
-    (owned-block c.geometry (state_of c) who place need (without-counts c.geometry (state_of c) (core-sound c core)) (record { block = mine }))
+    (owned-block c.geometry (state_of c) caller place need (without-counts c.geometry (state_of c) (core-sound c core)) (record { block = mine }))
 
 -- the word that is read at a name's place is that of the name
 pub word-read :

@@ -8,9 +8,9 @@ use Rattle.step_core.proofs.CoreLemmas.{core-sound}
 use Rattle.step_core.specs.Steps.{AnswersSo, IsStepped}
 
 pub step-meant :
-    (c : CoreFields) (who : ℕ) (answer : Progress) (after : CoreFields) → IsCore c → who < c.geometry.callers
-    → IsStepped c who answer after → AnswersSo c who answer after
-step-meant c who answer after core has stepped =
+    (c : CoreFields) (caller : ℕ) (answer : Progress) (after : CoreFields) → IsCore c → caller < c.geometry.callers
+    → IsStepped c caller answer after → AnswersSo c caller answer after
+step-meant c caller answer after core has stepped =
     λ reply is.
-    answers-meant c.geometry (state_of c) who reply (state_of after) (without-counts c.geometry (state_of c) (core-sound c core)) has
+    answers-meant c.geometry (state_of c) caller reply (state_of after) (without-counts c.geometry (state_of c) (core-sound c core)) has
     stepped.step (sym stepped.answers ∙ is)

@@ -6,7 +6,7 @@ use Rattle.word_plan.proofs.WordLemmas.{Writes-set}
 use Rattle.errand_steps.specs.Begins.{IsBusy}
 use Rattle.errand_steps.specs.Errands.{one_more}
 use Rattle.step_core.specs.Cores.{CoreFields, IsCore, errand_at, state_of}
-use Rattle.errand_steps.specs.Steps.{State, Step, Turn, Run, IsSame, name_at}
+use Rattle.errand_steps.specs.Steps.{State, Step, Slot, Run, IsSame, name_at}
 use Rattle.step_core.specs.Steps.{stepped, counted}
 use Rattle.sound_state.specs.Runs.{steps}
 use Rattle.sound_state.proofs.wins.MadeLemmas.{step-one}
@@ -14,43 +14,43 @@ use Rattle.step_core.proofs.CoreLemmas.{moves-set, run-more}
 
 -- what a step makes of the lists is a step of the state
 pub step-stepped :
-    (c : CoreFields) (who : ℕ) → IsCore c → who < c.geometry.callers → IsBusy (errand_at c.errands who)
-    → Exists c.geometry (name_at (state_of c) who) → Step (state_of c) who (state_of (stepped c who))
+    (c : CoreFields) (caller : ℕ) → IsCore c → caller < c.geometry.callers → IsBusy (errand_at c.errands caller)
+    → Exists c.geometry (name_at (state_of c) caller) → Step (state_of c) caller (state_of (stepped c caller))
 unfolding stepped
-step-stepped c who core below busy is =
+step-stepped c caller core below busy is =
     record {
       busy = busy;
-      word = Writes-set c.geometry c.words (name_at (state_of c) who) _ core.words is;
-      errand = moves-set c.errands who _ (omega (arith, core.errands));
+      word = Writes-set c.geometry c.words (name_at (state_of c) caller) _ core.words is;
+      errand = moves-set c.errands caller _ (omega (arith, core.errands));
       history = refl;
     }
 
 -- the lists stay as long
 lists-stepped :
-    (c : CoreFields) (who : ℕ) → (length (stepped c who).words ≡ length c.words) × (length (stepped c who).errands ≡ length c.errands)
+    (c : CoreFields) (caller : ℕ) → (length (stepped c caller).words ≡ length c.words) × (length (stepped c caller).errands ≡ length c.errands)
 unfolding stepped
-lists-stepped c who = (length-set c.words _ _, length-set c.errands who _)
+lists-stepped c caller = (length-set c.words _ _, length-set c.errands caller _)
 
 -- the rule is kept by a step
 pub core-stepped :
-    (c : CoreFields) (who : ℕ) → IsCore c → who < c.geometry.callers → IsBusy (errand_at c.errands who)
-    → Exists c.geometry (name_at (state_of c) who) → IsCore (stepped c who)
+    (c : CoreFields) (caller : ℕ) → IsCore c → caller < c.geometry.callers → IsBusy (errand_at c.errands caller)
+    → Exists c.geometry (name_at (state_of c) caller) → IsCore (stepped c caller)
 unfolding stepped
-core-stepped c who core below busy is =
+core-stepped c caller core below busy is =
     let before = state_of c in
-    let after = state_of (stepped c who) in
-    let step : Step before who after = step-stepped c who core below busy is in
-    let lists = lists-stepped c who in
+    let after = state_of (stepped c caller) in
+    let step : Step before caller after = step-stepped c caller core below busy is in
+    let lists = lists-stepped c caller in
     record {
       words = lists.0 ∙ core.words;
       errands = lists.1 ∙ core.errands;
-      run = run-more c.geometry before c.steps (steps who) after core.run (below, step);
+      run = run-more c.geometry before c.steps (steps caller) after core.run (below, step);
     }
 
 -- a step is determined by the state before it
-pub step-determined : (s a b : State) (who : ℕ) → Step s who a → Step s who b → IsSame a b
-step-determined s a b who first second =
-    subst (IsSame a) (step-one s a b who first second) (record { word = λ name. refl; errand = λ other. refl; history = refl })
+pub step-determined : (s a b : State) (caller : ℕ) → Step s caller a → Step s caller b → IsSame a b
+step-determined s a b caller first second =
+    subst (IsSame a) (step-one s a b caller first second) (record { word = λ name. refl; errand = λ other. refl; history = refl })
 
 -- two runs, one after the other
 abbrev pub Runs : State → List ℕ → List ℕ → ℕ → State → Type 0
@@ -58,7 +58,7 @@ Runs s first rest n t = (m : State) × (a : ℕ) × (b : ℕ) × Run s first a m
 
 pub run-split : (s t : State) (first rest : List ℕ) (n : ℕ) → Run s (first ++ rest) n t → Runs s first rest n t
 run-split s t [] rest n run = (s, 0, n, (refl, refl), run, omega arith)
-run-split s t (who ∷ first) rest n run =
+run-split s t (caller ∷ first) rest n run =
     let others : Runs run.0 first rest run.2 t = run-split run.0 t first rest run.2 run.4 in
     (others.0, run.1 + others.1, others.2, (run.0, run.1, others.1, run.3, others.3, refl), others.4, omega (arith, run.5, others.5))
 
@@ -68,15 +68,15 @@ run-join s t [] rest n runs =
     let N : ℕ → Type 0 = λ k. Run runs.0 rest k t in
     let same : runs.2 ≡ n = omega (arith, runs.3.0, runs.5) in
     subst S runs.3.1 (subst N same runs.4)
-run-join s t (who ∷ first) rest n runs =
+run-join s t (caller ∷ first) rest n runs =
     let run = runs.3 in
     (run.0, run.1, run.2 + runs.2, run.3, run-join run.0 t first rest (run.2 + runs.2) (runs.0, run.2, runs.2, run.4, runs.4, refl), omega (arith, run.5, runs.5))
 
 -- one more turn
 pub run-push :
-    (s m t : State) (first : List ℕ) (who n k : ℕ) → Run s first n m → Turn m who k t → Run s (first ++ who ∷ []) (n + k) t
-run-push s m t first who n k run turn =
-    run-join s t first (who ∷ []) (n + k) (m, n, k, run, (t, k, 0, turn, (refl, refl), omega arith), refl)
+    (s m t : State) (first : List ℕ) (caller n k : ℕ) → Run s first n m → Slot m caller k t → Run s (first ++ caller ∷ []) (n + k) t
+run-push s m t first caller n k run turn =
+    run-join s t first (caller ∷ []) (n + k) (m, n, k, run, (t, k, 0, turn, (refl, refl), omega arith), refl)
 
 -- a count that rises some times, and then some more
 pub counted-add : (before a b : ℕ) → counted (counted before a) b ≡ counted before (a + b)
@@ -87,9 +87,9 @@ counted-add before a (suc b) =
 
 -- the turn of the next caller of a list
 pub run-next :
-    (s m t : State) (seats : List ℕ) (i who n k : ℕ) → i < length seats → who ≡ slice_index seats i → Run s (take i seats) n m
-    → Turn m who k t → Run s (take (i + 1) seats) (n + k) t
-run-next s m t seats i who n k within is run turn =
-    let T : ℕ → Type 0 = λ w. Turn m w k t in
+    (s m t : State) (callers : List ℕ) (i caller n k : ℕ) → i < length callers → caller ≡ slice_index callers i → Run s (take i callers) n m
+    → Slot m caller k t → Run s (take (i + 1) callers) (n + k) t
+run-next s m t callers i caller n k within is run turn =
+    let T : ℕ → Type 0 = λ w. Slot m w k t in
     let R : List ℕ → Type 0 = λ xs. Run s xs (n + k) t in
-    subst R (sym (take_more seats i 0 within)) (run-push s m t (take i seats) (slice_index seats i) n k run (subst T is turn))
+    subst R (sym (take_more callers i 0 within)) (run-push s m t (take i callers) (slice_index callers i) n k run (subst T is turn))

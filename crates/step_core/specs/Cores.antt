@@ -31,11 +31,11 @@ no_errand = open_errand 0 (record { frames = 0; heaps = 0; units = 0; callers = 
 
 -- the errand of a caller
 abbrev pub errand_at : List ErrandFields → ℕ → ErrandFields
-errand_at errands who = slice_index_or errands who no_errand
+errand_at errands caller = slice_index_or errands caller no_errand
 
 -- the machine with another errand for one caller, and nothing else changed
 abbrev pub with_errand : CoreFields → ℕ → ErrandFields → CoreFields
-with_errand c who e = record c { errands = slice_set c.errands who e }
+with_errand c caller e = record c { errands = slice_set c.errands caller e }
 
 -- the machine seen as words by their names, errands by their callers and events
 abbrev pub state_of : CoreFields → State
@@ -73,5 +73,5 @@ pub record IsCore (c : CoreFields) : Type 0 where
 
 -- the caller owns the live block at the place, and that serves this need
 abbrev pub OwnsBlock : CoreFields → ℕ → ℕ → Need → Type 0
-OwnsBlock c who place need =
-    (block : Block) × (block_at place (pool_of c.events) ≡ Some block) × (block.owner ≡ Caller who) × (block.need ≡ need)
+OwnsBlock c caller place need =
+    (block : Block) × (block_at place (pool_of c.events) ≡ Some block) × (block.owner ≡ Caller caller) × (block.need ≡ need)

@@ -14,4 +14,4 @@ pub record IsTable (g : Geometry) (first : WordName → ℕ) (count : ℕ) (word
 -- idle errands for the first callers, so many
 pub record AreErrands (g : Geometry) (count : ℕ) (errands : List ErrandFields) : Type 0 where
   pub all : length errands ≡ count
-  pub each : (who : ℕ) → who < count → errand_at errands who ≡ open_errand who g
+  pub each : (caller : ℕ) → caller < count → errand_at errands caller ≡ open_errand caller g

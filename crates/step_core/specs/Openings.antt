@@ -17,6 +17,6 @@ first_words g (Some class) = installed g class
 pub record IsOpened (g : Geometry) (first : WordName → ℕ) (c : CoreFields) : Type 0 where
   pub geometry : c.geometry ≡ g
   pub words : (name : WordName) → Exists g name → word_in g c.words name ≡ first name
-  pub errands : (who : ℕ) → who < g.callers → errand_at c.errands who ≡ open_errand who g
+  pub errands : (caller : ℕ) → caller < g.callers → errand_at c.errands caller ≡ open_errand caller g
   pub events : c.events ≡ []
   pub steps : c.steps ≡ 0

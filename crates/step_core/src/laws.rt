@@ -50,25 +50,25 @@ pub fn machines_are_sound()
     ensures losses { (c : CoreFields) (run : IsReached c.geometry (state_of c) c.steps)
         → callers_sum c.geometry lost_of (errand_at c.errands) + dirty_pairs c.geometry run.wins
         ≤ (c.geometry.callers - 1) * length run.wins.list }
-    ensures installs { (c : CoreFields) (run : IsReached c.geometry (state_of c) c.steps) (who : ℕ) → who < c.geometry.callers
-        → count_by (installs_by who) run.wins.list + errand_offers (errand_at c.errands who)
-        ≤ count_by (gives_small who) c.events }
-    ensures met { (c : CoreFields) (run : IsReached c.geometry (state_of c) c.steps) (who : ℕ) → who < c.geometry.callers
-        → (errand_at c.errands who).turns
-        ≤ count_by (gives_small who) c.events + count_by (refuses_small who) c.events
-        + count_by (installs_against who) run.wins.list + turn_unanswered (errand_at c.errands who) }
+    ensures installs { (c : CoreFields) (run : IsReached c.geometry (state_of c) c.steps) (caller : ℕ) → caller < c.geometry.callers
+        → count_by (installs_by caller) run.wins.list + errand_offers (errand_at c.errands caller)
+        ≤ count_by (gives_small caller) c.events }
+    ensures met { (c : CoreFields) (run : IsReached c.geometry (state_of c) c.steps) (caller : ℕ) → caller < c.geometry.callers
+        → (errand_at c.errands caller).turns
+        ≤ count_by (gives_small caller) c.events + count_by (refuses_small caller) c.events
+        + count_by (installs_against caller) run.wins.list + turn_unanswered (errand_at c.errands caller) }
     ensures contended { (c : CoreFields) → IsCore c
-        → ((who : ℕ) → who < c.geometry.callers → (errand_at c.errands who).won < 2 ^ 64 - 1)
+        → ((caller : ℕ) → caller < c.geometry.callers → (errand_at c.errands caller).won < 2 ^ 64 - 1)
         → callers_sum c.geometry lost_of (errand_at c.errands)
         ≤ (c.geometry.callers - 1) * callers_sum c.geometry won_of (errand_at c.errands) }
-    ensures turns { (c : CoreFields) (who : ℕ) → IsCore c → who < c.geometry.callers
-        → (errand_at c.errands who).turns
-        ≤ count_by is_small_alloc c.events + count_by (refuses_small who) c.events
-        + turn_unanswered (errand_at c.errands who) }
-    ensures lost { (c : CoreFields) (who : ℕ) → IsCore c → who < c.geometry.callers
-        → (errand_at c.errands who).turns + errand_discards (errand_at c.errands who)
-        ≤ count_by (gives_small who) c.events + count_by (refuses_small who) c.events
-        + (errand_at c.errands who).lost + turn_unanswered (errand_at c.errands who) }
+    ensures turns { (c : CoreFields) (caller : ℕ) → IsCore c → caller < c.geometry.callers
+        → (errand_at c.errands caller).turns
+        ≤ count_by is_small_alloc c.events + count_by (refuses_small caller) c.events
+        + turn_unanswered (errand_at c.errands caller) }
+    ensures lost { (c : CoreFields) (caller : ℕ) → IsCore c → caller < c.geometry.callers
+        → (errand_at c.errands caller).turns + errand_discards (errand_at c.errands caller)
+        ≤ count_by (gives_small caller) c.events + count_by (refuses_small caller) c.events
+        + (errand_at c.errands caller).lost + turn_unanswered (errand_at c.errands caller) }
 {}
 
 /// A run goes on with each call that begins and each step: it has that move behind it, and the list has
@@ -80,15 +80,15 @@ pub fn runs_go_on()
 
 /// A step is determined by the state before it.
 pub fn steps_are_determined()
-    ensures { (s a b : State) (who : ℕ) → Step s who a → Step s who b → IsSame a b }
+    ensures { (s a b : State) (caller : ℕ) → Step s caller a → Step s caller b → IsSame a b }
 {}
 
 /// What a step makes of the lists of the machine is a step of the state.
 pub fn lists_make_steps()
-    ensures { (c : CoreFields) (who : ℕ) → IsCore c → who < c.geometry.callers
-        → IsBusy (errand_at c.errands who)
-        → Exists c.geometry (name_of (plan_of (errand_at c.errands who)))
-        → Step (state_of c) who (state_of (stepped c who)) }
+    ensures { (c : CoreFields) (caller : ℕ) → IsCore c → caller < c.geometry.callers
+        → IsBusy (errand_at c.errands caller)
+        → Exists c.geometry (name_of (plan_of (errand_at c.errands caller)))
+        → Step (state_of c) caller (state_of (stepped c caller)) }
 {}
 
 /// A run of callers and then of others is two runs, one after the other.

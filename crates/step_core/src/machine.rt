@@ -14,7 +14,7 @@ ghost use Rattle.errand_steps.specs.Points.{is_idle};
 ghost use Rattle.step_core.specs.Cores.{errand_at, with_errand, IsCore, OwnsBlock, state_of};
 ghost use Rattle.errand_steps.specs.Openings.{opening};
 ghost use Rattle.step_core.specs.Openings.{first_words, IsOpened};
-ghost use Rattle.errand_steps.specs.Steps.{with_event, Turn, Run};
+ghost use Rattle.errand_steps.specs.Steps.{with_event, Slot, Run};
 ghost use Rattle.step_core.specs.Steps.{IsStepped, IsNext, AnswersSo, RunsPart, counted, RunsAlone};
 ghost use Rattle.errand_steps.specs.Errands.{ErrandFields};
 ghost use Rattle.sound_state.specs.Alone.{clearings, stale_words};
@@ -35,7 +35,7 @@ use word_plan::name::WordName;
 mod tests;
 
 /// The whole machine: the words of a heap, the errand of each caller, the events so far, and the
-/// number of steps. A caller is named by its number, here its seat.
+/// number of steps. A caller is named by its number.
 ///
 /// Every machine is sound, whatever its callers did: `laws::machines_are_sound` says what its type
 /// keeps.
@@ -108,111 +108,111 @@ impl Core {
 
     /// Begins an allocation of so many usable words. A small one takes a turn; where the caller has
     /// none left, or no block has so many words, nothing begins.
-    pub fn begin_alloc(&mut self, seat: u32, need: u32) -> Begun
-        requires seat { seat < self.old.geometry.callers }
-        requires idle { IsIdle (errand_at self.old.errands seat) }
-        ensures errand { self.new ≡ with_errand self.old seat (alloc_begun (errand_at self.old.errands seat) need) }
-        ensures answer { result ≡ alloc_answer (errand_at self.old.errands seat) need }
+    pub fn begin_alloc(&mut self, caller: u32, need: u32) -> Begun
+        requires caller { caller < self.old.geometry.callers }
+        requires idle { IsIdle (errand_at self.old.errands caller) }
+        ensures errand { self.new ≡ with_errand self.old caller (alloc_begun (errand_at self.old.errands caller) need) }
+        ensures answer { result ≡ alloc_answer (errand_at self.old.errands caller) need }
     {
-        self.errands[seat as usize].begin_alloc(need)
+        self.errands[caller as usize].begin_alloc(need)
     }
 
     /// Begins the free of the caller's block at this place.
-    pub fn begin_free(&mut self, seat: u32, place: u32, need: Need)
-        requires seat { seat < self.old.geometry.callers }
-        requires idle { IsIdle (errand_at self.old.errands seat) }
-        requires owned { OwnsBlock self.old seat place need }
-        ensures { self.new ≡ with_errand self.old seat (free_begun (errand_at self.old.errands seat) place need) }
+    pub fn begin_free(&mut self, caller: u32, place: u32, need: Need)
+        requires caller { caller < self.old.geometry.callers }
+        requires idle { IsIdle (errand_at self.old.errands caller) }
+        requires owned { OwnsBlock self.old caller place need }
+        ensures { self.new ≡ with_errand self.old caller (free_begun (errand_at self.old.errands caller) place need) }
     {
-        self.errands[seat as usize].begin_free(place, need);
+        self.errands[caller as usize].begin_free(place, need);
     }
 
     /// Begins the write of a usable word of the caller's block; `i` counts them from 0.
-    pub fn begin_write(&mut self, seat: u32, place: u32, need: Need, i: u32, v: u64)
-        requires seat { seat < self.old.geometry.callers }
-        requires idle { IsIdle (errand_at self.old.errands seat) }
-        requires owned { OwnsBlock self.old seat place need }
+    pub fn begin_write(&mut self, caller: u32, place: u32, need: Need, i: u32, v: u64)
+        requires caller { caller < self.old.geometry.callers }
+        requires idle { IsIdle (errand_at self.old.errands caller) }
+        requires owned { OwnsBlock self.old caller place need }
         requires word { i < usable_words need }
-        ensures { self.new ≡ with_errand self.old seat (write_begun (errand_at self.old.errands seat) place i v) }
+        ensures { self.new ≡ with_errand self.old caller (write_begun (errand_at self.old.errands caller) place i v) }
     {
-        self.errands[seat as usize].begin_write(place, need, i, v);
+        self.errands[caller as usize].begin_write(place, need, i, v);
     }
 
     /// Begins the read of a usable word of the caller's block; `i` counts them from 0.
-    pub fn begin_read(&mut self, seat: u32, place: u32, need: Need, i: u32)
-        requires seat { seat < self.old.geometry.callers }
-        requires idle { IsIdle (errand_at self.old.errands seat) }
-        requires owned { OwnsBlock self.old seat place need }
+    pub fn begin_read(&mut self, caller: u32, place: u32, need: Need, i: u32)
+        requires caller { caller < self.old.geometry.callers }
+        requires idle { IsIdle (errand_at self.old.errands caller) }
+        requires owned { OwnsBlock self.old caller place need }
         requires word { i < usable_words need }
-        ensures { self.new ≡ with_errand self.old seat (read_begun (errand_at self.old.errands seat) place i) }
+        ensures { self.new ≡ with_errand self.old caller (read_begun (errand_at self.old.errands caller) place i) }
     {
-        self.errands[seat as usize].begin_read(place, need, i);
+        self.errands[caller as usize].begin_read(place, need, i);
     }
 
     /// Begins to put the caller's block on a shelf.
-    pub fn begin_put(&mut self, seat: u32, place: u32, need: Need, shelf: u8)
-        requires seat { seat < self.old.geometry.callers }
-        requires idle { IsIdle (errand_at self.old.errands seat) }
-        requires owned { OwnsBlock self.old seat place need }
+    pub fn begin_put(&mut self, caller: u32, place: u32, need: Need, shelf: u8)
+        requires caller { caller < self.old.geometry.callers }
+        requires idle { IsIdle (errand_at self.old.errands caller) }
+        requires owned { OwnsBlock self.old caller place need }
         requires shelf { shelf < SHELVES }
-        ensures { self.new ≡ with_errand self.old seat (put_begun (errand_at self.old.errands seat) place need shelf) }
+        ensures { self.new ≡ with_errand self.old caller (put_begun (errand_at self.old.errands caller) place need shelf) }
     {
-        self.errands[seat as usize].begin_put(place, need, shelf);
+        self.errands[caller as usize].begin_put(place, need, shelf);
     }
 
     /// Begins to take the block that lies on a shelf.
-    pub fn begin_take(&mut self, seat: u32, shelf: u8)
-        requires seat { seat < self.old.geometry.callers }
-        requires idle { IsIdle (errand_at self.old.errands seat) }
+    pub fn begin_take(&mut self, caller: u32, shelf: u8)
+        requires caller { caller < self.old.geometry.callers }
+        requires idle { IsIdle (errand_at self.old.errands caller) }
         requires shelf { shelf < SHELVES }
-        ensures { self.new ≡ with_errand self.old seat (take_begun (errand_at self.old.errands seat) shelf) }
+        ensures { self.new ≡ with_errand self.old caller (take_begun (errand_at self.old.errands caller) shelf) }
     {
-        self.errands[seat as usize].begin_take(shelf);
+        self.errands[caller as usize].begin_take(shelf);
     }
 
     /// Makes one step of the caller, and says what it came to; none where the caller is idle. Where the
     /// step ends a call, its answer is so: a block that it gives is the caller's, and so on.
-    pub fn advance(&mut self, seat: u32) -> Result<Progress, AllocError>
-        requires { seat < self.old.geometry.callers }
-        ensures idle { IfOk result (λ progress. IsIdle (errand_at self.old.errands seat)
+    pub fn advance(&mut self, caller: u32) -> Result<Progress, AllocError>
+        requires { caller < self.old.geometry.callers }
+        ensures idle { IfOk result (λ progress. IsIdle (errand_at self.old.errands caller)
             → (progress ≡ Progress.Idle) × (self.new ≡ self.old)) }
-        ensures busy { IfOk result (λ progress. IsBusy (errand_at self.old.errands seat)
-            → IsStepped self.old seat progress self.new) }
-        ensures meant { IfOk result (λ progress. AnswersSo self.old seat progress self.new) }
+        ensures busy { IfOk result (λ progress. IsBusy (errand_at self.old.errands caller)
+            → IsStepped self.old caller progress self.new) }
+        ensures meant { IfOk result (λ progress. AnswersSo self.old caller progress self.new) }
         ensures geometry { self.new.geometry ≡ self.old.geometry }
         ensures err { OnErr result (self.new ≡ self.old) }
     {
-        if self.idle(seat) {
+        if self.idle(caller) {
             Ok(Progress::Idle)
         } else {
-            self.step(seat)
+            self.step(caller)
         }
     }
 
     /// Makes one step of a caller that is in a call.
-    fn step(&mut self, seat: u32) -> Result<Progress, AllocError>
-        requires seat { seat < self.old.geometry.callers }
-        requires busy { IsBusy (errand_at self.old.errands seat) }
-        ensures ok { IfOk result (λ progress. IsStepped self.old seat progress self.new) }
-        ensures meant { IfOk result (λ progress. AnswersSo self.old seat progress self.new) }
+    fn step(&mut self, caller: u32) -> Result<Progress, AllocError>
+        requires caller { caller < self.old.geometry.callers }
+        requires busy { IsBusy (errand_at self.old.errands caller) }
+        ensures ok { IfOk result (λ progress. IsStepped self.old caller progress self.new) }
+        ensures meant { IfOk result (λ progress. AnswersSo self.old caller progress self.new) }
         ensures geometry { self.new.geometry ≡ self.old.geometry }
         ensures err { OnErr result (self.new ≡ self.old) }
     {
-        let next = self.next_step(seat);
+        let next = self.next_step(caller);
         add_event(&mut self.events, next.event)?;
         self.words[next.index as usize] = next.word;
-        self.errands[seat as usize].go_on(next.found);
+        self.errands[caller as usize].go_on(next.found);
         self.steps = self.steps.saturating_add(1);
         Ok(next.progress)
     }
 
     /// What the next step of a caller will do.
-    fn next_step(&self, seat: u32) -> NextStep
-        requires seat { seat < self.now.geometry.callers }
-        requires busy { IsBusy (errand_at self.now.errands seat) }
-        ensures { IsNext self.now seat result }
+    fn next_step(&self, caller: u32) -> NextStep
+        requires caller { caller < self.now.geometry.callers }
+        requires busy { IsBusy (errand_at self.now.errands caller) }
+        ensures { IsNext self.now caller result }
     {
-        let errand = &self.errands[seat as usize];
+        let errand = &self.errands[caller as usize];
         let action = plan(errand);
         let name = name_of(&action);
         let (word, found) = apply(&action, self.word(name));
@@ -226,17 +226,17 @@ impl Core {
     }
 
     /// Advances these callers in turn, and answers how many steps they made.
-    pub fn run_schedule(&mut self, seats: &[u8]) -> Result<u64, Stopped>
-        requires { All (λ seat. seat < self.old.geometry.callers) seats.now }
-        ensures ok { IfOk result (λ steps. Run (state_of self.old) seats.now steps (state_of self.new)
+    pub fn run_schedule(&mut self, callers: &[u8]) -> Result<u64, Stopped>
+        requires { All (λ caller. caller < self.old.geometry.callers) callers.now }
+        ensures ok { IfOk result (λ steps. Run (state_of self.old) callers.now steps (state_of self.new)
             × (self.new.steps ≡ counted self.old.steps steps)) }
-        ensures err { IfErr result (λ stopped. RunsPart (state_of self.old) seats.now stopped.steps (state_of self.new)
+        ensures err { IfErr result (λ stopped. RunsPart (state_of self.old) callers.now stopped.steps (state_of self.new)
             × (self.new.steps ≡ counted self.old.steps stopped.steps)) }
         ensures geometry { self.new.geometry ≡ self.old.geometry }
     {
         let mut steps = 0;
-        for seat in seats {
-            match self.turn(u32::from(*seat)) {
+        for caller in callers {
+            match self.fill_slot(u32::from(*caller)) {
                 Ok(made) => steps += made,
                 Err(_) => return Err(Stopped { steps }),
             }
@@ -248,34 +248,34 @@ impl Core {
     /// how many; none where it is in no call. It loses no more exchanges than words are stale for it, so
     /// none in a call that has made no step, and clears no more superblocks than are EMPTY and out for its
     /// class; between two of these it makes fewer than `CALL_STEPS` steps.
-    pub fn run_alone(&mut self, seat: u32) -> Result<u64, Stopped>
-        requires { seat < self.old.geometry.callers }
-        ensures ok { IfOk result (λ steps. RunsAlone self.old seat steps self.new
-            × IsIdle (errand_at self.new.errands seat)) }
-        ensures err { IfErr result (λ stopped. RunsAlone self.old seat stopped.steps self.new
-            × IsBusy (errand_at self.new.errands seat)) }
-        ensures idle { IsIdle (errand_at self.old.errands seat) → (result ≡ Ok 0) × (self.new ≡ self.old) }
+    pub fn run_alone(&mut self, caller: u32) -> Result<u64, Stopped>
+        requires { caller < self.old.geometry.callers }
+        ensures ok { IfOk result (λ steps. RunsAlone self.old caller steps self.new
+            × IsIdle (errand_at self.new.errands caller)) }
+        ensures err { IfErr result (λ stopped. RunsAlone self.old caller stopped.steps self.new
+            × IsBusy (errand_at self.new.errands caller)) }
+        ensures idle { IsIdle (errand_at self.old.errands caller) → (result ≡ Ok 0) × (self.new ≡ self.old) }
         ensures bound { IfOk result (λ steps. steps
-            < CALL_STEPS * (1 + stale_words self.old.geometry (state_of self.old) seat
-            + clearings self.old.geometry (state_of self.old) seat)) }
-        ensures few { IfOk result (λ steps. (errand_at self.new.errands seat).lost + 1 < 2 ^ 64
-            → steps < CALL_STEPS * (1 + ((errand_at self.new.errands seat).lost - (errand_at self.old.errands seat).lost)
-            + ((errand_at self.new.errands seat).cleared - (errand_at self.old.errands seat).cleared))) }
-        ensures lost { ((errand_at self.old.errands seat).lost ≤ (errand_at self.new.errands seat).lost)
-            × ((errand_at self.new.errands seat).lost
-            ≤ (errand_at self.old.errands seat).lost + stale_words self.old.geometry (state_of self.old) seat) }
-        ensures first { (e : ErrandFields) (call : Call) → IsIdle e → errand_at self.old.errands seat ≡ begun_by e call
-            → (errand_at self.new.errands seat).lost ≡ (errand_at self.old.errands seat).lost }
-        ensures cleared { ((errand_at self.old.errands seat).cleared ≤ (errand_at self.new.errands seat).cleared)
-            × ((errand_at self.new.errands seat).cleared
-            ≤ (errand_at self.old.errands seat).cleared + clearings self.old.geometry (state_of self.old) seat) }
+            < CALL_STEPS * (1 + stale_words self.old.geometry (state_of self.old) caller
+            + clearings self.old.geometry (state_of self.old) caller)) }
+        ensures few { IfOk result (λ steps. (errand_at self.new.errands caller).lost + 1 < 2 ^ 64
+            → steps < CALL_STEPS * (1 + ((errand_at self.new.errands caller).lost - (errand_at self.old.errands caller).lost)
+            + ((errand_at self.new.errands caller).cleared - (errand_at self.old.errands caller).cleared))) }
+        ensures lost { ((errand_at self.old.errands caller).lost ≤ (errand_at self.new.errands caller).lost)
+            × ((errand_at self.new.errands caller).lost
+            ≤ (errand_at self.old.errands caller).lost + stale_words self.old.geometry (state_of self.old) caller) }
+        ensures first { (e : ErrandFields) (call : Call) → IsIdle e → errand_at self.old.errands caller ≡ begun_by e call
+            → (errand_at self.new.errands caller).lost ≡ (errand_at self.old.errands caller).lost }
+        ensures cleared { ((errand_at self.old.errands caller).cleared ≤ (errand_at self.new.errands caller).cleared)
+            × ((errand_at self.new.errands caller).cleared
+            ≤ (errand_at self.old.errands caller).cleared + clearings self.old.geometry (state_of self.old) caller) }
         ensures geometry { self.new.geometry ≡ self.old.geometry }
     {
         // What the type keeps of the machine bounds the loop.
         let _ = &self.layout;
         let mut steps = 0;
-        while !self.idle(seat) {
-            match self.step(seat) {
+        while !self.idle(caller) {
+            match self.step(caller) {
                 Ok(_) => steps += 1,
                 Err(_) => return Err(Stopped { steps }),
             }
@@ -283,20 +283,20 @@ impl Core {
         Ok(steps)
     }
 
-    /// Gives the caller a turn, and answers how many steps it makes: one where the caller is in a call,
+    /// Fills a slot of a schedule for the caller, and answers how many steps it makes: one where the caller is in a call,
     /// else none.
-    fn turn(&mut self, seat: u32) -> Result<u64, AllocError>
-        requires { seat < self.old.geometry.callers }
-        ensures turn { IfOk result (λ steps. Turn (state_of self.old) seat steps (state_of self.new)) }
+    fn fill_slot(&mut self, caller: u32) -> Result<u64, AllocError>
+        requires { caller < self.old.geometry.callers }
+        ensures slot { IfOk result (λ steps. Slot (state_of self.old) caller steps (state_of self.new)) }
         ensures counts { IfOk result (λ steps. self.new.steps ≡ counted self.old.steps steps) }
         ensures few { IfOk result (λ steps. steps ≤ 1) }
         ensures geometry { self.new.geometry ≡ self.old.geometry }
         ensures err { OnErr result (self.new ≡ self.old) }
     {
-        if self.idle(seat) {
+        if self.idle(caller) {
             Ok(0)
         } else {
-            let _ = self.step(seat)?;
+            let _ = self.step(caller)?;
             Ok(1)
         }
     }
@@ -325,43 +325,43 @@ impl Core {
     }
 
     /// How many turns the caller has begun, at most the turn limit.
-    pub fn turns(&self, seat: u32) -> u64
-        requires { seat < self.now.geometry.callers }
-        ensures { result ≡ (errand_at self.now.errands seat).turns }
+    pub fn turns(&self, caller: u32) -> u64
+        requires { caller < self.now.geometry.callers }
+        ensures { result ≡ (errand_at self.now.errands caller).turns }
     {
-        self.errands[seat as usize].turns()
+        self.errands[caller as usize].turns()
     }
 
     /// How many exchanges the caller has lost, at most 2^64 - 1.
-    pub fn lost(&self, seat: u32) -> u64
-        requires { seat < self.now.geometry.callers }
-        ensures { result ≡ (errand_at self.now.errands seat).lost }
+    pub fn lost(&self, caller: u32) -> u64
+        requires { caller < self.now.geometry.callers }
+        ensures { result ≡ (errand_at self.now.errands caller).lost }
     {
-        self.errands[seat as usize].lost()
+        self.errands[caller as usize].lost()
     }
 
     /// How many exchanges the caller has won, at most 2^64 - 1.
-    pub fn won(&self, seat: u32) -> u64
-        requires { seat < self.now.geometry.callers }
-        ensures { result ≡ (errand_at self.now.errands seat).won }
+    pub fn won(&self, caller: u32) -> u64
+        requires { caller < self.now.geometry.callers }
+        ensures { result ≡ (errand_at self.now.errands caller).won }
     {
-        self.errands[seat as usize].won()
+        self.errands[caller as usize].won()
     }
 
     /// How many empty superblocks the caller's allocations took for partial ones, at most 2^64 - 1.
-    pub fn cleared(&self, seat: u32) -> u64
-        requires { seat < self.now.geometry.callers }
-        ensures { result ≡ (errand_at self.now.errands seat).cleared }
+    pub fn cleared(&self, caller: u32) -> u64
+        requires { caller < self.now.geometry.callers }
+        ensures { result ≡ (errand_at self.now.errands caller).cleared }
     {
-        self.errands[seat as usize].cleared()
+        self.errands[caller as usize].cleared()
     }
 
     /// Whether the caller is in no call.
-    pub fn idle(&self, seat: u32) -> bool
-        requires { seat < self.now.geometry.callers }
-        ensures { result ≡ is_idle (errand_at self.now.errands seat).point }
+    pub fn idle(&self, caller: u32) -> bool
+        requires { caller < self.now.geometry.callers }
+        ensures { result ≡ is_idle (errand_at self.now.errands caller).point }
     {
-        self.errands[seat as usize].idle()
+        self.errands[caller as usize].idle()
     }
 }
 

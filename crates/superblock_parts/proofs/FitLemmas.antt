@@ -37,72 +37,72 @@ use Rattle.superblock_parts.specs.Fits.{IsHeldBy, IsBlockOf, IsShare, IsLastPush
 use Rattle.superblock_parts.specs.Points.{plan_block_of, settle_block_of, after_active, after_info, after_anchor, after_pop, after_return_anchor, after_prefix, after_push_anchor, after_owner, after_push_to, after_push}
 
 -- the active word of a caller's processor heap exists
-active-exists : (g : Geometry) (who : ℕ) (s : SeatFields) → IsChecked g → IsSeatOf g who s → (heap_of s < g.heaps) × (s.class < CLASSES)
-active-exists g who s checked seat =
+active-exists : (g : Geometry) (caller : ℕ) (s : SeatFields) → IsChecked g → IsSeatOf g caller s → (heap_of s < g.heaps) × (s.class < CLASSES)
+active-exists g caller s checked seat =
     let same : s.geometry.heaps ≡ g.heaps = ap (λ x. x.heaps) seat.geometry in
     (omega (arith, heap_of-within s (omega (arith, checked.heaps.0)), same), seat.class)
 
 -- the prefix word of a superblock's block exists
-block-exists : (g : Geometry) (who : ℕ) (at : Site) (i : ℕ) → IsBlockOf g who at i → Exists g (name_of (plan_block_of (StorePrefix at i)))
-block-exists g who at i h = block_place-within g at.frame at.seat.class i h.site.frame h.index
+block-exists : (g : Geometry) (caller : ℕ) (at : Site) (i : ℕ) → IsBlockOf g caller at i → Exists g (name_of (plan_block_of (StorePrefix at i)))
+block-exists g caller at i h = block_place-within g at.frame at.seat.class i h.site.frame h.index
 
 -- the word that a point's action is on exists
 pub plan-exists :
-    (g : Geometry) (who : ℕ) (p : BlockPoint) → IsChecked g → who < g.callers → FitsBlock g who p
+    (g : Geometry) (caller : ℕ) (p : BlockPoint) → IsChecked g → caller < g.callers → FitsBlock g caller p
     → Exists g (name_of (plan_block_of p))
-plan-exists g who (LoadActive s) checked has h = active-exists g who s checked h
-plan-exists g who (TakeCredit s d credits) checked has h = active-exists g who s checked h.0.seat
-plan-exists g who (LoadInfo s d share) checked has h = h.0.desc
-plan-exists g who (LoadAnchor at share) checked has h = h.0.desc
-plan-exists g who (LoadLink at share a) checked has h =
+plan-exists g caller (LoadActive s) checked has h = active-exists g caller s checked h
+plan-exists g caller (TakeCredit s d credits) checked has h = active-exists g caller s checked h.0.seat
+plan-exists g caller (LoadInfo s d share) checked has h = h.0.desc
+plan-exists g caller (LoadAnchor at share) checked has h = h.0.desc
+plan-exists g caller (LoadLink at share a) checked has h =
     block_place-within g at.frame at.seat.class a.avail h.site.frame h.anchor.avail
-plan-exists g who (PopBlock at share a prefix) checked has h = h.site.desc
-plan-exists g who (StorePrefix at i) checked has h = block-exists g who at i h
-plan-exists g who (InstallCredits at i more) checked has h = active-exists g who at.seat checked h.0.site.seat
-plan-exists g who (InstallSuperblock at) checked has h = active-exists g who at.seat checked h.seat
-plan-exists g who (LoadReturn at i more) checked has h = h.0.site.desc
-plan-exists g who (ReturnCredits at i more a) checked has h = h.0.site.desc
-plan-exists g who (LoadPrefix s frame i) checked has h = block_place-within g frame s.class i h.1 h.2
-plan-exists g who (LoadPushAnchor at i guarded) checked has h = h.site.desc
-plan-exists g who (StoreGuard at i a) checked has h = omega (arith, h.block.site.seat.caller)
-plan-exists g who (LoadOwner at i a) checked has h = h.block.site.desc
-plan-exists g who (StoreLink at i a guarded heap) checked has h = block-exists g who at i h.block
-plan-exists g who (PushBlock at i a guarded heap) checked has h = h.block.site.desc
-plan-exists g who (LinkBlock at i) checked has h = block-exists g who at i h
-plan-exists g who (StoreInfo at) checked has h = h.desc
-plan-exists g who (StoreAnchor at) checked has h = h.desc
-plan-exists g who (WantsPartial s) checked has h = tt
-plan-exists g who (Returned at i) checked has h = tt
-plan-exists g who (Discarded at) checked has h = tt
-plan-exists g who (Given at i) checked has h = tt
-plan-exists g who (BecameEmpty at heap) checked has h = tt
-plan-exists g who (BecamePartial at guarded) checked has h = tt
-plan-exists g who (Pushed s guarded) checked has h = tt
+plan-exists g caller (PopBlock at share a prefix) checked has h = h.site.desc
+plan-exists g caller (StorePrefix at i) checked has h = block-exists g caller at i h
+plan-exists g caller (InstallCredits at i more) checked has h = active-exists g caller at.seat checked h.0.site.seat
+plan-exists g caller (InstallSuperblock at) checked has h = active-exists g caller at.seat checked h.seat
+plan-exists g caller (LoadReturn at i more) checked has h = h.0.site.desc
+plan-exists g caller (ReturnCredits at i more a) checked has h = h.0.site.desc
+plan-exists g caller (LoadPrefix s frame i) checked has h = block_place-within g frame s.class i h.1 h.2
+plan-exists g caller (LoadPushAnchor at i stored) checked has h = h.site.desc
+plan-exists g caller (StoreGuard at i a) checked has h = omega (arith, h.block.site.seat.number)
+plan-exists g caller (LoadOwner at i a) checked has h = h.block.site.desc
+plan-exists g caller (StoreLink at i a stored heap) checked has h = block-exists g caller at i h.block
+plan-exists g caller (PushBlock at i a stored heap) checked has h = h.block.site.desc
+plan-exists g caller (LinkBlock at i) checked has h = block-exists g caller at i h
+plan-exists g caller (StoreInfo at) checked has h = h.desc
+plan-exists g caller (StoreAnchor at) checked has h = h.desc
+plan-exists g caller (WantsPartial s) checked has h = tt
+plan-exists g caller (Returned at i) checked has h = tt
+plan-exists g caller (Discarded at) checked has h = tt
+plan-exists g caller (Given at i) checked has h = tt
+plan-exists g caller (BecameEmpty at heap) checked has h = tt
+plan-exists g caller (BecamePartial at stored) checked has h = tt
+plan-exists g caller (Pushed s stored) checked has h = tt
 
 -- a choice fits where both points do
 either :
-    (g : Geometry) (who : ℕ) (b : Bool) (x y : BlockPoint) → (b ≡ true → FitsBlock g who x) → (b ≡ false → FitsBlock g who y)
-    → FitsBlock g who (if b then x else y)
-either g who b x y = cond_both b x y (FitsBlock g who)
+    (g : Geometry) (caller : ℕ) (b : Bool) (x y : BlockPoint) → (b ≡ true → FitsBlock g caller x) → (b ≡ false → FitsBlock g caller y)
+    → FitsBlock g caller (if b then x else y)
+either g caller b x y = cond_both b x y (FitsBlock g caller)
 
 -- where an active word leads
 fits-active :
-    (g : Geometry) (who : ℕ) (s : SeatFields) (word : ℕ) (o : Option ActiveWord) → IsSeatOf g who s
-    → Reads IsActiveWord active_word word o → FitsBlock g who (after_active s o)
-fits-active g who s word None seat reads = seat
-fits-active g who s word (Some Null) seat reads = seat
-fits-active g who s word (Some (Held d credits)) seat reads =
+    (g : Geometry) (caller : ℕ) (s : SeatFields) (word : ℕ) (o : Option ActiveWord) → IsSeatOf g caller s
+    → Reads IsActiveWord active_word word o → FitsBlock g caller (after_active s o)
+fits-active g caller s word None seat reads = seat
+fits-active g caller s word (Some Null) seat reads = seat
+fits-active g caller s word (Some (Held d credits)) seat reads =
     let same : descriptor_count s.geometry ≡ descriptor_count g = ap descriptor_count seat.geometry in
-    either g who (nat_lt d (descriptor_count s.geometry)) (TakeCredit s d credits) (LoadActive s)
+    either g caller (nat_lt d (descriptor_count s.geometry)) (TakeCredit s d credits) (LoadActive s)
     (λ e. (record { seat = seat; desc = omega (arith, ltb-true d (descriptor_count s.geometry) e, same) }, reads.0.1))
     (λ e. seat)
 
 -- where a descriptor's word leads
 fits-info :
-    (g : Geometry) (who : ℕ) (s : SeatFields) (d word : ℕ) (share : Share) → IsHeldBy g who s d → IsShare share
-    → FitsBlock g who (after_info s d share (info_in s.geometry word))
-fits-info g who s d word share h paid =
-    each-info s.geometry (λ o. FitsBlock g who (after_info s d share o)) (info_of word) (h, paid)
+    (g : Geometry) (caller : ℕ) (s : SeatFields) (d word : ℕ) (share : Share) → IsHeldBy g caller s d → IsShare share
+    → FitsBlock g caller (after_info s d share (info_in s.geometry word))
+fits-info g caller s d word share h paid =
+    each-info s.geometry (λ o. FitsBlock g caller (after_info s d share o)) (info_of word) (h, paid)
     (λ i frame heap. (
       record { seat = h.seat; desc = h.desc; frame = omega (arith, frame, ap (λ x. x.frames) h.seat.geometry) },
       paid,
@@ -110,13 +110,13 @@ fits-info g who s d word share h paid =
 
 -- where the prefix word of a freed block leads
 fits-prefix :
-    (g : Geometry) (who : ℕ) (s : SeatFields) (frame i : ℕ) (o : Option Prefix) → IsSeatOf g who s → frame < g.frames
-    → i < block_count_of s.class → FitsBlock g who (after_prefix s frame i o)
-fits-prefix g who s frame i None seat has within = (seat, has, within)
-fits-prefix g who s frame i (Some (Large units)) seat has within = (seat, has, within)
-fits-prefix g who s frame i (Some (Small d)) seat has within =
+    (g : Geometry) (caller : ℕ) (s : SeatFields) (frame i : ℕ) (o : Option Prefix) → IsSeatOf g caller s → frame < g.frames
+    → i < block_count_of s.class → FitsBlock g caller (after_prefix s frame i o)
+fits-prefix g caller s frame i None seat has within = (seat, has, within)
+fits-prefix g caller s frame i (Some (Large units)) seat has within = (seat, has, within)
+fits-prefix g caller s frame i (Some (Small d)) seat has within =
     let same : descriptor_count s.geometry ≡ descriptor_count g = ap descriptor_count seat.geometry in
-    either g who (nat_lt d (descriptor_count s.geometry))
+    either g caller (nat_lt d (descriptor_count s.geometry))
     (LoadPushAnchor (record { seat = s; desc = d; frame = frame }) i false) (LoadPrefix s frame i)
     (λ e. record {
       site = record { seat = seat; desc = omega (arith, ltb-true d (descriptor_count s.geometry) e, same); frame = has };
@@ -126,38 +126,38 @@ fits-prefix g who s frame i (Some (Small d)) seat has within =
 
 -- where an anchor leads that is read for a push
 fits-push_anchor :
-    (g : Geometry) (who : ℕ) (at : Site) (i : ℕ) (guarded : Bool) (word : ℕ) → IsChecked g → IsBlockOf g who at i
-    → FitsBlock g who (after_push_anchor at i guarded (anchor_in at.seat.class word))
-fits-push_anchor g who at i guarded word checked h =
-    each-anchor at.seat.class word (λ o. FitsBlock g who (after_push_anchor at i guarded o)) h
-    (λ a anchor. either g who (is_last at.seat.class a) (StoreGuard at i a) (StoreLink at i a guarded 0)
+    (g : Geometry) (caller : ℕ) (at : Site) (i : ℕ) (stored : Bool) (word : ℕ) → IsChecked g → IsBlockOf g caller at i
+    → FitsBlock g caller (after_push_anchor at i stored (anchor_in at.seat.class word))
+fits-push_anchor g caller at i stored word checked h =
+    each-anchor at.seat.class word (λ o. FitsBlock g caller (after_push_anchor at i stored o)) h
+    (λ a anchor. either g caller (is_last at.seat.class a) (StoreGuard at i a) (StoreLink at i a stored 0)
     (λ last. record { block = h; anchor = anchor; last = last })
     (λ not_last. record {
       block = h;
       anchor = anchor;
       owner = omega (arith, checked.heaps.0);
-      stored = λ last. absurd (both_ways (is_last at.seat.class a) not_last last);
+      before_last = λ last. absurd (both_ways (is_last at.seat.class a) not_last last);
     }))
 
 -- where the word of a guarded descriptor leads
 fits-owner :
-    (g : Geometry) (who : ℕ) (at : Site) (i : ℕ) (a : AnchorFields) (word : ℕ) → IsLastPush g who at i a
-    → FitsBlock g who (after_owner at i a (info_in at.seat.geometry word))
-fits-owner g who at i a word h =
-    each-info at.seat.geometry (λ o. FitsBlock g who (after_owner at i a o)) (info_of word) h
+    (g : Geometry) (caller : ℕ) (at : Site) (i : ℕ) (a : AnchorFields) (word : ℕ) → IsLastPush g caller at i a
+    → FitsBlock g caller (after_owner at i a (info_in at.seat.geometry word))
+fits-owner g caller at i a word h =
+    each-info at.seat.geometry (λ o. FitsBlock g caller (after_owner at i a o)) (info_of word) h
     (λ info frame heap. record {
       block = h.block;
       anchor = h.anchor;
       owner = omega (arith, heap, ap (λ x. x.heaps) h.block.site.seat.geometry);
-      stored = λ last. refl;
+      before_last = λ last. refl;
     })
 
 -- where a push leads
-fits-pushed : (g : Geometry) (who : ℕ) (at : Site) (guarded : Bool) (s : State) → IsSiteOf g who at → FitsBlock g who (after_push_to at guarded s)
-fits-pushed g who at guarded state.Active h = h.seat
-fits-pushed g who at guarded state.Full h = h
-fits-pushed g who at guarded state.Partial h = h.seat
-fits-pushed g who at guarded state.Empty h = h.seat
+fits-pushed : (g : Geometry) (caller : ℕ) (at : Site) (stored : Bool) (s : State) → IsSiteOf g caller at → FitsBlock g caller (after_push_to at stored s)
+fits-pushed g caller at stored state.Active h = h.seat
+fits-pushed g caller at stored state.Full h = h
+fits-pushed g caller at stored state.Partial h = h.seat
+fits-pushed g caller at stored state.Empty h = h.seat
 
 -- the blocks that wait to be offered after a pop are no more than an active word can offer
 more_of-within : (share : Share) (a : AnchorFields) → IsShare share → more_of share a ≤ MOST_CREDITS
@@ -167,57 +167,57 @@ more_of-within (Grant more) a paid = paid
 
 -- the point after a step fits
 pub settle-fits :
-    (g : Geometry) (who : ℕ) (p : BlockPoint) (x : Found) → IsChecked g → x.value < 2 ^ 64 → FitsBlock g who p
-    → FitsBlock g who (settle_block_of p x)
-settle-fits g who (LoadActive s) x checked word h =
-    fits-active g who s x.value (active_of x.value) h (active-exact.reads x.value word)
-settle-fits g who (TakeCredit s d credits) x checked word h =
-    either g who x.won (LoadInfo s d (if credits == 0 then LastCredit else Credit)) (LoadActive s)
+    (g : Geometry) (caller : ℕ) (p : BlockPoint) (x : Found) → IsChecked g → x.value < 2 ^ 64 → FitsBlock g caller p
+    → FitsBlock g caller (settle_block_of p x)
+settle-fits g caller (LoadActive s) x checked word h =
+    fits-active g caller s x.value (active_of x.value) h (active-exact.reads x.value word)
+settle-fits g caller (TakeCredit s d credits) x checked word h =
+    either g caller x.won (LoadInfo s d (if credits == 0 then LastCredit else Credit)) (LoadActive s)
     (λ e. (h.0, cond_both (credits == 0) LastCredit Credit IsShare (λ e. tt) (λ e. tt)))
     (λ e. h.0.seat)
-settle-fits g who (LoadInfo s d share) x checked word h = fits-info g who s d x.value share h.0 h.1
-settle-fits g who (LoadAnchor at share) x checked word h =
-    each-anchor at.seat.class x.value (λ o. FitsBlock g who (after_anchor at share o)) h
+settle-fits g caller (LoadInfo s d share) x checked word h = fits-info g caller s d x.value share h.0 h.1
+settle-fits g caller (LoadAnchor at share) x checked word h =
+    each-anchor at.seat.class x.value (λ o. FitsBlock g caller (after_anchor at share o)) h
     (λ a anchor. record { site = h.0; paid = h.1; anchor = anchor })
-settle-fits g who (LoadLink at share a) x checked word h = h
-settle-fits g who (PopBlock at share a prefix) x checked word h =
-    let block : IsBlockOf g who at a.avail = record { site = h.site; index = h.anchor.avail } in
-    either g who x.won (after_pop at a.avail (more_of share a)) (LoadAnchor at share)
-    (λ e. either g who (nat_lt 0 (more_of share a)) (InstallCredits at a.avail (more_of share a)) (StorePrefix at a.avail)
+settle-fits g caller (LoadLink at share a) x checked word h = h
+settle-fits g caller (PopBlock at share a prefix) x checked word h =
+    let block : IsBlockOf g caller at a.avail = record { site = h.site; index = h.anchor.avail } in
+    either g caller x.won (after_pop at a.avail (more_of share a)) (LoadAnchor at share)
+    (λ e. either g caller (nat_lt 0 (more_of share a)) (InstallCredits at a.avail (more_of share a)) (StorePrefix at a.avail)
     (λ some. (block, (ltb-true 0 (more_of share a) some, more_of-within share a h.paid)))
     (λ none. block))
     (λ e. (h.site, h.paid))
-settle-fits g who (StorePrefix at i) x checked word h = h
-settle-fits g who (InstallCredits at i more) x checked word h =
-    either g who x.won (StorePrefix at i) (LoadReturn at i more) (λ e. h.0) (λ e. h)
-settle-fits g who (InstallSuperblock at) x checked word h =
-    either g who x.won (StorePrefix at 0) (Discarded at)
+settle-fits g caller (StorePrefix at i) x checked word h = h
+settle-fits g caller (InstallCredits at i more) x checked word h =
+    either g caller x.won (StorePrefix at i) (LoadReturn at i more) (λ e. h.0) (λ e. h)
+settle-fits g caller (InstallSuperblock at) x checked word h =
+    either g caller x.won (StorePrefix at 0) (Discarded at)
     (λ e. record { site = h; index = omega (arith, block_count_of-least at.seat.class h.seat.class) }) (λ e. h)
-settle-fits g who (LoadReturn at i more) x checked word h =
-    each-anchor at.seat.class x.value (λ o. FitsBlock g who (after_return_anchor at i more o)) h
+settle-fits g caller (LoadReturn at i more) x checked word h =
+    each-anchor at.seat.class x.value (λ o. FitsBlock g caller (after_return_anchor at i more o)) h
     (λ a anchor. (h.0, h.1, anchor))
-settle-fits g who (ReturnCredits at i more a) x checked word h =
-    either g who x.won (Returned at i) (LoadReturn at i more) (λ e. h.0) (λ e. (h.0, h.1))
-settle-fits g who (LoadPrefix s frame i) x checked word h = fits-prefix g who s frame i (prefix_of x.value) h.0 h.1 h.2
-settle-fits g who (LoadPushAnchor at i guarded) x checked word h = fits-push_anchor g who at i guarded x.value checked h
-settle-fits g who (StoreGuard at i a) x checked word h = h
-settle-fits g who (LoadOwner at i a) x checked word h = fits-owner g who at i a x.value h
-settle-fits g who (StoreLink at i a guarded heap) x checked word h = h
-settle-fits g who (PushBlock at i a guarded heap) x checked word h =
-    either g who x.won (after_push at a guarded heap) (LoadPushAnchor at i guarded)
-    (λ e. either g who (is_last at.seat.class a) (BecameEmpty at heap) (after_push_to at guarded a.state)
+settle-fits g caller (ReturnCredits at i more a) x checked word h =
+    either g caller x.won (Returned at i) (LoadReturn at i more) (λ e. h.0) (λ e. (h.0, h.1))
+settle-fits g caller (LoadPrefix s frame i) x checked word h = fits-prefix g caller s frame i (prefix_of x.value) h.0 h.1 h.2
+settle-fits g caller (LoadPushAnchor at i stored) x checked word h = fits-push_anchor g caller at i stored x.value checked h
+settle-fits g caller (StoreGuard at i a) x checked word h = h
+settle-fits g caller (LoadOwner at i a) x checked word h = fits-owner g caller at i a x.value h
+settle-fits g caller (StoreLink at i a stored heap) x checked word h = h
+settle-fits g caller (PushBlock at i a stored heap) x checked word h =
+    either g caller x.won (after_push at a stored heap) (LoadPushAnchor at i stored)
+    (λ e. either g caller (is_last at.seat.class a) (BecameEmpty at heap) (after_push_to at stored a.state)
     (λ last. (h.block.site, h.owner))
-    (λ not_last. fits-pushed g who at guarded a.state h.block.site))
+    (λ not_last. fits-pushed g caller at stored a.state h.block.site))
     (λ e. h.block)
-settle-fits g who (LinkBlock at i) x checked word h =
-    either g who (nat_lt (i + 1) (block_count_of at.seat.class)) (LinkBlock at (i + 1)) (StoreInfo at)
+settle-fits g caller (LinkBlock at i) x checked word h =
+    either g caller (nat_lt (i + 1) (block_count_of at.seat.class)) (LinkBlock at (i + 1)) (StoreInfo at)
     (λ e. record { site = h.site; index = ltb-true (i + 1) (block_count_of at.seat.class) e }) (λ e. h.site)
-settle-fits g who (StoreInfo at) x checked word h = h
-settle-fits g who (StoreAnchor at) x checked word h = h
-settle-fits g who (WantsPartial s) x checked word h = h
-settle-fits g who (Returned at i) x checked word h = h
-settle-fits g who (Discarded at) x checked word h = h
-settle-fits g who (Given at i) x checked word h = h
-settle-fits g who (BecameEmpty at heap) x checked word h = h
-settle-fits g who (BecamePartial at guarded) x checked word h = h
-settle-fits g who (Pushed s guarded) x checked word h = h
+settle-fits g caller (StoreInfo at) x checked word h = h
+settle-fits g caller (StoreAnchor at) x checked word h = h
+settle-fits g caller (WantsPartial s) x checked word h = h
+settle-fits g caller (Returned at i) x checked word h = h
+settle-fits g caller (Discarded at) x checked word h = h
+settle-fits g caller (Given at i) x checked word h = h
+settle-fits g caller (BecameEmpty at heap) x checked word h = h
+settle-fits g caller (BecamePartial at stored) x checked word h = h
+settle-fits g caller (Pushed s stored) x checked word h = h

@@ -56,20 +56,20 @@ seat-prefix s frame i (Some (Small d)) =
     either s (nat_lt d (descriptor_count s.geometry))
     (LoadPushAnchor (record { seat = s; desc = d; frame = frame }) i false) (LoadPrefix s frame i) refl refl
 
-seat-push_anchor : (at : Site) (i : ℕ) (guarded : Bool) (o : Option AnchorFields) → seat_of_block (after_push_anchor at i guarded o) ≡ at.seat
-seat-push_anchor at i guarded None = refl
-seat-push_anchor at i guarded (Some a) =
-    either at.seat (is_last at.seat.class a) (StoreGuard at i a) (StoreLink at i a guarded 0) refl refl
+seat-push_anchor : (at : Site) (i : ℕ) (stored : Bool) (o : Option AnchorFields) → seat_of_block (after_push_anchor at i stored o) ≡ at.seat
+seat-push_anchor at i stored None = refl
+seat-push_anchor at i stored (Some a) =
+    either at.seat (is_last at.seat.class a) (StoreGuard at i a) (StoreLink at i a stored 0) refl refl
 
 seat-owner : (at : Site) (i : ℕ) (a : AnchorFields) (o : Option InfoFields) → seat_of_block (after_owner at i a o) ≡ at.seat
 seat-owner at i a None = refl
 seat-owner at i a (Some info) = refl
 
-seat-push_to : (at : Site) (guarded : Bool) (s : State) → seat_of_block (after_push_to at guarded s) ≡ at.seat
-seat-push_to at guarded state.Active = refl
-seat-push_to at guarded state.Full = refl
-seat-push_to at guarded state.Partial = refl
-seat-push_to at guarded state.Empty = refl
+seat-push_to : (at : Site) (stored : Bool) (s : State) → seat_of_block (after_push_to at stored s) ≡ at.seat
+seat-push_to at stored state.Active = refl
+seat-push_to at stored state.Full = refl
+seat-push_to at stored state.Partial = refl
+seat-push_to at stored state.Empty = refl
 
 -- the point after a step has the seat of the point before it
 pub settle-seat : (p : BlockPoint) (x : Found) → seat_of_block (settle_block_of p x) ≡ seat_of_block p
@@ -87,13 +87,13 @@ settle-seat (InstallSuperblock at) x = either at.seat x.won (StorePrefix at 0) (
 settle-seat (LoadReturn at i more) x = seat-return_anchor at i more (anchor_in at.seat.class x.value)
 settle-seat (ReturnCredits at i more a) x = either at.seat x.won (Returned at i) (LoadReturn at i more) refl refl
 settle-seat (LoadPrefix s frame i) x = seat-prefix s frame i (prefix_of x.value)
-settle-seat (LoadPushAnchor at i guarded) x = seat-push_anchor at i guarded (anchor_in at.seat.class x.value)
+settle-seat (LoadPushAnchor at i stored) x = seat-push_anchor at i stored (anchor_in at.seat.class x.value)
 settle-seat (StoreGuard at i a) x = refl
 settle-seat (LoadOwner at i a) x = seat-owner at i a (info_in at.seat.geometry x.value)
-settle-seat (StoreLink at i a guarded heap) x = refl
-settle-seat (PushBlock at i a guarded heap) x =
-    either at.seat x.won (after_push at a guarded heap) (LoadPushAnchor at i guarded)
-    (either at.seat (is_last at.seat.class a) (BecameEmpty at heap) (after_push_to at guarded a.state) refl (seat-push_to at guarded a.state))
+settle-seat (StoreLink at i a stored heap) x = refl
+settle-seat (PushBlock at i a stored heap) x =
+    either at.seat x.won (after_push at a stored heap) (LoadPushAnchor at i stored)
+    (either at.seat (is_last at.seat.class a) (BecameEmpty at heap) (after_push_to at stored a.state) refl (seat-push_to at stored a.state))
     refl
 settle-seat (LinkBlock at i) x =
     either at.seat (nat_lt (i + 1) (block_count_of at.seat.class)) (LinkBlock at (i + 1)) (StoreInfo at) refl refl
@@ -104,5 +104,5 @@ settle-seat (Returned at i) x = refl
 settle-seat (Discarded at) x = refl
 settle-seat (Given at i) x = refl
 settle-seat (BecameEmpty at heap) x = refl
-settle-seat (BecamePartial at guarded) x = refl
-settle-seat (Pushed s guarded) x = refl
+settle-seat (BecamePartial at stored) x = refl
+settle-seat (Pushed s stored) x = refl

@@ -40,11 +40,11 @@ seat_of_block (InstallSuperblock at) = at.seat
 seat_of_block (LoadReturn at i more) = at.seat
 seat_of_block (ReturnCredits at i more a) = at.seat
 seat_of_block (LoadPrefix s frame i) = s
-seat_of_block (LoadPushAnchor at i guarded) = at.seat
+seat_of_block (LoadPushAnchor at i stored) = at.seat
 seat_of_block (StoreGuard at i a) = at.seat
 seat_of_block (LoadOwner at i a) = at.seat
-seat_of_block (StoreLink at i a guarded heap) = at.seat
-seat_of_block (PushBlock at i a guarded heap) = at.seat
+seat_of_block (StoreLink at i a stored heap) = at.seat
+seat_of_block (PushBlock at i a stored heap) = at.seat
 seat_of_block (LinkBlock at i) = at.seat
 seat_of_block (StoreInfo at) = at.seat
 seat_of_block (StoreAnchor at) = at.seat
@@ -53,8 +53,8 @@ seat_of_block (Returned at i) = at.seat
 seat_of_block (Discarded at) = at.seat
 seat_of_block (Given at i) = at.seat
 seat_of_block (BecameEmpty at heap) = at.seat
-seat_of_block (BecamePartial at guarded) = at.seat
-seat_of_block (Pushed s guarded) = s
+seat_of_block (BecamePartial at stored) = at.seat
+seat_of_block (Pushed s stored) = s
 
 -- the active word with one credit less, or null after the last
 abbrev pub credit_taken : ℕ → ℕ → ℕ
@@ -78,11 +78,11 @@ plan_block_of (LoadReturn at i more) = Load (name.Anchor at.desc)
 plan_block_of (ReturnCredits at i more a) =
     Cas (name.Anchor at.desc) (anchor_word a) (anchor_word (returned more a))
 plan_block_of (LoadPrefix s frame i) = Load (name.Arena (block_place frame s.class i))
-plan_block_of (LoadPushAnchor at i guarded) = Load (name.Anchor at.desc)
+plan_block_of (LoadPushAnchor at i stored) = Load (name.Anchor at.desc)
 plan_block_of (StoreGuard at i a) = Store (name.Hazard at.seat.caller) (at.desc + 1)
 plan_block_of (LoadOwner at i a) = Load (name.Info at.desc)
-plan_block_of (StoreLink at i a guarded heap) = Store (block_name at i) a.avail
-plan_block_of (PushBlock at i a guarded heap) =
+plan_block_of (StoreLink at i a stored heap) = Store (block_name at i) a.avail
+plan_block_of (PushBlock at i a stored heap) =
     Cas (name.Anchor at.desc) (anchor_word a) (anchor_word (pushed at.seat.class i a))
 plan_block_of (LinkBlock at i) = Store (block_name at i) (new_link at.seat.class i)
 plan_block_of (StoreInfo at) = Store (name.Info at.desc) (info_word (info_at at))
@@ -92,8 +92,8 @@ plan_block_of (Returned at i) = Load name.FrameHead
 plan_block_of (Discarded at) = Load name.FrameHead
 plan_block_of (Given at i) = Load name.FrameHead
 plan_block_of (BecameEmpty at heap) = Load name.FrameHead
-plan_block_of (BecamePartial at guarded) = Load name.FrameHead
-plan_block_of (Pushed s guarded) = Load name.FrameHead
+plan_block_of (BecamePartial at stored) = Load name.FrameHead
+plan_block_of (Pushed s stored) = Load name.FrameHead
 
 -- where an active word leads; the point stays where the heap has no such descriptor
 abbrev pub after_active : SeatFields → Option ActiveWord → BlockPoint
@@ -132,9 +132,9 @@ after_prefix s frame i (Some (Small d)) =
 
 -- where an anchor leads that is read for a push
 abbrev pub after_push_anchor : Site → ℕ → Bool → Option AnchorFields → BlockPoint
-after_push_anchor at i guarded None = LoadPushAnchor at i guarded
-after_push_anchor at i guarded (Some a) =
-    if is_last at.seat.class a then StoreGuard at i a else StoreLink at i a guarded 0
+after_push_anchor at i stored None = LoadPushAnchor at i stored
+after_push_anchor at i stored (Some a) =
+    if is_last at.seat.class a then StoreGuard at i a else StoreLink at i a stored 0
 
 -- where the word of a guarded descriptor leads
 abbrev pub after_owner : Site → ℕ → AnchorFields → Option InfoFields → BlockPoint
@@ -143,14 +143,14 @@ after_owner at i a (Some info) = StoreLink at i a true info.heap
 
 -- where a push that leaves free blocks behind leads, by the state before it
 abbrev pub after_push_to : Site → Bool → State → BlockPoint
-after_push_to at guarded state.Active = Pushed at.seat guarded
-after_push_to at guarded state.Full = BecamePartial at guarded
-after_push_to at guarded state.Partial = Pushed at.seat guarded
-after_push_to at guarded state.Empty = Pushed at.seat guarded
+after_push_to at stored state.Active = Pushed at.seat stored
+after_push_to at stored state.Full = BecamePartial at stored
+after_push_to at stored state.Partial = Pushed at.seat stored
+after_push_to at stored state.Empty = Pushed at.seat stored
 
 -- where a push leads
 abbrev pub after_push : Site → AnchorFields → Bool → ℕ → BlockPoint
-after_push at a guarded heap = if is_last at.seat.class a then BecameEmpty at heap else after_push_to at guarded a.state
+after_push at a stored heap = if is_last at.seat.class a then BecameEmpty at heap else after_push_to at stored a.state
 
 -- where the link of a new superblock's block leads
 abbrev pub after_link : Site → ℕ → BlockPoint
@@ -172,13 +172,13 @@ settle_block_of (InstallSuperblock at) x = if x.won then StorePrefix at 0 else D
 settle_block_of (LoadReturn at i more) x = after_return_anchor at i more (anchor_in at.seat.class x.value)
 settle_block_of (ReturnCredits at i more a) x = if x.won then Returned at i else LoadReturn at i more
 settle_block_of (LoadPrefix s frame i) x = after_prefix s frame i (prefix_of x.value)
-settle_block_of (LoadPushAnchor at i guarded) x =
-    after_push_anchor at i guarded (anchor_in at.seat.class x.value)
+settle_block_of (LoadPushAnchor at i stored) x =
+    after_push_anchor at i stored (anchor_in at.seat.class x.value)
 settle_block_of (StoreGuard at i a) x = LoadOwner at i a
 settle_block_of (LoadOwner at i a) x = after_owner at i a (info_in at.seat.geometry x.value)
-settle_block_of (StoreLink at i a guarded heap) x = PushBlock at i a guarded heap
-settle_block_of (PushBlock at i a guarded heap) x =
-    if x.won then after_push at a guarded heap else LoadPushAnchor at i guarded
+settle_block_of (StoreLink at i a stored heap) x = PushBlock at i a stored heap
+settle_block_of (PushBlock at i a stored heap) x =
+    if x.won then after_push at a stored heap else LoadPushAnchor at i stored
 settle_block_of (LinkBlock at i) x = after_link at i
 settle_block_of (StoreInfo at) x = StoreAnchor at
 settle_block_of (StoreAnchor at) x = InstallSuperblock at
@@ -187,5 +187,5 @@ settle_block_of (Returned at i) x = Returned at i
 settle_block_of (Discarded at) x = Discarded at
 settle_block_of (Given at i) x = Given at i
 settle_block_of (BecameEmpty at heap) x = BecameEmpty at heap
-settle_block_of (BecamePartial at guarded) x = BecamePartial at guarded
-settle_block_of (Pushed s guarded) x = Pushed s guarded
+settle_block_of (BecamePartial at stored) x = BecamePartial at stored
+settle_block_of (Pushed s stored) x = Pushed s stored

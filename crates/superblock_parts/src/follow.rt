@@ -101,15 +101,15 @@ pub fn after_prefix(seat: Seat, frame: u16, index: u16, word: u64) -> BlockPoint
         Some(Prefix::Small { desc }) if has_desc(seat, desc) => BlockPoint::LoadPushAnchor {
             site: Site { seat, desc, frame },
             index,
-            guarded: false,
+            stored: false,
         },
         _ => BlockPoint::LoadPrefix { seat, frame, index },
     }
 }
 
 /// From an anchor, for a push.
-pub fn after_push_anchor(site: Site, index: u16, guarded: bool, word: u64) -> BlockPoint
-    ensures { result ≡ after_push_anchor site index guarded (anchor_in site.seat.class word) }
+pub fn after_push_anchor(site: Site, index: u16, stored: bool, word: u64) -> BlockPoint
+    ensures { result ≡ after_push_anchor site index stored (anchor_in site.seat.class word) }
 {
     match site.seat.anchor(word) {
         Some(anchor) if is_last(site.seat, anchor) => BlockPoint::StoreGuard {
@@ -121,13 +121,13 @@ pub fn after_push_anchor(site: Site, index: u16, guarded: bool, word: u64) -> Bl
             site,
             index,
             anchor,
-            guarded,
+            stored,
             heap: 0,
         },
         None => BlockPoint::LoadPushAnchor {
             site,
             index,
-            guarded,
+            stored,
         },
     }
 }
@@ -141,7 +141,7 @@ pub fn after_owner(site: Site, index: u16, anchor: Anchor, word: u64) -> BlockPo
             site,
             index,
             anchor,
-            guarded: true,
+            stored: true,
             heap: info.heap(),
         },
         None => BlockPoint::LoadOwner {
@@ -167,25 +167,25 @@ pub fn after_link(site: Site, index: u16) -> BlockPoint
 }
 
 /// From a push.
-pub fn after_push(site: Site, anchor: Anchor, guarded: bool, heap: u8) -> BlockPoint
-    ensures { result ≡ after_push site anchor guarded heap }
+pub fn after_push(site: Site, anchor: Anchor, stored: bool, heap: u8) -> BlockPoint
+    ensures { result ≡ after_push site anchor stored heap }
 {
     if is_last(site.seat, anchor) {
         BlockPoint::BecameEmpty { site, heap }
     } else {
-        after_push_to(site, guarded, anchor.state())
+        after_push_to(site, stored, anchor.state())
     }
 }
 
 /// From a push that leaves the superblock with live or reserved blocks, by the state before it.
-fn after_push_to(site: Site, guarded: bool, state: State) -> BlockPoint
-    ensures { result ≡ after_push_to site guarded state }
+fn after_push_to(site: Site, stored: bool, state: State) -> BlockPoint
+    ensures { result ≡ after_push_to site stored state }
 {
     match state {
-        State::Full => BlockPoint::BecamePartial { site, guarded },
+        State::Full => BlockPoint::BecamePartial { site, stored },
         _ => BlockPoint::Pushed {
             seat: site.seat,
-            guarded,
+            stored,
         },
     }
 }

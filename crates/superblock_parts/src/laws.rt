@@ -41,9 +41,9 @@ pub fn other_words_leave_a_chain()
 /// A point whose memory exists in a heap acts on a word that exists there, and leads to such a
 /// point of the same seat, whatever it finds.
 pub fn points_fit()
-    ensures names { (g : Geometry) (who : ℕ) (p : BlockPoint) → IsChecked g → who < g.callers → FitsBlock g who p
+    ensures names { (g : Geometry) (caller : ℕ) (p : BlockPoint) → IsChecked g → caller < g.callers → FitsBlock g caller p
         → Exists g (name_of (plan_block_of p)) }
-    ensures keeps { (g : Geometry) (who : ℕ) (p : BlockPoint) (x : Found) → IsChecked g → x.value < 2 ^ 64
-        → FitsBlock g who p → FitsBlock g who (settle_block_of p x) }
+    ensures keeps { (g : Geometry) (caller : ℕ) (p : BlockPoint) (x : Found) → IsChecked g → x.value < 2 ^ 64
+        → FitsBlock g caller p → FitsBlock g caller (settle_block_of p x) }
     ensures seat { (p : BlockPoint) (x : Found) → seat_of_block (settle_block_of p x) ≡ seat_of_block p }
 {}

@@ -5,7 +5,9 @@ ghost use Rattle.superblock_parts.specs.Points.{plan_block_of};
 
 use crate::anchors::{new_anchor, new_credits, popped, pushed, returned};
 use crate::point::BlockPoint;
-use crate::words::{active_name, block_name, credit_taken, held_word, live_prefix, new_link, null_word};
+use crate::words::{
+    active_name, block_name, credit_taken, held_word, live_prefix, new_link, null_word,
+};
 use word_plan::action::Action;
 use word_plan::name::{WordName, name_of_desc};
 

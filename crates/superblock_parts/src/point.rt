@@ -18,7 +18,7 @@ pub enum Share {
 /// A caller's next step in a superblock, or, in the last seven, how it left.
 ///
 /// `index` says which block of the superblock is meant, `more` how many reserved blocks wait to be
-/// offered. `guarded` tells whether this call stored its hazard word.
+/// offered. `stored` tells whether this call stored its hazard word.
 #[derive(Clone, Copy)]
 pub enum BlockPoint {
     /// Load the active word.
@@ -93,7 +93,7 @@ pub enum BlockPoint {
     LoadPushAnchor {
         site: Site,
         index: u16,
-        guarded: bool,
+        stored: bool,
     },
     /// Store the hazard word, since this push makes the superblock empty.
     StoreGuard {
@@ -112,7 +112,7 @@ pub enum BlockPoint {
         site: Site,
         index: u16,
         anchor: Anchor,
-        guarded: bool,
+        stored: bool,
         heap: u8,
     },
     /// Push the block. The heap is the superblock's where the push makes it empty.
@@ -120,7 +120,7 @@ pub enum BlockPoint {
         site: Site,
         index: u16,
         anchor: Anchor,
-        guarded: bool,
+        stored: bool,
         heap: u8,
     },
     /// Store the link of a block of a new superblock.
@@ -162,11 +162,11 @@ pub enum BlockPoint {
     /// The block is freed, and the superblock, which was full, has no keeper.
     BecamePartial {
         site: Site,
-        guarded: bool,
+        stored: bool,
     },
     /// The block is freed.
     Pushed {
         seat: Seat,
-        guarded: bool,
+        stored: bool,
     },
 }

@@ -92,8 +92,8 @@ pub fn settle_block(point: BlockPoint, found: Found) -> BlockPoint
         BlockPoint::LoadPushAnchor {
             site,
             index,
-            guarded,
-        } => after_push_anchor(site, index, guarded, found.value),
+            stored,
+        } => after_push_anchor(site, index, stored, found.value),
         BlockPoint::StoreGuard {
             site,
             index,
@@ -112,29 +112,29 @@ pub fn settle_block(point: BlockPoint, found: Found) -> BlockPoint
             site,
             index,
             anchor,
-            guarded,
+            stored,
             heap,
         } => BlockPoint::PushBlock {
             site,
             index,
             anchor,
-            guarded,
+            stored,
             heap,
         },
         BlockPoint::PushBlock {
             site,
             index,
             anchor,
-            guarded,
+            stored,
             heap,
         } => {
             if found.won {
-                after_push(site, anchor, guarded, heap)
+                after_push(site, anchor, stored, heap)
             } else {
                 BlockPoint::LoadPushAnchor {
                     site,
                     index,
-                    guarded,
+                    stored,
                 }
             }
         }

@@ -87,7 +87,7 @@ fn two_frees_empty_a_superblock(rt: HostRuntime) {
         assert_eq!(rt; plan_block(&point), action);
         point = settle_block(point, Found { value, won });
     }
-    assert!(rt; matches!(point, BlockPoint::BecamePartial { guarded: false, .. }));
+    assert!(rt; matches!(point, BlockPoint::BecamePartial { stored: false, .. }));
 
     let second = [
         (Action::Load(Arena(1024)), 0, true),
@@ -268,7 +268,7 @@ fn words_that_are_not_expected(rt: HostRuntime) {
             BlockPoint::LoadPushAnchor {
                 site: site(),
                 index: 0,
-                guarded: false,
+                stored: false,
             },
             2,
         ),

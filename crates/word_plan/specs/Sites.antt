@@ -29,19 +29,19 @@ abbrev pub block_name : Site → ℕ → WordName
 block_name at index = Arena (block_place at.frame at.seat.class index)
 
 -- the seat is of this caller of this heap
-pub record IsSeatOf (g : Geometry) (who : ℕ) (s : SeatFields) : Type 0 where
+pub record IsSeatOf (g : Geometry) (caller : ℕ) (s : SeatFields) : Type 0 where
   pub geometry : s.geometry ≡ g
-  pub caller : s.caller ≡ who
+  pub number : s.caller ≡ caller
   pub class : s.class < CLASSES
 
 -- a seat of this caller of this heap, and a descriptor that the heap has
-pub record IsDescOf (g : Geometry) (who : ℕ) (s : SeatFields) (d : ℕ) : Type 0 where
-  pub seat : IsSeatOf g who s
+pub record IsDescOf (g : Geometry) (caller : ℕ) (s : SeatFields) (d : ℕ) : Type 0 where
+  pub seat : IsSeatOf g caller s
   pub desc : d < descriptor_count g
 
 -- the superblock is at hand for this caller, and this heap has its descriptor and its frame
-pub record IsSiteOf (g : Geometry) (who : ℕ) (at : Site) : Type 0 where
-  pub seat : IsSeatOf g who at.seat
+pub record IsSiteOf (g : Geometry) (caller : ℕ) (at : Site) : Type 0 where
+  pub seat : IsSeatOf g caller at.seat
   pub desc : at.desc < descriptor_count g
   pub frame : at.frame < g.frames
 

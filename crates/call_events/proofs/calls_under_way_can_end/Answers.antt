@@ -6,4 +6,4 @@ pub returns-clause-busy : goal.returns-clause-busy
 returns-clause-busy c = way-busy
 
 pub returns-clause-so_far : goal.returns-clause-so_far
-returns-clause-so_far c = λ who call point events so. can-end who call (stage_of point) events so
+returns-clause-so_far c = λ caller call point events so. can-end caller call (stage_of point) events so

@@ -6,8 +6,8 @@ ghost use Rattle.stack_parts.specs.declared.point.StackPoint.{StackPoint};
 ghost use Rattle.superblock_parts.specs.declared.point.BlockPoint.{BlockPoint};
 ghost use Rattle.errand_steps.specs.Nexts.{enter_block, finish};
 
+use crate::continuation::{Continuation, asked};
 use crate::next::Next;
-use crate::onward::{Onward, asked};
 use crate::reply::Reply;
 use hazard_parts::point::DescPoint;
 use heap_geometry::need::Need;
@@ -17,16 +17,19 @@ use superblock_parts::point::BlockPoint;
 use word_plan::seat::{Seat, Site};
 
 /// What follows where this point of a superblock is reached.
-pub fn enter_block(at: BlockPoint, onward: Onward) -> Next
-    ensures { result ≡ enter_block at onward }
+pub fn enter_block(at: BlockPoint, continuation: Continuation) -> Next
+    ensures { result ≡ enter_block at continuation }
 {
     match at {
-        BlockPoint::WantsPartial { seat } => Next::partial(PartialPoint::LoadSlot { seat }, onward),
-        BlockPoint::Returned { site, index } => returned(site, index, onward),
+        BlockPoint::WantsPartial { seat } => Next::partial(
+            PartialPoint::LoadSlot { seat },
+            continuation,
+        ),
+        BlockPoint::Returned { site, index } => returned(site, index, continuation),
         BlockPoint::Discarded { site } => Next::stack(
             push_frame(&site),
-            Onward::Discard {
-                need: asked(onward),
+            Continuation::Discard {
+                need: asked(continuation),
                 desc: site.desc,
             },
         ),
@@ -36,26 +39,26 @@ pub fn enter_block(at: BlockPoint, onward: Onward) -> Next
         }),
         BlockPoint::BecameEmpty { site, heap } => Next::stack(
             push_frame(&site),
-            Onward::Remove {
+            Continuation::Remove {
                 desc: site.desc,
                 heap,
             },
         ),
-        BlockPoint::BecamePartial { site, guarded } => Next::partial(
+        BlockPoint::BecamePartial { site, stored } => Next::partial(
             PartialPoint::LoadOwner {
                 seat: site.seat,
                 desc: site.desc,
             },
-            Onward::Finish { guarded },
+            Continuation::Finish { stored },
         ),
-        BlockPoint::Pushed { seat, guarded } => finish(seat, guarded),
-        _ => Next::block(at, onward),
+        BlockPoint::Pushed { seat, stored } => finish(seat, stored),
+        _ => Next::block(at, continuation),
     }
 }
 
 /// The superblock whose reserved blocks were returned goes into the slot; then the block is handed out.
-fn returned(site: Site, index: u16, onward: Onward) -> Next
-    ensures { result ≡ enter_block (BlockPoint.Returned site index) onward }
+fn returned(site: Site, index: u16, continuation: Continuation) -> Next
+    ensures { result ≡ enter_block (BlockPoint.Returned site index) continuation }
 {
     Next::partial(
         PartialPoint::PutSlot {
@@ -63,8 +66,8 @@ fn returned(site: Site, index: u16, onward: Onward) -> Next
             desc: site.desc,
             heap: site.seat.heap(),
         },
-        Onward::GiveBlock {
-            need: asked(onward),
+        Continuation::GiveBlock {
+            need: asked(continuation),
             site,
             index,
         },
@@ -83,11 +86,11 @@ fn push_frame(site: &Site) -> StackPoint
 }
 
 /// The end of a free: it clears its hazard word where it stored it.
-pub fn finish(seat: Seat, guarded: bool) -> Next
-    ensures { result ≡ finish seat guarded }
+pub fn finish(seat: Seat, stored: bool) -> Next
+    ensures { result ≡ finish seat stored }
 {
-    if guarded {
-        Next::desc(DescPoint::ClearHazard { seat }, Onward::EndFree)
+    if stored {
+        Next::desc(DescPoint::ClearHazard { seat }, Continuation::EndFree)
     } else {
         Next::end(Reply::Freed)
     }

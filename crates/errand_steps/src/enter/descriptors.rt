@@ -3,16 +3,16 @@
 ghost use Rattle.std.specs.Prelude.{◌≡◌};
 ghost use Rattle.errand_steps.specs.Nexts.{enter_desc, cleared};
 
+use crate::continuation::{Continuation, asked};
 use crate::next::Next;
-use crate::onward::{Onward, asked};
 use crate::reply::Reply;
 use hazard_parts::point::DescPoint;
 use stack_parts::point::{Pile, StackPoint};
 use word_plan::seat::Seat;
 
 /// What follows where this point of the descriptors or the hazard words is reached.
-pub fn enter_desc(at: DescPoint, onward: Onward) -> Next
-    ensures { result ≡ enter_desc at onward }
+pub fn enter_desc(at: DescPoint, continuation: Continuation) -> Next
+    ensures { result ≡ enter_desc at continuation }
 {
     match at {
         DescPoint::Got { seat, desc } => Next::stack(
@@ -20,34 +20,42 @@ pub fn enter_desc(at: DescPoint, onward: Onward) -> Next
                 seat,
                 pile: Pile::Frames,
             },
-            Onward::TakeFrame {
-                need: asked(onward),
+            Continuation::TakeFrame {
+                need: asked(continuation),
                 desc,
             },
         ),
-        DescPoint::Cleared { seat } => cleared(seat, onward),
-        DescPoint::Scanned { seat, held } => Next::Pick { seat, held, onward },
-        DescPoint::Pushed { seat, desc } => Next::Unlist { seat, desc, onward },
-        _ => Next::desc(at, onward),
+        DescPoint::Cleared { seat } => cleared(seat, continuation),
+        DescPoint::Scanned { seat, held } => Next::Pick {
+            seat,
+            held,
+            continuation,
+        },
+        DescPoint::Pushed { seat, desc } => Next::Unlist {
+            seat,
+            desc,
+            continuation,
+        },
+        _ => Next::desc(at, continuation),
     }
 }
 
 /// The hazard word of a free is 0: it looks through the list, retires what it removed, or ends.
-fn cleared(seat: Seat, onward: Onward) -> Next
-    ensures { result ≡ cleared seat onward }
+fn cleared(seat: Seat, continuation: Continuation) -> Next
+    ensures { result ≡ cleared seat continuation }
 {
-    match onward {
-        Onward::Clear => Next::stack(
+    match continuation {
+        Continuation::Clear => Next::stack(
             StackPoint::LoadTop {
                 seat,
                 pile: Pile::Partials,
             },
-            Onward::Clear,
+            Continuation::Clear,
         ),
-        Onward::Retire { desc } => Next::Retire {
+        Continuation::Retire { desc } => Next::Retire {
             seat,
             desc,
-            onward: Onward::EndFree,
+            continuation: Continuation::EndFree,
         },
         _ => Next::end(Reply::Freed),
     }

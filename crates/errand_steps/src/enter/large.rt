@@ -3,15 +3,15 @@
 ghost use Rattle.std.specs.Prelude.{◌≡◌};
 ghost use Rattle.errand_steps.specs.Nexts.{enter_large};
 
+use crate::continuation::Continuation;
 use crate::next::Next;
-use crate::onward::Onward;
 use crate::reply::Reply;
 use heap_geometry::need::Need;
 use large_parts::point::LargePoint;
 
 /// What follows where this point of a large block, a usable word or a shelf is reached.
-pub fn enter_large(at: LargePoint, onward: Onward) -> Next
-    ensures { result ≡ enter_large at onward }
+pub fn enter_large(at: LargePoint, continuation: Continuation) -> Next
+    ensures { result ≡ enter_large at continuation }
 {
     match at {
         LargePoint::GivenRun { place, run } => Next::end(Reply::Given {
@@ -27,6 +27,6 @@ pub fn enter_large(at: LargePoint, onward: Onward) -> Next
         LargePoint::Got { place, need } => Next::end(Reply::Got { place, need }),
         LargePoint::NothingThere => Next::end(Reply::Empty),
         LargePoint::Missed { expected, found } => Next::end(Reply::Missed { expected, found }),
-        _ => Next::large(at, onward),
+        _ => Next::large(at, continuation),
     }
 }

@@ -5,9 +5,9 @@ ghost use Rattle.stack_parts.specs.declared.point.Pile.{Pile};
 ghost use Rattle.stack_parts.specs.declared.point.StackPoint.{StackPoint};
 ghost use Rattle.errand_steps.specs.Nexts.{enter_partial, listed_empty, listed_partial};
 
+use crate::continuation::{Continuation, asked};
 use crate::enter::stacks::{push_partial, put_away};
 use crate::next::Next;
-use crate::onward::{Onward, asked};
 use hazard_parts::point::DescPoint;
 use partial_parts::point::PartialPoint;
 use stack_parts::point::{Pile, StackPoint};
@@ -15,36 +15,42 @@ use superblock_parts::point::{BlockPoint, Share};
 use word_plan::seat::Seat;
 
 /// What follows where this point of a partial superblock is reached.
-pub fn enter_partial(at: PartialPoint, onward: Onward) -> Next
-    ensures { result ≡ enter_partial at onward }
+pub fn enter_partial(at: PartialPoint, continuation: Continuation) -> Next
+    ensures { result ≡ enter_partial at continuation }
 {
     match at {
-        PartialPoint::SlotEmpty { seat } => Next::stack(pop_partial(seat), onward),
+        PartialPoint::SlotEmpty { seat } => Next::stack(pop_partial(seat), continuation),
         PartialPoint::Granted { site, more } => Next::block(
             BlockPoint::LoadAnchor {
                 site,
                 share: Share::Grant { more },
             },
-            onward,
+            continuation,
         ),
         PartialPoint::TookEmpty { site } => Next::Retire {
             seat: site.seat,
             desc: site.desc,
-            onward: Onward::Look {
-                need: asked(onward),
+            continuation: Continuation::Look {
+                need: asked(continuation),
             },
         },
-        PartialPoint::SlotFilled { seat } => put_away(seat, onward),
-        PartialPoint::Displaced { seat, desc } => Next::stack(push_partial(seat, desc), onward),
+        PartialPoint::SlotFilled { seat } => put_away(seat, continuation),
+        PartialPoint::Displaced { seat, desc } => Next::stack(
+            push_partial(seat, desc),
+            continuation,
+        ),
         PartialPoint::NotInSlot { seat } => {
-            Next::desc(DescPoint::ClearHazard { seat }, Onward::Clear)
+            Next::desc(DescPoint::ClearHazard { seat }, Continuation::Clear)
         }
         PartialPoint::Removed { seat, desc } => {
-            Next::desc(DescPoint::ClearHazard { seat }, Onward::Retire { desc })
+            Next::desc(
+                DescPoint::ClearHazard { seat },
+                Continuation::Retire { desc },
+            )
         }
-        PartialPoint::ListedEmpty { seat, desc } => listed_empty(seat, desc, onward),
-        PartialPoint::ListedPartial { seat, desc } => listed_partial(seat, desc, onward),
-        _ => Next::partial(at, onward),
+        PartialPoint::ListedEmpty { seat, desc } => listed_empty(seat, desc, continuation),
+        PartialPoint::ListedPartial { seat, desc } => listed_partial(seat, desc, continuation),
+        _ => Next::partial(at, continuation),
     }
 }
 
@@ -59,29 +65,29 @@ fn pop_partial(seat: Seat) -> StackPoint
 }
 
 /// The listed superblock is empty: it is retired, and the one before it goes back to the list.
-fn listed_empty(seat: Seat, desc: u16, onward: Onward) -> Next
-    ensures { result ≡ listed_empty seat desc onward }
+fn listed_empty(seat: Seat, desc: u16, continuation: Continuation) -> Next
+    ensures { result ≡ listed_empty seat desc continuation }
 {
-    match onward {
-        Onward::ClearSecond { first } => {
-            Next::stack(push_partial(seat, first), Onward::Retire { desc })
+    match continuation {
+        Continuation::ClearSecond { first } => {
+            Next::stack(push_partial(seat, first), Continuation::Retire { desc })
         }
         _ => Next::Retire {
             seat,
             desc,
-            onward: Onward::EndFree,
+            continuation: Continuation::EndFree,
         },
     }
 }
 
 /// The listed superblock is not empty: a second one is popped, and after that both go back.
-fn listed_partial(seat: Seat, desc: u16, onward: Onward) -> Next
-    ensures { result ≡ listed_partial seat desc onward }
+fn listed_partial(seat: Seat, desc: u16, continuation: Continuation) -> Next
+    ensures { result ≡ listed_partial seat desc continuation }
 {
-    match onward {
-        Onward::ClearSecond { first } => {
-            Next::stack(push_partial(seat, desc), Onward::PushFirst { first })
+    match continuation {
+        Continuation::ClearSecond { first } => {
+            Next::stack(push_partial(seat, desc), Continuation::PushFirst { first })
         }
-        _ => Next::stack(pop_partial(seat), Onward::ClearSecond { first: desc }),
+        _ => Next::stack(pop_partial(seat), Continuation::ClearSecond { first: desc }),
     }
 }

@@ -5,9 +5,9 @@ ghost use Rattle.stack_parts.specs.declared.point.Pile.{Pile};
 ghost use Rattle.stack_parts.specs.declared.point.StackPoint.{StackPoint};
 ghost use Rattle.errand_steps.specs.Nexts.{enter_stack, put_away, found_empty, confirmed_empty, popped};
 
+use crate::continuation::Continuation;
 use crate::enter::blocks::finish;
 use crate::next::Next;
-use crate::onward::Onward;
 use crate::reply::Reply;
 use hazard_parts::point::DescPoint;
 use packed_words::head::Head;
@@ -17,25 +17,25 @@ use superblock_parts::point::BlockPoint;
 use word_plan::seat::{Seat, Site};
 
 /// What follows where this point of a stack is reached.
-pub fn enter_stack(at: StackPoint, onward: Onward) -> Next
-    ensures { result ≡ enter_stack at onward }
+pub fn enter_stack(at: StackPoint, continuation: Continuation) -> Next
+    ensures { result ≡ enter_stack at continuation }
 {
     match at {
-        StackPoint::Popped { seat, index, .. } => popped(seat, index, onward),
-        StackPoint::FoundEmpty { seat, pile, head } => found_empty(seat, pile, head, onward),
-        StackPoint::ConfirmedEmpty { seat, .. } => confirmed_empty(seat, onward),
-        StackPoint::Pushed { seat, .. } => put_away(seat, onward),
-        _ => Next::stack(at, onward),
+        StackPoint::Popped { seat, index, .. } => popped(seat, index, continuation),
+        StackPoint::FoundEmpty { seat, pile, head } => found_empty(seat, pile, head, continuation),
+        StackPoint::ConfirmedEmpty { seat, .. } => confirmed_empty(seat, continuation),
+        StackPoint::Pushed { seat, .. } => put_away(seat, continuation),
+        _ => Next::stack(at, continuation),
     }
 }
 
 /// An index was popped: the frame of a new superblock, a partial superblock that is taken, or one that
 /// may be empty.
-fn popped(seat: Seat, index: u16, onward: Onward) -> Next
-    ensures { result ≡ popped seat index onward }
+fn popped(seat: Seat, index: u16, continuation: Continuation) -> Next
+    ensures { result ≡ popped seat index continuation }
 {
-    match onward {
-        Onward::TakeFrame { need, desc } => {
+    match continuation {
+        Continuation::TakeFrame { need, desc } => {
             let site = Site {
                 seat,
                 desc,
@@ -43,40 +43,45 @@ fn popped(seat: Seat, index: u16, onward: Onward) -> Next
             };
             Next::block(
                 BlockPoint::LinkBlock { site, index: 0 },
-                Onward::Alloc { need },
+                Continuation::Alloc { need },
             )
         }
-        Onward::Alloc { .. } => Next::partial(
+        Continuation::Alloc { .. } => Next::partial(
             PartialPoint::LoadTakenInfo { seat, desc: index },
-            onward,
+            continuation,
         ),
-        _ => Next::partial(PartialPoint::LoadListedAnchor { seat, desc: index }, onward),
+        _ => Next::partial(
+            PartialPoint::LoadListedAnchor { seat, desc: index },
+            continuation,
+        ),
     }
 }
 
 /// The stack was found empty: an allocation confirms that by a step, a free is done with the list.
-fn found_empty(seat: Seat, pile: Pile, head: Head, onward: Onward) -> Next
-    ensures { result ≡ found_empty seat pile head onward }
+fn found_empty(seat: Seat, pile: Pile, head: Head, continuation: Continuation) -> Next
+    ensures { result ≡ found_empty seat pile head continuation }
 {
-    match onward {
-        Onward::Clear => Next::end(Reply::Freed),
-        Onward::ClearSecond { first } => { Next::stack(push_partial(seat, first), Onward::EndFree) }
-        _ => Next::stack(StackPoint::ConfirmEmpty { seat, pile, head }, onward),
+    match continuation {
+        Continuation::Clear => Next::end(Reply::Freed),
+        Continuation::ClearSecond { first } => {
+            Next::stack(push_partial(seat, first), Continuation::EndFree)
+        }
+        _ => Next::stack(StackPoint::ConfirmEmpty { seat, pile, head }, continuation),
     }
 }
 
 /// The stack is empty: where there is no partial superblock a new one is made, where there is no frame
 /// the allocation is refused.
-fn confirmed_empty(seat: Seat, onward: Onward) -> Next
-    ensures { result ≡ confirmed_empty seat onward }
+fn confirmed_empty(seat: Seat, continuation: Continuation) -> Next
+    ensures { result ≡ confirmed_empty seat continuation }
 {
-    match onward {
-        Onward::TakeFrame { desc, .. } => Next::Retire {
+    match continuation {
+        Continuation::TakeFrame { desc, .. } => Next::Retire {
             seat,
             desc,
-            onward: Onward::Refuse,
+            continuation: Continuation::Refuse,
         },
-        _ => Next::desc(DescPoint::LoadDescHead { seat }, onward),
+        _ => Next::desc(DescPoint::LoadDescHead { seat }, continuation),
     }
 }
 
@@ -92,34 +97,36 @@ pub fn push_partial(seat: Seat, desc: u16) -> StackPoint
 }
 
 /// What was to be put away stands in its slot or on its stack.
-pub fn put_away(seat: Seat, onward: Onward) -> Next
-    ensures { result ≡ put_away seat onward }
+pub fn put_away(seat: Seat, continuation: Continuation) -> Next
+    ensures { result ≡ put_away seat continuation }
 {
-    match onward {
-        Onward::GiveBlock { need, site, index } => {
+    match continuation {
+        Continuation::GiveBlock { need, site, index } => {
             Next::block(
                 BlockPoint::StorePrefix { site, index },
-                Onward::Alloc { need },
+                Continuation::Alloc { need },
             )
         }
-        Onward::Finish { guarded } => finish(seat, guarded),
-        Onward::Discard { need, desc } => Next::Retire {
+        Continuation::Finish { stored } => finish(seat, stored),
+        Continuation::Discard { need, desc } => Next::Retire {
             seat,
             desc,
-            onward: Onward::Turn { need },
+            continuation: Continuation::Turn { need },
         },
-        Onward::Remove { desc, heap } => {
+        Continuation::Remove { desc, heap } => {
             Next::partial(
                 PartialPoint::LoadHeldSlot { seat, desc, heap },
-                Onward::Free,
+                Continuation::Free,
             )
         }
-        Onward::Retire { desc } => Next::Retire {
+        Continuation::Retire { desc } => Next::Retire {
             seat,
             desc,
-            onward: Onward::EndFree,
+            continuation: Continuation::EndFree,
         },
-        Onward::PushFirst { first } => { Next::stack(push_partial(seat, first), Onward::EndFree) }
+        Continuation::PushFirst { first } => {
+            Next::stack(push_partial(seat, first), Continuation::EndFree)
+        }
         _ => Next::end(Reply::Freed),
     }
 }

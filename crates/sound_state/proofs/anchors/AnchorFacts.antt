@@ -26,19 +26,19 @@ use Rattle.sound_state.proofs.shared.MakingWeights.{is_it, it-elsewhere, install
 use Rattle.sound_state.proofs.shared.SuperblockEffects.{AnchorEffects, anchor-still, anchors-stay, info-stays, weights-stay}
 
 -- a caller stores the anchor of its new superblock, and all else stays
-pub record Anchors (g : Geometry) (s : State) (l : Lists) (who : ℕ) (at : Site) (e : ErrandFields) (s' : State) : Type 0 where
-  pub caller : who < g.callers
-  pub moves : Moves s.errand who e s'.errand
-  pub site : IsSiteOf g who at
+pub record Anchors (g : Geometry) (s : State) (l : Lists) (caller : ℕ) (at : Site) (e : ErrandFields) (s' : State) : Type 0 where
+  pub in_heap : caller < g.callers
+  pub moves : Moves s.errand caller e s'.errand
+  pub site : IsSiteOf g caller at
   pub writes : Writes s.word (name.Anchor at.desc) (anchor_word (new_anchor at.seat.class)) s'.word
   pub history : s'.history ≡ s.history
-  pub retired : e.retired ≡ (s.errand who).retired
-  pub holds_before : holds_of (s.errand who).point ≡ making at
+  pub retired : e.retired ≡ (s.errand caller).retired
+  pub holds_before : holds_of (s.errand caller).point ≡ making at
   pub holds_after : holds_of e.point ≡ installing_holds at
 
-module _ (g : Geometry) (s : State) (l : Lists) (who : ℕ) (at : Site) (e : ErrandFields) (s' : State) (h : Anchors g s l who at e s') where
-  pub anchored-holds : HoldingEffects g s who (making at) (installing_holds at) e s'
-  anchored-holds = record { caller = h.caller; moves = h.moves; retired = h.retired; before = h.holds_before; after = h.holds_after }
+module _ (g : Geometry) (s : State) (l : Lists) (caller : ℕ) (at : Site) (e : ErrandFields) (s' : State) (h : Anchors g s l caller at e s') where
+  pub anchored-holds : HoldingEffects g s caller (making at) (installing_holds at) e s'
+  anchored-holds = record { in_heap = h.in_heap; moves = h.moves; retired = h.retired; before = h.holds_before; after = h.holds_after }
 
   pub anchored-write : AnchorEffects s at.desc s'
   anchored-write = record { elsewhere = h.writes.elsewhere }
@@ -69,15 +69,15 @@ module _ (g : Geometry) (s : State) (l : Lists) (who : ℕ) (at : Site) (e : Err
   anchored-has d = omega (arith, places-go anchored-holds d, making-places at d)
 
   -- before it the descriptor is on its way, and nowhere else
-  on-its-way : errand_keeps on_its_way at.desc (s.errand who) ≡ 1
+  on-its-way : errand_keeps on_its_way at.desc (s.errand caller) ≡ 1
   on-its-way = ap (λ x. kept_among on_its_way at.desc x.kept) h.holds_before ∙ making-ways at at.desc ∙ it-here at
 
   its-place : 1 ≤ callers_sum g (errand_has at.desc) s.errand
   unfolding callers_sum
-  its-place = omega (arith, on-its-way, term-sum g.callers (λ i. errand_has at.desc (s.errand i)) who h.caller)
+  its-place = omega (arith, on-its-way, term-sum g.callers (λ i. errand_has at.desc (s.errand i)) caller h.in_heap)
 
   pub anchored-free : IsSoundWith g s l → IsUnplaced g s l at.desc
-  anchored-free old = way-unplaced g s l who at.desc old h.caller h.site.desc (omega (arith, on-its-way))
+  anchored-free old = way-unplaced g s l caller at.desc old h.in_heap h.site.desc (omega (arith, on-its-way))
 
   -- and after it it isn't away
   pub anchored-home : IsSoundWith g s l → away_of g s' l at.desc ≡ 0

@@ -31,10 +31,10 @@ use Rattle.sound_state.proofs.anchors.AnchorFields.{anchored-superblock}
 use Rattle.sound_state.proofs.anchors.AnchorRests.{owned-anchored}
 
 -- the store of an anchor
-module _ (g : Geometry) (s : State) (l : Lists) (who : ℕ) (at : Site) (e : ErrandFields) (s' : State) (h : Anchors g s l who at e s') where
+module _ (g : Geometry) (s : State) (l : Lists) (caller : ℕ) (at : Site) (e : ErrandFields) (s' : State) (h : Anchors g s l caller at e s') where
   -- what is bound is another superblock, and so is what waits to be installed
   others-bound : IsSoundWith g s l → (d : ℕ) → IsTrue (is_bound g s l d) → d ≢ at.desc
-  others-bound old d bound = bound-differs g s l at.desc (anchored-free g s l who at e s' h old).bound d bound
+  others-bound old d bound = bound-differs g s l at.desc (anchored-free g s l caller at e s' h old).bound d bound
 
   anchored-installed : IsSoundWith g s l → (i : ℕ) → i < g.callers → InstallsNone (s.errand i).point at.desc
   unfolding recalls_of
@@ -47,10 +47,10 @@ module _ (g : Geometry) (s : State) (l : Lists) (who : ℕ) (at : Site) (e : Err
   emptied-differs : (d : ℕ) → IsEmptied g s l d → d ≢ at.desc
   unfolding callers_sum
   emptied-differs d so same =
-      let mine : errand_keeps on_its_way at.desc (s.errand who) ≡ is_it at at.desc =
+      let mine : errand_keeps on_its_way at.desc (s.errand caller) ≡ is_it at at.desc =
       ap (λ x. kept_among on_its_way at.desc x.kept) h.holds_before ∙ making-ways at at.desc in
-      let some : errand_keeps on_its_way at.desc (s.errand who) ≤ callers_sum g (errand_keeps on_its_way at.desc) s.errand =
-      term-sum g.callers (λ j. errand_keeps on_its_way at.desc (s.errand j)) who h.caller in
+      let some : errand_keeps on_its_way at.desc (s.errand caller) ≤ callers_sum g (errand_keeps on_its_way at.desc) s.errand =
+      term-sum g.callers (λ j. errand_keeps on_its_way at.desc (s.errand j)) caller h.in_heap in
       let none : callers_sum g (errand_keeps on_its_way at.desc) s.errand ≡ 0 =
       subst (λ k. callers_sum g (errand_keeps on_its_way k) s.errand ≡ 0) same so.standing in
       omega (arith, none, some, mine, it-here at)
@@ -61,21 +61,21 @@ module _ (g : Geometry) (s : State) (l : Lists) (who : ℕ) (at : Site) (e : Err
   anchored-leaves i = record {
     steady = λ n is. h.writes.elsewhere n (λ same. subst IsSteadyWord same is);
     events = ap (own i) h.history;
-    owned = owned-anchored g s l who at e s' h i;
-    empty = λ d so. ap (λ x. is_empty x.state) (anchored-anchor g s l who at e s' h d (emptied-differs d so));
-    ways = λ d so. omega (arith, anchored-ways g s l who at e s' h d, so.standing);
+    owned = owned-anchored g s l caller at e s' h i;
+    empty = λ d so. ap (λ x. is_empty x.state) (anchored-anchor g s l caller at e s' h d (emptied-differs d so));
+    ways = λ d so. omega (arith, anchored-ways g s l caller at e s' h d, so.standing);
   }
 
   still-bound : IsSoundWith g s l → (d : ℕ) → IsTrue (is_bound g s l d) → IsTrue (is_bound g s' l d)
-  still-bound old d bound = subst IsTrue (sym (anchored-bound g s l who at e s' h d (others-bound old d bound))) bound
+  still-bound old d bound = subst IsTrue (sym (anchored-bound g s l caller at e s' h d (others-bound old d bound))) bound
 
   anchored-left : IsSoundWith g s l → (r : Recall) → IsBacked g s l at.desc r → IsLeft g s l s' r
   anchored-left old (bound_for d c) backed = still-bound old d
   anchored-left old (bound_at d f c) backed = still-bound old d
   anchored-left old (pops d a) backed =
-      subst (λ b. IsPopped b a) (sym (anchored-superblock g s l who at e s' h d (others-bound old d backed)))
+      subst (λ b. IsPopped b a) (sym (anchored-superblock g s l caller at e s' h d (others-bound old d backed)))
   anchored-left old (links d a prefix) backed =
-      λ is. is ∙ ap (λ x. x.tag) (anchored-anchor g s l who at e s' h d (others-bound old d backed.0))
+      λ is. is ∙ ap (λ x. x.tag) (anchored-anchor g s l caller at e s' h d (others-bound old d backed.0))
   anchored-left old (says n w) backed = h.writes.elsewhere n backed
   anchored-left old r backed = tt
 
@@ -83,10 +83,10 @@ module _ (g : Geometry) (s : State) (l : Lists) (who : ℕ) (at : Site) (e : Err
       IsSoundWith g s l → IsLocated s at.desc at.frame at.seat.class
       → recalls_of e.point ≡ says (name.Anchor at.desc) (anchor_word (new_anchor at.seat.class)) ∷ bound_here at → IsRemembered g s' l
   anchored-remembered old lies recalls =
-      remembered-left g s l who e s' h.moves
-      (subst (All (IsSo g s' l who)) (sym recalls)
-      (All-cons (IsSo g s' l who) (says (name.Anchor at.desc) (anchor_word (new_anchor at.seat.class))) (bound_here at) (tt, h.writes.here)
-      (here-so g s l s' (anchored-leaves who).steady who at (anchored-bound_here g s l who at e s' h old) lies)))
+      remembered-left g s l caller e s' h.moves
+      (subst (All (IsSo g s' l caller)) (sym recalls)
+      (All-cons (IsSo g s' l caller) (says (name.Anchor at.desc) (anchor_word (new_anchor at.seat.class))) (bound_here at) (tt, h.writes.here)
+      (here-so g s l s' (anchored-leaves caller).steady caller at (anchored-bound_here g s l caller at e s' h old) lies)))
       (λ i has ne. anchored-leaves i)
       (λ i has ne k d lt.
       anchored-left old _

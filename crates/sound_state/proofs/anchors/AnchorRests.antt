@@ -11,7 +11,7 @@ use Rattle.word_plan.specs.declared.seat.Site.{Site}
 use Rattle.word_plan.specs.Counts.{descriptor_count}
 use Rattle.superblock_parts.specs.declared.point.BlockPoint.TheVariants as block
 use Rattle.pool_model.specs.Pool.{Block, block_at, pool_of}
-use Rattle.errand_steps.specs.declared.onward.Onward.{Onward}
+use Rattle.errand_steps.specs.declared.continuation.Continuation.{Continuation}
 use Rattle.errand_steps.specs.declared.point.Point.TheVariants as point
 use Rattle.errand_steps.specs.Errands.{ErrandFields}
 use Rattle.errand_steps.specs.Fits.{spare_of, pushed_by}
@@ -36,36 +36,36 @@ use Rattle.sound_state.proofs.shared.MakingWeights.{making-stock}
 
 -- how many descriptors are out
 pub anchored-stocked :
-    (g : Geometry) (s : State) (l : Lists) (who : ℕ) (at : Site) (e : ErrandFields) (s' : State) (o : Onward) → Anchors g s l who at e s'
-    → (s.errand who).point ≡ point.Block (block.StoreAnchor at) o → e.point ≡ point.Block (block.InstallSuperblock at) o
+    (g : Geometry) (s : State) (l : Lists) (caller : ℕ) (at : Site) (e : ErrandFields) (s' : State) (o : Continuation) → Anchors g s l caller at e s'
+    → (s.errand caller).point ≡ point.Block (block.StoreAnchor at) o → e.point ≡ point.Block (block.InstallSuperblock at) o
     → IsSoundWith g s l → IsStocked g s' l
-anchored-stocked g s l who at e s' o h before after old =
-    let free = anchored-free g s l who at e s' h old in
+anchored-stocked g s l caller at e s' o h before after old =
+    let free = anchored-free g s l caller at e s' h old in
     record {
       most = λ class has.
           let full : sum_below (descriptor_count g) (full_stock s' class) ≡ sum_below (descriptor_count g) (full_stock s class) =
           sum-same (descriptor_count g) (full_stock s class) (full_stock s' class)
           (λ d lt.
           let keeps : full_keeps (anchor_for s' d).state ≡ full_keeps (anchor_for s d).state =
-          field-stays (anchored-write g s l who at e s' h) (λ a. full_keeps a.state)
-          (ap (λ a. full_keeps a.state) (anchored-here g s l who at e s' h) ∙ sym free.full) d in
+          field-stays (anchored-write g s l caller at e s' h) (λ a. full_keeps a.state)
+          (ap (λ a. full_keeps a.state) (anchored-here g s l caller at e s' h) ∙ sym free.full) d in
           ap (λ n. if (info_for s' d).class == class then n else 0) keeps
-          ∙ ap (λ i. if i.class == class then full_keeps (anchor_for s d).state else 0) (anchored-info g s l who at e s' h d)) in
+          ∙ ap (λ i. if i.class == class then full_keeps (anchor_for s d).state else 0) (anchored-info g s l caller at e s' h d)) in
           omega (
             arith,
             full,
-            stock-goes (anchored-holds g s l who at e s' h) class (ap (waits_in class) before) (ap (waits_in class) after),
+            stock-goes (anchored-holds g s l caller at e s' h) class (ap (waits_in class) before) (ap (waits_in class) after),
             making-stock at class,
-            anchored-words g s l who at e s' h (word_stock class) (λ v. refl),
+            anchored-words g s l caller at e s' h (word_stock class) (λ v. refl),
             old.stocked.most class has,
           );
     }
 
 pub anchored-guarded :
-    (g : Geometry) (s : State) (l : Lists) (who : ℕ) (at : Site) (e : ErrandFields) (s' : State) (o : Onward) → Anchors g s l who at e s'
+    (g : Geometry) (s : State) (l : Lists) (caller : ℕ) (at : Site) (e : ErrandFields) (s' : State) (o : Continuation) → Anchors g s l caller at e s'
     → e.point ≡ point.Block (block.InstallSuperblock at) o → IsSoundWith g s l → IsGuarded g s'
-anchored-guarded g s l who at e s' o h after old =
-    guarded-clear g s who e s' h.caller h.moves (λ i. h.writes.elsewhere (name.Hazard i) (λ is. cc)) (ap (λ x. x.hazard) h.holds_before)
+anchored-guarded g s l caller at e s' o h after old =
+    guarded-clear g s caller e s' h.in_heap h.moves (λ i. h.writes.elsewhere (name.Hazard i) (λ is. cc)) (ap (λ x. x.hazard) h.holds_before)
     (ap (λ x. x.hazard) h.holds_after) (ap pushed_by after) (ap passed_by after) (ap (λ p. length (held_by p)) after) (ap spare_of after) old.guarded
 
 -- who makes a superblock excepts no block
@@ -75,7 +75,7 @@ making-excepts :
 making-excepts at place (inl x) = omega (arith, x.2)
 making-excepts at place (inr x) = omega (arith, x.2)
 
-module _ (g : Geometry) (s : State) (l : Lists) (who : ℕ) (at : Site) (e : ErrandFields) (s' : State) (h : Anchors g s l who at e s') where
+module _ (g : Geometry) (s : State) (l : Lists) (caller : ℕ) (at : Site) (e : ErrandFields) (s' : State) (h : Anchors g s l caller at e s') where
   pub owned-anchored : (i place : ℕ) (n : Need) → IsOwned s i place n → IsOwned s' i place n
   owned-anchored i place n k = record {
     block = (k.block.0, ap (λ past. block_at place (pool_of past)) h.history ∙ k.block.1, k.block.2, k.block.3);
@@ -85,17 +85,17 @@ module _ (g : Geometry) (s : State) (l : Lists) (who : ℕ) (at : Site) (e : Err
   anchored-tied old =
       let tied = old.tied in
       let w = h.writes in
-      let free = anchored-free g s l who at e s' h old in
+      let free = anchored-free g s l caller at e s' h old in
       let was = λ (place : ℕ) (b : Block) (live : IsLive s' place b). ap (λ past. block_at place (pool_of past)) (sym h.history) ∙ live in
       let excepted : (place : ℕ) → IsExcepted g s place → IsExcepted g s' place =
       λ place x. record {
-        who = (
-          x.who.0,
-          x.who.1,
-          each-caller g (λ j f. Excepts (s.errand j) place → Excepts f place) s.errand who e s'.errand h.moves
+        caller = (
+          x.caller.0,
+          x.caller.1,
+          each-caller g (λ j f. Excepts (s.errand j) place → Excepts f place) s.errand caller e s'.errand h.moves
               (λ ex. absurd (making-excepts at place
               (subst (λ x. Any (λ b. b.place ≡ place) x.hands ⊎ Any (λ b. (b.place ≡ place) × IsTrue b.overwritten) x.frees) h.holds_before ex)))
-              (λ j has same. same) x.who.0 x.who.1 x.who.2,
+              (λ j has same. same) x.caller.0 x.caller.1 x.caller.2,
         );
       } in
       let tie : (place v : ℕ) → IsExcepted g s place ⊎ (s.word (name.Arena place) ≡ v) → IsExcepted g s' place ⊎ (s'.word (name.Arena place) ≡ v) =
@@ -105,11 +105,11 @@ module _ (g : Geometry) (s : State) (l : Lists) (who : ℕ) (at : Site) (e : Err
             let of = tied.small place class b (was place b live) is in
             let d : ℕ = of.0 in
             let differ : d ≢ at.desc = λ same. free.bound (subst (λ k. IsTrue (is_bound g s l k)) same of.1.bound) in
-            let info = anchored-info g s l who at e s' h d in (
+            let info = anchored-info g s l caller at e s' h d in (
               d,
               record {
                 exists = of.1.exists;
-                bound = subst IsTrue (sym (anchored-bound g s l who at e s' h d differ)) of.1.bound;
+                bound = subst IsTrue (sym (anchored-bound g s l caller at e s' h d differ)) of.1.bound;
                 located = record {
                   frame = ap (λ x. x.frame) info ∙ of.1.located.frame;
                   class = ap (λ x. x.class) info ∙ of.1.located.class;
@@ -132,11 +132,11 @@ module _ (g : Geometry) (s : State) (l : Lists) (who : ℕ) (at : Site) (e : Err
             ∙ tied.bare_shelf k has (λ place b live is. none place b (ap (λ past. block_at place (pool_of past)) h.history ∙ live) is);
         contents = λ place i v b live is. w.elsewhere (name.Arena (place + 1 + i)) (λ same. cc) ∙ tied.contents place i v b (was place b live) is;
         hands =
-            each-caller g (λ i f. All (λ x. IsOwned s' i x.place x.need) (holds_of f.point).hands) s.errand who e s'.errand h.moves
-            (subst (λ x. All (λ y. IsOwned s' who y.place y.need) x.hands) (sym h.holds_after) (All-nil (λ y. IsOwned s' who y.place y.need)))
+            each-caller g (λ i f. All (λ x. IsOwned s' i x.place x.need) (holds_of f.point).hands) s.errand caller e s'.errand h.moves
+            (subst (λ x. All (λ y. IsOwned s' caller y.place y.need) x.hands) (sym h.holds_after) (All-nil (λ y. IsOwned s' caller y.place y.need)))
             (λ i has k d lt. owned-anchored i _ _ (tied.hands i has k d lt));
         frees =
-            each-caller g (λ i f. All (λ x. IsOwned s' i x.place x.need) (holds_of f.point).frees) s.errand who e s'.errand h.moves
-            (subst (λ x. All (λ y. IsOwned s' who y.place y.need) x.frees) (sym h.holds_after) (All-nil (λ y. IsOwned s' who y.place y.need)))
+            each-caller g (λ i f. All (λ x. IsOwned s' i x.place x.need) (holds_of f.point).frees) s.errand caller e s'.errand h.moves
+            (subst (λ x. All (λ y. IsOwned s' caller y.place y.need) x.frees) (sym h.holds_after) (All-nil (λ y. IsOwned s' caller y.place y.need)))
             (λ i has k d lt. owned-anchored i _ _ (tied.frees i has k d lt));
       }

@@ -18,7 +18,7 @@ use Rattle.superblock_parts.specs.declared.point.BlockPoint.{BlockPoint}
 use Rattle.superblock_parts.specs.declared.point.BlockPoint.TheVariants as block
 use Rattle.pool_model.specs.Legal.{IsLegalWithoutCounts}
 use Rattle.pool_model.specs.Pool.{Block as Live, block_at, pool_of}
-use Rattle.errand_steps.specs.declared.onward.Onward.{Onward}
+use Rattle.errand_steps.specs.declared.continuation.Continuation.{Continuation}
 use Rattle.errand_steps.specs.declared.point.Point.TheVariants.{Block}
 use Rattle.errand_steps.specs.Errands.{ErrandFields, counts_lost}
 use Rattle.errand_steps.specs.Events.{event_of}
@@ -49,44 +49,44 @@ use Rattle.sound_state.proofs.shared.SuperblockEffects.{of-each}
 use Rattle.sound_state.proofs.shared.WordFacts.{site-info}
 
 -- a caller that makes a superblock is in a turn
-making-weighs : (e : ErrandFields) (b : BlockPoint) (o : Onward) → e.point ≡ Block b o → block_turn_stage b ≡ frame_taken → TurnWeighs e 1 0 0
+making-weighs : (e : ErrandFields) (b : BlockPoint) (o : Continuation) → e.point ≡ Block b o → block_turn_stage b ≡ frame_taken → TurnWeighs e 1 0 0
 making-weighs e b o at is = stage-weighs frame_taken e (ap turn_stage_of at ∙ is) refl
 
 -- the tags and the turns
 anchored-turned :
-    (g : Geometry) (s : State) (l : Lists) (who : ℕ) (at : Site) (e : ErrandFields) (s' : State) (o : Onward) → Anchors g s l who at e s'
-    → (s.errand who).point ≡ Block (block.StoreAnchor at) o → e.point ≡ Block (block.InstallSuperblock at) o
-    → e.turns ≡ (s.errand who).turns → (s.errand who).lost ≤ e.lost → e.cleared ≡ (s.errand who).cleared
+    (g : Geometry) (s : State) (l : Lists) (caller : ℕ) (at : Site) (e : ErrandFields) (s' : State) (o : Continuation) → Anchors g s l caller at e s'
+    → (s.errand caller).point ≡ Block (block.StoreAnchor at) o → e.point ≡ Block (block.InstallSuperblock at) o
+    → e.turns ≡ (s.errand caller).turns → (s.errand caller).lost ≤ e.lost → e.cleared ≡ (s.errand caller).cleared
     → IsSoundWith g s l → IsTurned g s' l
-anchored-turned g s l who at e s' o h before after turns lost cleared old =
+anchored-turned g s l caller at e s' o h before after turns lost cleared old =
     let turned = old.turned in
-    let p = making-weighs (s.errand who) (block.StoreAnchor at) o before refl in
+    let p = making-weighs (s.errand caller) (block.StoreAnchor at) o before refl in
     let q = making-weighs e (block.InstallSuperblock at) o after refl in
-    let unlisted : turn_unlisted (s.errand who) ≡ 1 = ap (λ p. one_if (lacks_partial (turn_stage_of p))) before in
+    let unlisted : turn_unlisted (s.errand caller) ≡ 1 = ap (λ p. one_if (lacks_partial (turn_stage_of p))) before in
     let pops : errand_pops e ≡ 0 = ap pops_left after in
-    let events = no-event g who s.history s'.history h.history in
-    let home = anchored-home g s l who at e s' h old in
-    let one : away_of g s l at.desc ≡ 1 = omega (arith, anchored-away g s l who at e s' h at.desc, home, it-here at) in
+    let events = no-event g caller s.history s'.history h.history in
+    let home = anchored-home g s l caller at e s' h old in
+    let one : away_of g s l at.desc ≡ 1 = omega (arith, anchored-away g s l caller at e s' h at.desc, home, it-here at) in
     let out_0 : emptied_out g s l at.desc ≡ 0 = rw one refl in
-    let out_1 : emptied_out g s' l at.desc ≡ 0 = rw (home, anchored-here g s l who at e s' h) refl in
+    let out_1 : emptied_out g s' l at.desc ≡ 0 = rw (home, anchored-here g s l caller at e s' h) refl in
     let emptied_same =
     emptied-kept g s l s' l
     (of-each (λ k. emptied_out g s' l k ≡ emptied_out g s l k) at.desc (out_1 ∙ sym out_0)
     (λ d differ.
-    let away : away_of g s' l d ≡ away_of g s l d = omega (arith, anchored-away g s l who at e s' h d, it-elsewhere at d differ) in
-    rw (away, anchored-anchor g s l who at e s' h d differ) refl)) in
-    turned-after g s l who e s' l 0 0
+    let away : away_of g s' l d ≡ away_of g s l d = omega (arith, anchored-away g s l caller at e s' h d, it-elsewhere at d differ) in
+    rw (away, anchored-anchor g s l caller at e s' h d differ) refl)) in
+    turned-after g s l caller e s' l 0 0
     (record {
-      caller = h.caller;
+      in_heap = h.in_heap;
       moves = h.moves;
       events = events;
-      own_turns = omega (arith, turned.own_turns who h.caller, events.gives, p.under_way, q.under_way, turns);
+      own_turns = omega (arith, turned.own_turns caller h.in_heap, events.gives, p.under_way, q.under_way, turns);
       own_lost =
-          omega (arith, turned.own_lost who h.caller, events.gives, events.refuses who, p.unanswered, q.discards, q.unanswered, turns, lost);
+          omega (arith, turned.own_lost caller h.in_heap, events.gives, events.refuses caller, p.unanswered, q.discards, q.unanswered, turns, lost);
       anchor_tags = λ d has.
           of-each (λ k. (anchor_for s' k).tag ≤ (anchor_for s k).tag + 0) at.desc
-          (omega (arith, ap (λ a. a.tag) (anchored-here g s l who at e s' h)))
-          (λ d differ. omega (arith, ap (λ a. a.tag) (anchored-anchor g s l who at e s' h d differ))) d;
+          (omega (arith, ap (λ a. a.tag) (anchored-here g s l caller at e s' h)))
+          (λ d differ. omega (arith, ap (λ a. a.tag) (anchored-anchor g s l caller at e s' h d differ))) d;
       frame_turns = omega (arith, head-tag (h.writes.elsewhere name.FrameHead (λ is. cc)), q.unframed, turns);
       emptied = omega (arith, emptied_same, cleared);
       list_turns = λ class has.
@@ -100,23 +100,23 @@ no-block-there (Some b) none = absurd (none b refl)
 
 -- the anchor of a new superblock
 pub store_anchor-sound :
-    (g : Geometry) (s : State) (who : ℕ) (s' : State) (site : Site) (o : Onward) → IsSoundWithoutCounts g s → who < g.callers
-    → (s.errand who).point ≡ Block (block.StoreAnchor site) o → Step s who s' → IsSoundWithoutCounts g s'
+    (g : Geometry) (s : State) (caller : ℕ) (s' : State) (site : Site) (o : Continuation) → IsSoundWithoutCounts g s → caller < g.callers
+    → (s.errand caller).point ≡ Block (block.StoreAnchor site) o → Step s caller s' → IsSoundWithoutCounts g s'
 unfolding plan_point_of next_of event_of holds_of recalls_of
-store_anchor-sound g s who s' site o sound has at step =
+store_anchor-sound g s caller s' site o sound has at step =
     let p = Block (block.StoreAnchor site) o in
     let q = Block (block.InstallSuperblock site) o in
     let c = site.seat.class in
     let l = sound.parts.0 in
     let old = sound.parts.1 in
     let x = found_from s p in
-    let e = at_point (s.errand who) x q in
-    let fit : IsSiteOf g who site = (fits-at g s l who p old has at).point in
-    let effects : StepEffects g s who p x q s' = step-effects g s l who s' p x q old has at refl (inl refl) step in
+    let e = at_point (s.errand caller) x q in
+    let fit : IsSiteOf g caller site = (fits-at g s l caller p old has at).point in
+    let effects : StepEffects g s caller p x q s' = step-effects g s l caller s' p x q old has at refl (inl refl) step in
     let past : s'.history ≡ s.history = effects.history in
     let w : Writes s.word (name.Anchor site.desc) (anchor_word (new_anchor c)) s'.word = effects.writes in
-    let h : Anchors g s l who site e s' = record {
-      caller = has;
+    let h : Anchors g s l caller site e s' = record {
+      in_heap = has;
       moves = effects.moves;
       site = fit;
       writes = w;
@@ -125,14 +125,14 @@ store_anchor-sound g s who s' site o sound has at step =
       holds_before = ap holds_of at;
       holds_after = refl;
     } in
-    let so = so-at g s l who p old has at in
+    let so = so-at g s l caller p old has at in
     let said : s.word (name.Info site.desc) ≡ info_word (info_at site) =
-    (All-head (IsSo g s l who) (says (name.Info site.desc) (info_word (info_at site))) (made site.frame c (block_count_of c) ∷ []) so).1 in
+    (All-head (IsSo g s l caller) (says (name.Info site.desc) (info_word (info_at site))) (made site.frame c (block_count_of c) ∷ []) so).1 in
     let links_made : AreMade s site.frame c (block_count_of c) =
-    All-head (IsSo g s l who) (made site.frame c (block_count_of c)) []
-    (All-rest (IsSo g s l who) (says (name.Info site.desc) (info_word (info_at site))) (made site.frame c (block_count_of c) ∷ []) so) in
+    All-head (IsSo g s l caller) (made site.frame c (block_count_of c)) []
+    (All-rest (IsSo g s l caller) (says (name.Info site.desc) (info_word (info_at site))) (made site.frame c (block_count_of c) ∷ []) so) in
     let back : info_of (s.word (name.Info site.desc)) ≡ Some (info_at site) =
-    ap info_of said ∙ info-exact.back (info_at site) (site-info g who site sound.checked fit) in
+    ap info_of said ∙ info-exact.back (info_at site) (site-info g caller site sound.checked fit) in
     let lies : IsLocated s site.desc site.frame c = record {
       frame = ap (λ i. (info_or_zero i).frame) back;
       class = ap (λ i. (info_or_zero i).class) back;
@@ -141,8 +141,8 @@ store_anchor-sound g s who s' site o sound has at step =
     λ i lt.
     no-block-there (block_at (block_place site.frame c i) (pool_of s.history))
     (λ b live.
-    live-unmade g s l who site.frame (block_place site.frame c i) b b.need sound old has fit.frame
-    (is-making s who p site at refl) live refl (frame_of-block_place site.frame c i lt)) in
+    live-unmade g s l caller site.frame (block_place site.frame c i) b b.need sound old has fit.frame
+    (is-making s caller p site at refl) live refl (frame_of-block_place site.frame c i lt)) in
     record {
       checked = sound.checked;
       legal = subst (IsLegalWithoutCounts g) (sym past) sound.legal;
@@ -152,19 +152,19 @@ store_anchor-sound g s who s' site o sound has at step =
           words =
               words-below s.word (name.Anchor site.desc) (anchor_word (new_anchor c)) s'.word w old.words
               (anchor_word-below (new_anchor c) (new_anchor-fits c));
-          errands = each-caller g (IsOwnErrand g) s.errand who e s'.errand effects.moves effects.rule old.errands;
-          listed = anchored-listed g s l who site e s' h old;
-          kept = anchored-kept g s l who site e s' h old lies;
-          chained = anchored-chained g s l who site e s' h old lies links_made unlive;
-          framed = anchored-framed g s l who site e s' h old;
-          remembered = anchored-remembered g s l who site e s' h old lies refl;
-          guarded = anchored-guarded g s l who site e s' o h refl old;
-          stocked = anchored-stocked g s l who site e s' o h at refl old;
+          errands = each-caller g (IsOwnErrand g) s.errand caller e s'.errand effects.moves effects.rule old.errands;
+          listed = anchored-listed g s l caller site e s' h old;
+          kept = anchored-kept g s l caller site e s' h old lies;
+          chained = anchored-chained g s l caller site e s' h old lies links_made unlive;
+          framed = anchored-framed g s l caller site e s' h old;
+          remembered = anchored-remembered g s l caller site e s' h old lies refl;
+          guarded = anchored-guarded g s l caller site e s' o h refl old;
+          stocked = anchored-stocked g s l caller site e s' o h at refl old;
           turned =
-              anchored-turned g s l who site e s' o h at refl refl
-              (raised-least (counts_lost (s.errand who).point x) (s.errand who).lost (old.errands who has).lost)
+              anchored-turned g s l caller site e s' o h at refl refl
+              (raised-least (counts_lost (s.errand caller).point x) (s.errand caller).lost (old.errands caller has).lost)
               effects.cleared old;
-          tied = anchored-tied g s l who site e s' h old;
+          tied = anchored-tied g s l caller site e s' h old;
         },
       );
     }

@@ -28,7 +28,7 @@ use Rattle.stack_parts.specs.declared.point.StackPoint.{StackPoint}
 use Rattle.hazard_parts.specs.declared.point.DescPoint.{DescPoint}
 use Rattle.partial_parts.specs.declared.point.PartialPoint.{PartialPoint}
 use Rattle.large_parts.specs.declared.point.LargePoint.{LargePoint}
-use Rattle.errand_steps.specs.declared.onward.Onward.{Onward}
+use Rattle.errand_steps.specs.declared.continuation.Continuation.{Continuation}
 use Rattle.errand_steps.specs.declared.point.Point.{Point}
 use Rattle.errand_steps.specs.declared.point.Point.TheVariants as point
 use Rattle.errand_steps.specs.Steps.{State}
@@ -66,13 +66,13 @@ module _ (g : Geometry) (s : State) (l : Lists) (i d : ℕ) (free : IsTrue (is_b
   unbound-block p so = grind (arith)
 
   -- outside of a superblock nothing is reserved
-  none-stack : (p : StackPoint) (o : Onward) → reserved_among d (stack_holds p o).credits ≡ 0
+  none-stack : (p : StackPoint) (o : Continuation) → reserved_among d (stack_holds p o).credits ≡ 0
   none-stack p o = grind (arith)
 
-  none-desc : (p : DescPoint) (o : Onward) → reserved_among d (desc_holds p o).credits ≡ 0
+  none-desc : (p : DescPoint) (o : Continuation) → reserved_among d (desc_holds p o).credits ≡ 0
   none-desc p o = grind (arith)
 
-  none-partial : (p : PartialPoint) (o : Onward) → reserved_among d (partial_holds p o).credits ≡ 0
+  none-partial : (p : PartialPoint) (o : Continuation) → reserved_among d (partial_holds p o).credits ≡ 0
   none-partial p o = grind (arith)
 
   none-large : (p : LargePoint) → reserved_among d (large_holds p).credits ≡ 0

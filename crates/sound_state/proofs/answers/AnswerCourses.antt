@@ -6,8 +6,8 @@ use Rattle.word_plan.specs.Seats.{SeatFields}
 use Rattle.hazard_parts.specs.declared.point.DescPoint.TheVariants as desc
 use Rattle.errand_steps.specs.declared.next.Next.{Next}
 use Rattle.errand_steps.specs.declared.next.Next.TheVariants.{At, End, Turn, Retire, Pick, Unlist}
-use Rattle.errand_steps.specs.declared.onward.Onward.{Onward}
-use Rattle.errand_steps.specs.declared.onward.Onward.TheVariants as onward
+use Rattle.errand_steps.specs.declared.continuation.Continuation.{Continuation}
+use Rattle.errand_steps.specs.declared.continuation.Continuation.TheVariants as continuation
 use Rattle.errand_steps.specs.declared.point.Point.TheVariants.{Desc}
 use Rattle.errand_steps.specs.declared.reply.Progress.TheVariants.{Done}
 use Rattle.errand_steps.specs.declared.reply.Reply.{Reply}
@@ -29,10 +29,10 @@ told-end (Pick s held o) lost cleared r e = absurd (going-undone lost cleared r 
 told-end (Unlist s d o) lost cleared r e = absurd (going-undone lost cleared r e)
 
 -- a call that is resumed behind a retirement: its answer, if it ends there
-abbrev pub IsResumed : ErrandFields → Onward → Reply → Type 0
-IsResumed e (onward.Turn words) r = (is_spent e ≡ true) × (r ≡ reply.Spent)
-IsResumed e (onward.Look words) r = ⊥
-IsResumed e onward.Refuse r = r ≡ reply.Refused
+abbrev pub IsResumed : ErrandFields → Continuation → Reply → Type 0
+IsResumed e (continuation.Turn words) r = (is_spent e ≡ true) × (r ≡ reply.Spent)
+IsResumed e (continuation.Look words) r = ⊥
+IsResumed e continuation.Refuse r = r ≡ reply.Refused
 IsResumed e o r = r ≡ reply.Freed
 
 turned-end : (e : ErrandFields) (s : SeatFields) (words : ℕ) (r : Reply) → turned e s words ≡ End r → (is_spent e ≡ true) × (r ≡ reply.Spent)
@@ -41,10 +41,10 @@ turned-end e s words r is = grind (arith, is)
 end-same : (q r : Reply) → End q ≡ End r → r ≡ q
 end-same q r is = cc
 
-resumed-end : (e : ErrandFields) (s : SeatFields) (o : Onward) (r : Reply) → after_turn e (resumed s o) ≡ End r → IsResumed e o r
-resumed-end e s (onward.Turn words) r is = turned-end e s words r is
-resumed-end e s (onward.Look words) r is = cc
-resumed-end e s onward.Refuse r is = end-same reply.Refused r is
+resumed-end : (e : ErrandFields) (s : SeatFields) (o : Continuation) (r : Reply) → after_turn e (resumed s o) ≡ End r → IsResumed e o r
+resumed-end e s (continuation.Turn words) r is = turned-end e s words r is
+resumed-end e s (continuation.Look words) r is = cc
+resumed-end e s continuation.Refuse r is = end-same reply.Refused r is
 resumed-end e s o r is = grind (arith, is)
 
 -- where the call ends, by what follows the step
@@ -56,7 +56,7 @@ EndsBy e (Retire s d o) r = IsResumed e o r
 EndsBy e (Pick s held o) r = ⊥
 EndsBy e (Unlist s d o) r = IsResumed e o r
 
-retired-end : (e : ErrandFields) (s : SeatFields) (d : ℕ) (o : Onward) (r : Reply) → after_turn e (after_list e (Retire s d o)) ≡ End r → IsResumed e o r
+retired-end : (e : ErrandFields) (s : SeatFields) (d : ℕ) (o : Continuation) (r : Reply) → after_turn e (after_list e (Retire s d o)) ≡ End r → IsResumed e o r
 retired-end e s d o r is =
     let T : Next → Type 0 = λ n. after_turn e n ≡ End r in
     elim (cases_Bool (is_full e)) [
@@ -67,7 +67,7 @@ retired-end e s d o r is =
           let there : after_list e (Retire s d o) ≡ resumed s o = rw room refl in resumed-end e s o r (subst T there is)
     ]
 
-picked-end : (e : ErrandFields) (s : SeatFields) (o : Onward) (x : Option ℕ) (r : Reply) → after_turn e (picked e s o x) ≡ End r → ⊥
+picked-end : (e : ErrandFields) (s : SeatFields) (o : Continuation) (x : Option ℕ) (r : Reply) → after_turn e (picked e s o x) ≡ End r → ⊥
 picked-end e s o None r is = cc
 picked-end e s o (Some d) r is = cc
 

@@ -22,13 +22,13 @@ use Rattle.partial_parts.specs.Points.{settle_partial_of}
 use Rattle.large_parts.specs.declared.point.LargePoint.{LargePoint}
 use Rattle.large_parts.specs.Points.{after_take, after_run_prefix, after_shelf}
 use Rattle.large_parts.specs.Runs.{WantFields, RunFields}
-use Rattle.errand_steps.specs.declared.onward.Onward.{Onward}
-use Rattle.errand_steps.specs.declared.onward.Onward.TheVariants as onward
+use Rattle.errand_steps.specs.declared.continuation.Continuation.{Continuation}
+use Rattle.errand_steps.specs.declared.continuation.Continuation.TheVariants as continuation
 use Rattle.errand_steps.specs.declared.reply.Reply.{Reply}
 use Rattle.errand_steps.specs.declared.reply.Reply.TheVariants as reply
 use Rattle.errand_steps.specs.Errands.{ErrandFields}
 use Rattle.errand_steps.specs.Nexts.{enter_block, enter_stack, enter_desc, enter_partial, enter_large}
-use Rattle.errand_steps.specs.Onwards.{goes_partial, has_left_block, has_left_stack, has_left_desc, has_left_partial}
+use Rattle.errand_steps.specs.Continuations.{goes_partial, has_left_block, has_left_stack, has_left_desc, has_left_partial}
 use Rattle.sound_state.proofs.answers.AnswerCourses.{IsResumed, EndsBy}
 
 -- in a superblock: a block is given, or a free ends
@@ -37,62 +37,62 @@ BlockEnd (block.StorePrefix at i) r = r ≡ reply.Given (block_place at.frame at
 BlockEnd p r = r ≡ reply.Freed
 
 pub block-ends :
-    (e : ErrandFields) (p : BlockPoint) (o : Onward) (x : Found) (r : Reply) → has_left_block p ≡ false
+    (e : ErrandFields) (p : BlockPoint) (o : Continuation) (x : Found) (r : Reply) → has_left_block p ≡ false
     → EndsBy e (enter_block (settle_block_of p x) o) r → BlockEnd p r
 block-ends e p o x r inside ends = grind (arith, inside, ends)
 
 -- at a stack: a call ends, or is resumed, where nothing has to be read again
-abbrev pub StackEnd : ErrandFields → StackPoint → Onward → Found → Reply → Type 0
-StackEnd e (stack.ConfirmEmpty s pile h) (onward.TakeFrame words d) x r = (x.won ≡ true) × (r ≡ reply.Refused)
+abbrev pub StackEnd : ErrandFields → StackPoint → Continuation → Found → Reply → Type 0
+StackEnd e (stack.ConfirmEmpty s pile h) (continuation.TakeFrame words d) x r = (x.won ≡ true) × (r ≡ reply.Refused)
 StackEnd e (stack.ConfirmEmpty s pile h) o x r = ⊥
-StackEnd e (stack.PushTop s pile i h) (onward.Discard words d) x r = IsResumed e (onward.Turn words) r
+StackEnd e (stack.PushTop s pile i h) (continuation.Discard words d) x r = IsResumed e (continuation.Turn words) r
 StackEnd e p o x r = r ≡ reply.Freed
 
 pub stack-ends :
-    (e : ErrandFields) (p : StackPoint) (o : Onward) (x : Found) (r : Reply) → has_left_stack p ≡ false
+    (e : ErrandFields) (p : StackPoint) (o : Continuation) (x : Found) (r : Reply) → has_left_stack p ≡ false
     → EndsBy e (enter_stack (settle_stack_of p x) o) r → StackEnd e p o x r
 stack-ends e p o x r inside ends = grind (arith, inside, ends)
 
 -- at the descriptors or the hazard words: behind the push of a retired descriptor, or at the end of a free
-abbrev pub DescEnd : ErrandFields → DescPoint → Onward → Found → Reply → Type 0
+abbrev pub DescEnd : ErrandFields → DescPoint → Continuation → Found → Reply → Type 0
 DescEnd e (desc.PushDesc s d top) o x r = (x.won ≡ true) × IsResumed e o r
 DescEnd e p o x r = r ≡ reply.Freed
 
 pub desc-ends :
-    (e : ErrandFields) (p : DescPoint) (o : Onward) (x : Found) (r : Reply) → has_left_desc p ≡ false
+    (e : ErrandFields) (p : DescPoint) (o : Continuation) (x : Found) (r : Reply) → has_left_desc p ≡ false
     → EndsBy e (enter_desc (settle_desc_of p x) o) r → DescEnd e p o x r
 desc-ends e p o x r inside ends = grind (arith, inside, ends)
 
 -- at a partial superblock only a free ends
 pub partial-ends :
-    (e : ErrandFields) (p : PartialPoint) (o : Onward) (x : Found) (r : Reply) → has_left_partial p ≡ false → IsTrue (goes_partial p o)
+    (e : ErrandFields) (p : PartialPoint) (o : Continuation) (x : Found) (r : Reply) → has_left_partial p ≡ false → IsTrue (goes_partial p o)
     → EndsBy e (enter_partial (settle_partial_of p x) o) r → r ≡ reply.Freed
 partial-ends e p o x r inside goes ends = grind (arith, inside, goes, ends)
 
 -- at a large block, a usable word or a shelf: an exchange is won or lost
 pub either-ends :
-    (e : ErrandFields) (won : Bool) (p q : LargePoint) (o : Onward) (r : Reply) → EndsBy e (enter_large (if won then p else q) o) r
+    (e : ErrandFields) (won : Bool) (p q : LargePoint) (o : Continuation) (r : Reply) → EndsBy e (enter_large (if won then p else q) o) r
     → ((won ≡ true) × EndsBy e (enter_large p o) r) ⊎ ((won ≡ false) × EndsBy e (enter_large q o) r)
 either-ends e true p q o r ends = inl (refl, ends)
 either-ends e false p q o r ends = inr (refl, ends)
 
 -- no run is free
 pub take-ends :
-    (e : ErrandFields) (w : WantFields) (o : Onward) (first : Option ℕ) (r : Reply) → EndsBy e (enter_large (after_take w first) o) r
+    (e : ErrandFields) (w : WantFields) (o : Continuation) (first : Option ℕ) (r : Reply) → EndsBy e (enter_large (after_take w first) o) r
     → (first ≡ None) × (r ≡ reply.Refused)
 take-ends e w o None r ends = (refl, ends)
 take-ends e w o (Some first) r ends = absurd ends
 
 -- a load never ends a call
 pub prefix-goes-on :
-    (e : ErrandFields) (place : ℕ) (run : RunFields) (o : Onward) (word : Option Prefix) (r : Reply)
+    (e : ErrandFields) (place : ℕ) (run : RunFields) (o : Continuation) (word : Option Prefix) (r : Reply)
     → EndsBy e (enter_large (after_run_prefix place run word) o) r → ⊥
 prefix-goes-on e place run o None r ends = ends
 prefix-goes-on e place run o (Some (prefix.Small d)) r ends = ends
 prefix-goes-on e place run o (Some (prefix.Large units)) r ends = ends
 
 pub shelf-goes-on :
-    (e : ErrandFields) (k : ℕ) (o : Onward) (word : Option ShelfWord) (r : Reply) → EndsBy e (enter_large (after_shelf k word) o) r → ⊥
+    (e : ErrandFields) (k : ℕ) (o : Continuation) (word : Option ShelfWord) (r : Reply) → EndsBy e (enter_large (after_shelf k word) o) r → ⊥
 shelf-goes-on e k o None r ends = ends
 shelf-goes-on e k o (Some lies.Nothing) r ends = ends
 shelf-goes-on e k o (Some (lies.Block place n)) r ends = ends

@@ -25,18 +25,18 @@ use Rattle.pool_model.specs.WellFormed.{IsPlaceFor, IsWellFormed}
 use Rattle.pool_model.proofs.HistoryLemmas.{EachAfter-last}
 use Rattle.pool_model.proofs.PoolLemmas.{every-each, place-found}
 use Rattle.pool_model.proofs.WellFormedLemmas.{found-itself, sound-differ, sound-of}
-use Rattle.errand_steps.specs.declared.onward.Onward.{Onward}
-use Rattle.errand_steps.specs.declared.onward.Onward.TheVariants as onward
+use Rattle.errand_steps.specs.declared.continuation.Continuation.{Continuation}
+use Rattle.errand_steps.specs.declared.continuation.Continuation.TheVariants as continuation
 use Rattle.errand_steps.specs.declared.point.Point.{Point}
 use Rattle.errand_steps.specs.declared.point.Point.TheVariants.{Large}
 use Rattle.errand_steps.specs.declared.reply.Reply.{Reply}
 use Rattle.errand_steps.specs.declared.reply.Reply.TheVariants as reply
 use Rattle.errand_steps.specs.Events.{event_of, run_event}
 use Rattle.errand_steps.specs.Nexts.{next_of}
-use Rattle.errand_steps.specs.Onwards.{IsRunFor}
+use Rattle.errand_steps.specs.Continuations.{IsRunFor}
 use Rattle.errand_steps.specs.Points.{plan_point_of, asked as asked_by}
 use Rattle.errand_steps.specs.Steps.{State, Step, event_at, with_event}
-use Rattle.sound_state.specs.Answers.{onward_at, ShelfHolds, ShelfIsEmpty, IsFreed, IsMeant, Takes}
+use Rattle.sound_state.specs.Answers.{continuation_at, ShelfHolds, ShelfIsEmpty, IsFreed, IsMeant, Takes}
 use Rattle.sound_state.specs.Holdings.{holds_of}
 use Rattle.sound_state.specs.Recalls.{IsOwned, owns, owns_all, recalls_of}
 use Rattle.sound_state.specs.Sound.{IsSoundWithoutCounts}
@@ -52,23 +52,23 @@ use Rattle.sound_state.proofs.shared.StepLemmas.{found_from}
 use Rattle.sound_state.proofs.shared.WordFacts.{payload-uncut}
 
 -- who allocates a run asks for words that as many units serve
-run-for-alloc : (units : ℕ) (o : Onward) → IsRunFor units o → (words : ℕ) × (o ≡ onward.Alloc words) × (need_of words ≡ need.Large units)
-run-for-alloc units (onward.Alloc words) goes = (words, refl, goes)
+run-for-alloc : (units : ℕ) (o : Continuation) → IsRunFor units o → (words : ℕ) × (o ≡ continuation.Alloc words) × (need_of words ≡ need.Large units)
+run-for-alloc units (continuation.Alloc words) goes = (words, refl, goes)
 run-for-alloc units o goes = absurd goes
 
 -- a caller makes a step
 module _
-    (g : Geometry) (s : State) (who : ℕ) (after : State) (sound : IsSoundWithoutCounts g s) (has : who < g.callers)
-    (step : Step s who after) where
+    (g : Geometry) (s : State) (caller : ℕ) (after : State) (sound : IsSoundWithoutCounts g s) (has : caller < g.callers)
+    (step : Step s caller after) where
   -- it tells what its point says, and where that is nothing the events stay
   pub event-told :
-      (p : Point) (e : Option Event) → (s.errand who).point ≡ p → event_of who p (found_from s p) ≡ e → event_at s who ≡ e
-  event-told p e at told = subst (λ q. event_of who q (found_from s q) ≡ e) (sym at) told
+      (p : Point) (e : Option Event) → (s.errand caller).point ≡ p → event_of caller p (found_from s p) ≡ e → event_at s caller ≡ e
+  event-told p e at told = subst (λ q. event_of caller q (found_from s q) ≡ e) (sym at) told
 
-  pub past-stays : (p : Point) → (s.errand who).point ≡ p → event_of who p (found_from s p) ≡ None → after.history ≡ s.history
+  pub past-stays : (p : Point) → (s.errand caller).point ≡ p → event_of caller p (found_from s p) ≡ None → after.history ≡ s.history
   past-stays p at none = step.history ∙ ap (with_event s.history) (event-told p None at none)
 
-  pub owned-after : after.history ≡ s.history → (place : ℕ) (n : Need) → IsOwned s who place n → IsOwned after who place n
+  pub owned-after : after.history ≡ s.history → (place : ℕ) (n : Need) → IsOwned s caller place n → IsOwned after caller place n
   owned-after same place n mine = record {
     block = (mine.block.0, ap (λ h. block_at place (pool_of h)) same ∙ mine.block.1, mine.block.2, mine.block.3);
   }
@@ -92,52 +92,52 @@ module _
   empty-stays same k word h = (subst (λ past. IsEmptyShelf (pool_of past) k) (sym same) h.0, h.1)
 
   -- a large block that is freed
-  pub freed-meant : IsFreed s who
+  pub freed-meant : IsFreed s caller
   unfolding plan_point_of event_of
-  freed-meant place run at = event-told (Large (large.FreeRun place run) at.0) (Some (Free who place)) at.1 refl
+  freed-meant place run at = event-told (Large (large.FreeRun place run) at.0) (Some (Free caller place)) at.1 refl
 
   -- a run that is given
   run-meant :
-      (place : ℕ) (run : RunFields) (o : Onward) → (s.errand who).point ≡ Large (large.StoreRunPrefix place run) o
-      → IsMeant g s who (reply.Given place (need.Large run.units)) after
+      (place : ℕ) (run : RunFields) (o : Continuation) → (s.errand caller).point ≡ Large (large.StoreRunPrefix place run) o
+      → IsMeant g s caller (reply.Given place (need.Large run.units)) after
   unfolding plan_point_of event_of holds_of
   run-meant place run o at =
       let p = Large (large.StoreRunPrefix place run) o in
-      let asked = run-for-alloc run.units o (fits-now g s who p sound has at).goes in
-      let mine : IsOwned s who place (need.Large run.units) =
-      hands-at g s sound.parts.0 who p sound.parts.1 has at 0 (record { place = place; need = need.Large run.units }) (omega arith) in
+      let asked = run-for-alloc run.units o (fits-now g s caller p sound has at).goes in
+      let mine : IsOwned s caller place (need.Large run.units) =
+      hands-at g s sound.parts.0 caller p sound.parts.1 has at 0 (record { place = place; need = need.Large run.units }) (omega arith) in
       let same = past-stays p at refl in
-      (asked.0, ap onward_at at ∙ asked.1, asked.2, owned-after same place (need.Large run.units) mine)
+      (asked.0, ap continuation_at at ∙ asked.1, asked.2, owned-after same place (need.Large run.units) mine)
 
   -- no run is free
   no_run-meant :
-      (w : WantFields) (bits : ℕ) (o : Onward) → (s.errand who).point ≡ Large (large.TakeRun w bits) o → (s.word name.Units == bits) ≡ true
-      → first_wanted w bits ≡ None → IsMeant g s who reply.Refused after
+      (w : WantFields) (bits : ℕ) (o : Continuation) → (s.errand caller).point ≡ Large (large.TakeRun w bits) o → (s.word name.Units == bits) ≡ true
+      → first_wanted w bits ≡ None → IsMeant g s caller reply.Refused after
   unfolding plan_point_of event_of
   no_run-meant w bits o at won none =
       let p = Large (large.TakeRun w bits) o in
-      let asked = run-for-alloc w.units o (fits-now g s who p sound has at).goes in
-      let refused : event_at s who ≡ Some (Refuse who asked.0) =
-      event-told p (Some (Refuse who asked.0)) at
+      let asked = run-for-alloc w.units o (fits-now g s caller p sound has at).goes in
+      let refused : event_at s caller ≡ Some (Refuse caller asked.0) =
+      event-told p (Some (Refuse caller asked.0)) at
       (rw won
-      (subst (λ f. Some (run_event who (asked_by o) w f) ≡ Some (Refuse who asked.0)) (sym none) (ap (λ q. Some (Refuse who (asked_by q))) asked.1))) in
-      inr (asked.0, w.units, ap onward_at at ∙ asked.1, asked.2, refused)
+      (subst (λ f. Some (run_event caller (asked_by o) w f) ≡ Some (Refuse caller asked.0)) (sym none) (ap (λ q. Some (Refuse caller (asked_by q))) asked.1))) in
+      inr (asked.0, w.units, ap continuation_at at ∙ asked.1, asked.2, refused)
 
   -- a word that is read
   read-meant :
-      (place i : ℕ) (o : Onward) → (s.errand who).point ≡ Large (large.LoadWord place i) o
-      → IsMeant g s who (reply.Word (found_from s (Large (large.LoadWord place i) o)).value) after
+      (place i : ℕ) (o : Continuation) → (s.errand caller).point ≡ Large (large.LoadWord place i) o
+      → IsMeant g s caller (reply.Word (found_from s (Large (large.LoadWord place i) o)).value) after
   unfolding plan_point_of event_of recalls_of
   read-meant place i o at =
       let p = Large (large.LoadWord place i) o in
-      let fits = fits-now g s who p sound has at in
-      let mine = so-at g s sound.parts.0 who p sound.parts.1 has at 0 (owns place i) (omega arith) in
+      let fits = fits-now g s caller p sound has at in
+      let mine = so-at g s sound.parts.0 caller p sound.parts.1 has at 0 (owns place i) (omega arith) in
       let same = past-stays p at refl in
       let owned = owned-after same place mine.0 mine.1 in
       let b = owned.block.0 in
       let uncut : payload_name place i ≡ name.Arena (place + 1 + i) = ap name.Arena (payload-uncut g place i sound.checked fits.point) in
       let here : after.word (name.Arena (place + 1 + i)) ≡ s.word (payload_name place i) =
-      ap after.word (sym uncut) ∙ (written-at s who after p at step).here in
+      ap after.word (sym uncut) ∙ (written-at s caller after p at step).here in
       let live : IsLive s place b = ap (λ past. block_at place (pool_of past)) (sym same) ∙ owned.block.1 in (
         place,
         i,
@@ -152,14 +152,14 @@ module _
 
   -- a put that finds the shelf full
   full-meant :
-      (k place : ℕ) (n : Need) (o : Onward) → (s.errand who).point ≡ Large (large.PutBlock k place n) o
-      → (s.word (name.Shelf k) == shelf_word lies.Nothing) ≡ false → IsMeant g s who (reply.Full (s.word (name.Shelf k))) after
+      (k place : ℕ) (n : Need) (o : Continuation) → (s.errand caller).point ≡ Large (large.PutBlock k place n) o
+      → (s.word (name.Shelf k) == shelf_word lies.Nothing) ≡ false → IsMeant g s caller (reply.Full (s.word (name.Shelf k))) after
   unfolding plan_point_of event_of recalls_of
   full-meant k place n o at lost =
       let p = Large (large.PutBlock k place n) o in
-      let fits = fits-now g s who p sound has at in
+      let fits = fits-now g s caller p sound has at in
       let same = past-stays p at (rw lost refl) in
-      let mine : IsOwned s who place n = so-at g s sound.parts.0 who p sound.parts.1 has at 0 (owns_all place n) (omega arith) in
+      let mine : IsOwned s caller place n = so-at g s sound.parts.0 caller p sound.parts.1 has at 0 (owns_all place n) (omega arith) in
       elim (shelf-says k fits.point.shelf) [
         | inl holds ↦ (k, place, n, (o, at), owned-after same place n mine, holds-stays same k (s.word (name.Shelf k)) holds)
         | inr empty ↦ absurd (eqb-false (s.word (name.Shelf k)) (shelf_word lies.Nothing) lost empty.1)
@@ -167,19 +167,19 @@ module _
 
   -- a block that is taken
   got-meant :
-      (k place : ℕ) (n : Need) (o : Onward) → (s.errand who).point ≡ Large (large.TakeBlock k place n) o
-      → (s.word (name.Shelf k) == shelf_word (lies.Block place n)) ≡ true → IsMeant g s who (reply.Got place n) after
+      (k place : ℕ) (n : Need) (o : Continuation) → (s.errand caller).point ≡ Large (large.TakeBlock k place n) o
+      → (s.word (name.Shelf k) == shelf_word (lies.Block place n)) ≡ true → IsMeant g s caller (reply.Got place n) after
   unfolding plan_point_of event_of
   got-meant k place n o at won =
       let p = Large (large.TakeBlock k place n) o in
       let old = sound.parts.1 in
-      let fit = fits-now g s who p sound has at in
+      let fit = fits-now g s caller p sound has at in
       let there : s.word (name.Shelf k) ≡ shelf_word (lies.Block place n) = eqb-true (s.word (name.Shelf k)) (shelf_word (lies.Block place n)) won in
-      let taken : event_at s who ≡ Some (Take who k place) = event-told p (Some (Take who k place)) at (rw won refl) in
-      let grown : after.history ≡ s.history ++ Take who k place ∷ [] = step.history ∙ ap (with_event s.history) taken in
+      let taken : event_at s caller ≡ Some (Take caller k place) = event-told p (Some (Take caller k place)) at (rw won refl) in
+      let grown : after.history ≡ s.history ++ Take caller k place ∷ [] = step.history ∙ ap (with_event s.history) taken in
       let legal =
-      EachAfter-last (IsLegalEventWithoutCounts g) s.history (Take who k place)
-      (subst (IsLegalWithoutCounts g) grown (steps-sound g s who after sound has step).legal) in
+      EachAfter-last (IsLegalEventWithoutCounts g) s.history (Take caller k place)
+      (subst (IsLegalWithoutCounts g) grown (steps-sound g s caller after sound has step).legal) in
       let b = legal.1.0.0 in
       let live = legal.1.0.1 in
       let owner = legal.1.0.2 in
@@ -191,14 +191,14 @@ module _
       let same : lies.Block place b.need ≡ lies.Block place n =
       shelf-exact.one_word (lies.Block place b.need) (lies.Block place n) (shelf-fits g b.need place sound.checked formed.need formed_here)
       fit.point.block says in
-      let c = changes-from s after (Take who k place) place (handed_to (Caller who)) b grown refl (λ x. refl) (λ x. refl) live in
-      (k, ((o, at), taken), record { block = (handed_to (Caller who) b, c.now, refl, (cc)) })
+      let c = changes-from s after (Take caller k place) place (handed_to (Caller caller)) b grown refl (λ x. refl) (λ x. refl) live in
+      (k, ((o, at), taken), record { block = (handed_to (Caller caller) b, c.now, refl, (cc)) })
 
   -- the shelf's word is another one
   missed-meant :
-      (k saw : ℕ) (p : LargePoint) (o : Onward) → k < SHELVES → (s.errand who).point ≡ Large p o → Takes s who k saw
-      → event_of who (Large p o) (found_from s (Large p o)) ≡ None → (s.word (name.Shelf k) == saw) ≡ false
-      → IsMeant g s who (reply.Missed saw (s.word (name.Shelf k))) after
+      (k saw : ℕ) (p : LargePoint) (o : Continuation) → k < SHELVES → (s.errand caller).point ≡ Large p o → Takes s caller k saw
+      → event_of caller (Large p o) (found_from s (Large p o)) ≡ None → (s.word (name.Shelf k) == saw) ≡ false
+      → IsMeant g s caller (reply.Missed saw (s.word (name.Shelf k))) after
   missed-meant k saw p o in_heap at takes none lost =
       let same = past-stays (Large p o) at none in
       let differ : saw ≢ s.word (name.Shelf k) = λ is. eqb-false (s.word (name.Shelf k)) saw lost (sym is) in
@@ -210,16 +210,16 @@ module _
       (k, takes, differ, lying)
 
   -- the answer at each point
-  pub answered : (q r : Reply) → r ≡ q → IsMeant g s who q after → IsMeant g s who r after
-  answered q r is meant = subst (λ x. IsMeant g s who x after) (sym is) meant
+  pub answered : (q r : Reply) → r ≡ q → IsMeant g s caller q after → IsMeant g s caller r after
+  answered q r is meant = subst (λ x. IsMeant g s caller x after) (sym is) meant
 
   pub large-meant :
-      (p : LargePoint) (o : Onward) (r : Reply) → (s.errand who).point ≡ Large p o
-      → EndsBy (s.errand who) (next_of (Large p o) (found_from s (Large p o))) r → IsMeant g s who r after
+      (p : LargePoint) (o : Continuation) (r : Reply) → (s.errand caller).point ≡ Large p o
+      → EndsBy (s.errand caller) (next_of (Large p o) (found_from s (Large p o))) r → IsMeant g s caller r after
   unfolding plan_point_of next_of event_of
   large-meant (large.LoadUnits w) o r at ends = absurd ends
   large-meant (large.TakeRun w bits) o r at ends =
-      let e = s.errand who in
+      let e = s.errand caller in
       elim (either-ends e (s.word name.Units == bits) (after_take w (first_wanted w bits)) (large.LoadUnits w) o r ends) [
         | inl won ↦
             let none = take-ends e w o (first_wanted w bits) r won.1 in
@@ -228,28 +228,28 @@ module _
       ]
   large-meant (large.StoreRunPrefix place run) o r at ends =
       answered (reply.Given place (need.Large run.units)) r ends (run-meant place run o at)
-  large-meant (large.LoadRunPrefix place run) o r at ends = absurd (prefix-goes-on (s.errand who) place run o (prefix_of (s.word (name.Arena place))) r ends)
+  large-meant (large.LoadRunPrefix place run) o r at ends = absurd (prefix-goes-on (s.errand caller) place run o (prefix_of (s.word (name.Arena place))) r ends)
   large-meant (large.FreeRun place run) o r at ends = answered reply.Freed r ends freed-meant
   large-meant (large.StoreWord place i v) o r at ends =
       answered reply.Wrote r ends
-      (place, i, v, ((o, at), event-told (Large (large.StoreWord place i v) o) (Some (Write who place i v)) at refl))
+      (place, i, v, ((o, at), event-told (Large (large.StoreWord place i v) o) (Some (Write caller place i v)) at refl))
   large-meant (large.LoadWord place i) o r at ends =
       answered (reply.Word (s.word (payload_name place i))) r ends (read-meant place i o at)
   large-meant (large.PutBlock k place n) o r at ends =
       let w = s.word (name.Shelf k) in
-      elim (either-ends (s.errand who) (w == shelf_word lies.Nothing) large.PutDone (large.ShelfFull w) o r ends) [
+      elim (either-ends (s.errand caller) (w == shelf_word lies.Nothing) large.PutDone (large.ShelfFull w) o r ends) [
         | inl won ↦
             answered reply.Put r won.1
-            (place, k, n, ((o, at), event-told (Large (large.PutBlock k place n) o) (Some (Put who place k)) at (rw (won.0) refl)))
+            (place, k, n, ((o, at), event-told (Large (large.PutBlock k place n) o) (Some (Put caller place k)) at (rw (won.0) refl)))
         | inr lost ↦ answered (reply.Full w) r lost.1 (full-meant k place n o at lost.0)
       ]
-  large-meant (large.LoadShelf k) o r at ends = absurd (shelf-goes-on (s.errand who) k o (shelf_of (s.word (name.Shelf k))) r ends)
+  large-meant (large.LoadShelf k) o r at ends = absurd (shelf-goes-on (s.errand caller) k o (shelf_of (s.word (name.Shelf k))) r ends)
   large-meant (large.TakeBlock k place n) o r at ends =
       let p = large.TakeBlock k place n in
       let w = s.word (name.Shelf k) in
       let saw = shelf_word (lies.Block place n) in
-      let fits = fits-now g s who (Large p o) sound has at in
-      elim (either-ends (s.errand who) (w == saw) (large.Got place n) (large.Missed saw w) o r ends) [
+      let fits = fits-now g s caller (Large p o) sound has at in
+      elim (either-ends (s.errand caller) (w == saw) (large.Got place n) (large.Missed saw w) o r ends) [
         | inl won ↦ answered (reply.Got place n) r won.1 (got-meant k place n o at won.0)
         | inr lost ↦
             answered (reply.Missed saw w) r lost.1
@@ -259,9 +259,9 @@ module _
       let p = large.ConfirmNothing k in
       let w = s.word (name.Shelf k) in
       let saw = shelf_word lies.Nothing in
-      let fits = fits-now g s who (Large p o) sound has at in
-      elim (either-ends (s.errand who) (w == saw) large.NothingThere (large.Missed saw w) o r ends) [
-        | inl won ↦ answered reply.Empty r won.1 (k, ((o, at), event-told (Large p o) (Some (TakeNone who k)) at (rw (won.0) refl)))
+      let fits = fits-now g s caller (Large p o) sound has at in
+      elim (either-ends (s.errand caller) (w == saw) large.NothingThere (large.Missed saw w) o r ends) [
+        | inl won ↦ answered reply.Empty r won.1 (k, ((o, at), event-told (Large p o) (Some (TakeNone caller k)) at (rw (won.0) refl)))
         | inr lost ↦ answered (reply.Missed saw w) r lost.1 (missed-meant k saw p o fits.point at (inr ((o, at), refl)) (rw (lost.0) refl) lost.0)
       ]
-  large-meant p o r at ends = absurd (cc ((fits-now g s who (Large p o) sound has at).inside))
+  large-meant p o r at ends = absurd (cc ((fits-now g s caller (Large p o) sound has at).inside))

@@ -20,8 +20,8 @@ use Rattle.hazard_parts.specs.declared.point.DescPoint.TheVariants as desc
 use Rattle.pool_model.specs.declared.event.Event.TheVariants.{Refuse}
 use Rattle.pool_model.specs.Histories.{own}
 use Rattle.errand_steps.specs.declared.next.Next.{Next}
-use Rattle.errand_steps.specs.declared.onward.Onward.{Onward}
-use Rattle.errand_steps.specs.declared.onward.Onward.TheVariants as onward
+use Rattle.errand_steps.specs.declared.continuation.Continuation.{Continuation}
+use Rattle.errand_steps.specs.declared.continuation.Continuation.TheVariants as continuation
 use Rattle.errand_steps.specs.declared.point.Point.{Point}
 use Rattle.errand_steps.specs.declared.point.Point.TheVariants.{Idle, Block, Stack, Desc, Partial, Large}
 use Rattle.errand_steps.specs.declared.reply.Progress.TheVariants.{Done}
@@ -30,10 +30,10 @@ use Rattle.errand_steps.specs.declared.reply.Reply.TheVariants as reply
 use Rattle.errand_steps.specs.Errands.{ErrandFields, after_list, answer_of, begins_turn, is_spent, raised, settle_of}
 use Rattle.errand_steps.specs.Events.{event_of}
 use Rattle.errand_steps.specs.Nexts.{next_of}
-use Rattle.errand_steps.specs.Fits.{FitsOnward}
+use Rattle.errand_steps.specs.Fits.{FitsContinuation}
 use Rattle.errand_steps.specs.Points.{asked, plan_point_of}
 use Rattle.errand_steps.specs.Steps.{State, Step, found_at, with_event}
-use Rattle.sound_state.specs.Answers.{IsMeant, onward_at}
+use Rattle.sound_state.specs.Answers.{IsMeant, continuation_at}
 use Rattle.sound_state.specs.Holdings.{holds_of}
 use Rattle.sound_state.specs.Recalls.{EndsRefused, IsOwned, looked, refused, recalls_of}
 use Rattle.sound_state.specs.Sound.{IsSoundWithoutCounts}
@@ -50,136 +50,136 @@ no-turn e n spent = grind (arith, spent)
 
 -- a caller makes a step
 module _
-    (g : Geometry) (s : State) (who : ℕ) (after : State) (sound : IsSoundWithoutCounts g s) (has : who < g.callers)
-    (step : Step s who after) where
-  freed-answers : (r : Reply) → r ≡ reply.Freed → IsMeant g s who r after
-  freed-answers r is = answered g s who after sound has step reply.Freed r is (freed-meant g s who after sound has step)
+    (g : Geometry) (s : State) (caller : ℕ) (after : State) (sound : IsSoundWithoutCounts g s) (has : caller < g.callers)
+    (step : Step s caller after) where
+  freed-answers : (r : Reply) → r ≡ reply.Freed → IsMeant g s caller r after
+  freed-answers r is = answered g s caller after sound has step reply.Freed r is (freed-meant g s caller after sound has step)
 
   -- no turn is left
-  spent-meant : is_spent (s.errand who) ≡ true → IsMeant g s who reply.Spent after
+  spent-meant : is_spent (s.errand caller) ≡ true → IsMeant g s caller reply.Spent after
   unfolding settle_of
   spent-meant spent =
-      let e = s.errand who in
-      let turns : (settle_of e (found_at s who)).turns ≡ e.turns =
-      ap (λ b. raised b e.turns) (no-turn e (after_list e (next_of e.point (found_at s who))) spent) in
+      let e = s.errand caller in
+      let turns : (settle_of e (found_at s caller)).turns ≡ e.turns =
+      ap (λ b. raised b e.turns) (no-turn e (after_list e (next_of e.point (found_at s caller))) spent) in
       ap (λ (f : ErrandFields). f.turns) step.errand.here ∙ turns ∙ eqb-true e.turns e.geometry.turn_limit spent
-      ∙ ap (λ (h : Geometry). h.turn_limit) (sound.parts.1.errands who has).geometry
+      ∙ ap (λ (h : Geometry). h.turn_limit) (sound.parts.1.errands caller has).geometry
 
   -- a call that is resumed, where a refusal was told
   resumed-meant :
-      (o : Onward) (r : Reply) → IsResumed (s.errand who) o r → (o ≡ onward.Refuse → IsMeant g s who reply.Refused after)
-      → IsMeant g s who r after
-  resumed-meant (onward.Turn words) r is refuses = answered g s who after sound has step reply.Spent r is.1 (spent-meant is.0)
-  resumed-meant (onward.Look words) r is refuses = absurd is
-  resumed-meant onward.Refuse r is refuses = answered g s who after sound has step reply.Refused r is (refuses refl)
+      (o : Continuation) (r : Reply) → IsResumed (s.errand caller) o r → (o ≡ continuation.Refuse → IsMeant g s caller reply.Refused after)
+      → IsMeant g s caller r after
+  resumed-meant (continuation.Turn words) r is refuses = answered g s caller after sound has step reply.Spent r is.1 (spent-meant is.0)
+  resumed-meant (continuation.Look words) r is refuses = absurd is
+  resumed-meant continuation.Refuse r is refuses = answered g s caller after sound has step reply.Refused r is (refuses refl)
   resumed-meant o r is refuses = freed-answers r is
 
   -- a small block is given
   given-meant :
-      (at : Site) (i : ℕ) (o : Onward) → (s.errand who).point ≡ Block (block.StorePrefix at i) o
-      → IsMeant g s who (reply.Given (block_place at.frame at.seat.class i) (Small at.seat.class)) after
+      (at : Site) (i : ℕ) (o : Continuation) → (s.errand caller).point ≡ Block (block.StorePrefix at i) o
+      → IsMeant g s caller (reply.Given (block_place at.frame at.seat.class i) (Small at.seat.class)) after
   unfolding plan_point_of event_of holds_of
   given-meant site i o at =
       let p = Block (block.StorePrefix site i) o in
-      let fits = fits-now g s who p sound has at in
+      let fits = fits-now g s caller p sound has at in
       let alloc = the-alloc o fits.goes in
       let place = block_place site.frame site.seat.class i in
-      let mine : IsOwned s who place (Small site.seat.class) =
-      hands-at g s sound.parts.0 who p sound.parts.1 has at 0 (record { place = place; need = Small site.seat.class }) (omega arith) in
-      let same = past-stays g s who after sound has step p at refl in (
+      let mine : IsOwned s caller place (Small site.seat.class) =
+      hands-at g s sound.parts.0 caller p sound.parts.1 has at 0 (record { place = place; need = Small site.seat.class }) (omega arith) in
+      let same = past-stays g s caller after sound has step p at refl in (
         asked o,
-        ap onward_at at ∙ alloc,
-        subst (FitsOnward g who site.seat) alloc fits.onward,
-        owned-after g s who after sound has step same place (Small site.seat.class) mine,
+        ap continuation_at at ∙ alloc,
+        subst (FitsContinuation g caller site.seat) alloc fits.continuation,
+        owned-after g s caller after sound has step same place (Small site.seat.class) mine,
       )
 
   block-meant :
-      (p : BlockPoint) (o : Onward) (r : Reply) → (s.errand who).point ≡ Block p o
-      → EndsBy (s.errand who) (next_of (Block p o) (found_from s (Block p o))) r → IsMeant g s who r after
+      (p : BlockPoint) (o : Continuation) (r : Reply) → (s.errand caller).point ≡ Block p o
+      → EndsBy (s.errand caller) (next_of (Block p o) (found_from s (Block p o))) r → IsMeant g s caller r after
   unfolding next_of
   block-meant (block.StorePrefix at i) o r is ends =
-      answered g s who after sound has step (reply.Given (block_place at.frame at.seat.class i) (Small at.seat.class)) r ends (given-meant at i o is)
+      answered g s caller after sound has step (reply.Given (block_place at.frame at.seat.class i) (Small at.seat.class)) r ends (given-meant at i o is)
   block-meant p o r at ends =
-      let fits = fits-now g s who (Block p o) sound has at in
-      freed-answers r (block-ends (s.errand who) p o (found_from s (Block p o)) r fits.inside ends)
+      let fits = fits-now g s caller (Block p o) sound has at in
+      freed-answers r (block-ends (s.errand caller) p o (found_from s (Block p o)) r fits.inside ends)
 
   -- a small need is refused
   confirm-meant :
-      (seat : SeatFields) (pile : Pile) (h : HeadFields) (o : Onward) (r : Reply) → (s.errand who).point ≡ Stack (stack.ConfirmEmpty seat pile h) o
-      → EndsBy (s.errand who) (next_of (Stack (stack.ConfirmEmpty seat pile h) o) (found_from s (Stack (stack.ConfirmEmpty seat pile h) o))) r
-      → IsMeant g s who r after
+      (seat : SeatFields) (pile : Pile) (h : HeadFields) (o : Continuation) (r : Reply) → (s.errand caller).point ≡ Stack (stack.ConfirmEmpty seat pile h) o
+      → EndsBy (s.errand caller) (next_of (Stack (stack.ConfirmEmpty seat pile h) o) (found_from s (Stack (stack.ConfirmEmpty seat pile h) o))) r
+      → IsMeant g s caller r after
   unfolding plan_point_of next_of event_of recalls_of
-  confirm-meant seat Frames h (onward.TakeFrame words d) r at ends =
-      let p = Stack (stack.ConfirmEmpty seat Frames h) (onward.TakeFrame words d) in
-      let fits = fits-now g s who p sound has at in
-      let won = stack-ends (s.errand who) (stack.ConfirmEmpty seat Frames h) (onward.TakeFrame words d) (found_from s p) r refl ends in
-      let told = event-told g s who after sound has step p (Some (Refuse who words)) at (rw (won.0) refl) in
-      let grown : after.history ≡ s.history ++ Refuse who words ∷ [] = step.history ∙ ap (with_event s.history) told in
+  confirm-meant seat Frames h (continuation.TakeFrame words d) r at ends =
+      let p = Stack (stack.ConfirmEmpty seat Frames h) (continuation.TakeFrame words d) in
+      let fits = fits-now g s caller p sound has at in
+      let won = stack-ends (s.errand caller) (stack.ConfirmEmpty seat Frames h) (continuation.TakeFrame words d) (found_from s p) r refl ends in
+      let told = event-told g s caller after sound has step p (Some (Refuse caller words)) at (rw (won.0) refl) in
+      let grown : after.history ≡ s.history ++ Refuse caller words ∷ [] = step.history ∙ ap (with_event s.history) told in
       let ended =
-      refused-ends who s.history words seat.class fits.onward.0
-      (so-at g s sound.parts.0 who p sound.parts.1 has at 0 (looked seat.class) (omega arith)) in
-      answered g s who after sound has step reply.Refused r won.1 (inl (seat.class, subst (λ past. EndsRefused (own who past) who seat.class) (sym grown) ended))
-  confirm-meant seat Partials h (onward.Alloc words) r at ends =
+      refused-ends caller s.history words seat.class fits.continuation.0
+      (so-at g s sound.parts.0 caller p sound.parts.1 has at 0 (looked seat.class) (omega arith)) in
+      answered g s caller after sound has step reply.Refused r won.1 (inl (seat.class, subst (λ past. EndsRefused (own caller past) caller seat.class) (sym grown) ended))
+  confirm-meant seat Partials h (continuation.Alloc words) r at ends =
       let p = stack.ConfirmEmpty seat Partials h in
-      absurd (stack-ends (s.errand who) p (onward.Alloc words) (found_from s (Stack p (onward.Alloc words))) r refl ends)
+      absurd (stack-ends (s.errand caller) p (continuation.Alloc words) (found_from s (Stack p (continuation.Alloc words))) r refl ends)
   confirm-meant seat pile h o r at ends =
-      let bad : ⊥ = cc ((fits-now g s who (Stack (stack.ConfirmEmpty seat pile h) o) sound has at).goes) in absurd bad
+      let bad : ⊥ = cc ((fits-now g s caller (Stack (stack.ConfirmEmpty seat pile h) o) sound has at).goes) in absurd bad
 
   stack-meant :
-      (p : StackPoint) (o : Onward) (r : Reply) → (s.errand who).point ≡ Stack p o
-      → EndsBy (s.errand who) (next_of (Stack p o) (found_from s (Stack p o))) r → IsMeant g s who r after
+      (p : StackPoint) (o : Continuation) (r : Reply) → (s.errand caller).point ≡ Stack p o
+      → EndsBy (s.errand caller) (next_of (Stack p o) (found_from s (Stack p o))) r → IsMeant g s caller r after
   unfolding plan_point_of next_of
   stack-meant (stack.ConfirmEmpty seat pile h) o r at ends = confirm-meant seat pile h o r at ends
-  stack-meant (stack.PushTop seat pile i h) (onward.Discard words d) r at ends =
+  stack-meant (stack.PushTop seat pile i h) (continuation.Discard words d) r at ends =
       let p = stack.PushTop seat pile i h in
-      let spent = stack-ends (s.errand who) p (onward.Discard words d) (found_from s (Stack p (onward.Discard words d))) r refl ends in
-      answered g s who after sound has step reply.Spent r spent.1 (spent-meant spent.0)
+      let spent = stack-ends (s.errand caller) p (continuation.Discard words d) (found_from s (Stack p (continuation.Discard words d))) r refl ends in
+      answered g s caller after sound has step reply.Spent r spent.1 (spent-meant spent.0)
   stack-meant p o r at ends =
-      let fits = fits-now g s who (Stack p o) sound has at in
-      freed-answers r (stack-ends (s.errand who) p o (found_from s (Stack p o)) r fits.inside ends)
+      let fits = fits-now g s caller (Stack p o) sound has at in
+      freed-answers r (stack-ends (s.errand caller) p o (found_from s (Stack p o)) r fits.inside ends)
 
   -- behind the push of a retired descriptor
   push-meant :
-      (seat : SeatFields) (d top : ℕ) (o : Onward) (r : Reply) → (s.errand who).point ≡ Desc (desc.PushDesc seat d top) o
-      → (s.word name.DescHead == top) ≡ true → IsResumed (s.errand who) o r → IsMeant g s who r after
+      (seat : SeatFields) (d top : ℕ) (o : Continuation) (r : Reply) → (s.errand caller).point ≡ Desc (desc.PushDesc seat d top) o
+      → (s.word name.DescHead == top) ≡ true → IsResumed (s.errand caller) o r → IsMeant g s caller r after
   unfolding plan_point_of event_of recalls_of
   push-meant seat d top o r at won is =
       let p = Desc (desc.PushDesc seat d top) o in
-      let same = past-stays g s who after sound has step p at (rw won refl) in
+      let same = past-stays g s caller after sound has step p at (rw won refl) in
       resumed-meant o r is
       (λ refuses.
-      let q = Desc (desc.PushDesc seat d top) onward.Refuse in
-      let so : EndsRefused (own who s.history) who seat.class =
-      so-at g s sound.parts.0 who q sound.parts.1 has (at ∙ ap (λ z. Desc (desc.PushDesc seat d top) z) refuses) 1 (refused seat.class) (omega arith) in
-      inl (seat.class, subst (λ past. EndsRefused (own who past) who seat.class) (sym same) so))
+      let q = Desc (desc.PushDesc seat d top) continuation.Refuse in
+      let so : EndsRefused (own caller s.history) caller seat.class =
+      so-at g s sound.parts.0 caller q sound.parts.1 has (at ∙ ap (λ z. Desc (desc.PushDesc seat d top) z) refuses) 1 (refused seat.class) (omega arith) in
+      inl (seat.class, subst (λ past. EndsRefused (own caller past) caller seat.class) (sym same) so))
 
   desc-meant :
-      (p : DescPoint) (o : Onward) (r : Reply) → (s.errand who).point ≡ Desc p o
-      → EndsBy (s.errand who) (next_of (Desc p o) (found_from s (Desc p o))) r → IsMeant g s who r after
+      (p : DescPoint) (o : Continuation) (r : Reply) → (s.errand caller).point ≡ Desc p o
+      → EndsBy (s.errand caller) (next_of (Desc p o) (found_from s (Desc p o))) r → IsMeant g s caller r after
   unfolding plan_point_of next_of
   desc-meant (desc.PushDesc seat d top) o r at ends =
       let p = desc.PushDesc seat d top in
-      let pushed = desc-ends (s.errand who) p o (found_from s (Desc p o)) r refl ends in
+      let pushed = desc-ends (s.errand caller) p o (found_from s (Desc p o)) r refl ends in
       push-meant seat d top o r at pushed.0 pushed.1
   desc-meant p o r at ends =
-      let fits = fits-now g s who (Desc p o) sound has at in
-      freed-answers r (desc-ends (s.errand who) p o (found_from s (Desc p o)) r fits.inside ends)
+      let fits = fits-now g s caller (Desc p o) sound has at in
+      freed-answers r (desc-ends (s.errand caller) p o (found_from s (Desc p o)) r fits.inside ends)
 
   point-meant :
-      (p : Point) (r : Reply) → (s.errand who).point ≡ p → EndsBy (s.errand who) (next_of p (found_from s p)) r
-      → IsMeant g s who r after
+      (p : Point) (r : Reply) → (s.errand caller).point ≡ p → EndsBy (s.errand caller) (next_of p (found_from s p)) r
+      → IsMeant g s caller r after
   unfolding next_of
   point-meant Idle r at ends = absurd ends
   point-meant (Block p o) r at ends = block-meant p o r at ends
   point-meant (Stack p o) r at ends = stack-meant p o r at ends
   point-meant (Desc p o) r at ends = desc-meant p o r at ends
   point-meant (Partial p o) r at ends =
-      let fits = fits-now g s who (Partial p o) sound has at in
-      freed-answers r (partial-ends (s.errand who) p o (found_from s (Partial p o)) r fits.inside fits.goes ends)
-  point-meant (Large p o) r at ends = large-meant g s who after sound has step p o r at ends
+      let fits = fits-now g s caller (Partial p o) sound has at in
+      freed-answers r (partial-ends (s.errand caller) p o (found_from s (Partial p o)) r fits.inside fits.goes ends)
+  point-meant (Large p o) r at ends = large-meant g s caller after sound has step p o r at ends
 
 pub answers-meant :
-    (g : Geometry) (s : State) (who : ℕ) (r : Reply) (after : State) → IsSoundWithoutCounts g s → who < g.callers → Step s who after
-    → answer_of (s.errand who) (found_at s who) ≡ Done r → IsMeant g s who r after
-answers-meant g s who r after sound has step is =
-    point-meant g s who after sound has step (s.errand who).point r refl (answer-ends (s.errand who) (found_at s who) r is)
+    (g : Geometry) (s : State) (caller : ℕ) (r : Reply) (after : State) → IsSoundWithoutCounts g s → caller < g.callers → Step s caller after
+    → answer_of (s.errand caller) (found_at s caller) ≡ Done r → IsMeant g s caller r after
+answers-meant g s caller r after sound has step is =
+    point-meant g s caller after sound has step (s.errand caller).point r refl (answer-ends (s.errand caller) (found_at s caller) r is)

@@ -48,8 +48,8 @@ begun-alloc-errand e words (Small class) is h idle =
     cond_both (is_spent e) e _ IsErrand (λ spent. h)
     (λ left. with-point e _ _ h idle
     (record {
-      point = record { geometry = refl; caller = refl; class = needs };
-      onward = is;
+      point = record { geometry = refl; number = refl; class = needs };
+      continuation = is;
       goes = refl;
       inside = refl;
     })
@@ -72,8 +72,8 @@ free-errand e place (Small class) (needs, (frame, index, has, within, is)) h idl
     let i = index_is frame class index place within (sym is) in
     with-point e _ _ h idle
     (record {
-      point = (record { geometry = refl; caller = refl; class = needs }, omega (arith, f, has), omega (arith, i, within));
-      onward = tt;
+      point = (record { geometry = refl; number = refl; class = needs }, omega (arith, f, has), omega (arith, i, within));
+      continuation = tt;
       goes = refl;
       inside = refl;
     })

@@ -55,10 +55,10 @@ pub record HoldsOnlyFrees (p : Point) (blocks : List Freed) : Type 0 where
   pub pops : pops_left p ≡ 0
 
 -- the point at which a call begins
-pub record BeginsAt (g : Geometry) (s : State) (l : Lists) (who : ℕ) (p : Point) (blocks : List Freed) : Type 0 where
+pub record BeginsAt (g : Geometry) (s : State) (l : Lists) (caller : ℕ) (p : Point) (blocks : List Freed) : Type 0 where
   pub fresh : HoldsOnlyFrees p blocks
-  pub frees : All (λ x. IsOwned s who x.place x.need) blocks
-  pub so : All (IsSo g s l who) (recalls_of p)
+  pub frees : All (λ x. IsOwned s caller x.place x.need) blocks
+  pub so : All (IsSo g s l caller) (recalls_of p)
 
 -- it takes so many turns, none or one, and is in as many
 pub record TakesTurns (p : Point) (t before after : ℕ) : Type 0 where
@@ -74,10 +74,10 @@ idle-takes = record { turns = refl; under_way = refl; discards = refl; unanswere
 
 -- what an idle caller weighs, and what one weighs that begins
 pub begun-weighs :
-    (g : Geometry) (s : State) (l : Lists) (who : ℕ) (a : ErrandFields) (p : Point) (turns : ℕ) (blocks : List Freed) → IsIdle a
-    → BeginsAt g s l who p blocks → (n : WordName) (w : ℕ) → WeighAlike n w w a (record a { point = p; turns = turns })
+    (g : Geometry) (s : State) (l : Lists) (caller : ℕ) (a : ErrandFields) (p : Point) (turns : ℕ) (blocks : List Freed) → IsIdle a
+    → BeginsAt g s l caller p blocks → (n : WordName) (w : ℕ) → WeighAlike n w w a (record a { point = p; turns = turns })
 unfolding holds_of
-begun-weighs g s l who a p turns blocks idle b n w =
+begun-weighs g s l caller a p turns blocks idle b n w =
     let was = idle-is a.point idle in
     record {
       still = λ plain. refl;
@@ -97,33 +97,33 @@ not-excepts place (inr x) = omega (arith, x.2)
 
 -- a caller that begins a call may go on to it
 begun-may :
-    (g : Geometry) (s : State) (l : Lists) (who : ℕ) (a : ErrandFields) (p : Point) (t turns : ℕ) (blocks : List Freed)
-    → IsSoundWith g s l → who < g.callers → s.errand who ≡ a → IsIdle a → BeginsAt g s l who p blocks
-    → IsErrand (record a { point = p; turns = turns }) → TakesTurns p t a.turns turns → MayGoOn g s l who a (record a { point = p; turns = turns })
+    (g : Geometry) (s : State) (l : Lists) (caller : ℕ) (a : ErrandFields) (p : Point) (t turns : ℕ) (blocks : List Freed)
+    → IsSoundWith g s l → caller < g.callers → s.errand caller ≡ a → IsIdle a → BeginsAt g s l caller p blocks
+    → IsErrand (record a { point = p; turns = turns }) → TakesTurns p t a.turns turns → MayGoOn g s l caller a (record a { point = p; turns = turns })
 unfolding holds_of
-begun-may g s l who a p t turns blocks sound has at idle b rule takes =
+begun-may g s l caller a p t turns blocks sound has at idle b rule takes =
     let was = idle-is a.point idle in
-    let own = subst (IsOwnErrand g who) at (sound.errands who has) in
-    let turned : count_by (gives_small who) s.history + turn_open a ≤ a.turns =
-    subst (λ e. count_by (gives_small who) s.history + turn_open e ≤ e.turns) at (sound.turned.own_turns who has) in
+    let own = subst (IsOwnErrand g caller) at (sound.errands caller has) in
+    let turned : count_by (gives_small caller) s.history + turn_open a ≤ a.turns =
+    subst (λ e. count_by (gives_small caller) s.history + turn_open e ≤ e.turns) at (sound.turned.own_turns caller has) in
     let idle_takes : TakesTurns a.point 0 0 0 = subst (λ q. TakesTurns q 0 0 0) (sym was) idle-takes in
     record {
-      rule = record { caller = own.caller; geometry = own.geometry; rule = rule; lost = own.lost };
-      retired = subst (λ e. All (IsWithout s) e.retired) at (sound.kept.retired who has);
+      rule = record { number = own.number; geometry = own.geometry; rule = rule; lost = own.lost };
+      retired = subst (λ e. All (IsWithout s) e.retired) at (sound.kept.retired caller has);
       kept = subst (λ h. All (λ k. IsKeptAs s k.status k.desc k.class) h.kept) (sym b.fresh.holds)
           (All-nil (λ k. IsKeptAs s k.status k.desc k.class));
       so = b.so;
       full = λ is. let bad : ⊥ = omega (arith, is, b.fresh.spare) in absurd bad;
-      hands = subst (λ h. All (λ x. IsOwned s who x.place x.need) h.hands) (sym b.fresh.holds) (All-nil (λ x. IsOwned s who x.place x.need));
-      frees = subst (λ h. All (λ x. IsOwned s who x.place x.need) h.frees) (sym b.fresh.holds) b.frees;
+      hands = subst (λ h. All (λ x. IsOwned s caller x.place x.need) h.hands) (sym b.fresh.holds) (All-nil (λ x. IsOwned s caller x.place x.need));
+      frees = subst (λ h. All (λ x. IsOwned s caller x.place x.need) h.frees) (sym b.fresh.holds) b.frees;
       excepts = λ place x. absurd (not-excepts place (subst (λ q. HoldsException (holds_of q) place) was x));
       own_turns = omega (arith, turned, takes.turns, takes.under_way);
       own_lost =
-          let lost : a.turns + errand_discards a ≤ count_by (gives_small who) s.history + count_by (refuses_small who) s.history + a.lost + turn_unanswered a =
+          let lost : a.turns + errand_discards a ≤ count_by (gives_small caller) s.history + count_by (refuses_small caller) s.history + a.lost + turn_unanswered a =
           subst
           (λ e. e.turns + errand_discards e
-          ≤ count_by (gives_small who) s.history + count_by (refuses_small who) s.history + e.lost + turn_unanswered e) at
-          (sound.turned.own_lost who has) in
+          ≤ count_by (gives_small caller) s.history + count_by (refuses_small caller) s.history + e.lost + turn_unanswered e) at
+          (sound.turned.own_lost caller has) in
           omega (arith, lost, takes.turns, takes.discards, takes.unanswered, idle_takes.unanswered);
       frame_turns = omega (arith, takes.turns, takes.unframed);
       list_turns = omega (arith, takes.turns, takes.unlisted, b.fresh.pops);
@@ -131,15 +131,15 @@ begun-may g s l who a p t turns blocks sound has at idle b rule takes =
 
 -- it guards nothing, nor does it push or scan
 begun-guards :
-    (g : Geometry) (s : State) (l : Lists) (who : ℕ) (p : Point) (retired : List ℕ) (blocks : List Freed) → IsSoundWith g s l
-    → who < g.callers → IsIdle (s.errand who) → BeginsAt g s l who p blocks → MayGuard g s who p retired (s.word (name.Hazard who))
+    (g : Geometry) (s : State) (l : Lists) (caller : ℕ) (p : Point) (retired : List ℕ) (blocks : List Freed) → IsSoundWith g s l
+    → caller < g.callers → IsIdle (s.errand caller) → BeginsAt g s l caller p blocks → MayGuard g s caller p retired (s.word (name.Hazard caller))
 unfolding holds_of
-begun-guards g s l who p retired blocks sound has idle b =
-    let was = idle-is (s.errand who).point idle in
+begun-guards g s l caller p retired blocks sound has idle b =
+    let was = idle-is (s.errand caller).point idle in
     record {
       hazard =
-          subst (λ h. IsHazard h.hazard (s.word (name.Hazard who))) (sym b.fresh.holds)
-          (subst (λ e. IsHazard (holds_of e).hazard (s.word (name.Hazard who))) was (sound.guarded.words who has));
+          subst (λ h. IsHazard h.hazard (s.word (name.Hazard caller))) (sym b.fresh.holds)
+          (subst (λ e. IsHazard (holds_of e).hazard (s.word (name.Hazard caller))) was (sound.guarded.words caller has));
       guard = λ d word guard. absurd (subst (λ h. IsGuard h.hazard) b.fresh.holds guard);
       pushed = λ i d has_i guards is. absurd (none-some d (sym b.fresh.pushed ∙ is));
       passed = λ i d has_i guards listed below. let bad : ⊥ = omega (arith, below, b.fresh.passed) in absurd bad;
@@ -148,36 +148,36 @@ begun-guards g s l who p retired blocks sound has idle b =
 
 -- a caller that begins a call keeps the state sound
 begun-sound :
-    (g : Geometry) (s : State) (who : ℕ) (p : Point) (t turns : ℕ) (blocks : List Freed) (errands' : ℕ → ErrandFields)
-    → IsSoundWithoutCounts g s → who < g.callers → IsIdle (s.errand who)
-    → ((l : Lists) → BeginsAt g s l who p blocks) → IsErrand (record (s.errand who) { point = p; turns = turns })
-    → TakesTurns p t (s.errand who).turns turns → Moves s.errand who (record (s.errand who) { point = p; turns = turns }) errands'
+    (g : Geometry) (s : State) (caller : ℕ) (p : Point) (t turns : ℕ) (blocks : List Freed) (errands' : ℕ → ErrandFields)
+    → IsSoundWithoutCounts g s → caller < g.callers → IsIdle (s.errand caller)
+    → ((l : Lists) → BeginsAt g s l caller p blocks) → IsErrand (record (s.errand caller) { point = p; turns = turns })
+    → TakesTurns p t (s.errand caller).turns turns → Moves s.errand caller (record (s.errand caller) { point = p; turns = turns }) errands'
     → IsSoundWithoutCounts g (with_errands s errands')
-begun-sound g s who p t turns blocks errands' sound has idle begins rule takes moves =
+begun-sound g s caller p t turns blocks errands' sound has idle begins rule takes moves =
     let l = sound.parts.0 in
     let old = sound.parts.1 in
-    let e = record (s.errand who) { point = p; turns = turns } in
+    let e = record (s.errand caller) { point = p; turns = turns } in
     let word = s.word name.FrameHead in
     let stays : Writes s.word name.FrameHead word s.word = record { here = refl; elsewhere = λ other differ. refl } in
-    let weigh : WeighMost name.FrameHead word word (s.errand who) e =
-    alike-most name.FrameHead word word (s.errand who) e
-    (begun-weighs g s l who (s.errand who) p turns blocks idle (begins l) name.FrameHead word) in
+    let weigh : WeighMost name.FrameHead word word (s.errand caller) e =
+    alike-most name.FrameHead word word (s.errand caller) e
+    (begun-weighs g s l caller (s.errand caller) p turns blocks idle (begins l) name.FrameHead word) in
     record {
       checked = sound.checked;
       legal = sound.legal;
       parts = (
         l,
-        sound-alike g s l who e (with_errands s errands')
+        sound-alike g s l caller e (with_errands s errands')
             (record {
-              caller = has;
+              in_heap = has;
               moves = moves;
-              alike = weigh-alike g s l who name.FrameHead word e (with_errands s errands') tt has stays moves refl weigh;
-              may = begun-may g s l who (s.errand who) p t turns blocks old has refl idle (begins l) rule takes;
+              alike = weigh-alike g s l caller name.FrameHead word e (with_errands s errands') tt has stays moves refl weigh;
+              may = begun-may g s l caller (s.errand caller) p t turns blocks old has refl idle (begins l) rule takes;
               others = λ i differ. refl;
-              guards = begun-guards g s l who p (s.errand who).retired blocks old has idle (begins l);
+              guards = begun-guards g s l caller p (s.errand caller).retired blocks old has idle (begins l);
               actives = actives-stay g s l s.word old.kept (λ n. refl);
               words = old.words;
-              emptied = omega (arith, weigh-emptied g s l who name.FrameHead word e (with_errands s errands') has stays moves weigh);
+              emptied = omega (arith, weigh-emptied g s l caller name.FrameHead word e (with_errands s errands') has stays moves weigh);
             })
             old,
       );
@@ -185,11 +185,11 @@ begun-sound g s who p t turns blocks errands' sound has idle begins rule takes m
 
 -- a call that begins at a point without a turn
 no-turn-sound :
-    (g : Geometry) (s : State) (who : ℕ) (p : Point) (blocks : List Freed) (errands' : ℕ → ErrandFields) → IsSoundWithoutCounts g s
-    → who < g.callers → IsIdle (s.errand who) → ((l : Lists) → BeginsAt g s l who p blocks) → IsErrand (record (s.errand who) { point = p })
-    → turn_stage_of p ≡ out_of_turn → Moves s.errand who (record (s.errand who) { point = p }) errands' → IsSoundWithoutCounts g (with_errands s errands')
-no-turn-sound g s who p blocks errands' sound has idle begins rule no_turn moves =
-    begun-sound g s who p 0 (s.errand who).turns blocks errands' sound has idle begins rule
+    (g : Geometry) (s : State) (caller : ℕ) (p : Point) (blocks : List Freed) (errands' : ℕ → ErrandFields) → IsSoundWithoutCounts g s
+    → caller < g.callers → IsIdle (s.errand caller) → ((l : Lists) → BeginsAt g s l caller p blocks) → IsErrand (record (s.errand caller) { point = p })
+    → turn_stage_of p ≡ out_of_turn → Moves s.errand caller (record (s.errand caller) { point = p }) errands' → IsSoundWithoutCounts g (with_errands s errands')
+no-turn-sound g s caller p blocks errands' sound has idle begins rule no_turn moves =
+    begun-sound g s caller p 0 (s.errand caller).turns blocks errands' sound has idle begins rule
     (record {
       turns = omega arith;
       under_way = rw no_turn refl;
@@ -202,44 +202,44 @@ no-turn-sound g s who p blocks errands' sound has idle begins rule no_turn moves
 
 -- one that frees no block
 bare-sound :
-    (g : Geometry) (s : State) (who : ℕ) (p : Point) (errands' : ℕ → ErrandFields) → IsSoundWithoutCounts g s → who < g.callers
-    → IsIdle (s.errand who) → HoldsOnlyFrees p [] → ((l : Lists) → All (IsSo g s l who) (recalls_of p)) → IsErrand (record (s.errand who) { point = p })
-    → turn_stage_of p ≡ out_of_turn → Moves s.errand who (record (s.errand who) { point = p }) errands' → IsSoundWithoutCounts g (with_errands s errands')
-bare-sound g s who p errands' sound has idle fresh so rule no_turn moves =
-    no-turn-sound g s who p [] errands' sound has idle
-    (λ l. record { fresh = fresh; frees = All-nil (λ x. IsOwned s who x.place x.need); so = so l }) rule no_turn moves
+    (g : Geometry) (s : State) (caller : ℕ) (p : Point) (errands' : ℕ → ErrandFields) → IsSoundWithoutCounts g s → caller < g.callers
+    → IsIdle (s.errand caller) → HoldsOnlyFrees p [] → ((l : Lists) → All (IsSo g s l caller) (recalls_of p)) → IsErrand (record (s.errand caller) { point = p })
+    → turn_stage_of p ≡ out_of_turn → Moves s.errand caller (record (s.errand caller) { point = p }) errands' → IsSoundWithoutCounts g (with_errands s errands')
+bare-sound g s caller p errands' sound has idle fresh so rule no_turn moves =
+    no-turn-sound g s caller p [] errands' sound has idle
+    (λ l. record { fresh = fresh; frees = All-nil (λ x. IsOwned s caller x.place x.need); so = so l }) rule no_turn moves
 
 -- an errand that stays as it is keeps the state sound
 stays-sound :
-    (g : Geometry) (s : State) (who : ℕ) (errands' : ℕ → ErrandFields) → IsSoundWithoutCounts g s → Moves s.errand who (s.errand who) errands'
+    (g : Geometry) (s : State) (caller : ℕ) (errands' : ℕ → ErrandFields) → IsSoundWithoutCounts g s → Moves s.errand caller (s.errand caller) errands'
     → IsSoundWithoutCounts g (with_errands s errands')
-stays-sound g s who errands' sound moves =
+stays-sound g s caller errands' sound moves =
     let same : errands' ≡ s.errand =
-    fun_ext (λ i. elim (cases_eq i who) [
+    fun_ext (λ i. elim (cases_eq i caller) [
       | inl is ↦ subst (λ j. errands' j ≡ s.errand j) (sym is) moves.here
       | inr differ ↦ moves.elsewhere i differ
     ]) in
     subst (λ e. IsSoundWithoutCounts g (with_errands s e)) (sym same) sound
 
 alloc-from :
-    (g : Geometry) (s : State) (who words : ℕ) (n : Need) (errands' : ℕ → ErrandFields) → need_of words ≡ n → IsSoundWithoutCounts g s
-    → who < g.callers → IsIdle (s.errand who) → IsErrand (begins_alloc (s.errand who) words n)
-    → Moves s.errand who (begins_alloc (s.errand who) words n) errands' → IsSoundWithoutCounts g (with_errands s errands')
+    (g : Geometry) (s : State) (caller words : ℕ) (n : Need) (errands' : ℕ → ErrandFields) → need_of words ≡ n → IsSoundWithoutCounts g s
+    → caller < g.callers → IsIdle (s.errand caller) → IsErrand (begins_alloc (s.errand caller) words n)
+    → Moves s.errand caller (begins_alloc (s.errand caller) words n) errands' → IsSoundWithoutCounts g (with_errands s errands')
 unfolding holds_of recalls_of
-alloc-from g s who words (Small class) errands' is sound has idle rule moves =
-    let e = s.errand who in
-    let own = sound.parts.1.errands who has in
+alloc-from g s caller words (Small class) errands' is sound has idle rule moves =
+    let e = s.errand caller in
+    let own = sound.parts.1.errands caller has in
     elim (cases_Bool (is_spent e)) [
       | inl spent ↦
-          stays-sound g s who errands' sound
-          (subst (λ f. Moves s.errand who f errands') (cond-true (is_spent e) e _ spent) moves)
+          stays-sound g s caller errands' sound
+          (subst (λ f. Moves s.errand caller f errands') (cond-true (is_spent e) e _ spent) moves)
       | inr left ↦
           let more = cond-false (is_spent e) e _ left in
-          begun-sound g s who _ 1 (one_more e.turns) [] errands' sound has idle
+          begun-sound g s caller _ 1 (one_more e.turns) [] errands' sound has idle
           (λ l. record {
             fresh = grind (arith);
-            frees = All-nil (λ x. IsOwned s who x.place x.need);
-            so = All-nil (IsSo g s l who);
+            frees = All-nil (λ x. IsOwned s caller x.place x.need);
+            so = All-nil (IsSo g s l caller);
           })
           (subst IsErrand more rule)
           (record {
@@ -250,25 +250,25 @@ alloc-from g s who words (Small class) errands' is sound has idle rule moves =
             unframed = refl;
             unlisted = refl;
           })
-          (subst (λ f. Moves s.errand who f errands') more moves)
+          (subst (λ f. Moves s.errand caller f errands') more moves)
     ]
-alloc-from g s who words (Large units) errands' is sound has idle rule moves =
-    bare-sound g s who _ errands' sound has idle (grind (arith)) (λ l. All-nil (IsSo g s l who)) rule refl moves
-alloc-from g s who words TooLarge errands' is sound has idle rule moves = stays-sound g s who errands' sound moves
+alloc-from g s caller words (Large units) errands' is sound has idle rule moves =
+    bare-sound g s caller _ errands' sound has idle (grind (arith)) (λ l. All-nil (IsSo g s l caller)) rule refl moves
+alloc-from g s caller words TooLarge errands' is sound has idle rule moves = stays-sound g s caller errands' sound moves
 
 -- an allocation that begins
 pub alloc-sound :
-    (g : Geometry) (s : State) (who words : ℕ) (errands' : ℕ → ErrandFields) → IsSoundWithoutCounts g s → who < g.callers → IsIdle (s.errand who)
-    → Moves s.errand who (alloc_begun (s.errand who) words) errands' → IsSoundWithoutCounts g (with_errands s errands')
+    (g : Geometry) (s : State) (caller words : ℕ) (errands' : ℕ → ErrandFields) → IsSoundWithoutCounts g s → caller < g.callers → IsIdle (s.errand caller)
+    → Moves s.errand caller (alloc_begun (s.errand caller) words) errands' → IsSoundWithoutCounts g (with_errands s errands')
 unfolding alloc_begun
-alloc-sound g s who words errands' sound has idle moves =
-    alloc-from g s who words (need_of words) errands' refl sound has idle
-    (alloc-errand (s.errand who) words (sound.parts.1.errands who has).rule idle) moves
+alloc-sound g s caller words errands' sound has idle moves =
+    alloc-from g s caller words (need_of words) errands' refl sound has idle
+    (alloc-errand (s.errand caller) words (sound.parts.1.errands caller has).rule idle) moves
 
 -- an owned block is one of the heap's
 pub owned-block :
-    (g : Geometry) (s : State) (who place : ℕ) (n : Need) → IsSoundWithoutCounts g s → IsOwned s who place n → IsHeapBlock g place n
-owned-block g s who place n sound owned =
+    (g : Geometry) (s : State) (caller place : ℕ) (n : Need) → IsSoundWithoutCounts g s → IsOwned s caller place n → IsHeapBlock g place n
+owned-block g s caller place n sound owned =
     let b = owned.block.0 in
     let live = owned.block.1 in
     let formed =
@@ -278,83 +278,83 @@ owned-block g s who place n sound owned =
 
 -- so it is one of the heap that the caller's errand is in
 pub errand-block :
-    (g : Geometry) (s : State) (who place : ℕ) (n : Need) → IsSoundWithoutCounts g s → who < g.callers → IsOwned s who place n
-    → IsHeapBlock (s.errand who).geometry place n
-errand-block g s who place n sound has owned =
-    subst (λ h. IsHeapBlock h place n) (sym (sound.parts.1.errands who has).geometry) (owned-block g s who place n sound owned)
+    (g : Geometry) (s : State) (caller place : ℕ) (n : Need) → IsSoundWithoutCounts g s → caller < g.callers → IsOwned s caller place n
+    → IsHeapBlock (s.errand caller).geometry place n
+errand-block g s caller place n sound has owned =
+    subst (λ h. IsHeapBlock h place n) (sym (sound.parts.1.errands caller has).geometry) (owned-block g s caller place n sound owned)
 
 -- a free
 pub free-sound :
-    (g : Geometry) (s : State) (who place : ℕ) (n : Need) (errands' : ℕ → ErrandFields) → IsSoundWithoutCounts g s → who < g.callers
-    → IsIdle (s.errand who) → IsOwned s who place n → Moves s.errand who (free_begun (s.errand who) place n) errands'
+    (g : Geometry) (s : State) (caller place : ℕ) (n : Need) (errands' : ℕ → ErrandFields) → IsSoundWithoutCounts g s → caller < g.callers
+    → IsIdle (s.errand caller) → IsOwned s caller place n → Moves s.errand caller (free_begun (s.errand caller) place n) errands'
     → IsSoundWithoutCounts g (with_errands s errands')
 unfolding free_begun holds_of recalls_of
-free-sound g s who place (Small class) errands' sound has idle owned moves =
-    let block = owned-block g s who place (Small class) sound owned in
-    let own = sound.parts.1.errands who has in
+free-sound g s caller place (Small class) errands' sound has idle owned moves =
+    let block = owned-block g s caller place (Small class) sound owned in
+    let own = sound.parts.1.errands caller has in
     let at : block_place (frame_of place) class (index_of class place) ≡ place =
     block_place-split class place
     (block.1.0, block.1.1, omega (arith, block.1.2, sound.checked.frames.1), block.1.3, block.1.4) in
     let freed : Freed = record { place = block_place (frame_of place) class (index_of class place); need = Small class; overwritten = false } in
-    no-turn-sound g s who _ (freed ∷ []) errands' sound has idle
+    no-turn-sound g s caller _ (freed ∷ []) errands' sound has idle
     (λ l. record {
       fresh = grind (arith);
       frees =
-          All-cons (λ x. IsOwned s who x.place x.need) freed [] (subst (λ p. IsOwned s who p (Small class)) (sym at) owned)
-          (All-nil (λ x. IsOwned s who x.place x.need));
-      so = All-nil (IsSo g s l who);
+          All-cons (λ x. IsOwned s caller x.place x.need) freed [] (subst (λ p. IsOwned s caller p (Small class)) (sym at) owned)
+          (All-nil (λ x. IsOwned s caller x.place x.need));
+      so = All-nil (IsSo g s l caller);
     })
-    (free-errand (s.errand who) place (Small class) (errand-block g s who place (Small class) sound has owned) own.rule idle)
+    (free-errand (s.errand caller) place (Small class) (errand-block g s caller place (Small class) sound has owned) own.rule idle)
     refl moves
-free-sound g s who place (Large units) errands' sound has idle owned moves =
-    let own = sound.parts.1.errands who has in
+free-sound g s caller place (Large units) errands' sound has idle owned moves =
+    let own = sound.parts.1.errands caller has in
     let freed : Freed = record { place = place; need = Large units; overwritten = false } in
-    no-turn-sound g s who _ (freed ∷ []) errands' sound has idle
+    no-turn-sound g s caller _ (freed ∷ []) errands' sound has idle
     (λ l. record {
       fresh = grind (arith);
-      frees = All-cons (λ x. IsOwned s who x.place x.need) freed [] owned (All-nil (λ x. IsOwned s who x.place x.need));
-      so = All-nil (IsSo g s l who);
+      frees = All-cons (λ x. IsOwned s caller x.place x.need) freed [] owned (All-nil (λ x. IsOwned s caller x.place x.need));
+      so = All-nil (IsSo g s l caller);
     })
-    (free-errand (s.errand who) place (Large units) (errand-block g s who place (Large units) sound has owned) own.rule idle)
+    (free-errand (s.errand caller) place (Large units) (errand-block g s caller place (Large units) sound has owned) own.rule idle)
     refl moves
-free-sound g s who place TooLarge errands' sound has idle owned moves = absurd (owned-block g s who place TooLarge sound owned).1
+free-sound g s caller place TooLarge errands' sound has idle owned moves = absurd (owned-block g s caller place TooLarge sound owned).1
 
 -- a write, a read, a put and a take
 pub write-sound :
-    (g : Geometry) (s : State) (who place : ℕ) (n : Need) (i v : ℕ) (errands' : ℕ → ErrandFields) → IsSoundWithoutCounts g s → who < g.callers
-    → IsIdle (s.errand who) → IsOwned s who place n → i < usable_words n → v < 2 ^ 64
-    → Moves s.errand who (write_begun (s.errand who) place i v) errands' → IsSoundWithoutCounts g (with_errands s errands')
+    (g : Geometry) (s : State) (caller place : ℕ) (n : Need) (i v : ℕ) (errands' : ℕ → ErrandFields) → IsSoundWithoutCounts g s → caller < g.callers
+    → IsIdle (s.errand caller) → IsOwned s caller place n → i < usable_words n → v < 2 ^ 64
+    → Moves s.errand caller (write_begun (s.errand caller) place i v) errands' → IsSoundWithoutCounts g (with_errands s errands')
 unfolding write_begun holds_of recalls_of
-write-sound g s who place n i v errands' sound has idle owned below word moves =
-    let own = sound.parts.1.errands who has in
-    bare-sound g s who _ errands' sound has idle (grind (arith)) (λ l. All-cons (IsSo g s l who) _ [] (n, owned, below) (All-nil (IsSo g s l who)))
-    (write-errand (s.errand who) place n i v (errand-block g s who place n sound has owned) below word own.rule idle) refl moves
+write-sound g s caller place n i v errands' sound has idle owned below word moves =
+    let own = sound.parts.1.errands caller has in
+    bare-sound g s caller _ errands' sound has idle (grind (arith)) (λ l. All-cons (IsSo g s l caller) _ [] (n, owned, below) (All-nil (IsSo g s l caller)))
+    (write-errand (s.errand caller) place n i v (errand-block g s caller place n sound has owned) below word own.rule idle) refl moves
 
 pub read-sound :
-    (g : Geometry) (s : State) (who place : ℕ) (n : Need) (i : ℕ) (errands' : ℕ → ErrandFields) → IsSoundWithoutCounts g s → who < g.callers
-    → IsIdle (s.errand who) → IsOwned s who place n → i < usable_words n
-    → Moves s.errand who (read_begun (s.errand who) place i) errands' → IsSoundWithoutCounts g (with_errands s errands')
+    (g : Geometry) (s : State) (caller place : ℕ) (n : Need) (i : ℕ) (errands' : ℕ → ErrandFields) → IsSoundWithoutCounts g s → caller < g.callers
+    → IsIdle (s.errand caller) → IsOwned s caller place n → i < usable_words n
+    → Moves s.errand caller (read_begun (s.errand caller) place i) errands' → IsSoundWithoutCounts g (with_errands s errands')
 unfolding read_begun holds_of recalls_of
-read-sound g s who place n i errands' sound has idle owned below moves =
-    let own = sound.parts.1.errands who has in
-    bare-sound g s who _ errands' sound has idle (grind (arith)) (λ l. All-cons (IsSo g s l who) _ [] (n, owned, below) (All-nil (IsSo g s l who)))
-    (read-errand (s.errand who) place n i (errand-block g s who place n sound has owned) below own.rule idle) refl moves
+read-sound g s caller place n i errands' sound has idle owned below moves =
+    let own = sound.parts.1.errands caller has in
+    bare-sound g s caller _ errands' sound has idle (grind (arith)) (λ l. All-cons (IsSo g s l caller) _ [] (n, owned, below) (All-nil (IsSo g s l caller)))
+    (read-errand (s.errand caller) place n i (errand-block g s caller place n sound has owned) below own.rule idle) refl moves
 
 pub put-sound :
-    (g : Geometry) (s : State) (who place : ℕ) (n : Need) (k : ℕ) (errands' : ℕ → ErrandFields) → IsSoundWithoutCounts g s → who < g.callers
-    → IsIdle (s.errand who) → IsOwned s who place n → k < SHELVES
-    → Moves s.errand who (put_begun (s.errand who) place n k) errands' → IsSoundWithoutCounts g (with_errands s errands')
+    (g : Geometry) (s : State) (caller place : ℕ) (n : Need) (k : ℕ) (errands' : ℕ → ErrandFields) → IsSoundWithoutCounts g s → caller < g.callers
+    → IsIdle (s.errand caller) → IsOwned s caller place n → k < SHELVES
+    → Moves s.errand caller (put_begun (s.errand caller) place n k) errands' → IsSoundWithoutCounts g (with_errands s errands')
 unfolding put_begun holds_of recalls_of
-put-sound g s who place n k errands' sound has idle owned shelf moves =
-    let own = sound.parts.1.errands who has in
-    bare-sound g s who _ errands' sound has idle (grind (arith)) (λ l. All-cons (IsSo g s l who) _ [] owned (All-nil (IsSo g s l who)))
-    (put-errand (s.errand who) place n k (errand-block g s who place n sound has owned) shelf own.rule idle) refl moves
+put-sound g s caller place n k errands' sound has idle owned shelf moves =
+    let own = sound.parts.1.errands caller has in
+    bare-sound g s caller _ errands' sound has idle (grind (arith)) (λ l. All-cons (IsSo g s l caller) _ [] owned (All-nil (IsSo g s l caller)))
+    (put-errand (s.errand caller) place n k (errand-block g s caller place n sound has owned) shelf own.rule idle) refl moves
 
 pub take-sound :
-    (g : Geometry) (s : State) (who k : ℕ) (errands' : ℕ → ErrandFields) → IsSoundWithoutCounts g s → who < g.callers → IsIdle (s.errand who)
-    → k < SHELVES → Moves s.errand who (take_begun (s.errand who) k) errands' → IsSoundWithoutCounts g (with_errands s errands')
+    (g : Geometry) (s : State) (caller k : ℕ) (errands' : ℕ → ErrandFields) → IsSoundWithoutCounts g s → caller < g.callers → IsIdle (s.errand caller)
+    → k < SHELVES → Moves s.errand caller (take_begun (s.errand caller) k) errands' → IsSoundWithoutCounts g (with_errands s errands')
 unfolding take_begun holds_of recalls_of
-take-sound g s who k errands' sound has idle shelf moves =
-    let own = sound.parts.1.errands who has in
-    bare-sound g s who _ errands' sound has idle (grind (arith)) (λ l. All-nil (IsSo g s l who))
-    (take-errand (s.errand who) k shelf own.rule idle) refl moves
+take-sound g s caller k errands' sound has idle shelf moves =
+    let own = sound.parts.1.errands caller has in
+    bare-sound g s caller _ errands' sound has idle (grind (arith)) (λ l. All-nil (IsSo g s l caller))
+    (take-errand (s.errand caller) k shelf own.rule idle) refl moves

@@ -62,7 +62,7 @@ pub record IsFirst (g : Geometry) (n : ℕ) (first : WordName → ℕ) : Type 0 
   pub desc_nexts : (d : ℕ) → first (name.Next d) ≡ next_index (descriptor_count g) d
   pub list_heads : (class : ℕ) → first (name.ListHead class) ≡ 0
   pub slots : (heap class : ℕ) → first (name.Slot heap class) ≡ 0
-  pub hazards : (who : ℕ) → first (name.Hazard who) ≡ 0
+  pub hazards : (caller : ℕ) → first (name.Hazard caller) ≡ 0
   pub units : first name.Units ≡ 0
   pub shelves : (k : ℕ) → first (name.Shelf k) ≡ 0
   pub active_words :
@@ -124,22 +124,22 @@ first-word g first s m o has = o.word m ∙ cond-true (exists g m) (first m) 0 h
 -- an opening errand weighs what an idle one weighs
 pub opened-weighs :
     (g : Geometry) (first : WordName → ℕ) (s : State) (weight : ErrandFields → ℕ) → IsOpening g first s
-    → ((who : ℕ) → weight (open_errand who g) ≡ 0) → callers_sum g weight s.errand ≡ 0
-opened-weighs g first s weight o none = callers-none g weight s.errand (λ who has. ap weight (o.errand who has) ∙ none who)
+    → ((caller : ℕ) → weight (open_errand caller g) ≡ 0) → callers_sum g weight s.errand ≡ 0
+opened-weighs g first s weight o none = callers-none g weight s.errand (λ caller has. ap weight (o.errand caller has) ∙ none caller)
 
 -- what holds of the errand of an idle caller holds in the beginning
 pub at-opening :
-    (g : Geometry) (first : WordName → ℕ) (s : State) (P : ErrandFields → Type 0) → IsOpening g first s → ((who : ℕ) → P (open_errand who g))
-    → (who : ℕ) → who < g.callers → P (s.errand who)
-at-opening g first s P o idle who has = subst P (sym (o.errand who has)) (idle who)
+    (g : Geometry) (first : WordName → ℕ) (s : State) (P : ErrandFields → Type 0) → IsOpening g first s → ((caller : ℕ) → P (open_errand caller g))
+    → (caller : ℕ) → caller < g.callers → P (s.errand caller)
+at-opening g first s P o idle caller has = subst P (sym (o.errand caller has)) (idle caller)
 
 pub first-reserved : (g : Geometry) (first : WordName → ℕ) (s : State) (d : ℕ) → IsOpening g first s → callers_sum g (errand_reserves d) s.errand ≡ 0
 unfolding holds_of
-first-reserved g first s d o = opened-weighs g first s (errand_reserves d) o (λ who. refl)
+first-reserved g first s d o = opened-weighs g first s (errand_reserves d) o (λ caller. refl)
 
 pub first-waiting : (g : Geometry) (first : WordName → ℕ) (s : State) (d : ℕ) → IsOpening g first s → waiting_of g s d ≡ 0
 unfolding holds_of
-first-waiting g first s d o = opened-weighs g first s (errand_keeps waiting d) o (λ who. refl)
+first-waiting g first s d o = opened-weighs g first s (errand_keeps waiting d) o (λ caller. refl)
 
 -- a descriptor from n on is available; one before isn't
 pub first-away :
@@ -151,7 +151,7 @@ first-away g n first s d b least has =
       arith,
       b.rule.descriptors,
       indexes-once n (descriptor_count g - n) d least (omega (arith, b.rule.descriptors)),
-      opened-weighs g first s (errand_away d) b.opening (λ who. refl),
+      opened-weighs g first s (errand_away d) b.opening (λ caller. refl),
     )
 
 pub first-here :
@@ -159,7 +159,7 @@ pub first-here :
     → away_of g s (first_lists g n) d ≡ 0
 unfolding holds_of
 first-here g n first s d b below =
-    omega (arith, indexes-before n (descriptor_count g - n) d below, opened-weighs g first s (errand_away d) b.opening (λ who. refl))
+    omega (arith, indexes-before n (descriptor_count g - n) d below, opened-weighs g first s (errand_away d) b.opening (λ caller. refl))
 
 pub first-unbound :
     (g : Geometry) (n : ℕ) (first : WordName → ℕ) (s : State) (d : ℕ) → IsBegun g n first s → n ≤ d → d < descriptor_count g
@@ -250,7 +250,7 @@ first-kept g n first s b once held =
     record {
       once = λ d has.
           let listed : sum_below CLASSES (λ class. 0) ≡ 0 = sum-none CLASSES (λ class. 0) (λ j lt. refl) in
-          let callers : callers_sum g (errand_has d) s.errand ≡ 0 = opened-weighs g first s (errand_has d) o (λ who. refl) in
+          let callers : callers_sum g (errand_has d) s.errand ≡ 0 = opened-weighs g first s (errand_has d) o (λ caller. refl) in
           let full : full_keeps (anchor_for s d).state ≡ 0 = ap full_keeps (first-state g n first s d b) in
           omega (arith, once d has, listed, callers, full);
       active_words = λ heap class has_heap has_class.
@@ -263,8 +263,8 @@ first-kept g n first s b once held =
       full = λ d has is. absurd (let active = first-state g n first s d b in cc);
       listed = λ class has. All-nil (λ d. IsPartlyUsed s d class);
       available = λ k d has. inl (first-state g n first s (slice_index_or (indexes n (descriptor_count g - n)) k d) b);
-      retired = at-opening g first s (λ e. All (IsWithout s) e.retired) o (λ who. All-nil (IsWithout s));
-      errand = at-opening g first s (λ e. All (λ k. IsKeptAs s k.status k.desc k.class) (holds_of e.point).kept) o (λ who. All-nil (λ k. IsKeptAs s k.status k.desc k.class));
+      retired = at-opening g first s (λ e. All (IsWithout s) e.retired) o (λ caller. All-nil (IsWithout s));
+      errand = at-opening g first s (λ e. All (λ k. IsKeptAs s k.status k.desc k.class) (holds_of e.point).kept) o (λ caller. All-nil (λ k. IsKeptAs s k.status k.desc k.class));
     }
 
 -- where the superblocks of the first n descriptors have their blocks in order, all superblocks have
@@ -295,38 +295,38 @@ pub first-framed :
     → IsFramed g s (first_lists g n)
 unfolding holds_of
 first-framed g n first s b once = record {
-  once = λ f has. omega (arith, once f has, opened-weighs g first s (errand_frames f) b.opening (λ who. refl));
+  once = λ f has. omega (arith, once f has, opened-weighs g first s (errand_frames f) b.opening (λ caller. refl));
 }
 
 first-remembered : (g : Geometry) (n : ℕ) (first : WordName → ℕ) (s : State) → IsBegun g n first s → IsRemembered g s (first_lists g n)
 unfolding recalls_of
 first-remembered g n first s b = record {
-  so = λ who has.
-      at-opening g first s (λ e. All (IsSo g s (first_lists g n) who) (recalls_of e.point)) b.opening
-      (λ other. All-nil (IsSo g s (first_lists g n) who)) who has;
+  so = λ caller has.
+      at-opening g first s (λ e. All (IsSo g s (first_lists g n) caller) (recalls_of e.point)) b.opening
+      (λ other. All-nil (IsSo g s (first_lists g n) caller)) caller has;
 }
 
 -- an idle caller guards nothing
-unguarded : (g : Geometry) (first : WordName → ℕ) (s : State) (who d : ℕ) → IsOpening g first s → who < g.callers → Guards s who d → ⊥
+unguarded : (g : Geometry) (first : WordName → ℕ) (s : State) (caller d : ℕ) → IsOpening g first s → caller < g.callers → Guards s caller d → ⊥
 unfolding holds_of
-unguarded g first s who d o has h =
-    at-opening g first s (λ e. IsGuard (holds_of e.point).hazard → ⊥) o (λ other no. no) who has h.guard
+unguarded g first s caller d o has h =
+    at-opening g first s (λ e. IsGuard (holds_of e.point).hazard → ⊥) o (λ other no. no) caller has h.guard
 
 first-guarded : (g : Geometry) (n : ℕ) (first : WordName → ℕ) (s : State) → IsBegun g n first s → IsGuarded g s
 unfolding holds_of
 first-guarded g n first s b =
     let o = b.opening in
     record {
-      words = λ who has.
-          at-opening g first s (λ e. IsHazard (holds_of e.point).hazard (s.word (name.Hazard who))) o
-          (λ other. zero-word g first s (name.Hazard who) o (b.rule.hazards who)) who has;
-      pushed = λ who other d has has_other guards is. unguarded g first s who d o has guards;
-      passed = λ who other d has has_other guards listed below. absurd (unguarded g first s who d o has guards);
-      unread = λ who i has passed below.
-          absurd (let none : length (held_by (s.errand who).point) ≡ 0 = ap (λ e. length (held_by e.point)) (o.errand who has) in
+      words = λ caller has.
+          at-opening g first s (λ e. IsHazard (holds_of e.point).hazard (s.word (name.Hazard caller))) o
+          (λ other. zero-word g first s (name.Hazard caller) o (b.rule.hazards caller)) caller has;
+      pushed = λ caller other d has has_other guards is. unguarded g first s caller d o has guards;
+      passed = λ caller other d has has_other guards listed below. absurd (unguarded g first s caller d o has guards);
+      unread = λ caller i has passed below.
+          absurd (let none : length (held_by (s.errand caller).point) ≡ 0 = ap (λ e. length (held_by e.point)) (o.errand caller has) in
           let no : ⊥ = omega (arith, none, below) in no);
-      full = λ who has is.
-          absurd (let none : spare_of (s.errand who).point ≡ 0 = ap (λ e. spare_of e.point) (o.errand who has) in
+      full = λ caller has is.
+          absurd (let none : spare_of (s.errand caller).point ≡ 0 = ap (λ e. spare_of e.point) (o.errand caller has) in
           let no : ⊥ = omega (arith, none, is) in no);
     }
 
@@ -341,7 +341,7 @@ first-stocked g n first s b words =
     (λ e. ap full_keeps (first-state g n first s d b)) (λ e. refl) in
     record {
       most = λ class has.
-          let callers : callers_sum g (errand_stock class) s.errand ≡ 0 = opened-weighs g first s (errand_stock class) b.opening (λ who. refl) in
+          let callers : callers_sum g (errand_stock class) s.errand ≡ 0 = opened-weighs g first s (errand_stock class) b.opening (λ caller. refl) in
           let full : sum_below (descriptor_count g) (full_stock s class) ≡ 0 =
           sum-none (descriptor_count g) (full_stock s class) (λ d lt. none-full class d) in
           omega (arith, words class, callers, full, b.checked.frames.0);
@@ -356,20 +356,20 @@ first-turned g n first s b =
     let o = b.opening in
     let head : (head_of (s.word name.FrameHead)).tag ≡ 0 = ap (λ h. h.tag) (frame-head g n first s b) in
     record {
-      own_turns = λ who has.
-          let given : count_by (gives_small who) s.history ≡ 0 = ap (count_by (gives_small who)) o.history in
-          at-opening g first s (λ e. count_by (gives_small who) s.history + turn_open e ≤ e.turns) o (λ other. omega (arith, given)) who has;
-      own_lost = λ who has.
+      own_turns = λ caller has.
+          let given : count_by (gives_small caller) s.history ≡ 0 = ap (count_by (gives_small caller)) o.history in
+          at-opening g first s (λ e. count_by (gives_small caller) s.history + turn_open e ≤ e.turns) o (λ other. omega (arith, given)) caller has;
+      own_lost = λ caller has.
           at-opening g first s
           (λ e. e.turns + errand_discards e
-          ≤ count_by (gives_small who) s.history + count_by (refuses_small who) s.history + e.lost + turn_unanswered e) o
-          (λ other. omega arith) who has;
+          ≤ count_by (gives_small caller) s.history + count_by (refuses_small caller) s.history + e.lost + turn_unanswered e) o
+          (λ other. omega arith) caller has;
       anchor_tags = λ d has. omega (arith, first-tag g n first s d b);
-      frame_tag = omega (arith, head, opened-weighs g first s turn_unframed o (λ who. refl));
+      frame_tag = omega (arith, head, opened-weighs g first s turn_unframed o (λ caller. refl));
       emptied =
-          omega (arith, opened-weighs g first s cleared_of o (λ who. refl), sum-none (descriptor_count g) (emptied_out g s (first_lists g n)) (λ d has. none-emptied g n first s d b));
+          omega (arith, opened-weighs g first s cleared_of o (λ caller. refl), sum-none (descriptor_count g) (emptied_out g s (first_lists g n)) (λ d has. none-emptied g n first s d b));
       list_tags = λ class has.
-          omega (arith, ap (λ w. (head_of w).tag) (zero-word g first s (name.ListHead class) o (b.rule.list_heads class)) ∙ zero-tag, opened-weighs g first s errand_pops o (λ who. refl), opened-weighs g first s turn_unlisted o (λ who. refl));
+          omega (arith, ap (λ w. (head_of w).tag) (zero-word g first s (name.ListHead class) o (b.rule.list_heads class)) ∙ zero-tag, opened-weighs g first s errand_pops o (λ caller. refl), opened-weighs g first s turn_unlisted o (λ caller. refl));
     }
 
 zero-bit : (i : ℕ) → bit_at 0 i ≡ 0
@@ -395,12 +395,12 @@ first-tied g n first s begun =
       shelved = λ k place b has live is. absurd (none-live-first g first s place b o live);
       bare_shelf = λ k has none. zero-word g first s (name.Shelf k) o (begun.rule.shelves k) ∙ sym shelf-nothing;
       contents = λ place i v b live is. absurd (none-live-first g first s place b o live);
-      hands = λ who has.
-          at-opening g first s (λ e. All (λ b. IsOwned s who b.place b.need) (holds_of e.point).hands) o
-          (λ other. All-nil (λ b. IsOwned s who b.place b.need)) who has;
-      frees = λ who has.
-          at-opening g first s (λ e. All (λ b. IsOwned s who b.place b.need) (holds_of e.point).frees) o
-          (λ other. All-nil (λ b. IsOwned s who b.place b.need)) who has;
+      hands = λ caller has.
+          at-opening g first s (λ e. All (λ b. IsOwned s caller b.place b.need) (holds_of e.point).hands) o
+          (λ other. All-nil (λ b. IsOwned s caller b.place b.need)) caller has;
+      frees = λ caller has.
+          at-opening g first s (λ e. All (λ b. IsOwned s caller b.place b.need) (holds_of e.point).frees) o
+          (λ other. All-nil (λ b. IsOwned s caller b.place b.need)) caller has;
     }
 
 -- the words are words
@@ -408,9 +408,9 @@ first-words : (g : Geometry) (n : ℕ) (first : WordName → ℕ) (s : State) �
 first-words g n first s b m = opening-word g first s m (λ w. w < 2 ^ 64) b.opening (b.rule.words m) (omega arith)
 
 -- an opening errand keeps its rule
-open-own : (g : Geometry) (who : ℕ) → IsChecked g → who < g.callers → IsOwnErrand g who (open_errand who g)
-open-own g who checked has = record {
-  caller = refl;
+open-own : (g : Geometry) (caller : ℕ) → IsChecked g → caller < g.callers → IsOwnErrand g caller (open_errand caller g)
+open-own g caller checked has = record {
+  number = refl;
   geometry = refl;
   rule = record {
     geometry = checked;
@@ -438,7 +438,7 @@ pub first-sound :
     → IsSoundWith g s (first_lists g n)
 first-sound g n first s b kept chained framed stocked = record {
   words = first-words g n first s b;
-  errands = λ who has. subst (IsOwnErrand g who) (sym (b.opening.errand who has)) (open-own g who b.checked has);
+  errands = λ caller has. subst (IsOwnErrand g caller) (sym (b.opening.errand caller has)) (open-own g caller b.checked has);
   listed = first-listed g n first s b;
   kept = kept;
   chained = chained;

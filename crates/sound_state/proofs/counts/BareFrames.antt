@@ -125,62 +125,62 @@ reserved-of d e blocks some = grind (arith, some)
 
 -- after a pop it would hand out a block of the frame
 live-there :
-    (s : State) (who f i : ℕ) (at : Site) (n : Need) → IsBare (pool_of s.history) f → at.frame ≡ f → i < block_count_of at.seat.class
-    → IsOwned s who (block_place at.frame at.seat.class i) n → ⊥
-live-there s who f i at n bare there within owned =
+    (s : State) (caller f i : ℕ) (at : Site) (n : Need) → IsBare (pool_of s.history) f → at.frame ≡ f → i < block_count_of at.seat.class
+    → IsOwned s caller (block_place at.frame at.seat.class i) n → ⊥
+live-there s caller f i at n bare there within owned =
     let (b, is, owner, need) = owned.block in
     bare (block_place at.frame at.seat.class i) b is
     (ap frame_of (place-found (block_place at.frame at.seat.class i) (pool_of s.history) b is)
     ∙ frame_of-block_place at.frame at.seat.class i within ∙ there)
 
 after-pop :
-    (g : Geometry) (s : State) (l : Lists) (who f d i more : ℕ) (at : Site) → IsBare (pool_of s.history) f → (info_for s d).frame ≡ f
-    → i < block_count_of at.seat.class → All (IsSo g s l who) (bound_here at) → All (λ x. IsOwned s who x.place x.need) (block_handed at i)
+    (g : Geometry) (s : State) (l : Lists) (caller f d i more : ℕ) (at : Site) → IsBare (pool_of s.history) f → (info_for s d).frame ≡ f
+    → i < block_count_of at.seat.class → All (IsSo g s l caller) (bound_here at) → All (λ x. IsOwned s caller x.place x.need) (block_handed at i)
     → 0 < reserved_among d (reserve at.desc more) → ⊥
-after-pop g s l who f d i more at bare lies within so hands some =
+after-pop g s l caller f d i more at bare lies within so hands some =
     let same : at.desc ≡ d = reserved-of d at.desc more some in
-    let located : IsLocated s at.desc at.frame at.seat.class = (All-head (IsSo g s l who) (bound_at at.desc at.frame at.seat.class) [] so).1 in
+    let located : IsLocated s at.desc at.frame at.seat.class = (All-head (IsSo g s l caller) (bound_at at.desc at.frame at.seat.class) [] so).1 in
     let there : at.frame ≡ f = sym located.frame ∙ ap (λ k. (info_for s k).frame) same ∙ lies in
-    live-there s who f i at (Small at.seat.class) bare there within
-    (All-head (λ x. IsOwned s who x.place x.need) (record { place = block_place at.frame at.seat.class i; need = Small at.seat.class }) [] hands)
+    live-there s caller f i at (Small at.seat.class) bare there within
+    (All-head (λ x. IsOwned s caller x.place x.need) (record { place = block_place at.frame at.seat.class i; need = Small at.seat.class }) [] hands)
 
 -- and a new superblock that waits doesn't fill its frame
 installs-waits : (d e blocks class : ℕ) → 0 < reserved_among d (reserve e blocks) → kept_among waiting d (keep e class waiting) ≡ 0 → ⊥
 installs-waits d e blocks class some none = grind (arith, some, none)
 
 -- what a sound state says of a caller at a point, where the superblock of d fills_frame the bare frame
-record Beside (g : Geometry) (s : State) (l : Lists) (who f d : ℕ) : Type 0 where
+record Beside (g : Geometry) (s : State) (l : Lists) (caller f d : ℕ) : Type 0 where
   bare : IsBare (pool_of s.history) f
   filled : 0 < fills_frame g s l f d
   lies : (info_for s d).frame ≡ f
 
 block-pops :
-    (g : Geometry) (s : State) (l : Lists) (who f d : ℕ) (p : BlockPoint) → Beside g s l who f d → FitsBlock g who p
-    → All (IsSo g s l who) (block_recalls p) → All (λ x. IsOwned s who x.place x.need) (block_holds p).hands
+    (g : Geometry) (s : State) (l : Lists) (caller f d : ℕ) (p : BlockPoint) → Beside g s l caller f d → FitsBlock g caller p
+    → All (IsSo g s l caller) (block_recalls p) → All (λ x. IsOwned s caller x.place x.need) (block_holds p).hands
     → kept_among waiting d (block_holds p).kept ≡ 0 → 0 < reserved_among d (block_holds p).credits → 0 < popping_fills g s l f (popping_block p)
-block-pops g s l who f d (block.LoadInfo seat e share) b fits so hands none some = before-pop g s l f d e seat.class share b.filled some
-block-pops g s l who f d (block.LoadAnchor at share) b fits so hands none some = before-pop g s l f d at.desc at.seat.class share b.filled some
-block-pops g s l who f d (block.LoadLink at share a) b fits so hands none some = before-pop g s l f d at.desc at.seat.class share b.filled some
-block-pops g s l who f d (block.PopBlock at share a prefix) b fits so hands none some =
+block-pops g s l caller f d (block.LoadInfo seat e share) b fits so hands none some = before-pop g s l f d e seat.class share b.filled some
+block-pops g s l caller f d (block.LoadAnchor at share) b fits so hands none some = before-pop g s l f d at.desc at.seat.class share b.filled some
+block-pops g s l caller f d (block.LoadLink at share a) b fits so hands none some = before-pop g s l f d at.desc at.seat.class share b.filled some
+block-pops g s l caller f d (block.PopBlock at share a prefix) b fits so hands none some =
     before-pop g s l f d at.desc at.seat.class share b.filled some
-block-pops g s l who f d (block.InstallCredits at i more) b fits so hands none some =
-    absurd (after-pop g s l who f d i more at b.bare b.lies fits.0.index so hands some)
-block-pops g s l who f d (block.LoadReturn at i more) b fits so hands none some =
-    absurd (after-pop g s l who f d i more at b.bare b.lies fits.0.index so hands some)
-block-pops g s l who f d (block.ReturnCredits at i more a) b fits so hands none some =
-    absurd (after-pop g s l who f d i more at b.bare b.lies fits.0.index so hands some)
-block-pops g s l who f d (block.InstallSuperblock at) b fits so hands none some =
+block-pops g s l caller f d (block.InstallCredits at i more) b fits so hands none some =
+    absurd (after-pop g s l caller f d i more at b.bare b.lies fits.0.index so hands some)
+block-pops g s l caller f d (block.LoadReturn at i more) b fits so hands none some =
+    absurd (after-pop g s l caller f d i more at b.bare b.lies fits.0.index so hands some)
+block-pops g s l caller f d (block.ReturnCredits at i more a) b fits so hands none some =
+    absurd (after-pop g s l caller f d i more at b.bare b.lies fits.0.index so hands some)
+block-pops g s l caller f d (block.InstallSuperblock at) b fits so hands none some =
     absurd (installs-waits d at.desc (new_credits at.seat.class + 1) at.seat.class some none)
-block-pops g s l who f d p b fits so hands none some = absurd (omega (arith, some))
+block-pops g s l caller f d p b fits so hands none some = absurd (omega (arith, some))
 
 -- nothing is reserved anywhere else
 point-pops :
-    (g : Geometry) (s : State) (l : Lists) (who f d : ℕ) (p : Point) → Beside g s l who f d → FitsPoint g who p
-    → All (IsSo g s l who) (recalls_of p) → All (λ x. IsOwned s who x.place x.need) (holds_of p).hands
+    (g : Geometry) (s : State) (l : Lists) (caller f d : ℕ) (p : Point) → Beside g s l caller f d → FitsPoint g caller p
+    → All (IsSo g s l caller) (recalls_of p) → All (λ x. IsOwned s caller x.place x.need) (holds_of p).hands
     → kept_among waiting d (holds_of p).kept ≡ 0 → 0 < reserved_among d (holds_of p).credits → 0 < popping_fills g s l f (popping p)
 unfolding holds_of recalls_of
-point-pops g s l who f d (point.Block p o) b fits so hands none some = block-pops g s l who f d p b fits.point so hands none some
-point-pops g s l who f d p b fits so hands none some = absurd (grind (arith, some))
+point-pops g s l caller f d (point.Block p o) b fits so hands none some = block-pops g s l caller f d p b fits.point so hands none some
+point-pops g s l caller f d p b fits so hands none some = absurd (grind (arith, some))
 
 -- so callers that have reserved blocks of it weigh something
 callers-pop :
@@ -188,14 +188,14 @@ callers-pop :
     → 0 < callers_sum g (errand_reserves d) s.errand → 0 < callers_sum g (errand_weighs g s l f) s.errand
 unfolding callers_sum
 callers-pop g s l f d sound bare filled some =
-    let (i, has, here) = some-term g.callers (λ who. errand_reserves d (s.errand who)) some in
+    let (i, has, here) = some-term g.callers (λ caller. errand_reserves d (s.errand caller)) some in
     let is = fills-is (is_bound g s l d) (waiting_of g s d) (info_for s d).frame f filled in
     let none : errand_keeps waiting d (s.errand i) ≡ 0 =
-    omega (arith, is.1, term-sum g.callers (λ who. errand_keeps waiting d (s.errand who)) i has) in
+    omega (arith, is.1, term-sum g.callers (λ caller. errand_keeps waiting d (s.errand caller)) i has) in
     let pops : 0 < popping_fills g s l f (popping (s.errand i).point) =
     point-pops g s l i f d (s.errand i).point (record { bare = bare; filled = filled; lies = is.2 })
     (fits-at g s l i (s.errand i).point sound has refl) (sound.remembered.so i has) (sound.tied.hands i has) none here in
-    omega (arith, pops, term-sum g.callers (λ who. errand_weighs g s l f (s.errand who)) i has)
+    omega (arith, pops, term-sum g.callers (λ caller. errand_weighs g s l f (s.errand caller)) i has)
 
 -- a frame that is filled, and bare
 filled-weighs :

@@ -15,8 +15,8 @@ use Rattle.sound_state.proofs.counts.BareWeights.{frame_weighs, frames-weigh}
 
 -- where no frame is on the stack, and a caller has neither a frame nor a reserved block, few frames are bare
 pub refusal-counted :
-    (g : Geometry) (s : State) (l : Lists) (who : ℕ) → IsSoundWith g s l → who < g.callers → l.frames ≡ []
-    → (holds_of (s.errand who).point).frames ≡ [] → (holds_of (s.errand who).point).credits ≡ [] → IsCrowded g (pool_of s.history)
-refusal-counted g s l who sound has empty no_frame no_credit =
+    (g : Geometry) (s : State) (l : Lists) (caller : ℕ) → IsSoundWith g s l → caller < g.callers → l.frames ≡ []
+    → (holds_of (s.errand caller).point).frames ≡ [] → (holds_of (s.errand caller).point).credits ≡ [] → IsCrowded g (pool_of s.history)
+refusal-counted g s l caller sound has empty no_frame no_credit =
     at_most-sum (g.heaps * CLASSES + g.callers - 1) g.frames (frame_weighs g s l) (IsBare (pool_of s.history))
-    (λ f below bare. bare-weighs g s l f sound empty below bare) (frames-weigh g s l who has no_frame no_credit)
+    (λ f below bare. bare-weighs g s l f sound empty below bare) (frames-weigh g s l caller has no_frame no_credit)

@@ -156,17 +156,17 @@ caller-weighs g s l n e =
 
 -- and none in one that has neither a frame nor a reserved block
 callers-weigh-most :
-    (g : Geometry) (s : State) (l : Lists) (n who : ℕ) → who < g.callers → (holds_of (s.errand who).point).frames ≡ []
-    → (holds_of (s.errand who).point).credits ≡ [] → sum_below n (λ f. callers_sum g (errand_weighs g s l f) s.errand) + 1 ≤ g.callers
-callers-weigh-most g s l n who has no_frame no_credit =
+    (g : Geometry) (s : State) (l : Lists) (n caller : ℕ) → caller < g.callers → (holds_of (s.errand caller).point).frames ≡ []
+    → (holds_of (s.errand caller).point).credits ≡ [] → sum_below n (λ f. callers_sum g (errand_weighs g s l f) s.errand) + 1 ≤ g.callers
+callers-weigh-most g s l n caller has no_frame no_credit =
     omega (
       arith,
-      callers-together g n (errand_weighs g s l) s.errand who 1 has
+      callers-together g n (errand_weighs g s l) s.errand caller 1 has
           (omega (
             arith,
-            caller-weighs g s l n (s.errand who),
+            caller-weighs g s l n (s.errand caller),
             ap (length {A = ℕ}) no_frame,
-            pays (s.errand who).point,
+            pays (s.errand caller).point,
             ap (length {A = _}) no_credit,
           ))
           (λ e. omega (arith, caller-weighs g s l n e, one-point e.point)),
@@ -174,12 +174,12 @@ callers-weigh-most g s l n who has no_frame no_credit =
 
 -- all frames together
 pub frames-weigh :
-    (g : Geometry) (s : State) (l : Lists) (who : ℕ) → who < g.callers → (holds_of (s.errand who).point).frames ≡ []
-    → (holds_of (s.errand who).point).credits ≡ [] → sum_below g.frames (frame_weighs g s l) ≤ g.heaps * CLASSES + g.callers - 1
-frames-weigh g s l who has no_frame no_credit =
+    (g : Geometry) (s : State) (l : Lists) (caller : ℕ) → caller < g.callers → (holds_of (s.errand caller).point).frames ≡ []
+    → (holds_of (s.errand caller).point).credits ≡ [] → sum_below g.frames (frame_weighs g s l) ≤ g.heaps * CLASSES + g.callers - 1
+frames-weigh g s l caller has no_frame no_credit =
     omega (
       arith,
       sum-plus g.frames (λ f. callers_sum g (errand_weighs g s l f) s.errand) (λ f. words_sum g (word_weighs g s l f) s.word),
-      callers-weigh-most g s l g.frames who has no_frame no_credit,
+      callers-weigh-most g s l g.frames caller has no_frame no_credit,
       words-weigh-most g s l g.frames,
     )

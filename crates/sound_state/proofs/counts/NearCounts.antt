@@ -103,19 +103,19 @@ caller-most n e =
 
 -- so the callers have two each, where one has none two fewer
 callers-near-most :
-    (g : Geometry) (n : ℕ) (errands : ℕ → ErrandFields) (who : ℕ) → who < g.callers → (holds_of (errands who).point).kept ≡ []
-    → (holds_of (errands who).point).credits ≡ [] → sum_below n (λ d. callers_sum g (errand_nears d) errands) + 2 ≤ g.callers * 2
-callers-near-most g n errands who has no_kept no_credits =
-    callers-together g n errand_nears errands who 2 has
-    (omega (arith, caller-most n (errands who), ap (length {A = Kept}) no_kept, ap (length {A = Reserved}) no_credits))
+    (g : Geometry) (n : ℕ) (errands : ℕ → ErrandFields) (caller : ℕ) → caller < g.callers → (holds_of (errands caller).point).kept ≡ []
+    → (holds_of (errands caller).point).credits ≡ [] → sum_below n (λ d. callers_sum g (errand_nears d) errands) + 2 ≤ g.callers * 2
+callers-near-most g n errands caller has no_kept no_credits =
+    callers-together g n errand_nears errands caller 2 has
+    (omega (arith, caller-most n (errands caller), ap (length {A = Kept}) no_kept, ap (length {A = Reserved}) no_credits))
     (λ e. omega (arith, caller-most n e, point-holds-two e.point))
 
 -- descriptors are near the class twice for each heap and each other caller, at most
 pub near-most :
-    (g : Geometry) (s : State) (who class : ℕ) → who < g.callers → (holds_of (s.errand who).point).kept ≡ []
-    → (holds_of (s.errand who).point).credits ≡ []
+    (g : Geometry) (s : State) (caller class : ℕ) → caller < g.callers → (holds_of (s.errand caller).point).kept ≡ []
+    → (holds_of (s.errand caller).point).credits ≡ []
     → sum_below (descriptor_count g) (near_of g s class) ≤ 2 * g.heaps + 2 * g.callers - 2
-near-most g s who class has no_kept no_credits =
+near-most g s caller class has no_kept no_credits =
     let n = descriptor_count g in
     let words = λ (d : ℕ). words_sum g (class_keeps class d) s.word in
     let callers = λ (d : ℕ). callers_sum g (errand_nears d) s.errand in
@@ -123,5 +123,5 @@ near-most g s who class has no_kept no_credits =
       arith,
       sum-plus n words callers,
       words-near-most g n class s.word,
-      callers-near-most g n s.errand who has no_kept no_credits,
+      callers-near-most g n s.errand caller has no_kept no_credits,
     )

@@ -198,10 +198,10 @@ part-near g s l class f sound bare part =
 
 -- so a look finds few: two for each heap and each other caller
 pub look-counted :
-    (g : Geometry) (s : State) (l : Lists) (who class : ℕ) → IsSoundWith g s l → who < g.callers → class < CLASSES → l.partials class ≡ []
-    → (holds_of (s.errand who).point).kept ≡ [] → (holds_of (s.errand who).point).credits ≡ [] → IsWorn g (pool_of s.history) class
-look-counted g s l who class sound has is_class bare no_kept no_credits fs rises all =
+    (g : Geometry) (s : State) (l : Lists) (caller class : ℕ) → IsSoundWith g s l → caller < g.callers → class < CLASSES → l.partials class ≡ []
+    → (holds_of (s.errand caller).point).kept ≡ [] → (holds_of (s.errand caller).point).credits ≡ [] → IsWorn g (pool_of s.history) class
+look-counted g s l caller class sound has is_class bare no_kept no_credits fs rises all =
     let most =
     frames-most g.frames (descriptor_count g) (λ d. (info_for s d).frame) (near_of g s class) (IsPartUsed (pool_of s.history) class)
     (λ f lt part. part-near g s l class f sound bare part) fs rises all in
-    omega (arith, most, near-most g s who class has no_kept no_credits)
+    omega (arith, most, near-most g s caller class has no_kept no_credits)

@@ -27,16 +27,16 @@ use Rattle.large_parts.specs.Runs.{WantFields}
 use Rattle.pool_model.specs.declared.event.Event.{Event}
 use Rattle.pool_model.specs.Legal.{IsCounted, IsCountedFor, IsCrowded, IsWorn}
 use Rattle.pool_model.specs.Pool.{Pool, pool_of}
-use Rattle.errand_steps.specs.declared.onward.Onward.{Onward}
-use Rattle.errand_steps.specs.declared.onward.Onward.TheVariants as onward
+use Rattle.errand_steps.specs.declared.continuation.Continuation.{Continuation}
+use Rattle.errand_steps.specs.declared.continuation.Continuation.TheVariants as continuation
 use Rattle.errand_steps.specs.declared.point.Point.{Point}
 use Rattle.errand_steps.specs.declared.point.Point.TheVariants as point
 use Rattle.errand_steps.specs.Events.{event_of, won_event, block_event, stack_event, empty_event, large_event, run_event}
 use Rattle.errand_steps.specs.Fits.{FitsPoint, FitsInStack}
-use Rattle.errand_steps.specs.Onwards.{GoesLarge, IsRunFor, confirms}
+use Rattle.errand_steps.specs.Continuations.{GoesLarge, IsRunFor, confirms}
 use Rattle.errand_steps.specs.Points.{asked, plan_point_of}
 use Rattle.errand_steps.specs.Steps.{State, found_at}
-use Rattle.sound_state.specs.Holdings.{Holding, holds_of, stack_holds, onward_holds}
+use Rattle.sound_state.specs.Holdings.{Holding, holds_of, stack_holds, continuation_holds}
 use Rattle.sound_state.specs.Lists.{Lists}
 use Rattle.sound_state.specs.Sound.{IsSoundWith, TellsCounted}
 use Rattle.sound_state.proofs.shared.PointLemmas.{fits-at}
@@ -62,32 +62,32 @@ found-top word h head none won =
     ap (λ w. (head_of w).top) (eqb-true word (head_word h) won) ∙ ap (λ x. x.top) (head_of-head_word h head) ∙ none
 
 -- a point in a superblock tells no look and no refusal
-block-tells : (g : Geometry) (pool : Pool) (who words : ℕ) (p : BlockPoint) → HasCount g pool (block_event who words p)
-block-tells g pool who words p = grind (arith)
+block-tells : (g : Geometry) (pool : Pool) (caller words : ℕ) (p : BlockPoint) → HasCount g pool (block_event caller words p)
+block-tells g pool caller words p = grind (arith)
 
 -- at a large block only a refusal of a large need does
-large-refuses : (g : Geometry) (pool : Pool) (units : ℕ) (o : Onward) → IsRunFor units o → IsCountedFor g pool (need_of (asked o))
-large-refuses g pool units (onward.Alloc words) goes = subst (IsCountedFor g pool) (sym goes) tt
+large-refuses : (g : Geometry) (pool : Pool) (units : ℕ) (o : Continuation) → IsRunFor units o → IsCountedFor g pool (need_of (asked o))
+large-refuses g pool units (continuation.Alloc words) goes = subst (IsCountedFor g pool) (sym goes) tt
 large-refuses g pool units o goes = absurd goes
 
 run-tells :
-    (g : Geometry) (pool : Pool) (who : ℕ) (w : WantFields) (o : Onward) (first : Option ℕ) → IsRunFor w.units o
-    → IsCounted g pool (run_event who (asked o) w first)
-run-tells g pool who w o None goes = large-refuses g pool w.units o goes
-run-tells g pool who w o (Some unit) goes = tt
+    (g : Geometry) (pool : Pool) (caller : ℕ) (w : WantFields) (o : Continuation) (first : Option ℕ) → IsRunFor w.units o
+    → IsCounted g pool (run_event caller (asked o) w first)
+run-tells g pool caller w o None goes = large-refuses g pool w.units o goes
+run-tells g pool caller w o (Some unit) goes = tt
 
-large-tells : (g : Geometry) (pool : Pool) (who : ℕ) (p : LargePoint) (o : Onward) → GoesLarge p o → HasCount g pool (large_event who (asked o) p)
-large-tells g pool who (large.TakeRun w bits) o goes = run-tells g pool who w o (first_wanted w bits) goes
-large-tells g pool who p o goes = tt
+large-tells : (g : Geometry) (pool : Pool) (caller : ℕ) (p : LargePoint) (o : Continuation) → GoesLarge p o → HasCount g pool (large_event caller (asked o) p)
+large-tells g pool caller (large.TakeRun w bits) o goes = run-tells g pool caller w o (first_wanted w bits) goes
+large-tells g pool caller p o goes = tt
 
 -- a caller that confirms that there is no frame has neither a frame nor a reserved block; that there is no partial superblock, nothing
-no-frame : (seat : SeatFields) (o : Onward) → (onward_holds seat o).frames ≡ []
+no-frame : (seat : SeatFields) (o : Continuation) → (continuation_holds seat o).frames ≡ []
 no-frame seat o = grind (arith)
 
-no-credit : (seat : SeatFields) (o : Onward) → (onward_holds seat o).credits ≡ []
+no-credit : (seat : SeatFields) (o : Continuation) → (continuation_holds seat o).credits ≡ []
 no-credit seat o = grind (arith)
 
-no-desc : (seat : SeatFields) (o : Onward) → IsTrue (confirms Partials o) → (onward_holds seat o).kept ≡ []
+no-desc : (seat : SeatFields) (o : Continuation) → IsTrue (confirms Partials o) → (continuation_holds seat o).kept ≡ []
 no-desc seat o goes = grind (arith, goes)
 
 -- crowded is enough for a refusal of any need
@@ -98,15 +98,15 @@ refuses g pool TooLarge crowded = tt
 
 -- at a stack, what confirms that it is empty
 confirms-tells :
-    (g : Geometry) (s : State) (l : Lists) (who : ℕ) (seat : SeatFields) (pile : Pile) (h : HeadFields) (o : Onward) → IsSoundWith g s l
-    → IsBare g who seat h → IsTrue (confirms pile o) → LooksWorn g s l (onward_holds seat o) → RefusesCrowded g s l (onward_holds seat o)
-    → (s.word (head_name seat pile) == head_word h) ≡ true → IsCounted g (pool_of s.history) (empty_event who (asked o) pile seat.class)
-confirms-tells g s l who seat Frames h o sound bare goes worn crowded won =
+    (g : Geometry) (s : State) (l : Lists) (caller : ℕ) (seat : SeatFields) (pile : Pile) (h : HeadFields) (o : Continuation) → IsSoundWith g s l
+    → IsBare g caller seat h → IsTrue (confirms pile o) → LooksWorn g s l (continuation_holds seat o) → RefusesCrowded g s l (continuation_holds seat o)
+    → (s.word (head_name seat pile) == head_word h) ≡ true → IsCounted g (pool_of s.history) (empty_event caller (asked o) pile seat.class)
+confirms-tells g s l caller seat Frames h o sound bare goes worn crowded won =
     let empty : l.frames ≡ [] =
     stacked-none (next_in s.word Frames) (head_of (s.word name.FrameHead)).top l.frames sound.listed.frames
     (found-top (s.word name.FrameHead) h bare.head bare.top won) in
     refuses g (pool_of s.history) (need_of (asked o)) (crowded empty (no-frame seat o) (no-credit seat o))
-confirms-tells g s l who seat Partials h o sound bare goes worn crowded won =
+confirms-tells g s l caller seat Partials h o sound bare goes worn crowded won =
     let word = s.word (name.ListHead seat.class) in
     let empty : l.partials seat.class ≡ [] =
     stacked-none (next_in s.word Partials) (head_of word).top (l.partials seat.class) (sound.listed.partials seat.class bare.seat.class)
@@ -114,24 +114,24 @@ confirms-tells g s l who seat Partials h o sound bare goes worn crowded won =
     worn seat.class bare.seat.class empty (no-desc seat o goes) (no-credit seat o)
 
 stack-tells :
-    (g : Geometry) (s : State) (l : Lists) (who : ℕ) (p : StackPoint) (o : Onward) → IsSoundWith g s l → FitsInStack g who p o
+    (g : Geometry) (s : State) (l : Lists) (caller : ℕ) (p : StackPoint) (o : Continuation) → IsSoundWith g s l → FitsInStack g caller p o
     → LooksWorn g s l (stack_holds p o) → RefusesCrowded g s l (stack_holds p o) → (found_from s (point.Stack p o)).won ≡ true
-    → HasCount g (pool_of s.history) (stack_event who (asked o) p)
+    → HasCount g (pool_of s.history) (stack_event caller (asked o) p)
 unfolding plan_point_of
-stack-tells g s l who (stack.ConfirmEmpty seat pile h) o sound fits worn crowded won =
-    confirms-tells g s l who seat pile h o sound fits.point fits.goes worn crowded won
-stack-tells g s l who p o sound fits worn crowded won = tt
+stack-tells g s l caller (stack.ConfirmEmpty seat pile h) o sound fits worn crowded won =
+    confirms-tells g s l caller seat pile h o sound fits.point fits.goes worn crowded won
+stack-tells g s l caller p o sound fits worn crowded won = tt
 
 -- at any point, where the action is not lost
 point-tells :
-    (g : Geometry) (s : State) (l : Lists) (who : ℕ) (p : Point) → IsSoundWith g s l → FitsPoint g who p
+    (g : Geometry) (s : State) (l : Lists) (caller : ℕ) (p : Point) → IsSoundWith g s l → FitsPoint g caller p
     → LooksWorn g s l (holds_of p) → RefusesCrowded g s l (holds_of p) → (found_from s p).won ≡ true
-    → HasCount g (pool_of s.history) (won_event who p)
+    → HasCount g (pool_of s.history) (won_event caller p)
 unfolding holds_of
-point-tells g s l who (point.Block p o) sound fits worn crowded won = block-tells g (pool_of s.history) who (asked o) p
-point-tells g s l who (point.Stack p o) sound fits worn crowded won = stack-tells g s l who p o sound fits worn crowded won
-point-tells g s l who (point.Large p o) sound fits worn crowded won = large-tells g (pool_of s.history) who p o fits.goes
-point-tells g s l who p sound fits worn crowded won = tt
+point-tells g s l caller (point.Block p o) sound fits worn crowded won = block-tells g (pool_of s.history) caller (asked o) p
+point-tells g s l caller (point.Stack p o) sound fits worn crowded won = stack-tells g s l caller p o sound fits worn crowded won
+point-tells g s l caller (point.Large p o) sound fits worn crowded won = large-tells g (pool_of s.history) caller p o fits.goes
+point-tells g s l caller p sound fits worn crowded won = tt
 
 -- what is lost tells nothing
 won-counts :
@@ -142,13 +142,13 @@ won-counts g pool false told e counts is = absurd (none-some e is)
 
 -- so what a caller tells next has its number, where the two counts hold
 pub tells-counted :
-    (g : Geometry) (s : State) (l : Lists) (who : ℕ) → IsSoundWith g s l → who < g.callers
-    → ((class : ℕ) → class < CLASSES → l.partials class ≡ [] → (holds_of (s.errand who).point).kept ≡ []
-    → (holds_of (s.errand who).point).credits ≡ [] → IsWorn g (pool_of s.history) class)
-    → (l.frames ≡ [] → (holds_of (s.errand who).point).frames ≡ [] → (holds_of (s.errand who).point).credits ≡ []
-    → IsCrowded g (pool_of s.history)) → TellsCounted g s who
+    (g : Geometry) (s : State) (l : Lists) (caller : ℕ) → IsSoundWith g s l → caller < g.callers
+    → ((class : ℕ) → class < CLASSES → l.partials class ≡ [] → (holds_of (s.errand caller).point).kept ≡ []
+    → (holds_of (s.errand caller).point).credits ≡ [] → IsWorn g (pool_of s.history) class)
+    → (l.frames ≡ [] → (holds_of (s.errand caller).point).frames ≡ [] → (holds_of (s.errand caller).point).credits ≡ []
+    → IsCrowded g (pool_of s.history)) → TellsCounted g s caller
 unfolding event_of
-tells-counted g s l who sound has worn crowded e is =
-    let p = (s.errand who).point in
-    won-counts g (pool_of s.history) (found_at s who).won (won_event who p) e
-    (λ won. point-tells g s l who p sound (fits-at g s l who p sound has refl) worn crowded won) is
+tells-counted g s l caller sound has worn crowded e is =
+    let p = (s.errand caller).point in
+    won-counts g (pool_of s.history) (found_at s caller).won (won_event caller p) e
+    (λ won. point-tells g s l caller p sound (fits-at g s l caller p sound has refl) worn crowded won) is

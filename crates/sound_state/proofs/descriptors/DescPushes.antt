@@ -19,8 +19,8 @@ use Rattle.hazard_parts.specs.declared.point.DescPoint.TheVariants as desc
 use Rattle.pool_model.specs.Legal.{IsLegalWithoutCounts}
 use Rattle.errand_steps.specs.declared.next.Next.{Next}
 use Rattle.errand_steps.specs.declared.next.Next.TheVariants.{At, End, Unlist}
-use Rattle.errand_steps.specs.declared.onward.Onward.{Onward}
-use Rattle.errand_steps.specs.declared.onward.Onward.TheVariants as onward
+use Rattle.errand_steps.specs.declared.continuation.Continuation.{Continuation}
+use Rattle.errand_steps.specs.declared.continuation.Continuation.TheVariants as continuation
 use Rattle.errand_steps.specs.declared.point.Point.{Point}
 use Rattle.errand_steps.specs.declared.point.Point.TheVariants.{Block, Desc}
 use Rattle.errand_steps.specs.declared.reply.Reply.TheVariants as reply
@@ -28,7 +28,7 @@ use Rattle.errand_steps.specs.Errands.{ErrandFields, IsErrand, settle_of, course
 use Rattle.errand_steps.specs.Events.{event_of}
 use Rattle.errand_steps.specs.Fits.{spare_of, pushed_by}
 use Rattle.errand_steps.specs.Nexts.{next_of, resumed}
-use Rattle.errand_steps.specs.Onwards.{resumes}
+use Rattle.errand_steps.specs.Continuations.{resumes}
 use Rattle.errand_steps.specs.Points.{plan_point_of}
 use Rattle.errand_steps.specs.Steps.{State, Step, Moves, found_at, with_event, name_at}
 use Rattle.errand_steps.proofs.ErrandLemmas.{settle_errand}
@@ -52,14 +52,14 @@ use Rattle.sound_state.proofs.shared.StepLemmas.{raised-least, raised-below, fou
 use Rattle.sound_state.proofs.shared.WordFacts.{name-below}
 
 -- where a call goes on after a retirement, and how many turns it has begun then
-abbrev pub resumed_point : ErrandFields → SeatFields → Onward → Point
+abbrev pub resumed_point : ErrandFields → SeatFields → Continuation → Point
 resumed_point e seat o = point_after (after_turn e (resumed seat o))
 
-abbrev pub resumed_turns : ErrandFields → SeatFields → Onward → ℕ
+abbrev pub resumed_turns : ErrandFields → SeatFields → Continuation → ℕ
 resumed_turns e seat o = raised (begins_turn e (resumed seat o)) e.turns
 
 -- the errand after a descriptor of its list is pushed
-abbrev pub pushed_errand : ErrandFields → Found → SeatFields → ℕ → Onward → ErrandFields
+abbrev pub pushed_errand : ErrandFields → Found → SeatFields → ℕ → Continuation → ErrandFields
 pushed_errand e x seat d o =
     record e {
       point = resumed_point e seat o;
@@ -71,7 +71,7 @@ pushed_errand e x seat d o =
     }
 
 settle-pushed :
-    (e : ErrandFields) (x : Found) (seat : SeatFields) (d : ℕ) (o : Onward) → next_of e.point x ≡ Unlist seat d o
+    (e : ErrandFields) (x : Found) (seat : SeatFields) (d : ℕ) (o : Continuation) → next_of e.point x ≡ Unlist seat d o
     → settle_of e x ≡ pushed_errand e x seat d o
 unfolding settle_of course_of
 settle-pushed e x seat d o is = rw is refl
@@ -100,16 +100,16 @@ pub record TurnResumes (p q : Point) (turns turns' : ℕ) : Type 0 where
 
 -- the next turn begins, or the call ends where none is left
 abbrev turn_next : Bool → SeatFields → ℕ → Next
-turn_next b seat words = if b then End reply.Spent else At (Block (block.LoadActive seat) (onward.Alloc words))
+turn_next b seat words = if b then End reply.Spent else At (Block (block.LoadActive seat) (continuation.Alloc words))
 
 turn-bare : (b : Bool) (seat : SeatFields) (words : ℕ) → IsBarePoint (point_after (turn_next b seat words))
 unfolding holds_of recalls_of
 turn-bare true seat words = grind (arith)
 turn-bare false seat words = grind (arith)
 
-resumed-bare : (e : ErrandFields) (seat : SeatFields) (o : Onward) → IsTrue (resumes o) → IsBarePoint (resumed_point e seat o)
+resumed-bare : (e : ErrandFields) (seat : SeatFields) (o : Continuation) → IsTrue (resumes o) → IsBarePoint (resumed_point e seat o)
 unfolding holds_of recalls_of
-resumed-bare e seat (onward.Turn words) is = turn-bare (is_spent e) seat words
+resumed-bare e seat (continuation.Turn words) is = turn-bare (is_spent e) seat words
 resumed-bare e seat o is = grind (arith, is)
 
 one_more-below : (n : ℕ) → n + 1 < 2 ^ 64 → one_more n ≡ n + 1
@@ -117,14 +117,14 @@ one_more-below n below = grind (arith, below)
 
 turn-resumes :
     (b : Bool) (seat : SeatFields) (d top words turns : ℕ) → turns + 1 < 2 ^ 64
-    → TurnResumes (Desc (desc.PushDesc seat d top) (onward.Turn words)) (point_after (turn_next b seat words)) turns (raised (not b) turns)
+    → TurnResumes (Desc (desc.PushDesc seat d top) (continuation.Turn words)) (point_after (turn_next b seat words)) turns (raised (not b) turns)
 turn-resumes true seat d top words turns below = grind (arith)
 turn-resumes false seat d top words turns below = rw (one_more-below turns below) (grind (arith))
 
 resumed-turns :
-    (e : ErrandFields) (seat : SeatFields) (d top : ℕ) (o : Onward) → IsTrue (resumes o) → e.turns + 1 < 2 ^ 64
+    (e : ErrandFields) (seat : SeatFields) (d top : ℕ) (o : Continuation) → IsTrue (resumes o) → e.turns + 1 < 2 ^ 64
     → TurnResumes (Desc (desc.PushDesc seat d top) o) (resumed_point e seat o) e.turns (resumed_turns e seat o)
-resumed-turns e seat d top (onward.Turn words) is below = turn-resumes (is_spent e) seat d top words e.turns below
+resumed-turns e seat d top (continuation.Turn words) is below = turn-resumes (is_spent e) seat d top words e.turns below
 resumed-turns e seat d top o is below = grind (arith, is)
 
 -- a list without one that it contains has it once less
@@ -156,7 +156,7 @@ All-at : (P : ℕ → Type 0) (d : ℕ) (xs : List ℕ) → All P xs → Contain
 All-at P d xs all (k, within, is) = subst P is (all k d within)
 
 pub push-weighs :
-    (l : Lists) (seat : SeatFields) (d top : ℕ) (o : Onward) (e : ErrandFields) (x : Found) → e.point ≡ Desc (desc.PushDesc seat d top) o
+    (l : Lists) (seat : SeatFields) (d top : ℕ) (o : Continuation) (e : ErrandFields) (x : Found) → e.point ≡ Desc (desc.PushDesc seat d top) o
     → Contains e.retired d → IsBarePoint (resumed_point e seat o) → ListWeighs l (d ∷ l.available) e (pushed_errand e x seat d o)
 unfolding holds_of
 push-weighs l seat d top o e x at listed bare = record {
@@ -175,19 +175,19 @@ own-turns-below g e same rule = omega (arith, rule.turns, rule.geometry.turn_lim
 
 -- the caller may go on so
 push-may :
-    (g : Geometry) (s : State) (l : Lists) (who : ℕ) (seat : SeatFields) (d : ℕ) (o : Onward) (x : Found) → IsSoundWith g s l
-    → who < g.callers → x.value < 2 ^ 64 → settle_of (s.errand who) x ≡ pushed_errand (s.errand who) x seat d o
-    → counts_cleared (s.errand who).point x ≡ false → IsBarePoint (resumed_point (s.errand who) seat o)
-    → TurnResumes (s.errand who).point (resumed_point (s.errand who) seat o) (s.errand who).turns (resumed_turns (s.errand who) seat o)
-    → ((place : ℕ) → Excepts (s.errand who) place → ⊥) → MayGoOn g s l who (s.errand who) (pushed_errand (s.errand who) x seat d o)
-push-may g s l who seat d o x old has word after still bare turn excepts =
-    let e = s.errand who in
-    let own = old.errands who has in
+    (g : Geometry) (s : State) (l : Lists) (caller : ℕ) (seat : SeatFields) (d : ℕ) (o : Continuation) (x : Found) → IsSoundWith g s l
+    → caller < g.callers → x.value < 2 ^ 64 → settle_of (s.errand caller) x ≡ pushed_errand (s.errand caller) x seat d o
+    → counts_cleared (s.errand caller).point x ≡ false → IsBarePoint (resumed_point (s.errand caller) seat o)
+    → TurnResumes (s.errand caller).point (resumed_point (s.errand caller) seat o) (s.errand caller).turns (resumed_turns (s.errand caller) seat o)
+    → ((place : ℕ) → Excepts (s.errand caller) place → ⊥) → MayGoOn g s l caller (s.errand caller) (pushed_errand (s.errand caller) x seat d o)
+push-may g s l caller seat d o x old has word after still bare turn excepts =
+    let e = s.errand caller in
+    let own = old.errands caller has in
     let more : e.lost ≤ raised (counts_lost e.point x) e.lost = raised-least (counts_lost e.point x) e.lost own.lost in
     let holds = sym bare.holds in
     record {
       rule = record {
-        caller = own.caller;
+        number = own.number;
         geometry = own.geometry;
         rule = subst IsErrand after (settle_errand e x own.rule word);
         lost = raised-below (counts_lost e.point x) e.lost own.lost;
@@ -195,21 +195,21 @@ push-may g s l who seat d o x old has word after still bare turn excepts =
       kept =
           subst (λ h. All (λ k. IsKeptAs s k.status k.desc k.class) h.kept) holds
           (All-nil (λ (k : Kept). IsKeptAs s k.status k.desc k.class));
-      retired = All-without (IsWithout s) d e.retired (old.kept.retired who has);
-      so = subst (All (IsSo g s l who)) (sym bare.recalls) (All-nil (IsSo g s l who));
+      retired = All-without (IsWithout s) d e.retired (old.kept.retired caller has);
+      so = subst (All (IsSo g s l caller)) (sym bare.recalls) (All-nil (IsSo g s l caller));
       full = λ spare. let bad : ⊥ = omega (arith, spare, bare.spare) in absurd bad;
-      hands = subst (λ h. All (λ x. IsOwned s who x.place x.need) h.hands) holds (All-nil (λ x. IsOwned s who x.place x.need));
-      frees = subst (λ h. All (λ x. IsOwned s who x.place x.need) h.frees) holds (All-nil (λ x. IsOwned s who x.place x.need));
+      hands = subst (λ h. All (λ x. IsOwned s caller x.place x.need) h.hands) holds (All-nil (λ x. IsOwned s caller x.place x.need));
+      frees = subst (λ h. All (λ x. IsOwned s caller x.place x.need) h.frees) holds (All-nil (λ x. IsOwned s caller x.place x.need));
       excepts = λ place is. absurd (excepts place is);
-      own_turns = omega (arith, old.turned.own_turns who has, turn.under_way);
-      own_lost = omega (arith, old.turned.own_lost who has, turn.lost, more);
+      own_turns = omega (arith, old.turned.own_turns caller has, turn.under_way);
+      own_lost = omega (arith, old.turned.own_lost caller has, turn.lost, more);
       frame_turns = turn.unframed;
       list_turns = omega (arith, turn.pops, ap (λ b. raised b e.cleared) still);
     }
 
 -- nobody's block is excepted there
 push-excepts :
-    (seat : SeatFields) (d top : ℕ) (o : Onward) (e : ErrandFields) → e.point ≡ Desc (desc.PushDesc seat d top) o → (place : ℕ)
+    (seat : SeatFields) (d top : ℕ) (o : Continuation) (e : ErrandFields) → e.point ≡ Desc (desc.PushDesc seat d top) o → (place : ℕ)
     → Excepts e place → ⊥
 unfolding holds_of
 push-excepts seat d top o e at place x =
@@ -226,67 +226,67 @@ push-excepts seat d top o e at place x =
 
 -- the descriptor is put in front of the available ones, and the call goes on or ends
 pub push_desc_won-sound :
-    (g : Geometry) (s : State) (who : ℕ) (s' : State) (seat : SeatFields) (d top : ℕ) (o : Onward) → IsSoundWithoutCounts g s → who < g.callers
-    → (s.errand who).point ≡ Desc (desc.PushDesc seat d top) o → s.word name.DescHead ≡ top → Step s who s' → IsSoundWithoutCounts g s'
+    (g : Geometry) (s : State) (caller : ℕ) (s' : State) (seat : SeatFields) (d top : ℕ) (o : Continuation) → IsSoundWithoutCounts g s → caller < g.callers
+    → (s.errand caller).point ≡ Desc (desc.PushDesc seat d top) o → s.word name.DescHead ≡ top → Step s caller s' → IsSoundWithoutCounts g s'
 unfolding plan_point_of next_of event_of holds_of recalls_of
-push_desc_won-sound g s who s' seat d top o sound has at won step =
+push_desc_won-sound g s caller s' seat d top o sound has at won step =
     let p = Desc (desc.PushDesc seat d top) o in
     let l = sound.parts.0 in
     let old = sound.parts.1 in
-    let x = found_at s who in
+    let x = found_at s caller in
     let is_won : (s.word name.DescHead == top) ≡ true = eq-eqb (s.word name.DescHead) top won in
-    let own = old.errands who has in
-    let fits = fits-at g s l who p old has at in
+    let own = old.errands caller has in
+    let fits = fits-at g s l caller p old has at in
     let next : next_of p (found_from s p) ≡ Unlist seat d o = rw is_won refl in
-    let after : settle_of (s.errand who) x ≡ pushed_errand (s.errand who) x seat d o =
-    settle-pushed (s.errand who) x seat d o (subst (λ r. next_of r (found_from s r) ≡ Unlist seat d o) (sym at) next) in
-    let e = pushed_errand (s.errand who) x seat d o in
+    let after : settle_of (s.errand caller) x ≡ pushed_errand (s.errand caller) x seat d o =
+    settle-pushed (s.errand caller) x seat d o (subst (λ r. next_of r (found_from s r) ≡ Unlist seat d o) (sym at) next) in
+    let e = pushed_errand (s.errand caller) x seat d o in
     let writes : Writes s.word name.DescHead (d + 1) s'.word =
     subst (λ v. Writes s.word name.DescHead v s'.word) (rw is_won refl)
     (subst (λ r. Writes s.word (name_of (plan_point_of r)) (after_action (plan_point_of r) (s.word (name_of (plan_point_of r)))) s'.word) at step.word) in
-    let event : event_of who p (found_from s p) ≡ None = rw is_won refl in
+    let event : event_of caller p (found_from s p) ≡ None = rw is_won refl in
     let past : s'.history ≡ s.history =
-    step.history ∙ ap (with_event s.history) (subst (λ r. event_of who r (found_from s r) ≡ None) (sym at) event) in
-    let link : s.word (name.Next d) ≡ top = (All-head (IsSo g s l who) (says (name.Next d) top) (resumed_recalls seat o) (so-at g s l who p old has at)).1 in
-    let pushes : pushed_by (s.errand who).point ≡ Some d = ap pushed_by at in
-    let listed : Contains (s.errand who).retired d =
-    subst (λ k. IfSome k (λ j. Contains (s.errand who).retired j)) pushes own.rule.pushed in
+    step.history ∙ ap (with_event s.history) (subst (λ r. event_of caller r (found_from s r) ≡ None) (sym at) event) in
+    let link : s.word (name.Next d) ≡ top = (All-head (IsSo g s l caller) (says (name.Next d) top) (resumed_recalls seat o) (so-at g s l caller p old has at)).1 in
+    let pushes : pushed_by (s.errand caller).point ≡ Some d = ap pushed_by at in
+    let listed : Contains (s.errand caller).retired d =
+    subst (λ k. IfSome k (λ j. Contains (s.errand caller).retired j)) pushes own.rule.pushed in
     let exists : d < descriptor_count g = fits.point.desc.desc in
-    let bare = resumed-bare (s.errand who) seat o fits.goes in
-    let small : (s.errand who).turns + 1 < 2 ^ 64 =
-    own-turns-below g (s.errand who) own.geometry own.rule in
+    let bare = resumed-bare (s.errand caller) seat o fits.goes in
+    let small : (s.errand caller).turns + 1 < 2 ^ 64 =
+    own-turns-below g (s.errand caller) own.geometry own.rule in
     let turn =
-    subst (λ r. TurnResumes r (resumed_point (s.errand who) seat o) (s.errand who).turns (resumed_turns (s.errand who) seat o)) (sym at)
-    (resumed-turns (s.errand who) seat d top o fits.goes small) in
-    let cleared : counts_cleared (s.errand who).point x ≡ false = subst (λ r. counts_cleared r x ≡ false) (sym at) refl in
-    let may = push-may g s l who seat d o x old has (old.words (name_at s who)) after cleared bare turn (push-excepts seat d top o (s.errand who) at) in
-    let clear : s.word (name.Hazard who) ≡ 0 = hazard-at g s l who p old has at in
+    subst (λ r. TurnResumes r (resumed_point (s.errand caller) seat o) (s.errand caller).turns (resumed_turns (s.errand caller) seat o)) (sym at)
+    (resumed-turns (s.errand caller) seat d top o fits.goes small) in
+    let cleared : counts_cleared (s.errand caller).point x ≡ false = subst (λ r. counts_cleared r x ≡ false) (sym at) refl in
+    let may = push-may g s l caller seat d o x old has (old.words (name_at s caller)) after cleared bare turn (push-excepts seat d top o (s.errand caller) at) in
+    let clear : s.word (name.Hazard caller) ≡ 0 = hazard-at g s l caller p old has at in
     let guards =
-    plain-guards g s who e.point e.retired (s.word (name.Hazard who))
-    (subst (λ h. IsHazard h.hazard (s.word (name.Hazard who))) (sym bare.holds) clear)
+    plain-guards g s caller e.point e.retired (s.word (name.Hazard caller))
+    (subst (λ h. IsHazard h.hazard (s.word (name.Hazard caller))) (sym bare.holds) clear)
     (λ k named guard. absurd (subst (λ h. IsGuard h.hazard) bare.holds guard)) bare.pushed bare.passed bare.unread in
     let stack : Stacked (next_in s.word Partials) (d + 1) (d ∷ l.available) =
     (refl, subst (λ t. Stacked (next_in s.word Partials) t l.available) (won ∙ sym link) old.listed.available) in
     let restocks =
-    restocks-by g s l who e s' (d ∷ l.available) (d + 1) old has (exists-at g s who p sound has at) writes
-    (subst (λ f. Moves s.errand who f s'.errand) after step.errand) past (name-below g d sound.checked exists)
-    (ap (λ b. raised b (s.errand who).cleared) cleared) may guards stack
+    restocks-by g s l caller e s' (d ∷ l.available) (d + 1) old has (exists-at g s caller p sound has at) writes
+    (subst (λ f. Moves s.errand caller f s'.errand) after step.errand) past (name-below g d sound.checked exists)
+    (ap (λ b. raised b (s.errand caller).cleared) cleared) may guards stack
     (All-cons (λ k. k < descriptor_count g) d l.available exists old.listed.available_exist)
-    (All-cons (IsWithout s) d l.available (All-at (IsWithout s) d (s.errand who).retired (old.kept.retired who has) listed) old.kept.available)
-    (push-weighs l seat d top o (s.errand who) x at listed bare) (recalls-pushed g s l who d old has exists listed pushes)
+    (All-cons (IsWithout s) d l.available (All-at (IsWithout s) d (s.errand caller).retired (old.kept.retired caller has) listed) old.kept.available)
+    (push-weighs l seat d top o (s.errand caller) x at listed bare) (recalls-pushed g s l caller d old has exists listed pushes)
     (subst (All (IsOfListed l (d ∷ l.available))) (sym bare.recalls) (All-nil (IsOfListed l (d ∷ l.available)))) in
     record {
       checked = sound.checked;
       legal = subst (IsLegalWithoutCounts g) (sym past) sound.legal;
-      parts = (with_available l (d ∷ l.available), sound-shown g s l who e s' (d ∷ l.available) restocks (sound-but_one g s l who old));
+      parts = (with_available l (d ∷ l.available), sound-shown g s l caller e s' (d ∷ l.available) restocks (sound-but_one g s l caller old));
     }
 
 -- won or lost
 pub push_desc-sound :
-    (g : Geometry) (s : State) (who : ℕ) (s' : State) (seat : SeatFields) (d top : ℕ) (o : Onward) → IsSoundWithoutCounts g s → who < g.callers
-    → (s.errand who).point ≡ Desc (desc.PushDesc seat d top) o → Step s who s' → IsSoundWithoutCounts g s'
-push_desc-sound g s who s' seat d top o sound has at step =
+    (g : Geometry) (s : State) (caller : ℕ) (s' : State) (seat : SeatFields) (d top : ℕ) (o : Continuation) → IsSoundWithoutCounts g s → caller < g.callers
+    → (s.errand caller).point ≡ Desc (desc.PushDesc seat d top) o → Step s caller s' → IsSoundWithoutCounts g s'
+push_desc-sound g s caller s' seat d top o sound has at step =
     elim (cases_eq (s.word name.DescHead) top) [
-      | inl won ↦ push_desc_won-sound g s who s' seat d top o sound has at won step
-      | inr lost ↦ push_desc_lost-sound g s who s' seat d top o sound has at lost step
+      | inl won ↦ push_desc_won-sound g s caller s' seat d top o sound has at won step
+      | inr lost ↦ push_desc_lost-sound g s caller s' seat d top o sound has at lost step
     ]

@@ -17,18 +17,18 @@ use Rattle.hazard_parts.specs.declared.point.DescPoint.TheVariants as desc
 use Rattle.partial_parts.specs.declared.point.PartialPoint.{PartialPoint}
 use Rattle.partial_parts.specs.declared.point.PartialPoint.TheVariants as partial
 use Rattle.large_parts.specs.declared.point.LargePoint.{LargePoint}
-use Rattle.errand_steps.specs.declared.onward.Onward.{Onward}
-use Rattle.errand_steps.specs.declared.onward.Onward.TheVariants as onward
+use Rattle.errand_steps.specs.declared.continuation.Continuation.{Continuation}
+use Rattle.errand_steps.specs.declared.continuation.Continuation.TheVariants as continuation
 use Rattle.errand_steps.specs.declared.point.Point.{Point}
 use Rattle.errand_steps.specs.declared.point.Point.TheVariants.{Idle, Block, Stack, Desc, Partial, Large}
 use Rattle.errand_steps.specs.Fits.{FitsPoint, pushed_by}
-use Rattle.errand_steps.specs.Onwards.{goes_desc}
+use Rattle.errand_steps.specs.Continuations.{goes_desc}
 use Rattle.errand_steps.specs.Steps.{State}
 use Rattle.sound_state.specs.Guards.{IsGuard, IsHazard}
-use Rattle.sound_state.specs.Holdings.{Holding, guarded, partly_used, holds_of, onward_holds, with_partial, stack_holds, desc_holds, cleared_holds, partial_holds}
+use Rattle.sound_state.specs.Holdings.{Holding, guarded, partly_used, holds_of, continuation_holds, with_partial, stack_holds, desc_holds, cleared_holds, partial_holds}
 use Rattle.sound_state.specs.Keepers.{errand_has}
 use Rattle.sound_state.specs.Lists.{Lists}
-use Rattle.sound_state.specs.Recalls.{Recall, emptied, noted, says, recalls_of, onward_recalls, stack_recalls, resumed_recalls, desc_recalls, block_recalls, partial_recalls, large_recalls}
+use Rattle.sound_state.specs.Recalls.{Recall, emptied, noted, says, recalls_of, continuation_recalls, stack_recalls, resumed_recalls, desc_recalls, block_recalls, partial_recalls, large_recalls}
 use Rattle.sound_state.specs.Sound.{IsSoundWith}
 use Rattle.sound_state.specs.Sums.{sum_below, callers_sum}
 use Rattle.sound_state.specs.Superblocks.{kept_among, errand_keeps}
@@ -54,47 +54,47 @@ keeps-it : (d class : ℕ) → 1 ≤ kept_among partly_used d (record { desc = d
 keeps-it d class = grind (arith)
 
 -- what waits behind a part; and with one more partly used descriptor at hand
-held-onward : (seat : SeatFields) (o : Onward) → AllByRecursion (IsHeld (onward_holds seat o)) (onward_recalls seat o)
-held-onward seat (onward.Remove d heap) = (inl refl, tt)
-held-onward seat (onward.Retire d) = (inr (keeps-it d seat.class), tt)
-held-onward seat o = grind (arith)
+held-continuation : (seat : SeatFields) (o : Continuation) → AllByRecursion (IsHeld (continuation_holds seat o)) (continuation_recalls seat o)
+held-continuation seat (continuation.Remove d heap) = (inl refl, tt)
+held-continuation seat (continuation.Retire d) = (inr (keeps-it d seat.class), tt)
+held-continuation seat o = grind (arith)
 
-onward-held-too : (i : ℕ) (seat : SeatFields) (o : Onward) → AllByRecursion (IsHeld (with_partial i seat.class (onward_holds seat o))) (onward_recalls seat o)
-onward-held-too i seat (onward.Remove d heap) = (inl refl, tt)
-onward-held-too i seat (onward.Retire d) = (inr (omega (arith, keeps-it d seat.class)), tt)
-onward-held-too i seat o = grind (arith)
+continuation-held-too : (i : ℕ) (seat : SeatFields) (o : Continuation) → AllByRecursion (IsHeld (with_partial i seat.class (continuation_holds seat o))) (continuation_recalls seat o)
+continuation-held-too i seat (continuation.Remove d heap) = (inl refl, tt)
+continuation-held-too i seat (continuation.Retire d) = (inr (omega (arith, keeps-it d seat.class)), tt)
+continuation-held-too i seat o = grind (arith)
 
-held-stack : (p : StackPoint) (o : Onward) → AllByRecursion (IsHeld (stack_holds p o)) (stack_recalls p o)
-held-stack (stack.LoadTop seat pile) o = held-onward seat o
-held-stack (stack.LoadBelow seat pile h) o = (tt, held-onward seat o)
-held-stack (stack.PopTop seat pile h below) o = (tt, (tt, held-onward seat o))
-held-stack (stack.ConfirmEmpty seat pile h) o = held-onward seat o
-held-stack (stack.LoadTopToPush seat Frames i) o = held-onward seat o
-held-stack (stack.LoadTopToPush seat Partials i) o = onward-held-too i seat o
-held-stack (stack.StoreBelow seat Frames i h) o = (tt, held-onward seat o)
-held-stack (stack.StoreBelow seat Partials i h) o = (tt, onward-held-too i seat o)
-held-stack (stack.PushTop seat Frames i h) o = (tt, (tt, held-onward seat o))
-held-stack (stack.PushTop seat Partials i h) o = (tt, (tt, onward-held-too i seat o))
+held-stack : (p : StackPoint) (o : Continuation) → AllByRecursion (IsHeld (stack_holds p o)) (stack_recalls p o)
+held-stack (stack.LoadTop seat pile) o = held-continuation seat o
+held-stack (stack.LoadBelow seat pile h) o = (tt, held-continuation seat o)
+held-stack (stack.PopTop seat pile h below) o = (tt, (tt, held-continuation seat o))
+held-stack (stack.ConfirmEmpty seat pile h) o = held-continuation seat o
+held-stack (stack.LoadTopToPush seat Frames i) o = held-continuation seat o
+held-stack (stack.LoadTopToPush seat Partials i) o = continuation-held-too i seat o
+held-stack (stack.StoreBelow seat Frames i h) o = (tt, held-continuation seat o)
+held-stack (stack.StoreBelow seat Partials i h) o = (tt, continuation-held-too i seat o)
+held-stack (stack.PushTop seat Frames i h) o = (tt, (tt, held-continuation seat o))
+held-stack (stack.PushTop seat Partials i h) o = (tt, (tt, continuation-held-too i seat o))
 held-stack p o = tt
 
 -- a free that clears its hazard word
 held-clear :
-    (seat : SeatFields) (o : Onward) → IsTrue (goes_desc (desc.ClearHazard seat) o)
-    → AllByRecursion (IsHeld (cleared_holds seat o)) (onward_recalls seat o)
-held-clear seat (onward.Retire d) goes = (inl refl, tt)
-held-clear seat (onward.Remove d heap) goes = absurd (cc)
+    (seat : SeatFields) (o : Continuation) → IsTrue (goes_desc (desc.ClearHazard seat) o)
+    → AllByRecursion (IsHeld (cleared_holds seat o)) (continuation_recalls seat o)
+held-clear seat (continuation.Retire d) goes = (inl refl, tt)
+held-clear seat (continuation.Remove d heap) goes = absurd (cc)
 held-clear seat o goes = grind (arith)
 
-held-resumed : (h : Holding) (seat : SeatFields) (o : Onward) → AllByRecursion (IsHeld h) (resumed_recalls seat o)
+held-resumed : (h : Holding) (seat : SeatFields) (o : Continuation) → AllByRecursion (IsHeld h) (resumed_recalls seat o)
 held-resumed h seat o = grind (arith)
 
-desc-recalls-held : (p : DescPoint) (o : Onward) → IsTrue (goes_desc p o) → AllByRecursion (IsHeld (desc_holds p o)) (desc_recalls p o)
+desc-recalls-held : (p : DescPoint) (o : Continuation) → IsTrue (goes_desc p o) → AllByRecursion (IsHeld (desc_holds p o)) (desc_recalls p o)
 desc-recalls-held (desc.PopDesc seat d next) o goes = (inl refl, (tt, tt))
 desc-recalls-held (desc.ClearHazard seat) o goes = held-clear seat o goes
 desc-recalls-held p o goes = grind (arith, held-resumed)
 
-held-partial : (p : PartialPoint) (o : Onward) → AllByRecursion (IsHeld (partial_holds p o)) (partial_recalls p o)
-held-partial (partial.PutSlot seat i heap) o = onward-held-too i seat o
+held-partial : (p : PartialPoint) (o : Continuation) → AllByRecursion (IsHeld (partial_holds p o)) (partial_recalls p o)
+held-partial (partial.PutSlot seat i heap) o = continuation-held-too i seat o
 held-partial (partial.LoadHeldSlot seat d heap) o = (inl refl, tt)
 held-partial (partial.RemoveFromSlot seat d heap) o = (inl refl, tt)
 held-partial p o = grind (arith)
@@ -105,19 +105,19 @@ held-block h p = grind (arith)
 held-large : (h : Holding) (p : LargePoint) → AllByRecursion (IsHeld h) (large_recalls p)
 held-large h p = grind (arith)
 
-held-at : (g : Geometry) (who : ℕ) (p : Point) → FitsPoint g who p → AllByRecursion (IsHeld (holds_of p)) (recalls_of p)
+held-at : (g : Geometry) (caller : ℕ) (p : Point) → FitsPoint g caller p → AllByRecursion (IsHeld (holds_of p)) (recalls_of p)
 unfolding holds_of recalls_of
-held-at g who Idle fits = tt
-held-at g who (Block p o) fits = held-block (holds_of (Block p o)) p
-held-at g who (Stack p o) fits = held-stack p o
-held-at g who (Desc p o) fits = desc-recalls-held p o fits.goes
-held-at g who (Partial p o) fits = held-partial p o
-held-at g who (Large p o) fits = held-large (holds_of (Large p o)) p
+held-at g caller Idle fits = tt
+held-at g caller (Block p o) fits = held-block (holds_of (Block p o)) p
+held-at g caller (Stack p o) fits = held-stack p o
+held-at g caller (Desc p o) fits = desc-recalls-held p o fits.goes
+held-at g caller (Partial p o) fits = held-partial p o
+held-at g caller (Large p o) fits = held-large (holds_of (Large p o)) p
 
 -- a caller has retired a descriptor
 module _
-    (g : Geometry) (s : State) (l : Lists) (who i d : ℕ) (old : IsSoundWith g s l) (has : who < g.callers) (has_i : i < g.callers)
-    (exists : d < descriptor_count g) (listed : Contains (s.errand who).retired d) where
+    (g : Geometry) (s : State) (l : Lists) (caller i d : ℕ) (old : IsSoundWith g s l) (has : caller < g.callers) (has_i : i < g.callers)
+    (exists : d < descriptor_count g) (listed : Contains (s.errand caller).retired d) where
   -- nobody keeps it partly used
   retired-unkept : 1 ≤ errand_keeps partly_used d (s.errand i) → ⊥
   unfolding callers_sum
@@ -128,14 +128,14 @@ module _
       let least : sum_below g.callers (λ j. lists j + partly j) ≤ sum_below g.callers (λ j. errand_has d (s.errand j)) =
       sum-least g.callers (λ j. lists j + partly j) (λ j. errand_has d (s.errand j)) (λ j lt. omega arith) in
       let once = old.kept.once d exists in
-      let mine : lists who ≤ sum_below g.callers lists = term-sum g.callers lists who has in
+      let mine : lists caller ≤ sum_below g.callers lists = term-sum g.callers lists caller has in
       let its : partly i ≤ sum_below g.callers partly = term-sum g.callers partly i has_i in
-      omega (arith, once, both, least, mine, its, keeps, contains-occurs (s.errand who).retired d listed)
+      omega (arith, once, both, least, mine, its, keeps, contains-occurs (s.errand caller).retired d listed)
 
   -- so when it pushes it nobody remembers it
-  pushed-forgotten : pushed_by (s.errand who).point ≡ Some d → Has (holds_of (s.errand i).point) d → ⊥
+  pushed-forgotten : pushed_by (s.errand caller).point ≡ Some d → Has (holds_of (s.errand i).point) d → ⊥
   pushed-forgotten pushes (inl is) =
-      old.guarded.pushed i who d has_i has
+      old.guarded.pushed i caller d has_i has
       (record {
         word = subst (λ x. IsHazard x (s.word (name.Hazard i))) is (old.guarded.words i has_i);
         guard = subst IsGuard (sym is) tt;
@@ -145,25 +145,25 @@ module _
 
   -- and what others remember stays so when it is put in front of the available ones
   available-pushed :
-      pushed_by (s.errand who).point ≡ Some d → (k : ℕ) → Has (holds_of (s.errand i).point) k → occurs k (d ∷ l.available) ≤ occurs k l.available
+      pushed_by (s.errand caller).point ≡ Some d → (k : ℕ) → Has (holds_of (s.errand i).point) k → occurs k (d ∷ l.available) ≤ occurs k l.available
   available-pushed pushes k keeps =
       elim (cases_eq d k) [
         | inl same ↦ absurd (pushed-forgotten pushes (subst (Has (holds_of (s.errand i).point)) (sym same) keeps))
         | inr differ ↦ omega (arith, cond-false {A = ℕ} (d == k) 1 0 (ne_eqb d k differ))
       ]
 
-  one-pushed : pushed_by (s.errand who).point ≡ Some d → (r : Recall) → IsHeld (holds_of (s.errand i).point) r → IsOfListed l (d ∷ l.available) r
+  one-pushed : pushed_by (s.errand caller).point ≡ Some d → (r : Recall) → IsHeld (holds_of (s.errand i).point) r → IsOfListed l (d ∷ l.available) r
   one-pushed pushes (emptied k) h = available-pushed pushes k h
   one-pushed pushes (noted k next) h = available-pushed pushes k h
   one-pushed pushes (says n w) h = h
   one-pushed pushes r h = tt
 
 pub recalls-pushed :
-    (g : Geometry) (s : State) (l : Lists) (who d : ℕ) → IsSoundWith g s l → who < g.callers → d < descriptor_count g
-    → Contains (s.errand who).retired d → pushed_by (s.errand who).point ≡ Some d → (i : ℕ) → i < g.callers
+    (g : Geometry) (s : State) (l : Lists) (caller d : ℕ) → IsSoundWith g s l → caller < g.callers → d < descriptor_count g
+    → Contains (s.errand caller).retired d → pushed_by (s.errand caller).point ≡ Some d → (i : ℕ) → i < g.callers
     → All (IsOfListed l (d ∷ l.available)) (recalls_of (s.errand i).point)
-recalls-pushed g s l who d old has exists listed pushes i has_i =
-    for-each (IsHeld (holds_of (s.errand i).point)) (IsOfListed l (d ∷ l.available)) (one-pushed g s l who i d old has has_i exists listed pushes)
+recalls-pushed g s l caller d old has exists listed pushes i has_i =
+    for-each (IsHeld (holds_of (s.errand i).point)) (IsOfListed l (d ∷ l.available)) (one-pushed g s l caller i d old has has_i exists listed pushes)
     (recalls_of (s.errand i).point) (held-at g i (s.errand i).point (fits-at g s l i (s.errand i).point old has_i refl))
 
 -- and when the first is taken off

@@ -15,7 +15,7 @@ use Rattle.stack_parts.specs.declared.point.Pile.TheVariants.{Partials}
 use Rattle.stack_parts.specs.Stacks.{Stacked, next_in}
 use Rattle.hazard_parts.specs.declared.point.DescPoint.TheVariants as desc
 use Rattle.pool_model.specs.Legal.{IsLegalWithoutCounts}
-use Rattle.errand_steps.specs.declared.onward.Onward.{Onward}
+use Rattle.errand_steps.specs.declared.continuation.Continuation.{Continuation}
 use Rattle.errand_steps.specs.declared.point.Point.TheVariants.{Desc}
 use Rattle.errand_steps.specs.Errands.{ErrandFields, counts_cleared, raised}
 use Rattle.errand_steps.specs.Events.{event_of}
@@ -54,7 +54,7 @@ ways-places : (d k c : ℕ) → kept_places d (keep k c on_its_way) ≡ (if k ==
 ways-places d k c = grind (arith)
 
 pop-weighs :
-    (l : Lists) (seat : SeatFields) (d next : ℕ) (o : Onward) (ys : List ℕ) (e : ErrandFields) (x : Found)
+    (l : Lists) (seat : SeatFields) (d next : ℕ) (o : Continuation) (ys : List ℕ) (e : ErrandFields) (x : Found)
     → e.point ≡ Desc (desc.PopDesc seat d next) o → l.available ≡ d ∷ ys
     → ListWeighs l ys e (at_point e x (Desc (desc.ClearAfterPop seat d) o))
 unfolding holds_of
@@ -70,47 +70,47 @@ pop-weighs l seat d next o ys e x at is = record {
   stock = λ class. rw at (omega arith);
 }
 
-pub pop-turns : (seat : SeatFields) (d next : ℕ) (o : Onward) → TurnGoes (Desc (desc.PopDesc seat d next) o) (Desc (desc.ClearAfterPop seat d) o)
+pub pop-turns : (seat : SeatFields) (d next : ℕ) (o : Continuation) → TurnGoes (Desc (desc.PopDesc seat d next) o) (Desc (desc.ClearAfterPop seat d) o)
 pop-turns seat d next o = grind (arith)
 
 pop_desc-stands :
-    (g : Geometry) (s : State) (l : Lists) (who : ℕ) (seat : SeatFields) (d next : ℕ) (o : Onward) → IsWithout s d
-    → All (IsSo g s l who) (looked seat.class ∷ [])
-    → PointStands g s l who (Desc (desc.PopDesc seat d next) o) (Desc (desc.ClearAfterPop seat d) o)
+    (g : Geometry) (s : State) (l : Lists) (caller : ℕ) (seat : SeatFields) (d next : ℕ) (o : Continuation) → IsWithout s d
+    → All (IsSo g s l caller) (looked seat.class ∷ [])
+    → PointStands g s l caller (Desc (desc.PopDesc seat d next) o) (Desc (desc.ClearAfterPop seat d) o)
 unfolding holds_of recalls_of
-pop_desc-stands g s l who seat d next o without so = record {
+pop_desc-stands g s l caller seat d next o without so = record {
   kept =
       All-cons (λ k. IsKeptAs s k.status k.desc k.class) (record { desc = d; class = seat.class; status = on_its_way }) [] without
       (All-nil (λ (k : Kept). IsKeptAs s k.status k.desc k.class));
   so = so;
   spare = refl;
-  hands = All-nil (λ x. IsOwned s who x.place x.need);
-  frees = All-nil (λ x. IsOwned s who x.place x.need);
+  hands = All-nil (λ x. IsOwned s caller x.place x.need);
+  frees = All-nil (λ x. IsOwned s caller x.place x.need);
   excepts = λ place x. x;
   turn = pop-turns seat d next o;
 }
 
 -- the first descriptor is taken: the caller keeps it on its way
 pub pop_desc_won-sound :
-    (g : Geometry) (s : State) (who : ℕ) (s' : State) (seat : SeatFields) (d next : ℕ) (o : Onward) → IsSoundWithoutCounts g s → who < g.callers
-    → (s.errand who).point ≡ Desc (desc.PopDesc seat d next) o → s.word name.DescHead ≡ d + 1 → Step s who s' → IsSoundWithoutCounts g s'
+    (g : Geometry) (s : State) (caller : ℕ) (s' : State) (seat : SeatFields) (d next : ℕ) (o : Continuation) → IsSoundWithoutCounts g s → caller < g.callers
+    → (s.errand caller).point ≡ Desc (desc.PopDesc seat d next) o → s.word name.DescHead ≡ d + 1 → Step s caller s' → IsSoundWithoutCounts g s'
 unfolding plan_point_of next_of event_of holds_of recalls_of
-pop_desc_won-sound g s who s' seat d next o sound has at won step =
+pop_desc_won-sound g s caller s' seat d next o sound has at won step =
     let p = Desc (desc.PopDesc seat d next) o in
     let q = Desc (desc.ClearAfterPop seat d) o in
     let l = sound.parts.0 in
     let old = sound.parts.1 in
     let is_won : (s.word name.DescHead == d + 1) ≡ true = eq-eqb (s.word name.DescHead) (d + 1) won in
-    let after = leads-at s who p q at (rw is_won refl) in
-    let e = at_point (s.errand who) (found_at s who) q in
+    let after = leads-at s caller p q at (rw is_won refl) in
+    let e = at_point (s.errand caller) (found_at s caller) q in
     let writes : Writes s.word name.DescHead next s'.word =
     subst (λ v. Writes s.word name.DescHead v s'.word) (rw is_won refl)
     (subst (λ r. Writes s.word (name_of (plan_point_of r)) (after_action (plan_point_of r) (s.word (name_of (plan_point_of r)))) s'.word) at step.word) in
-    let event : event_of who p (found_from s p) ≡ None = rw is_won refl in
+    let event : event_of caller p (found_from s p) ≡ None = rw is_won refl in
     let past : s'.history ≡ s.history =
-    step.history ∙ ap (with_event s.history) (subst (λ r. event_of who r (found_from s r) ≡ None) (sym at) event) in
-    let so = so-at g s l who p old has at in
-    let noticed = All-head (IsSo g s l who) (noted d next) (looked seat.class ∷ []) so in
+    step.history ∙ ap (with_event s.history) (subst (λ r. event_of caller r (found_from s r) ≡ None) (sym at) event) in
+    let so = so-at g s l caller p old has at in
+    let noticed = All-head (IsSo g s l caller) (noted d next) (looked seat.class ∷ []) so in
     let stack : Stacked (next_in s.word Partials) (d + 1) l.available =
     subst (λ top. Stacked (next_in s.word Partials) top l.available) won old.listed.available in
     let first = first-of (next_in s.word Partials) d l.available stack in
@@ -120,33 +120,33 @@ pop_desc_won-sound g s who s' seat d next o sound has at won step =
     let link : s.word (name.Next d) ≡ next = noticed on in
     let without : All (IsWithout s) (d ∷ ys) = subst (All (IsWithout s)) is old.kept.available in
     let exist : All (λ k. k < descriptor_count g) (d ∷ ys) = subst (All (λ k. k < descriptor_count g)) is old.listed.available_exist in
-    let stands : PointStands g s l who (s.errand who).point q =
-    subst (λ r. PointStands g s l who r q) (sym at)
-    (pop_desc-stands g s l who seat d next o (All-head (IsWithout s) d ys without) (All-tail (IsSo g s l who) (noted d next) (looked seat.class ∷ []) so)) in
-    let cleared : counts_cleared (s.errand who).point (found_at s who) ≡ false =
-    subst (λ r. counts_cleared r (found_at s who) ≡ false) (sym at) refl in
+    let stands : PointStands g s l caller (s.errand caller).point q =
+    subst (λ r. PointStands g s l caller r q) (sym at)
+    (pop_desc-stands g s l caller seat d next o (All-head (IsWithout s) d ys without) (All-tail (IsSo g s l caller) (noted d next) (looked seat.class ∷ []) so)) in
+    let cleared : counts_cleared (s.errand caller).point (found_at s caller) ≡ false =
+    subst (λ r. counts_cleared r (found_at s caller) ≡ false) (sym at) refl in
     let guards =
-    plain-guards g s who q (s.errand who).retired (s.word (name.Hazard who)) (hazard-at g s l who p old has at)
+    plain-guards g s caller q (s.errand caller).retired (s.word (name.Hazard caller)) (hazard-at g s l caller p old has at)
     (λ k named guard. inl (record { word = named; guard = subst (λ r. IsGuard (holds_of r).hazard) (sym at) tt })) refl refl refl in
     let restocks =
-    restocks-by g s l who e s' ys next old has (exists-at g s who p sound has at) writes (subst (λ f. Moves s.errand who f s'.errand) after step.errand) past
-    (subst (λ w. w < 2 ^ 64) link (old.words (name.Next d))) (ap (λ b. raised b (s.errand who).cleared) cleared)
-    (may-after g s l who (found_at s who) q old has (old.words (name_at s who)) after cleared stands)
+    restocks-by g s l caller e s' ys next old has (exists-at g s caller p sound has at) writes (subst (λ f. Moves s.errand caller f s'.errand) after step.errand) past
+    (subst (λ w. w < 2 ^ 64) link (old.words (name.Next d))) (ap (λ b. raised b (s.errand caller).cleared) cleared)
+    (may-after g s l caller (found_at s caller) q old has (old.words (name_at s caller)) after cleared stands)
     guards (subst (λ top. Stacked (next_in s.word Partials) top ys) link first.2) (All-tail (λ k. k < descriptor_count g) d ys exist)
-    (All-tail (IsWithout s) d ys without) (pop-weighs l seat d next o ys (s.errand who) (found_at s who) at is) (recalls-popped g s l d ys old is)
+    (All-tail (IsWithout s) d ys without) (pop-weighs l seat d next o ys (s.errand caller) (found_at s caller) at is) (recalls-popped g s l d ys old is)
     (All-cons (IsOfListed l ys) (looked seat.class) [] tt (All-nil (IsOfListed l ys))) in
     record {
       checked = sound.checked;
       legal = subst (IsLegalWithoutCounts g) (sym past) sound.legal;
-      parts = (with_available l ys, sound-shown g s l who e s' ys restocks (sound-but_one g s l who old));
+      parts = (with_available l ys, sound-shown g s l caller e s' ys restocks (sound-but_one g s l caller old));
     }
 
 -- won or lost
 pub pop_desc-sound :
-    (g : Geometry) (s : State) (who : ℕ) (s' : State) (seat : SeatFields) (d next : ℕ) (o : Onward) → IsSoundWithoutCounts g s → who < g.callers
-    → (s.errand who).point ≡ Desc (desc.PopDesc seat d next) o → Step s who s' → IsSoundWithoutCounts g s'
-pop_desc-sound g s who s' seat d next o sound has at step =
+    (g : Geometry) (s : State) (caller : ℕ) (s' : State) (seat : SeatFields) (d next : ℕ) (o : Continuation) → IsSoundWithoutCounts g s → caller < g.callers
+    → (s.errand caller).point ≡ Desc (desc.PopDesc seat d next) o → Step s caller s' → IsSoundWithoutCounts g s'
+pop_desc-sound g s caller s' seat d next o sound has at step =
     elim (cases_eq (s.word name.DescHead) (d + 1)) [
-      | inl won ↦ pop_desc_won-sound g s who s' seat d next o sound has at won step
-      | inr lost ↦ pop_desc_lost-sound g s who s' seat d next o sound has at lost step
+      | inl won ↦ pop_desc_won-sound g s caller s' seat d next o sound has at won step
+      | inr lost ↦ pop_desc_lost-sound g s caller s' seat d next o sound has at lost step
     ]

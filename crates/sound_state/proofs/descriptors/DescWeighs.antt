@@ -54,27 +54,27 @@ shown-apart n shown = grind (arith)
 
 -- a step that writes the head, with the stack that it leaves
 pub restocks-by :
-    (g : Geometry) (s : State) (l : Lists) (who : ℕ) (e : ErrandFields) (s' : State) (ys : List ℕ) (new : ℕ) → IsSoundWith g s l
-    → who < g.callers → Exists g name.DescHead → Writes s.word name.DescHead new s'.word → Moves s.errand who e s'.errand
-    → s'.history ≡ s.history → new < 2 ^ 64 → e.cleared ≡ (s.errand who).cleared
-    → MayGoOn g s l who (s.errand who) e
-    → MayGuard g s who e.point e.retired (s.word (name.Hazard who)) → Stacked (next_in s.word Partials) new ys
-    → All (λ d. d < descriptor_count g) ys → All (IsWithout s) ys → ListWeighs l ys (s.errand who) e
+    (g : Geometry) (s : State) (l : Lists) (caller : ℕ) (e : ErrandFields) (s' : State) (ys : List ℕ) (new : ℕ) → IsSoundWith g s l
+    → caller < g.callers → Exists g name.DescHead → Writes s.word name.DescHead new s'.word → Moves s.errand caller e s'.errand
+    → s'.history ≡ s.history → new < 2 ^ 64 → e.cleared ≡ (s.errand caller).cleared
+    → MayGoOn g s l caller (s.errand caller) e
+    → MayGuard g s caller e.point e.retired (s.word (name.Hazard caller)) → Stacked (next_in s.word Partials) new ys
+    → All (λ d. d < descriptor_count g) ys → All (IsWithout s) ys → ListWeighs l ys (s.errand caller) e
     → ((i : ℕ) → i < g.callers → All (IsOfListed l ys) (recalls_of (s.errand i).point)) → All (IsOfListed l ys) (recalls_of e.point)
-    → ShowsSame g s l who e s' ys
-restocks-by g s l who e s' ys new old has exists w m past small still may guards stack exist without weigh recalls here =
+    → ShowsSame g s l caller e s' ys
+restocks-by g s l caller e s' ys new old has exists w m past small still may guards stack exist without weigh recalls here =
     let stay = others-stay s.word new s'.word w in
     let words = λ (weight : WordName → ℕ → ℕ). words-written g weight s.word name.DescHead new s'.word exists w in
-    let callers = λ (weight : ErrandFields → ℕ). callers-moved g weight s.errand who e s'.errand has m in
+    let callers = λ (weight : ErrandFields → ℕ). callers-moved g weight s.errand caller e s'.errand has m in
     let anchor = λ (d : ℕ). ap anchor_of (stay (name.Anchor d) tt) in
     let away : (d : ℕ) → away_of g s' (with_available l ys) d ≡ away_of g s l d =
     λ d. omega (arith, callers (errand_away d), weigh.away d) in
     record {
-      caller = has;
+      in_heap = has;
       moves = m;
       may = may;
       others = λ i differ. stay (name.Hazard i) tt;
-      guards = subst (MayGuard g s who e.point e.retired) (sym (stay (name.Hazard who) tt)) guards;
+      guards = subst (MayGuard g s caller e.point e.retired) (sym (stay (name.Hazard caller) tt)) guards;
       actives =
           actives-same g s l s'.word old.kept (λ heap class. stay (name.Active heap class) tt) (λ heap class. stay (name.Slot heap class) tt);
       words = words-below s.word name.DescHead new s'.word w old.words small;

@@ -33,22 +33,22 @@ pub record StandsDiscarding (p : Point) : Type 0 where
   pub spare : spare_of p ≡ 0
 
 -- a caller doesn't install its new superblock, holds it as it did while it made it, and all else stays
-pub record Discards (g : Geometry) (s : State) (l : Lists) (who : ℕ) (at : Site) (e : ErrandFields) (s' : State) : Type 0 where
-  pub caller : who < g.callers
-  pub moves : Moves s.errand who e s'.errand
-  pub site : IsSiteOf g who at
+pub record Discards (g : Geometry) (s : State) (l : Lists) (caller : ℕ) (at : Site) (e : ErrandFields) (s' : State) : Type 0 where
+  pub in_heap : caller < g.callers
+  pub moves : Moves s.errand caller e s'.errand
+  pub site : IsSiteOf g caller at
   pub bound : IsTrue (is_bound g s l at.desc)
   pub located : IsLocated s at.desc at.frame at.seat.class
   pub anchor : anchor_for s at.desc ≡ new_anchor at.seat.class
   pub words : (n : WordName) → s'.word n ≡ s.word n
   pub history : s'.history ≡ s.history
-  pub rule : IsOwnErrand g who e
-  pub retired : e.retired ≡ (s.errand who).retired
-  pub turns : e.turns ≡ (s.errand who).turns
-  pub lost : (e.lost ≡ (s.errand who).lost + 1) ⊎ (e.turns ≤ e.lost)
-  pub cleared : e.cleared ≡ (s.errand who).cleared
-  pub holds_before : holds_of (s.errand who).point ≡ installing_holds at
+  pub rule : IsOwnErrand g caller e
+  pub retired : e.retired ≡ (s.errand caller).retired
+  pub turns : e.turns ≡ (s.errand caller).turns
+  pub lost : (e.lost ≡ (s.errand caller).lost + 1) ⊎ (e.turns ≤ e.lost)
+  pub cleared : e.cleared ≡ (s.errand caller).cleared
+  pub holds_before : holds_of (s.errand caller).point ≡ installing_holds at
   pub holds_after : holds_of e.point ≡ making at
   pub recalls_after : recalls_of e.point ≡ []
-  pub stands_before : StandsFramed (s.errand who).point
+  pub stands_before : StandsFramed (s.errand caller).point
   pub stands_after : StandsDiscarding e.point

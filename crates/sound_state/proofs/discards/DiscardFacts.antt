@@ -26,7 +26,7 @@ use Rattle.sound_state.proofs.shared.MakingWeights.{it-here, it-elsewhere, makin
 use Rattle.sound_state.proofs.shared.TallyLemmas.{tally, held-back-once}
 use Rattle.sound_state.proofs.shared.SuperblockEffects.{LieStill, info-stays}
 
-module _ (g : Geometry) (s : State) (l : Lists) (who : ℕ) (at : Site) (e : ErrandFields) (s' : State) (h : Discards g s l who at e s') where
+module _ (g : Geometry) (s : State) (l : Lists) (caller : ℕ) (at : Site) (e : ErrandFields) (s' : State) (h : Discards g s l caller at e s') where
   pub discarded-still : LieStill s s'
   discarded-still = record { words = λ n is. h.words n }
 
@@ -37,8 +37,8 @@ module _ (g : Geometry) (s : State) (l : Lists) (who : ℕ) (at : Site) (e : Err
     anchor = λ d. ap anchor_of (h.words (name.Anchor d));
   }
 
-  pub discarded-holds : HoldingEffects g s who (installing_holds at) (making at) e s'
-  discarded-holds = record { caller = h.caller; moves = h.moves; retired = h.retired; before = h.holds_before; after = h.holds_after }
+  pub discarded-holds : HoldingEffects g s caller (installing_holds at) (making at) e s'
+  discarded-holds = record { in_heap = h.in_heap; moves = h.moves; retired = h.retired; before = h.holds_before; after = h.holds_after }
 
   -- the descriptor doesn't wait any more, and is on its way
   pub discarded-ways :
@@ -81,13 +81,13 @@ module _ (g : Geometry) (s : State) (l : Lists) (who : ℕ) (at : Site) (e : Err
       (held-back-once (superblock_of g s at.desc) (chain-at is) (omega (arith, discarded-waits at.desc, it-here at))).2
 
   -- what its caller has reserved of it is all but one block, which is held back
-  discarding-reserved : errand_reserves at.desc (s.errand who) ≡ new_credits at.seat.class + 1
+  discarding-reserved : errand_reserves at.desc (s.errand caller) ≡ new_credits at.seat.class + 1
   discarding-reserved = ap (λ x. reserved_among at.desc x.credits) h.holds_before ∙ installing-credits at
 
   all-reserved :
       IsSoundWith g s l
       → (sum_below (superblock_of g s at.desc).size (superblock_of g s at.desc).live ≡ 0)
-      × (reserved_of g s at.desc ≡ errand_reserves at.desc (s.errand who))
+      × (reserved_of g s at.desc ≡ errand_reserves at.desc (s.errand caller))
   unfolding callers_sum
   all-reserved is =
       let b = superblock_of g s at.desc in
@@ -96,13 +96,13 @@ module _ (g : Geometry) (s : State) (l : Lists) (who : ℕ) (at : Site) (e : Err
       let waited = discarded-waited is in
       let size : b.size ≡ block_count_of c = ap block_count_of h.located.class in
       let count : b.anchor.count ≡ (block_count_of c - 1) - (new_credits c + 1) = ap (λ x. x.count) h.anchor in
-      let mine = term-sum g.callers (λ j. errand_reserves at.desc (s.errand j)) who h.caller in
+      let mine = term-sum g.callers (λ j. errand_reserves at.desc (s.errand j)) caller h.in_heap in
       (omega (arith, all, waited, size, count, discarding-reserved, mine), omega (arith, all, waited, size, count, discarding-reserved, mine))
 
-  pub others-reserve : IsSoundWith g s l → (i : ℕ) → i < g.callers → i ≢ who → errand_reserves at.desc (s.errand i) ≡ 0
+  pub others-reserve : IsSoundWith g s l → (i : ℕ) → i < g.callers → i ≢ caller → errand_reserves at.desc (s.errand i) ≡ 0
   unfolding callers_sum
   others-reserve is i has ne =
-      omega (arith, (all-reserved is).1, two-terms g.callers (λ j. errand_reserves at.desc (s.errand j)) i who has h.caller ne)
+      omega (arith, (all-reserved is).1, two-terms g.callers (λ j. errand_reserves at.desc (s.errand j)) i caller has h.in_heap ne)
 
   pub none-live : IsSoundWith g s l → (k : ℕ) → k < block_count_of (info_for s at.desc).class → (superblock_of g s at.desc).live k ≡ 0
   none-live is k below =

@@ -34,7 +34,7 @@ use Rattle.sound_state.proofs.shared.TurnEffects.{emptied-kept, head-tag, no-eve
 use Rattle.sound_state.proofs.shared.HoldingEffects.{places-go, stock-goes, framed-after}
 use Rattle.sound_state.proofs.shared.MakingWeights.{it-elsewhere, making-places, making-stock}
 
-module _ (g : Geometry) (s : State) (l : Lists) (who : ℕ) (at : Site) (e : ErrandFields) (s' : State) (h : Discards g s l who at e s') where
+module _ (g : Geometry) (s : State) (l : Lists) (caller : ℕ) (at : Site) (e : ErrandFields) (s' : State) (h : Discards g s l caller at e s') where
   words-all : s'.word ≡ s.word
   words-all = fun_ext h.words
 
@@ -47,7 +47,7 @@ module _ (g : Geometry) (s : State) (l : Lists) (who : ℕ) (at : Site) (e : Err
   pub discarded-kept : IsSoundWith g s l → IsKept g s' l
   discarded-kept old =
       let kept = old.kept in
-      let same = discarded-descs g s l who at e s' h in
+      let same = discarded-descs g s l caller at e s' h in
       let words = words-all in
       let without : IsWithout s' at.desc = inl (ap (λ x. x.state) (same.anchor at.desc) ∙ ap (λ x. x.state) h.anchor) in
       record {
@@ -55,7 +55,7 @@ module _ (g : Geometry) (s : State) (l : Lists) (who : ℕ) (at : Site) (e : Err
             omega (
               arith,
               kept.once d has,
-              places-go (discarded-holds g s l who at e s' h) d,
+              places-go (discarded-holds g s l caller at e s' h) d,
               making-places at d,
               words-same g (word_keeps d) s.word s'.word h.words,
               ap (λ x. full_keeps x.state) (same.anchor d),
@@ -72,11 +72,11 @@ module _ (g : Geometry) (s : State) (l : Lists) (who : ℕ) (at : Site) (e : Err
         listed = λ class has k d lt. partly-same s s' same _ class (kept.listed class has k d lt);
         available = λ k d lt. without-same s s' same _ (kept.available k d lt);
         retired =
-            each-caller g (λ i e. All (IsWithout s') e.retired) s.errand who e s'.errand h.moves
-            (subst (All (IsWithout s')) (sym h.retired) (λ k d lt. without-same s s' same _ (kept.retired who h.caller k d lt)))
+            each-caller g (λ i e. All (IsWithout s') e.retired) s.errand caller e s'.errand h.moves
+            (subst (All (IsWithout s')) (sym h.retired) (λ k d lt. without-same s s' same _ (kept.retired caller h.in_heap k d lt)))
             (λ i has k d lt. without-same s s' same _ (kept.retired i has k d lt));
         errand =
-            each-caller g (λ i e. All (λ k. IsKeptAs s' k.status k.desc k.class) (holds_of e.point).kept) s.errand who e s'.errand h.moves
+            each-caller g (λ i e. All (λ k. IsKeptAs s' k.status k.desc k.class) (holds_of e.point).kept) s.errand caller e s'.errand h.moves
             (subst (λ x. All (λ (k : Kept). IsKeptAs s' k.status k.desc k.class) x.kept) (sym h.holds_after)
             (All-cons (λ (k : Kept). IsKeptAs s' k.status k.desc k.class) (record { desc = at.desc; class = at.seat.class; status = on_its_way }) []
             without (All-nil (λ (k : Kept). IsKeptAs s' k.status k.desc k.class))))
@@ -86,88 +86,88 @@ module _ (g : Geometry) (s : State) (l : Lists) (who : ℕ) (at : Site) (e : Err
   pub discarded-stocked : IsSoundWith g s l → IsStocked g s' l
   discarded-stocked old = record {
     most = λ class has.
-        let same = discarded-descs g s l who at e s' h in
+        let same = discarded-descs g s l caller at e s' h in
         let filled : sum_below (descriptor_count g) (full_stock s' class) ≡ sum_below (descriptor_count g) (full_stock s class) =
         sum-same (descriptor_count g) (full_stock s class) (full_stock s' class) (λ d lt. rw (same.info d, same.anchor d) refl) in
         omega (
           arith,
           old.stocked.most class has,
           filled,
-          stock-goes (discarded-holds g s l who at e s' h) class (h.stands_before.waits class) (h.stands_after.waits class),
+          stock-goes (discarded-holds g s l caller at e s' h) class (h.stands_before.waits class) (h.stands_after.waits class),
           words-same g (word_stock class) s.word s'.word h.words,
           making-stock at class,
         );
   }
 
   discarded-others-wait : (d : ℕ) → d ≢ at.desc → waiting_of g s' d ≡ waiting_of g s d
-  discarded-others-wait d differ = omega (arith, discarded-waits g s l who at e s' h d, it-elsewhere at d differ)
+  discarded-others-wait d differ = omega (arith, discarded-waits g s l caller at e s' h d, it-elsewhere at d differ)
 
   -- the frame stays in the caller's hand
   pub discarded-framed : IsSoundWith g s l → IsFramed g s' l
   discarded-framed old =
-      let same = discarded-descs g s l who at e s' h in
-      framed-after (discarded-holds g s l who at e s' h) l
+      let same = discarded-descs g s l caller at e s' h in
+      framed-after (discarded-holds g s l caller at e s' h) l
       (λ f.
-      let now : fills_frame g s' l f at.desc ≡ 0 = rw (discarded-unbound g s l who at e s' h) refl in
-      let was : fills_frame g s l f at.desc ≡ 0 = waiting-fills g s l at.desc f (discarded-waited g s l who at e s' h old) in
+      let now : fills_frame g s' l f at.desc ≡ 0 = rw (discarded-unbound g s l caller at e s' h) refl in
+      let was : fills_frame g s l f at.desc ≡ 0 = waiting-fills g s l at.desc f (discarded-waited g s l caller at e s' h old) in
       of-each (λ k. fills_frame g s' l f k ≡ fills_frame g s l f k) at.desc (now ∙ sym was)
-      (λ d differ. rw (discarded-bound g s l who at e s' h d differ, discarded-others-wait d differ, same.info d) refl))
+      (λ d differ. rw (discarded-bound g s l caller at e s' h d differ, discarded-others-wait d differ, same.info d) refl))
       (λ f. refl) old.framed
 
   -- all superblocks that are left keep their blocks in order
   pub discarded-chained : IsSoundWith g s l → AreChained g s' l
   discarded-chained old =
-      let still = discarded-still g s l who at e s' h in
+      let still = discarded-still g s l caller at e s' h in
       record {
         infos = infos-stay still g l old.chained;
         chained = λ d has bound.
-            let differ : d ≢ at.desc = discarded-was g s l who at e s' h d bound in
-            let was : IsTrue (is_bound g s l d) = subst IsTrue (discarded-bound g s l who at e s' h d differ) bound in
-            let anchor = (discarded-descs g s l who at e s' h).anchor d in
+            let differ : d ≢ at.desc = discarded-was g s l caller at e s' h d bound in
+            let was : IsTrue (is_bound g s l d) = subst IsTrue (discarded-bound g s l caller at e s' h d differ) bound in
+            let anchor = (discarded-descs g s l caller at e s' h).anchor d in
             same-chained (superblock_of g s d) (superblock_of g s' d) (old.chained.chained d has was)
-            (superblock-stays still g d anchor (discarded-reserved g s l who at e s' h d differ) (discarded-others-wait d differ))
+            (superblock-stays still g d anchor (discarded-reserved g s l caller at e s' h d differ) (discarded-others-wait d differ))
             (λ i lt. ap (λ f. f i) (live-stays still g h.history d));
       }
 
   pub discarded-guarded : IsSoundWith g s l → IsGuarded g s'
   discarded-guarded old =
       let after = h.stands_after in
-      guarded-clear g s who e s' h.caller h.moves (λ i. h.words (name.Hazard i)) (ap (λ x. x.hazard) h.holds_before)
+      guarded-clear g s caller e s' h.in_heap h.moves (λ i. h.words (name.Hazard i)) (ap (λ x. x.hazard) h.holds_before)
       (ap (λ x. x.hazard) h.holds_after)
       after.pushed after.passed after.unread after.spare old.guarded
 
   pub discarded-turned : IsSoundWith g s l → IsTurned g s' l
   discarded-turned old =
       let turned = old.turned in
-      let same = discarded-descs g s l who at e s' h in
+      let same = discarded-descs g s l caller at e s' h in
       let p = h.stands_before in
       let q = h.stands_after in
-      let before = framed-weighs (s.errand who) p in
+      let before = framed-weighs (s.errand caller) p in
       let after = stage-weighs not_needed e q.stage refl in
-      let unlisted : turn_unlisted (s.errand who) ≡ 1 = rw p.stage refl in
-      let events = no-event g who s.history s'.history h.history in
+      let unlisted : turn_unlisted (s.errand caller) ≡ 1 = rw p.stage refl in
+      let events = no-event g caller s.history s'.history h.history in
       let now : emptied_out g s' l at.desc ≡ 0 = rw (same.anchor at.desc, h.anchor) (grind (arith)) in
       let was : emptied_out g s l at.desc ≡ 0 = rw h.anchor (grind (arith)) in
       let emptied_same =
       emptied-kept g s l s' l
       (of-each (λ k. emptied_out g s' l k ≡ emptied_out g s l k) at.desc (now ∙ sym was)
       (λ d differ.
-      let away : away_of g s' l d ≡ away_of g s l d = omega (arith, discarded-away g s l who at e s' h d, it-elsewhere at d differ) in
+      let away : away_of g s' l d ≡ away_of g s l d = omega (arith, discarded-away g s l caller at e s' h d, it-elsewhere at d differ) in
       rw (away, same.anchor d) refl)) in
-      turned-after g s l who e s' l 0 0
+      turned-after g s l caller e s' l 0 0
       (record {
-        caller = h.caller;
+        in_heap = h.in_heap;
         moves = h.moves;
         events = events;
-        own_turns = omega (arith, turned.own_turns who h.caller, events.gives, before.under_way, after.under_way, h.turns);
+        own_turns = omega (arith, turned.own_turns caller h.in_heap, events.gives, before.under_way, after.under_way, h.turns);
         own_lost =
             elim h.lost [
               | inl more ↦
                   omega (
                     arith,
-                    turned.own_lost who h.caller,
+                    turned.own_lost caller h.in_heap,
                     events.gives,
-                    events.refuses who,
+                    events.refuses caller,
                     before.unanswered,
                     after.discards,
                     after.unanswered,

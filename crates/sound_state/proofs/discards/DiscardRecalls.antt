@@ -22,36 +22,36 @@ use Rattle.sound_state.proofs.discards.DiscardFacts.{discarded-descs, discarded-
 use Rattle.sound_state.proofs.discards.DiscardTies.{own-apart, discarded-owned}
 
 -- an install that was lost
-module _ (g : Geometry) (s : State) (l : Lists) (who : ℕ) (at : Site) (e : ErrandFields) (s' : State) (h : Discards g s l who at e s') where
+module _ (g : Geometry) (s : State) (l : Lists) (caller : ℕ) (at : Site) (e : ErrandFields) (s' : State) (h : Discards g s l caller at e s') where
   -- it leaves what the others remember
   discarded-leaves : (i : ℕ) → Leaves g s l s' i
   discarded-leaves i = record {
     steady = λ n is. h.words n;
     events = ap (own i) h.history;
-    owned = discarded-owned g s l who at e s' h i;
-    empty = λ d so. ap (λ x. is_empty x.state) ((discarded-descs g s l who at e s' h).anchor d);
+    owned = discarded-owned g s l caller at e s' h i;
+    empty = λ d so. ap (λ x. is_empty x.state) ((discarded-descs g s l caller at e s' h).anchor d);
     ways = λ d so.
         let differ : d ≢ at.desc =
         λ same.
         let bad : phase.Active ≡ phase.Empty = sym (ap (λ x. x.state) h.anchor) ∙ ap (λ k. (anchor_for s k).state) (sym same) ∙ so.state in cc in
-        omega (arith, discarded-ways g s l who at e s' h d, it-elsewhere at d differ);
+        omega (arith, discarded-ways g s l caller at e s' h d, it-elsewhere at d differ);
   }
 
   discarded-left : (r : Recall) → IsUnbound at.desc r → IsLeft g s l s' r
-  discarded-left (bound_for d c) apart = subst IsTrue (sym (discarded-bound g s l who at e s' h d apart))
-  discarded-left (bound_at d f c) apart = subst IsTrue (sym (discarded-bound g s l who at e s' h d apart))
+  discarded-left (bound_for d c) apart = subst IsTrue (sym (discarded-bound g s l caller at e s' h d apart))
+  discarded-left (bound_at d f c) apart = subst IsTrue (sym (discarded-bound g s l caller at e s' h d apart))
   discarded-left (pops d b) apart =
-      popped-steady g s l s' (λ n is. h.words n) d b ((discarded-descs g s l who at e s' h).anchor d)
-      (discarded-reserved g s l who at e s' h d apart)
-  discarded-left (links d b prefix) apart = λ is. is ∙ ap (λ x. x.tag) ((discarded-descs g s l who at e s' h).anchor d)
+      popped-steady g s l s' (λ n is. h.words n) d b ((discarded-descs g s l caller at e s' h).anchor d)
+      (discarded-reserved g s l caller at e s' h d apart)
+  discarded-left (links d b prefix) apart = λ is. is ∙ ap (λ x. x.tag) ((discarded-descs g s l caller at e s' h).anchor d)
   discarded-left (says n w) apart = h.words n
   discarded-left r apart = tt
 
   pub discarded-remembered : IsSoundWithoutCounts g s → IsSoundWith g s l → IsRemembered g s' l
   discarded-remembered sound old =
-      remembered-left g s l who e s' h.moves (subst (All (IsSo g s' l who)) (sym h.recalls_after) (All-nil (IsSo g s' l who)))
+      remembered-left g s l caller e s' h.moves (subst (All (IsSo g s' l caller)) (sym h.recalls_after) (All-nil (IsSo g s' l caller)))
       (λ i has ne. discarded-leaves i)
       (λ i has ne k d lt.
       discarded-left _
-      (unbound-recalls g s l i at.desc (own-apart g s l who at e s' h sound old i) old has (others-reserve g s l who at e s' h old i has ne) k d lt))
+      (unbound-recalls g s l i at.desc (own-apart g s l caller at e s' h sound old i) old has (others-reserve g s l caller at e s' h old i has ne) k d lt))
       old.remembered

@@ -13,8 +13,8 @@ use Rattle.superblock_parts.specs.Anchors.{new_credits}
 use Rattle.superblock_parts.specs.declared.point.BlockPoint.TheVariants as block
 use Rattle.stack_parts.specs.declared.point.Pile.TheVariants.{Frames}
 use Rattle.stack_parts.specs.declared.point.StackPoint.TheVariants as stack
-use Rattle.errand_steps.specs.declared.onward.Onward.{Onward}
-use Rattle.errand_steps.specs.declared.onward.Onward.TheVariants as onward
+use Rattle.errand_steps.specs.declared.continuation.Continuation.{Continuation}
+use Rattle.errand_steps.specs.declared.continuation.Continuation.TheVariants as continuation
 use Rattle.errand_steps.specs.declared.point.Point.{Point}
 use Rattle.errand_steps.specs.declared.point.Point.TheVariants.{Block, Stack}
 use Rattle.errand_steps.specs.Errands.{ErrandFields, counts_lost, raised}
@@ -39,16 +39,16 @@ use Rattle.sound_state.proofs.shared.TurnEffects.{StandsFramed}
 use Rattle.sound_state.proofs.shared.WonEffects.{StepEffects, step-effects}
 
 -- where a lost install leads
-abbrev pub discarded_point : Site → Onward → Point
-discarded_point at o = Stack (stack.LoadTopToPush at.seat Frames at.frame) (onward.Discard (asked o) at.desc)
+abbrev pub discarded_point : Site → Continuation → Point
+discarded_point at o = Stack (stack.LoadTopToPush at.seat Frames at.frame) (continuation.Discard (asked o) at.desc)
 
-discard-stands : (at : Site) (o : Onward) → StandsDiscarding (discarded_point at o)
+discard-stands : (at : Site) (o : Continuation) → StandsDiscarding (discarded_point at o)
 discard-stands at o = grind (arith)
 
 -- the count of lost exchanges rises, or is above all turns
 lost-rises :
-    (g : Geometry) (who : ℕ) (e : ErrandFields) (lost : ℕ) → IsOwnErrand g who e → lost ≡ raised true e.lost → (lost ≡ e.lost + 1) ⊎ (e.turns ≤ lost)
-lost-rises g who e lost own is =
+    (g : Geometry) (caller : ℕ) (e : ErrandFields) (lost : ℕ) → IsOwnErrand g caller e → lost ≡ raised true e.lost → (lost ≡ e.lost + 1) ⊎ (e.turns ≤ lost)
+lost-rises g caller e lost own is =
     elim (cases_lt (e.lost + 1) (2 ^ 64)) [
       | inl room ↦ inl (omega (arith, is, room))
       | inr full ↦ inr (omega (arith, is, full, own.rule.turns, own.rule.geometry.turn_limit.1))
@@ -56,26 +56,26 @@ lost-rises g who e lost own is =
 
 -- what the step of a lost install changes
 pub install-discards :
-    (g : Geometry) (s : State) (l : Lists) (who : ℕ) (s' : State) (at : Site) (o : Onward)
-    → IsSoundWithoutCounts g s → IsSoundWith g s l → who < g.callers → (s.errand who).point ≡ Block (block.InstallSuperblock at) o
-    → s.word (active_name at.seat) ≢ active_word Null → Step s who s'
-    → Discards g s l who at (at_point (s.errand who) (lost_with (s.word (active_name at.seat))) (discarded_point at o)) s'
+    (g : Geometry) (s : State) (l : Lists) (caller : ℕ) (s' : State) (at : Site) (o : Continuation)
+    → IsSoundWithoutCounts g s → IsSoundWith g s l → caller < g.callers → (s.errand caller).point ≡ Block (block.InstallSuperblock at) o
+    → s.word (active_name at.seat) ≢ active_word Null → Step s caller s'
+    → Discards g s l caller at (at_point (s.errand caller) (lost_with (s.word (active_name at.seat))) (discarded_point at o)) s'
 unfolding event_of next_of plan_point_of holds_of recalls_of
-install-discards g s l who s' at o sound is has here other step =
+install-discards g s l caller s' at o sound is has here other step =
     let p : Point = Block (block.InstallSuperblock at) o in
     let q : Point = discarded_point at o in
     let n = active_name at.seat in
     let x : Found = lost_with (s.word n) in
-    let about = about-to-install g s l who at o is has here in
+    let about = about-to-install g s l caller at o is has here in
     let is_lost : (s.word n == active_word Null) ≡ false = ne_eqb (s.word n) (active_word Null) other in
-    let effects : StepEffects g s who p x q s' =
-    step-effects g s l who s' p x q is has here (ap (λ b. record { value = s.word n; won = b }) is_lost) (inl refl) step in
+    let effects : StepEffects g s caller p x q s' =
+    step-effects g s l caller s' p x q is has here (ap (λ b. record { value = s.word n; won = b }) is_lost) (inl refl) step in
     let new = active_word (Held at.desc (new_credits at.seat.class)) in
     let writes : Writes s.word n (s.word n) s'.word =
     subst (λ v. Writes s.word n v s'.word) (cond-false {A = ℕ} (s.word n == active_word Null) new (s.word n) is_lost) effects.writes in
-    let lost : counts_lost (s.errand who).point x ≡ true = ap (λ r. counts_lost r x) here in
+    let lost : counts_lost (s.errand caller).point x ≡ true = ap (λ r. counts_lost r x) here in
     record {
-      caller = has;
+      in_heap = has;
       moves = effects.moves;
       site = about.site;
       bound = about.bound;
@@ -87,8 +87,8 @@ install-discards g s l who s' at o sound is has here other step =
       retired = refl;
       turns = refl;
       lost =
-          lost-rises g who (s.errand who) (raised (counts_lost (s.errand who).point x) (s.errand who).lost) (is.errands who has)
-          (ap (λ b. raised b (s.errand who).lost) lost);
+          lost-rises g caller (s.errand caller) (raised (counts_lost (s.errand caller).point x) (s.errand caller).lost) (is.errands caller has)
+          (ap (λ b. raised b (s.errand caller).lost) lost);
       cleared = effects.cleared;
       holds_before = ap holds_of here;
       holds_after = refl;
@@ -99,41 +99,41 @@ install-discards g s l who s' at o sound is has here other step =
 
 -- the state after a lost install is sound
 pub install_superblock-lost :
-    (g : Geometry) (s : State) (who : ℕ) (s' : State) (at : Site) (o : Onward) → IsSoundWithoutCounts g s → who < g.callers
-    → (s.errand who).point ≡ Block (block.InstallSuperblock at) o → s.word (active_name at.seat) ≢ active_word Null → Step s who s'
+    (g : Geometry) (s : State) (caller : ℕ) (s' : State) (at : Site) (o : Continuation) → IsSoundWithoutCounts g s → caller < g.callers
+    → (s.errand caller).point ≡ Block (block.InstallSuperblock at) o → s.word (active_name at.seat) ≢ active_word Null → Step s caller s'
     → IsSoundWithoutCounts g s'
-install_superblock-lost g s who s' at o sound has here other step =
+install_superblock-lost g s caller s' at o sound has here other step =
     let l = sound.parts.0 in
     let is = sound.parts.1 in
-    let e = at_point (s.errand who) (lost_with (s.word (active_name at.seat))) (discarded_point at o) in
-    let h = install-discards g s l who s' at o sound is has here other step in
+    let e = at_point (s.errand caller) (lost_with (s.word (active_name at.seat))) (discarded_point at o) in
+    let h = install-discards g s l caller s' at o sound is has here other step in
     record {
       checked = sound.checked;
       legal = subst (IsLegalWithoutCounts g) (sym h.history) sound.legal;
       parts = (
         l,
         record {
-          words = discarded-words g s l who at e s' h is;
-          errands = each-caller g (IsOwnErrand g) s.errand who e s'.errand h.moves h.rule is.errands;
-          listed = discarded-listed g s l who at e s' h is;
-          kept = discarded-kept g s l who at e s' h is;
-          chained = discarded-chained g s l who at e s' h is;
-          framed = discarded-framed g s l who at e s' h is;
-          remembered = discarded-remembered g s l who at e s' h sound is;
-          guarded = discarded-guarded g s l who at e s' h is;
-          stocked = discarded-stocked g s l who at e s' h is;
-          turned = discarded-turned g s l who at e s' h is;
-          tied = discarded-tied g s l who at e s' h sound is;
+          words = discarded-words g s l caller at e s' h is;
+          errands = each-caller g (IsOwnErrand g) s.errand caller e s'.errand h.moves h.rule is.errands;
+          listed = discarded-listed g s l caller at e s' h is;
+          kept = discarded-kept g s l caller at e s' h is;
+          chained = discarded-chained g s l caller at e s' h is;
+          framed = discarded-framed g s l caller at e s' h is;
+          remembered = discarded-remembered g s l caller at e s' h sound is;
+          guarded = discarded-guarded g s l caller at e s' h is;
+          stocked = discarded-stocked g s l caller at e s' h is;
+          turned = discarded-turned g s l caller at e s' h is;
+          tied = discarded-tied g s l caller at e s' h sound is;
         },
       );
     }
 
 -- so it is after an install, won or lost
 pub install_superblock-sound :
-    (g : Geometry) (s : State) (who : ℕ) (s' : State) (at : Site) (o : Onward) → IsSoundWithoutCounts g s → who < g.callers
-    → (s.errand who).point ≡ Block (block.InstallSuperblock at) o → Step s who s' → IsSoundWithoutCounts g s'
-install_superblock-sound g s who s' at o sound has here step =
+    (g : Geometry) (s : State) (caller : ℕ) (s' : State) (at : Site) (o : Continuation) → IsSoundWithoutCounts g s → caller < g.callers
+    → (s.errand caller).point ≡ Block (block.InstallSuperblock at) o → Step s caller s' → IsSoundWithoutCounts g s'
+install_superblock-sound g s caller s' at o sound has here step =
     elim (cases_eq (s.word (active_name at.seat)) (active_word Null)) [
-      | inl is ↦ install_superblock-won g s who s' at o sound has here is step
-      | inr other ↦ install_superblock-lost g s who s' at o sound has here other step
+      | inl is ↦ install_superblock-won g s caller s' at o sound has here is step
+      | inr other ↦ install_superblock-lost g s caller s' at o sound has here other step
     ]

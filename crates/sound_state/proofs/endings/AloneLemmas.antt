@@ -26,54 +26,54 @@ use Rattle.sound_state.proofs.wins.WonSteps.{expects-after, loses-on}
 
 -- its stale words grow by none, and are one fewer after a lost step
 pub alone-stale :
-    (g : Geometry) (s : State) (who : ℕ) (s' : State) → IsSound g s → who < g.callers → Step s who s'
-    → stale_words g s' who + one_if (counts_lost (s.errand who).point (found_at s who)) ≤ stale_words g s who
-alone-stale g s who s' sound has step =
+    (g : Geometry) (s : State) (caller : ℕ) (s' : State) → IsSound g s → caller < g.callers → Step s caller s'
+    → stale_words g s' caller + one_if (counts_lost (s.errand caller).point (found_at s caller)) ≤ stale_words g s caller
+alone-stale g s caller s' sound has step =
     let plain = without-counts g s sound in
-    let p = (s.errand who).point in
-    stale-falls g s who s' (exists-at g s who p plain has refl) step (expects-after g s who plain has) (loses-on p (word_at s who))
+    let p = (s.errand caller).point in
+    stale-falls g s caller s' (exists-at g s caller p plain has refl) step (expects-after g s caller plain has) (loses-on p (word_at s caller))
 
 -- none becomes stale, its own is not stale after it, and was so where it lost
 pub stale-before :
-    (g : Geometry) (s : State) (who : ℕ) (s' : State) (m : WordName) → IsSound g s → who < g.callers → Step s who s' → is_stale s' who m ≡ true
-    → is_stale s who m ≡ true
-stale-before g s who s' m sound has step = stale-kept s who s' m step (expects-after g s who (without-counts g s sound) has)
+    (g : Geometry) (s : State) (caller : ℕ) (s' : State) (m : WordName) → IsSound g s → caller < g.callers → Step s caller s' → is_stale s' caller m ≡ true
+    → is_stale s caller m ≡ true
+stale-before g s caller s' m sound has step = stale-kept s caller s' m step (expects-after g s caller (without-counts g s sound) has)
 
 pub stale-seen :
-    (g : Geometry) (s : State) (who : ℕ) (s' : State) → IsSound g s → who < g.callers → Step s who s' → is_stale s' who (name_at s who) ≡ false
-stale-seen g s who s' sound has step = stale-here s who s' step (expects-after g s who (without-counts g s sound) has)
+    (g : Geometry) (s : State) (caller : ℕ) (s' : State) → IsSound g s → caller < g.callers → Step s caller s' → is_stale s' caller (name_at s caller) ≡ false
+stale-seen g s caller s' sound has step = stale-here s caller s' step (expects-after g s caller (without-counts g s sound) has)
 
 pub lost-meets :
-    (g : Geometry) (s : State) (who : ℕ) → IsSound g s → who < g.callers → counts_lost (s.errand who).point (found_at s who) ≡ true
-    → is_stale s who (name_at s who) ≡ true
-lost-meets g s who sound has = lost-met s who (loses-on (s.errand who).point (word_at s who))
+    (g : Geometry) (s : State) (caller : ℕ) → IsSound g s → caller < g.callers → counts_lost (s.errand caller).point (found_at s caller) ≡ true
+    → is_stale s caller (name_at s caller) ≡ true
+lost-meets g s caller sound has = lost-met s caller (loses-on (s.errand caller).point (word_at s caller))
 
 -- fewer steps are left
 pub alone-falls :
-    (g : Geometry) (s : State) (who : ℕ) (s' : State) → IsSound g s → who < g.callers → Step s who s'
-    → alone_left g s' who < alone_left g s who
-alone-falls g s who s' sound has step =
-    let after = steps-counted g s who s' sound has step in
-    let stale = alone-stale g s who s' sound has step in
-    let clear = clearings-fall g s who s' (without-counts g s sound) (without-counts g s' after) has step in
-    let most : steps_left g (s'.errand who).point < CALL_STEPS =
-    left-most g who (s'.errand who).point after.checked (fits-at g s' after.parts.0 who (s'.errand who).point after.parts.1 has refl) in
-    elim (steps-go_on g s who s' (without-counts g s sound) has step) [
+    (g : Geometry) (s : State) (caller : ℕ) (s' : State) → IsSound g s → caller < g.callers → Step s caller s'
+    → alone_left g s' caller < alone_left g s caller
+alone-falls g s caller s' sound has step =
+    let after = steps-counted g s caller s' sound has step in
+    let stale = alone-stale g s caller s' sound has step in
+    let clear = clearings-fall g s caller s' (without-counts g s sound) (without-counts g s' after) has step in
+    let most : steps_left g (s'.errand caller).point < CALL_STEPS =
+    left-most g caller (s'.errand caller).point after.checked (fits-at g s' after.parts.0 caller (s'.errand caller).point after.parts.1 has refl) in
+    elim (steps-go_on g s caller s' (without-counts g s sound) has step) [
       | inl lost ↦ omega (arith, stale, clear, most, ap one_if lost)
       | inr rest ↦
           elim rest [ inl clears ↦ omega (arith, stale, clear, most, ap one_if clears) | inr fewer ↦ omega (arith, stale, clear, fewer) ]
     ]
 
 -- a caller that is in a call can make its step
-pub step-there : (s : State) (who : ℕ) → IsBusy (s.errand who) → (s' : State) × Step s who s'
-step-there s who busy =
-    let n = name_at s who in
-    let new = after_action (action_at s who) (word_at s who) in
-    let next = settle_of (s.errand who) (found_at s who) in (
+pub step-there : (s : State) (caller : ℕ) → IsBusy (s.errand caller) → (s' : State) × Step s caller s'
+step-there s caller busy =
+    let n = name_at s caller in
+    let new = after_action (action_at s caller) (word_at s caller) in
+    let next = settle_of (s.errand caller) (found_at s caller) in (
       record {
         word = λ m. if same_name m n then new else s.word m;
-        errand = λ i. if i == who then next else s.errand i;
-        history = with_event s.history (event_at s who);
+        errand = λ i. if i == caller then next else s.errand i;
+        history = with_event s.history (event_at s caller);
       },
       record {
         busy = busy;
@@ -82,8 +82,8 @@ step-there s who busy =
           elsewhere = λ m differ. cond-false (same_name m n) new (s.word m) (same-name-differs m n differ);
         };
         errand = record {
-          here = cond-true (who == who) next (s.errand who) (eq-eqb who who refl);
-          elsewhere = λ i differ. cond-false (i == who) next (s.errand i) (ne_eqb i who differ);
+          here = cond-true (caller == caller) next (s.errand caller) (eq-eqb caller caller refl);
+          elsewhere = λ i differ. cond-false (i == caller) next (s.errand i) (ne_eqb i caller differ);
         };
         history = refl;
       },
@@ -91,21 +91,21 @@ step-there s who busy =
 
 -- so by its steps alone its call ends
 pub ends-within :
-    (g : Geometry) (k : ℕ) (s : State) (who : ℕ) → IsSound g s → who < g.callers → alone_left g s who ≤ k
-    → (n : ℕ) × (s' : State) × (n ≤ k) × Run s (replicate n who) n s' × IsIdle (s'.errand who)
-ends-within g zero s who sound has left =
-    elim (cases_Bool (is_idle (s.errand who).point)) [
+    (g : Geometry) (k : ℕ) (s : State) (caller : ℕ) → IsSound g s → caller < g.callers → alone_left g s caller ≤ k
+    → (n : ℕ) × (s' : State) × (n ≤ k) × Run s (replicate n caller) n s' × IsIdle (s'.errand caller)
+ends-within g zero s caller sound has left =
+    elim (cases_Bool (is_idle (s.errand caller).point)) [
       | inl idle ↦ (0, s, omega arith, (refl, refl), idle)
       | inr busy ↦
-          let (s', step) = step-there s who busy in
-          absurd (omega (arith, left, alone-falls g s who s' sound has step))
+          let (s', step) = step-there s caller busy in
+          absurd (omega (arith, left, alone-falls g s caller s' sound has step))
     ]
-ends-within g (suc k) s who sound has left =
-    elim (cases_Bool (is_idle (s.errand who).point)) [
+ends-within g (suc k) s caller sound has left =
+    elim (cases_Bool (is_idle (s.errand caller).point)) [
       | inl idle ↦ (0, s, omega arith, (refl, refl), idle)
       | inr busy ↦
-          let (s', step) = step-there s who busy in
+          let (s', step) = step-there s caller busy in
           let (n, t, few, run, idle) =
-          ends-within g k s' who (steps-counted g s who s' sound has step) has (omega (arith, left, alone-falls g s who s' sound has step)) in
+          ends-within g k s' caller (steps-counted g s caller s' sound has step) has (omega (arith, left, alone-falls g s caller s' sound has step)) in
           (suc n, t, omega (arith, few), (s', 1, n, inr (step, refl), run, omega arith), idle)
     ]

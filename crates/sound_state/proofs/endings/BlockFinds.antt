@@ -20,7 +20,7 @@ use Rattle.word_plan.specs.Seats.{SeatFields, heap_of, info_in, anchor_in}
 use Rattle.word_plan.specs.Sites.{IsSeatOf, IsSiteOf, active_name}
 use Rattle.word_plan.proofs.CountLemmas.{descriptor_count_within}
 use Rattle.superblock_parts.specs.declared.point.BlockPoint.TheVariants as block
-use Rattle.errand_steps.specs.declared.onward.Onward.{Onward}
+use Rattle.errand_steps.specs.declared.continuation.Continuation.{Continuation}
 use Rattle.errand_steps.specs.declared.point.Point.TheVariants.{Block}
 use Rattle.errand_steps.specs.Steps.{State}
 use Rattle.sound_state.specs.Lists.{Lists}
@@ -45,25 +45,25 @@ names-desc g (Some (Held d credits)) some exists = exists d credits refl
 
 -- that of the caller's processor heap and class does so
 pub active-finds :
-    (g : Geometry) (s : State) (l : Lists) (who : ℕ) (seat : SeatFields) → IsChecked g → IsSoundWith g s l → IsSeatOf g who seat
+    (g : Geometry) (s : State) (l : Lists) (caller : ℕ) (seat : SeatFields) → IsChecked g → IsSoundWith g s l → IsSeatOf g caller seat
     → NamesDesc g (active_of (s.word (active_name seat)))
-active-finds g s l who seat checked old of =
-    let exists = seat-active g who seat checked of in
+active-finds g s l caller seat checked old of =
+    let exists = seat-active g caller seat checked of in
     names-desc g (active_of (s.word (active_name seat))) (old.kept.active_words (heap_of seat) seat.class exists.0 exists.1)
     (λ d credits is. (old.kept.active (heap_of seat) seat.class d credits exists.0 exists.1 is).0)
 
 -- a descriptor's word names a frame and a processor heap of the heap
 pub info-finds :
-    (g : Geometry) (s : State) (l : Lists) (who : ℕ) (seat : SeatFields) (d : ℕ) → IsSoundWith g s l → IsSeatOf g who seat → d < descriptor_count g
+    (g : Geometry) (s : State) (l : Lists) (caller : ℕ) (seat : SeatFields) (d : ℕ) → IsSoundWith g s l → IsSeatOf g caller seat → d < descriptor_count g
     → IsSome (info_in seat.geometry (s.word (name.Info d)))
-info-finds g s l who seat d old of exists =
+info-finds g s l caller seat d old of exists =
     subst (λ h. IsSome (info_in h (s.word (name.Info d)))) (sym of.geometry) (old.chained.infos d exists)
 
 -- the anchor of a superblock names one of its blocks
 pub anchor-finds :
-    (g : Geometry) (s : State) (l : Lists) (who : ℕ) (at : Site) → IsSoundWith g s l → IsSiteOf g who at → IsTrue (is_bound g s l at.desc)
+    (g : Geometry) (s : State) (l : Lists) (caller : ℕ) (at : Site) → IsSoundWith g s l → IsSiteOf g caller at → IsTrue (is_bound g s l at.desc)
     → IsLocated s at.desc at.frame at.seat.class → IsSome (anchor_in at.seat.class (s.word (name.Anchor at.desc)))
-anchor-finds g s l who at old site bound located =
+anchor-finds g s l caller at old site bound located =
     let avail : (anchor_for s at.desc).avail < block_count_of at.seat.class =
     subst (λ c. (anchor_for s at.desc).avail < block_count_of c) located.class (old.chained.chained at.desc site.desc bound).avail in
     subst IsSome
@@ -71,13 +71,13 @@ anchor-finds g s l who at old site bound located =
 
 -- the prefix word of a block that a caller frees says which descriptor is its superblock's
 pub prefix-finds :
-    (g : Geometry) (s : State) (l : Lists) (who : ℕ) (seat : SeatFields) (frame i : ℕ) (o : Onward) → IsChecked g → IsSoundWith g s l
-    → who < g.callers → (s.errand who).point ≡ Block (block.LoadPrefix seat frame i) o
+    (g : Geometry) (s : State) (l : Lists) (caller : ℕ) (seat : SeatFields) (frame i : ℕ) (o : Continuation) → IsChecked g → IsSoundWith g s l
+    → caller < g.callers → (s.errand caller).point ≡ Block (block.LoadPrefix seat frame i) o
     → (d : ℕ) × (d < descriptor_count g) × (prefix_of (s.word (name.Arena (block_place frame seat.class i))) ≡ Some (Small d))
 unfolding prefix_word
-prefix-finds g s l who seat frame i o checked old has at =
+prefix-finds g s l caller seat frame i o checked old has at =
     let place : ℕ = block_place frame seat.class i in
-    let (d, of, says) = prefix-ties g s l who seat frame i o old has at in (
+    let (d, of, says) = prefix-ties g s l caller seat frame i o old has at in (
       d,
       of.exists,
       back prefix-exact (s.word (name.Arena place)) (Small d) (omega (arith, of.exists, descriptor_count_within g checked)) (omega (arith, says)),

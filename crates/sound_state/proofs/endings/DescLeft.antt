@@ -11,10 +11,10 @@ use Rattle.stack_parts.specs.Stacks.{next_in}
 use Rattle.hazard_parts.specs.declared.point.DescPoint.{DescPoint}
 use Rattle.hazard_parts.specs.declared.point.DescPoint.TheVariants as desc
 use Rattle.hazard_parts.specs.Points.{link_in, after_head, after_next, after_hazard, after_top}
-use Rattle.errand_steps.specs.declared.onward.Onward.{Onward}
+use Rattle.errand_steps.specs.declared.continuation.Continuation.{Continuation}
 use Rattle.errand_steps.specs.declared.point.Point.TheVariants.{Desc}
 use Rattle.errand_steps.specs.Nexts.{next_of, enter_desc, cleared}
-use Rattle.errand_steps.specs.Onwards.{clears}
+use Rattle.errand_steps.specs.Continuations.{clears}
 use Rattle.errand_steps.specs.Points.{plan_point_of}
 use Rattle.errand_steps.specs.Steps.{State}
 use Rattle.sound_state.specs.Sound.{IsSoundWithoutCounts}
@@ -26,33 +26,33 @@ use Rattle.sound_state.proofs.shared.StockLemmas.{looking-has}
 
 -- the head names a descriptor
 head-less :
-    (g : Geometry) (s : SeatFields) (v d : ℕ) (o : Onward) → d < descriptor_count s.geometry → v ≡ d + 1
+    (g : Geometry) (s : SeatFields) (v d : ℕ) (o : Continuation) → d < descriptor_count s.geometry → v ≡ d + 1
     → next_left g (enter_desc (after_head s (desc_named s.geometry v)) o) < frame_left g s + 6
 unfolding steps_left
 head-less g s v d o has is = grind (arith, has, is)
 
 -- the name of the one below is 0 or a descriptor's
 next-less :
-    (g : Geometry) (s : SeatFields) (d v : ℕ) (o : Onward) → v ≤ descriptor_count s.geometry
+    (g : Geometry) (s : SeatFields) (d v : ℕ) (o : Continuation) → v ≤ descriptor_count s.geometry
     → next_left g (enter_desc (after_next s d (link_in s.geometry v)) o) < frame_left g s + 3
 unfolding steps_left
 next-less g s d v o most = grind (arith, most)
 
 -- the hazard word is cleared
-cleared-less : (g : Geometry) (s : SeatFields) (o : Onward) → IsTrue (clears o) → next_left g (cleared s o) < cleared_left g o + 1
+cleared-less : (g : Geometry) (s : SeatFields) (o : Continuation) → IsTrue (clears o) → next_left g (cleared s o) < cleared_left g o + 1
 unfolding steps_left
 cleared-less g s o goes = grind (arith, goes)
 
 -- a hazard word is read
 hazard-less :
-    (g : Geometry) (s : SeatFields) (held : List ℕ) (at v : ℕ) (o : Onward) → s.geometry ≡ g → at < g.callers
+    (g : Geometry) (s : SeatFields) (held : List ℕ) (at v : ℕ) (o : Continuation) → s.geometry ≡ g → at < g.callers
     → next_left g (enter_desc (after_hazard s held at v) o) < g.callers - at + 3 + resumed_left g s o
 unfolding steps_left
 hazard-less g s held at v o same has = grind (arith, same, has)
 
 -- the head is loaded for a push
 link-less :
-    (g : Geometry) (s : SeatFields) (d v : ℕ) (o : Onward) → v ≤ descriptor_count s.geometry
+    (g : Geometry) (s : SeatFields) (d v : ℕ) (o : Continuation) → v ≤ descriptor_count s.geometry
     → next_left g (enter_desc (after_top s d (link_in s.geometry v)) o) < resumed_left g s o + 3
 unfolding steps_left
 link-less g s d v o most = grind (arith, most)
@@ -70,37 +70,37 @@ head-most g s sound =
 
 -- a step at the descriptors or the hazard words is lost or leaves less to do
 pub desc-leaves :
-    (g : Geometry) (s : State) (who : ℕ) (p : DescPoint) (o : Onward) → IsSoundWithoutCounts g s → who < g.callers
-    → (s.errand who).point ≡ Desc p o → LeavesLess g s (Desc p o)
+    (g : Geometry) (s : State) (caller : ℕ) (p : DescPoint) (o : Continuation) → IsSoundWithoutCounts g s → caller < g.callers
+    → (s.errand caller).point ≡ Desc p o → LeavesLess g s (Desc p o)
 unfolding plan_point_of next_of steps_left
-desc-leaves g s who (desc.LoadDescHead seat) o sound has at =
-    let fits = fits-now g s who (Desc (desc.LoadDescHead seat) o) sound has at in
-    let (d, within, is) = looking-has g s sound who seat o has at in
+desc-leaves g s caller (desc.LoadDescHead seat) o sound has at =
+    let fits = fits-now g s caller (Desc (desc.LoadDescHead seat) o) sound has at in
+    let (d, within, is) = looking-has g s sound caller seat o has at in
     inr (inr (head-less g seat (s.word name.DescHead) d o (subst (λ k. d < descriptor_count k) (sym fits.point.geometry) within) is))
-desc-leaves g s who (desc.StoreHazard seat d) o sound has at = inr (inr (omega arith))
-desc-leaves g s who (desc.ReloadDescHead seat d) o sound has at =
+desc-leaves g s caller (desc.StoreHazard seat d) o sound has at = inr (inr (omega arith))
+desc-leaves g s caller (desc.ReloadDescHead seat d) o sound has at =
     exchanged g (λ q. enter_desc q o) (frame_left g seat + 4) (s.word name.DescHead == d + 1) (desc.LoadNextDesc seat d) (desc.LoadDescHead seat)
     (omega arith)
-desc-leaves g s who (desc.LoadNextDesc seat d) o sound has at =
-    let fits = fits-now g s who (Desc (desc.LoadNextDesc seat d) o) sound has at in
+desc-leaves g s caller (desc.LoadNextDesc seat d) o sound has at =
+    let fits = fits-now g s caller (Desc (desc.LoadNextDesc seat d) o) sound has at in
     inr (inr (next-less g seat d (s.word (name.Next d)) o
     (seat-most g seat.geometry (s.word (name.Next d)) fits.point.seat.geometry (sound.parts.1.listed.nexts d fits.point.desc))))
-desc-leaves g s who (desc.PopDesc seat d next) o sound has at =
+desc-leaves g s caller (desc.PopDesc seat d next) o sound has at =
     exchanged g (λ q. enter_desc q o) (frame_left g seat + 2) (s.word name.DescHead == d + 1) (desc.ClearAfterPop seat d) (desc.LoadDescHead seat)
     (omega arith)
-desc-leaves g s who (desc.ClearAfterPop seat d) o sound has at = inr (inr (omega arith))
-desc-leaves g s who (desc.ClearHazard seat) o sound has at =
-    let fits = fits-now g s who (Desc (desc.ClearHazard seat) o) sound has at in
+desc-leaves g s caller (desc.ClearAfterPop seat d) o sound has at = inr (inr (omega arith))
+desc-leaves g s caller (desc.ClearHazard seat) o sound has at =
+    let fits = fits-now g s caller (Desc (desc.ClearHazard seat) o) sound has at in
     inr (inr (cleared-less g seat o fits.goes))
-desc-leaves g s who (desc.ReadHazard seat held i) o sound has at =
-    let fits = fits-now g s who (Desc (desc.ReadHazard seat held i) o) sound has at in
+desc-leaves g s caller (desc.ReadHazard seat held i) o sound has at =
+    let fits = fits-now g s caller (Desc (desc.ReadHazard seat held i) o) sound has at in
     inr (inr (hazard-less g seat held i (s.word (name.Hazard i)) o fits.point.0.seat.geometry fits.point.1))
-desc-leaves g s who (desc.LoadHeadToPush seat d) o sound has at =
-    let fits = fits-now g s who (Desc (desc.LoadHeadToPush seat d) o) sound has at in
+desc-leaves g s caller (desc.LoadHeadToPush seat d) o sound has at =
+    let fits = fits-now g s caller (Desc (desc.LoadHeadToPush seat d) o) sound has at in
     inr (inr (link-less g seat d (s.word name.DescHead) o
     (seat-most g seat.geometry (s.word name.DescHead) fits.point.seat.geometry (head-most g s sound))))
-desc-leaves g s who (desc.StoreNextDesc seat d top) o sound has at = inr (inr (omega arith))
-desc-leaves g s who (desc.PushDesc seat d top) o sound has at =
+desc-leaves g s caller (desc.StoreNextDesc seat d top) o sound has at = inr (inr (omega arith))
+desc-leaves g s caller (desc.PushDesc seat d top) o sound has at =
     exchanged g (λ q. enter_desc q o) (resumed_left g seat o + 1) (s.word name.DescHead == top) (desc.Pushed seat d) (desc.LoadHeadToPush seat d)
     (omega arith)
-desc-leaves g s who p o sound has at = absurd (true≢false (fits-now g s who (Desc p o) sound has at).inside)
+desc-leaves g s caller p o sound has at = absurd (true≢false (fits-now g s caller (Desc p o) sound has at).inside)

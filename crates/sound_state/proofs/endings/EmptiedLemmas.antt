@@ -10,8 +10,8 @@ use Rattle.word_plan.specs.Occurs.{occurs}
 use Rattle.partial_parts.specs.Grants.{is_empty}
 use Rattle.partial_parts.specs.declared.point.PartialPoint.TheVariants as partial
 use Rattle.errand_steps.specs.declared.next.Next.TheVariants.{Retire}
-use Rattle.errand_steps.specs.declared.onward.Onward.{Onward}
-use Rattle.errand_steps.specs.declared.onward.Onward.TheVariants as onward
+use Rattle.errand_steps.specs.declared.continuation.Continuation.{Continuation}
+use Rattle.errand_steps.specs.declared.continuation.Continuation.TheVariants as continuation
 use Rattle.errand_steps.specs.declared.point.Point.{Point}
 use Rattle.errand_steps.specs.declared.point.Point.TheVariants.{Partial}
 use Rattle.errand_steps.specs.Errands.{counts_cleared, settle_of, course_of}
@@ -91,70 +91,70 @@ empties-least g s l s' l' class d old new leaves =
     ]
 
 -- a step that clears finds one that is out, and retires it
-record Clears (g : Geometry) (s : State) (l : Lists) (who : ℕ) (s' : State) (l' : Lists) : Type 0 where
+record Clears (g : Geometry) (s : State) (l : Lists) (caller : ℕ) (s' : State) (l' : Lists) : Type 0 where
   desc : ℕ
   exists : desc < descriptor_count g
-  out : IsOut g s l (class_at (s.errand who).point) desc
+  out : IsOut g s l (class_at (s.errand caller).point) desc
   away : 1 ≤ away_of g s' l' desc
 
 takes-empty :
-    (g : Geometry) (s : State) (l : Lists) (who : ℕ) (s' : State) (l' : Lists) (site : Site) (o : Onward) → IsSoundWith g s l → who < g.callers
-    → (s.errand who).point ≡ Partial (partial.LoadGrantAnchor site) o → is_empty (anchor_for s site.desc).state ≡ true → Step s who s'
-    → Clears g s l who s' l'
+    (g : Geometry) (s : State) (l : Lists) (caller : ℕ) (s' : State) (l' : Lists) (site : Site) (o : Continuation) → IsSoundWith g s l → caller < g.callers
+    → (s.errand caller).point ≡ Partial (partial.LoadGrantAnchor site) o → is_empty (anchor_for s site.desc).state ≡ true → Step s caller s'
+    → Clears g s l caller s' l'
 unfolding plan_point_of next_of settle_of course_of holds_of recalls_of callers_sum
-takes-empty g s l who s' l' site o old has stands empty step =
+takes-empty g s l caller s' l' site o old has stands empty step =
     let p = Partial (partial.LoadGrantAnchor site) o in
-    let e = s.errand who in
+    let e = s.errand caller in
     let d = site.desc in
-    let fits = fits-at g s l who p old has stands in
-    let lies = All-head (IsSo g s l who) (located d site.frame site.seat.class) [] (so-at g s l who p old has stands) in
+    let fits = fits-at g s l caller p old has stands in
+    let lies = All-head (IsSo g s l caller) (located d site.frame site.seat.class) [] (so-at g s l caller p old has stands) in
     let keeps : 1 ≤ errand_keeps partly_used d e = keeps-at e p partly_used d stands (kept-itself partly_used d site.seat.class) in
-    let next : next_of e.point (found_at s who) ≡ Retire site.seat d (onward.Look (asked o)) =
-    subst (λ r. next_of r (found_from s r) ≡ Retire site.seat d (onward.Look (asked o))) (sym stands) (rw empty refl) in
-    let one : 1 ≤ next_ways d (Retire site.seat d (onward.Look (asked o))) = omega (arith, cond-true {A = ℕ} (d == d) 1 0 (eq-eqb d d refl)) in
-    let retired : occurs d e.retired + 1 ≤ errand_away d (settle_of e (found_at s who)) =
+    let next : next_of e.point (found_at s caller) ≡ Retire site.seat d (continuation.Look (asked o)) =
+    subst (λ r. next_of r (found_from s r) ≡ Retire site.seat d (continuation.Look (asked o))) (sym stands) (rw empty refl) in
+    let one : 1 ≤ next_ways d (Retire site.seat d (continuation.Look (asked o))) = omega (arith, cond-true {A = ℕ} (d == d) 1 0 (eq-eqb d d refl)) in
+    let retired : occurs d e.retired + 1 ≤ errand_away d (settle_of e (found_at s caller)) =
     subst (λ n. occurs d e.retired + 1 ≤ away_after e n d) (sym next)
-    (next-away e (Retire site.seat d (onward.Look (asked o))) d 1 (λ seat k b is. cc) one) in
-    let mine : errand_away d (s'.errand who) ≤ callers_sum g (errand_away d) s'.errand = term-sum g.callers (λ i. errand_away d (s'.errand i)) who has in
+    (next-away e (Retire site.seat d (continuation.Look (asked o))) d 1 (λ seat k b is. cc) one) in
+    let mine : errand_away d (s'.errand caller) ≤ callers_sum g (errand_away d) s'.errand = term-sum g.callers (λ i. errand_away d (s'.errand i)) caller has in
     record {
       desc = d;
       exists = fits.point.desc;
-      out = record { near = keeps-near g s l who d old has fits.point.desc keeps; empty = empty; of = lies.class ∙ sym (ap class_at stands) };
+      out = record { near = keeps-near g s l caller d old has fits.point.desc keeps; empty = empty; of = lies.class ∙ sym (ap class_at stands) };
       away = omega (arith, retired, mine, ap (errand_away d) step.errand.here);
     }
 
 point-clears :
-    (g : Geometry) (s : State) (l : Lists) (who : ℕ) (s' : State) (l' : Lists) (p : Point) → IsSoundWith g s l → who < g.callers
-    → (s.errand who).point ≡ p → counts_cleared p (found_from s p) ≡ true → Step s who s' → Clears g s l who s' l'
+    (g : Geometry) (s : State) (l : Lists) (caller : ℕ) (s' : State) (l' : Lists) (p : Point) → IsSoundWith g s l → caller < g.callers
+    → (s.errand caller).point ≡ p → counts_cleared p (found_from s p) ≡ true → Step s caller s' → Clears g s l caller s' l'
 unfolding plan_point_of
-point-clears g s l who s' l' (Partial (partial.LoadGrantAnchor site) o) old has stands clears step =
-    takes-empty g s l who s' l' site o old has stands clears step
-point-clears g s l who s' l' p old has stands clears step = absurd (grind (arith, clears))
+point-clears g s l caller s' l' (Partial (partial.LoadGrantAnchor site) o) old has stands clears step =
+    takes-empty g s l caller s' l' site o old has stands clears step
+point-clears g s l caller s' l' p old has stands clears step = absurd (grind (arith, clears))
 
 pub empties-fall :
-    (g : Geometry) (s : State) (who : ℕ) (s' : State) (class d : ℕ) → IsSoundWithoutCounts g s → IsSoundWithoutCounts g s' → who < g.callers
-    → in_turn (s.errand who).point ≡ true → Step s who s' → empty_for g s' class d ≤ empty_for g s class d
-empties-fall g s who s' class d sound after has turn step =
+    (g : Geometry) (s : State) (caller : ℕ) (s' : State) (class d : ℕ) → IsSoundWithoutCounts g s → IsSoundWithoutCounts g s' → caller < g.callers
+    → in_turn (s.errand caller).point ≡ true → Step s caller s' → empty_for g s' class d ≤ empty_for g s class d
+empties-fall g s caller s' class d sound after has turn step =
     empties-least g s sound.parts.0 s' after.parts.0 class d sound.parts.1 after.parts.1
-    (step-leaves-out g s sound.parts.0 who s' after.parts.0 sound sound.parts.1 after.parts.1 has turn step)
+    (step-leaves-out g s sound.parts.0 caller s' after.parts.0 sound sound.parts.1 after.parts.1 has turn step)
 
 -- so one less is EMPTY and out for the class after a step of a turn that clears, and no more after any
 emptied-falls :
-    (g : Geometry) (s : State) (who : ℕ) (s' : State) → IsSoundWithoutCounts g s → IsSoundWithoutCounts g s' → who < g.callers
-    → in_turn (s.errand who).point ≡ true → Step s who s'
-    → emptied_for g s' (class_at (s.errand who).point) + one_if (counts_cleared (s.errand who).point (found_at s who))
-    ≤ emptied_for g s (class_at (s.errand who).point)
-emptied-falls g s who s' sound after has turn step =
+    (g : Geometry) (s : State) (caller : ℕ) (s' : State) → IsSoundWithoutCounts g s → IsSoundWithoutCounts g s' → caller < g.callers
+    → in_turn (s.errand caller).point ≡ true → Step s caller s'
+    → emptied_for g s' (class_at (s.errand caller).point) + one_if (counts_cleared (s.errand caller).point (found_at s caller))
+    ≤ emptied_for g s (class_at (s.errand caller).point)
+emptied-falls g s caller s' sound after has turn step =
     let l = sound.parts.0 in
     let l' = after.parts.0 in
     let old = sound.parts.1 in
     let new = after.parts.1 in
-    let c = class_at (s.errand who).point in
-    let leaves = step-leaves-out g s l who s' l' sound old new has turn step in
+    let c = class_at (s.errand caller).point in
+    let leaves = step-leaves-out g s l caller s' l' sound old new has turn step in
     let least : (d : ℕ) → d < descriptor_count g → empty_for g s' c d ≤ empty_for g s c d = λ d lt. empties-least g s l s' l' c d old new leaves in
-    elim (cases_Bool (counts_cleared (s.errand who).point (found_at s who))) [
+    elim (cases_Bool (counts_cleared (s.errand caller).point (found_at s caller))) [
       | inl clears ↦
-          let h = point-clears g s l who s' l' (s.errand who).point old has refl clears step in
+          let h = point-clears g s l caller s' l' (s.errand caller).point old has refl clears step in
           let before = out-one g s l c h.desc old h.out in
           let none = out-none g s' l' c h.desc new (λ out. let no : ⊥ = omega (arith, out.near, h.away) in no) in
           omega (
@@ -175,32 +175,32 @@ not-turn false isnt = refl
 
 -- it may clear as often as before, and once less where it cleared
 pub clearings-fall :
-    (g : Geometry) (s : State) (who : ℕ) (s' : State) → IsSoundWithoutCounts g s → IsSoundWithoutCounts g s' → who < g.callers → Step s who s'
-    → clearings g s' who + one_if (counts_cleared (s.errand who).point (found_at s who)) ≤ clearings g s who
-clearings-fall g s who s' sound after has step =
-    let e = s.errand who in
-    let x = found_at s who in
-    let q = (s'.errand who).point in
-    let fits = fits-at g s sound.parts.0 who e.point sound.parts.1 has refl in
+    (g : Geometry) (s : State) (caller : ℕ) (s' : State) → IsSoundWithoutCounts g s → IsSoundWithoutCounts g s' → caller < g.callers → Step s caller s'
+    → clearings g s' caller + one_if (counts_cleared (s.errand caller).point (found_at s caller)) ≤ clearings g s caller
+clearings-fall g s caller s' sound after has step =
+    let e = s.errand caller in
+    let x = found_at s caller in
+    let q = (s'.errand caller).point in
+    let fits = fits-at g s sound.parts.0 caller e.point sound.parts.1 has refl in
     let turn_then : in_turn q ≡ true → in_turn e.point ≡ true =
-    λ turn. turn-before g who e x fits (ap (λ f. in_turn f.point) (sym step.errand.here) ∙ turn) in
+    λ turn. turn-before g caller e x fits (ap (λ f. in_turn f.point) (sym step.errand.here) ∙ turn) in
     let class_then : in_turn q ≡ true → class_at q ≡ class_at e.point =
-    λ turn. ap (λ f. class_at f.point) step.errand.here ∙ class-before g who e x fits (ap (λ f. in_turn f.point) (sym step.errand.here) ∙ turn) in
-    let cleared_then : counts_cleared e.point x ≡ true → in_turn e.point ≡ true = λ clears. clears-turn g who e.point x fits clears in
+    λ turn. ap (λ f. class_at f.point) step.errand.here ∙ class-before g caller e x fits (ap (λ f. in_turn f.point) (sym step.errand.here) ∙ turn) in
+    let cleared_then : counts_cleared e.point x ≡ true → in_turn e.point ≡ true = λ clears. clears-turn g caller e.point x fits clears in
     elim (cases_Bool (in_turn e.point)) [
       | inl turn ↦
-          let before : clearings g s who ≡ emptied_for g s (class_at e.point) = rw turn refl in
-          let falls = emptied-falls g s who s' sound after has turn step in
+          let before : clearings g s caller ≡ emptied_for g s (class_at e.point) = rw turn refl in
+          let falls = emptied-falls g s caller s' sound after has turn step in
           elim (cases_Bool (in_turn q)) [
             | inl still ↦
-                let later : clearings g s' who ≡ emptied_for g s' (class_at e.point) = rw still (ap (emptied_for g s') (class_then still)) in
+                let later : clearings g s' caller ≡ emptied_for g s' (class_at e.point) = rw still (ap (emptied_for g s') (class_then still)) in
                 omega (arith, before, later, falls)
-            | inr ended ↦ let later : clearings g s' who ≡ 0 = rw ended refl in omega (arith, before, later, falls)
+            | inr ended ↦ let later : clearings g s' caller ≡ 0 = rw ended refl in omega (arith, before, later, falls)
           ]
       | inr isnt ↦
           let still : in_turn q ≡ false = not-turn (in_turn q) (λ is. true≢false (sym (turn_then is) ∙ isnt)) in
           let none : counts_cleared e.point x ≡ false = not-turn (counts_cleared e.point x) (λ is. true≢false (sym (cleared_then is) ∙ isnt)) in
-          let later : clearings g s' who ≡ 0 = rw still refl in
+          let later : clearings g s' caller ≡ 0 = rw still refl in
           omega (arith, later, ap one_if none)
     ]
 

@@ -24,7 +24,7 @@ use Rattle.pool_model.specs.Pool.{Block, pool_of}
 use Rattle.pool_model.specs.WellFormed.{IsWellFormed}
 use Rattle.pool_model.proofs.PoolLemmas.{every-each, every-found}
 use Rattle.pool_model.proofs.WellFormedLemmas.{sound-of, sound-differ, found-itself}
-use Rattle.errand_steps.specs.declared.onward.Onward.{Onward}
+use Rattle.errand_steps.specs.declared.continuation.Continuation.{Continuation}
 use Rattle.errand_steps.specs.declared.point.Point.{Point}
 use Rattle.errand_steps.specs.declared.point.Point.TheVariants.{Large}
 use Rattle.errand_steps.specs.Nexts.{next_of}
@@ -43,42 +43,42 @@ use Rattle.sound_state.proofs.shared.ShelfFacts.{owned-or-none, shelf-fits}
 use Rattle.sound_state.proofs.shared.StepLemmas.{HoldsException}
 
 -- a free run is taken, or that is lost
-take_run-less : (g : Geometry) (w : WantFields) (bits : ℕ) (o : Onward) (v : ℕ) → LessAt g (Large (large.TakeRun w bits) o) v
+take_run-less : (g : Geometry) (w : WantFields) (bits : ℕ) (o : Continuation) (v : ℕ) → LessAt g (Large (large.TakeRun w bits) o) v
 unfolding plan_point_of next_of steps_left
 take_run-less g w bits o v = grind (arith)
 
 -- the prefix word of a freed run says that it is one
 prefix-less :
-    (g : Geometry) (place : ℕ) (run : RunFields) (o : Onward) (v units : ℕ) → prefix_of v ≡ Some (prefix.Large units)
+    (g : Geometry) (place : ℕ) (run : RunFields) (o : Continuation) (v units : ℕ) → prefix_of v ≡ Some (prefix.Large units)
     → LessAt g (Large (large.LoadRunPrefix place run) o) v
 unfolding plan_point_of next_of steps_left
 prefix-less g place run o v units is = grind (arith, is)
 
 -- a put ends its call, whether it finds the shelf empty or not
 put_shelf-less :
-    (g : Geometry) (k place : ℕ) (n : Need) (o : Onward) (v : ℕ) → LessAt g (Large (large.PutBlock k place n) o) v
+    (g : Geometry) (k place : ℕ) (n : Need) (o : Continuation) (v : ℕ) → LessAt g (Large (large.PutBlock k place n) o) v
 unfolding plan_point_of next_of steps_left
 put_shelf-less g k place n o v = grind (arith)
 
 -- a shelf's word says what lies there
-shelf-less : (g : Geometry) (k : ℕ) (o : Onward) (v : ℕ) → IsSome (shelf_of v) → LessAt g (Large (large.LoadShelf k) o) v
+shelf-less : (g : Geometry) (k : ℕ) (o : Continuation) (v : ℕ) → IsSome (shelf_of v) → LessAt g (Large (large.LoadShelf k) o) v
 unfolding plan_point_of next_of steps_left
 shelf-less g k o v is = grind (arith, is)
 
 -- a take ends its call, whether it finds the block there or not
 got-less :
-    (g : Geometry) (k place : ℕ) (n : Need) (o : Onward) (v : ℕ) → LessAt g (Large (large.TakeBlock k place n) o) v
+    (g : Geometry) (k place : ℕ) (n : Need) (o : Continuation) (v : ℕ) → LessAt g (Large (large.TakeBlock k place n) o) v
 unfolding plan_point_of next_of steps_left
 got-less g k place n o v = grind (arith)
 
 -- so does the look at a shelf on which nothing lies
-nothing-less : (g : Geometry) (k : ℕ) (o : Onward) (v : ℕ) → LessAt g (Large (large.ConfirmNothing k) o) v
+nothing-less : (g : Geometry) (k : ℕ) (o : Continuation) (v : ℕ) → LessAt g (Large (large.ConfirmNothing k) o) v
 unfolding plan_point_of next_of steps_left
 nothing-less g k o v = grind (arith)
 
 -- who begins to free a run excepts no block
 run-excepts :
-    (place : ℕ) (run : RunFields) (o : Onward) (p : ℕ) → HoldsException (holds_of (Large (large.LoadRunPrefix place run) o)) p → ⊥
+    (place : ℕ) (run : RunFields) (o : Continuation) (p : ℕ) → HoldsException (holds_of (Large (large.LoadRunPrefix place run) o)) p → ⊥
 unfolding holds_of
 run-excepts place run o p (inl a) = any-none (λ (b : Handed). b.place ≡ p) a
 run-excepts place run o p (inr a) =
@@ -94,21 +94,21 @@ run-word word units fit is = back prefix-exact word (prefix.Large units) fit (om
 
 -- so the prefix word of a run that is freed says that it is one
 run-said :
-    (g : Geometry) (s : State) (l : Lists) (who place : ℕ) (run : RunFields) (o : Onward) → IsSoundWith g s l → who < g.callers
-    → (s.errand who).point ≡ Large (large.LoadRunPrefix place run) o → prefix_of (s.word (name.Arena place)) ≡ Some (prefix.Large run.units)
+    (g : Geometry) (s : State) (l : Lists) (caller place : ℕ) (run : RunFields) (o : Continuation) → IsSoundWith g s l → caller < g.callers
+    → (s.errand caller).point ≡ Large (large.LoadRunPrefix place run) o → prefix_of (s.word (name.Arena place)) ≡ Some (prefix.Large run.units)
 unfolding holds_of
-run-said g s l who place run o old has at =
+run-said g s l caller place run o old has at =
     let p : Point = Large (large.LoadRunPrefix place run) o in
-    let fit = fits-at g s l who p old has at in
+    let fit = fits-at g s l caller p old has at in
     let within : IsWithin 1 MAX_UNITS run.units = (fit.point.run.some, omega (arith, fit.point.run.within)) in
-    let owned : IsOwned s who place (need.Large run.units) =
-    All-head (λ x. IsOwned s who x.place x.need) (record { place = place; need = need.Large run.units; overwritten = false }) []
-    (frees-at g s l who p old has at) in
+    let owned : IsOwned s caller place (need.Large run.units) =
+    All-head (λ x. IsOwned s caller x.place x.need) (record { place = place; need = need.Large run.units; overwritten = false }) []
+    (frees-at g s l caller p old has at) in
     elim (old.tied.large place run.units owned.block.0 owned.block.1 owned.block.3) [
       | inl x ↦
           absurd
           (run-excepts place run o place
-          (subst (λ q. HoldsException (holds_of q) place) at (only-owner g s l who place (need.Large run.units) old owned x)))
+          (subst (λ q. HoldsException (holds_of q) place) at (only-owner g s l caller place (need.Large run.units) old owned x)))
       | inr is ↦ run-word (s.word (name.Arena place)) run.units within is
     ]
 
@@ -134,22 +134,22 @@ shelf-said g s l k sound old has =
 
 -- in a sound state each step at a large block, a usable word or a shelf is lost or leaves less to do
 pub large-leaves :
-    (g : Geometry) (s : State) (who : ℕ) (p : LargePoint) (o : Onward) → IsSoundWithoutCounts g s → who < g.callers
-    → (s.errand who).point ≡ Large p o → LeavesLess g s (Large p o)
+    (g : Geometry) (s : State) (caller : ℕ) (p : LargePoint) (o : Continuation) → IsSoundWithoutCounts g s → caller < g.callers
+    → (s.errand caller).point ≡ Large p o → LeavesLess g s (Large p o)
 unfolding plan_point_of next_of steps_left
-large-leaves g s who (large.LoadUnits w) o sound has at = inr (inr (omega arith))
-large-leaves g s who (large.TakeRun w bits) o sound has at = take_run-less g w bits o (s.word name.Units)
-large-leaves g s who (large.StoreRunPrefix place run) o sound has at = inr (inr (omega arith))
-large-leaves g s who (large.LoadRunPrefix place run) o sound has at =
-    prefix-less g place run o (s.word (name.Arena place)) run.units (run-said g s sound.parts.0 who place run o sound.parts.1 has at)
-large-leaves g s who (large.FreeRun place run) o sound has at = inr (inr (omega arith))
-large-leaves g s who (large.StoreWord place i value) o sound has at = inr (inr (omega arith))
-large-leaves g s who (large.LoadWord place i) o sound has at = inr (inr (omega arith))
-large-leaves g s who (large.PutBlock k place n) o sound has at = put_shelf-less g k place n o (s.word (name.Shelf k))
-large-leaves g s who (large.LoadShelf k) o sound has at =
-    let fit = fits-now g s who (Large (large.LoadShelf k) o) sound has at in
+large-leaves g s caller (large.LoadUnits w) o sound has at = inr (inr (omega arith))
+large-leaves g s caller (large.TakeRun w bits) o sound has at = take_run-less g w bits o (s.word name.Units)
+large-leaves g s caller (large.StoreRunPrefix place run) o sound has at = inr (inr (omega arith))
+large-leaves g s caller (large.LoadRunPrefix place run) o sound has at =
+    prefix-less g place run o (s.word (name.Arena place)) run.units (run-said g s sound.parts.0 caller place run o sound.parts.1 has at)
+large-leaves g s caller (large.FreeRun place run) o sound has at = inr (inr (omega arith))
+large-leaves g s caller (large.StoreWord place i value) o sound has at = inr (inr (omega arith))
+large-leaves g s caller (large.LoadWord place i) o sound has at = inr (inr (omega arith))
+large-leaves g s caller (large.PutBlock k place n) o sound has at = put_shelf-less g k place n o (s.word (name.Shelf k))
+large-leaves g s caller (large.LoadShelf k) o sound has at =
+    let fit = fits-now g s caller (Large (large.LoadShelf k) o) sound has at in
     shelf-less g k o (s.word (name.Shelf k)) (shelf-said g s sound.parts.0 k sound sound.parts.1 fit.point)
-large-leaves g s who (large.TakeBlock k place n) o sound has at = got-less g k place n o (s.word (name.Shelf k))
-large-leaves g s who (large.ConfirmNothing k) o sound has at = nothing-less g k o (s.word (name.Shelf k))
-large-leaves g s who p o sound has at =
-    let fit = fits-now g s who (Large p o) sound has at in absurd (true≢false fit.inside)
+large-leaves g s caller (large.TakeBlock k place n) o sound has at = got-less g k place n o (s.word (name.Shelf k))
+large-leaves g s caller (large.ConfirmNothing k) o sound has at = nothing-less g k o (s.word (name.Shelf k))
+large-leaves g s caller p o sound has at =
+    let fit = fits-now g s caller (Large p o) sound has at in absurd (true≢false fit.inside)

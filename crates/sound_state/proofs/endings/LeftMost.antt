@@ -14,7 +14,7 @@ use Rattle.hazard_parts.specs.declared.point.DescPoint.TheVariants as desc
 use Rattle.partial_parts.specs.declared.point.PartialPoint.{PartialPoint}
 use Rattle.partial_parts.specs.declared.point.PartialPoint.TheVariants as partial
 use Rattle.large_parts.specs.declared.point.LargePoint.{LargePoint}
-use Rattle.errand_steps.specs.declared.onward.Onward.{Onward}
+use Rattle.errand_steps.specs.declared.continuation.Continuation.{Continuation}
 use Rattle.errand_steps.specs.declared.point.Point.{Point}
 use Rattle.errand_steps.specs.declared.point.Point.TheVariants.{Idle, Block, Stack, Desc, Partial, Large}
 use Rattle.errand_steps.specs.Fits.{FitsPoint}
@@ -29,15 +29,15 @@ scan-most : (g : Geometry) → IsChecked g → scan_left g ≤ 19
 scan-most g checked = omega (arith, checked)
 
 -- what follows a retirement
-resumed-most : (g : Geometry) (s : SeatFields) (o : Onward) → IsChecked g → resumed_left g s o ≤ 1061
+resumed-most : (g : Geometry) (s : SeatFields) (o : Continuation) → IsChecked g → resumed_left g s o ≤ 1061
 resumed-most g s o checked = grind (arith, active-most g s checked)
 
 -- what follows when something is put away
-put-most : (g : Geometry) (s : SeatFields) (o : Onward) → IsChecked g → put_left g s o ≤ 1080
+put-most : (g : Geometry) (s : SeatFields) (o : Continuation) → IsChecked g → put_left g s o ≤ 1080
 put-most g s o checked = grind (arith, active-most g s checked, scan-most g checked)
 
 -- from the top of a stack on
-top-most : (g : Geometry) (s : SeatFields) (o : Onward) → IsChecked g → top_left g s o ≤ 1061
+top-most : (g : Geometry) (s : SeatFields) (o : Continuation) → IsChecked g → top_left g s o ≤ 1061
 top-most g s o checked = grind (arith, active-most g s checked, scan-most g checked)
 
 -- in a superblock
@@ -47,7 +47,7 @@ block-most g (block.LinkBlock at i) checked = omega (arith, block_count_of-most 
 block-most g p checked = omega (arith, scan-most g checked)
 
 -- at a stack
-stack-most : (g : Geometry) (p : StackPoint) (o : Onward) → IsChecked g → stack_left g p o ≤ 1083
+stack-most : (g : Geometry) (p : StackPoint) (o : Continuation) → IsChecked g → stack_left g p o ≤ 1083
 stack-most g (stack.LoadTop s pile) o checked = omega (arith, top-most g s o checked)
 stack-most g (stack.LoadBelow s pile h) o checked = omega (arith, top-most g s o checked)
 stack-most g (stack.PopTop s pile h below) o checked = omega (arith, top-most g s o checked)
@@ -58,11 +58,11 @@ stack-most g (stack.PushTop s pile i h) o checked = omega (arith, put-most g s o
 stack-most g p o checked = omega arith
 
 -- where a hazard word is cleared
-cleared-most : (g : Geometry) (o : Onward) → IsChecked g → cleared_left g o ≤ 33
+cleared-most : (g : Geometry) (o : Continuation) → IsChecked g → cleared_left g o ≤ 33
 cleared-most g o checked = grind (arith, scan-most g checked)
 
 -- at the descriptors or the hazard words
-desc-most : (g : Geometry) (p : DescPoint) (o : Onward) → IsChecked g → desc_point_left g p o ≤ 1080
+desc-most : (g : Geometry) (p : DescPoint) (o : Continuation) → IsChecked g → desc_point_left g p o ≤ 1080
 desc-most g (desc.LoadDescHead s) o checked = omega (arith, active-most g s checked)
 desc-most g (desc.StoreHazard s d) o checked = omega (arith, active-most g s checked)
 desc-most g (desc.ReloadDescHead s d) o checked = omega (arith, active-most g s checked)
@@ -77,11 +77,11 @@ desc-most g (desc.PushDesc s d top) o checked = omega (arith, resumed-most g s o
 desc-most g p o checked = omega arith
 
 -- where an anchor from the list is read
-listed-most : (g : Geometry) (o : Onward) → IsChecked g → listed_left g o ≤ 30
+listed-most : (g : Geometry) (o : Continuation) → IsChecked g → listed_left g o ≤ 30
 listed-most g o checked = grind (arith, scan-most g checked)
 
 -- at a partial superblock
-partial-most : (g : Geometry) (p : PartialPoint) (o : Onward) → IsChecked g → partial_left g p o ≤ 1085
+partial-most : (g : Geometry) (p : PartialPoint) (o : Continuation) → IsChecked g → partial_left g p o ≤ 1085
 partial-most g (partial.LoadSlot s) o checked = omega (arith, active-most g s checked)
 partial-most g (partial.LoadOwner s d) o checked = omega (arith, put-most g s o checked)
 partial-most g (partial.PutSlot s d heap) o checked = omega (arith, put-most g s o checked)
@@ -95,11 +95,11 @@ large-most : (p : LargePoint) → large_left p ≤ 3
 large-most p = grind arith
 
 -- at each point
-pub left-most : (g : Geometry) (who : ℕ) (p : Point) → IsChecked g → FitsPoint g who p → steps_left g p < CALL_STEPS
+pub left-most : (g : Geometry) (caller : ℕ) (p : Point) → IsChecked g → FitsPoint g caller p → steps_left g p < CALL_STEPS
 unfolding steps_left
-left-most g who Idle checked fits = omega arith
-left-most g who (Block p o) checked fits = omega (arith, block-most g p checked)
-left-most g who (Stack p o) checked fits = omega (arith, stack-most g p o checked)
-left-most g who (Desc p o) checked fits = omega (arith, desc-most g p o checked)
-left-most g who (Partial p o) checked fits = omega (arith, partial-most g p o checked)
-left-most g who (Large p o) checked fits = omega (arith, large-most p)
+left-most g caller Idle checked fits = omega arith
+left-most g caller (Block p o) checked fits = omega (arith, block-most g p checked)
+left-most g caller (Stack p o) checked fits = omega (arith, stack-most g p o checked)
+left-most g caller (Desc p o) checked fits = omega (arith, desc-most g p o checked)
+left-most g caller (Partial p o) checked fits = omega (arith, partial-most g p o checked)
+left-most g caller (Large p o) checked fits = omega (arith, large-most p)

@@ -19,22 +19,22 @@ use Rattle.sound_state.proofs.endings.StackLeft.{stack-leaves}
 
 -- at every point of a call
 point-leaves :
-    (g : Geometry) (s : State) (who : ℕ) (p : Point) → IsSoundWithoutCounts g s → who < g.callers → (s.errand who).point ≡ p
+    (g : Geometry) (s : State) (caller : ℕ) (p : Point) → IsSoundWithoutCounts g s → caller < g.callers → (s.errand caller).point ≡ p
     → is_idle p ≡ false → LeavesLess g s p
-point-leaves g s who Idle sound has at busy = absurd (true≢false busy)
-point-leaves g s who (Block p o) sound has at busy = block-leaves g s who p o sound has at
-point-leaves g s who (Stack p o) sound has at busy = stack-leaves g s who p o sound has at
-point-leaves g s who (Desc p o) sound has at busy = desc-leaves g s who p o sound has at
-point-leaves g s who (Partial p o) sound has at busy = partial-leaves g s who p o sound has at
-point-leaves g s who (Large p o) sound has at busy = large-leaves g s who p o sound has at
+point-leaves g s caller Idle sound has at busy = absurd (true≢false busy)
+point-leaves g s caller (Block p o) sound has at busy = block-leaves g s caller p o sound has at
+point-leaves g s caller (Stack p o) sound has at busy = stack-leaves g s caller p o sound has at
+point-leaves g s caller (Desc p o) sound has at busy = desc-leaves g s caller p o sound has at
+point-leaves g s caller (Partial p o) sound has at busy = partial-leaves g s caller p o sound has at
+point-leaves g s caller (Large p o) sound has at busy = large-leaves g s caller p o sound has at
 
 pub steps-go_on :
-    (g : Geometry) (s : State) (who : ℕ) (s' : State) → IsSoundWithoutCounts g s → who < g.callers → Step s who s' → GoesOn g s who s'
-steps-go_on g s who s' sound has step =
-    let most = left-settles g s who sound has in
-    let here : steps_left g (s'.errand who).point ≡ steps_left g (settle_of (s.errand who) (found_at s who)).point =
+    (g : Geometry) (s : State) (caller : ℕ) (s' : State) → IsSoundWithoutCounts g s → caller < g.callers → Step s caller s' → GoesOn g s caller s'
+steps-go_on g s caller s' sound has step =
+    let most = left-settles g s caller sound has in
+    let here : steps_left g (s'.errand caller).point ≡ steps_left g (settle_of (s.errand caller) (found_at s caller)).point =
     ap (λ e. steps_left g e.point) step.errand.here in
-    let less : LeavesLess g s (s.errand who).point = point-leaves g s who (s.errand who).point sound has refl step.busy in
+    let less : LeavesLess g s (s.errand caller).point = point-leaves g s caller (s.errand caller).point sound has refl step.busy in
     elim less [
       | inl lost ↦ inl lost
       | inr rest ↦ elim rest [ inl clears ↦ inr (inl clears) | inr fewer ↦ inr (inr (omega (arith, most, fewer, here))) ]

@@ -17,11 +17,11 @@ use Rattle.partial_parts.specs.declared.point.PartialPoint.{PartialPoint}
 use Rattle.partial_parts.specs.declared.point.PartialPoint.TheVariants as partial
 use Rattle.partial_parts.specs.Grants.{is_empty}
 use Rattle.partial_parts.specs.Points.{slot_of}
-use Rattle.errand_steps.specs.declared.onward.Onward.{Onward}
+use Rattle.errand_steps.specs.declared.continuation.Continuation.{Continuation}
 use Rattle.errand_steps.specs.declared.point.Point.{Point}
 use Rattle.errand_steps.specs.declared.point.Point.TheVariants.{Partial}
 use Rattle.errand_steps.specs.Nexts.{next_of}
-use Rattle.errand_steps.specs.Onwards.{is_alloc, fills, is_clearing}
+use Rattle.errand_steps.specs.Continuations.{is_alloc, fills, is_clearing}
 use Rattle.errand_steps.specs.Points.{plan_point_of}
 use Rattle.errand_steps.specs.Steps.{State}
 use Rattle.sound_state.specs.Holdings.{partly_used, holds_of}
@@ -36,114 +36,114 @@ use Rattle.sound_state.proofs.shared.PointLemmas.{fits-at, fits-now, so-at, exis
 
 -- the caller's slot names a descriptor of the heap, or none
 slot-less :
-    (g : Geometry) (s : SeatFields) (o : Onward) (v : ℕ) → s.geometry ≡ g → v ≤ descriptor_count g → IsTrue (is_alloc o)
+    (g : Geometry) (s : SeatFields) (o : Continuation) (v : ℕ) → s.geometry ≡ g → v ≤ descriptor_count g → IsTrue (is_alloc o)
     → LessAt g (Partial (partial.LoadSlot s) o) v
 unfolding plan_point_of next_of steps_left
 slot-less g s o v same within is = grind (arith, nat_tests, is)
 
 -- what it names is taken, or that is lost
-take_slot-less : (g : Geometry) (s : SeatFields) (d : ℕ) (o : Onward) (v : ℕ) → LessAt g (Partial (partial.TakeSlot s d) o) v
+take_slot-less : (g : Geometry) (s : SeatFields) (d : ℕ) (o : Continuation) (v : ℕ) → LessAt g (Partial (partial.TakeSlot s d) o) v
 unfolding plan_point_of next_of steps_left
 take_slot-less g s d o v = grind (arith)
 
 -- its word names a superblock
 info-less :
-    (g : Geometry) (s : SeatFields) (d : ℕ) (o : Onward) (v : ℕ) → s.geometry ≡ g → IsSome (info_in g v)
+    (g : Geometry) (s : SeatFields) (d : ℕ) (o : Continuation) (v : ℕ) → s.geometry ≡ g → IsSome (info_in g v)
     → LessAt g (Partial (partial.LoadTakenInfo s d) o) v
 unfolding plan_point_of next_of steps_left
 info-less g s d o v same is = grind (arith, is)
 
 -- its anchor is EMPTY, or within the class
 anchor-less :
-    (g : Geometry) (at : Site) (o : Onward) (v : ℕ) → (is_empty (anchor_of v).state ≡ false → (anchor_of v).avail < block_count_of at.seat.class)
+    (g : Geometry) (at : Site) (o : Continuation) (v : ℕ) → (is_empty (anchor_of v).state ≡ false → (anchor_of v).avail < block_count_of at.seat.class)
     → LessAt g (Partial (partial.LoadGrantAnchor at) o) v
 unfolding plan_point_of next_of steps_left
 anchor-less g at o v within = grind (arith, nat_tests, within)
 
 -- blocks are granted, or that is lost
-grant-less : (g : Geometry) (at : Site) (a : AnchorFields) (o : Onward) (v : ℕ) → LessAt g (Partial (partial.Grant at a) o) v
+grant-less : (g : Geometry) (at : Site) (a : AnchorFields) (o : Continuation) (v : ℕ) → LessAt g (Partial (partial.Grant at a) o) v
 unfolding plan_point_of next_of steps_left
 grant-less g at a o v = grind (arith)
 
 -- the word of one that became partial names a superblock
 owner-less :
-    (g : Geometry) (s : SeatFields) (d : ℕ) (o : Onward) (v : ℕ) → s.geometry ≡ g → IsSome (info_in g v)
+    (g : Geometry) (s : SeatFields) (d : ℕ) (o : Continuation) (v : ℕ) → s.geometry ≡ g → IsSome (info_in g v)
     → LessAt g (Partial (partial.LoadOwner s d) o) v
 unfolding plan_point_of next_of steps_left
 owner-less g s d o v same is = grind (arith, is)
 
 -- the slot into which it is put named a descriptor of the heap, or none
 put_slot-less :
-    (g : Geometry) (s : SeatFields) (d heap : ℕ) (o : Onward) (v : ℕ) → s.geometry ≡ g → v ≤ descriptor_count g → IsTrue (fills o)
+    (g : Geometry) (s : SeatFields) (d heap : ℕ) (o : Continuation) (v : ℕ) → s.geometry ≡ g → v ≤ descriptor_count g → IsTrue (fills o)
     → LessAt g (Partial (partial.PutSlot s d heap) o) v
 unfolding plan_point_of next_of steps_left
 put_slot-less g s d heap o v same within is = grind (arith, nat_tests, is)
 
 -- the slot in which an empty one may stand is read
-held-less : (g : Geometry) (s : SeatFields) (d heap : ℕ) (o : Onward) (v : ℕ) → LessAt g (Partial (partial.LoadHeldSlot s d heap) o) v
+held-less : (g : Geometry) (s : SeatFields) (d heap : ℕ) (o : Continuation) (v : ℕ) → LessAt g (Partial (partial.LoadHeldSlot s d heap) o) v
 unfolding plan_point_of next_of steps_left
 held-less g s d heap o v = grind (arith)
 
 -- it is removed from there, or that is lost
-remove-less : (g : Geometry) (s : SeatFields) (d heap : ℕ) (o : Onward) (v : ℕ) → LessAt g (Partial (partial.RemoveFromSlot s d heap) o) v
+remove-less : (g : Geometry) (s : SeatFields) (d heap : ℕ) (o : Continuation) (v : ℕ) → LessAt g (Partial (partial.RemoveFromSlot s d heap) o) v
 unfolding plan_point_of next_of steps_left
 remove-less g s d heap o v = grind (arith)
 
 -- the anchor of one from the list is read
 listed-less :
-    (g : Geometry) (s : SeatFields) (d : ℕ) (o : Onward) (v : ℕ) → IsTrue (is_clearing o) → LessAt g (Partial (partial.LoadListedAnchor s d) o) v
+    (g : Geometry) (s : SeatFields) (d : ℕ) (o : Continuation) (v : ℕ) → IsTrue (is_clearing o) → LessAt g (Partial (partial.LoadListedAnchor s d) o) v
 unfolding plan_point_of next_of steps_left
 listed-less g s d o v is = grind (arith, is)
 
 -- the anchor of a taken superblock is within its class, where it isn't EMPTY
 taken-within :
-    (g : Geometry) (s : State) (l : Lists) (who : ℕ) (site : Site) (o : Onward) → IsSoundWith g s l → who < g.callers
-    → (s.errand who).point ≡ Partial (partial.LoadGrantAnchor site) o → is_empty (anchor_for s site.desc).state ≡ false
+    (g : Geometry) (s : State) (l : Lists) (caller : ℕ) (site : Site) (o : Continuation) → IsSoundWith g s l → caller < g.callers
+    → (s.errand caller).point ≡ Partial (partial.LoadGrantAnchor site) o → is_empty (anchor_for s site.desc).state ≡ false
     → (anchor_for s site.desc).avail < block_count_of site.seat.class
 unfolding holds_of recalls_of
-taken-within g s l who site o old has at used =
+taken-within g s l caller site o old has at used =
     let p : Point = Partial (partial.LoadGrantAnchor site) o in
     let d : ℕ = site.desc in
-    let fit = fits-at g s l who p old has at in
+    let fit = fits-at g s l caller p old has at in
     let lies : IsLocated s d site.frame site.seat.class =
-    All-head (IsSo g s l who) (located d site.frame site.seat.class) [] (so-at g s l who p old has at) in
-    let keeps : 1 ≤ errand_keeps partly_used d (s.errand who) =
+    All-head (IsSo g s l caller) (located d site.frame site.seat.class) [] (so-at g s l caller p old has at) in
+    let keeps : 1 ≤ errand_keeps partly_used d (s.errand caller) =
     subst (λ q. 1 ≤ kept_among partly_used d (holds_of q).kept) (sym at) (kept-itself partly_used d site.seat.class) in
-    let away : away_of g s l d ≡ 0 = keeps-near g s l who d old has fit.point.desc keeps in
+    let away : away_of g s l d ≡ 0 = keeps-near g s l caller d old has fit.point.desc keeps in
     let bound : IsTrue (is_bound g s l d) = rw (eq-eqb (away_of g s l d) 0 away, used) refl in
     let chained : IsChained (superblock_of g s d) = old.chained.chained d fit.point.desc bound in
     subst (λ c. (anchor_for s d).avail < block_count_of c) lies.class chained.avail
 
 -- in a sound state each step at a partial superblock is lost, clears or leaves less to do
 pub partial-leaves :
-    (g : Geometry) (s : State) (who : ℕ) (p : PartialPoint) (o : Onward) → IsSoundWithoutCounts g s → who < g.callers
-    → (s.errand who).point ≡ Partial p o → LeavesLess g s (Partial p o)
+    (g : Geometry) (s : State) (caller : ℕ) (p : PartialPoint) (o : Continuation) → IsSoundWithoutCounts g s → caller < g.callers
+    → (s.errand caller).point ≡ Partial p o → LeavesLess g s (Partial p o)
 unfolding plan_point_of next_of steps_left
-partial-leaves g s who (partial.LoadSlot seat) o sound has at =
-    let fit = fits-now g s who (Partial (partial.LoadSlot seat) o) sound has at in
-    let exists : (heap_of seat < g.heaps) × (seat.class < CLASSES) = exists-at g s who (Partial (partial.LoadSlot seat) o) sound has at in
+partial-leaves g s caller (partial.LoadSlot seat) o sound has at =
+    let fit = fits-now g s caller (Partial (partial.LoadSlot seat) o) sound has at in
+    let exists : (heap_of seat < g.heaps) × (seat.class < CLASSES) = exists-at g s caller (Partial (partial.LoadSlot seat) o) sound has at in
     slot-less g seat o (s.word (slot_name seat)) fit.point.geometry
     (sound.parts.1.kept.slot_words (heap_of seat) seat.class exists.0 exists.1) fit.goes
-partial-leaves g s who (partial.TakeSlot seat d) o sound has at = take_slot-less g seat d o (s.word (slot_name seat))
-partial-leaves g s who (partial.LoadTakenInfo seat d) o sound has at =
-    let fit = fits-now g s who (Partial (partial.LoadTakenInfo seat d) o) sound has at in
+partial-leaves g s caller (partial.TakeSlot seat d) o sound has at = take_slot-less g seat d o (s.word (slot_name seat))
+partial-leaves g s caller (partial.LoadTakenInfo seat d) o sound has at =
+    let fit = fits-now g s caller (Partial (partial.LoadTakenInfo seat d) o) sound has at in
     info-less g seat d o (s.word (name.Info d)) fit.point.seat.geometry (sound.parts.1.chained.infos d fit.point.desc)
-partial-leaves g s who (partial.StoreOwner site) o sound has at = inr (inr (omega arith))
-partial-leaves g s who (partial.LoadGrantAnchor site) o sound has at =
+partial-leaves g s caller (partial.StoreOwner site) o sound has at = inr (inr (omega arith))
+partial-leaves g s caller (partial.LoadGrantAnchor site) o sound has at =
     anchor-less g site o (s.word (name.Anchor site.desc))
-    (taken-within g s sound.parts.0 who site o sound.parts.1 has at)
-partial-leaves g s who (partial.Grant site a) o sound has at = grant-less g site a o (s.word (name.Anchor site.desc))
-partial-leaves g s who (partial.LoadOwner seat d) o sound has at =
-    let fit = fits-now g s who (Partial (partial.LoadOwner seat d) o) sound has at in
+    (taken-within g s sound.parts.0 caller site o sound.parts.1 has at)
+partial-leaves g s caller (partial.Grant site a) o sound has at = grant-less g site a o (s.word (name.Anchor site.desc))
+partial-leaves g s caller (partial.LoadOwner seat d) o sound has at =
+    let fit = fits-now g s caller (Partial (partial.LoadOwner seat d) o) sound has at in
     owner-less g seat d o (s.word (name.Info d)) fit.point.seat.geometry (sound.parts.1.chained.infos d fit.point.desc)
-partial-leaves g s who (partial.PutSlot seat d heap) o sound has at =
-    let fit = fits-now g s who (Partial (partial.PutSlot seat d heap) o) sound has at in
+partial-leaves g s caller (partial.PutSlot seat d heap) o sound has at =
+    let fit = fits-now g s caller (Partial (partial.PutSlot seat d heap) o) sound has at in
     put_slot-less g seat d heap o (s.word (slot_of seat heap)) fit.point.seat.geometry
     (sound.parts.1.kept.slot_words heap seat.class fit.point.owner fit.point.seat.class) fit.goes
-partial-leaves g s who (partial.LoadHeldSlot seat d heap) o sound has at = held-less g seat d heap o (s.word (slot_of seat heap))
-partial-leaves g s who (partial.RemoveFromSlot seat d heap) o sound has at = remove-less g seat d heap o (s.word (slot_of seat heap))
-partial-leaves g s who (partial.LoadListedAnchor seat d) o sound has at =
-    let fit = fits-now g s who (Partial (partial.LoadListedAnchor seat d) o) sound has at in
+partial-leaves g s caller (partial.LoadHeldSlot seat d heap) o sound has at = held-less g seat d heap o (s.word (slot_of seat heap))
+partial-leaves g s caller (partial.RemoveFromSlot seat d heap) o sound has at = remove-less g seat d heap o (s.word (slot_of seat heap))
+partial-leaves g s caller (partial.LoadListedAnchor seat d) o sound has at =
+    let fit = fits-now g s caller (Partial (partial.LoadListedAnchor seat d) o) sound has at in
     listed-less g seat d o (s.word (name.Anchor d)) fit.goes
-partial-leaves g s who p o sound has at =
-    let fit = fits-now g s who (Partial p o) sound has at in absurd (true≢false fit.inside)
+partial-leaves g s caller p o sound has at =
+    let fit = fits-now g s caller (Partial p o) sound has at in absurd (true≢false fit.inside)

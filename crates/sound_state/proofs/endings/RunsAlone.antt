@@ -28,20 +28,20 @@ use Rattle.sound_state.proofs.shared.TagLemmas.{cleared-below}
 use Rattle.sound_state.proofs.shared.TurnEffects.{one_if-most}
 
 -- so many steps of a caller lead from the first state to the second: what it lost and cleared, and what is left
-pub record LeadsAlone (g : Geometry) (s : State) (who n : ℕ) (s' : State) : Type 0 where
-  pub left : n + alone_left g s' who ≤ alone_left g s who
-  pub lost : (s.errand who).lost ≤ (s'.errand who).lost
-  pub met : (s'.errand who).lost + stale_words g s' who ≤ (s.errand who).lost + stale_words g s who
-  pub cleared : (s.errand who).cleared ≤ (s'.errand who).cleared
-  pub emptied : (s'.errand who).cleared + clearings g s' who ≤ (s.errand who).cleared + clearings g s who
+pub record LeadsAlone (g : Geometry) (s : State) (caller n : ℕ) (s' : State) : Type 0 where
+  pub left : n + alone_left g s' caller ≤ alone_left g s caller
+  pub lost : (s.errand caller).lost ≤ (s'.errand caller).lost
+  pub met : (s'.errand caller).lost + stale_words g s' caller ≤ (s.errand caller).lost + stale_words g s caller
+  pub cleared : (s.errand caller).cleared ≤ (s'.errand caller).cleared
+  pub emptied : (s'.errand caller).cleared + clearings g s' caller ≤ (s.errand caller).cleared + clearings g s caller
   pub few :
-      (s'.errand who).lost + 1 < 2 ^ 64
-      → n + CALL_STEPS * ((s.errand who).lost + (s.errand who).cleared) + steps_left g (s'.errand who).point
-      ≤ CALL_STEPS * ((s'.errand who).lost + (s'.errand who).cleared) + steps_left g (s.errand who).point
+      (s'.errand caller).lost + 1 < 2 ^ 64
+      → n + CALL_STEPS * ((s.errand caller).lost + (s.errand caller).cleared) + steps_left g (s'.errand caller).point
+      ≤ CALL_STEPS * ((s'.errand caller).lost + (s'.errand caller).cleared) + steps_left g (s.errand caller).point
 
 -- no steps
-stays-alone : (g : Geometry) (s : State) (who : ℕ) → LeadsAlone g s who 0 s
-stays-alone g s who = record {
+stays-alone : (g : Geometry) (s : State) (caller : ℕ) → LeadsAlone g s caller 0 s
+stays-alone g s caller = record {
   left = omega arith;
   lost = omega arith;
   met = omega arith;
@@ -52,15 +52,15 @@ stays-alone g s who = record {
 
 -- some, and then some more
 then-alone :
-    (g : Geometry) (s : State) (who n : ℕ) (t : State) (m : ℕ) (s' : State) → LeadsAlone g s who n t → LeadsAlone g t who m s'
-    → LeadsAlone g s who (n + m) s'
-then-alone g s who n t m s' a b = record {
+    (g : Geometry) (s : State) (caller n : ℕ) (t : State) (m : ℕ) (s' : State) → LeadsAlone g s caller n t → LeadsAlone g t caller m s'
+    → LeadsAlone g s caller (n + m) s'
+then-alone g s caller n t m s' a b = record {
   left = omega (arith, a.left, b.left);
   lost = omega (arith, a.lost, b.lost);
   met = omega (arith, a.met, b.met);
   cleared = omega (arith, a.cleared, b.cleared);
   emptied = omega (arith, a.emptied, b.emptied);
-  few = λ room. let early : (t.errand who).lost + 1 < 2 ^ 64 = omega (arith, room, b.lost) in omega (arith, a.few early, b.few room);
+  few = λ room. let early : (t.errand caller).lost + 1 < 2 ^ 64 = omega (arith, room, b.lost) in omega (arith, a.few early, b.few room);
 }
 
 -- a count that rises goes up by no more than one, and by one where it does not stand at its end
@@ -69,36 +69,36 @@ raised-one : (b : Bool) (n : ℕ) → raised b n + 1 < 2 ^ 64 → raised b n ≡
 raised-one b n room = grind (arith, room)
 
 -- the counts after a step
-lost-after : (s : State) (who : ℕ) (s' : State) → Step s who s' → (s'.errand who).lost ≡ raised (counts_lost (s.errand who).point (found_at s who)) (s.errand who).lost
+lost-after : (s : State) (caller : ℕ) (s' : State) → Step s caller s' → (s'.errand caller).lost ≡ raised (counts_lost (s.errand caller).point (found_at s caller)) (s.errand caller).lost
 unfolding settle_of
-lost-after s who s' step = ap (λ e. e.lost) step.errand.here
+lost-after s caller s' step = ap (λ e. e.lost) step.errand.here
 
-cleared-after : (s : State) (who : ℕ) (s' : State) → Step s who s' → (s'.errand who).cleared ≡ raised (counts_cleared (s.errand who).point (found_at s who)) (s.errand who).cleared
+cleared-after : (s : State) (caller : ℕ) (s' : State) → Step s caller s' → (s'.errand caller).cleared ≡ raised (counts_cleared (s.errand caller).point (found_at s caller)) (s.errand caller).cleared
 unfolding settle_of
-cleared-after s who s' step = ap (λ e. e.cleared) step.errand.here
+cleared-after s caller s' step = ap (λ e. e.cleared) step.errand.here
 
 -- one step
-step-alone : (g : Geometry) (s : State) (who : ℕ) (s' : State) → IsSound g s → who < g.callers → Step s who s' → LeadsAlone g s who 1 s'
-step-alone g s who s' sound has step =
-    let e = s.errand who in
+step-alone : (g : Geometry) (s : State) (caller : ℕ) (s' : State) → IsSound g s → caller < g.callers → Step s caller s' → LeadsAlone g s caller 1 s'
+step-alone g s caller s' sound has step =
+    let e = s.errand caller in
     let plain = without-counts g s sound in
-    let after = steps-counted g s who s' sound has step in
-    let b = counts_lost e.point (found_at s who) in
-    let c = counts_cleared e.point (found_at s who) in
-    let lost = lost-after s who s' step in
-    let cleared : (s'.errand who).cleared ≡ e.cleared + one_if c =
-    cleared-after s who s' step ∙ raised-by c e.cleared (cleared-below g s plain who has) in
-    let most : steps_left g (s'.errand who).point < CALL_STEPS =
-    left-most g who (s'.errand who).point after.checked (fits-at g s' after.parts.0 who (s'.errand who).point after.parts.1 has refl) in
+    let after = steps-counted g s caller s' sound has step in
+    let b = counts_lost e.point (found_at s caller) in
+    let c = counts_cleared e.point (found_at s caller) in
+    let lost = lost-after s caller s' step in
+    let cleared : (s'.errand caller).cleared ≡ e.cleared + one_if c =
+    cleared-after s caller s' step ∙ raised-by c e.cleared (cleared-below g s plain caller has) in
+    let most : steps_left g (s'.errand caller).point < CALL_STEPS =
+    left-most g caller (s'.errand caller).point after.checked (fits-at g s' after.parts.0 caller (s'.errand caller).point after.parts.1 has refl) in
     record {
-      left = omega (arith, alone-falls g s who s' sound has step);
-      lost = omega (arith, lost, raised-least b e.lost (sound.parts.1.errands who has).lost);
-      met = omega (arith, lost, raised-most b e.lost, alone-stale g s who s' sound has step);
+      left = omega (arith, alone-falls g s caller s' sound has step);
+      lost = omega (arith, lost, raised-least b e.lost (sound.parts.1.errands caller has).lost);
+      met = omega (arith, lost, raised-most b e.lost, alone-stale g s caller s' sound has step);
       cleared = omega (arith, cleared);
-      emptied = omega (arith, cleared, clearings-fall g s who s' plain (without-counts g s' after) has step);
+      emptied = omega (arith, cleared, clearings-fall g s caller s' plain (without-counts g s' after) has step);
       few = λ room.
-          let up : (s'.errand who).lost ≡ e.lost + one_if b = lost ∙ raised-one b e.lost (omega (arith, room, lost)) in
-          elim (steps-go_on g s who s' plain has step) [
+          let up : (s'.errand caller).lost ≡ e.lost + one_if b = lost ∙ raised-one b e.lost (omega (arith, room, lost)) in
+          elim (steps-go_on g s caller s' plain has step) [
             | inl loses ↦ omega (arith, up, cleared, most, ap one_if loses)
             | inr rest ↦
                 elim rest [ inl clears ↦ omega (arith, up, cleared, most, ap one_if clears) | inr fewer ↦ omega (arith, up, cleared, fewer) ]
@@ -107,77 +107,77 @@ step-alone g s who s' sound has step =
 
 -- any turns
 pub runs-alone :
-    (g : Geometry) (turns : ℕ) (s : State) (who n : ℕ) (s' : State) → IsSound g s → who < g.callers → Run s (replicate turns who) n s'
-    → LeadsAlone g s who n s'
-runs-alone g zero s who n s' sound has run =
-    subst (λ t. LeadsAlone g s who n t) (sym run.1) (subst (λ k. LeadsAlone g s who k s) (sym run.0) (stays-alone g s who))
-runs-alone g (suc turns) s who n s' sound has (t, first, others, turn, run, total) =
+    (g : Geometry) (turns : ℕ) (s : State) (caller n : ℕ) (s' : State) → IsSound g s → caller < g.callers → Run s (replicate turns caller) n s'
+    → LeadsAlone g s caller n s'
+runs-alone g zero s caller n s' sound has run =
+    subst (λ t. LeadsAlone g s caller n t) (sym run.1) (subst (λ k. LeadsAlone g s caller k s) (sym run.0) (stays-alone g s caller))
+runs-alone g (suc turns) s caller n s' sound has (t, first, others, turn, run, total) =
     elim turn [
       | inl idle ↦
-          let here : Run s (replicate turns who) others s' = subst (λ u. Run u (replicate turns who) others s') idle.2 run in
+          let here : Run s (replicate turns caller) others s' = subst (λ u. Run u (replicate turns caller) others s') idle.2 run in
           let same : others ≡ n = omega (arith, total, idle.1) in
-          subst (λ k. LeadsAlone g s who k s') same (runs-alone g turns s who others s' sound has here)
+          subst (λ k. LeadsAlone g s caller k s') same (runs-alone g turns s caller others s' sound has here)
       | inr one ↦
           let same : 1 + others ≡ n = omega (arith, total, one.1) in
-          subst (λ k. LeadsAlone g s who k s') same
-          (then-alone g s who 1 t others s' (step-alone g s who t sound has one.0)
-          (runs-alone g turns t who others s' (steps-counted g s who t sound has one.0) has run))
+          subst (λ k. LeadsAlone g s caller k s') same
+          (then-alone g s caller 1 t others s' (step-alone g s caller t sound has one.0)
+          (runs-alone g turns t caller others s' (steps-counted g s caller t sound has one.0) has run))
     ]
 
 -- a caller that is in no call stays so
 pub idle-stays :
-    (turns : ℕ) (s : State) (who n : ℕ) (s' : State) → IsIdle (s.errand who) → Run s (replicate turns who) n s' → IsIdle (s'.errand who)
-idle-stays zero s who n s' idle run = subst (λ t. IsIdle (t.errand who)) (sym run.1) idle
-idle-stays (suc turns) s who n s' idle (t, first, others, turn, run, total) =
+    (turns : ℕ) (s : State) (caller n : ℕ) (s' : State) → IsIdle (s.errand caller) → Run s (replicate turns caller) n s' → IsIdle (s'.errand caller)
+idle-stays zero s caller n s' idle run = subst (λ t. IsIdle (t.errand caller)) (sym run.1) idle
+idle-stays (suc turns) s caller n s' idle (t, first, others, turn, run, total) =
     elim turn [
-      | inl none ↦ idle-stays turns s who others s' idle (subst (λ u. Run u (replicate turns who) others s') none.2 run)
+      | inl none ↦ idle-stays turns s caller others s' idle (subst (λ u. Run u (replicate turns caller) others s') none.2 run)
       | inr one ↦ absurd (true≢false (sym idle ∙ one.0.busy))
     ]
 
 -- as many turns as are left end its call
 pub ends-alone :
-    (g : Geometry) (turns : ℕ) (s : State) (who n : ℕ) (s' : State) → IsSound g s → who < g.callers → alone_left g s who ≤ turns
-    → Run s (replicate turns who) n s' → IsIdle (s'.errand who)
-ends-alone g zero s who n s' sound has left run =
-    subst (λ t. IsIdle (t.errand who)) (sym run.1)
-    (elim (cases_Bool (is_idle (s.errand who).point)) [
+    (g : Geometry) (turns : ℕ) (s : State) (caller n : ℕ) (s' : State) → IsSound g s → caller < g.callers → alone_left g s caller ≤ turns
+    → Run s (replicate turns caller) n s' → IsIdle (s'.errand caller)
+ends-alone g zero s caller n s' sound has left run =
+    subst (λ t. IsIdle (t.errand caller)) (sym run.1)
+    (elim (cases_Bool (is_idle (s.errand caller).point)) [
       | inl idle ↦ idle
-      | inr busy ↦ let (t, step) = step-there s who busy in absurd (omega (arith, left, alone-falls g s who t sound has step))
+      | inr busy ↦ let (t, step) = step-there s caller busy in absurd (omega (arith, left, alone-falls g s caller t sound has step))
     ])
-ends-alone g (suc turns) s who n s' sound has left (t, first, others, turn, run, total) =
+ends-alone g (suc turns) s caller n s' sound has left (t, first, others, turn, run, total) =
     elim turn [
-      | inl idle ↦ idle-stays turns s who others s' idle.0 (subst (λ u. Run u (replicate turns who) others s') idle.2 run)
+      | inl idle ↦ idle-stays turns s caller others s' idle.0 (subst (λ u. Run u (replicate turns caller) others s') idle.2 run)
       | inr one ↦
-          ends-alone g turns t who others s' (steps-counted g s who t sound has one.0) has
-          (omega (arith, left, alone-falls g s who t sound has one.0)) run
+          ends-alone g turns t caller others s' (steps-counted g s caller t sound has one.0) has
+          (omega (arith, left, alone-falls g s caller t sound has one.0)) run
     ]
 
 -- fewer than a call's steps, and as many more for each stale word and each superblock to clear
 pub alone-most :
-    (g : Geometry) (s : State) (who : ℕ) → IsSound g s → who < g.callers
-    → alone_left g s who < CALL_STEPS * (1 + stale_words g s who + clearings g s who)
-alone-most g s who sound has =
+    (g : Geometry) (s : State) (caller : ℕ) → IsSound g s → caller < g.callers
+    → alone_left g s caller < CALL_STEPS * (1 + stale_words g s caller + clearings g s caller)
+alone-most g s caller sound has =
     omega (
       arith,
-      left-most g who (s.errand who).point sound.checked (fits-at g s sound.parts.0 who (s.errand who).point sound.parts.1 has refl),
+      left-most g caller (s.errand caller).point sound.checked (fits-at g s sound.parts.0 caller (s.errand caller).point sound.parts.1 has refl),
     )
 
 -- so many steps fit a count
-clearings-most : (g : Geometry) (s : State) (who : ℕ) → clearings g s who ≤ descriptor_count g
-clearings-most g s who =
-    let each : emptied_for g s (class_at (s.errand who).point) ≤ descriptor_count g * 1 =
-    sum-most (descriptor_count g) (empty_for g s (class_at (s.errand who).point)) 1 (λ d lt. one_if-most _) in
-    omega (arith, each, cond-most (in_turn (s.errand who).point) (emptied_for g s (class_at (s.errand who).point)))
+clearings-most : (g : Geometry) (s : State) (caller : ℕ) → clearings g s caller ≤ descriptor_count g
+clearings-most g s caller =
+    let each : emptied_for g s (class_at (s.errand caller).point) ≤ descriptor_count g * 1 =
+    sum-most (descriptor_count g) (empty_for g s (class_at (s.errand caller).point)) 1 (λ d lt. one_if-most _) in
+    omega (arith, each, cond-most (in_turn (s.errand caller).point) (emptied_for g s (class_at (s.errand caller).point)))
 
-pub alone-below : (g : Geometry) (s : State) (who : ℕ) → IsSound g s → who < g.callers → alone_left g s who < 2 ^ 64
-alone-below g s who sound has =
-    omega (arith, alone-most g s who sound has, stale-most g s who, clearings-most g s who, descriptor_count_within g sound.checked)
+pub alone-below : (g : Geometry) (s : State) (caller : ℕ) → IsSound g s → caller < g.callers → alone_left g s caller < 2 ^ 64
+alone-below g s caller sound has =
+    omega (arith, alone-most g s caller sound has, stale-most g s caller, clearings-most g s caller, descriptor_count_within g sound.checked)
 
 -- and for each exchange that was lost and each superblock that was cleared
 pub leads-few :
-    (g : Geometry) (s : State) (who n : ℕ) (s' : State) → IsSound g s → who < g.callers → LeadsAlone g s who n s'
-    → (s'.errand who).lost + 1 < 2 ^ 64
-    → n < CALL_STEPS * (1 + ((s'.errand who).lost - (s.errand who).lost) + ((s'.errand who).cleared - (s.errand who).cleared))
-leads-few g s who n s' sound has leads room =
-    let most = left-most g who (s.errand who).point sound.checked (fits-at g s sound.parts.0 who (s.errand who).point sound.parts.1 has refl) in
+    (g : Geometry) (s : State) (caller n : ℕ) (s' : State) → IsSound g s → caller < g.callers → LeadsAlone g s caller n s'
+    → (s'.errand caller).lost + 1 < 2 ^ 64
+    → n < CALL_STEPS * (1 + ((s'.errand caller).lost - (s.errand caller).lost) + ((s'.errand caller).cleared - (s.errand caller).cleared))
+leads-few g s caller n s' sound has leads room =
+    let most = left-most g caller (s.errand caller).point sound.checked (fits-at g s sound.parts.0 caller (s.errand caller).point sound.parts.1 has refl) in
     omega (arith, most, leads.lost, leads.cleared, leads.few room)

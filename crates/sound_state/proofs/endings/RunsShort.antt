@@ -56,57 +56,57 @@ begun-counts e (take shelf) = (refl, refl)
 -- a count of 64 bits doesn't fall, and rises by one below its end
 
 -- fewer steps than the most are left
-most-left : (g : Geometry) (s : State) (who : ℕ) → IsSound g s → who < g.callers → steps_left g (s.errand who).point < CALL_STEPS
-most-left g s who sound has =
-    left-most g who (s.errand who).point sound.checked (fits-at g s sound.parts.0 who (s.errand who).point sound.parts.1 has refl)
+most-left : (g : Geometry) (s : State) (caller : ℕ) → IsSound g s → caller < g.callers → steps_left g (s.errand caller).point < CALL_STEPS
+most-left g s caller sound has =
+    left-most g caller (s.errand caller).point sound.checked (fits-at g s sound.parts.0 caller (s.errand caller).point sound.parts.1 has refl)
 
 -- the counts after a step of the caller
 step-counts :
-    (s : State) (who : ℕ) (s' : State) → Step s who s'
-    → ((s'.errand who).lost ≡ raised (counts_lost (s.errand who).point (found_at s who)) (s.errand who).lost)
-    × ((s'.errand who).cleared ≡ raised (counts_cleared (s.errand who).point (found_at s who)) (s.errand who).cleared)
+    (s : State) (caller : ℕ) (s' : State) → Step s caller s'
+    → ((s'.errand caller).lost ≡ raised (counts_lost (s.errand caller).point (found_at s caller)) (s.errand caller).lost)
+    × ((s'.errand caller).cleared ≡ raised (counts_cleared (s.errand caller).point (found_at s caller)) (s.errand caller).cleared)
 unfolding settle_of
-step-counts s who s' step = (ap (λ e. e.lost) step.errand.here, ap (λ e. e.cleared) step.errand.here)
+step-counts s caller s' step = (ap (λ e. e.lost) step.errand.here, ap (λ e. e.cleared) step.errand.here)
 
 step-grows :
-    (g : Geometry) (s : State) (who : ℕ) (s' : State) → IsSound g s → who < g.callers → Step s who s' → Grows (s.errand who) (s'.errand who)
-step-grows g s who s' sound has step =
-    let counts = step-counts s who s' step in
-    let own = sound.parts.1.errands who has in
-    let clear = cleared-below g s (without-counts g s sound) who has in
+    (g : Geometry) (s : State) (caller : ℕ) (s' : State) → IsSound g s → caller < g.callers → Step s caller s' → Grows (s.errand caller) (s'.errand caller)
+step-grows g s caller s' sound has step =
+    let counts = step-counts s caller s' step in
+    let own = sound.parts.1.errands caller has in
+    let clear = cleared-below g s (without-counts g s sound) caller has in
     record {
-      lost = omega (arith, counts.0, raised-least (counts_lost (s.errand who).point (found_at s who)) (s.errand who).lost own.lost);
+      lost = omega (arith, counts.0, raised-least (counts_lost (s.errand caller).point (found_at s caller)) (s.errand caller).lost own.lost);
       cleared =
           omega (
             arith,
             counts.1,
-            raised-least (counts_cleared (s.errand who).point (found_at s who)) (s.errand who).cleared (omega (arith, clear)),
+            raised-least (counts_cleared (s.errand caller).point (found_at s caller)) (s.errand caller).cleared (omega (arith, clear)),
           );
     }
 
 -- a step of the caller is paid
 step-spends :
-    (g : Geometry) (s : State) (who : ℕ) (s' : State) → IsSound g s → IsSound g s' → who < g.callers → Step s who s'
-    → (s'.errand who).lost < 2 ^ 64 - 1 → Spends g (s.errand who) (s'.errand who) 1 0
-step-spends g s who s' sound sound' has step below =
-    let counts = step-counts s who s' step in
-    let grows = step-grows g s who s' sound has step in
+    (g : Geometry) (s : State) (caller : ℕ) (s' : State) → IsSound g s → IsSound g s' → caller < g.callers → Step s caller s'
+    → (s'.errand caller).lost < 2 ^ 64 - 1 → Spends g (s.errand caller) (s'.errand caller) 1 0
+step-spends g s caller s' sound sound' has step below =
+    let counts = step-counts s caller s' step in
+    let grows = step-grows g s caller s' sound has step in
     let more_lost = grows.lost in
     let more_cleared = grows.cleared in
-    let most = most-left g s' who sound' has in
-    let clear = cleared-below g s' (without-counts g s' sound') who has in
-    elim (steps-go_on g s who s' (without-counts g s sound) has step) [
+    let most = most-left g s' caller sound' has in
+    let clear = cleared-below g s' (without-counts g s' sound') caller has in
+    elim (steps-go_on g s caller s' (without-counts g s sound) has step) [
       | inl lost ↦
-          let is : (s'.errand who).lost ≡ raised true (s.errand who).lost =
-          subst (λ b. (s'.errand who).lost ≡ raised b (s.errand who).lost) lost counts.0 in
-          let up : (s'.errand who).lost ≡ (s.errand who).lost + 1 = omega (arith, is, below) in
+          let is : (s'.errand caller).lost ≡ raised true (s.errand caller).lost =
+          subst (λ b. (s'.errand caller).lost ≡ raised b (s.errand caller).lost) lost counts.0 in
+          let up : (s'.errand caller).lost ≡ (s.errand caller).lost + 1 = omega (arith, is, below) in
           record { paid = omega (arith, up, most, more_cleared) }
       | inr rest ↦
           elim rest [
             | inl clears ↦
-                let is : (s'.errand who).cleared ≡ raised true (s.errand who).cleared =
-                subst (λ b. (s'.errand who).cleared ≡ raised b (s.errand who).cleared) clears counts.1 in
-                let up : (s'.errand who).cleared ≡ (s.errand who).cleared + 1 = omega (arith, is, clear) in
+                let is : (s'.errand caller).cleared ≡ raised true (s.errand caller).cleared =
+                subst (λ b. (s'.errand caller).cleared ≡ raised b (s.errand caller).cleared) clears counts.1 in
+                let up : (s'.errand caller).cleared ≡ (s.errand caller).cleared + 1 = omega (arith, is, clear) in
                 record { paid = omega (arith, up, most, more_lost) }
             | inr fewer ↦ record { paid = omega (arith, fewer, more_lost, more_cleared) }
           ]
@@ -121,133 +121,133 @@ same-grows e f is = record { lost = omega (arith, ap (λ x. x.lost) is); cleared
 
 -- the errand after a call of its own
 begun-errand :
-    (g : Geometry) (s : State) (who : ℕ) (call : Call) (s' : State) → Begins s who call s' → s'.errand who ≡ begun_by (s.errand who) call
-begun-errand g s who call s' b = subst (λ t. t.errand who ≡ begun_by (s.errand who) call) (sym b.after) b.moves.here
+    (g : Geometry) (s : State) (caller : ℕ) (call : Call) (s' : State) → Begins s caller call s' → s'.errand caller ≡ begun_by (s.errand caller) call
+begun-errand g s caller call s' b = subst (λ t. t.errand caller ≡ begun_by (s.errand caller) call) (sym b.after) b.moves.here
 
 -- a move of any caller lets both counts grow
 move-grows :
-    (g : Geometry) (s : State) (move : Move) (s' : State) (who : ℕ) → IsSound g s → who < g.callers → Moved g s move s'
-    → Grows (s.errand who) (s'.errand who)
-move-grows g s (begins k call) s' who sound has moved =
-    elim (cases_eq who k) [
+    (g : Geometry) (s : State) (move : Move) (s' : State) (caller : ℕ) → IsSound g s → caller < g.callers → Moved g s move s'
+    → Grows (s.errand caller) (s'.errand caller)
+move-grows g s (begins k call) s' caller sound has moved =
+    elim (cases_eq caller k) [
       | inl is ↦
-          let own : Begins s who call s' = subst (λ i. Begins s i call s') (sym is) moved.1 in
-          let same = begun-counts (s.errand who) call in
-          let here = begun-errand g s who call s' own in
+          let own : Begins s caller call s' = subst (λ i. Begins s i call s') (sym is) moved.1 in
+          let same = begun-counts (s.errand caller) call in
+          let here = begun-errand g s caller call s' own in
           record {
             lost = omega (arith, same.0, ap (λ e. e.lost) here);
             cleared = omega (arith, same.1, ap (λ e. e.cleared) here);
           }
       | inr other ↦
-          same-grows (s.errand who) (s'.errand who)
-          (subst (λ t. t.errand who ≡ s.errand who) (sym moved.1.after) (moved.1.moves.elsewhere who other))
+          same-grows (s.errand caller) (s'.errand caller)
+          (subst (λ t. t.errand caller ≡ s.errand caller) (sym moved.1.after) (moved.1.moves.elsewhere caller other))
     ]
-move-grows g s (steps k) s' who sound has moved =
-    elim (cases_eq who k) [
-      | inl is ↦ step-grows g s who s' sound has (subst (λ i. Step s i s') (sym is) moved.1)
-      | inr other ↦ same-grows (s.errand who) (s'.errand who) (moved.1.errand.elsewhere who other)
+move-grows g s (steps k) s' caller sound has moved =
+    elim (cases_eq caller k) [
+      | inl is ↦ step-grows g s caller s' sound has (subst (λ i. Step s i s') (sym is) moved.1)
+      | inr other ↦ same-grows (s.errand caller) (s'.errand caller) (moved.1.errand.elsewhere caller other)
     ]
 
 -- and is paid
 move-spends :
-    (g : Geometry) (s : State) (move : Move) (s' : State) (who : ℕ) → IsSound g s → who < g.callers → Moved g s move s'
-    → (s'.errand who).lost < 2 ^ 64 - 1
-    → Spends g (s.errand who) (s'.errand who) (one_if (is_step_of who move)) (one_if (is_begin_of who move))
-move-spends g s (begins k call) s' who sound has moved below =
-    elim (cases_eq who k) [
+    (g : Geometry) (s : State) (move : Move) (s' : State) (caller : ℕ) → IsSound g s → caller < g.callers → Moved g s move s'
+    → (s'.errand caller).lost < 2 ^ 64 - 1
+    → Spends g (s.errand caller) (s'.errand caller) (one_if (is_step_of caller move)) (one_if (is_begin_of caller move))
+move-spends g s (begins k call) s' caller sound has moved below =
+    elim (cases_eq caller k) [
       | inl is ↦
-          let most = most-left g s' who (moved-sound g s (begins k call) s' sound moved) has in
-          let grows = move-grows g s (begins k call) s' who sound has moved in
-          let one : one_if (k == who) ≡ 1 = ap one_if (eq-eqb k who (sym is)) in
+          let most = most-left g s' caller (moved-sound g s (begins k call) s' sound moved) has in
+          let grows = move-grows g s (begins k call) s' caller sound has moved in
+          let one : one_if (k == caller) ≡ 1 = ap one_if (eq-eqb k caller (sym is)) in
           record { paid = omega (arith, one, most, grows.lost, grows.cleared) }
       | inr other ↦
-          let none : one_if (k == who) ≡ 0 = ap one_if (ne_eqb k who (λ is. other (sym is))) in
+          let none : one_if (k == caller) ≡ 0 = ap one_if (ne_eqb k caller (λ is. other (sym is))) in
           let same =
-          same-spends g (s.errand who) (s'.errand who)
-          (subst (λ t. t.errand who ≡ s.errand who) (sym moved.1.after) (moved.1.moves.elsewhere who other)) in
+          same-spends g (s.errand caller) (s'.errand caller)
+          (subst (λ t. t.errand caller ≡ s.errand caller) (sym moved.1.after) (moved.1.moves.elsewhere caller other)) in
           record { paid = omega (arith, none, same.paid) }
     ]
-move-spends g s (steps k) s' who sound has moved below =
-    elim (cases_eq who k) [
+move-spends g s (steps k) s' caller sound has moved below =
+    elim (cases_eq caller k) [
       | inl is ↦
-          let one : one_if (k == who) ≡ 1 = ap one_if (eq-eqb k who (sym is)) in
+          let one : one_if (k == caller) ≡ 1 = ap one_if (eq-eqb k caller (sym is)) in
           let spends =
-          step-spends g s who s' sound (moved-sound g s (steps k) s' sound moved) has (subst (λ i. Step s i s') (sym is) moved.1) below in
+          step-spends g s caller s' sound (moved-sound g s (steps k) s' sound moved) has (subst (λ i. Step s i s') (sym is) moved.1) below in
           record { paid = omega (arith, one, spends.paid) }
       | inr other ↦
-          let none : one_if (k == who) ≡ 0 = ap one_if (ne_eqb k who (λ is. other (sym is))) in
-          let same = same-spends g (s.errand who) (s'.errand who) (moved.1.errand.elsewhere who other) in
+          let none : one_if (k == caller) ≡ 0 = ap one_if (ne_eqb k caller (λ is. other (sym is))) in
+          let same = same-spends g (s.errand caller) (s'.errand caller) (moved.1.errand.elsewhere caller other) in
           record { paid = omega (arith, none, same.paid) }
     ]
 
 -- a run lets both counts grow
 run-grows :
-    (g : Geometry) (s : State) (moves : List Move) (s' : State) (who : ℕ) → IsSound g s → who < g.callers → Reaches g s moves s'
-    → Grows (s.errand who) (s'.errand who)
-run-grows g s [] s' who sound has reached = same-grows (s.errand who) (s'.errand who) (ap (λ t. t.errand who) reached)
-run-grows g s (move ∷ rest) s' who sound has (next, moved, reached) =
-    let first = move-grows g s move next who sound has moved in
-    let others = run-grows g next rest s' who (moved-sound g s move next sound moved) has reached in
+    (g : Geometry) (s : State) (moves : List Move) (s' : State) (caller : ℕ) → IsSound g s → caller < g.callers → Reaches g s moves s'
+    → Grows (s.errand caller) (s'.errand caller)
+run-grows g s [] s' caller sound has reached = same-grows (s.errand caller) (s'.errand caller) (ap (λ t. t.errand caller) reached)
+run-grows g s (move ∷ rest) s' caller sound has (next, moved, reached) =
+    let first = move-grows g s move next caller sound has moved in
+    let others = run-grows g next rest s' caller (moved-sound g s move next sound moved) has reached in
     record { lost = omega (arith, first.lost, others.lost); cleared = omega (arith, first.cleared, others.cleared) }
 
 pub counts-grow :
-    (g : Geometry) (s : State) (moves : List Move) (s' : State) (who : ℕ) → IsSound g s → who < g.callers → Reaches g s moves s'
-    → ((s.errand who).lost ≤ (s'.errand who).lost) × ((s.errand who).cleared ≤ (s'.errand who).cleared)
-counts-grow g s moves s' who sound has reached =
-    let grows = run-grows g s moves s' who sound has reached in
+    (g : Geometry) (s : State) (moves : List Move) (s' : State) (caller : ℕ) → IsSound g s → caller < g.callers → Reaches g s moves s'
+    → ((s.errand caller).lost ≤ (s'.errand caller).lost) × ((s.errand caller).cleared ≤ (s'.errand caller).cleared)
+counts-grow g s moves s' caller sound has reached =
+    let grows = run-grows g s moves s' caller sound has reached in
     (grows.lost, grows.cleared)
 
 -- and is paid
 run-pays :
-    (g : Geometry) (s : State) (moves : List Move) (s' : State) (who : ℕ) → IsSound g s → who < g.callers → Reaches g s moves s'
-    → (s'.errand who).lost < 2 ^ 64 - 1
-    → Spends g (s.errand who) (s'.errand who) (count_by (is_step_of who) moves) (count_by (is_begin_of who) moves)
-run-pays g s [] s' who sound has reached below = same-spends g (s.errand who) (s'.errand who) (ap (λ t. t.errand who) reached)
-run-pays g s (move ∷ rest) s' who sound has (next, moved, reached) below =
+    (g : Geometry) (s : State) (moves : List Move) (s' : State) (caller : ℕ) → IsSound g s → caller < g.callers → Reaches g s moves s'
+    → (s'.errand caller).lost < 2 ^ 64 - 1
+    → Spends g (s.errand caller) (s'.errand caller) (count_by (is_step_of caller) moves) (count_by (is_begin_of caller) moves)
+run-pays g s [] s' caller sound has reached below = same-spends g (s.errand caller) (s'.errand caller) (ap (λ t. t.errand caller) reached)
+run-pays g s (move ∷ rest) s' caller sound has (next, moved, reached) below =
     let sound' = moved-sound g s move next sound moved in
-    let grows = run-grows g next rest s' who sound' has reached in
-    let first = move-spends g s move next who sound has moved (omega (arith, below, grows.lost)) in
-    let others = run-pays g next rest s' who sound' has reached below in
+    let grows = run-grows g next rest s' caller sound' has reached in
+    let first = move-spends g s move next caller sound has moved (omega (arith, below, grows.lost)) in
+    let others = run-pays g next rest s' caller sound' has reached below in
     record {
       paid =
           omega (
             arith,
             first.paid,
             others.paid,
-            count-append (is_step_of who) (move ∷ []) rest,
-            count-append (is_begin_of who) (move ∷ []) rest,
+            count-append (is_step_of caller) (move ∷ []) rest,
+            count-append (is_begin_of caller) (move ∷ []) rest,
           );
     }
 
 pub run-spent :
-    (g : Geometry) (s : State) (moves : List Move) (s' : State) (who : ℕ) → IsSound g s → who < g.callers → Reaches g s moves s'
-    → (s'.errand who).lost < 2 ^ 64 - 1
-    → count_by (is_step_of who) moves + steps_left g (s'.errand who).point
-    ≤ steps_left g (s.errand who).point + CALL_STEPS * (count_by (is_begin_of who) moves
-    + ((s'.errand who).lost - (s.errand who).lost) + ((s'.errand who).cleared - (s.errand who).cleared))
-run-spent g s moves s' who sound has reached below =
-    let grows = run-grows g s moves s' who sound has reached in
-    omega (arith, grows.lost, grows.cleared, (run-pays g s moves s' who sound has reached below).paid)
+    (g : Geometry) (s : State) (moves : List Move) (s' : State) (caller : ℕ) → IsSound g s → caller < g.callers → Reaches g s moves s'
+    → (s'.errand caller).lost < 2 ^ 64 - 1
+    → count_by (is_step_of caller) moves + steps_left g (s'.errand caller).point
+    ≤ steps_left g (s.errand caller).point + CALL_STEPS * (count_by (is_begin_of caller) moves
+    + ((s'.errand caller).lost - (s.errand caller).lost) + ((s'.errand caller).cleared - (s.errand caller).cleared))
+run-spent g s moves s' caller sound has reached below =
+    let grows = run-grows g s moves s' caller sound has reached in
+    omega (arith, grows.lost, grows.cleared, (run-pays g s moves s' caller sound has reached below).paid)
 
 -- a caller that begins nothing begins no call
-begun-none : (who : ℕ) (moves : List Move) → BeginsNothing who moves → count_by (is_begin_of who) moves ≡ 0
-begun-none who [] none = refl
-begun-none who (begins other call ∷ rest) none =
-    let apart = ne_eqb other who (All-head (IsNoBegin who) (begins other call) rest none) in
-    let others = begun-none who rest (All-tail (IsNoBegin who) (begins other call) rest none) in
-    omega (arith, count-append (is_begin_of who) (begins other call ∷ []) rest, others, ap one_if apart)
-begun-none who (steps other ∷ rest) none =
+begun-none : (caller : ℕ) (moves : List Move) → BeginsNothing caller moves → count_by (is_begin_of caller) moves ≡ 0
+begun-none caller [] none = refl
+begun-none caller (begins other call ∷ rest) none =
+    let apart = ne_eqb other caller (All-head (IsNoBegin caller) (begins other call) rest none) in
+    let others = begun-none caller rest (All-tail (IsNoBegin caller) (begins other call) rest none) in
+    omega (arith, count-append (is_begin_of caller) (begins other call ∷ []) rest, others, ap one_if apart)
+begun-none caller (steps other ∷ rest) none =
     omega (
       arith,
-      count-append (is_begin_of who) (steps other ∷ []) rest,
-      begun-none who rest (All-tail (IsNoBegin who) (steps other) rest none),
+      count-append (is_begin_of caller) (steps other ∷ []) rest,
+      begun-none caller rest (All-tail (IsNoBegin caller) (steps other) rest none),
     )
 
 -- so within a call it makes fewer than the most, but for what it loses and clears
 pub run-short :
-    (g : Geometry) (s : State) (moves : List Move) (s' : State) (who : ℕ) → IsSound g s → who < g.callers → Reaches g s moves s'
-    → (s'.errand who).lost < 2 ^ 64 - 1 → BeginsNothing who moves
-    → count_by (is_step_of who) moves
-    < CALL_STEPS * (1 + ((s'.errand who).lost - (s.errand who).lost) + ((s'.errand who).cleared - (s.errand who).cleared))
-run-short g s moves s' who sound has reached below none =
-    omega (arith, begun-none who moves none, run-spent g s moves s' who sound has reached below, most-left g s who sound has)
+    (g : Geometry) (s : State) (moves : List Move) (s' : State) (caller : ℕ) → IsSound g s → caller < g.callers → Reaches g s moves s'
+    → (s'.errand caller).lost < 2 ^ 64 - 1 → BeginsNothing caller moves
+    → count_by (is_step_of caller) moves
+    < CALL_STEPS * (1 + ((s'.errand caller).lost - (s.errand caller).lost) + ((s'.errand caller).cleared - (s.errand caller).cleared))
+run-short g s moves s' caller sound has reached below none =
+    omega (arith, begun-none caller moves none, run-spent g s moves s' caller sound has reached below, most-left g s caller sound has)

@@ -21,7 +21,7 @@ use Rattle.hazard_parts.specs.Points.{settle_desc_of, after_hazard}
 use Rattle.hazard_parts.proofs.PickLemmas.{some-picked}
 use Rattle.partial_parts.specs.Points.{settle_partial_of}
 use Rattle.large_parts.specs.Points.{settle_large_of}
-use Rattle.errand_steps.specs.declared.onward.Onward.{Onward}
+use Rattle.errand_steps.specs.declared.continuation.Continuation.{Continuation}
 use Rattle.errand_steps.specs.declared.next.Next.{Next}
 use Rattle.errand_steps.specs.declared.next.Next.TheVariants.{At, End, Turn, Retire, Pick, Unlist}
 use Rattle.errand_steps.specs.declared.point.Point.{Point}
@@ -76,34 +76,34 @@ few-used (x ∷ xs) (suc n) none =
 
 -- the descriptors that a caller has retired are all different
 retired-apart :
-    (g : Geometry) (s : State) (who : ℕ) → IsSoundWithoutCounts g s → who < g.callers → AllPairs (λ a b. a ≢ b) (s.errand who).retired
+    (g : Geometry) (s : State) (caller : ℕ) → IsSoundWithoutCounts g s → caller < g.callers → AllPairs (λ a b. a ≢ b) (s.errand caller).retired
 unfolding callers_sum
-retired-apart g s who sound has =
-    let own = sound.parts.1.errands who has in
-    let listed = subst (λ h. All (λ d. d < descriptor_count h) (s.errand who).retired) own.geometry own.rule.listed in
-    occurs-apart (s.errand who).retired
+retired-apart g s caller sound has =
+    let own = sound.parts.1.errands caller has in
+    let listed = subst (λ h. All (λ d. d < descriptor_count h) (s.errand caller).retired) own.geometry own.rule.listed in
+    occurs-apart (s.errand caller).retired
     (λ k e within.
-    let d = get_or (s.errand who).retired k e in
-    let mine : errand_has d (s.errand who) ≤ callers_sum g (errand_has d) s.errand =
-    term-sum g.callers (λ i. errand_has d (s.errand i)) who has
+    let d = get_or (s.errand caller).retired k e in
+    let mine : errand_has d (s.errand caller) ≤ callers_sum g (errand_has d) s.errand =
+    term-sum g.callers (λ i. errand_has d (s.errand i)) caller has
     in
     omega (arith, sound.parts.1.kept.once d (listed k e within), mine))
 
 -- where the last hazard word is read, one of them isn't named
 picks-some :
-    (g : Geometry) (s : State) (who : ℕ) (seat : SeatFields) (held : List ℕ) (i : ℕ) (o : Onward) → IsSoundWithoutCounts g s → who < g.callers
-    → (s.errand who).point ≡ point.Desc (desc.ReadHazard seat held i) o
-    → IsSome (first_unheld (slice_set held i (s.word (name.Hazard i))) (s.errand who).retired)
-picks-some g s who seat held i o sound has at =
-    let fits = (fits-now g s who (point.Desc (desc.ReadHazard seat held i) o) sound has at).point in
+    (g : Geometry) (s : State) (caller : ℕ) (seat : SeatFields) (held : List ℕ) (i : ℕ) (o : Continuation) → IsSoundWithoutCounts g s → caller < g.callers
+    → (s.errand caller).point ≡ point.Desc (desc.ReadHazard seat held i) o
+    → IsSome (first_unheld (slice_set held i (s.word (name.Hazard i))) (s.errand caller).retired)
+picks-some g s caller seat held i o sound has at =
+    let fits = (fits-now g s caller (point.Desc (desc.ReadHazard seat held i) o) sound has at).point in
     let words = slice_set held i (s.word (name.Hazard i)) in
-    let few = few-used words (i + 1) (noted-unread g s sound.parts.0 who seat held i o sound.parts.1 has at) in
-    let full = sound.parts.1.guarded.full who has (ap spare_of at) in
-    some-picked words (s.errand who).retired (retired-apart g s who sound has) (omega (arith, few, full, fits.1))
+    let few = few-used words (i + 1) (noted-unread g s sound.parts.0 caller seat held i o sound.parts.1 has at) in
+    let full = sound.parts.1.guarded.full caller has (ap spare_of at) in
+    some-picked words (s.errand caller).retired (retired-apart g s caller sound has) (omega (arith, few, full, fits.1))
 
 -- a call that goes on after a retirement
 resumed-left :
-    (g : Geometry) (e : ErrandFields) (s : SeatFields) (o : Onward)
+    (g : Geometry) (e : ErrandFields) (s : SeatFields) (o : Continuation)
     → steps_left g (point_after (after_turn e (resumed s o))) ≤ resumed_left g s o
 unfolding steps_left
 resumed-left g e s o = grind (arith)
@@ -116,7 +116,7 @@ turned-left g e s need = grind (arith)
 
 -- one that retires, and scans where the list is full
 retired-left :
-    (g : Geometry) (e : ErrandFields) (s : SeatFields) (d : ℕ) (o : Onward)
+    (g : Geometry) (e : ErrandFields) (s : SeatFields) (d : ℕ) (o : Continuation)
     → steps_left g (point_after (after_turn e (after_list e (Retire s d o)))) ≤ scan_left g + resumed_left g s o
 unfolding steps_left
 retired-left g e s d o =
@@ -126,7 +126,7 @@ retired-left g e s d o =
 
 -- one that has picked a descriptor
 picked-left :
-    (g : Geometry) (e : ErrandFields) (s : SeatFields) (o : Onward) (first : Option ℕ) → IsSome first
+    (g : Geometry) (e : ErrandFields) (s : SeatFields) (o : Continuation) (first : Option ℕ) → IsSome first
     → steps_left g (point_after (after_turn e (picked e s o first))) ≤ resumed_left g s o + 3
 unfolding steps_left
 picked-left g e s o None some = absurd (true≢false (sym some))
@@ -145,12 +145,12 @@ listed-left g e (Pick s held o) plain = absurd (true≢false plain)
 listed-left g e (Unlist s d o) plain = resumed-left g e s o
 
 -- a step elsewhere ends none
-no-pick-desc : (p : DescPoint) (x : Found) (o : Onward) → scans p ≡ false → is_pick (enter_desc (settle_desc_of p x) o) ≡ false
+no-pick-desc : (p : DescPoint) (x : Found) (o : Continuation) → scans p ≡ false → is_pick (enter_desc (settle_desc_of p x) o) ≡ false
 no-pick-desc p x o plain = grind (arith, plain)
 
 -- a hazard word is read
 hazard-left :
-    (g : Geometry) (e : ErrandFields) (s : SeatFields) (held : List ℕ) (i v : ℕ) (o : Onward)
+    (g : Geometry) (e : ErrandFields) (s : SeatFields) (held : List ℕ) (i v : ℕ) (o : Continuation)
     → IsSome (first_unheld (slice_set held i v) e.retired)
     → steps_left g (point_after (after_turn e (after_list e (enter_desc (after_hazard s held i v) o))))
     ≤ next_left g (enter_desc (after_hazard s held i v) o)
@@ -168,40 +168,40 @@ Settles g s e p =
 
 -- at the descriptors or the hazard words
 desc-settles :
-    (g : Geometry) (s : State) (who : ℕ) (p : DescPoint) (o : Onward) → IsSoundWithoutCounts g s → who < g.callers
-    → (s.errand who).point ≡ point.Desc p o → Settles g s (s.errand who) (point.Desc p o)
+    (g : Geometry) (s : State) (caller : ℕ) (p : DescPoint) (o : Continuation) → IsSoundWithoutCounts g s → caller < g.callers
+    → (s.errand caller).point ≡ point.Desc p o → Settles g s (s.errand caller) (point.Desc p o)
 unfolding plan_point_of next_of
-desc-settles g s who (desc.ReadHazard seat held i) o sound has at =
-    hazard-left g (s.errand who) seat held i (s.word (name.Hazard i)) o (picks-some g s who seat held i o sound has at)
-desc-settles g s who (desc.Scanned seat held) o sound has at =
-    absurd (true≢false (fits-now g s who (point.Desc (desc.Scanned seat held) o) sound has at).inside)
-desc-settles g s who p o sound has at =
+desc-settles g s caller (desc.ReadHazard seat held i) o sound has at =
+    hazard-left g (s.errand caller) seat held i (s.word (name.Hazard i)) o (picks-some g s caller seat held i o sound has at)
+desc-settles g s caller (desc.Scanned seat held) o sound has at =
+    absurd (true≢false (fits-now g s caller (point.Desc (desc.Scanned seat held) o) sound has at).inside)
+desc-settles g s caller p o sound has at =
     let x = found_in (point.Desc p o) (word_under s (point.Desc p o)) in
-    listed-left g (s.errand who) (enter_desc (settle_desc_of p x) o) (no-pick-desc p x o refl)
+    listed-left g (s.errand caller) (enter_desc (settle_desc_of p x) o) (no-pick-desc p x o refl)
 
 -- at each point
 settles-at :
-    (g : Geometry) (s : State) (who : ℕ) (p : Point) → IsSoundWithoutCounts g s → who < g.callers → (s.errand who).point ≡ p
-    → Settles g s (s.errand who) p
+    (g : Geometry) (s : State) (caller : ℕ) (p : Point) → IsSoundWithoutCounts g s → caller < g.callers → (s.errand caller).point ≡ p
+    → Settles g s (s.errand caller) p
 unfolding plan_point_of next_of
-settles-at g s who point.Idle sound has at = listed-left g (s.errand who) (At point.Idle) refl
-settles-at g s who (point.Block p o) sound has at =
+settles-at g s caller point.Idle sound has at = listed-left g (s.errand caller) (At point.Idle) refl
+settles-at g s caller (point.Block p o) sound has at =
     let q = settle_block_of p (found_in (point.Block p o) (word_under s (point.Block p o))) in
-    listed-left g (s.errand who) (enter_block q o) (no-pick-block q o)
-settles-at g s who (point.Stack p o) sound has at =
+    listed-left g (s.errand caller) (enter_block q o) (no-pick-block q o)
+settles-at g s caller (point.Stack p o) sound has at =
     let q = settle_stack_of p (found_in (point.Stack p o) (word_under s (point.Stack p o))) in
-    listed-left g (s.errand who) (enter_stack q o) (no-pick-stack q o)
-settles-at g s who (point.Desc p o) sound has at = desc-settles g s who p o sound has at
-settles-at g s who (point.Partial p o) sound has at =
+    listed-left g (s.errand caller) (enter_stack q o) (no-pick-stack q o)
+settles-at g s caller (point.Desc p o) sound has at = desc-settles g s caller p o sound has at
+settles-at g s caller (point.Partial p o) sound has at =
     let q = settle_partial_of p (found_in (point.Partial p o) (word_under s (point.Partial p o))) in
-    listed-left g (s.errand who) (enter_partial q o) (no-pick-partial q o)
-settles-at g s who (point.Large p o) sound has at =
+    listed-left g (s.errand caller) (enter_partial q o) (no-pick-partial q o)
+settles-at g s caller (point.Large p o) sound has at =
     let q = settle_large_of p (found_in (point.Large p o) (word_under s (point.Large p o))) in
-    listed-left g (s.errand who) (enter_large q o) (no-pick-large q o)
+    listed-left g (s.errand caller) (enter_large q o) (no-pick-large q o)
 
 -- after a step no more is left than where it leads
 pub left-settles :
-    (g : Geometry) (s : State) (who : ℕ) → IsSoundWithoutCounts g s → who < g.callers
-    → steps_left g (settle_of (s.errand who) (found_at s who)).point ≤ next_left g (next_of (s.errand who).point (found_at s who))
+    (g : Geometry) (s : State) (caller : ℕ) → IsSoundWithoutCounts g s → caller < g.callers
+    → steps_left g (settle_of (s.errand caller) (found_at s caller)).point ≤ next_left g (next_of (s.errand caller).point (found_at s caller))
 unfolding settle_of course_of
-left-settles g s who sound has = settles-at g s who (s.errand who).point sound has refl
+left-settles g s caller sound has = settles-at g s caller (s.errand caller).point sound has refl

@@ -13,10 +13,10 @@ use Rattle.stack_parts.specs.declared.point.StackPoint.TheVariants as stack
 use Rattle.stack_parts.specs.Piles.{head_name, next_name, pile_limit}
 use Rattle.stack_parts.specs.Points.{after_top, after_below}
 use Rattle.stack_parts.specs.Stacks.{next_in}
-use Rattle.errand_steps.specs.declared.onward.Onward.{Onward}
+use Rattle.errand_steps.specs.declared.continuation.Continuation.{Continuation}
 use Rattle.errand_steps.specs.declared.point.Point.TheVariants.{Stack}
 use Rattle.errand_steps.specs.Nexts.{next_of, enter_stack, found_empty, popped, confirmed_empty, put_away}
-use Rattle.errand_steps.specs.Onwards.{pops, confirms, pushes}
+use Rattle.errand_steps.specs.Continuations.{pops, confirms, pushes}
 use Rattle.errand_steps.specs.Points.{plan_point_of}
 use Rattle.errand_steps.specs.Steps.{State}
 use Rattle.sound_state.specs.Recalls.{list_of}
@@ -28,51 +28,51 @@ use Rattle.sound_state.proofs.shared.StackedLemmas.{pile-stacked, pile-exists, t
 
 -- a stack that is read empty
 empty-less :
-    (g : Geometry) (s : SeatFields) (pile : Pile) (h : HeadFields) (o : Onward) → IsTrue (pops pile o)
+    (g : Geometry) (s : SeatFields) (pile : Pile) (h : HeadFields) (o : Continuation) → IsTrue (pops pile o)
     → next_left g (found_empty s pile h o) < top_left g s o
 unfolding steps_left
 empty-less g s pile h o goes = grind (arith, goes)
 
 -- a head that is read for a pop
 top-less :
-    (g : Geometry) (s : SeatFields) (pile : Pile) (h : HeadFields) (o : Onward) → IsTrue (pops pile o) → h.top ≤ pile_limit s.geometry pile
+    (g : Geometry) (s : SeatFields) (pile : Pile) (h : HeadFields) (o : Continuation) → IsTrue (pops pile o) → h.top ≤ pile_limit s.geometry pile
     → next_left g (enter_stack (after_top s pile h) o) < top_left g s o
 unfolding steps_left
 top-less g s pile h o goes most = grind (arith, goes, most, empty-less g s pile h o goes)
 
 -- the next word of the index on top
 below-less :
-    (g : Geometry) (s : SeatFields) (pile : Pile) (h : HeadFields) (below : ℕ) (o : Onward) → IsTrue (pops pile o)
+    (g : Geometry) (s : SeatFields) (pile : Pile) (h : HeadFields) (below : ℕ) (o : Continuation) → IsTrue (pops pile o)
     → below ≤ pile_limit s.geometry pile → next_left g (enter_stack (after_below s pile h below) o) < top_left g s o - 1
 unfolding steps_left
 below-less g s pile h below o goes most = grind (arith, goes, most)
 
 -- an index was popped
 popped-less :
-    (g : Geometry) (s : SeatFields) (pile : Pile) (i : ℕ) (o : Onward) → IsTrue (pops pile o)
+    (g : Geometry) (s : SeatFields) (pile : Pile) (i : ℕ) (o : Continuation) → IsTrue (pops pile o)
     → next_left g (popped s i o) < top_left g s o - 2
 unfolding steps_left
 popped-less g s pile i o goes = grind (arith, goes)
 
 -- the stack is empty still
 confirmed-less :
-    (g : Geometry) (s : SeatFields) (pile : Pile) (o : Onward) → IsTrue (confirms pile o)
+    (g : Geometry) (s : SeatFields) (pile : Pile) (o : Continuation) → IsTrue (confirms pile o)
     → next_left g (confirmed_empty s o) < top_left g s o - 1
 unfolding steps_left
 confirmed-less g s pile o goes = grind (arith, goes)
 
 -- what was to be put away stands there
 put-less :
-    (g : Geometry) (s : SeatFields) (pile : Pile) (o : Onward) → IsTrue (pushes pile o)
+    (g : Geometry) (s : SeatFields) (pile : Pile) (o : Continuation) → IsTrue (pushes pile o)
     → next_left g (put_away s o) < put_left g s o + 1
 unfolding steps_left
 put-less g s pile o goes = grind (arith, goes)
 
 -- the top of a stack is an index that the heap has, or 0
 top-within :
-    (g : Geometry) (s : State) (who : ℕ) (seat : SeatFields) (pile : Pile) → IsSoundWithoutCounts g s → IsSeatOf g who seat
+    (g : Geometry) (s : State) (caller : ℕ) (seat : SeatFields) (pile : Pile) → IsSoundWithoutCounts g s → IsSeatOf g caller seat
     → (head_of (s.word (head_name seat pile))).top ≤ pile_limit seat.geometry pile
-top-within g s who seat pile sound is =
+top-within g s caller seat pile sound is =
     let l = sound.parts.0 in
     let listed = sound.parts.1.listed in
     subst (λ k. (head_of (s.word (head_name seat pile))).top ≤ pile_limit k pile) (sym is.geometry)
@@ -88,35 +88,35 @@ next-most g s Partials i sound has = sound.parts.1.listed.nexts i has
 
 -- a step at a stack is lost or leaves less to do
 pub stack-leaves :
-    (g : Geometry) (s : State) (who : ℕ) (p : StackPoint) (o : Onward) → IsSoundWithoutCounts g s → who < g.callers
-    → (s.errand who).point ≡ Stack p o → LeavesLess g s (Stack p o)
+    (g : Geometry) (s : State) (caller : ℕ) (p : StackPoint) (o : Continuation) → IsSoundWithoutCounts g s → caller < g.callers
+    → (s.errand caller).point ≡ Stack p o → LeavesLess g s (Stack p o)
 unfolding plan_point_of next_of steps_left
-stack-leaves g s who (stack.LoadTop seat pile) o sound has at =
-    let fits = fits-now g s who (Stack (stack.LoadTop seat pile) o) sound has at in
-    inr (inr (top-less g seat pile (head_of (s.word (head_name seat pile))) o fits.goes (top-within g s who seat pile sound fits.point)))
-stack-leaves g s who (stack.LoadBelow seat pile h) o sound has at =
-    let fits = fits-now g s who (Stack (stack.LoadBelow seat pile h) o) sound has at in
+stack-leaves g s caller (stack.LoadTop seat pile) o sound has at =
+    let fits = fits-now g s caller (Stack (stack.LoadTop seat pile) o) sound has at in
+    inr (inr (top-less g seat pile (head_of (s.word (head_name seat pile))) o fits.goes (top-within g s caller seat pile sound fits.point)))
+stack-leaves g s caller (stack.LoadBelow seat pile h) o sound has at =
+    let fits = fits-now g s caller (Stack (stack.LoadBelow seat pile h) o) sound has at in
     let next = s.word (next_name pile (h.top - 1)) in
     let most : next ≤ pile_limit seat.geometry pile =
     subst (λ k. next ≤ pile_limit k pile) (sym fits.point.seat.geometry)
     (next-most g s pile (h.top - 1) sound (omega (arith, fits.point.top.0, fits.point.top.1)))
     in
     inr (inr (below-less g seat pile h next o fits.goes most))
-stack-leaves g s who (stack.PopTop seat pile h below) o sound has at =
-    let fits = fits-now g s who (Stack (stack.PopTop seat pile h below) o) sound has at in
+stack-leaves g s caller (stack.PopTop seat pile h below) o sound has at =
+    let fits = fits-now g s caller (Stack (stack.PopTop seat pile h below) o) sound has at in
     exchanged g (λ q. enter_stack q o) (top_left g seat o - 2) (s.word (head_name seat pile) == head_word h) (stack.Popped seat pile (h.top - 1))
     (stack.LoadTop seat pile)
     (popped-less g seat pile (h.top - 1) o fits.goes)
-stack-leaves g s who (stack.ConfirmEmpty seat pile h) o sound has at =
-    let fits = fits-now g s who (Stack (stack.ConfirmEmpty seat pile h) o) sound has at in
+stack-leaves g s caller (stack.ConfirmEmpty seat pile h) o sound has at =
+    let fits = fits-now g s caller (Stack (stack.ConfirmEmpty seat pile h) o) sound has at in
     exchanged g (λ q. enter_stack q o) (top_left g seat o - 1) (s.word (head_name seat pile) == head_word h) (stack.ConfirmedEmpty seat pile)
     (stack.LoadTop seat pile)
     (confirmed-less g seat pile o fits.goes)
-stack-leaves g s who (stack.LoadTopToPush seat pile i) o sound has at = inr (inr (omega arith))
-stack-leaves g s who (stack.StoreBelow seat pile i h) o sound has at = inr (inr (omega arith))
-stack-leaves g s who (stack.PushTop seat pile i h) o sound has at =
-    let fits = fits-now g s who (Stack (stack.PushTop seat pile i h) o) sound has at in
+stack-leaves g s caller (stack.LoadTopToPush seat pile i) o sound has at = inr (inr (omega arith))
+stack-leaves g s caller (stack.StoreBelow seat pile i h) o sound has at = inr (inr (omega arith))
+stack-leaves g s caller (stack.PushTop seat pile i h) o sound has at =
+    let fits = fits-now g s caller (Stack (stack.PushTop seat pile i h) o) sound has at in
     exchanged g (λ q. enter_stack q o) (put_left g seat o + 1) (s.word (head_name seat pile) == head_word h) (stack.Pushed seat pile)
     (stack.LoadTopToPush seat pile i)
     (put-less g seat pile o fits.goes)
-stack-leaves g s who p o sound has at = absurd (true≢false (fits-now g s who (Stack p o) sound has at).inside)
+stack-leaves g s caller p o sound has at = absurd (true≢false (fits-now g s caller (Stack p o) sound has at).inside)

@@ -25,24 +25,24 @@ use Rattle.sound_state.proofs.wins.WinDefs.{LosesOn, MayExpect}
 
 -- a word that is stale after the step: by something that the caller carries or sees
 stale-after :
-    (s : State) (who : ℕ) (s' : State) (m : WordName) → Step s who s' → ExpectsAfter s who → is_stale s' who m ≡ true
-    → (e : Expected) × MayExpect (s.errand who).point (action_at s who) (found_at s who) e × (e.word ≡ m) × (s'.word m ≢ e.value)
-stale-after s who s' m step expects stale =
-    let q = (settle_of (s.errand who) (found_at s who)).point in
+    (s : State) (caller : ℕ) (s' : State) (m : WordName) → Step s caller s' → ExpectsAfter s caller → is_stale s' caller m ≡ true
+    → (e : Expected) × MayExpect (s.errand caller).point (action_at s caller) (found_at s caller) e × (e.word ≡ m) × (s'.word m ≢ e.value)
+stale-after s caller s' m step expects stale =
+    let q = (settle_of (s.errand caller) (found_at s caller)).point in
     let some : Any (λ e. is_stale_by s' m e ≡ true) (expects_of q) =
     subst (λ f. Any (λ e. is_stale_by s' m e ≡ true) (expects_of f.point)) step.errand.here
-    (Any-from_list_any (is_stale_by s' m) (expects_of (s'.errand who).point) stale) in
+    (Any-from_list_any (is_stale_by s' m) (expects_of (s'.errand caller).point) stale) in
     let (e, may, is) =
-    some-all (MayExpect (s.errand who).point (action_at s who) (found_at s who)) (λ e. is_stale_by s' m e ≡ true) (expects_of q) expects some in
+    some-all (MayExpect (s.errand caller).point (action_at s caller) (found_at s caller)) (λ e. is_stale_by s' m e ≡ true) (expects_of q) expects some in
     let both = and_parts (same_name e.word m) (not (s'.word m == e.value)) is in
     (e, may, same-name-is e.word m both.0, λ same. absurd (grind (arith, both.1, same)))
 
 -- something that is expected of the word and differs makes it stale
 stale-by :
-    (s : State) (who : ℕ) (m : WordName) → Any (λ e. (e.word ≡ m) × (s.word m ≢ e.value)) (expects_of (s.errand who).point)
-    → is_stale s who m ≡ true
-stale-by s who m (k, e, lt, at, (word, differs)) =
-    list_any-from_Any (is_stale_by s m) (expects_of (s.errand who).point) (
+    (s : State) (caller : ℕ) (m : WordName) → Any (λ e. (e.word ≡ m) × (s.word m ≢ e.value)) (expects_of (s.errand caller).point)
+    → is_stale s caller m ≡ true
+stale-by s caller m (k, e, lt, at, (word, differs)) =
+    list_any-from_Any (is_stale_by s m) (expects_of (s.errand caller).point) (
       k,
       e,
       lt,
@@ -53,49 +53,49 @@ stale-by s who m (k, e, lt, at, (word, differs)) =
 
 -- no other word becomes stale
 stale-apart :
-    (s : State) (who : ℕ) (s' : State) (m : WordName) → Step s who s' → ExpectsAfter s who → m ≢ name_at s who → is_stale s' who m ≡ true
-    → is_stale s who m ≡ true
-stale-apart s who s' m step expects apart stale =
-    let (e, may, word, differs) = stale-after s who s' m step expects stale in
+    (s : State) (caller : ℕ) (s' : State) (m : WordName) → Step s caller s' → ExpectsAfter s caller → m ≢ name_at s caller → is_stale s' caller m ≡ true
+    → is_stale s caller m ≡ true
+stale-apart s caller s' m step expects apart stale =
+    let (e, may, word, differs) = stale-after s caller s' m step expects stale in
     elim may [
       | inl carried ↦
           let (k, x, lt, at, same) = carried.0 in
-          stale-by s who m
+          stale-by s caller m
           (k, x, lt, at, (ap (λ y. y.word) same ∙ word, λ is. differs (step.word.elsewhere m apart ∙ is ∙ ap (λ y. y.value) same)))
       | inr seen ↦ absurd (apart (sym word ∙ seen.word))
     ]
 
 -- the step's word is stale no more
 pub stale-here :
-    (s : State) (who : ℕ) (s' : State) → Step s who s' → ExpectsAfter s who → is_stale s' who (name_at s who) ≡ false
-stale-here s who s' step expects =
-    elim (cases_Bool (is_stale s' who (name_at s who))) [
+    (s : State) (caller : ℕ) (s' : State) → Step s caller s' → ExpectsAfter s caller → is_stale s' caller (name_at s caller) ≡ false
+stale-here s caller s' step expects =
+    elim (cases_Bool (is_stale s' caller (name_at s caller))) [
       | inl stale ↦
-          let (e, may, word, differs) = stale-after s who s' (name_at s who) step expects stale in
+          let (e, may, word, differs) = stale-after s caller s' (name_at s caller) step expects stale in
           elim may [ inl carried ↦ absurd (carried.1 word) | inr seen ↦ absurd (differs (step.word.here ∙ seen.value)) ]
       | inr isnt ↦ isnt
     ]
 
 -- so none becomes stale
 pub stale-kept :
-    (s : State) (who : ℕ) (s' : State) (m : WordName) → Step s who s' → ExpectsAfter s who → is_stale s' who m ≡ true → is_stale s who m ≡ true
-stale-kept s who s' m step expects stale =
-    elim (cases_name m (name_at s who)) [
-      | inl here ↦ absurd (true≢false (sym (ap (is_stale s' who) (sym here) ∙ stale) ∙ stale-here s who s' step expects))
-      | inr apart ↦ stale-apart s who s' m step expects apart stale
+    (s : State) (caller : ℕ) (s' : State) (m : WordName) → Step s caller s' → ExpectsAfter s caller → is_stale s' caller m ≡ true → is_stale s caller m ≡ true
+stale-kept s caller s' m step expects stale =
+    elim (cases_name m (name_at s caller)) [
+      | inl here ↦ absurd (true≢false (sym (ap (is_stale s' caller) (sym here) ∙ stale) ∙ stale-here s caller s' step expects))
+      | inr apart ↦ stale-apart s caller s' m step expects apart stale
     ]
 
 -- a step that counts as lost finds its word stale
 pub lost-met :
-    (s : State) (who : ℕ) → LosesOn (s.errand who).point (word_at s who) → counts_lost (s.errand who).point (found_at s who) ≡ true
-    → is_stale s who (name_at s who) ≡ true
-lost-met s who loses lost = stale-by s who (name_at s who) (loses lost)
+    (s : State) (caller : ℕ) → LosesOn (s.errand caller).point (word_at s caller) → counts_lost (s.errand caller).point (found_at s caller) ≡ true
+    → is_stale s caller (name_at s caller) ≡ true
+lost-met s caller loses lost = stale-by s caller (name_at s caller) (loses lost)
 
-lost-stale : (s : State) (who : ℕ) → LosesOn (s.errand who).point (word_at s who) → one_if (counts_lost (s.errand who).point (found_at s who)) ≤ one_if (is_stale s who (name_at s who))
-lost-stale s who loses =
-    elim (cases_Bool (counts_lost (s.errand who).point (found_at s who))) [
+lost-stale : (s : State) (caller : ℕ) → LosesOn (s.errand caller).point (word_at s caller) → one_if (counts_lost (s.errand caller).point (found_at s caller)) ≤ one_if (is_stale s caller (name_at s caller))
+lost-stale s caller loses =
+    elim (cases_Bool (counts_lost (s.errand caller).point (found_at s caller))) [
       | inl lost ↦
-          let stale : is_stale s who (name_at s who) ≡ true = lost-met s who loses lost in
+          let stale : is_stale s caller (name_at s caller) ≡ true = lost-met s caller loses lost in
           omega (arith, ap one_if lost, ap one_if stale)
       | inr isnt ↦ omega (arith, ap one_if isnt)
     ]
@@ -106,19 +106,19 @@ one-least false b follows = omega arith
 
 -- so the stale words grow by none, and are one fewer after a lost step
 pub stale-falls :
-    (g : Geometry) (s : State) (who : ℕ) (s' : State) → Exists g (name_at s who) → Step s who s' → ExpectsAfter s who
-    → LosesOn (s.errand who).point (word_at s who)
-    → stale_words g s' who + one_if (counts_lost (s.errand who).point (found_at s who)) ≤ stale_words g s who
-stale-falls g s who s' exists step expects loses =
-    let n = name_at s who in
+    (g : Geometry) (s : State) (caller : ℕ) (s' : State) → Exists g (name_at s caller) → Step s caller s' → ExpectsAfter s caller
+    → LosesOn (s.errand caller).point (word_at s caller)
+    → stale_words g s' caller + one_if (counts_lost (s.errand caller).point (found_at s caller)) ≤ stale_words g s caller
+stale-falls g s caller s' exists step expects loses =
+    let n = name_at s caller in
     let i = word_index g n in
-    let before = λ (k : ℕ). one_if (is_stale s who (word_name g k)) in
-    let after = λ (k : ℕ). one_if (is_stale s' who (word_name g k)) in
+    let before = λ (k : ℕ). one_if (is_stale s caller (word_name g k)) in
+    let after = λ (k : ℕ). one_if (is_stale s' caller (word_name g k)) in
     let middle = λ (k : ℕ). if k == i then 0 else before k in
     let within : i < word_count g = word_index-within g n exists in
     let back : word_name g i ≡ n = word_name-word_index g n exists in
-    let here : before i ≡ one_if (is_stale s who n) = ap (λ m. one_if (is_stale s who m)) back in
-    let none : after i ≡ 0 = ap (λ m. one_if (is_stale s' who m)) back ∙ ap one_if (stale-here s who s' step expects) in
+    let here : before i ≡ one_if (is_stale s caller n) = ap (λ m. one_if (is_stale s caller m)) back in
+    let none : after i ≡ 0 = ap (λ m. one_if (is_stale s' caller m)) back ∙ ap one_if (stale-here s caller s' step expects) in
     let changed : sum_below (word_count g) middle + before i ≡ sum_below (word_count g) before + middle i =
     sum-change (word_count g) before middle i within (λ j lt ne. cond-false {A = ℕ} (j == i) 0 (before j) (ne_eqb j i ne)) in
     let zero_here : middle i ≡ 0 = cond-true {A = ℕ} (i == i) 0 (before i) (eq-eqb i i refl) in
@@ -132,12 +132,12 @@ stale-falls g s who s' exists step expects loses =
           omega (
             arith,
             cond-false {A = ℕ} (k == i) 0 (before k) (ne_eqb k i differ),
-            one-least (is_stale s' who (word_name g k)) (is_stale s who (word_name g k)) (stale-apart s who s' (word_name g k) step expects apart),
+            one-least (is_stale s' caller (word_name g k)) (is_stale s caller (word_name g k)) (stale-apart s caller s' (word_name g k) step expects apart),
           )
     ]) in
-    omega (arith, changed, zero_here, least, here, lost-stale s who loses)
+    omega (arith, changed, zero_here, least, here, lost-stale s caller loses)
 
 -- who expects nothing has no stale word
-pub none-stale : (g : Geometry) (s : State) (who : ℕ) → expects_of (s.errand who).point ≡ [] → stale_words g s who ≡ 0
-none-stale g s who none =
-    sum-none (word_count g) (λ k. one_if (is_stale s who (word_name g k))) (λ k lt. ap (λ es. one_if (list_any (is_stale_by s (word_name g k)) es)) none)
+pub none-stale : (g : Geometry) (s : State) (caller : ℕ) → expects_of (s.errand caller).point ≡ [] → stale_words g s caller ≡ 0
+none-stale g s caller none =
+    sum-none (word_count g) (λ k. one_if (is_stale s caller (word_name g k))) (λ k lt. ap (λ es. one_if (list_any (is_stale_by s (word_name g k)) es)) none)

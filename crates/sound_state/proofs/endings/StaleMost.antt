@@ -12,7 +12,7 @@ use Rattle.stack_parts.specs.declared.point.StackPoint.{StackPoint}
 use Rattle.hazard_parts.specs.declared.point.DescPoint.{DescPoint}
 use Rattle.partial_parts.specs.declared.point.PartialPoint.{PartialPoint}
 use Rattle.large_parts.specs.declared.point.LargePoint.{LargePoint}
-use Rattle.errand_steps.specs.declared.onward.Onward.{Onward}
+use Rattle.errand_steps.specs.declared.continuation.Continuation.{Continuation}
 use Rattle.errand_steps.specs.declared.point.Point.{Point}
 use Rattle.errand_steps.specs.declared.point.Point.TheVariants.{Idle, Block, Stack, Desc, Partial, Large}
 use Rattle.errand_steps.specs.Steps.{State}
@@ -59,13 +59,13 @@ stale-by-most g s (e ∷ es) =
 block-few : (p : BlockPoint) → length (block_expects p) ≤ 2
 block-few p = grind (arith)
 
-stack-few : (p : StackPoint) (o : Onward) → length (stack_expects p o) ≤ 2
+stack-few : (p : StackPoint) (o : Continuation) → length (stack_expects p o) ≤ 2
 stack-few p o = grind (arith)
 
-desc-few : (p : DescPoint) (o : Onward) → length (desc_expects p o) ≤ 2
+desc-few : (p : DescPoint) (o : Continuation) → length (desc_expects p o) ≤ 2
 desc-few p o = grind (arith)
 
-partial-few : (p : PartialPoint) (o : Onward) → length (partial_expects p o) ≤ 2
+partial-few : (p : PartialPoint) (o : Continuation) → length (partial_expects p o) ≤ 2
 partial-few p o = grind (arith)
 
 large-few : (p : LargePoint) → length (large_expects p) ≤ 2
@@ -80,5 +80,5 @@ expects-few (Desc p o) = desc-few p o
 expects-few (Partial p o) = partial-few p o
 expects-few (Large p o) = large-few p
 
-pub stale-most : (g : Geometry) (s : State) (who : ℕ) → stale_words g s who ≤ 2
-stale-most g s who = omega (arith, stale-by-most g s (expects_of (s.errand who).point), expects-few (s.errand who).point)
+pub stale-most : (g : Geometry) (s : State) (caller : ℕ) → stale_words g s caller ≤ 2
+stale-most g s caller = omega (arith, stale-by-most g s (expects_of (s.errand caller).point), expects-few (s.errand caller).point)

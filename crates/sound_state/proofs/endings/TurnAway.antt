@@ -36,8 +36,8 @@ use Rattle.partial_parts.specs.declared.point.PartialPoint.{PartialPoint}
 use Rattle.partial_parts.specs.declared.point.PartialPoint.TheVariants as partial
 use Rattle.errand_steps.specs.declared.next.Next.{Next}
 use Rattle.errand_steps.specs.declared.next.Next.TheVariants.{At, End, Turn, Retire, Pick, Unlist}
-use Rattle.errand_steps.specs.declared.onward.Onward.{Onward}
-use Rattle.errand_steps.specs.declared.onward.Onward.TheVariants as onward
+use Rattle.errand_steps.specs.declared.continuation.Continuation.{Continuation}
+use Rattle.errand_steps.specs.declared.continuation.Continuation.TheVariants as continuation
 use Rattle.errand_steps.specs.declared.point.Point.{Point}
 use Rattle.errand_steps.specs.declared.point.Point.TheVariants.{Block, Desc, Partial}
 use Rattle.errand_steps.specs.Errands.{ErrandFields, settle_of, course_of, point_after, after_turn, after_list, list_after}
@@ -80,7 +80,7 @@ away_after e n d =
     occurs d (list_after e.retired n) + kept_among on_its_way d (holds_of (point_after (after_turn e (after_list e n)))).kept
 
 pub next-away :
-    (e : ErrandFields) (n : Next) (d ways : ℕ) → ((seat : SeatFields) (k : ℕ) (o : Onward) → n ≢ Unlist seat k o) → ways ≤ next_ways d n
+    (e : ErrandFields) (n : Next) (d ways : ℕ) → ((seat : SeatFields) (k : ℕ) (o : Continuation) → n ≢ Unlist seat k o) → ways ≤ next_ways d n
     → occurs d e.retired + ways ≤ away_after e n d
 next-away e (At q) d ways listed least = omega (arith, least)
 next-away e (End r) d ways listed least = omega (arith, least)
@@ -91,23 +91,23 @@ next-away e (Unlist seat k o) d ways listed least = absurd (listed seat k o refl
 
 -- a caller has a descriptor away as often as before
 errand-keeps :
-    (g : Geometry) (who : ℕ) (e : ErrandFields) (x : Found) (d : ℕ) → FitsPoint g who e.point → puts_out e.point ≡ false
-    → in_turn e.point ≡ true → ((seat : SeatFields) (k : ℕ) (o : Onward) → next_of e.point x ≢ Unlist seat k o)
+    (g : Geometry) (caller : ℕ) (e : ErrandFields) (x : Found) (d : ℕ) → FitsPoint g caller e.point → puts_out e.point ≡ false
+    → in_turn e.point ≡ true → ((seat : SeatFields) (k : ℕ) (o : Continuation) → next_of e.point x ≢ Unlist seat k o)
     → errand_away d e ≤ errand_away d (settle_of e x)
 unfolding settle_of course_of
-errand-keeps g who e x d fits out turn listed =
-    next-away e (next_of e.point x) d (kept_among on_its_way d (holds_of e.point).kept) listed (point-ways g who e.point x d fits out turn)
+errand-keeps g caller e x d fits out turn listed =
+    next-away e (next_of e.point x) d (kept_among on_its_way d (holds_of e.point).kept) listed (point-ways g caller e.point x d fits out turn)
 
 -- the same, at a point that is known
 at-keeps :
-    (g : Geometry) (s : State) (who : ℕ) (p : Point) (d : ℕ) → (s.errand who).point ≡ p → FitsPoint g who p → puts_out p ≡ false
-    → in_turn p ≡ true → pushes_desc p ≡ false → errand_away d (s.errand who) ≤ errand_away d (settle_of (s.errand who) (found_at s who))
-at-keeps g s who p d stands fits out turn other =
-    let q = (s.errand who).point in
-    let fits_now : FitsPoint g who q = subst (FitsPoint g who) (sym stands) fits in
+    (g : Geometry) (s : State) (caller : ℕ) (p : Point) (d : ℕ) → (s.errand caller).point ≡ p → FitsPoint g caller p → puts_out p ≡ false
+    → in_turn p ≡ true → pushes_desc p ≡ false → errand_away d (s.errand caller) ≤ errand_away d (settle_of (s.errand caller) (found_at s caller))
+at-keeps g s caller p d stands fits out turn other =
+    let q = (s.errand caller).point in
+    let fits_now : FitsPoint g caller q = subst (FitsPoint g caller) (sym stands) fits in
     let turn_now : in_turn q ≡ true = ap in_turn stands ∙ turn in
-    errand-keeps g who (s.errand who) (found_at s who) d fits_now (ap puts_out stands ∙ out) turn_now
-    (λ seat k o. none-unlisted g who q (found_at s who) seat k o fits_now turn_now (ap pushes_desc stands ∙ other))
+    errand-keeps g caller (s.errand caller) (found_at s caller) d fits_now (ap puts_out stands ∙ out) turn_now
+    (λ seat k o. none-unlisted g caller q (found_at s caller) seat k o fits_now turn_now (ap pushes_desc stands ∙ other))
 
 -- a word that is written as it was leaves all words
 lost-same : (words : WordName → ℕ) (n : WordName) (new : ℕ) (m : WordName) (words' : WordName → ℕ) → Writes words n new words' → new ≡ words n → words' m ≡ words m
@@ -127,47 +127,47 @@ available-same g s l s' l' old new head nexts =
 
 -- a descriptor is away as often as before, where the list and the caller have it no less
 away-least :
-    (g : Geometry) (s : State) (l : Lists) (who : ℕ) (s' : State) (l' : Lists) (d : ℕ) → who < g.callers → Step s who s'
-    → occurs d l.available + errand_away d (s.errand who) ≤ occurs d l'.available + errand_away d (settle_of (s.errand who) (found_at s who))
+    (g : Geometry) (s : State) (l : Lists) (caller : ℕ) (s' : State) (l' : Lists) (d : ℕ) → caller < g.callers → Step s caller s'
+    → occurs d l.available + errand_away d (s.errand caller) ≤ occurs d l'.available + errand_away d (settle_of (s.errand caller) (found_at s caller))
     → away_of g s l d ≤ away_of g s' l' d
-away-least g s l who s' l' d has step least =
-    omega (arith, least, callers-moved g (errand_away d) s.errand who (settle_of (s.errand who) (found_at s who)) s'.errand has step.errand)
+away-least g s l caller s' l' d has step least =
+    omega (arith, least, callers-moved g (errand_away d) s.errand caller (settle_of (s.errand caller) (found_at s caller)) s'.errand has step.errand)
 
 -- what a step leaves that writes at most anchors
 leaves :
-    (g : Geometry) (s : State) (l : Lists) (who : ℕ) (s' : State) (l' : Lists) → IsSoundWith g s l → IsSoundWith g s' l' → who < g.callers
-    → Step s who s' → s'.word name.DescHead ≡ s.word name.DescHead → ((d : ℕ) → s'.word (name.Next d) ≡ s.word (name.Next d))
+    (g : Geometry) (s : State) (l : Lists) (caller : ℕ) (s' : State) (l' : Lists) → IsSoundWith g s l → IsSoundWith g s' l' → caller < g.callers
+    → Step s caller s' → s'.word name.DescHead ≡ s.word name.DescHead → ((d : ℕ) → s'.word (name.Next d) ≡ s.word (name.Next d))
     → ((d : ℕ) → s'.word (name.Info d) ≡ s.word (name.Info d))
     → ((d : ℕ) → is_empty (anchor_for s' d).state ≡ true → is_empty (anchor_for s d).state ≡ true)
-    → ((d : ℕ) → is_empty (anchor_for s' d).state ≡ true → errand_away d (s.errand who) ≤ errand_away d (settle_of (s.errand who) (found_at s who)))
+    → ((d : ℕ) → is_empty (anchor_for s' d).state ≡ true → errand_away d (s.errand caller) ≤ errand_away d (settle_of (s.errand caller) (found_at s caller)))
     → LeavesOut g s l s' l'
-leaves g s l who s' l' old new has step head nexts infos empties least = record {
+leaves g s l caller s' l' old new has step head nexts infos empties least = record {
   empty = empties;
   class = λ d none. ap (λ w. (info_or_zero (info_of w)).class) (infos d);
   away = λ d is.
-      away-least g s l who s' l' d has step (omega (arith, ap (occurs d) (available-same g s l s' l' old new head nexts), least d is));
+      away-least g s l caller s' l' d has step (omega (arith, ap (occurs d) (available-same g s l s' l' old new head nexts), least d is));
 }
 
 -- a step that writes none of these words
 quiet-leaves :
-    (g : Geometry) (s : State) (l : Lists) (who : ℕ) (s' : State) (l' : Lists) → IsSoundWith g s l → IsSoundWith g s' l' → who < g.callers
-    → Step s who s' → in_turn (s.errand who).point ≡ true → writes_told (s.errand who).point ≡ false → LeavesOut g s l s' l'
-quiet-leaves g s l who s' l' old new has step turn none =
-    let p = (s.errand who).point in
-    let fits = fits-at g s l who p old has refl in
+    (g : Geometry) (s : State) (l : Lists) (caller : ℕ) (s' : State) (l' : Lists) → IsSoundWith g s l → IsSoundWith g s' l' → caller < g.callers
+    → Step s caller s' → in_turn (s.errand caller).point ≡ true → writes_told (s.errand caller).point ≡ false → LeavesOut g s l s' l'
+quiet-leaves g s l caller s' l' old new has step turn none =
+    let p = (s.errand caller).point in
+    let fits = fits-at g s l caller p old has refl in
     let quiet = quiet-points p none in
     let still : (m : WordName) → tells m ≡ true → s'.word m ≡ s.word m =
     λ m told.
-    elim (cases_name m (name_at s who)) [
+    elim (cases_name m (name_at s caller)) [
       | inl is ↦
-          ap s'.word is ∙ step.word.here ∙ told-stays g who p (word_at s who) fits turn none (ap tells (sym is) ∙ told) ∙ ap s.word (sym is)
+          ap s'.word is ∙ step.word.here ∙ told-stays g caller p (word_at s caller) fits turn none (ap tells (sym is) ∙ told) ∙ ap s.word (sym is)
       | inr differ ↦ step.word.elsewhere m differ
     ] in
-    leaves g s l who s' l' old new has step (still name.DescHead refl) (λ d. still (name.Next d) refl) (λ d. still (name.Info d) refl)
+    leaves g s l caller s' l' old new has step (still name.DescHead refl) (λ d. still (name.Next d) refl) (λ d. still (name.Info d) refl)
     (λ d is. ap (λ w. is_empty (anchor_of w).state) (sym (still (name.Anchor d) refl)) ∙ is)
     (λ d is.
-    errand-keeps g who (s.errand who) (found_at s who) d fits quiet.0 turn
-    (λ seat k o. none-unlisted g who p (found_at s who) seat k o fits turn quiet.1))
+    errand-keeps g caller (s.errand caller) (found_at s caller) d fits quiet.0 turn
+    (λ seat k o. none-unlisted g caller p (found_at s caller) seat k o fits turn quiet.1))
 
 -- whoever takes a block of a superblock is in a turn
 taking : (share : Share) → is_turn (share_turn_stage share) ≡ true
@@ -177,42 +177,42 @@ taking (Grant more) = refl
 
 -- a pop leaves each superblock EMPTY or not
 pop-leaves :
-    (g : Geometry) (s : State) (l : Lists) (who : ℕ) (s' : State) (l' : Lists) (at : Site) (share : Share) (a : AnchorFields) (prefix : ℕ)
-    (o : Onward) → IsSoundWithoutCounts g s → IsSoundWith g s l → IsSoundWith g s' l' → who < g.callers
-    → (s.errand who).point ≡ Block (block.PopBlock at share a prefix) o → Step s who s' → LeavesOut g s l s' l'
+    (g : Geometry) (s : State) (l : Lists) (caller : ℕ) (s' : State) (l' : Lists) (at : Site) (share : Share) (a : AnchorFields) (prefix : ℕ)
+    (o : Continuation) → IsSoundWithoutCounts g s → IsSoundWith g s l → IsSoundWith g s' l' → caller < g.callers
+    → (s.errand caller).point ≡ Block (block.PopBlock at share a prefix) o → Step s caller s' → LeavesOut g s l s' l'
 unfolding plan_point_of
-pop-leaves g s l who s' l' at share a prefix o sound old new has stands step =
+pop-leaves g s l caller s' l' at share a prefix o sound old new has stands step =
     let p = Block (block.PopBlock at share a prefix) o in
-    let w : Writes s.word (name.Anchor at.desc) (after_action (plan_point_of p) (s.word (name.Anchor at.desc))) s'.word = written-at s who s' p stands step in
-    let fits = fits-at g s l who p old has stands in
-    leaves g s l who s' l' old new has step (w.elsewhere name.DescHead (λ same. cc)) (λ d. w.elsewhere (name.Next d) (λ same. cc))
+    let w : Writes s.word (name.Anchor at.desc) (after_action (plan_point_of p) (s.word (name.Anchor at.desc))) s'.word = written-at s caller s' p stands step in
+    let fits = fits-at g s l caller p old has stands in
+    leaves g s l caller s' l' old new has step (w.elsewhere name.DescHead (λ same. cc)) (λ d. w.elsewhere (name.Next d) (λ same. cc))
     (λ d. w.elsewhere (name.Info d) (λ same. cc))
     (λ d is.
     elim (cases_eq (s.word (name.Anchor at.desc)) (anchor_word a)) [
       | inl won ↦
-          sym (popped-empty g s l who at share a (link_of prefix) (asked o) _ s' (pop-pops g s l who s' at share a prefix o sound old has stands won step) d) ∙ is
+          sym (popped-empty g s l caller at share a (link_of prefix) (asked o) _ s' (pop-pops g s l caller s' at share a prefix o sound old has stands won step) d) ∙ is
       | inr lost ↦ ap (λ v. is_empty (anchor_of v).state) (sym (lost-same s.word (name.Anchor at.desc) _ (name.Anchor d) s'.word w (cond-false {A = ℕ} (s.word (name.Anchor at.desc) == anchor_word a) _ _ (ne_eqb _ _ lost)))) ∙ is
     ])
-    (λ d is. at-keeps g s who p d stands fits refl (taking share) refl)
+    (λ d is. at-keeps g s caller p d stands fits refl (taking share) refl)
 
 -- a grant leaves one in use
 grant-leaves :
-    (g : Geometry) (s : State) (l : Lists) (who : ℕ) (s' : State) (l' : Lists) (site : Site) (a : AnchorFields) (o : Onward)
-    → IsSoundWith g s l → IsSoundWith g s' l' → who < g.callers → (s.errand who).point ≡ Partial (partial.Grant site a) o
-    → Step s who s' → LeavesOut g s l s' l'
+    (g : Geometry) (s : State) (l : Lists) (caller : ℕ) (s' : State) (l' : Lists) (site : Site) (a : AnchorFields) (o : Continuation)
+    → IsSoundWith g s l → IsSoundWith g s' l' → caller < g.callers → (s.errand caller).point ≡ Partial (partial.Grant site a) o
+    → Step s caller s' → LeavesOut g s l s' l'
 unfolding plan_point_of
-grant-leaves g s l who s' l' site a o old new has stands step =
+grant-leaves g s l caller s' l' site a o old new has stands step =
     let p = Partial (partial.Grant site a) o in
-    let w : Writes s.word (name.Anchor site.desc) (after_action (plan_point_of p) (s.word (name.Anchor site.desc))) s'.word = written-at s who s' p stands step in
-    let fits = fits-at g s l who p old has stands in
-    let now : (s.errand who).point ≡ Partial (partial.Grant site a) (onward.Alloc (asked o)) =
+    let w : Writes s.word (name.Anchor site.desc) (after_action (plan_point_of p) (s.word (name.Anchor site.desc))) s'.word = written-at s caller s' p stands step in
+    let fits = fits-at g s l caller p old has stands in
+    let now : (s.errand caller).point ≡ Partial (partial.Grant site a) (continuation.Alloc (asked o)) =
     stands ∙ ap (Partial (partial.Grant site a)) (the-alloc o fits.goes) in
-    leaves g s l who s' l' old new has step (w.elsewhere name.DescHead (λ same. cc)) (λ d. w.elsewhere (name.Next d) (λ same. cc))
+    leaves g s l caller s' l' old new has step (w.elsewhere name.DescHead (λ same. cc)) (λ d. w.elsewhere (name.Next d) (λ same. cc))
     (λ d. w.elsewhere (name.Info d) (λ same. cc))
     (λ d is.
     elim (cases_eq (s.word (name.Anchor site.desc)) (anchor_word a)) [
       | inl won ↦
-          let h = grant-shifts g s l who s' site a (asked o) old has now won step in
+          let h = grant-shifts g s l caller s' site a (asked o) old has now won step in
           elim (cases_eq d site.desc) [
             | inl same ↦ absurd (true≢false (sym is ∙ ap (λ k. is_empty (anchor_for s' k).state) same ∙ ap (λ x. is_empty x.state) h.after ∙ h.in_use))
             | inr differ ↦ ap (λ v. is_empty (anchor_of v).state) (sym (h.elsewhere (name.Anchor d) (λ same. differ (cc)))) ∙ is
@@ -222,22 +222,22 @@ grant-leaves g s l who s' l' site a o old new has stands step =
           (sym (lost-same s.word (name.Anchor site.desc) _ (name.Anchor d) s'.word w (cond-false {A = ℕ} (s.word (name.Anchor site.desc) == anchor_word a) _ _ (ne_eqb _ _ lost))))
           ∙ is
     ])
-    (λ d is. at-keeps g s who p d stands fits refl refl refl)
+    (λ d is. at-keeps g s caller p d stands fits refl refl refl)
 
 -- the processor heap of a superblock that was taken, whose class stays
 owner-leaves :
-    (g : Geometry) (s : State) (l : Lists) (who : ℕ) (s' : State) (l' : Lists) (site : Site) (o : Onward) → IsSoundWithoutCounts g s
-    → IsSoundWith g s l → IsSoundWith g s' l' → who < g.callers → (s.errand who).point ≡ Partial (partial.StoreOwner site) o → Step s who s'
+    (g : Geometry) (s : State) (l : Lists) (caller : ℕ) (s' : State) (l' : Lists) (site : Site) (o : Continuation) → IsSoundWithoutCounts g s
+    → IsSoundWith g s l → IsSoundWith g s' l' → caller < g.callers → (s.errand caller).point ≡ Partial (partial.StoreOwner site) o → Step s caller s'
     → LeavesOut g s l s' l'
 unfolding plan_point_of recalls_of
-owner-leaves g s l who s' l' site o sound old new has stands step =
+owner-leaves g s l caller s' l' site o sound old new has stands step =
     let p = Partial (partial.StoreOwner site) o in
-    let w : Writes s.word (name.Info site.desc) (info_word (info_at site)) s'.word = written-at s who s' p stands step in
-    let fits = fits-at g s l who p old has stands in
-    let fit : IsSiteOf g who site = fits.point in
-    let lies = All-head (IsSo g s l who) (located site.desc site.frame site.seat.class) [] (so-at g s l who p old has stands) in
+    let w : Writes s.word (name.Info site.desc) (info_word (info_at site)) s'.word = written-at s caller s' p stands step in
+    let fits = fits-at g s l caller p old has stands in
+    let fit : IsSiteOf g caller site = fits.point in
+    let lies = All-head (IsSo g s l caller) (located site.desc site.frame site.seat.class) [] (so-at g s l caller p old has stands) in
     let back : info_of (s'.word (name.Info site.desc)) ≡ Some (info_at site) =
-    ap info_of w.here ∙ info-exact.back (info_at site) (site-info g who site sound.checked fit) in
+    ap info_of w.here ∙ info-exact.back (info_at site) (site-info g caller site sound.checked fit) in
     let anchors : (d : ℕ) → s'.word (name.Anchor d) ≡ s.word (name.Anchor d) = λ d. w.elsewhere (name.Anchor d) (λ same. cc) in
     let avail = available-same g s l s' l' old new (w.elsewhere name.DescHead (λ same. cc)) (λ d. w.elsewhere (name.Next d) (λ same. cc)) in
     record {
@@ -249,33 +249,33 @@ owner-leaves g s l who s' l' site o sound old new has stands step =
             | inr differ ↦ ap (λ v. (info_or_zero (info_of v)).class) (w.elsewhere (name.Info d) (λ same. differ (cc)))
           ];
       away = λ d is.
-          away-least g s l who s' l' d has step
-          (omega (arith, ap (occurs d) avail, at-keeps g s who p d stands fits refl refl refl));
+          away-least g s l caller s' l' d has step
+          (omega (arith, ap (occurs d) avail, at-keeps g s caller p d stands fits refl refl refl));
     }
 
 -- what the descriptor of a new superblock says, which is on its way
 info-leaves :
-    (g : Geometry) (s : State) (l : Lists) (who : ℕ) (s' : State) (l' : Lists) (site : Site) (o : Onward) → IsSoundWith g s l
-    → IsSoundWith g s' l' → who < g.callers → (s.errand who).point ≡ Block (block.StoreInfo site) o → Step s who s' → LeavesOut g s l s' l'
+    (g : Geometry) (s : State) (l : Lists) (caller : ℕ) (s' : State) (l' : Lists) (site : Site) (o : Continuation) → IsSoundWith g s l
+    → IsSoundWith g s' l' → caller < g.callers → (s.errand caller).point ≡ Block (block.StoreInfo site) o → Step s caller s' → LeavesOut g s l s' l'
 unfolding plan_point_of holds_of callers_sum
-info-leaves g s l who s' l' site o old new has stands step =
+info-leaves g s l caller s' l' site o old new has stands step =
     let p = Block (block.StoreInfo site) o in
-    let w : Writes s.word (name.Info site.desc) (info_word (info_at site)) s'.word = written-at s who s' p stands step in
-    let fits = fits-at g s l who p old has stands in
+    let w : Writes s.word (name.Info site.desc) (info_word (info_at site)) s'.word = written-at s caller s' p stands step in
+    let fits = fits-at g s l caller p old has stands in
     let anchors : (d : ℕ) → s'.word (name.Anchor d) ≡ s.word (name.Anchor d) = λ d. w.elsewhere (name.Anchor d) (λ same. cc) in
     let avail = available-same g s l s' l' old new (w.elsewhere name.DescHead (λ same. cc)) (λ d. w.elsewhere (name.Next d) (λ same. cc)) in
     let least : (d : ℕ) → away_of g s l d ≤ away_of g s' l' d =
-    λ d. away-least g s l who s' l' d has step (omega (arith, ap (occurs d) avail, at-keeps g s who p d stands fits refl refl refl)) in
-    let way : 1 ≤ errand_keeps on_its_way site.desc (s.errand who) =
-    keeps-at (s.errand who) p on_its_way site.desc stands (kept-itself on_its_way site.desc site.seat.class) in
+    λ d. away-least g s l caller s' l' d has step (omega (arith, ap (occurs d) avail, at-keeps g s caller p d stands fits refl refl refl)) in
+    let way : 1 ≤ errand_keeps on_its_way site.desc (s.errand caller) =
+    keeps-at (s.errand caller) p on_its_way site.desc stands (kept-itself on_its_way site.desc site.seat.class) in
     record {
       empty = λ d is. ap (λ v. is_empty (anchor_of v).state) (sym (anchors d)) ∙ is;
       class = λ d none.
           elim (cases_eq d site.desc) [
             | inl same ↦
                 let there : away_of g s' l' site.desc ≡ 0 = subst (λ k. away_of g s' l' k ≡ 0) same none in
-                let mine : errand_away site.desc (s.errand who) ≤ callers_sum g (errand_away site.desc) s.errand =
-                term-sum g.callers (λ i. errand_away site.desc (s.errand i)) who has in
+                let mine : errand_away site.desc (s.errand caller) ≤ callers_sum g (errand_away site.desc) s.errand =
+                term-sum g.callers (λ i. errand_away site.desc (s.errand i)) caller has in
                 absurd (let no : ⊥ = omega (arith, there, least site.desc, mine, way) in no)
             | inr differ ↦ ap (λ v. (info_or_zero (info_of v)).class) (w.elsewhere (name.Info d) (λ same. differ (cc)))
           ];
@@ -287,40 +287,40 @@ making-elsewhere : (site : Site) (d : ℕ) → d ≢ site.desc → kept_among on
 making-elsewhere site d differ = grind (arith, differ)
 
 anchor-leaves :
-    (g : Geometry) (s : State) (l : Lists) (who : ℕ) (s' : State) (l' : Lists) (site : Site) (o : Onward) → IsSoundWith g s l
-    → IsSoundWith g s' l' → who < g.callers → (s.errand who).point ≡ Block (block.StoreAnchor site) o → Step s who s' → LeavesOut g s l s' l'
+    (g : Geometry) (s : State) (l : Lists) (caller : ℕ) (s' : State) (l' : Lists) (site : Site) (o : Continuation) → IsSoundWith g s l
+    → IsSoundWith g s' l' → caller < g.callers → (s.errand caller).point ≡ Block (block.StoreAnchor site) o → Step s caller s' → LeavesOut g s l s' l'
 unfolding plan_point_of holds_of next_of settle_of course_of
-anchor-leaves g s l who s' l' site o old new has stands step =
+anchor-leaves g s l caller s' l' site o old new has stands step =
     let p = Block (block.StoreAnchor site) o in
-    let e = s.errand who in
-    let w : Writes s.word (name.Anchor site.desc) (anchor_word (new_anchor site.seat.class)) s'.word = written-at s who s' p stands step in
+    let e = s.errand caller in
+    let w : Writes s.word (name.Anchor site.desc) (anchor_word (new_anchor site.seat.class)) s'.word = written-at s caller s' p stands step in
     let here : anchor_for s' site.desc ≡ new_anchor site.seat.class =
     ap anchor_of w.here ∙ anchor_of-anchor_word (new_anchor site.seat.class) (new_anchor-fits site.seat.class) in
     let used : (d : ℕ) → is_empty (anchor_for s' d).state ≡ true → d ≢ site.desc =
     λ d is same. true≢false (sym is ∙ ap (λ k. is_empty (anchor_for s' k).state) same ∙ ap (λ x. is_empty x.state) here) in
-    leaves g s l who s' l' old new has step (w.elsewhere name.DescHead (λ same. cc)) (λ d. w.elsewhere (name.Next d) (λ same. cc))
+    leaves g s l caller s' l' old new has step (w.elsewhere name.DescHead (λ same. cc)) (λ d. w.elsewhere (name.Next d) (λ same. cc))
     (λ d. w.elsewhere (name.Info d) (λ same. cc))
     (λ d is. ap (λ v. is_empty (anchor_of v).state) (sym (w.elsewhere (name.Anchor d) (λ same. used d is (cc)))) ∙ is)
     (λ d is.
     let none : kept_among on_its_way d (holds_of e.point).kept ≡ 0 =
     ap (λ q. kept_among on_its_way d (holds_of q).kept) stands ∙ making-elsewhere site d (used d is) in
-    let next : next_of e.point (found_at s who) ≡ At (Block (block.InstallSuperblock site) o) = ap (λ q. next_of q (found_at s who)) stands in
-    let least : occurs d e.retired + 0 ≤ away_after e (next_of e.point (found_at s who)) d =
-    next-away e (next_of e.point (found_at s who)) d 0 (λ seat k b is. let bad : At (Block (block.InstallSuperblock site) o) ≡ Unlist seat k b = sym next ∙ is in cc) (omega arith) in
+    let next : next_of e.point (found_at s caller) ≡ At (Block (block.InstallSuperblock site) o) = ap (λ q. next_of q (found_at s caller)) stands in
+    let least : occurs d e.retired + 0 ≤ away_after e (next_of e.point (found_at s caller)) d =
+    next-away e (next_of e.point (found_at s caller)) d 0 (λ seat k b is. let bad : At (Block (block.InstallSuperblock site) o) ≡ Unlist seat k b = sym next ∙ is in cc) (omega arith) in
     omega (arith, none, least))
 
 -- a link below a retired descriptor, which is not available
 next-leaves :
-    (g : Geometry) (s : State) (l : Lists) (who : ℕ) (s' : State) (l' : Lists) (seat : SeatFields) (k top : ℕ) (o : Onward)
-    → IsSoundWith g s l → IsSoundWith g s' l' → who < g.callers → (s.errand who).point ≡ Desc (desc.StoreNextDesc seat k top) o
-    → in_turn (s.errand who).point ≡ true → Step s who s' → LeavesOut g s l s' l'
+    (g : Geometry) (s : State) (l : Lists) (caller : ℕ) (s' : State) (l' : Lists) (seat : SeatFields) (k top : ℕ) (o : Continuation)
+    → IsSoundWith g s l → IsSoundWith g s' l' → caller < g.callers → (s.errand caller).point ≡ Desc (desc.StoreNextDesc seat k top) o
+    → in_turn (s.errand caller).point ≡ true → Step s caller s' → LeavesOut g s l s' l'
 unfolding plan_point_of callers_sum
-next-leaves g s l who s' l' seat k top o old new has stands turn step =
+next-leaves g s l caller s' l' seat k top o old new has stands turn step =
     let p = Desc (desc.StoreNextDesc seat k top) o in
-    let w : Writes s.word (name.Next k) top s'.word = written-at s who s' p stands step in
-    let fits = fits-at g s l who p old has stands in
-    let mine : 1 ≤ errand_has k (s.errand who) = retired-has (s.errand who) p k (old.errands who has).rule stands refl in
-    let all : errand_has k (s.errand who) ≤ callers_sum g (errand_has k) s.errand = term-sum g.callers (λ i. errand_has k (s.errand i)) who has in
+    let w : Writes s.word (name.Next k) top s'.word = written-at s caller s' p stands step in
+    let fits = fits-at g s l caller p old has stands in
+    let mine : 1 ≤ errand_has k (s.errand caller) = retired-has (s.errand caller) p k (old.errands caller has).rule stands refl in
+    let all : errand_has k (s.errand caller) ≤ callers_sum g (errand_has k) s.errand = term-sum g.callers (λ i. errand_has k (s.errand i)) caller has in
     let off : occurs k l.available ≡ 0 = omega (arith, old.kept.once k fits.point.desc.desc, mine, all) in
     let kept : Stacked (next_in s'.word Partials) (s.word name.DescHead) l.available =
     stacked-off s.word s'.word top Partials (s.word name.DescHead) k l.available w off old.listed.available in
@@ -331,21 +331,21 @@ next-leaves g s l who s' l' seat k top o old new has stands turn step =
       empty = λ d is. ap (λ v. is_empty (anchor_of v).state) (sym (w.elsewhere (name.Anchor d) (λ same. cc))) ∙ is;
       class = λ d none. ap (λ v. (info_or_zero (info_of v)).class) (w.elsewhere (name.Info d) (λ same. cc));
       away = λ d is.
-          away-least g s l who s' l' d has step
-          (omega (arith, ap (occurs d) avail, at-keeps g s who p d stands fits refl (sym (ap in_turn stands) ∙ turn) refl));
+          away-least g s l caller s' l' d has step
+          (omega (arith, ap (occurs d) avail, at-keeps g s caller p d stands fits refl (sym (ap in_turn stands) ∙ turn) refl));
     }
 
 -- where only the head of the available ones may change
 head-leaves :
-    (g : Geometry) (s : State) (l : Lists) (who : ℕ) (s' : State) (l' : Lists) (new_head : ℕ) → who < g.callers → Step s who s'
+    (g : Geometry) (s : State) (l : Lists) (caller : ℕ) (s' : State) (l' : Lists) (new_head : ℕ) → caller < g.callers → Step s caller s'
     → Writes s.word name.DescHead new_head s'.word
-    → ((d : ℕ) → occurs d l.available + errand_away d (s.errand who)
-    ≤ occurs d l'.available + errand_away d (settle_of (s.errand who) (found_at s who)))
+    → ((d : ℕ) → occurs d l.available + errand_away d (s.errand caller)
+    ≤ occurs d l'.available + errand_away d (settle_of (s.errand caller) (found_at s caller)))
     → LeavesOut g s l s' l'
-head-leaves g s l who s' l' new_head has step w least = record {
+head-leaves g s l caller s' l' new_head has step w least = record {
   empty = λ d is. ap (λ v. is_empty (anchor_of v).state) (sym (w.elsewhere (name.Anchor d) (λ same. cc))) ∙ is;
   class = λ d none. ap (λ v. (info_or_zero (info_of v)).class) (w.elsewhere (name.Info d) (λ same. cc));
-  away = λ d is. away-least g s l who s' l' d has step (least d);
+  away = λ d is. away-least g s l caller s' l' d has step (least d);
 }
 
 -- the next words below it stay
@@ -355,15 +355,15 @@ nexts-same s s' new_head w = fun_ext (λ d. w.elsewhere (name.Next d) (λ same. 
 -- the top one is taken: the caller has it on its way
 
 pop_desc-leaves :
-    (g : Geometry) (s : State) (l : Lists) (who : ℕ) (s' : State) (l' : Lists) (seat : SeatFields) (k below : ℕ) (o : Onward)
-    → IsSoundWith g s l → IsSoundWith g s' l' → who < g.callers → (s.errand who).point ≡ Desc (desc.PopDesc seat k below) o
-    → in_turn (s.errand who).point ≡ true → Step s who s' → LeavesOut g s l s' l'
+    (g : Geometry) (s : State) (l : Lists) (caller : ℕ) (s' : State) (l' : Lists) (seat : SeatFields) (k below : ℕ) (o : Continuation)
+    → IsSoundWith g s l → IsSoundWith g s' l' → caller < g.callers → (s.errand caller).point ≡ Desc (desc.PopDesc seat k below) o
+    → in_turn (s.errand caller).point ≡ true → Step s caller s' → LeavesOut g s l s' l'
 unfolding plan_point_of holds_of recalls_of next_of settle_of course_of
-pop_desc-leaves g s l who s' l' seat k below o old new has stands turn step =
+pop_desc-leaves g s l caller s' l' seat k below o old new has stands turn step =
     let p = Desc (desc.PopDesc seat k below) o in
-    let e = s.errand who in
-    let w = written-at s who s' p stands step in
-    let fits = fits-at g s l who p old has stands in
+    let e = s.errand caller in
+    let w = written-at s caller s' p stands step in
+    let fits = fits-at g s l caller p old has stands in
     let nexts = nexts-same s s' _ w in
     elim (cases_eq (s.word name.DescHead) (k + 1)) [
       | inl won ↦
@@ -374,44 +374,44 @@ pop_desc-leaves g s l who s' l' seat k below o old new has stands turn step =
           let on : 0 < occurs k l.available =
           subst (λ zs. 0 < occurs k zs) (sym is) (omega (arith, cond-true {A = ℕ} (k == k) 1 0 (eq-eqb k k refl))) in
           let link : s.word (name.Next k) ≡ below =
-          All-head (IsSo g s l who) (noted k below) (looked seat.class ∷ []) (so-at g s l who p old has stands) on in
+          All-head (IsSo g s l caller) (noted k below) (looked seat.class ∷ []) (so-at g s l caller p old has stands) on in
           let head : s'.word name.DescHead ≡ s.word (name.Next k) = w.here ∙ rw is_won (sym link) in
           let after : Stacked (next_in s.word Partials) (s.word (name.Next k)) l'.available =
           subst (λ f. Stacked f (s.word (name.Next k)) l'.available) nexts
           (subst (λ t. Stacked (next_in s'.word Partials) t l'.available) head new.listed.available) in
           let same : l'.available ≡ ys = stacked-one (next_in s.word Partials) (s.word (name.Next k)) l'.available ys after rest in
           let q = Desc (desc.ClearAfterPop seat k) o in
-          let next : next_of e.point (found_at s who) ≡ At q =
+          let next : next_of e.point (found_at s caller) ≡ At q =
           subst (λ r. next_of r (found_from s r) ≡ At q) (sym stands) (rw is_won refl) in
-          head-leaves g s l who s' l' _ has step w
+          head-leaves g s l caller s' l' _ has step w
           (λ d.
           let none : kept_among on_its_way d (holds_of e.point).kept ≡ 0 = ap (λ r. kept_among on_its_way d (holds_of r).kept) stands in
-          let mine : away_after e (next_of e.point (found_at s who)) d ≡ occurs d e.retired + (if k == d then 1 else 0) =
+          let mine : away_after e (next_of e.point (found_at s caller)) d ≡ occurs d e.retired + (if k == d then 1 else 0) =
           ap (λ n. away_after e n d) next ∙ ap (λ n. occurs d e.retired + n) (ways-one d k seat.class) in
           omega (arith, none, mine, ap (occurs d) is, ap (occurs d) same))
       | inr lost ↦
           let head : s'.word name.DescHead ≡ s.word name.DescHead = w.here ∙ cond-false {A = ℕ} (s.word name.DescHead == k + 1) _ _ (ne_eqb _ _ lost) in
           let avail = available-same g s l s' l' old new head (λ d. w.elsewhere (name.Next d) (λ same. cc)) in
-          head-leaves g s l who s' l' _ has step w
-          (λ d. omega (arith, ap (occurs d) avail, at-keeps g s who p d stands fits refl (sym (ap in_turn stands) ∙ turn) refl))
+          head-leaves g s l caller s' l' _ has step w
+          (λ d. omega (arith, ap (occurs d) avail, at-keeps g s caller p d stands fits refl (sym (ap in_turn stands) ∙ turn) refl))
     ]
 
 -- a retired one is put in front
 push_desc-leaves :
-    (g : Geometry) (s : State) (l : Lists) (who : ℕ) (s' : State) (l' : Lists) (seat : SeatFields) (k top : ℕ) (o : Onward)
-    → IsSoundWith g s l → IsSoundWith g s' l' → who < g.callers → (s.errand who).point ≡ Desc (desc.PushDesc seat k top) o
-    → Step s who s' → LeavesOut g s l s' l'
+    (g : Geometry) (s : State) (l : Lists) (caller : ℕ) (s' : State) (l' : Lists) (seat : SeatFields) (k top : ℕ) (o : Continuation)
+    → IsSoundWith g s l → IsSoundWith g s' l' → caller < g.callers → (s.errand caller).point ≡ Desc (desc.PushDesc seat k top) o
+    → Step s caller s' → LeavesOut g s l s' l'
 unfolding plan_point_of holds_of recalls_of next_of settle_of course_of
-push_desc-leaves g s l who s' l' seat k top o old new has stands step =
+push_desc-leaves g s l caller s' l' seat k top o old new has stands step =
     let p = Desc (desc.PushDesc seat k top) o in
-    let e = s.errand who in
-    let w = written-at s who s' p stands step in
+    let e = s.errand caller in
+    let w = written-at s caller s' p stands step in
     let nexts = nexts-same s s' _ w in
     let none : (d : ℕ) → kept_among on_its_way d (holds_of e.point).kept ≡ 0 = λ d. ap (λ r. kept_among on_its_way d (holds_of r).kept) stands in
     elim (cases_eq (s.word name.DescHead) top) [
       | inl won ↦
           let is_won : (s.word name.DescHead == top) ≡ true = eq-eqb (s.word name.DescHead) top won in
-          let link : s.word (name.Next k) ≡ top = (All-head (IsSo g s l who) (says (name.Next k) top) (resumed_recalls seat o) (so-at g s l who p old has stands)).1 in
+          let link : s.word (name.Next k) ≡ top = (All-head (IsSo g s l caller) (says (name.Next k) top) (resumed_recalls seat o) (so-at g s l caller p old has stands)).1 in
           let head : s'.word name.DescHead ≡ k + 1 = w.here ∙ rw is_won refl in
           let after : Stacked (next_in s.word Partials) (k + 1) l'.available =
           subst (λ f. Stacked f (k + 1) l'.available) nexts
@@ -421,12 +421,12 @@ push_desc-leaves g s l who s' l' seat k top o old new has stands step =
           let same : l'.available ≡ k ∷ l.available =
           stacked-one (next_in s.word Partials) (k + 1) l'.available (k ∷ l.available) after stack in
           let listed : Contains e.retired k =
-          subst (λ r. IfSome r (λ j. Contains e.retired j)) (ap pushed_by stands) (old.errands who has).rule.pushed in
-          let next : next_of e.point (found_at s who) ≡ Unlist seat k o =
+          subst (λ r. IfSome r (λ j. Contains e.retired j)) (ap pushed_by stands) (old.errands caller has).rule.pushed in
+          let next : next_of e.point (found_at s caller) ≡ Unlist seat k o =
           subst (λ r. next_of r (found_from s r) ≡ Unlist seat k o) (sym stands) (rw is_won refl) in
-          head-leaves g s l who s' l' _ has step w
+          head-leaves g s l caller s' l' _ has step w
           (λ d.
-          let mine : occurs d (without k e.retired) ≤ away_after e (next_of e.point (found_at s who)) d =
+          let mine : occurs d (without k e.retired) ≤ away_after e (next_of e.point (found_at s caller)) d =
           subst (λ n. occurs d (without k e.retired) ≤ away_after e n d) (sym next) (omega arith) in
           omega (arith, none d, mine, ap (occurs d) same, occurs-without k d e.retired listed))
       | inr lost ↦
@@ -434,66 +434,66 @@ push_desc-leaves g s l who s' l' seat k top o old new has stands step =
           let head : s'.word name.DescHead ≡ s.word name.DescHead = w.here ∙ cond-false {A = ℕ} (s.word name.DescHead == top) _ _ is_lost in
           let avail = available-same g s l s' l' old new head (λ d. w.elsewhere (name.Next d) (λ same. cc)) in
           let q = Desc (desc.LoadHeadToPush seat k) o in
-          let next : next_of e.point (found_at s who) ≡ At q =
+          let next : next_of e.point (found_at s caller) ≡ At q =
           subst (λ r. next_of r (found_from s r) ≡ At q) (sym stands) (rw is_lost refl) in
-          head-leaves g s l who s' l' _ has step w
+          head-leaves g s l caller s' l' _ has step w
           (λ d.
-          let mine : occurs d e.retired ≤ away_after e (next_of e.point (found_at s who)) d =
+          let mine : occurs d e.retired ≤ away_after e (next_of e.point (found_at s caller)) d =
           subst (λ n. occurs d e.retired ≤ away_after e n d) (sym next) (omega arith) in
           omega (arith, none d, mine, ap (occurs d) avail))
     ]
 
 -- so does every step of a turn
 block-leaves-out :
-    (g : Geometry) (s : State) (l : Lists) (who : ℕ) (s' : State) (l' : Lists) (p : BlockPoint) (o : Onward) → IsSoundWithoutCounts g s
-    → IsSoundWith g s l → IsSoundWith g s' l' → who < g.callers → (s.errand who).point ≡ Block p o → in_turn (s.errand who).point ≡ true
-    → Step s who s' → LeavesOut g s l s' l'
-block-leaves-out g s l who s' l' (block.PopBlock at share a prefix) o sound old new has stands turn step =
-    pop-leaves g s l who s' l' at share a prefix o sound old new has stands step
-block-leaves-out g s l who s' l' (block.StoreInfo site) o sound old new has stands turn step =
-    info-leaves g s l who s' l' site o old new has stands step
-block-leaves-out g s l who s' l' (block.StoreAnchor site) o sound old new has stands turn step =
-    anchor-leaves g s l who s' l' site o old new has stands step
-block-leaves-out g s l who s' l' p o sound old new has stands turn step =
-    quiet-leaves g s l who s' l' old new has step turn (ap writes_told stands)
+    (g : Geometry) (s : State) (l : Lists) (caller : ℕ) (s' : State) (l' : Lists) (p : BlockPoint) (o : Continuation) → IsSoundWithoutCounts g s
+    → IsSoundWith g s l → IsSoundWith g s' l' → caller < g.callers → (s.errand caller).point ≡ Block p o → in_turn (s.errand caller).point ≡ true
+    → Step s caller s' → LeavesOut g s l s' l'
+block-leaves-out g s l caller s' l' (block.PopBlock at share a prefix) o sound old new has stands turn step =
+    pop-leaves g s l caller s' l' at share a prefix o sound old new has stands step
+block-leaves-out g s l caller s' l' (block.StoreInfo site) o sound old new has stands turn step =
+    info-leaves g s l caller s' l' site o old new has stands step
+block-leaves-out g s l caller s' l' (block.StoreAnchor site) o sound old new has stands turn step =
+    anchor-leaves g s l caller s' l' site o old new has stands step
+block-leaves-out g s l caller s' l' p o sound old new has stands turn step =
+    quiet-leaves g s l caller s' l' old new has step turn (ap writes_told stands)
 
 desc-leaves-out :
-    (g : Geometry) (s : State) (l : Lists) (who : ℕ) (s' : State) (l' : Lists) (p : DescPoint) (o : Onward)
-    → IsSoundWith g s l → IsSoundWith g s' l' → who < g.callers → (s.errand who).point ≡ Desc p o → in_turn (s.errand who).point ≡ true
-    → Step s who s' → LeavesOut g s l s' l'
-desc-leaves-out g s l who s' l' (desc.PopDesc seat k below) o old new has stands turn step =
-    pop_desc-leaves g s l who s' l' seat k below o old new has stands turn step
-desc-leaves-out g s l who s' l' (desc.StoreNextDesc seat k top) o old new has stands turn step =
-    next-leaves g s l who s' l' seat k top o old new has stands turn step
-desc-leaves-out g s l who s' l' (desc.PushDesc seat k top) o old new has stands turn step =
-    push_desc-leaves g s l who s' l' seat k top o old new has stands step
-desc-leaves-out g s l who s' l' p o old new has stands turn step = quiet-leaves g s l who s' l' old new has step turn (ap writes_told stands)
+    (g : Geometry) (s : State) (l : Lists) (caller : ℕ) (s' : State) (l' : Lists) (p : DescPoint) (o : Continuation)
+    → IsSoundWith g s l → IsSoundWith g s' l' → caller < g.callers → (s.errand caller).point ≡ Desc p o → in_turn (s.errand caller).point ≡ true
+    → Step s caller s' → LeavesOut g s l s' l'
+desc-leaves-out g s l caller s' l' (desc.PopDesc seat k below) o old new has stands turn step =
+    pop_desc-leaves g s l caller s' l' seat k below o old new has stands turn step
+desc-leaves-out g s l caller s' l' (desc.StoreNextDesc seat k top) o old new has stands turn step =
+    next-leaves g s l caller s' l' seat k top o old new has stands turn step
+desc-leaves-out g s l caller s' l' (desc.PushDesc seat k top) o old new has stands turn step =
+    push_desc-leaves g s l caller s' l' seat k top o old new has stands step
+desc-leaves-out g s l caller s' l' p o old new has stands turn step = quiet-leaves g s l caller s' l' old new has step turn (ap writes_told stands)
 
 partial-leaves-out :
-    (g : Geometry) (s : State) (l : Lists) (who : ℕ) (s' : State) (l' : Lists) (p : PartialPoint) (o : Onward) → IsSoundWithoutCounts g s
-    → IsSoundWith g s l → IsSoundWith g s' l' → who < g.callers → (s.errand who).point ≡ Partial p o → in_turn (s.errand who).point ≡ true
-    → Step s who s' → LeavesOut g s l s' l'
-partial-leaves-out g s l who s' l' (partial.Grant site a) o sound old new has stands turn step =
-    grant-leaves g s l who s' l' site a o old new has stands step
-partial-leaves-out g s l who s' l' (partial.StoreOwner site) o sound old new has stands turn step =
-    owner-leaves g s l who s' l' site o sound old new has stands step
-partial-leaves-out g s l who s' l' p o sound old new has stands turn step =
-    quiet-leaves g s l who s' l' old new has step turn (ap writes_told stands)
+    (g : Geometry) (s : State) (l : Lists) (caller : ℕ) (s' : State) (l' : Lists) (p : PartialPoint) (o : Continuation) → IsSoundWithoutCounts g s
+    → IsSoundWith g s l → IsSoundWith g s' l' → caller < g.callers → (s.errand caller).point ≡ Partial p o → in_turn (s.errand caller).point ≡ true
+    → Step s caller s' → LeavesOut g s l s' l'
+partial-leaves-out g s l caller s' l' (partial.Grant site a) o sound old new has stands turn step =
+    grant-leaves g s l caller s' l' site a o old new has stands step
+partial-leaves-out g s l caller s' l' (partial.StoreOwner site) o sound old new has stands turn step =
+    owner-leaves g s l caller s' l' site o sound old new has stands step
+partial-leaves-out g s l caller s' l' p o sound old new has stands turn step =
+    quiet-leaves g s l caller s' l' old new has step turn (ap writes_told stands)
 
 point-leaves-out :
-    (g : Geometry) (s : State) (l : Lists) (who : ℕ) (s' : State) (l' : Lists) (p : Point) → IsSoundWithoutCounts g s → IsSoundWith g s l
-    → IsSoundWith g s' l' → who < g.callers → (s.errand who).point ≡ p → in_turn (s.errand who).point ≡ true → Step s who s'
+    (g : Geometry) (s : State) (l : Lists) (caller : ℕ) (s' : State) (l' : Lists) (p : Point) → IsSoundWithoutCounts g s → IsSoundWith g s l
+    → IsSoundWith g s' l' → caller < g.callers → (s.errand caller).point ≡ p → in_turn (s.errand caller).point ≡ true → Step s caller s'
     → LeavesOut g s l s' l'
-point-leaves-out g s l who s' l' (Block p o) sound old new has stands turn step =
-    block-leaves-out g s l who s' l' p o sound old new has stands turn step
-point-leaves-out g s l who s' l' (Desc p o) sound old new has stands turn step = desc-leaves-out g s l who s' l' p o old new has stands turn step
-point-leaves-out g s l who s' l' (Partial p o) sound old new has stands turn step =
-    partial-leaves-out g s l who s' l' p o sound old new has stands turn step
-point-leaves-out g s l who s' l' p sound old new has stands turn step =
-    quiet-leaves g s l who s' l' old new has step turn (ap writes_told stands)
+point-leaves-out g s l caller s' l' (Block p o) sound old new has stands turn step =
+    block-leaves-out g s l caller s' l' p o sound old new has stands turn step
+point-leaves-out g s l caller s' l' (Desc p o) sound old new has stands turn step = desc-leaves-out g s l caller s' l' p o old new has stands turn step
+point-leaves-out g s l caller s' l' (Partial p o) sound old new has stands turn step =
+    partial-leaves-out g s l caller s' l' p o sound old new has stands turn step
+point-leaves-out g s l caller s' l' p sound old new has stands turn step =
+    quiet-leaves g s l caller s' l' old new has step turn (ap writes_told stands)
 
 pub step-leaves-out :
-    (g : Geometry) (s : State) (l : Lists) (who : ℕ) (s' : State) (l' : Lists) → IsSoundWithoutCounts g s → IsSoundWith g s l
-    → IsSoundWith g s' l' → who < g.callers → in_turn (s.errand who).point ≡ true → Step s who s' → LeavesOut g s l s' l'
-step-leaves-out g s l who s' l' sound old new has turn step =
-    point-leaves-out g s l who s' l' (s.errand who).point sound old new has refl turn step
+    (g : Geometry) (s : State) (l : Lists) (caller : ℕ) (s' : State) (l' : Lists) → IsSoundWithoutCounts g s → IsSoundWith g s l
+    → IsSoundWith g s' l' → caller < g.callers → in_turn (s.errand caller).point ≡ true → Step s caller s' → LeavesOut g s l s' l'
+step-leaves-out g s l caller s' l' sound old new has turn step =
+    point-leaves-out g s l caller s' l' (s.errand caller).point sound old new has refl turn step

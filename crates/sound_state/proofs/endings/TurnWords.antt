@@ -22,7 +22,7 @@ use Rattle.large_parts.specs.declared.point.LargePoint.{LargePoint}
 use Rattle.large_parts.specs.Points.{settle_large_of}
 use Rattle.errand_steps.specs.declared.next.Next.{Next}
 use Rattle.errand_steps.specs.declared.next.Next.TheVariants.{At, End, Turn, Retire, Pick, Unlist}
-use Rattle.errand_steps.specs.declared.onward.Onward.{Onward}
+use Rattle.errand_steps.specs.declared.continuation.Continuation.{Continuation}
 use Rattle.errand_steps.specs.declared.point.Point.{Point}
 use Rattle.errand_steps.specs.declared.point.Point.TheVariants.{Idle, Block, Stack, Desc, Partial, Large}
 use Rattle.errand_steps.specs.Fits.{FitsPoint, FitsInBlock, FitsInStack, FitsInDesc, FitsInPartial}
@@ -30,7 +30,7 @@ use Rattle.errand_steps.specs.Nexts.{next_of, enter_block, enter_stack, enter_de
 use Rattle.errand_steps.specs.Points.{plan_point_of}
 use Rattle.sound_state.specs.Alone.{class_at}
 use Rattle.sound_state.specs.Holdings.{on_its_way, holds_of}
-use Rattle.sound_state.specs.TurnStages.{in_turn, is_turn, onward_turn_stage}
+use Rattle.sound_state.specs.TurnStages.{in_turn, is_turn, continuation_turn_stage}
 use Rattle.sound_state.specs.Superblocks.{kept_among}
 
 -- the words that say where a descriptor is, and in what state its superblock is
@@ -67,15 +67,15 @@ writes_told p = false
 
 -- at all others such a word stays
 pub told-stays :
-    (g : Geometry) (who : ℕ) (p : Point) (v : ℕ) → FitsPoint g who p → in_turn p ≡ true → writes_told p ≡ false
+    (g : Geometry) (caller : ℕ) (p : Point) (v : ℕ) → FitsPoint g caller p → in_turn p ≡ true → writes_told p ≡ false
     → tells (name_of (plan_point_of p)) ≡ true → after_action (plan_point_of p) v ≡ v
 unfolding plan_point_of
-told-stays g who Idle v fits turn none told = grind (arith, turn)
-told-stays g who (Block p o) v fits turn none told = grind (arith, turn, none, told)
-told-stays g who (Stack p o) v fits turn none told = grind (arith, turn, fits.goes, told)
-told-stays g who (Desc p o) v fits turn none told = grind (arith, turn, none, told)
-told-stays g who (Partial p o) v fits turn none told = grind (arith, turn, none, fits.goes, told)
-told-stays g who (Large p o) v fits turn none told = grind (arith, turn)
+told-stays g caller Idle v fits turn none told = grind (arith, turn)
+told-stays g caller (Block p o) v fits turn none told = grind (arith, turn, none, told)
+told-stays g caller (Stack p o) v fits turn none told = grind (arith, turn, fits.goes, told)
+told-stays g caller (Desc p o) v fits turn none told = grind (arith, turn, none, told)
+told-stays g caller (Partial p o) v fits turn none told = grind (arith, turn, none, fits.goes, told)
+told-stays g caller (Large p o) v fits turn none told = grind (arith, turn)
 
 -- how often a descriptor is on its way where a caller goes on, or retired there
 abbrev pub next_ways : ℕ → Next → ℕ
@@ -90,39 +90,39 @@ puts_out p = false
 
 -- at all other points of a turn a descriptor on its way stays so, or is retired
 block-ways :
-    (g : Geometry) (who : ℕ) (p : BlockPoint) (o : Onward) (x : Found) (d : ℕ) → FitsInBlock g who p o → puts_out (Block p o) ≡ false
+    (g : Geometry) (caller : ℕ) (p : BlockPoint) (o : Continuation) (x : Found) (d : ℕ) → FitsInBlock g caller p o → puts_out (Block p o) ≡ false
     → in_turn (Block p o) ≡ true → kept_among on_its_way d (holds_of (Block p o)).kept ≤ next_ways d (enter_block (settle_block_of p x) o)
 unfolding holds_of
-block-ways g who p o x d fits out turn = grind (arith, fits.inside, fits.goes, out, turn)
+block-ways g caller p o x d fits out turn = grind (arith, fits.inside, fits.goes, out, turn)
 
 stack-ways :
-    (g : Geometry) (who : ℕ) (p : StackPoint) (o : Onward) (x : Found) (d : ℕ) → FitsInStack g who p o → in_turn (Stack p o) ≡ true
+    (g : Geometry) (caller : ℕ) (p : StackPoint) (o : Continuation) (x : Found) (d : ℕ) → FitsInStack g caller p o → in_turn (Stack p o) ≡ true
     → kept_among on_its_way d (holds_of (Stack p o)).kept ≤ next_ways d (enter_stack (settle_stack_of p x) o)
 unfolding holds_of
-stack-ways g who p o x d fits turn = grind (arith, fits.inside, fits.goes, turn)
+stack-ways g caller p o x d fits turn = grind (arith, fits.inside, fits.goes, turn)
 
 desc-ways :
-    (g : Geometry) (who : ℕ) (p : DescPoint) (o : Onward) (x : Found) (d : ℕ) → FitsInDesc g who p o → in_turn (Desc p o) ≡ true
+    (g : Geometry) (caller : ℕ) (p : DescPoint) (o : Continuation) (x : Found) (d : ℕ) → FitsInDesc g caller p o → in_turn (Desc p o) ≡ true
     → kept_among on_its_way d (holds_of (Desc p o)).kept ≤ next_ways d (enter_desc (settle_desc_of p x) o)
 unfolding holds_of
-desc-ways g who p o x d fits turn = grind (arith, fits.inside, fits.goes, turn)
+desc-ways g caller p o x d fits turn = grind (arith, fits.inside, fits.goes, turn)
 
 partial-ways :
-    (g : Geometry) (who : ℕ) (p : PartialPoint) (o : Onward) (x : Found) (d : ℕ) → FitsInPartial g who p o → in_turn (Partial p o) ≡ true
+    (g : Geometry) (caller : ℕ) (p : PartialPoint) (o : Continuation) (x : Found) (d : ℕ) → FitsInPartial g caller p o → in_turn (Partial p o) ≡ true
     → kept_among on_its_way d (holds_of (Partial p o)).kept ≤ next_ways d (enter_partial (settle_partial_of p x) o)
 unfolding holds_of
-partial-ways g who p o x d fits turn = grind (arith, fits.inside, fits.goes, turn)
+partial-ways g caller p o x d fits turn = grind (arith, fits.inside, fits.goes, turn)
 
 pub point-ways :
-    (g : Geometry) (who : ℕ) (p : Point) (x : Found) (d : ℕ) → FitsPoint g who p → puts_out p ≡ false → in_turn p ≡ true
+    (g : Geometry) (caller : ℕ) (p : Point) (x : Found) (d : ℕ) → FitsPoint g caller p → puts_out p ≡ false → in_turn p ≡ true
     → kept_among on_its_way d (holds_of p).kept ≤ next_ways d (next_of p x)
 unfolding next_of
-point-ways g who Idle x d fits out turn = absurd (grind (arith, turn))
-point-ways g who (Block p o) x d fits out turn = block-ways g who p o x d fits out turn
-point-ways g who (Stack p o) x d fits out turn = stack-ways g who p o x d fits turn
-point-ways g who (Desc p o) x d fits out turn = desc-ways g who p o x d fits turn
-point-ways g who (Partial p o) x d fits out turn = partial-ways g who p o x d fits turn
-point-ways g who (Large p o) x d fits out turn = absurd (grind (arith, turn))
+point-ways g caller Idle x d fits out turn = absurd (grind (arith, turn))
+point-ways g caller (Block p o) x d fits out turn = block-ways g caller p o x d fits out turn
+point-ways g caller (Stack p o) x d fits out turn = stack-ways g caller p o x d fits turn
+point-ways g caller (Desc p o) x d fits out turn = desc-ways g caller p o x d fits turn
+point-ways g caller (Partial p o) x d fits out turn = partial-ways g caller p o x d fits turn
+point-ways g caller (Large p o) x d fits out turn = absurd (grind (arith, turn))
 
 -- only a won push takes a descriptor off a retired list
 abbrev pub pushes_desc : Point → Bool
@@ -130,15 +130,15 @@ pushes_desc (Desc (desc.PushDesc s d top) o) = true
 pushes_desc p = false
 
 pub none-unlisted :
-    (g : Geometry) (who : ℕ) (p : Point) (x : Found) (seat : SeatFields) (k : ℕ) (onward : Onward) → FitsPoint g who p → in_turn p ≡ true
-    → pushes_desc p ≡ false → next_of p x ≢ Unlist seat k onward
+    (g : Geometry) (caller : ℕ) (p : Point) (x : Found) (seat : SeatFields) (k : ℕ) (continuation : Continuation) → FitsPoint g caller p → in_turn p ≡ true
+    → pushes_desc p ≡ false → next_of p x ≢ Unlist seat k continuation
 unfolding next_of
-none-unlisted g who Idle x seat k onward fits turn other is = grind (arith, turn)
-none-unlisted g who (Block p o) x seat k onward fits turn other is = grind (arith, is)
-none-unlisted g who (Stack p o) x seat k onward fits turn other is = grind (arith, is)
-none-unlisted g who (Desc p o) x seat k onward fits turn other is = grind (arith, fits.inside, other, is)
-none-unlisted g who (Partial p o) x seat k onward fits turn other is = grind (arith, is)
-none-unlisted g who (Large p o) x seat k onward fits turn other is = grind (arith, turn)
+none-unlisted g caller Idle x seat k continuation fits turn other is = grind (arith, turn)
+none-unlisted g caller (Block p o) x seat k continuation fits turn other is = grind (arith, is)
+none-unlisted g caller (Stack p o) x seat k continuation fits turn other is = grind (arith, is)
+none-unlisted g caller (Desc p o) x seat k continuation fits turn other is = grind (arith, fits.inside, other, is)
+none-unlisted g caller (Partial p o) x seat k continuation fits turn other is = grind (arith, is)
+none-unlisted g caller (Large p o) x seat k continuation fits turn other is = grind (arith, turn)
 
 -- a point that writes no such word does neither
 pub quiet-points : (p : Point) → writes_told p ≡ false → (puts_out p ≡ false) × (pushes_desc p ≡ false)
@@ -149,9 +149,9 @@ abbrev pub next_turn : Next → Bool
 next_turn (At p) = in_turn p
 next_turn (End r) = false
 next_turn (Turn s need) = true
-next_turn (Retire s d o) = is_turn (onward_turn_stage o)
-next_turn (Pick s held o) = is_turn (onward_turn_stage o)
-next_turn (Unlist s d o) = is_turn (onward_turn_stage o)
+next_turn (Retire s d o) = is_turn (continuation_turn_stage o)
+next_turn (Pick s held o) = is_turn (continuation_turn_stage o)
+next_turn (Unlist s d o) = is_turn (continuation_turn_stage o)
 
 -- the class that a caller is at work on where it goes on
 abbrev pub next_class : Next → ℕ
@@ -164,57 +164,57 @@ next_class (Unlist s d o) = s.class
 
 -- which stays, while the turn does
 block-class :
-    (g : Geometry) (who : ℕ) (p : BlockPoint) (o : Onward) (x : Found) → FitsInBlock g who p o
+    (g : Geometry) (caller : ℕ) (p : BlockPoint) (o : Continuation) (x : Found) → FitsInBlock g caller p o
     → next_turn (enter_block (settle_block_of p x) o) ≡ true → next_class (enter_block (settle_block_of p x) o) ≡ (seat_of_block p).class
-block-class g who (block.LoadActive s) o x fits turn = grind (arith, fits, turn)
-block-class g who (block.TakeCredit s d credits) o x fits turn = grind (arith, fits, turn)
-block-class g who (block.LoadInfo s d share) o x fits turn = grind (arith, fits, turn)
-block-class g who (block.LoadAnchor at share) o x fits turn = grind (arith, fits, turn)
-block-class g who (block.LoadLink at share a) o x fits turn = grind (arith, fits, turn)
-block-class g who (block.PopBlock at share a prefix) o x fits turn = grind (arith, fits, turn)
-block-class g who (block.InstallSuperblock at) o x fits turn = grind (arith, fits, turn)
-block-class g who (block.LinkBlock at i) o x fits turn = grind (arith, fits, turn)
-block-class g who (block.StoreInfo at) o x fits turn = grind (arith, fits, turn)
-block-class g who (block.StoreAnchor at) o x fits turn = grind (arith, fits, turn)
-block-class g who p o x fits turn = grind (arith, fits, turn)
+block-class g caller (block.LoadActive s) o x fits turn = grind (arith, fits, turn)
+block-class g caller (block.TakeCredit s d credits) o x fits turn = grind (arith, fits, turn)
+block-class g caller (block.LoadInfo s d share) o x fits turn = grind (arith, fits, turn)
+block-class g caller (block.LoadAnchor at share) o x fits turn = grind (arith, fits, turn)
+block-class g caller (block.LoadLink at share a) o x fits turn = grind (arith, fits, turn)
+block-class g caller (block.PopBlock at share a prefix) o x fits turn = grind (arith, fits, turn)
+block-class g caller (block.InstallSuperblock at) o x fits turn = grind (arith, fits, turn)
+block-class g caller (block.LinkBlock at i) o x fits turn = grind (arith, fits, turn)
+block-class g caller (block.StoreInfo at) o x fits turn = grind (arith, fits, turn)
+block-class g caller (block.StoreAnchor at) o x fits turn = grind (arith, fits, turn)
+block-class g caller p o x fits turn = grind (arith, fits, turn)
 
 stack-class :
-    (g : Geometry) (who : ℕ) (p : StackPoint) (o : Onward) (x : Found) → FitsInStack g who p o
+    (g : Geometry) (caller : ℕ) (p : StackPoint) (o : Continuation) (x : Found) → FitsInStack g caller p o
     → next_turn (enter_stack (settle_stack_of p x) o) ≡ true → next_class (enter_stack (settle_stack_of p x) o) ≡ (seat_of_stack p).class
-stack-class g who p o x fits turn = grind (arith, fits.goes, turn)
+stack-class g caller p o x fits turn = grind (arith, fits.goes, turn)
 
 desc-class :
-    (g : Geometry) (who : ℕ) (p : DescPoint) (o : Onward) (x : Found) → FitsInDesc g who p o
+    (g : Geometry) (caller : ℕ) (p : DescPoint) (o : Continuation) (x : Found) → FitsInDesc g caller p o
     → next_turn (enter_desc (settle_desc_of p x) o) ≡ true → next_class (enter_desc (settle_desc_of p x) o) ≡ (seat_of_desc p).class
-desc-class g who p o x fits turn = grind (arith, fits.goes, turn)
+desc-class g caller p o x fits turn = grind (arith, fits.goes, turn)
 
 partial-class :
-    (g : Geometry) (who : ℕ) (p : PartialPoint) (o : Onward) (x : Found) → FitsInPartial g who p o
+    (g : Geometry) (caller : ℕ) (p : PartialPoint) (o : Continuation) (x : Found) → FitsInPartial g caller p o
     → next_turn (enter_partial (settle_partial_of p x) o) ≡ true → next_class (enter_partial (settle_partial_of p x) o) ≡ (seat_of_partial p).class
-partial-class g who (partial.LoadSlot s) o x fits turn = grind (arith, fits.goes, turn)
-partial-class g who (partial.TakeSlot s d) o x fits turn = grind (arith, fits.goes, turn)
-partial-class g who (partial.LoadTakenInfo s d) o x fits turn = grind (arith, fits.goes, turn)
-partial-class g who (partial.StoreOwner at) o x fits turn = grind (arith, fits.goes, turn)
-partial-class g who (partial.LoadGrantAnchor at) o x fits turn = grind (arith, fits.goes, turn)
-partial-class g who (partial.Grant at a) o x fits turn = grind (arith, fits.goes, turn)
-partial-class g who (partial.LoadOwner s d) o x fits turn = grind (arith, fits.goes, turn)
-partial-class g who (partial.PutSlot s d heap) o x fits turn = grind (arith, fits.goes, turn)
-partial-class g who (partial.LoadHeldSlot s d heap) o x fits turn = grind (arith, fits.goes, turn)
-partial-class g who (partial.RemoveFromSlot s d heap) o x fits turn = grind (arith, fits.goes, turn)
-partial-class g who (partial.LoadListedAnchor s d) o x fits turn = grind (arith, fits.goes, turn)
-partial-class g who p o x fits turn = grind (arith, fits.goes, turn)
+partial-class g caller (partial.LoadSlot s) o x fits turn = grind (arith, fits.goes, turn)
+partial-class g caller (partial.TakeSlot s d) o x fits turn = grind (arith, fits.goes, turn)
+partial-class g caller (partial.LoadTakenInfo s d) o x fits turn = grind (arith, fits.goes, turn)
+partial-class g caller (partial.StoreOwner at) o x fits turn = grind (arith, fits.goes, turn)
+partial-class g caller (partial.LoadGrantAnchor at) o x fits turn = grind (arith, fits.goes, turn)
+partial-class g caller (partial.Grant at a) o x fits turn = grind (arith, fits.goes, turn)
+partial-class g caller (partial.LoadOwner s d) o x fits turn = grind (arith, fits.goes, turn)
+partial-class g caller (partial.PutSlot s d heap) o x fits turn = grind (arith, fits.goes, turn)
+partial-class g caller (partial.LoadHeldSlot s d heap) o x fits turn = grind (arith, fits.goes, turn)
+partial-class g caller (partial.RemoveFromSlot s d heap) o x fits turn = grind (arith, fits.goes, turn)
+partial-class g caller (partial.LoadListedAnchor s d) o x fits turn = grind (arith, fits.goes, turn)
+partial-class g caller p o x fits turn = grind (arith, fits.goes, turn)
 
 large-class :
-    (p : LargePoint) (o : Onward) (x : Found) → next_turn (enter_large (settle_large_of p x) o) ≡ true
+    (p : LargePoint) (o : Continuation) (x : Found) → next_turn (enter_large (settle_large_of p x) o) ≡ true
     → next_class (enter_large (settle_large_of p x) o) ≡ 0
 large-class p o x turn = grind (arith, turn)
 
 pub point-class :
-    (g : Geometry) (who : ℕ) (p : Point) (x : Found) → FitsPoint g who p → next_turn (next_of p x) ≡ true → next_class (next_of p x) ≡ class_at p
+    (g : Geometry) (caller : ℕ) (p : Point) (x : Found) → FitsPoint g caller p → next_turn (next_of p x) ≡ true → next_class (next_of p x) ≡ class_at p
 unfolding next_of
-point-class g who Idle x fits turn = refl
-point-class g who (Block p o) x fits turn = block-class g who p o x fits turn
-point-class g who (Stack p o) x fits turn = stack-class g who p o x fits turn
-point-class g who (Desc p o) x fits turn = desc-class g who p o x fits turn
-point-class g who (Partial p o) x fits turn = partial-class g who p o x fits turn
-point-class g who (Large p o) x fits turn = large-class p o x turn
+point-class g caller Idle x fits turn = refl
+point-class g caller (Block p o) x fits turn = block-class g caller p o x fits turn
+point-class g caller (Stack p o) x fits turn = stack-class g caller p o x fits turn
+point-class g caller (Desc p o) x fits turn = desc-class g caller p o x fits turn
+point-class g caller (Partial p o) x fits turn = partial-class g caller p o x fits turn
+point-class g caller (Large p o) x fits turn = large-class p o x turn

@@ -7,16 +7,16 @@ use Rattle.errand_steps.specs.Steps.{with_event}
 use Rattle.sound_state.proofs.shared.EventFacts.{told-own}
 
 pub own-with_event :
-    (who : ℕ) (history : List Event) (event : Option Event) → ((e : Event) → event ≡ Some e → caller_of e ≡ who)
-    → own who (with_event history event) ≡ with_event (own who history) event
-own-with_event who history None is = refl
-own-with_event who history (Some e) is = own-append who history (e ∷ []) ∙ rw (eq-eqb (caller_of e) who (is e refl)) refl
+    (caller : ℕ) (history : List Event) (event : Option Event) → ((e : Event) → event ≡ Some e → caller_of e ≡ caller)
+    → own caller (with_event history event) ≡ with_event (own caller history) event
+own-with_event caller history None is = refl
+own-with_event caller history (Some e) is = own-append caller history (e ∷ []) ∙ rw (eq-eqb (caller_of e) caller (is e refl)) refl
 
 pub own-of_others :
-    (who other : ℕ) (history : List Event) (event : Option Event) → ((e : Event) → event ≡ Some e → caller_of e ≡ other) → other ≢ who
-    → own who (with_event history event) ≡ own who history
-own-of_others who other history None is apart = refl
-own-of_others who other history (Some e) is apart = told-own who history e (λ same. apart (sym (is e refl) ∙ same))
+    (caller other : ℕ) (history : List Event) (event : Option Event) → ((e : Event) → event ≡ Some e → caller_of e ≡ other) → other ≢ caller
+    → own caller (with_event history event) ≡ own caller history
+own-of_others caller other history None is apart = refl
+own-of_others caller other history (Some e) is apart = told-own caller history e (λ same. apart (sym (is e refl) ∙ same))
 
 -- an event behind what was added
 pub added-event :

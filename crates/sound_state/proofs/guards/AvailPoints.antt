@@ -21,7 +21,7 @@ use Rattle.partial_parts.specs.declared.point.PartialPoint.{PartialPoint}
 use Rattle.partial_parts.specs.Points.{plan_partial_of}
 use Rattle.large_parts.specs.declared.point.LargePoint.{LargePoint}
 use Rattle.large_parts.specs.Points.{plan_large_of}
-use Rattle.errand_steps.specs.declared.onward.Onward.{Onward}
+use Rattle.errand_steps.specs.declared.continuation.Continuation.{Continuation}
 use Rattle.errand_steps.specs.declared.point.Point.{Point}
 use Rattle.errand_steps.specs.declared.point.Point.TheVariants as point
 use Rattle.errand_steps.specs.Fits.{pushed_by}
@@ -61,7 +61,7 @@ abbrev pub NextGoes : ℕ → ℕ → Point → Type 0
 NextGoes e w p =
     (after_action (plan_point_of p) w ≡ w) ⊎ ((pushed_by p ≡ Some e) ⊎ (1 ≤ kept_among partly_used e (holds_of p).kept))
 
-next-stack : (e w : ℕ) (p : StackPoint) (o : Onward) → name_of (plan_stack_of p) ≡ name.Next e → NextGoes e w (point.Stack p o)
+next-stack : (e w : ℕ) (p : StackPoint) (o : Continuation) → name_of (plan_stack_of p) ≡ name.Next e → NextGoes e w (point.Stack p o)
 unfolding plan_point_of holds_of
 next-stack e w (stack.LoadTop s pile) o is = inl refl
 next-stack e w (stack.LoadBelow s pile h) o is = inl refl
@@ -76,7 +76,7 @@ next-stack e w (stack.PushTop s Frames i h) o is = absurd (cc)
 next-stack e w (stack.PushTop s Partials i h) o is = absurd (cc)
 next-stack e w p o is = inl refl
 
-next-desc : (e w : ℕ) (p : DescPoint) (o : Onward) → name_of (plan_desc_of p) ≡ name.Next e → NextGoes e w (point.Desc p o)
+next-desc : (e w : ℕ) (p : DescPoint) (o : Continuation) → name_of (plan_desc_of p) ≡ name.Next e → NextGoes e w (point.Desc p o)
 unfolding plan_point_of holds_of
 next-desc e w (desc.StoreNextDesc s d top) o is = inr (inl (ap Some (ap next_number is)))
 next-desc e w (desc.LoadNextDesc s d) o is = inl refl
@@ -96,8 +96,8 @@ pub record PopsAvailable (p : Point) (w v : ℕ) : Type 0 where
   pub seat : SeatFields
   pub d : ℕ
   pub next : ℕ
-  pub onward : Onward
-  pub at : p ≡ point.Desc (desc.PopDesc seat d next) onward
+  pub continuation : Continuation
+  pub at : p ≡ point.Desc (desc.PopDesc seat d next) continuation
   pub before : w ≡ d + 1
   pub after : v ≡ next
 
@@ -105,8 +105,8 @@ pub record PushesAvailable (p : Point) (w v : ℕ) : Type 0 where
   pub seat : SeatFields
   pub d : ℕ
   pub top : ℕ
-  pub onward : Onward
-  pub at : p ≡ point.Desc (desc.PushDesc seat d top) onward
+  pub continuation : Continuation
+  pub at : p ≡ point.Desc (desc.PushDesc seat d top) continuation
   pub before : w ≡ top
   pub after : v ≡ d + 1
 
@@ -126,19 +126,19 @@ head-stack : (p : StackPoint) → name_of (plan_stack_of p) ≡ name.DescHead �
 head-stack p is = grind (arith, head-other, next-other, is)
 
 head-desc :
-    (p : DescPoint) (o : Onward) (w : ℕ) → name_of (plan_desc_of p) ≡ name.DescHead → HeadGoes (point.Desc p o) w (after_action (plan_desc_of p) w)
+    (p : DescPoint) (o : Continuation) (w : ℕ) → name_of (plan_desc_of p) ≡ name.DescHead → HeadGoes (point.Desc p o) w (after_action (plan_desc_of p) w)
 head-desc (desc.PopDesc s d next) o w is =
     elim (cases_eq w (d + 1)) [
       | inl same ↦
           rw (eq-eqb w (d + 1) same)
-          (inr (inl (record { seat = s; d = d; next = next; onward = o; at = refl; before = same; after = refl })))
+          (inr (inl (record { seat = s; d = d; next = next; continuation = o; at = refl; before = same; after = refl })))
       | inr other ↦ rw (ne_eqb w (d + 1) other) (inl refl)
     ]
 head-desc (desc.PushDesc s d top) o w is =
     elim (cases_eq w top) [
       | inl same ↦
           rw (eq-eqb w top same)
-          (inr (inr (record { seat = s; d = d; top = top; onward = o; at = refl; before = same; after = refl })))
+          (inr (inr (record { seat = s; d = d; top = top; continuation = o; at = refl; before = same; after = refl })))
       | inr other ↦ rw (ne_eqb w top other) (inl refl)
     ]
 head-desc (desc.LoadDescHead s) o w is = inl refl

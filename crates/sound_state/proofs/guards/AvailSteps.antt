@@ -15,7 +15,7 @@ use Rattle.superblock_parts.proofs.ChainLemmas.{occurs-here, occurs-more}
 use Rattle.stack_parts.specs.Stacks.{Stacked, next_in}
 use Rattle.stack_parts.specs.declared.point.Pile.TheVariants.{Partials}
 use Rattle.hazard_parts.specs.declared.point.DescPoint.TheVariants as desc
-use Rattle.errand_steps.specs.declared.onward.Onward.{Onward}
+use Rattle.errand_steps.specs.declared.continuation.Continuation.{Continuation}
 use Rattle.errand_steps.specs.declared.point.Point.TheVariants as point
 use Rattle.errand_steps.specs.Fits.{pushed_by}
 use Rattle.errand_steps.specs.Points.{plan_point_of}
@@ -34,21 +34,21 @@ use Rattle.sound_state.proofs.shared.SumLemmas.{term-sum}
 
 -- what is available no caller has
 unavailable :
-    (g : Geometry) (s : State) (l : Lists) (who e : ℕ) → IsSoundWith g s l → who < g.callers → 0 < occurs e l.available
-    → errand_has e (s.errand who) ≡ 0
+    (g : Geometry) (s : State) (l : Lists) (caller e : ℕ) → IsSoundWith g s l → caller < g.callers → 0 < occurs e l.available
+    → errand_has e (s.errand caller) ≡ 0
 unfolding callers_sum
-unavailable g s l who e old has on =
+unavailable g s l caller e old has on =
     let exists : e < descriptor_count g = occurring-all (λ d. d < descriptor_count g) e l.available old.listed.available_exist on in
-    omega (arith, old.kept.once e exists, on, term-sum g.callers (λ i. errand_has e (s.errand i)) who has)
+    omega (arith, old.kept.once e exists, on, term-sum g.callers (λ i. errand_has e (s.errand i)) caller has)
 
 -- so a step leaves the next words of what is available
 nexts-stay :
-    (g : Geometry) (s : State) (l : Lists) (who : ℕ) (s' : State) → IsSoundWith g s l → who < g.callers → Step s who s' → (e : ℕ)
+    (g : Geometry) (s : State) (l : Lists) (caller : ℕ) (s' : State) → IsSoundWith g s l → caller < g.callers → Step s caller s' → (e : ℕ)
     → 0 < occurs e l.available → s'.word (name.Next e) ≡ s.word (name.Next e)
-nexts-stay g s l who s' old has step e on =
-    let p = (s.errand who).point in
-    let none = unavailable g s l who e old has on in
-    elim (cases_name (name.Next e) (name_at s who)) [
+nexts-stay g s l caller s' old has step e on =
+    let p = (s.errand caller).point in
+    let none = unavailable g s l caller e old has on in
+    elim (cases_name (name.Next e) (name_at s caller)) [
       | inr differ ↦ step.word.elsewhere (name.Next e) differ
       | inl is ↦
           let here : s'.word (name.Next e) ≡ after_action (plan_point_of p) (s.word (name.Next e)) =
@@ -58,9 +58,9 @@ nexts-stay g s l who s' old has step e on =
             | inr held ↦
                 elim held [
                   | inl pushes ↦
-                      let listed : Contains (s.errand who).retired e =
-                      subst (λ o. IfSome o (λ d. Contains (s.errand who).retired d)) pushes (old.errands who has).rule.pushed in
-                      let bad : ⊥ = omega (arith, none, contains-occurs (s.errand who).retired e listed) in absurd bad
+                      let listed : Contains (s.errand caller).retired e =
+                      subst (λ o. IfSome o (λ d. Contains (s.errand caller).retired d)) pushes (old.errands caller has).rule.pushed in
+                      let bad : ⊥ = omega (arith, none, contains-occurs (s.errand caller).retired e listed) in absurd bad
                   | inr keeps ↦ let bad : ⊥ = omega (arith, none, keeps) in absurd bad
                 ]
           ]
@@ -68,40 +68,40 @@ nexts-stay g s l who s' old has step e on =
 
 -- what a pop that is won leaves is what it noted
 pub noted-below :
-    (g : Geometry) (s : State) (who d next : ℕ) (seat : SeatFields) (o : Onward) → IsSoundWithoutCounts g s → who < g.callers
-    → (s.errand who).point ≡ point.Desc (desc.PopDesc seat d next) o → IsAvailable g s d → s.word (name.Next d) ≡ next
+    (g : Geometry) (s : State) (caller d next : ℕ) (seat : SeatFields) (o : Continuation) → IsSoundWithoutCounts g s → caller < g.callers
+    → (s.errand caller).point ≡ point.Desc (desc.PopDesc seat d next) o → IsAvailable g s d → s.word (name.Next d) ≡ next
 unfolding recalls_of
-noted-below g s who d next seat o sound has at there =
+noted-below g s caller d next seat o sound has at there =
     let l = sound.parts.0 in
     let old = sound.parts.1 in
-    let so = so-at g s l who (point.Desc (desc.PopDesc seat d next) o) old has at in
+    let so = so-at g s l caller (point.Desc (desc.PopDesc seat d next) o) old has at in
     let same : there.lists.available ≡ l.available =
     stacked-same _ _ there.lists.available l.available there.listed.available old.listed.available in
-    All-head (IsSo g s l who) (noted d next) (looked seat.class ∷ []) so (subst (λ xs. 0 < occurs d xs) same there.here)
+    All-head (IsSo g s l caller) (noted d next) (looked seat.class ∷ []) so (subst (λ xs. 0 < occurs d xs) same there.here)
 
 -- the next word of what is pushed says the top that was read
 pushed-below :
-    (g : Geometry) (s : State) (l : Lists) (who d top : ℕ) (seat : SeatFields) (o : Onward) → IsSoundWith g s l → who < g.callers
-    → (s.errand who).point ≡ point.Desc (desc.PushDesc seat d top) o → s.word (name.Next d) ≡ top
+    (g : Geometry) (s : State) (l : Lists) (caller d top : ℕ) (seat : SeatFields) (o : Continuation) → IsSoundWith g s l → caller < g.callers
+    → (s.errand caller).point ≡ point.Desc (desc.PushDesc seat d top) o → s.word (name.Next d) ≡ top
 unfolding recalls_of
-pushed-below g s l who d top seat o old has at =
-    let so = so-at g s l who (point.Desc (desc.PushDesc seat d top) o) old has at in
-    (All-head (IsSo g s l who) (says (name.Next d) top) (resumed_recalls seat o) so).1
+pushed-below g s l caller d top seat o old has at =
+    let so = so-at g s l caller (point.Desc (desc.PushDesc seat d top) o) old has at in
+    (All-head (IsSo g s l caller) (says (name.Next d) top) (resumed_recalls seat o) so).1
 
 -- after a pop the list is the rest of the one before it
 popped-gains :
-    (g : Geometry) (s : State) (l : Lists) (who d : ℕ) (words' : WordName → ℕ) (xs : List ℕ) → IsSoundWithoutCounts g s → IsSoundWith g s l
-    → who < g.callers → PopsAvailable (s.errand who).point (s.word name.DescHead) (words' name.DescHead)
+    (g : Geometry) (s : State) (l : Lists) (caller d : ℕ) (words' : WordName → ℕ) (xs : List ℕ) → IsSoundWithoutCounts g s → IsSoundWith g s l
+    → caller < g.callers → PopsAvailable (s.errand caller).point (s.word name.DescHead) (words' name.DescHead)
     → Stacked (next_in words' Partials) (s.word name.DescHead) xs → xs ≡ l.available → (ys : List ℕ)
     → Stacked (next_in words' Partials) (words' name.DescHead) ys → ((e : ℕ) → 0 < occurs e xs → words' (name.Next e) ≡ s.word (name.Next e))
     → 0 < occurs d ys → 0 < occurs d xs
-popped-gains g s l who d words' [] sound old has pop stack is ys after still on = absurd (omega (arith, stack, pop.before))
-popped-gains g s l who d words' (x ∷ xs) sound old has pop stack is ys after still on =
+popped-gains g s l caller d words' [] sound old has pop stack is ys after still on = absurd (omega (arith, stack, pop.before))
+popped-gains g s l caller d words' (x ∷ xs) sound old has pop stack is ys after still on =
     let first : pop.d ≡ x = omega (arith, stack.0, pop.before) in
     let here : 0 < occurs x (x ∷ xs) = omega (arith, occurs-here x xs) in
     let there : IsAvailable g s pop.d =
     record { lists = l; listed = old.listed; here = subst (λ zs. 0 < occurs pop.d zs) is (subst (λ e. 0 < occurs e (x ∷ xs)) (sym first) here) } in
-    let next : s.word (name.Next pop.d) ≡ pop.next = noted-below g s who pop.d pop.next pop.seat pop.onward sound has pop.at there in
+    let next : s.word (name.Next pop.d) ≡ pop.next = noted-below g s caller pop.d pop.next pop.seat pop.continuation sound has pop.at there in
     let top : words' name.DescHead ≡ words' (name.Next x) =
     pop.after ∙ sym next ∙ ap (λ e. s.word (name.Next e)) first ∙ sym (still x here) in
     let rest : Stacked (next_in words' Partials) (words' name.DescHead) xs =
@@ -111,13 +111,13 @@ popped-gains g s l who d words' (x ∷ xs) sound old has pop stack is ys after s
 
 -- any step
 pub available-stepped :
-    (g : Geometry) (s : State) (who d : ℕ) (s' : State) → IsSoundWithoutCounts g s → who < g.callers → Step s who s'
-    → pushed_by (s.errand who).point ≢ Some d → IsAvailable g s' d → IsAvailable g s d
-available-stepped g s who d s' sound has step free there =
+    (g : Geometry) (s : State) (caller d : ℕ) (s' : State) → IsSoundWithoutCounts g s → caller < g.callers → Step s caller s'
+    → pushed_by (s.errand caller).point ≢ Some d → IsAvailable g s' d → IsAvailable g s d
+available-stepped g s caller d s' sound has step free there =
     let l = sound.parts.0 in
     let old = sound.parts.1 in
-    let p = (s.errand who).point in
-    let still = nexts-stay g s l who s' old has step in
+    let p = (s.errand caller).point in
+    let still = nexts-stay g s l caller s' old has step in
     let stack : Stacked (next_in s'.word Partials) (s.word name.DescHead) l.available =
     stacked-agrees (next_in s.word Partials) (next_in s'.word Partials) (s.word name.DescHead) l.available still old.listed.available in
     let gives = λ (on : 0 < occurs d l.available). let a : IsAvailable g s d = record { lists = l; listed = old.listed; here = on } in a in
@@ -126,7 +126,7 @@ available-stepped g s who d s' sound has step free there =
     (subst (λ xs. 0 < occurs d xs)
     (stacked-same _ _ there.lists.available l.available there.listed.available
     (subst (λ w. Stacked (next_in s'.word Partials) w l.available) (sym same) stack)) there.here) in
-    elim (cases_name name.DescHead (name_at s who)) [
+    elim (cases_name name.DescHead (name_at s caller)) [
       | inr differ ↦ same_head (step.word.elsewhere name.DescHead differ)
       | inl is ↦
           let here : s'.word name.DescHead ≡ after_action (plan_point_of p) (s.word name.DescHead) =
@@ -137,14 +137,14 @@ available-stepped g s who d s' sound has step free there =
                 elim won [
                   | inl pop ↦
                       gives
-                      (popped-gains g s l who d s'.word l.available sound old has pop stack refl there.lists.available there.listed.available still
+                      (popped-gains g s l caller d s'.word l.available sound old has pop stack refl there.lists.available there.listed.available still
                       there.here)
                   | inr push ↦
                       let mine : pushed_by p ≡ Some push.d = ap pushed_by push.at in
                       let differ : push.d ≢ d = λ same. free (mine ∙ ap Some same) in
                       let below : s'.word (name.Next push.d) ≡ s.word name.DescHead =
                       step.word.elsewhere (name.Next push.d) (λ same. cc)
-                      ∙ pushed-below g s l who push.d push.top push.seat push.onward old has push.at ∙ sym push.before in
+                      ∙ pushed-below g s l caller push.d push.top push.seat push.continuation old has push.at ∙ sym push.before in
                       let all : Stacked (next_in s'.word Partials) (s'.word name.DescHead) (push.d ∷ l.available) =
                       (push.after, subst (λ w. Stacked (next_in s'.word Partials) w l.available) (sym below) stack) in
                       let same : there.lists.available ≡ push.d ∷ l.available =

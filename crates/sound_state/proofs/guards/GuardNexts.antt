@@ -29,7 +29,7 @@ use Rattle.partial_parts.specs.declared.point.PartialPoint.{PartialPoint}
 use Rattle.partial_parts.specs.Points.{settle_partial_of, plan_partial_of}
 use Rattle.large_parts.specs.declared.point.LargePoint.{LargePoint}
 use Rattle.large_parts.specs.Points.{settle_large_of, plan_large_of}
-use Rattle.errand_steps.specs.declared.onward.Onward.{Onward}
+use Rattle.errand_steps.specs.declared.continuation.Continuation.{Continuation}
 use Rattle.errand_steps.specs.declared.next.Next.{Next}
 use Rattle.errand_steps.specs.declared.next.Next.TheVariants.{At, End, Turn, Retire, Pick, Unlist}
 use Rattle.errand_steps.specs.declared.point.Point.{Point}
@@ -46,19 +46,19 @@ abbrev pub next_pushed : Next → Option ℕ
 next_pushed (At p) = pushed_by p
 next_pushed n = None
 
-pushed-block : (p : BlockPoint) (o : Onward) → next_pushed (enter_block p o) ≡ None
+pushed-block : (p : BlockPoint) (o : Continuation) → next_pushed (enter_block p o) ≡ None
 pushed-block p o = grind (arith)
 
-pushed-stack : (p : StackPoint) (o : Onward) → next_pushed (enter_stack p o) ≡ None
+pushed-stack : (p : StackPoint) (o : Continuation) → next_pushed (enter_stack p o) ≡ None
 pushed-stack p o = grind (arith)
 
-pushed-partial : (p : PartialPoint) (o : Onward) → next_pushed (enter_partial p o) ≡ None
+pushed-partial : (p : PartialPoint) (o : Continuation) → next_pushed (enter_partial p o) ≡ None
 pushed-partial p o = grind (arith)
 
-pushed-large : (p : LargePoint) (o : Onward) → next_pushed (enter_large p o) ≡ None
+pushed-large : (p : LargePoint) (o : Continuation) → next_pushed (enter_large p o) ≡ None
 pushed-large p o = grind (arith)
 
-pushed-desc : (p : DescPoint) (x : Found) (o : Onward) (d : ℕ) → next_pushed (enter_desc (settle_desc_of p x) o) ≡ Some d → pushed_by_desc p ≡ Some d
+pushed-desc : (p : DescPoint) (x : Found) (o : Continuation) (d : ℕ) → next_pushed (enter_desc (settle_desc_of p x) o) ≡ Some d → pushed_by_desc p ≡ Some d
 pushed-desc p x o d is = grind (arith, is)
 
 -- whatever is pushed then was pushed before
@@ -77,19 +77,19 @@ scans_on (At p) = nat_lt 0 (passed_by p)
 scans_on (Pick s held o) = true
 scans_on n = false
 
-reads-block : (p : BlockPoint) (o : Onward) → scans_on (enter_block p o) ≡ false
+reads-block : (p : BlockPoint) (o : Continuation) → scans_on (enter_block p o) ≡ false
 reads-block p o = grind (arith)
 
-reads-stack : (p : StackPoint) (o : Onward) → scans_on (enter_stack p o) ≡ false
+reads-stack : (p : StackPoint) (o : Continuation) → scans_on (enter_stack p o) ≡ false
 reads-stack p o = grind (arith)
 
-reads-partial : (p : PartialPoint) (o : Onward) → scans_on (enter_partial p o) ≡ false
+reads-partial : (p : PartialPoint) (o : Continuation) → scans_on (enter_partial p o) ≡ false
 reads-partial p o = grind (arith)
 
-reads-large : (p : LargePoint) (o : Onward) → scans_on (enter_large p o) ≡ false
+reads-large : (p : LargePoint) (o : Continuation) → scans_on (enter_large p o) ≡ false
 reads-large p o = grind (arith)
 
-reads-desc : (p : DescPoint) (x : Found) (o : Onward) → scans p ≡ false → scans_on (enter_desc (settle_desc_of p x) o) ≡ false
+reads-desc : (p : DescPoint) (x : Found) (o : Continuation) → scans p ≡ false → scans_on (enter_desc (settle_desc_of p x) o) ≡ false
 reads-desc p x o is = grind (arith, is)
 
 -- where the caller goes on, it has noted d + 1 as the hazard word of k, where it has passed that one; and where its scan is over
@@ -118,10 +118,10 @@ word-notes held i k d v room noted scans_on below =
 
 -- where a hazard word is read
 read-notes :
-    (g : Geometry) (who k d : ℕ) (s : SeatFields) (held : List ℕ) (i : ℕ) (o : Onward) (v : ℕ) → IsChecked g → k < g.callers
-    → FitsDesc g who (desc.ReadHazard s held i) → (k < i → slice_index held k ≡ d + 1) → (k ≡ i → v ≡ d + 1)
+    (g : Geometry) (caller k d : ℕ) (s : SeatFields) (held : List ℕ) (i : ℕ) (o : Continuation) (v : ℕ) → IsChecked g → k < g.callers
+    → FitsDesc g caller (desc.ReadHazard s held i) → (k < i → slice_index held k ≡ d + 1) → (k ≡ i → v ≡ d + 1)
     → NextNotes k d (enter_desc (after_hazard s held i v) o)
-read-notes g who k d s held i o v checked has fits noted scans_on =
+read-notes g caller k d s held i o v checked has fits noted scans_on =
     let room : i < length held = omega (arith, checked.callers.1, fits.0.words, fits.1) in
     let all = ap (λ (h : Geometry). h.callers) fits.0.seat.geometry in
     let notes = word-notes held i k d v room noted scans_on in
@@ -134,51 +134,51 @@ read-notes g who k d s held i o v checked has fits noted scans_on =
 
 -- at the descriptors or the hazard words
 desc-notes :
-    (g : Geometry) (who k d : ℕ) (p : DescPoint) (o : Onward) (x : Found) → IsChecked g → k < g.callers → FitsPoint g who (point.Desc p o)
+    (g : Geometry) (caller k d : ℕ) (p : DescPoint) (o : Continuation) (x : Found) → IsChecked g → k < g.callers → FitsPoint g caller (point.Desc p o)
     → (k < passed_by_desc p → slice_index (held_by_desc p) k ≡ d + 1) → (name_of (plan_desc_of p) ≡ name.Hazard k → x.value ≡ d + 1)
     → NextNotes k d (enter_desc (settle_desc_of p x) o)
-desc-notes g who k d (desc.ReadHazard s held i) o x checked has fits noted scans_on =
-    read-notes g who k d s held i o x.value checked has fits.point noted (λ same. scans_on (ap name.Hazard (sym same)))
-desc-notes g who k d (desc.Scanned s held) o x checked has fits noted scans_on = absurd (true≢false fits.inside)
-desc-notes g who k d p o x checked has fits noted scans_on =
+desc-notes g caller k d (desc.ReadHazard s held i) o x checked has fits noted scans_on =
+    read-notes g caller k d s held i o x.value checked has fits.point noted (λ same. scans_on (ap name.Hazard (sym same)))
+desc-notes g caller k d (desc.Scanned s held) o x checked has fits noted scans_on = absurd (true≢false fits.inside)
+desc-notes g caller k d p o x checked has fits noted scans_on =
     unread-notes k d (enter_desc (settle_desc_of p x) o) (reads-desc p x o refl)
 
 -- at each point: who has noted the word of k, or scans_on it now
 pub notes-next :
-    (g : Geometry) (who k d : ℕ) (p : Point) (x : Found) → IsChecked g → k < g.callers → FitsPoint g who p
+    (g : Geometry) (caller k d : ℕ) (p : Point) (x : Found) → IsChecked g → k < g.callers → FitsPoint g caller p
     → (k < passed_by p → slice_index (held_by p) k ≡ d + 1) → (name_of (plan_point_of p) ≡ name.Hazard k → x.value ≡ d + 1)
     → NextNotes k d (next_of p x)
 unfolding next_of plan_point_of
-notes-next g who k d point.Idle x checked has fits noted scans_on = noted
-notes-next g who k d (point.Block p o) x checked has fits noted scans_on = unread-notes k d _ (reads-block (settle_block_of p x) o)
-notes-next g who k d (point.Stack p o) x checked has fits noted scans_on = unread-notes k d _ (reads-stack (settle_stack_of p x) o)
-notes-next g who k d (point.Desc p o) x checked has fits noted scans_on = desc-notes g who k d p o x checked has fits noted scans_on
-notes-next g who k d (point.Partial p o) x checked has fits noted scans_on = unread-notes k d _ (reads-partial (settle_partial_of p x) o)
-notes-next g who k d (point.Large p o) x checked has fits noted scans_on = unread-notes k d _ (reads-large (settle_large_of p x) o)
+notes-next g caller k d point.Idle x checked has fits noted scans_on = noted
+notes-next g caller k d (point.Block p o) x checked has fits noted scans_on = unread-notes k d _ (reads-block (settle_block_of p x) o)
+notes-next g caller k d (point.Stack p o) x checked has fits noted scans_on = unread-notes k d _ (reads-stack (settle_stack_of p x) o)
+notes-next g caller k d (point.Desc p o) x checked has fits noted scans_on = desc-notes g caller k d p o x checked has fits noted scans_on
+notes-next g caller k d (point.Partial p o) x checked has fits noted scans_on = unread-notes k d _ (reads-partial (settle_partial_of p x) o)
+notes-next g caller k d (point.Large p o) x checked has fits noted scans_on = unread-notes k d _ (reads-large (settle_large_of p x) o)
 
 -- an action at a hazard word leaves it, or is the store of the caller whose word it is
 abbrev pub MayStore : ℕ → ℕ → Action → ℕ → Type 0
-MayStore who k a w = (after_action a w ≡ w) ⊎ ((who ≡ k) × (new : ℕ) × (a ≡ Store (name.Hazard k) new))
+MayStore caller k a w = (after_action a w ≡ w) ⊎ ((caller ≡ k) × (new : ℕ) × (a ≡ Store (name.Hazard k) new))
 
 -- a store to the hazard word of the seat's caller is one of those
 own-store :
-    (who k i new w : ℕ) → i ≡ who → name.Hazard i ≡ name.Hazard k → MayStore who k (Store (name.Hazard i) new) w
-own-store who k i new w own is =
+    (caller k i new w : ℕ) → i ≡ caller → name.Hazard i ≡ name.Hazard k → MayStore caller k (Store (name.Hazard i) new) w
+own-store caller k i new w own is =
     let same : i ≡ k = ap hazard_caller is in
     inr (sym own ∙ same, new, ap (λ j. Store (name.Hazard j) new) same)
 
 store-block :
-    (g : Geometry) (who k w : ℕ) (p : BlockPoint) → FitsBlock g who p → name_of (plan_block_of p) ≡ name.Hazard k → MayStore who k (plan_block_of p) w
-store-block g who k w (block.StoreGuard at i a) fits is = own-store who k at.seat.caller (at.desc + 1) w fits.block.site.seat.caller is
-store-block g who k w p fits is = absurd (cc)
+    (g : Geometry) (caller k w : ℕ) (p : BlockPoint) → FitsBlock g caller p → name_of (plan_block_of p) ≡ name.Hazard k → MayStore caller k (plan_block_of p) w
+store-block g caller k w (block.StoreGuard at i a) fits is = own-store caller k at.seat.caller (at.desc + 1) w fits.block.site.seat.number is
+store-block g caller k w p fits is = absurd (cc)
 
 store-desc :
-    (g : Geometry) (who k w : ℕ) (p : DescPoint) → FitsDesc g who p → name_of (plan_desc_of p) ≡ name.Hazard k → MayStore who k (plan_desc_of p) w
-store-desc g who k w (desc.StoreHazard s d) fits is = own-store who k s.caller (d + 1) w fits.seat.caller is
-store-desc g who k w (desc.ClearAfterPop s d) fits is = own-store who k s.caller 0 w fits.seat.caller is
-store-desc g who k w (desc.ClearHazard s) fits is = own-store who k s.caller 0 w fits.caller is
-store-desc g who k w (desc.ReadHazard s held i) fits is = inl refl
-store-desc g who k w p fits is = absurd (cc)
+    (g : Geometry) (caller k w : ℕ) (p : DescPoint) → FitsDesc g caller p → name_of (plan_desc_of p) ≡ name.Hazard k → MayStore caller k (plan_desc_of p) w
+store-desc g caller k w (desc.StoreHazard s d) fits is = own-store caller k s.caller (d + 1) w fits.seat.number is
+store-desc g caller k w (desc.ClearAfterPop s d) fits is = own-store caller k s.caller 0 w fits.seat.number is
+store-desc g caller k w (desc.ClearHazard s) fits is = own-store caller k s.caller 0 w fits.number is
+store-desc g caller k w (desc.ReadHazard s held i) fits is = inl refl
+store-desc g caller k w p fits is = absurd (cc)
 
 -- no other part acts on a hazard word
 head-not-hazard : (s : SeatFields) (pile : Pile) (k : ℕ) → head_name s pile ≡ name.Hazard k → ⊥
@@ -200,11 +200,11 @@ large-not-hazard p k is = grind (arith, is)
 
 -- at each point
 pub may-store :
-    (g : Geometry) (who k w : ℕ) (p : Point) → FitsPoint g who p → name_of (plan_point_of p) ≡ name.Hazard k → MayStore who k (plan_point_of p) w
+    (g : Geometry) (caller k w : ℕ) (p : Point) → FitsPoint g caller p → name_of (plan_point_of p) ≡ name.Hazard k → MayStore caller k (plan_point_of p) w
 unfolding plan_point_of
-may-store g who k w point.Idle fits is = absurd (cc)
-may-store g who k w (point.Block p o) fits is = store-block g who k w p fits.point is
-may-store g who k w (point.Stack p o) fits is = absurd (stack-not-hazard p k is)
-may-store g who k w (point.Desc p o) fits is = store-desc g who k w p fits.point is
-may-store g who k w (point.Partial p o) fits is = absurd (not-partial p k is)
-may-store g who k w (point.Large p o) fits is = absurd (large-not-hazard p k is)
+may-store g caller k w point.Idle fits is = absurd (cc)
+may-store g caller k w (point.Block p o) fits is = store-block g caller k w p fits.point is
+may-store g caller k w (point.Stack p o) fits is = absurd (stack-not-hazard p k is)
+may-store g caller k w (point.Desc p o) fits is = store-desc g caller k w p fits.point is
+may-store g caller k w (point.Partial p o) fits is = absurd (not-partial p k is)
+may-store g caller k w (point.Large p o) fits is = absurd (large-not-hazard p k is)

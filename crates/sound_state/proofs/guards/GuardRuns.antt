@@ -63,52 +63,52 @@ begun-fresh e (take shelf) idle = record { retired = refl; pushed = refl; passed
 
 -- a call that begins keeps what is guarded
 guarded-begun :
-    (g : Geometry) (s : State) (who d other : ℕ) (call : Call) (s' : State) → IsGuardedBy g s who d → Begins s other call s' → IsGuardedBy g s' who d
-guarded-begun g s who d other call s' guarded b =
+    (g : Geometry) (s : State) (caller d other : ℕ) (call : Call) (s' : State) → IsGuardedBy g s caller d → Begins s other call s' → IsGuardedBy g s' caller d
+guarded-begun g s caller d other call s' guarded b =
     let fresh = begun-fresh (s.errand other) call b.idle in
-    let after : IsGuardedBy g (with_errands s b.errands) who d = record {
+    let after : IsGuardedBy g (with_errands s b.errands) caller d = record {
       word = guarded.word;
       pushed =
           each-other g (λ i e. pushed_by e.point ≢ Some d) s.errand other (begun_by (s.errand other) call) b.errands b.moves
           (λ is. none-some d (sym fresh.pushed ∙ is)) (λ i has differ. guarded.pushed i has);
       passed =
-          each-other g (λ i e. HasNoted who d e) s.errand other (begun_by (s.errand other) call) b.errands b.moves
+          each-other g (λ i e. HasNoted caller d e) s.errand other (begun_by (s.errand other) call) b.errands b.moves
           (λ listed below. let bad : ⊥ = omega (arith, below, fresh.passed) in absurd bad) (λ i has differ. guarded.passed i has);
     } in
-    subst (λ t. IsGuardedBy g t who d) (sym b.after) after
+    subst (λ t. IsGuardedBy g t caller d) (sym b.after) after
 
 -- any such move does
 guarded-moved :
-    (g : Geometry) (s : State) (who d : ℕ) (move : Move) (s' : State) → IsSoundWithoutCounts g s → who < g.callers → LeavesHazard s who move
-    → IsGuardedBy g s who d → Moved g s move s' → IsGuardedBy g s' who d
-guarded-moved g s who d (begins other call) s' sound has leaves guarded moved = guarded-begun g s who d other call s' guarded moved.1
-guarded-moved g s who d (steps other) s' sound has leaves guarded moved =
-    guarded-stepped g s who d other s' sound has moved.0 leaves guarded moved.1
+    (g : Geometry) (s : State) (caller d : ℕ) (move : Move) (s' : State) → IsSoundWithoutCounts g s → caller < g.callers → LeavesHazard s caller move
+    → IsGuardedBy g s caller d → Moved g s move s' → IsGuardedBy g s' caller d
+guarded-moved g s caller d (begins other call) s' sound has leaves guarded moved = guarded-begun g s caller d other call s' guarded moved.1
+guarded-moved g s caller d (steps other) s' sound has leaves guarded moved =
+    guarded-stepped g s caller d other s' sound has moved.0 leaves guarded moved.1
 
 pub guarded-reached :
-    (g : Geometry) (who d : ℕ) (s : State) (moves : List Move) (s' : State) → IsSoundWithoutCounts g s → who < g.callers → IsGuardedBy g s who d
-    → ReachesUnstored g who s moves s' → IsGuardedBy g s' who d
-guarded-reached g who d s [] s' sound has guarded reached = subst (λ t. IsGuardedBy g t who d) (sym reached) guarded
-guarded-reached g who d s (move ∷ rest) s' sound has guarded (next, leaves, moved, reached) =
-    guarded-reached g who d next rest s' (move-sound g s move next sound moved) has
-    (guarded-moved g s who d move next sound has leaves guarded moved) reached
+    (g : Geometry) (caller d : ℕ) (s : State) (moves : List Move) (s' : State) → IsSoundWithoutCounts g s → caller < g.callers → IsGuardedBy g s caller d
+    → ReachesUnstored g caller s moves s' → IsGuardedBy g s' caller d
+guarded-reached g caller d s [] s' sound has guarded reached = subst (λ t. IsGuardedBy g t caller d) (sym reached) guarded
+guarded-reached g caller d s (move ∷ rest) s' sound has guarded (next, leaves, moved, reached) =
+    guarded-reached g caller d next rest s' (move-sound g s move next sound moved) has
+    (guarded-moved g s caller d move next sound has leaves guarded moved) reached
 
 -- what a caller guards is guarded so
-pub guards-give : (g : Geometry) (s : State) (who d : ℕ) → IsSoundWithoutCounts g s → who < g.callers → Guards s who d → IsGuardedBy g s who d
-guards-give g s who d sound has guards =
+pub guards-give : (g : Geometry) (s : State) (caller d : ℕ) → IsSoundWithoutCounts g s → caller < g.callers → Guards s caller d → IsGuardedBy g s caller d
+guards-give g s caller d sound has guards =
     let guarded = sound.parts.1.guarded in
     record {
       word = guards.word;
-      pushed = λ other has_other. guarded.pushed who other d has has_other guards;
-      passed = λ other has_other. guarded.passed who other d has has_other guards;
+      pushed = λ other has_other. guarded.pushed caller other d has has_other guards;
+      passed = λ other has_other. guarded.passed caller other d has has_other guards;
     }
 
 -- and goes on to be
 pub guards-reached :
-    (g : Geometry) (who d : ℕ) (s : State) (moves : List Move) (s' : State) → IsSoundWithoutCounts g s → who < g.callers → Guards s who d
-    → ReachesUnstored g who s moves s' → IsGuardedBy g s' who d
-guards-reached g who d s moves s' sound has guards reached =
-    guarded-reached g who d s moves s' sound has (guards-give g s who d sound has guards) reached
+    (g : Geometry) (caller d : ℕ) (s : State) (moves : List Move) (s' : State) → IsSoundWithoutCounts g s → caller < g.callers → Guards s caller d
+    → ReachesUnstored g caller s moves s' → IsGuardedBy g s' caller d
+guards-reached g caller d s moves s' sound has guards reached =
+    guarded-reached g caller d s moves s' sound has (guards-give g s caller d sound has guards) reached
 
 -- a move makes available no descriptor that nobody pushes
 available-moved :
@@ -122,10 +122,10 @@ available-moved g s d (steps other) s' sound unpushed moved there =
 
 -- so a guarded descriptor does not go back to the available ones
 pub unavailable-reached :
-    (g : Geometry) (who d : ℕ) (s : State) (moves : List Move) (s' : State) → IsSoundWithoutCounts g s → who < g.callers → IsGuardedBy g s who d
-    → ReachesUnstored g who s moves s' → IsAvailable g s' d → IsAvailable g s d
-unavailable-reached g who d s [] s' sound has guarded reached there = subst (λ t. IsAvailable g t d) reached there
-unavailable-reached g who d s (move ∷ rest) s' sound has guarded (next, leaves, moved, reached) there =
+    (g : Geometry) (caller d : ℕ) (s : State) (moves : List Move) (s' : State) → IsSoundWithoutCounts g s → caller < g.callers → IsGuardedBy g s caller d
+    → ReachesUnstored g caller s moves s' → IsAvailable g s' d → IsAvailable g s d
+unavailable-reached g caller d s [] s' sound has guarded reached there = subst (λ t. IsAvailable g t d) reached there
+unavailable-reached g caller d s (move ∷ rest) s' sound has guarded (next, leaves, moved, reached) there =
     available-moved g s d move next sound guarded.pushed moved
-    (unavailable-reached g who d next rest s' (move-sound g s move next sound moved) has
-    (guarded-moved g s who d move next sound has leaves guarded moved) reached there)
+    (unavailable-reached g caller d next rest s' (move-sound g s move next sound moved) has
+    (guarded-moved g s caller d move next sound has leaves guarded moved) reached there)

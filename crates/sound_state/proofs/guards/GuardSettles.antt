@@ -9,7 +9,7 @@ use Rattle.word_plan.specs.Seats.{SeatFields}
 use Rattle.hazard_parts.specs.declared.point.DescPoint.TheVariants as desc
 use Rattle.hazard_parts.specs.Retired.{first_unheld}
 use Rattle.hazard_parts.proofs.PickLemmas.{some-listed, some-free}
-use Rattle.errand_steps.specs.declared.onward.Onward.{Onward}
+use Rattle.errand_steps.specs.declared.continuation.Continuation.{Continuation}
 use Rattle.errand_steps.specs.declared.next.Next.{Next}
 use Rattle.errand_steps.specs.declared.next.Next.TheVariants.{At, End, Turn, Retire, Pick, Unlist}
 use Rattle.errand_steps.specs.declared.point.Point.{Point}
@@ -30,13 +30,13 @@ record IsBlank (p : Point) : Type 0 where
   pub passed : passed_by p ≡ 0
 
 -- so it is where a call goes on after a retirement, where a turn begins, and where a scan does
-resumed-blank : (e : ErrandFields) (s : SeatFields) (o : Onward) → IsBlank (point_after (after_turn e (resumed s o)))
+resumed-blank : (e : ErrandFields) (s : SeatFields) (o : Continuation) → IsBlank (point_after (after_turn e (resumed s o)))
 resumed-blank e s o = record { pushed = grind (arith); passed = grind (arith) }
 
 turned-blank : (e : ErrandFields) (s : SeatFields) (need : ℕ) → IsBlank (point_after (turned e s need))
 turned-blank e s need = record { pushed = grind (arith); passed = grind (arith) }
 
-retired-blank : (e : ErrandFields) (s : SeatFields) (d : ℕ) (o : Onward) → IsBlank (point_after (after_turn e (after_list e (Retire s d o))))
+retired-blank : (e : ErrandFields) (s : SeatFields) (d : ℕ) (o : Continuation) → IsBlank (point_after (after_turn e (after_list e (Retire s d o))))
 retired-blank e s d o =
     cond_both (is_full e) (At (point.Desc (desc.ReadHazard s no_words 0) o)) (resumed s o)
     (λ n. IsBlank (point_after (after_turn e n))) (λ full. record { pushed = refl; passed = refl }) (λ room. resumed-blank e s o)
@@ -58,7 +58,7 @@ module _ (k d : ℕ) (e : ErrandFields) (x : Found) where
   blank-notes ds p blank listed below = let bad : ⊥ = omega (arith, below, blank.passed) in absurd bad
 
   pick-notes :
-      (s : SeatFields) (o : Onward) (r : Option ℕ) → HasNoted k d e → NotedAt e.retired (point_after (after_turn e (picked e s o r)))
+      (s : SeatFields) (o : Continuation) (r : Option ℕ) → HasNoted k d e → NotedAt e.retired (point_after (after_turn e (picked e s o r)))
   pick-notes s o None noted = noted
   pick-notes s o (Some f) noted = λ listed below. let bad : ⊥ = omega (arith, below) in absurd bad
 
@@ -78,7 +78,7 @@ module _ (k d : ℕ) (e : ErrandFields) (x : Found) where
 
   -- and what it pushes
   pick-pushes :
-      (s : SeatFields) (held : List ℕ) (o : Onward) (r : Option ℕ) → first_unheld held e.retired ≡ r
+      (s : SeatFields) (held : List ℕ) (o : Continuation) (r : Option ℕ) → first_unheld held e.retired ≡ r
       → (Contains e.retired d → (k < length held) × (slice_index held k ≡ d + 1)) → pushed_by e.point ≢ Some d
       → pushed_by (point_after (after_turn e (picked e s o r))) ≢ Some d
   pick-pushes s held o None pick notes free = free

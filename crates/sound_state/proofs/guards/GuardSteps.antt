@@ -18,16 +18,16 @@ use Rattle.sound_state.proofs.shared.PointLemmas.{fits-now}
 
 -- the hazard word stays
 hazard-stays :
-    (g : Geometry) (s : State) (who other : ℕ) (s' : State) → IsSoundWithoutCounts g s → other < g.callers
-    → (other ≡ who → StoresHazard s who → ⊥) → Step s other s' → s'.word (name.Hazard who) ≡ s.word (name.Hazard who)
-hazard-stays g s who other s' sound has leaves step =
-    elim (cases_name (name.Hazard who) (name_at s other)) [
-      | inr differ ↦ step.word.elsewhere (name.Hazard who) differ
+    (g : Geometry) (s : State) (caller other : ℕ) (s' : State) → IsSoundWithoutCounts g s → other < g.callers
+    → (other ≡ caller → StoresHazard s caller → ⊥) → Step s other s' → s'.word (name.Hazard caller) ≡ s.word (name.Hazard caller)
+hazard-stays g s caller other s' sound has leaves step =
+    elim (cases_name (name.Hazard caller) (name_at s other)) [
+      | inr differ ↦ step.word.elsewhere (name.Hazard caller) differ
       | inl is ↦
           let p = (s.errand other).point in
-          let here : s'.word (name.Hazard who) ≡ after_action (plan_point_of p) (s.word (name.Hazard who)) =
+          let here : s'.word (name.Hazard caller) ≡ after_action (plan_point_of p) (s.word (name.Hazard caller)) =
           ap s'.word is ∙ step.word.here ∙ ap (λ n. after_action (plan_point_of p) (s.word n)) (sym is) in
-          elim (may-store g other who (s.word (name.Hazard who)) p (fits-now g s other p sound has refl) (sym is)) [
+          elim (may-store g other caller (s.word (name.Hazard caller)) p (fits-now g s other p sound has refl) (sym is)) [
             | inl same ↦ here ∙ same
             | inr stores ↦ absurd (leaves stores.0 (stores.1, ap (λ i. action_at s i) (sym stores.0) ∙ stores.2))
           ]
@@ -35,26 +35,26 @@ hazard-stays g s who other s' sound has leaves step =
 
 -- what the caller that makes the step has noted where it goes on
 step-notes :
-    (g : Geometry) (s : State) (who d other : ℕ) → IsSoundWithoutCounts g s → who < g.callers → other < g.callers → IsGuardedBy g s who d
-    → Contains (s.errand other).retired d → NextNotes who d (next_of (s.errand other).point (found_at s other))
-step-notes g s who d other sound has has_other guarded listed =
+    (g : Geometry) (s : State) (caller d other : ℕ) → IsSoundWithoutCounts g s → caller < g.callers → other < g.callers → IsGuardedBy g s caller d
+    → Contains (s.errand other).retired d → NextNotes caller d (next_of (s.errand other).point (found_at s other))
+step-notes g s caller d other sound has has_other guarded listed =
     let p = (s.errand other).point in
-    notes-next g other who d p (found_at s other) sound.checked has (fits-now g s other p sound has_other refl)
+    notes-next g other caller d p (found_at s other) sound.checked has (fits-now g s other p sound has_other refl)
     (guarded.passed other has_other listed) (λ is. ap s.word is ∙ guarded.word)
 
 pub guarded-stepped :
-    (g : Geometry) (s : State) (who d other : ℕ) (s' : State) → IsSoundWithoutCounts g s → who < g.callers → other < g.callers
-    → (other ≡ who → StoresHazard s who → ⊥) → IsGuardedBy g s who d → Step s other s' → IsGuardedBy g s' who d
-guarded-stepped g s who d other s' sound has has_other leaves guarded step =
+    (g : Geometry) (s : State) (caller d other : ℕ) (s' : State) → IsSoundWithoutCounts g s → caller < g.callers → other < g.callers
+    → (other ≡ caller → StoresHazard s caller → ⊥) → IsGuardedBy g s caller d → Step s other s' → IsGuardedBy g s' caller d
+guarded-stepped g s caller d other s' sound has has_other leaves guarded step =
     let e = s.errand other in
     let x = found_at s other in
-    let notes = step-notes g s who d other sound has has_other guarded in
+    let notes = step-notes g s caller d other sound has has_other guarded in
     record {
-      word = hazard-stays g s who other s' sound has_other leaves step ∙ guarded.word;
+      word = hazard-stays g s caller other s' sound has_other leaves step ∙ guarded.word;
       pushed =
           each-other g (λ i e. pushed_by e.point ≢ Some d) s.errand other _ s'.errand step.errand
-          (settled-pushes who d e x (guarded.pushed other has_other) notes) (λ i has_i differ. guarded.pushed i has_i);
+          (settled-pushes caller d e x (guarded.pushed other has_other) notes) (λ i has_i differ. guarded.pushed i has_i);
       passed =
-          each-other g (λ i e. HasNoted who d e) s.errand other _ s'.errand step.errand
-          (settled-notes who d e x (guarded.passed other has_other) notes) (λ i has_i differ. guarded.passed i has_i);
+          each-other g (λ i e. HasNoted caller d e) s.errand other _ s'.errand step.errand
+          (settled-notes caller d e x (guarded.passed other has_other) notes) (λ i has_i differ. guarded.passed i has_i);
     }

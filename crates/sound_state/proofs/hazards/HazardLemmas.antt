@@ -9,7 +9,7 @@ use Rattle.word_plan.specs.declared.name.WordName.TheVariants as name
 use Rattle.word_plan.specs.Actions.{name_of, after_action}
 use Rattle.word_plan.specs.Words.{Writes}
 use Rattle.errand_steps.specs.declared.next.Next.TheVariants.{At, End, Pick}
-use Rattle.errand_steps.specs.declared.onward.Onward.{Onward}
+use Rattle.errand_steps.specs.declared.continuation.Continuation.{Continuation}
 use Rattle.errand_steps.specs.declared.point.Point.{Point}
 use Rattle.errand_steps.specs.declared.point.Point.TheVariants.{Idle, Desc}
 use Rattle.errand_steps.specs.declared.reply.Reply.{Reply}
@@ -48,14 +48,14 @@ pub record HoldsBut (p q : Point) : Type 0 where
 
 -- it may stand there, where what it remembers is so
 but-stands :
-    (g : Geometry) (s : State) (l : Lists) (who : ℕ) (q : Point) → IsSoundWith g s l → who < g.callers → HoldsBut (s.errand who).point q
-    → All (IsSo g s l who) (recalls_of q) → PointStands g s l who (s.errand who).point q
-but-stands g s l who q old has h so = record {
-  kept = subst (λ ks. All (λ k. IsKeptAs s k.status k.desc k.class) ks) (sym h.kept) (old.kept.errand who has);
+    (g : Geometry) (s : State) (l : Lists) (caller : ℕ) (q : Point) → IsSoundWith g s l → caller < g.callers → HoldsBut (s.errand caller).point q
+    → All (IsSo g s l caller) (recalls_of q) → PointStands g s l caller (s.errand caller).point q
+but-stands g s l caller q old has h so = record {
+  kept = subst (λ ks. All (λ k. IsKeptAs s k.status k.desc k.class) ks) (sym h.kept) (old.kept.errand caller has);
   so = so;
   spare = h.spare;
-  hands = subst (λ bs. All (λ x. IsOwned s who x.place x.need) bs) (sym h.hands) (old.tied.hands who has);
-  frees = subst (λ bs. All (λ x. IsOwned s who x.place x.need) bs) (sym h.frees) (old.tied.frees who has);
+  hands = subst (λ bs. All (λ x. IsOwned s caller x.place x.need) bs) (sym h.hands) (old.tied.hands caller has);
+  frees = subst (λ bs. All (λ x. IsOwned s caller x.place x.need) bs) (sym h.frees) (old.tied.frees caller has);
   excepts = λ place x.
       elim x [
         | inl a ↦ inl (subst (λ bs. Any (λ b. b.place ≡ place) bs) (sym h.hands) a)
@@ -81,84 +81,84 @@ but-weighs n before after e x q h plain reserves keeps stock = record {
 }
 
 -- what the step to this point needs, where this is the hazard word after it
-pub record GoesHazard (g : Geometry) (s : State) (l : Lists) (who : ℕ) (p q : Point) (word : ℕ) : Type 0 where
-  pub event : event_of who p (found_from s p) ≡ None
+pub record GoesHazard (g : Geometry) (s : State) (l : Lists) (caller : ℕ) (p q : Point) (word : ℕ) : Type 0 where
+  pub event : event_of caller p (found_from s p) ≡ None
   pub cleared : counts_cleared p (found_from s p) ≡ false
   pub holds : HoldsBut p q
-  pub so : All (IsSo g s l who) (recalls_of q)
-  pub guards : MayGuard g s who q (s.errand who).retired word
+  pub so : All (IsSo g s l caller) (recalls_of q)
+  pub guards : MayGuard g s caller q (s.errand caller).retired word
 
 -- it leads there
 pub leads-at :
-    (s : State) (who : ℕ) (p q : Point) → (s.errand who).point ≡ p → next_of p (found_from s p) ≡ At q
-    → settle_of (s.errand who) (found_at s who) ≡ at_point (s.errand who) (found_at s who) q
-leads-at s who p q at next =
-    let is : next_of (s.errand who).point (found_from s (s.errand who).point) ≡ At q =
+    (s : State) (caller : ℕ) (p q : Point) → (s.errand caller).point ≡ p → next_of p (found_from s p) ≡ At q
+    → settle_of (s.errand caller) (found_at s caller) ≡ at_point (s.errand caller) (found_at s caller) q
+leads-at s caller p q at next =
+    let is : next_of (s.errand caller).point (found_from s (s.errand caller).point) ≡ At q =
     subst (λ r. next_of r (found_from s r) ≡ At q) (sym at) next in
-    settle-at (s.errand who) (found_at s who) q is
+    settle-at (s.errand caller) (found_at s caller) q is
 
 -- it ends the call
 pub ends-at :
-    (s : State) (who : ℕ) (p : Point) (r : Reply) → (s.errand who).point ≡ p → next_of p (found_from s p) ≡ End r
-    → settle_of (s.errand who) (found_at s who) ≡ at_point (s.errand who) (found_at s who) Idle
-ends-at s who p r at next =
-    let is : next_of (s.errand who).point (found_from s (s.errand who).point) ≡ End r =
+    (s : State) (caller : ℕ) (p : Point) (r : Reply) → (s.errand caller).point ≡ p → next_of p (found_from s p) ≡ End r
+    → settle_of (s.errand caller) (found_at s caller) ≡ at_point (s.errand caller) (found_at s caller) Idle
+ends-at s caller p r at next =
+    let is : next_of (s.errand caller).point (found_from s (s.errand caller).point) ≡ End r =
     subst (λ q. next_of q (found_from s q) ≡ End r) (sym at) next in
-    settle-end (s.errand who) (found_at s who) r is
+    settle-end (s.errand caller) (found_at s caller) r is
 
 -- where a scan ends: at the push of what it picked; where it picked nothing the point stays
-abbrev pub picked_point : Point → SeatFields → Onward → Option ℕ → Point
+abbrev pub picked_point : Point → SeatFields → Continuation → Option ℕ → Point
 picked_point p seat o None = p
 picked_point p seat o (Some d) = Desc (desc.LoadHeadToPush seat d) o
 
 settle-picked :
-    (e : ErrandFields) (x : Found) (seat : SeatFields) (held : List ℕ) (o : Onward) (r : Option ℕ) → next_of e.point x ≡ Pick seat held o
+    (e : ErrandFields) (x : Found) (seat : SeatFields) (held : List ℕ) (o : Continuation) (r : Option ℕ) → next_of e.point x ≡ Pick seat held o
     → first_unheld held e.retired ≡ r → settle_of e x ≡ at_point e x (picked_point e.point seat o r)
 unfolding settle_of course_of
 settle-picked e x seat held o None is pick = rw (is, pick) refl
 settle-picked e x seat held o (Some d) is pick = rw (is, pick) refl
 
 pub picks-at :
-    (s : State) (who : ℕ) (p : Point) (seat : SeatFields) (held : List ℕ) (o : Onward) (r : Option ℕ) → (s.errand who).point ≡ p
-    → next_of p (found_from s p) ≡ Pick seat held o → first_unheld held (s.errand who).retired ≡ r
-    → settle_of (s.errand who) (found_at s who) ≡ at_point (s.errand who) (found_at s who) (picked_point p seat o r)
-picks-at s who p seat held o r at next pick =
-    let is : next_of (s.errand who).point (found_from s (s.errand who).point) ≡ Pick seat held o =
+    (s : State) (caller : ℕ) (p : Point) (seat : SeatFields) (held : List ℕ) (o : Continuation) (r : Option ℕ) → (s.errand caller).point ≡ p
+    → next_of p (found_from s p) ≡ Pick seat held o → first_unheld held (s.errand caller).retired ≡ r
+    → settle_of (s.errand caller) (found_at s caller) ≡ at_point (s.errand caller) (found_at s caller) (picked_point p seat o r)
+picks-at s caller p seat held o r at next pick =
+    let is : next_of (s.errand caller).point (found_from s (s.errand caller).point) ≡ Pick seat held o =
     subst (λ q. next_of q (found_from s q) ≡ Pick seat held o) (sym at) next in
-    subst (λ q. settle_of (s.errand who) (found_at s who) ≡ at_point (s.errand who) (found_at s who) (picked_point q seat o r)) at
-    (settle-picked (s.errand who) (found_at s who) seat held o r is pick)
+    subst (λ q. settle_of (s.errand caller) (found_at s caller) ≡ at_point (s.errand caller) (found_at s caller) (picked_point q seat o r)) at
+    (settle-picked (s.errand caller) (found_at s caller) seat held o r is pick)
 
 -- a step that reads a word
 pub read-hazard :
-    (g : Geometry) (s : State) (who : ℕ) (s' : State) (p q : Point) → IsSoundWithoutCounts g s → who < g.callers → (s.errand who).point ≡ p
-    → settle_of (s.errand who) (found_at s who) ≡ at_point (s.errand who) (found_at s who) q
+    (g : Geometry) (s : State) (caller : ℕ) (s' : State) (p q : Point) → IsSoundWithoutCounts g s → caller < g.callers → (s.errand caller).point ≡ p
+    → settle_of (s.errand caller) (found_at s caller) ≡ at_point (s.errand caller) (found_at s caller) q
     → after_action (plan_point_of p) (s.word (name_of (plan_point_of p))) ≡ s.word (name_of (plan_point_of p))
-    → ((l : Lists) → IsSoundWith g s l → GoesHazard g s l who p q (s.word (name.Hazard who))) → Step s who s' → IsSoundWithoutCounts g s'
-read-hazard g s who s' p q sound has at after word goes step =
-    let n = name_of (plan_point_of (s.errand who).point) in
-    let same : after_action (plan_point_of (s.errand who).point) (s.word n) ≡ s.word n =
+    → ((l : Lists) → IsSoundWith g s l → GoesHazard g s l caller p q (s.word (name.Hazard caller))) → Step s caller s' → IsSoundWithoutCounts g s'
+read-hazard g s caller s' p q sound has at after word goes step =
+    let n = name_of (plan_point_of (s.errand caller).point) in
+    let same : after_action (plan_point_of (s.errand caller).point) (s.word n) ≡ s.word n =
     subst (λ r. after_action (plan_point_of r) (s.word (name_of (plan_point_of r))) ≡ s.word (name_of (plan_point_of r))) (sym at) word in
-    let went = λ (l : Lists) (old : IsSoundWith g s l). subst (λ r. GoesHazard g s l who r q (s.word (name.Hazard who))) (sym at) (goes l old) in
+    let went = λ (l : Lists) (old : IsSoundWith g s l). subst (λ r. GoesHazard g s l caller r q (s.word (name.Hazard caller))) (sym at) (goes l old) in
     let stay = words-stay s.word n _ s'.word step.word same in
-    step-most g s who s' q sound has
+    step-most g s caller s' q sound has
     (λ l old.
-    let to : GoesHazard g s l who (s.errand who).point q (s.word (name.Hazard who)) = went l old in
+    let to : GoesHazard g s l caller (s.errand caller).point q (s.word (name.Hazard caller)) = went l old in
     record {
       after = after;
       event = to.event;
       cleared = to.cleared;
-      stands = but-stands g s l who q old has to.holds to.so;
+      stands = but-stands g s l caller q old has to.holds to.so;
       weigh =
-          but-weighs n (s.word n) _ (s.errand who) (found_at s who) q to.holds (λ plain. same) (λ d. ap (word_reserves d n) same)
+          but-weighs n (s.word n) _ (s.errand caller) (found_at s caller) q to.holds (λ plain. same) (λ d. ap (word_reserves d n) same)
           (λ d. ap (word_keeps d n) same) (λ class. ap (word_stock class n) same);
       below = subst (λ v. v < 2 ^ 64) (sym same) (old.words n);
     })
     (λ l old. actives-stay g s l s'.word old.kept stay)
     (λ l old.
-    let to : GoesHazard g s l who (s.errand who).point q (s.word (name.Hazard who)) = went l old in
+    let to : GoesHazard g s l caller (s.errand caller).point q (s.word (name.Hazard caller)) = went l old in
     record {
       others = λ i differ. stay (name.Hazard i);
-      guards = subst (MayGuard g s who q (s.errand who).retired) (sym (stay (name.Hazard who))) to.guards;
+      guards = subst (MayGuard g s caller q (s.errand caller).retired) (sym (stay (name.Hazard caller))) to.guards;
     })
     step
 
@@ -186,44 +186,44 @@ hazard-weighs n i before after e x q is h =
 
 -- a step that stores its caller's hazard word
 pub store-hazard :
-    (g : Geometry) (s : State) (who : ℕ) (s' : State) (p q : Point) (new : ℕ) → IsSoundWithoutCounts g s → who < g.callers → (s.errand who).point ≡ p
-    → settle_of (s.errand who) (found_at s who) ≡ at_point (s.errand who) (found_at s who) q
-    → name_of (plan_point_of p) ≡ name.Hazard who → after_action (plan_point_of p) (s.word (name_of (plan_point_of p))) ≡ new
-    → new < 2 ^ 64 → ((l : Lists) → IsSoundWith g s l → GoesHazard g s l who p q new) → Step s who s' → IsSoundWithoutCounts g s'
-store-hazard g s who s' p q new sound has at after is stores below goes step =
-    let n = name_of (plan_point_of (s.errand who).point) in
-    let v = after_action (plan_point_of (s.errand who).point) (s.word n) in
-    let named : n ≡ name.Hazard who = subst (λ r. name_of (plan_point_of r) ≡ name.Hazard who) (sym at) is in
+    (g : Geometry) (s : State) (caller : ℕ) (s' : State) (p q : Point) (new : ℕ) → IsSoundWithoutCounts g s → caller < g.callers → (s.errand caller).point ≡ p
+    → settle_of (s.errand caller) (found_at s caller) ≡ at_point (s.errand caller) (found_at s caller) q
+    → name_of (plan_point_of p) ≡ name.Hazard caller → after_action (plan_point_of p) (s.word (name_of (plan_point_of p))) ≡ new
+    → new < 2 ^ 64 → ((l : Lists) → IsSoundWith g s l → GoesHazard g s l caller p q new) → Step s caller s' → IsSoundWithoutCounts g s'
+store-hazard g s caller s' p q new sound has at after is stores below goes step =
+    let n = name_of (plan_point_of (s.errand caller).point) in
+    let v = after_action (plan_point_of (s.errand caller).point) (s.word n) in
+    let named : n ≡ name.Hazard caller = subst (λ r. name_of (plan_point_of r) ≡ name.Hazard caller) (sym at) is in
     let stored : v ≡ new = subst (λ r. after_action (plan_point_of r) (s.word (name_of (plan_point_of r))) ≡ new) (sym at) stores in
     let w : Writes s.word n v s'.word = step.word in
-    let writes : Writes s.word (name.Hazard who) v s'.word = subst (λ m. Writes s.word m v s'.word) named w in
-    let went = λ (l : Lists) (old : IsSoundWith g s l). subst (λ r. GoesHazard g s l who r q new) (sym at) (goes l old) in
-    step-most g s who s' q sound has
+    let writes : Writes s.word (name.Hazard caller) v s'.word = subst (λ m. Writes s.word m v s'.word) named w in
+    let went = λ (l : Lists) (old : IsSoundWith g s l). subst (λ r. GoesHazard g s l caller r q new) (sym at) (goes l old) in
+    step-most g s caller s' q sound has
     (λ l old.
-    let to : GoesHazard g s l who (s.errand who).point q new = went l old in
+    let to : GoesHazard g s l caller (s.errand caller).point q new = went l old in
     record {
       after = after;
       event = to.event;
       cleared = to.cleared;
-      stands = but-stands g s l who q old has to.holds to.so;
-      weigh = hazard-weighs n who (s.word n) v (s.errand who) (found_at s who) q named to.holds;
+      stands = but-stands g s l caller q old has to.holds to.so;
+      weigh = hazard-weighs n caller (s.word n) v (s.errand caller) (found_at s caller) q named to.holds;
       below = subst (λ v. v < 2 ^ 64) (sym stored) below;
     })
-    (λ l old. hazard-actives g s l who v s'.word old writes)
+    (λ l old. hazard-actives g s l caller v s'.word old writes)
     (λ l old.
-    let to : GoesHazard g s l who (s.errand who).point q new = went l old in
+    let to : GoesHazard g s l caller (s.errand caller).point q new = went l old in
     record {
       others = λ i differ. writes.elsewhere (name.Hazard i) (λ same. differ (ap hazard_caller same));
-      guards = subst (MayGuard g s who q (s.errand who).retired) (sym (writes.here ∙ stored)) to.guards;
+      guards = subst (MayGuard g s caller q (s.errand caller).retired) (sym (writes.here ∙ stored)) to.guards;
     })
     step
 
 -- at a point at which nothing is pushed and nothing scanned
 pub plain-guards :
-    (g : Geometry) (s : State) (who : ℕ) (q : Point) (retired : List ℕ) (word : ℕ) → IsHazard (holds_of q).hazard word
-    → ((d : ℕ) → word ≡ d + 1 → IsGuard (holds_of q).hazard → Guards s who d ⊎ GuardsAnew g s q d) → pushed_by q ≡ None
-    → passed_by q ≡ 0 → length (held_by q) ≡ 0 → MayGuard g s who q retired word
-plain-guards g s who q retired word hazard guard pushed passed unread = record {
+    (g : Geometry) (s : State) (caller : ℕ) (q : Point) (retired : List ℕ) (word : ℕ) → IsHazard (holds_of q).hazard word
+    → ((d : ℕ) → word ≡ d + 1 → IsGuard (holds_of q).hazard → Guards s caller d ⊎ GuardsAnew g s q d) → pushed_by q ≡ None
+    → passed_by q ≡ 0 → length (held_by q) ≡ 0 → MayGuard g s caller q retired word
+plain-guards g s caller q retired word hazard guard pushed passed unread = record {
   hazard = hazard;
   guard = guard;
   pushed = λ i d has guards is. absurd (none-some d (sym pushed ∙ is));

@@ -22,8 +22,8 @@ use Rattle.stack_parts.specs.Stacks.{Stacked, next_in}
 use Rattle.stack_parts.specs.declared.point.Pile.TheVariants.{Frames, Partials}
 use Rattle.stack_parts.specs.declared.point.StackPoint.TheVariants as stack
 use Rattle.hazard_parts.specs.declared.point.DescPoint.TheVariants as desc
-use Rattle.errand_steps.specs.declared.onward.Onward.{Onward}
-use Rattle.errand_steps.specs.declared.onward.Onward.TheVariants as onward
+use Rattle.errand_steps.specs.declared.continuation.Continuation.{Continuation}
+use Rattle.errand_steps.specs.declared.continuation.Continuation.TheVariants as continuation
 use Rattle.errand_steps.specs.declared.point.Point.{Point}
 use Rattle.errand_steps.specs.declared.point.Point.TheVariants.{Idle, Block, Stack, Desc}
 use Rattle.errand_steps.specs.Events.{event_of}
@@ -47,21 +47,21 @@ use Rattle.sound_state.proofs.shared.WordFacts.{name-below}
 
 -- the store of the name of a descriptor that was on top of the available ones
 pub store_hazard-sound :
-    (g : Geometry) (s : State) (who : ℕ) (s' : State) (seat : SeatFields) (d : ℕ) (o : Onward) → IsSoundWithoutCounts g s → who < g.callers
-    → (s.errand who).point ≡ Desc (desc.StoreHazard seat d) o → Step s who s' → IsSoundWithoutCounts g s'
+    (g : Geometry) (s : State) (caller : ℕ) (s' : State) (seat : SeatFields) (d : ℕ) (o : Continuation) → IsSoundWithoutCounts g s → caller < g.callers
+    → (s.errand caller).point ≡ Desc (desc.StoreHazard seat d) o → Step s caller s' → IsSoundWithoutCounts g s'
 unfolding plan_point_of next_of event_of holds_of recalls_of
-store_hazard-sound g s who s' seat d o sound has at step =
+store_hazard-sound g s caller s' seat d o sound has at step =
     let p = Desc (desc.StoreHazard seat d) o in
     let q = Desc (desc.ReloadDescHead seat d) o in
-    let fits = (fits-at g s sound.parts.0 who p sound.parts.1 has at).point in
-    store-hazard g s who s' p q (d + 1) sound has at (leads-at s who p q at refl) (ap name.Hazard fits.seat.caller) refl
+    let fits = (fits-at g s sound.parts.0 caller p sound.parts.1 has at).point in
+    store-hazard g s caller s' p q (d + 1) sound has at (leads-at s caller p q at refl) (ap name.Hazard fits.seat.number) refl
     (name-below g d sound.checked fits.desc)
     (λ l old. record {
       event = refl;
       cleared = refl;
       holds = grind (arith);
-      so = so-at g s l who p old has at;
-      guards = plain-guards g s who q (s.errand who).retired (d + 1) refl (λ e is guard. absurd guard) refl refl refl;
+      so = so-at g s l caller p old has at;
+      guards = plain-guards g s caller q (s.errand caller).retired (d + 1) refl (λ e is guard. absurd guard) refl refl refl;
     })
     step
 
@@ -73,26 +73,26 @@ top-occurs next d (x ∷ xs) stack =
     omega (arith, cond-true {A = ℕ} (x == d) 1 0 (eq-eqb x d here))
 
 pub reload_desc_head_same-sound :
-    (g : Geometry) (s : State) (who : ℕ) (s' : State) (seat : SeatFields) (d : ℕ) (o : Onward) → IsSoundWithoutCounts g s → who < g.callers
-    → (s.errand who).point ≡ Desc (desc.ReloadDescHead seat d) o → s.word name.DescHead ≡ d + 1 → Step s who s' → IsSoundWithoutCounts g s'
+    (g : Geometry) (s : State) (caller : ℕ) (s' : State) (seat : SeatFields) (d : ℕ) (o : Continuation) → IsSoundWithoutCounts g s → caller < g.callers
+    → (s.errand caller).point ≡ Desc (desc.ReloadDescHead seat d) o → s.word name.DescHead ≡ d + 1 → Step s caller s' → IsSoundWithoutCounts g s'
 unfolding plan_point_of next_of event_of holds_of recalls_of
-reload_desc_head_same-sound g s who s' seat d o sound has at same step =
+reload_desc_head_same-sound g s caller s' seat d o sound has at same step =
     let yes_same = eq-eqb (s.word name.DescHead) (d + 1) same in
     let p = Desc (desc.ReloadDescHead seat d) o in
     let q = Desc (desc.LoadNextDesc seat d) o in
-    read-hazard g s who s' p q sound has at (leads-at s who p q at (rw yes_same refl)) refl
+    read-hazard g s caller s' p q sound has at (leads-at s caller p q at (rw yes_same refl)) refl
     (λ l old.
-    let named : s.word (name.Hazard who) ≡ d + 1 = hazard-at g s l who p old has at in
-    let fits = (fits-at g s l who p old has at).point in
+    let named : s.word (name.Hazard caller) ≡ d + 1 = hazard-at g s l caller p old has at in
+    let fits = (fits-at g s l caller p old has at).point in
     let on : 1 ≤ occurs d l.available = top-occurs (next_in s.word Partials) d l.available (subst (λ w. Stacked (next_in s.word Partials) w l.available) same old.listed.available) in
     let free = available-unretired g s l d old fits.desc on in
     record {
       event = refl;
       cleared = refl;
       holds = grind (arith);
-      so = so-at g s l who p old has at;
+      so = so-at g s l caller p old has at;
       guards =
-          plain-guards g s who q (s.errand who).retired (s.word (name.Hazard who)) named
+          plain-guards g s caller q (s.errand caller).retired (s.word (name.Hazard caller)) named
           (λ e is guard.
           let one : d ≡ e = omega (arith, named, is) in
           inr (subst (GuardsAnew g s q) one (record { unretired = free; pushed = λ bad. cc; passed = refl }))) refl refl refl;
@@ -101,87 +101,87 @@ reload_desc_head_same-sound g s who s' seat d o sound has at same step =
 
 -- the load of the head again
 pub reload_desc_head-sound :
-    (g : Geometry) (s : State) (who : ℕ) (s' : State) (seat : SeatFields) (d : ℕ) (o : Onward) → IsSoundWithoutCounts g s → who < g.callers
-    → (s.errand who).point ≡ Desc (desc.ReloadDescHead seat d) o → Step s who s' → IsSoundWithoutCounts g s'
-reload_desc_head-sound g s who s' seat d o sound has at step =
+    (g : Geometry) (s : State) (caller : ℕ) (s' : State) (seat : SeatFields) (d : ℕ) (o : Continuation) → IsSoundWithoutCounts g s → caller < g.callers
+    → (s.errand caller).point ≡ Desc (desc.ReloadDescHead seat d) o → Step s caller s' → IsSoundWithoutCounts g s'
+reload_desc_head-sound g s caller s' seat d o sound has at step =
     elim (cases_eq (s.word name.DescHead) (d + 1)) [
-      | inl same ↦ reload_desc_head_same-sound g s who s' seat d o sound has at same step
-      | inr other ↦ reload_desc_head_other-sound g s who s' seat d o sound has at other step
+      | inl same ↦ reload_desc_head_same-sound g s caller s' seat d o sound has at same step
+      | inr other ↦ reload_desc_head_other-sound g s caller s' seat d o sound has at other step
     ]
 
 -- the descriptor is popped: the hazard word is cleared
 pub clear_after_pop-sound :
-    (g : Geometry) (s : State) (who : ℕ) (s' : State) (seat : SeatFields) (d : ℕ) (o : Onward) → IsSoundWithoutCounts g s → who < g.callers
-    → (s.errand who).point ≡ Desc (desc.ClearAfterPop seat d) o → Step s who s' → IsSoundWithoutCounts g s'
+    (g : Geometry) (s : State) (caller : ℕ) (s' : State) (seat : SeatFields) (d : ℕ) (o : Continuation) → IsSoundWithoutCounts g s → caller < g.callers
+    → (s.errand caller).point ≡ Desc (desc.ClearAfterPop seat d) o → Step s caller s' → IsSoundWithoutCounts g s'
 unfolding plan_point_of next_of event_of holds_of recalls_of
-clear_after_pop-sound g s who s' seat d (onward.Alloc words) sound has at step =
-    let p = Desc (desc.ClearAfterPop seat d) (onward.Alloc words) in
-    let q = Stack (stack.LoadTop seat Frames) (onward.TakeFrame words d) in
-    let fits = (fits-at g s sound.parts.0 who p sound.parts.1 has at).point in
-    store-hazard g s who s' p q 0 sound has at (leads-at s who p q at refl) (ap name.Hazard fits.seat.caller) refl (omega arith)
+clear_after_pop-sound g s caller s' seat d (continuation.Alloc words) sound has at step =
+    let p = Desc (desc.ClearAfterPop seat d) (continuation.Alloc words) in
+    let q = Stack (stack.LoadTop seat Frames) (continuation.TakeFrame words d) in
+    let fits = (fits-at g s sound.parts.0 caller p sound.parts.1 has at).point in
+    store-hazard g s caller s' p q 0 sound has at (leads-at s caller p q at refl) (ap name.Hazard fits.seat.number) refl (omega arith)
     (λ l old. record {
       event = refl;
       cleared = refl;
       holds = grind (arith);
-      so = so-at g s l who p old has at;
-      guards = plain-guards g s who q (s.errand who).retired 0 refl (λ e is guard. absurd guard) refl refl refl;
+      so = so-at g s l caller p old has at;
+      guards = plain-guards g s caller q (s.errand caller).retired 0 refl (λ e is guard. absurd guard) refl refl refl;
     })
     step
-clear_after_pop-sound g s who s' seat d o sound has at step =
-    let bad : ⊥ = cc ((fits-at g s sound.parts.0 who (Desc (desc.ClearAfterPop seat d) o) sound.parts.1 has at).goes) in absurd bad
+clear_after_pop-sound g s caller s' seat d o sound has at step =
+    let bad : ⊥ = cc ((fits-at g s sound.parts.0 caller (Desc (desc.ClearAfterPop seat d) o) sound.parts.1 has at).goes) in absurd bad
 
 -- a free clears its hazard word and looks through the list
 pub clear_hazard_looks-sound :
-    (g : Geometry) (s : State) (who : ℕ) (s' : State) (seat : SeatFields) → IsSoundWithoutCounts g s → who < g.callers
-    → (s.errand who).point ≡ Desc (desc.ClearHazard seat) onward.Clear → Step s who s' → IsSoundWithoutCounts g s'
+    (g : Geometry) (s : State) (caller : ℕ) (s' : State) (seat : SeatFields) → IsSoundWithoutCounts g s → caller < g.callers
+    → (s.errand caller).point ≡ Desc (desc.ClearHazard seat) continuation.Clear → Step s caller s' → IsSoundWithoutCounts g s'
 unfolding plan_point_of next_of event_of holds_of recalls_of
-clear_hazard_looks-sound g s who s' seat sound has at step =
-    let p = Desc (desc.ClearHazard seat) onward.Clear in
-    let q = Stack (stack.LoadTop seat Partials) onward.Clear in
-    let fits = (fits-at g s sound.parts.0 who p sound.parts.1 has at).point in
-    store-hazard g s who s' p q 0 sound has at (leads-at s who p q at refl) (ap name.Hazard fits.caller) refl (omega arith)
+clear_hazard_looks-sound g s caller s' seat sound has at step =
+    let p = Desc (desc.ClearHazard seat) continuation.Clear in
+    let q = Stack (stack.LoadTop seat Partials) continuation.Clear in
+    let fits = (fits-at g s sound.parts.0 caller p sound.parts.1 has at).point in
+    store-hazard g s caller s' p q 0 sound has at (leads-at s caller p q at refl) (ap name.Hazard fits.number) refl (omega arith)
     (λ l old. record {
       event = refl;
       cleared = refl;
       holds = grind (arith);
-      so = so-at g s l who p old has at;
-      guards = plain-guards g s who q (s.errand who).retired 0 refl (λ e is guard. absurd guard) refl refl refl;
+      so = so-at g s l caller p old has at;
+      guards = plain-guards g s caller q (s.errand caller).retired 0 refl (λ e is guard. absurd guard) refl refl refl;
     })
     step
 
 -- a free clears its hazard word and ends
 pub clear_hazard_ends-sound :
-    (g : Geometry) (s : State) (who : ℕ) (s' : State) (seat : SeatFields) → IsSoundWithoutCounts g s → who < g.callers
-    → (s.errand who).point ≡ Desc (desc.ClearHazard seat) onward.EndFree → Step s who s' → IsSoundWithoutCounts g s'
+    (g : Geometry) (s : State) (caller : ℕ) (s' : State) (seat : SeatFields) → IsSoundWithoutCounts g s → caller < g.callers
+    → (s.errand caller).point ≡ Desc (desc.ClearHazard seat) continuation.EndFree → Step s caller s' → IsSoundWithoutCounts g s'
 unfolding plan_point_of next_of event_of holds_of recalls_of
-clear_hazard_ends-sound g s who s' seat sound has at step =
-    let p = Desc (desc.ClearHazard seat) onward.EndFree in
-    let fits = (fits-at g s sound.parts.0 who p sound.parts.1 has at).point in
-    store-hazard g s who s' p Idle 0 sound has at (ends-at s who p reply.Freed at refl) (ap name.Hazard fits.caller) refl (omega arith)
+clear_hazard_ends-sound g s caller s' seat sound has at step =
+    let p = Desc (desc.ClearHazard seat) continuation.EndFree in
+    let fits = (fits-at g s sound.parts.0 caller p sound.parts.1 has at).point in
+    store-hazard g s caller s' p Idle 0 sound has at (ends-at s caller p reply.Freed at refl) (ap name.Hazard fits.number) refl (omega arith)
     (λ l old. record {
       event = refl;
       cleared = refl;
       holds = grind (arith);
-      so = All-nil (IsSo g s l who);
-      guards = plain-guards g s who Idle (s.errand who).retired 0 refl (λ e is guard. absurd guard) refl refl refl;
+      so = All-nil (IsSo g s l caller);
+      guards = plain-guards g s caller Idle (s.errand caller).retired 0 refl (λ e is guard. absurd guard) refl refl refl;
     })
     step
 
 -- a free stores the name of the descriptor whose superblock its push makes empty
 
 pub store_guard-sound :
-    (g : Geometry) (s : State) (who : ℕ) (s' : State) (site : Site) (i : ℕ) (a : AnchorFields) (o : Onward) → IsSoundWithoutCounts g s → who < g.callers
-    → (s.errand who).point ≡ Block (block.StoreGuard site i a) o → Step s who s' → IsSoundWithoutCounts g s'
+    (g : Geometry) (s : State) (caller : ℕ) (s' : State) (site : Site) (i : ℕ) (a : AnchorFields) (o : Continuation) → IsSoundWithoutCounts g s → caller < g.callers
+    → (s.errand caller).point ≡ Block (block.StoreGuard site i a) o → Step s caller s' → IsSoundWithoutCounts g s'
 unfolding plan_point_of next_of event_of holds_of recalls_of
-store_guard-sound g s who s' site i a o sound has at step =
+store_guard-sound g s caller s' site i a o sound has at step =
     let d = site.desc in
     let p = Block (block.StoreGuard site i a) o in
     let q = Block (block.LoadOwner site i a) o in
-    let fits = (fits-at g s sound.parts.0 who p sound.parts.1 has at).point in
-    store-hazard g s who s' p q (d + 1) sound has at (leads-at s who p q at refl) (ap name.Hazard fits.block.site.seat.caller) refl
+    let fits = (fits-at g s sound.parts.0 caller p sound.parts.1 has at).point in
+    store-hazard g s caller s' p q (d + 1) sound has at (leads-at s caller p q at refl) (ap name.Hazard fits.block.site.seat.number) refl
     (name-below g d sound.checked fits.block.site.desc)
     (λ l old.
-    let bound : IsTrue (is_bound g s l d) = (so-at g s l who p old has at 0 (bound_at d site.frame site.seat.class) (omega arith)).0 in
+    let bound : IsTrue (is_bound g s l d) = (so-at g s l caller p old has at 0 (bound_at d site.frame site.seat.class) (omega arith)).0 in
     let near : away_of g s l d ≡ 0 = bound-away g s l d bound in
     let none : callers_sum g (errand_away d) s.errand ≡ 0 = omega (arith, near) in
     let free = bound-unretired g s l d old none in
@@ -189,9 +189,9 @@ store_guard-sound g s who s' site i a o sound has at step =
       event = refl;
       cleared = refl;
       holds = grind (arith);
-      so = so-at g s l who p old has at;
+      so = so-at g s l caller p old has at;
       guards =
-          plain-guards g s who q (s.errand who).retired (d + 1) refl
+          plain-guards g s caller q (s.errand caller).retired (d + 1) refl
           (λ e is guard.
           let one : d ≡ e = omega (arith, is) in
           inr (subst (GuardsAnew g s q) one (record { unretired = free; pushed = λ bad. cc; passed = refl }))) refl refl refl;
@@ -204,109 +204,109 @@ held-room g held i checked words has = omega (arith, checked.callers.1, words, h
 
 -- what the scan has passed, and what it hasn't
 passed-at :
-    (g : Geometry) (s : State) (l : Lists) (who : ℕ) (p : Point) → IsSoundWith g s l → who < g.callers → (s.errand who).point ≡ p
-    → (k d : ℕ) → k < g.callers → Guards s k d → Contains (s.errand who).retired d → k < passed_by p → slice_index (held_by p) k ≡ d + 1
-passed-at g s l who p old has at =
-    subst (λ q. (k d : ℕ) → k < g.callers → Guards s k d → Contains (s.errand who).retired d → k < passed_by q → slice_index (held_by q) k ≡ d + 1) at
-    (λ k d has_k guards listed below. old.guarded.passed k who d has_k has guards listed below)
+    (g : Geometry) (s : State) (l : Lists) (caller : ℕ) (p : Point) → IsSoundWith g s l → caller < g.callers → (s.errand caller).point ≡ p
+    → (k d : ℕ) → k < g.callers → Guards s k d → Contains (s.errand caller).retired d → k < passed_by p → slice_index (held_by p) k ≡ d + 1
+passed-at g s l caller p old has at =
+    subst (λ q. (k d : ℕ) → k < g.callers → Guards s k d → Contains (s.errand caller).retired d → k < passed_by q → slice_index (held_by q) k ≡ d + 1) at
+    (λ k d has_k guards listed below. old.guarded.passed k caller d has_k has guards listed below)
 
 -- with the word that it reads it has passed one more caller
 noted-passed :
-    (g : Geometry) (s : State) (l : Lists) (who : ℕ) (seat : SeatFields) (held : List ℕ) (i : ℕ) (o : Onward) → IsSoundWith g s l
-    → who < g.callers → (s.errand who).point ≡ Desc (desc.ReadHazard seat held i) o → i < length held → (k d : ℕ) → k < g.callers → Guards s k d
-    → Contains (s.errand who).retired d → k < i + 1 → slice_index (slice_set held i (s.word (name.Hazard i))) k ≡ d + 1
-noted-passed g s l who seat held i o old has at room k d has_k guards listed below =
+    (g : Geometry) (s : State) (l : Lists) (caller : ℕ) (seat : SeatFields) (held : List ℕ) (i : ℕ) (o : Continuation) → IsSoundWith g s l
+    → caller < g.callers → (s.errand caller).point ≡ Desc (desc.ReadHazard seat held i) o → i < length held → (k d : ℕ) → k < g.callers → Guards s k d
+    → Contains (s.errand caller).retired d → k < i + 1 → slice_index (slice_set held i (s.word (name.Hazard i))) k ≡ d + 1
+noted-passed g s l caller seat held i o old has at room k d has_k guards listed below =
     elim (cases_eq k i) [
       | inl same ↦
           get_or-set_at held i k (s.word (name.Hazard i)) 0 same room ∙ ap (λ j. s.word (name.Hazard j)) (sym same) ∙ guards.word
       | inr differ ↦
           let less : k < i = omega (arith, below, differ) in
           get_or-set_other held i k (s.word (name.Hazard i)) 0 differ
-          ∙ passed-at g s l who (Desc (desc.ReadHazard seat held i) o) old has at k d has_k guards listed less
+          ∙ passed-at g s l caller (Desc (desc.ReadHazard seat held i) o) old has at k d has_k guards listed less
     ]
 
 -- and goes on to the next one
 pub read_hazard_next-sound :
-    (g : Geometry) (s : State) (who : ℕ) (s' : State) (seat : SeatFields) (held : List ℕ) (i : ℕ) (o : Onward) → IsSoundWithoutCounts g s
-    → who < g.callers → (s.errand who).point ≡ Desc (desc.ReadHazard seat held i) o → i + 1 < g.callers → Step s who s' → IsSoundWithoutCounts g s'
+    (g : Geometry) (s : State) (caller : ℕ) (s' : State) (seat : SeatFields) (held : List ℕ) (i : ℕ) (o : Continuation) → IsSoundWithoutCounts g s
+    → caller < g.callers → (s.errand caller).point ≡ Desc (desc.ReadHazard seat held i) o → i + 1 < g.callers → Step s caller s' → IsSoundWithoutCounts g s'
 unfolding plan_point_of next_of event_of holds_of recalls_of
-read_hazard_next-sound g s who s' seat held i o sound has at more step =
+read_hazard_next-sound g s caller s' seat held i o sound has at more step =
     let word = s.word (name.Hazard i) in
     let noted = slice_set held i word in
     let p = Desc (desc.ReadHazard seat held i) o in
     let q = Desc (desc.ReadHazard seat noted (i + 1)) o in
-    let fits = (fits-at g s sound.parts.0 who p sound.parts.1 has at).point in
+    let fits = (fits-at g s sound.parts.0 caller p sound.parts.1 has at).point in
     let goes_on : nat_lt (i + 1) seat.geometry.callers ≡ true =
     subst (λ h. nat_lt (i + 1) h.callers ≡ true) (sym fits.0.seat.geometry) (lt-ltb (i + 1) g.callers more) in
-    read-hazard g s who s' p q sound has at (leads-at s who p q at (rw goes_on refl)) refl
+    read-hazard g s caller s' p q sound has at (leads-at s caller p q at (rw goes_on refl)) refl
     (λ l old. record {
       event = refl;
       cleared = refl;
       holds = grind (arith);
-      so = so-at g s l who p old has at;
+      so = so-at g s l caller p old has at;
       guards = record {
-        hazard = hazard-at g s l who p old has at;
+        hazard = hazard-at g s l caller p old has at;
         guard = λ d is guard. absurd guard;
         pushed = λ k d has_k guards is. absurd (none-some d is);
-        passed = noted-passed g s l who seat held i o old has at (held-room g held i sound.checked fits.0.words fits.1);
-        unread = noted-unread g s l who seat held i o old has at;
+        passed = noted-passed g s l caller seat held i o old has at (held-room g held i sound.checked fits.0.words fits.1);
+        unread = noted-unread g s l caller seat held i o old has at;
       };
     })
     step
 
 -- it has passed all of them: nobody guards what it picks
 read-picks :
-    (g : Geometry) (s : State) (who : ℕ) (s' : State) (seat : SeatFields) (held : List ℕ) (i : ℕ) (o : Onward) (r : Option ℕ) → IsSoundWithoutCounts g s
-    → who < g.callers → (s.errand who).point ≡ Desc (desc.ReadHazard seat held i) o → g.callers ≤ i + 1
-    → first_unheld (slice_set held i (s.word (name.Hazard i))) (s.errand who).retired ≡ r → Step s who s' → IsSoundWithoutCounts g s'
+    (g : Geometry) (s : State) (caller : ℕ) (s' : State) (seat : SeatFields) (held : List ℕ) (i : ℕ) (o : Continuation) (r : Option ℕ) → IsSoundWithoutCounts g s
+    → caller < g.callers → (s.errand caller).point ≡ Desc (desc.ReadHazard seat held i) o → g.callers ≤ i + 1
+    → first_unheld (slice_set held i (s.word (name.Hazard i))) (s.errand caller).retired ≡ r → Step s caller s' → IsSoundWithoutCounts g s'
 unfolding plan_point_of next_of event_of holds_of recalls_of
-read-picks g s who s' seat held i o None sound has at last pick step =
+read-picks g s caller s' seat held i o None sound has at last pick step =
     let p = Desc (desc.ReadHazard seat held i) o in
     let noted = slice_set held i (s.word (name.Hazard i)) in
-    let fits = (fits-at g s sound.parts.0 who p sound.parts.1 has at).point in
+    let fits = (fits-at g s sound.parts.0 caller p sound.parts.1 has at).point in
     let ends : nat_lt (i + 1) seat.geometry.callers ≡ false =
     subst (λ h. nat_lt (i + 1) h.callers ≡ false) (sym fits.0.seat.geometry) (le-ltb (i + 1) g.callers last) in
-    read-hazard g s who s' p p sound has at (picks-at s who p seat noted o None at (rw ends refl) pick) refl
+    read-hazard g s caller s' p p sound has at (picks-at s caller p seat noted o None at (rw ends refl) pick) refl
     (λ l old. record {
       event = refl;
       cleared = refl;
       holds = grind (arith);
-      so = so-at g s l who p old has at;
+      so = so-at g s l caller p old has at;
       guards = record {
-        hazard = hazard-at g s l who p old has at;
+        hazard = hazard-at g s l caller p old has at;
         guard = λ d is guard. absurd guard;
         pushed = λ k d has_k guards is. absurd (none-some d is);
-        passed = passed-at g s l who p old has at;
-        unread = unread-at g s l who p old has at;
+        passed = passed-at g s l caller p old has at;
+        unread = unread-at g s l caller p old has at;
       };
     })
     step
-read-picks g s who s' seat held i o (Some d) sound has at last pick step =
+read-picks g s caller s' seat held i o (Some d) sound has at last pick step =
     let p = Desc (desc.ReadHazard seat held i) o in
     let q = Desc (desc.LoadHeadToPush seat d) o in
     let noted = slice_set held i (s.word (name.Hazard i)) in
-    let fits = (fits-at g s sound.parts.0 who p sound.parts.1 has at).point in
+    let fits = (fits-at g s sound.parts.0 caller p sound.parts.1 has at).point in
     let room = held-room g held i sound.checked fits.0.words fits.1 in
     let ends : nat_lt (i + 1) seat.geometry.callers ≡ false =
     subst (λ h. nat_lt (i + 1) h.callers ≡ false) (sym fits.0.seat.geometry) (le-ltb (i + 1) g.callers last) in
-    let listed : Contains (s.errand who).retired d = some-listed noted (s.errand who).retired d pick in
-    read-hazard g s who s' p q sound has at (picks-at s who p seat noted o (Some d) at (rw ends refl) pick) refl
+    let listed : Contains (s.errand caller).retired d = some-listed noted (s.errand caller).retired d pick in
+    read-hazard g s caller s' p q sound has at (picks-at s caller p seat noted o (Some d) at (rw ends refl) pick) refl
     (λ l old. record {
       event = refl;
       cleared = refl;
       holds = grind (arith);
-      so = so-at g s l who p old has at;
+      so = so-at g s l caller p old has at;
       guards = record {
-        hazard = hazard-at g s l who p old has at;
+        hazard = hazard-at g s l caller p old has at;
         guard = λ e is guard. absurd guard;
         pushed = λ k e has_k guards is.
             let one : e ≡ d = sym (same_Some d e is) in
             let mine : Guards s k d = subst (Guards s k) one guards in
             let named : slice_index noted k ≡ d + 1 =
-            noted-passed g s l who seat held i o old has at room k d has_k mine listed (omega (arith, has_k, last)) in
+            noted-passed g s l caller seat held i o old has at room k d has_k mine listed (omega (arith, has_k, last)) in
             let long : k < length noted =
             omega (arith, length-set held i (s.word (name.Hazard i)), held-room g held k sound.checked fits.0.words has_k) in
-            some-free noted (s.errand who).retired d pick (k, long, get_or_default noted k (d + 1) 0 long ∙ named);
+            some-free noted (s.errand caller).retired d pick (k, long, get_or_default noted k (d + 1) 0 long ∙ named);
         passed = λ k e has_k guards in_list below. let bad : ⊥ = omega (arith, below) in absurd bad;
         unread = λ k from below. let bad : ⊥ = omega (arith, below) in absurd bad;
       };
@@ -315,12 +315,12 @@ read-picks g s who s' seat held i o (Some d) sound has at last pick step =
 
 -- the read of a hazard word
 pub read_hazard-sound :
-    (g : Geometry) (s : State) (who : ℕ) (s' : State) (seat : SeatFields) (held : List ℕ) (i : ℕ) (o : Onward) → IsSoundWithoutCounts g s
-    → who < g.callers → (s.errand who).point ≡ Desc (desc.ReadHazard seat held i) o → Step s who s' → IsSoundWithoutCounts g s'
-read_hazard-sound g s who s' seat held i o sound has at step =
+    (g : Geometry) (s : State) (caller : ℕ) (s' : State) (seat : SeatFields) (held : List ℕ) (i : ℕ) (o : Continuation) → IsSoundWithoutCounts g s
+    → caller < g.callers → (s.errand caller).point ≡ Desc (desc.ReadHazard seat held i) o → Step s caller s' → IsSoundWithoutCounts g s'
+read_hazard-sound g s caller s' seat held i o sound has at step =
     elim (cases_Bool (nat_lt (i + 1) g.callers)) [
-      | inl more ↦ read_hazard_next-sound g s who s' seat held i o sound has at (ltb-true (i + 1) g.callers more) step
+      | inl more ↦ read_hazard_next-sound g s caller s' seat held i o sound has at (ltb-true (i + 1) g.callers more) step
       | inr none ↦
-          read-picks g s who s' seat held i o (first_unheld (slice_set held i (s.word (name.Hazard i))) (s.errand who).retired) sound has at
+          read-picks g s caller s' seat held i o (first_unheld (slice_set held i (s.word (name.Hazard i))) (s.errand caller).retired) sound has at
           (ltb-false (i + 1) g.callers none) refl step
     ]

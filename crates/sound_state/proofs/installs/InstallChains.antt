@@ -32,37 +32,37 @@ first-given b b' old anchor chain next size waits waited was now others =
     ])
 
 module _
-    (g : Geometry) (s : State) (l : Lists) (who : ℕ) (at : Site) (words : ℕ) (e : ErrandFields) (s' : State)
-    (h : Installs g s l who at words e s') where
+    (g : Geometry) (s : State) (l : Lists) (caller : ℕ) (at : Site) (words : ℕ) (e : ErrandFields) (s' : State)
+    (h : Installs g s l caller at words e s') where
   installed-lie : LieStill s s'
-  installed-lie = installed-still g s l who at words e s' h
+  installed-lie = installed-still g s l caller at words e s' h
 
   -- the first block alone becomes live
-  installed-blocks : IsSoundWith g s l → BlockEffects g s l who at 0 s'
+  installed-blocks : IsSoundWith g s l → BlockEffects g s l caller at 0 s'
   installed-blocks old = record {
     site = h.site;
     bound = h.bound;
     located = h.located;
-    index = installed-some g s l who at words e s' h old;
+    index = installed-some g s l caller at words e s' h old;
     still = installed-lie;
-    there = installed-there g s l who at words e s' h;
+    there = installed-there g s l caller at words e s' h;
   }
 
   -- it is live instead of held back, and each chain stays
   installed-here-chained : IsSoundWith g s l → IsChained (superblock_of g s' at.desc)
   installed-here-chained old =
-      let back = installed-back g s l who at words e s' h old in
+      let back = installed-back g s l caller at words e s' h old in
       let next = next-stays installed-lie g at.desc in
-      let anchor = installed-anchor g s l who at words e s' h at.desc in
+      let anchor = installed-anchor g s l caller at words e s' h at.desc in
       first-given (superblock_of g s at.desc) (superblock_of g s' at.desc) (old.chained.chained at.desc h.site.desc h.bound) anchor
-      (rw (next, anchor, installed-reserved g s l who at words e s' h at.desc) refl) next (size-stays installed-lie g at.desc)
-      (omega (arith, installed-one g s l who at words e s' h, back.2)) back.2 back.1
-      (live-after (installed-blocks old) 0 ∙ ap is_there (installed-here g s l who at words e s' h)) (rest-live (installed-blocks old))
+      (rw (next, anchor, installed-reserved g s l caller at words e s' h at.desc) refl) next (size-stays installed-lie g at.desc)
+      (omega (arith, installed-one g s l caller at words e s' h, back.2)) back.2 back.1
+      (live-after (installed-blocks old) 0 ∙ ap is_there (installed-here g s l caller at words e s' h)) (rest-live (installed-blocks old))
 
   -- all superblocks keep their installed-blocks in order
   pub installed-chained : IsSoundWith g s l → AreChained g s' l
   installed-chained old =
-      chained-after (installed-blocks old) old (λ d. subst IsTrue (installed-bound g s l who at words e s' h d)) (λ bound. installed-here-chained old)
+      chained-after (installed-blocks old) old (λ d. subst IsTrue (installed-bound g s l caller at words e s' h d)) (λ bound. installed-here-chained old)
       (λ d differ.
-      superblock-stays installed-lie g d (installed-anchor g s l who at words e s' h d) (installed-reserved g s l who at words e s' h d)
-      (installed-others g s l who at words e s' h d differ))
+      superblock-stays installed-lie g d (installed-anchor g s l caller at words e s' h d) (installed-reserved g s l caller at words e s' h d)
+      (installed-others g s l caller at words e s' h d differ))

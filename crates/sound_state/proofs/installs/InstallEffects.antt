@@ -37,10 +37,10 @@ abbrev pub installed_word : Site → ℕ
 installed_word at = active_word (Held at.desc (new_credits at.seat.class))
 
 -- a caller installs a new superblock as the active one and takes its first block, and all else stays
-pub record Installs (g : Geometry) (s : State) (l : Lists) (who : ℕ) (at : Site) (words : ℕ) (e : ErrandFields) (s' : State) : Type 0 where
-  pub caller : who < g.callers
-  pub moves : Moves s.errand who e s'.errand
-  pub site : IsSiteOf g who at
+pub record Installs (g : Geometry) (s : State) (l : Lists) (caller : ℕ) (at : Site) (words : ℕ) (e : ErrandFields) (s' : State) : Type 0 where
+  pub in_heap : caller < g.callers
+  pub moves : Moves s.errand caller e s'.errand
+  pub site : IsSiteOf g caller at
   pub small : need_of words ≡ need.Small at.seat.class
   pub bound : IsTrue (is_bound g s l at.desc)
   pub located : IsLocated s at.desc at.frame at.seat.class
@@ -50,14 +50,14 @@ pub record Installs (g : Geometry) (s : State) (l : Lists) (who : ℕ) (at : Sit
   pub fits : IsActiveWord (Held at.desc (new_credits at.seat.class))
   pub writes : Writes s.word (active_name at.seat) (installed_word at) s'.word
   pub below : (n : WordName) → s'.word n < 2 ^ 64
-  pub history : s'.history ≡ s.history ++ Alloc who words (first_place at) ∷ []
-  pub rule : IsOwnErrand g who e
-  pub retired : e.retired ≡ (s.errand who).retired
-  pub turns : e.turns ≡ (s.errand who).turns
-  pub lost : e.lost ≡ (s.errand who).lost
-  pub cleared : e.cleared ≡ (s.errand who).cleared
-  pub holds_before : holds_of (s.errand who).point ≡ installing_holds at
+  pub history : s'.history ≡ s.history ++ Alloc caller words (first_place at) ∷ []
+  pub rule : IsOwnErrand g caller e
+  pub retired : e.retired ≡ (s.errand caller).retired
+  pub turns : e.turns ≡ (s.errand caller).turns
+  pub lost : e.lost ≡ (s.errand caller).lost
+  pub cleared : e.cleared ≡ (s.errand caller).cleared
+  pub holds_before : holds_of (s.errand caller).point ≡ installing_holds at
   pub holds_after : holds_of e.point ≡ installed_holds at
   pub recalls_after : recalls_of e.point ≡ bound_here at
-  pub stands_before : StandsFramed (s.errand who).point
+  pub stands_before : StandsFramed (s.errand caller).point
   pub stands_after : StandsIn false e.point

@@ -40,10 +40,10 @@ credits-weigh d at fits =
 -- the first block is held back before, and live after; all other places are as they were
 
 module _
-    (g : Geometry) (s : State) (l : Lists) (who : ℕ) (at : Site) (words : ℕ) (e : ErrandFields) (s' : State)
-    (h : Installs g s l who at words e s') where
-  pub installed-holds : HoldingEffects g s who (installing_holds at) (installed_holds at) e s'
-  installed-holds = record { caller = h.caller; moves = h.moves; retired = h.retired; before = h.holds_before; after = h.holds_after }
+    (g : Geometry) (s : State) (l : Lists) (caller : ℕ) (at : Site) (words : ℕ) (e : ErrandFields) (s' : State)
+    (h : Installs g s l caller at words e s') where
+  pub installed-holds : HoldingEffects g s caller (installing_holds at) (installed_holds at) e s'
+  installed-holds = record { in_heap = h.in_heap; moves = h.moves; retired = h.retired; before = h.holds_before; after = h.holds_after }
 
   pub installed-still : LieStill s s'
   installed-still = record { words = λ n is. h.writes.elsewhere n (λ same. subst IsLayWord same is) }
@@ -102,8 +102,8 @@ module _
       there-none (block_at (first_place at) (pool_of s.history))
       (sym (located-live g s at.desc at.frame at.seat.class h.located 0) ∙ (installed-back is).1)
 
-  pub installed-here : block_at (first_place at) (pool_of s'.history) ≡ Some (fresh_block who words (first_place at))
-  installed-here = given-here who words (first_place at) s.history s'.history h.history
+  pub installed-here : block_at (first_place at) (pool_of s'.history) ≡ Some (fresh_block caller words (first_place at))
+  installed-here = given-here caller words (first_place at) s.history s'.history h.history
 
   pub installed-there : (p : ℕ) → p ≢ first_place at → block_at p (pool_of s'.history) ≡ block_at p (pool_of s.history)
-  installed-there = given-there who words (first_place at) s.history s'.history h.history
+  installed-there = given-there caller words (first_place at) s.history s'.history h.history

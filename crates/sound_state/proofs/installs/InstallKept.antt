@@ -34,11 +34,11 @@ use Rattle.sound_state.proofs.shared.SumLemmas.{callers-moved, sum-change, sum-s
 use Rattle.sound_state.proofs.shared.WordFacts.{null-said, null-none, held-said, held-not-zero, held-desc}
 
 pub installed-descs :
-    (g : Geometry) (s : State) (l : Lists) (who : ℕ) (at : Site) (words : ℕ) (e : ErrandFields) (s' : State)
-    → Installs g s l who at words e s' → SameDescs s s'
-installed-descs g s l who at words e s' h = record {
-  info = installed-info g s l who at words e s' h;
-  anchor = installed-anchor g s l who at words e s' h;
+    (g : Geometry) (s : State) (l : Lists) (caller : ℕ) (at : Site) (words : ℕ) (e : ErrandFields) (s' : State)
+    → Installs g s l caller at words e s' → SameDescs s s'
+installed-descs g s l caller at words e s' h = record {
+  info = installed-info g s l caller at words e s' h;
+  anchor = installed-anchor g s l caller at words e s' h;
 }
 
 -- the descriptor goes from the caller to the word
@@ -60,34 +60,34 @@ installed-stock-weighs class at =
     rw (null-none, some) (grind (arith))
 
 installed-places :
-    (g : Geometry) (s : State) (l : Lists) (who : ℕ) (at : Site) (words : ℕ) (e : ErrandFields) (s' : State)
-    → Installs g s l who at words e s' → (d : ℕ) → places_of g s' l d ≡ places_of g s l d
-installed-places g s l who at words e s' h d =
-    let now : errand_has d e ≡ occurs d (s.errand who).retired + kept_places d (installed_holds at).kept =
+    (g : Geometry) (s : State) (l : Lists) (caller : ℕ) (at : Site) (words : ℕ) (e : ErrandFields) (s' : State)
+    → Installs g s l caller at words e s' → (d : ℕ) → places_of g s' l d ≡ places_of g s l d
+installed-places g s l caller at words e s' h d =
+    let now : errand_has d e ≡ occurs d (s.errand caller).retired + kept_places d (installed_holds at).kept =
     omega (arith, ap (occurs d) h.retired, ap (λ x. kept_places d x.kept) h.holds_after) in
-    let old : errand_has d (s.errand who) ≡ occurs d (s.errand who).retired + kept_places d (installing_holds at).kept =
+    let old : errand_has d (s.errand caller) ≡ occurs d (s.errand caller).retired + kept_places d (installing_holds at).kept =
     omega (arith, ap (λ x. kept_places d x.kept) h.holds_before) in
     omega (
       arith,
       now,
       old,
-      callers-moved g (errand_has d) s.errand who e s'.errand h.caller h.moves,
+      callers-moved g (errand_has d) s.errand caller e s'.errand h.in_heap h.moves,
       words-written g (word_keeps d) s.word (active_name at.seat) (installed_word at) s'.word h.exists h.writes,
       ap (word_keeps d (active_name at.seat)) h.before,
       places-weigh d at h.fits,
-      ap (λ x. full_keeps x.state) (installed-anchor g s l who at words e s' h d),
+      ap (λ x. full_keeps x.state) (installed-anchor g s l caller at words e s' h d),
     )
 
 -- what the active words and the slots hold
 
 installed-actives :
-    (g : Geometry) (s : State) (l : Lists) (who : ℕ) (at : Site) (words : ℕ) (e : ErrandFields) (s' : State)
-    → Installs g s l who at words e s' → IsKept g s l → ActivesKept g s s'.word
-installed-actives g s l who at words e s' h kept =
+    (g : Geometry) (s : State) (l : Lists) (caller : ℕ) (at : Site) (words : ℕ) (e : ErrandFields) (s' : State)
+    → Installs g s l caller at words e s' → IsKept g s l → ActivesKept g s s'.word
+installed-actives g s l caller at words e s' h kept =
     let held = held-said at.desc (new_credits at.seat.class) h.fits in
     let active : IsActive s at.desc at.seat.class =
     All-head (λ k. IsKeptAs s k.status k.desc k.class) (record { desc = at.desc; class = at.seat.class; status = waiting }) []
-    (subst (λ x. All (λ k. IsKeptAs s k.status k.desc k.class) x.kept) h.holds_before (kept.errand who h.caller)) in
+    (subst (λ x. All (λ k. IsKeptAs s k.status k.desc k.class) x.kept) h.holds_before (kept.errand caller h.in_heap)) in
     actives-written g s l (heap_of at.seat) at.seat.class (installed_word at) s'.word kept h.writes (rw held refl)
     (λ d credits says.
     let same : at.desc ≡ d = held-desc at.desc (new_credits at.seat.class) d credits (sym held ∙ says) in
@@ -95,16 +95,16 @@ installed-actives g s l who at words e s' h kept =
 
 -- each descriptor still stands in one place, in the state that belongs there
 pub installed-kept :
-    (g : Geometry) (s : State) (l : Lists) (who : ℕ) (at : Site) (words : ℕ) (e : ErrandFields) (s' : State)
-    → Installs g s l who at words e s' → IsSoundWith g s l → IsKept g s' l
-installed-kept g s l who at words e s' h sound =
-    places-kept g s l who e s'
+    (g : Geometry) (s : State) (l : Lists) (caller : ℕ) (at : Site) (words : ℕ) (e : ErrandFields) (s' : State)
+    → Installs g s l caller at words e s' → IsSoundWith g s l → IsKept g s' l
+installed-kept g s l caller at words e s' h sound =
+    places-kept g s l caller e s'
     (record {
-      caller = h.caller;
+      in_heap = h.in_heap;
       moves = h.moves;
-      places = installed-places g s l who at words e s' h;
-      actives = installed-actives g s l who at words e s' h sound.kept;
-      goes = λ d. inl (descs-go s s' (installed-descs g s l who at words e s' h) d);
+      places = installed-places g s l caller at words e s' h;
+      actives = installed-actives g s l caller at words e s' h sound.kept;
+      goes = λ d. inl (descs-go s s' (installed-descs g s l caller at words e s' h) d);
       retired = h.retired;
       own =
           subst (λ x. All (λ (k : Kept). IsKeptAs s' k.status k.desc k.class) x.kept) (sym h.holds_after)
@@ -113,32 +113,32 @@ installed-kept g s l who at words e s' h sound =
 
 -- so much is out for each class as before
 installed-stock :
-    (g : Geometry) (s : State) (l : Lists) (who : ℕ) (at : Site) (words : ℕ) (e : ErrandFields) (s' : State)
-    → Installs g s l who at words e s' → (class : ℕ) → stock_of g s' l class ≡ stock_of g s l class
-installed-stock g s l who at words e s' h class =
+    (g : Geometry) (s : State) (l : Lists) (caller : ℕ) (at : Site) (words : ℕ) (e : ErrandFields) (s' : State)
+    → Installs g s l caller at words e s' → (class : ℕ) → stock_of g s' l class ≡ stock_of g s l class
+installed-stock g s l caller at words e s' h class =
     let now : errand_stock class e ≡ 0 =
     omega (arith, ap (λ x. stock_among class x.kept) h.holds_after, h.stands_after.waits class) in
-    let old : errand_stock class (s.errand who) ≡ stock_among class (installing_holds at).kept =
+    let old : errand_stock class (s.errand caller) ≡ stock_among class (installing_holds at).kept =
     omega (arith, ap (λ x. stock_among class x.kept) h.holds_before, h.stands_before.waits class) in
     let filled : sum_below (descriptor_count g) (full_stock s' class) ≡ sum_below (descriptor_count g) (full_stock s class) =
     sum-same (descriptor_count g) (full_stock s class) (full_stock s' class)
-    (λ d has. rw (installed-info g s l who at words e s' h d, installed-anchor g s l who at words e s' h d) refl) in
+    (λ d has. rw (installed-info g s l caller at words e s' h d, installed-anchor g s l caller at words e s' h d) refl) in
     omega (
       arith,
       now,
       old,
       filled,
-      callers-moved g (errand_stock class) s.errand who e s'.errand h.caller h.moves,
+      callers-moved g (errand_stock class) s.errand caller e s'.errand h.in_heap h.moves,
       words-written g (word_stock class) s.word (active_name at.seat) (installed_word at) s'.word h.exists h.writes,
       ap (word_stock class (active_name at.seat)) h.before,
       installed-stock-weighs class at,
     )
 
 pub installed-stocked :
-    (g : Geometry) (s : State) (l : Lists) (who : ℕ) (at : Site) (words : ℕ) (e : ErrandFields) (s' : State)
-    → Installs g s l who at words e s' → IsSoundWith g s l → IsStocked g s' l
-installed-stocked g s l who at words e s' h sound = record {
-  most = λ class has. omega (arith, sound.stocked.most class has, installed-stock g s l who at words e s' h class);
+    (g : Geometry) (s : State) (l : Lists) (caller : ℕ) (at : Site) (words : ℕ) (e : ErrandFields) (s' : State)
+    → Installs g s l caller at words e s' → IsSoundWith g s l → IsStocked g s' l
+installed-stocked g s l caller at words e s' h sound = record {
+  most = λ class has. omega (arith, sound.stocked.most class has, installed-stock g s l caller at words e s' h class);
 }
 
 -- the frame goes from the caller's hand to the superblock
@@ -155,26 +155,26 @@ fills-frame g s l d f frame bound none lies =
     ]
 
 pub installed-framed :
-    (g : Geometry) (s : State) (l : Lists) (who : ℕ) (at : Site) (words : ℕ) (e : ErrandFields) (s' : State)
-    → Installs g s l who at words e s' → IsSoundWith g s l → IsFramed g s' l
-installed-framed g s l who at words e s' h old = record {
+    (g : Geometry) (s : State) (l : Lists) (caller : ℕ) (at : Site) (words : ℕ) (e : ErrandFields) (s' : State)
+    → Installs g s l caller at words e s' → IsSoundWith g s l → IsFramed g s' l
+installed-framed g s l caller at words e s' h old = record {
   once = λ f has.
-      let moved = callers-moved g (errand_frames f) s.errand who e s'.errand h.caller h.moves in
+      let moved = callers-moved g (errand_frames f) s.errand caller e s'.errand h.in_heap h.moves in
       let now : errand_frames f e ≡ 0 = ap (λ x. occurs f x.frames) h.holds_after in
-      let was : errand_frames f (s.errand who) ≡ (if at.frame == f then 1 else 0) = ap (λ x. occurs f x.frames) h.holds_before ∙ installing-frames f at in
+      let was : errand_frames f (s.errand caller) ≡ (if at.frame == f then 1 else 0) = ap (λ x. occurs f x.frames) h.holds_before ∙ installing-frames f at in
       let elsewhere : (d : ℕ) → d < descriptor_count g → d ≢ at.desc → fills_frame g s' l f d ≡ fills_frame g s l f d =
       λ d lt differ.
       rw (
-        installed-bound g s l who at words e s' h d,
-        installed-others g s l who at words e s' h d differ,
-        installed-info g s l who at words e s' h d,
+        installed-bound g s l caller at words e s' h d,
+        installed-others g s l caller at words e s' h d differ,
+        installed-info g s l caller at words e s' h d,
       ) refl in
       let changed = sum-change (descriptor_count g) (fills_frame g s l f) (fills_frame g s' l f) at.desc h.site.desc elsewhere in
-      let waited : waiting_of g s at.desc ≡ 1 = (installed-back g s l who at words e s' h old).2 in
+      let waited : waiting_of g s at.desc ≡ 1 = (installed-back g s l caller at words e s' h old).2 in
       let empty : fills_frame g s l f at.desc ≡ 0 = waiting-fills g s l at.desc f waited in
       let filled : fills_frame g s' l f at.desc ≡ (if at.frame == f then 1 else 0) =
-      fills-frame g s' l at.desc f at.frame (subst IsTrue (sym (installed-bound g s l who at words e s' h at.desc)) h.bound)
-      (omega (arith, installed-one g s l who at words e s' h, waited))
-      (ap (λ x. x.frame) (installed-info g s l who at words e s' h at.desc) ∙ h.located.frame) in
+      fills-frame g s' l at.desc f at.frame (subst IsTrue (sym (installed-bound g s l caller at words e s' h at.desc)) h.bound)
+      (omega (arith, installed-one g s l caller at words e s' h, waited))
+      (ap (λ x. x.frame) (installed-info g s l caller at words e s' h at.desc) ∙ h.located.frame) in
       omega (arith, changed, empty, filled, moved, now, was, old.framed.once f has);
 }

@@ -20,35 +20,35 @@ use Rattle.sound_state.proofs.shared.RecallEffects.{IsSteadyWord, AreSteady, Lea
 
 -- an install that was won
 module _
-    (g : Geometry) (s : State) (l : Lists) (who : ℕ) (at : Site) (words : ℕ) (e : ErrandFields) (s' : State)
-    (h : Installs g s l who at words e s') where
+    (g : Geometry) (s : State) (l : Lists) (caller : ℕ) (at : Site) (words : ℕ) (e : ErrandFields) (s' : State)
+    (h : Installs g s l caller at words e s') where
   -- the words of stacks, of descriptors and of the arena stay
   installed-words-steady : AreSteady s s'
   installed-words-steady n is = h.writes.elsewhere n (λ same. subst IsSteadyWord same is)
 
   -- so it leaves what the others remember
-  installed-leaves : IsSoundWithoutCounts g s → IsSoundWith g s l → (i : ℕ) → i ≢ who → Leaves g s l s' i
+  installed-leaves : IsSoundWithoutCounts g s → IsSoundWith g s l → (i : ℕ) → i ≢ caller → Leaves g s l s' i
   installed-leaves sound old i ne = record {
     steady = installed-words-steady;
-    events = ap (own i) h.history ∙ told-own i s.history (Alloc who words (first_place at)) (λ same. ne (sym same));
-    owned = installed-still-owned g s l who at words e s' h sound old i;
-    empty = λ d so. ap (λ x. is_empty x.state) (installed-anchor g s l who at words e s' h d);
-    ways = λ d so. installed-ways g s l who at words e s' h d;
+    events = ap (own i) h.history ∙ told-own i s.history (Alloc caller words (first_place at)) (λ same. ne (sym same));
+    owned = installed-still-owned g s l caller at words e s' h sound old i;
+    empty = λ d so. ap (λ x. is_empty x.state) (installed-anchor g s l caller at words e s' h d);
+    ways = λ d so. installed-ways g s l caller at words e s' h d;
   }
 
   installed-left : (i : ℕ) (r : Recall) → IsSo g s l i r → IsLeft g s l s' r
-  installed-left i (bound_for d c) so = subst IsTrue (sym (installed-bound g s l who at words e s' h d))
-  installed-left i (bound_at d f c) so = subst IsTrue (sym (installed-bound g s l who at words e s' h d))
+  installed-left i (bound_for d c) so = subst IsTrue (sym (installed-bound g s l caller at words e s' h d))
+  installed-left i (bound_at d f c) so = subst IsTrue (sym (installed-bound g s l caller at words e s' h d))
   installed-left i (pops d b) so =
-      popped-steady g s l s' installed-words-steady d b (installed-anchor g s l who at words e s' h d) (installed-reserved g s l who at words e s' h d)
-  installed-left i (links d b prefix) so = λ is. is ∙ ap (λ x. x.tag) (installed-anchor g s l who at words e s' h d)
+      popped-steady g s l s' installed-words-steady d b (installed-anchor g s l caller at words e s' h d) (installed-reserved g s l caller at words e s' h d)
+  installed-left i (links d b prefix) so = λ is. is ∙ ap (λ x. x.tag) (installed-anchor g s l caller at words e s' h d)
   installed-left i (says n w) so = h.writes.elsewhere n (λ same. subst IsPlain same so.0)
   installed-left i r so = tt
 
   pub installed-remembered : IsSoundWithoutCounts g s → IsSoundWith g s l → IsRemembered g s' l
   installed-remembered sound old =
-      remembered-left g s l who e s' h.moves
-      (subst (All (IsSo g s' l who)) (sym h.recalls_after)
-      (here-so g s l s' installed-words-steady who at (subst IsTrue (sym (installed-bound g s l who at words e s' h at.desc)) h.bound) h.located))
+      remembered-left g s l caller e s' h.moves
+      (subst (All (IsSo g s' l caller)) (sym h.recalls_after)
+      (here-so g s l s' installed-words-steady caller at (subst IsTrue (sym (installed-bound g s l caller at words e s' h at.desc)) h.bound) h.located))
       (λ i has ne. installed-leaves sound old i ne)
       (λ i has ne k d lt. installed-left i _ (old.remembered.so i has k d lt)) old.remembered

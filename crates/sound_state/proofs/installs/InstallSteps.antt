@@ -13,7 +13,7 @@ use Rattle.word_plan.specs.declared.seat.Site.{Site}
 use Rattle.word_plan.specs.Sites.{active_name, IsSiteOf}
 use Rattle.superblock_parts.specs.Anchors.{new_anchor, new_credits}
 use Rattle.superblock_parts.specs.declared.point.BlockPoint.TheVariants as block
-use Rattle.errand_steps.specs.declared.onward.Onward.{Onward}
+use Rattle.errand_steps.specs.declared.continuation.Continuation.{Continuation}
 use Rattle.errand_steps.specs.declared.point.Point.{Point}
 use Rattle.errand_steps.specs.declared.point.Point.TheVariants.{Block}
 use Rattle.errand_steps.specs.Events.{event_of}
@@ -45,31 +45,31 @@ use Rattle.sound_state.proofs.shared.WordFacts.{held-fits, seat-active}
 credits-few : (class : ℕ) → new_credits class < 2 ^ CREDIT_BITS
 credits-few class = grind (arith)
 
-pub install-stands : (at : Site) (o : Onward) → StandsFramed (Block (block.InstallSuperblock at) o)
+pub install-stands : (at : Site) (o : Continuation) → StandsFramed (Block (block.InstallSuperblock at) o)
 install-stands at o = grind (arith)
 
-prefix-stands : (at : Site) (i : ℕ) (o : Onward) → StandsIn false (Block (block.StorePrefix at i) o)
+prefix-stands : (at : Site) (i : ℕ) (o : Continuation) → StandsIn false (Block (block.StorePrefix at i) o)
 prefix-stands at i o = grind (arith)
 
 -- a caller that is about to install a superblock: it is bound, lies there, and its anchor is a new one's
-pub record IsAboutToInstall (g : Geometry) (s : State) (l : Lists) (who : ℕ) (at : Site) : Type 0 where
-  pub site : IsSiteOf g who at
+pub record IsAboutToInstall (g : Geometry) (s : State) (l : Lists) (caller : ℕ) (at : Site) : Type 0 where
+  pub site : IsSiteOf g caller at
   pub bound : IsTrue (is_bound g s l at.desc)
   pub located : IsLocated s at.desc at.frame at.seat.class
   pub anchor : anchor_for s at.desc ≡ new_anchor at.seat.class
 
 pub about-to-install :
-    (g : Geometry) (s : State) (l : Lists) (who : ℕ) (at : Site) (o : Onward) → IsSoundWith g s l → who < g.callers
-    → (s.errand who).point ≡ Block (block.InstallSuperblock at) o → IsAboutToInstall g s l who at
+    (g : Geometry) (s : State) (l : Lists) (caller : ℕ) (at : Site) (o : Continuation) → IsSoundWith g s l → caller < g.callers
+    → (s.errand caller).point ≡ Block (block.InstallSuperblock at) o → IsAboutToInstall g s l caller at
 unfolding recalls_of
-about-to-install g s l who at o is has here =
+about-to-install g s l caller at o is has here =
     let p : Point = Block (block.InstallSuperblock at) o in
-    let so = so-at g s l who p is has here in
+    let so = so-at g s l caller p is has here in
     let says_new = says (name.Anchor at.desc) (anchor_word (new_anchor at.seat.class)) in
-    let said = All-head (IsSo g s l who) says_new (bound_here at) so in
-    let so_bound = All-head (IsSo g s l who) (bound_at at.desc at.frame at.seat.class) [] (All-tail (IsSo g s l who) says_new (bound_here at) so) in
+    let said = All-head (IsSo g s l caller) says_new (bound_here at) so in
+    let so_bound = All-head (IsSo g s l caller) (bound_at at.desc at.frame at.seat.class) [] (All-tail (IsSo g s l caller) says_new (bound_here at) so) in
     record {
-      site = (fits-at g s l who p is has here).point;
+      site = (fits-at g s l caller p is has here).point;
       bound = so_bound.0;
       located = so_bound.1;
       anchor = ap anchor_of said.1 ∙ anchor_of-anchor_word (new_anchor at.seat.class) (new_anchor-fits at.seat.class);
@@ -77,31 +77,31 @@ about-to-install g s l who at o is has here =
 
 -- what the step of a won install changes
 pub install-installs :
-    (g : Geometry) (s : State) (l : Lists) (who : ℕ) (s' : State) (at : Site) (o : Onward)
-    → IsSoundWithoutCounts g s → IsSoundWith g s l → who < g.callers → (s.errand who).point ≡ Block (block.InstallSuperblock at) o
-    → s.word (active_name at.seat) ≡ active_word Null → Step s who s'
-    → Installs g s l who at (asked o) (at_point (s.errand who) (won_with (active_word Null)) (Block (block.StorePrefix at 0) o)) s'
+    (g : Geometry) (s : State) (l : Lists) (caller : ℕ) (s' : State) (at : Site) (o : Continuation)
+    → IsSoundWithoutCounts g s → IsSoundWith g s l → caller < g.callers → (s.errand caller).point ≡ Block (block.InstallSuperblock at) o
+    → s.word (active_name at.seat) ≡ active_word Null → Step s caller s'
+    → Installs g s l caller at (asked o) (at_point (s.errand caller) (won_with (active_word Null)) (Block (block.StorePrefix at 0) o)) s'
 unfolding event_of next_of plan_point_of holds_of recalls_of
-install-installs g s l who s' at o sound is has here word step =
+install-installs g s l caller s' at o sound is has here word step =
     let p : Point = Block (block.InstallSuperblock at) o in
     let q : Point = Block (block.StorePrefix at 0) o in
     let n = active_name at.seat in
-    let fit = fits-at g s l who p is has here in
-    let about = about-to-install g s l who at o is has here in
+    let fit = fits-at g s l caller p is has here in
+    let about = about-to-install g s l caller at o is has here in
     let fits : IsActiveWord (Held at.desc (new_credits at.seat.class)) =
     held-fits g at.desc (new_credits at.seat.class) sound.checked fit.point.desc (credits-few at.seat.class) in
-    let won : WonEffects g s who p n (active_word Null) (installed_word at) q s' =
-    won-effects g s l who s' p n (active_word Null) (installed_word at) q is has here word refl (inl refl)
+    let won : WonEffects g s caller p n (active_word Null) (installed_word at) q s' =
+    won-effects g s l caller s' p n (active_word Null) (installed_word at) q is has here word refl (inl refl)
     (active-exact.fits (Held at.desc (new_credits at.seat.class)) fits) step in
     record {
-      caller = has;
+      in_heap = has;
       moves = won.step.moves;
       site = about.site;
-      small = small-asked g who at o (the-alloc o fit.goes) fit.onward;
+      small = small-asked g caller at o (the-alloc o fit.goes) fit.continuation;
       bound = about.bound;
       located = about.located;
       anchor = about.anchor;
-      exists = seat-active g who at.seat sound.checked fit.point.seat;
+      exists = seat-active g caller at.seat sound.checked fit.point.seat;
       before = word;
       fits = fits;
       writes = won.writes;
@@ -121,31 +121,31 @@ install-installs g s l who s' at o sound is has here word step =
 
 -- the state after a won install is sound
 pub install_superblock-won :
-    (g : Geometry) (s : State) (who : ℕ) (s' : State) (at : Site) (o : Onward) → IsSoundWithoutCounts g s → who < g.callers
-    → (s.errand who).point ≡ Block (block.InstallSuperblock at) o → s.word (active_name at.seat) ≡ active_word Null → Step s who s'
+    (g : Geometry) (s : State) (caller : ℕ) (s' : State) (at : Site) (o : Continuation) → IsSoundWithoutCounts g s → caller < g.callers
+    → (s.errand caller).point ≡ Block (block.InstallSuperblock at) o → s.word (active_name at.seat) ≡ active_word Null → Step s caller s'
     → IsSoundWithoutCounts g s'
-install_superblock-won g s who s' at o sound has here word step =
+install_superblock-won g s caller s' at o sound has here word step =
     let l = sound.parts.0 in
     let is = sound.parts.1 in
-    let e = at_point (s.errand who) (won_with (active_word Null)) (Block (block.StorePrefix at 0) o) in
-    let h = install-installs g s l who s' at o sound is has here word step in
+    let e = at_point (s.errand caller) (won_with (active_word Null)) (Block (block.StorePrefix at 0) o) in
+    let h = install-installs g s l caller s' at o sound is has here word step in
     record {
       checked = sound.checked;
-      legal = installed-legal g s l who at (asked o) e s' h sound is;
+      legal = installed-legal g s l caller at (asked o) e s' h sound is;
       parts = (
         l,
         record {
           words = h.below;
-          errands = each-caller g (IsOwnErrand g) s.errand who e s'.errand h.moves h.rule is.errands;
-          listed = installed-listed g s l who at (asked o) e s' h is;
-          kept = installed-kept g s l who at (asked o) e s' h is;
-          chained = installed-chained g s l who at (asked o) e s' h is;
-          framed = installed-framed g s l who at (asked o) e s' h is;
-          remembered = installed-remembered g s l who at (asked o) e s' h sound is;
-          guarded = installed-guarded g s l who at (asked o) e s' h is;
-          stocked = installed-stocked g s l who at (asked o) e s' h is;
-          turned = installed-turned g s l who at (asked o) e s' h sound is;
-          tied = installed-tied g s l who at (asked o) e s' h sound is;
+          errands = each-caller g (IsOwnErrand g) s.errand caller e s'.errand h.moves h.rule is.errands;
+          listed = installed-listed g s l caller at (asked o) e s' h is;
+          kept = installed-kept g s l caller at (asked o) e s' h is;
+          chained = installed-chained g s l caller at (asked o) e s' h is;
+          framed = installed-framed g s l caller at (asked o) e s' h is;
+          remembered = installed-remembered g s l caller at (asked o) e s' h sound is;
+          guarded = installed-guarded g s l caller at (asked o) e s' h is;
+          stocked = installed-stocked g s l caller at (asked o) e s' h is;
+          turned = installed-turned g s l caller at (asked o) e s' h sound is;
+          tied = installed-tied g s l caller at (asked o) e s' h sound is;
         },
       );
     }

@@ -19,50 +19,50 @@ use Rattle.sound_state.proofs.shared.TieLemmas as ties
 
 -- an install gives the first block
 installs-give :
-    (g : Geometry) (s : State) (l : Lists) (who : ℕ) (at : Site) (words : ℕ) (e : ErrandFields)
-    (s' : State) → Installs g s l who at words e s' → IsSoundWith g s l → Gives g s l who at 0 words e s'
-installs-give g s l who at words e s' h is = record {
-  caller = h.caller;
+    (g : Geometry) (s : State) (l : Lists) (caller : ℕ) (at : Site) (words : ℕ) (e : ErrandFields)
+    (s' : State) → Installs g s l caller at words e s' → IsSoundWith g s l → Gives g s l caller at 0 words e s'
+installs-give g s l caller at words e s' h is = record {
+  in_heap = h.in_heap;
   moves = h.moves;
   site = h.site;
-  index = installed-some g s l who at words e s' h is;
+  index = installed-some g s l caller at words e s' h is;
   small = h.small;
   bound = h.bound;
   located = h.located;
   history = h.history;
-  none = installed-none g s l who at words e s' h is;
-  here = installed-here g s l who at words e s' h;
-  there = installed-there g s l who at words e s' h;
+  none = installed-none g s l caller at words e s' h is;
+  here = installed-here g s l caller at words e s' h;
+  there = installed-there g s l caller at words e s' h;
   tie_words = record {
     arena = λ place. h.writes.elsewhere (name.Arena place) (λ same. cc);
     units = h.writes.elsewhere name.Units (λ same. cc);
     shelf = λ k. h.writes.elsewhere (name.Shelf k) (λ same. cc);
   };
-  info = installed-info g s l who at words e s' h;
-  bounds = installed-bound g s l who at words e s' h;
+  info = installed-info g s l caller at words e s' h;
+  bounds = installed-bound g s l caller at words e s' h;
   bare = record { hands = ap (λ (o : Holding). o.hands) h.holds_before; frees = ap (λ (o : Holding). o.frees) h.holds_before };
   hands = ap (λ (o : Holding). o.hands) h.holds_after;
   frees = ap (λ (o : Holding). o.frees) h.holds_after;
 }
 
 pub installed-legal :
-    (g : Geometry) (s : State) (l : Lists) (who : ℕ) (at : Site) (words : ℕ) (e : ErrandFields)
-    (s' : State) → Installs g s l who at words e s' → IsSoundWithoutCounts g s → IsSoundWith g s l → IsLegalWithoutCounts g s'.history
-installed-legal g s l who at words e s' h sound is =
-    given-legal g s l who at 0 words e s' (installs-give g s l who at words e s' h is) sound is
+    (g : Geometry) (s : State) (l : Lists) (caller : ℕ) (at : Site) (words : ℕ) (e : ErrandFields)
+    (s' : State) → Installs g s l caller at words e s' → IsSoundWithoutCounts g s → IsSoundWith g s l → IsLegalWithoutCounts g s'.history
+installed-legal g s l caller at words e s' h sound is =
+    given-legal g s l caller at 0 words e s' (installs-give g s l caller at words e s' h is) sound is
 
 pub installed-tied :
-    (g : Geometry) (s : State) (l : Lists) (who : ℕ) (at : Site) (words : ℕ) (e : ErrandFields)
-    (s' : State) → Installs g s l who at words e s' → IsSoundWithoutCounts g s → IsSoundWith g s l → IsTied g s' l
-installed-tied g s l who at words e s' h sound is = given-tied g s l who at 0 words e s' (installs-give g s l who at words e s' h is) is
+    (g : Geometry) (s : State) (l : Lists) (caller : ℕ) (at : Site) (words : ℕ) (e : ErrandFields)
+    (s' : State) → Installs g s l caller at words e s' → IsSoundWithoutCounts g s → IsSoundWith g s l → IsTied g s' l
+installed-tied g s l caller at words e s' h sound is = given-tied g s l caller at 0 words e s' (installs-give g s l caller at words e s' h is) is
 
 -- who owned a block owns it
 pub installed-still-owned :
-    (g : Geometry) (s : State) (l : Lists) (who : ℕ) (at : Site) (words : ℕ) (e : ErrandFields)
-    (s' : State) → Installs g s l who at words e s' → IsSoundWithoutCounts g s → IsSoundWith g s l
+    (g : Geometry) (s : State) (l : Lists) (caller : ℕ) (at : Site) (words : ℕ) (e : ErrandFields)
+    (s' : State) → Installs g s l caller at words e s' → IsSoundWithoutCounts g s → IsSoundWith g s l
     → (i place : ℕ) (n : Need) → IsOwned s i place n → IsOwned s' i place n
-installed-still-owned g s l who at words e s' h sound is i place n k =
+installed-still-owned g s l caller at words e s' h sound is i place n k =
     ties.owned-stays s s' i place n
     (λ b live.
-    installed-there g s l who at words e s' h place
-    (λ same. ties.not-live s (first_place at) place b (installed-none g s l who at words e s' h is) same live) ∙ live) k
+    installed-there g s l caller at words e s' h place
+    (λ same. ties.not-live s (first_place at) place b (installed-none g s l caller at words e s' h is) same live) ∙ live) k

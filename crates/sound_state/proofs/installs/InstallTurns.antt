@@ -16,38 +16,38 @@ use Rattle.sound_state.proofs.shared.ListEffects.{IsListWord, listed-kept}
 use Rattle.sound_state.proofs.shared.TurnEffects.{alloc-event, emptied-kept, head-tag, turned-after, small-served, stands-weighs, framed-weighs}
 
 pub installed-listed :
-    (g : Geometry) (s : State) (l : Lists) (who : ℕ) (at : Site) (words : ℕ) (e : ErrandFields)
-    (s' : State) → Installs g s l who at words e s' → IsSoundWith g s l → IsListed g s'.word l
-installed-listed g s l who at words e s' h old =
+    (g : Geometry) (s : State) (l : Lists) (caller : ℕ) (at : Site) (words : ℕ) (e : ErrandFields)
+    (s' : State) → Installs g s l caller at words e s' → IsSoundWith g s l → IsListed g s'.word l
+installed-listed g s l caller at words e s' h old =
     listed-kept g s.word s'.word l (λ n is. h.writes.elsewhere n (λ same. subst IsListWord same is)) old.listed
 
 pub installed-guarded :
-    (g : Geometry) (s : State) (l : Lists) (who : ℕ) (at : Site) (words : ℕ) (e : ErrandFields)
-    (s' : State) → Installs g s l who at words e s' → IsSoundWith g s l → IsGuarded g s'
-installed-guarded g s l who at words e s' h old =
+    (g : Geometry) (s : State) (l : Lists) (caller : ℕ) (at : Site) (words : ℕ) (e : ErrandFields)
+    (s' : State) → Installs g s l caller at words e s' → IsSoundWith g s l → IsGuarded g s'
+installed-guarded g s l caller at words e s' h old =
     let after = h.stands_after in
-    guarded-clear g s who e s' h.caller h.moves (λ i. h.writes.elsewhere (name.Hazard i) (λ same. cc)) (ap (λ x. x.hazard) h.holds_before)
+    guarded-clear g s caller e s' h.in_heap h.moves (λ i. h.writes.elsewhere (name.Hazard i) (λ same. cc)) (ap (λ x. x.hazard) h.holds_before)
     (ap (λ x. x.hazard) h.holds_after) after.pushed after.passed after.unread after.spare old.guarded
 
 pub installed-turned :
-    (g : Geometry) (s : State) (l : Lists) (who : ℕ) (at : Site) (words : ℕ) (e : ErrandFields)
-    (s' : State) → Installs g s l who at words e s' → IsSoundWithoutCounts g s → IsSoundWith g s l → IsTurned g s' l
-installed-turned g s l who at words e s' h sound old =
+    (g : Geometry) (s : State) (l : Lists) (caller : ℕ) (at : Site) (words : ℕ) (e : ErrandFields)
+    (s' : State) → Installs g s l caller at words e s' → IsSoundWithoutCounts g s → IsSoundWith g s l → IsTurned g s' l
+installed-turned g s l caller at words e s' h sound old =
     let turned = old.turned in
-    let before = framed-weighs (s.errand who) h.stands_before in
+    let before = framed-weighs (s.errand caller) h.stands_before in
     let after = stands-weighs false e h.stands_after in
-    let events = alloc-event g who words (first_place at) s.history s'.history (small-served words at.seat.class h.small) h.history in
+    let events = alloc-event g caller words (first_place at) s.history s'.history (small-served words at.seat.class h.small) h.history in
     let emptied_same =
-    emptied-kept g s l s' l (λ d. rw (installed-away g s l who at words e s' h d, installed-anchor g s l who at words e s' h d) refl) in
-    turned-after g s l who e s' l 1 0
+    emptied-kept g s l s' l (λ d. rw (installed-away g s l caller at words e s' h d, installed-anchor g s l caller at words e s' h d) refl) in
+    turned-after g s l caller e s' l 1 0
     (record {
-      caller = h.caller;
+      in_heap = h.in_heap;
       moves = h.moves;
       events = events;
-      own_turns = omega (arith, turned.own_turns who h.caller, events.gives, before.under_way, after.under_way, h.turns);
+      own_turns = omega (arith, turned.own_turns caller h.in_heap, events.gives, before.under_way, after.under_way, h.turns);
       own_lost =
-          omega (arith, turned.own_lost who h.caller, events.gives, events.refuses who, before.unanswered, after.discards, after.unanswered, h.turns, h.lost);
-      anchor_tags = λ d has. omega (arith, ap (λ x. x.tag) (installed-anchor g s l who at words e s' h d));
+          omega (arith, turned.own_lost caller h.in_heap, events.gives, events.refuses caller, before.unanswered, after.discards, after.unanswered, h.turns, h.lost);
+      anchor_tags = λ d has. omega (arith, ap (λ x. x.tag) (installed-anchor g s l caller at words e s' h d));
       frame_turns = omega (arith, head-tag (h.writes.elsewhere name.FrameHead (λ same. cc)), before.unframed, after.unframed, h.turns);
       emptied = omega (arith, emptied_same, h.cleared);
       list_turns = λ class has.

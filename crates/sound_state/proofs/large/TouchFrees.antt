@@ -23,7 +23,7 @@ use Rattle.pool_model.specs.Pool.{Block, block_at, without, pool_of}
 use Rattle.pool_model.proofs.HistoryLemmas.{pool_of-push}
 use Rattle.pool_model.proofs.PoolLemmas.{place-found, block_at-without_other, block_at-without_same}
 use Rattle.pool_model.proofs.WellFormedLemmas.{sound-of, sound-differ}
-use Rattle.errand_steps.specs.declared.onward.Onward.{Onward}
+use Rattle.errand_steps.specs.declared.continuation.Continuation.{Continuation}
 use Rattle.errand_steps.specs.declared.point.Point.{Point}
 use Rattle.errand_steps.specs.declared.point.Point.TheVariants.{Idle, Large}
 use Rattle.errand_steps.specs.declared.reply.Reply.TheVariants as reply
@@ -78,7 +78,7 @@ runs-apart g s sound first other units more unit a b at_a at_b of_a of_b ne from
     ]
 
 -- who frees a run excepts nothing
-free-excepts : (e : ErrandFields) (place : ℕ) (run : RunFields) (o : Onward) (p : ℕ) → e.point ≡ Large (large.FreeRun place run) o → Excepts e p → ⊥
+free-excepts : (e : ErrandFields) (place : ℕ) (run : RunFields) (o : Continuation) (p : ℕ) → e.point ≡ Large (large.FreeRun place run) o → Excepts e p → ⊥
 unfolding holds_of
 free-excepts e place run o p at (inl x) =
     let none : Any (λ b. b.place ≡ p) [] = subst (λ q. Any (λ b. b.place ≡ p) (holds_of q).hands) at x in omega (arith, none.2)
@@ -92,9 +92,9 @@ free-excepts e place run o p at (inr x) =
 behind : (frames first : ℕ) → frames < frame_of (unit_place frames first) + 1
 behind frames first = omega arith
 
-run-free-event : (g : Geometry) (who place first : ℕ) → place ≡ unit_place g.frames first → IsAsideEvent g who (Free who place)
-run-free-event g who place first is = record {
-  caller = refl;
+run-free-event : (g : Geometry) (caller place first : ℕ) → place ≡ unit_place g.frames first → IsAsideEvent g caller (Free caller place)
+run-free-event g caller place first is = record {
+  number = refl;
   gives = λ i. refl;
   refuses = λ i. refl;
   allocs = refl;
@@ -102,12 +102,12 @@ run-free-event g who place first is = record {
 }
 
 free-touches :
-    (g : Geometry) (s : State) (l : Lists) (who place : ℕ) (run : RunFields) (o : Onward) → IsSoundWith g s l → IsRunAt g place run
-    → IsAllowed g s.history (Free who place)
-    → TouchesAt g s l who (Large (large.FreeRun place run) o) Idle name.Units (without_run (s.word name.Units) run.first run.units)
-    (s.history ++ Free who place ∷ [])
+    (g : Geometry) (s : State) (l : Lists) (caller place : ℕ) (run : RunFields) (o : Continuation) → IsSoundWith g s l → IsRunAt g place run
+    → IsAllowed g s.history (Free caller place)
+    → TouchesAt g s l caller (Large (large.FreeRun place run) o) Idle name.Units (without_run (s.word name.Units) run.first run.units)
+    (s.history ++ Free caller place ∷ [])
 unfolding plan_point_of next_of event_of
-free-touches g s l who place run o old fit allowed = record {
+free-touches g s l caller place run o old fit allowed = record {
   leads = inr (reply.Freed, refl, refl);
   here = refl;
   written = refl;
@@ -117,7 +117,7 @@ free-touches g s l who place run o old fit allowed = record {
   cleared = refl;
   told = refl;
   leaves =
-      leaves-event g s l who (Free who place) (run-free-event g who place run.first fit.place) allowed
+      leaves-event g s l caller (Free caller place) (run-free-event g caller place run.first fit.place) allowed
       (λ d i has bound lt.
       ap is_there
       (block_at-without_other place _ (pool_of s.history)
@@ -177,16 +177,16 @@ free-covers g s s' place run unit l sound old fit w a of c was k =
     ]
 
 free-tied :
-    (g : Geometry) (s : State) (l : Lists) (who place : ℕ) (run : RunFields) (o : Onward) (s' : State) (e : ErrandFields) → Touches g s l who e s'
-    → IsSoundWithoutCounts g s → IsSoundWith g s l → (s.errand who).point ≡ Large (large.FreeRun place run) o → IsRunAt g place run
+    (g : Geometry) (s : State) (l : Lists) (caller place : ℕ) (run : RunFields) (o : Continuation) (s' : State) (e : ErrandFields) → Touches g s l caller e s'
+    → IsSoundWithoutCounts g s → IsSoundWith g s l → (s.errand caller).point ≡ Large (large.FreeRun place run) o → IsRunAt g place run
     → Writes s.word name.Units (without_run (s.word name.Units) run.first run.units) s'.word → IsBareHanded e.point
-    → (a : Block) → a.owner ≡ Caller who → a.need ≡ need.Large run.units → IsGone s s' place a → IsTied g s' l
-free-tied g s l who place run o s' e h sound old at fit w bare_after a owned of c =
+    → (a : Block) → a.owner ≡ Caller caller → a.need ≡ need.Large run.units → IsGone s s' place a → IsTied g s' l
+free-tied g s l caller place run o s' e h sound old at fit w bare_after a owned of c =
     let tied = old.tied in
     let gone = λ (p : ℕ) (b : Block) (here : p ≡ place) (live : IsLive s' p b).
     not-live s' place p b c.gone here live in
-    let owns = bare-owns s' who e.point bare_after in
-    ties-but g s l l who (λ p. p ≡ place) e s'
+    let owns = bare-owns s' caller e.point bare_after in
+    ties-but g s l l caller (λ p. p ≡ place) e s'
     (record {
       moves = h.moves;
       either = λ p. cases_eq p place;
@@ -198,7 +198,7 @@ free-tied g s l who place run o s' e h sound old at fit w bare_after a owned of 
       shelf = λ k. w.elsewhere (name.Shelf k) (λ same. cc);
       small = λ p class b here live is. absurd (gone p b here live);
       large = λ p n b here live is. absurd (gone p b here live);
-      bound = λ p class b d ne live is its. touched-desc g s l who e s' h p class d its;
+      bound = λ p class b d ne live is its. touched-desc g s l caller e s' h p class d its;
       units = λ unit has.
           let t = tied.units unit has in (
             free-uncovers g s s' place run unit l sound old fit w a of c t.0,
@@ -210,28 +210,28 @@ free-tied g s l who place run o s' e h sound old at fit w bare_after a owned of 
       contents = λ p i v b live written.
           w.elsewhere (name.Arena (p + 1 + i)) (λ same. cc)
           ∙ tied.contents p i v b (sym (c.elsewhere p (λ here. gone p b here live)) ∙ live) written;
-      excepts = λ p ne excepts. absurd (free-excepts (s.errand who) place run o p at excepts);
+      excepts = λ p ne excepts. absurd (free-excepts (s.errand caller) place run o p at excepts);
       hands = owns.0;
       frees = owns.1;
     }) tied
 
 pub free_run-sound :
-    (g : Geometry) (s : State) (who : ℕ) (s' : State) (place : ℕ) (run : RunFields) (o : Onward) → IsSoundWithoutCounts g s → who < g.callers
-    → (s.errand who).point ≡ Large (large.FreeRun place run) o → Step s who s' → IsSoundWithoutCounts g s'
+    (g : Geometry) (s : State) (caller : ℕ) (s' : State) (place : ℕ) (run : RunFields) (o : Continuation) → IsSoundWithoutCounts g s → caller < g.callers
+    → (s.errand caller).point ≡ Large (large.FreeRun place run) o → Step s caller s' → IsSoundWithoutCounts g s'
 unfolding holds_of
-free_run-sound g s who s' place run o sound has at step =
+free_run-sound g s caller s' place run o sound has at step =
     let l = sound.parts.0 in
     let old = sound.parts.1 in
     let p : Point = Large (large.FreeRun place run) o in
-    let fit = fits-at g s l who p old has at in
-    let owned : IsOwned s who place (need.Large run.units) =
-    All-head (λ x. IsOwned s who x.place x.need) (record { place = place; need = need.Large run.units; overwritten = false }) [] (frees-at g s l who p old has at) in
+    let fit = fits-at g s l caller p old has at in
+    let owned : IsOwned s caller place (need.Large run.units) =
+    All-head (λ x. IsOwned s caller x.place x.need) (record { place = place; need = need.Large run.units; overwritten = false }) [] (frees-at g s l caller p old has at) in
     let a : Block = owned.block.0 in
-    let allowed : IsAllowed g s.history (Free who place) = (a, owned.block.1, owned.block.2) in
+    let allowed : IsAllowed g s.history (Free caller place) = (a, owned.block.1, owned.block.2) in
     let t =
-    touched-step g s l who s' p Idle name.Units (without_run (s.word name.Units) run.first run.units) (s.history ++ Free who place ∷ []) old has at
-    (free-touches g s l who place run o old fit.point allowed) step in
-    let pool : pool_of s'.history ≡ without place (pool_of s.history) = ap pool_of t.history ∙ pool_of-push s.history (Free who place) in
+    touched-step g s l caller s' p Idle name.Units (without_run (s.word name.Units) run.first run.units) (s.history ++ Free caller place ∷ []) old has at
+    (free-touches g s l caller place run o old fit.point allowed) step in
+    let pool : pool_of s'.history ≡ without place (pool_of s.history) = ap pool_of t.history ∙ pool_of-push s.history (Free caller place) in
     let c : IsGone s s' place a = record {
       was = owned.block.1;
       gone =
@@ -240,5 +240,5 @@ free_run-sound g s who s' place run o sound has at step =
           (sound-differ g (pool_of s.history) (sound-of g s.history sound.legal));
       elsewhere = λ q ne. ap (block_at q) pool ∙ block_at-without_other place q (pool_of s.history) ne;
     } in
-    touched-sound g s l who _ _ _ (Free who place) s' sound old (has, allowed) t
-    (free-tied g s l who place run o s' _ t.touches sound old at fit.point t.word idle-bare-handed a owned.block.2 owned.block.3 c)
+    touched-sound g s l caller _ _ _ (Free caller place) s' sound old (has, allowed) t
+    (free-tied g s l caller place run o s' _ t.touches sound old at fit.point t.word idle-bare-handed a owned.block.2 owned.block.3 c)

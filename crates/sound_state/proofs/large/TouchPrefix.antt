@@ -23,7 +23,7 @@ use Rattle.pool_model.specs.WellFormed.{IsWellFormed}
 use Rattle.pool_model.specs.Legal.{IsLegalWithoutCounts}
 use Rattle.pool_model.proofs.PoolLemmas.{every-found, place-found}
 use Rattle.pool_model.proofs.WellFormedLemmas.{sound-of}
-use Rattle.errand_steps.specs.declared.onward.Onward.{Onward}
+use Rattle.errand_steps.specs.declared.continuation.Continuation.{Continuation}
 use Rattle.errand_steps.specs.declared.point.Point.{Point}
 use Rattle.errand_steps.specs.declared.point.Point.TheVariants.{Idle, Large}
 use Rattle.errand_steps.specs.declared.reply.Reply.TheVariants as reply
@@ -77,9 +77,9 @@ words-apart g s sound p q i j a b at_p at_q ne of_a of_b same =
 
 -- where a word behind the frames is written, no block of a frame is touched
 pub behind-keeps :
-    (g : Geometry) (s : State) (l : Lists) (who first new : ℕ) (words : WordName → ℕ) → IsSoundWith g s l
-    → Writes s.word (name.Arena (unit_place g.frames first)) new words → KeepsPrefixes g s l who words
-behind-keeps g s l who first new words old w = record {
+    (g : Geometry) (s : State) (l : Lists) (caller first new : ℕ) (words : WordName → ℕ) → IsSoundWith g s l
+    → Writes s.word (name.Arena (unit_place g.frames first)) new words → KeepsPrefixes g s l caller words
+behind-keeps g s l caller first new words old w = record {
   away = λ n away. w.elsewhere n (λ same. let bad : ⊥ = subst IsAwayWord same away in bad);
   bound = λ d i has bound lt.
       w.elsewhere _ (λ same. frame-before g.frames _ _ i first (info-frame g s l d old has) lt (ap arena_place same));
@@ -91,10 +91,10 @@ unfolding prefix_word
 run-prefix-word units = omega arith
 
 prefix-touches :
-    (g : Geometry) (s : State) (l : Lists) (who place : ℕ) (run : RunFields) (o : Onward) → IsSoundWith g s l → IsRunAt g place run
-    → TouchesAt g s l who (Large (large.StoreRunPrefix place run) o) Idle (name.Arena place) (prefix_word (prefix.Large run.units)) s.history
+    (g : Geometry) (s : State) (l : Lists) (caller place : ℕ) (run : RunFields) (o : Continuation) → IsSoundWith g s l → IsRunAt g place run
+    → TouchesAt g s l caller (Large (large.StoreRunPrefix place run) o) Idle (name.Arena place) (prefix_word (prefix.Large run.units)) s.history
 unfolding plan_point_of next_of event_of
-prefix-touches g s l who place run o old fit = record {
+prefix-touches g s l caller place run o old fit = record {
   leads = inr (reply.Given place (need.Large run.units), refl, refl);
   here = refl;
   written = refl;
@@ -103,22 +103,22 @@ prefix-touches g s l who place run o old fit = record {
   lost = refl;
   cleared = refl;
   told = refl;
-  leaves = leaves-same g s l who;
+  leaves = leaves-same g s l caller;
   before = large-aside _ _;
   after = idle-aside;
   recalls = idle-recalls;
   prefixes = λ words' w d i has bound lt.
       let at : Writes s.word (name.Arena (unit_place g.frames run.first)) (prefix_word (prefix.Large run.units)) words' =
       subst (λ p. Writes s.word (name.Arena p) (prefix_word (prefix.Large run.units)) words') fit.place w in
-      (behind-keeps g s l who run.first (prefix_word (prefix.Large run.units)) words' old at).bound d i has bound lt;
+      (behind-keeps g s l caller run.first (prefix_word (prefix.Large run.units)) words' old at).bound d i has bound lt;
   stays = λ words' w i has differ.
       let at : Writes s.word (name.Arena (unit_place g.frames run.first)) (prefix_word (prefix.Large run.units)) words' =
       subst (λ p. Writes s.word (name.Arena p) (prefix_word (prefix.Large run.units)) words') fit.place w in
-      prefixes-stay g s l who words' (behind-keeps g s l who run.first (prefix_word (prefix.Large run.units)) words' old at) old i has differ;
+      prefixes-stay g s l caller words' (behind-keeps g s l caller run.first (prefix_word (prefix.Large run.units)) words' old at) old i has differ;
 }
 
 -- the caller excepts the run alone
-excepts-run : (e : ErrandFields) (place : ℕ) (run : RunFields) (o : Onward) (p : ℕ) → e.point ≡ Large (large.StoreRunPrefix place run) o → Excepts e p → place ≡ p
+excepts-run : (e : ErrandFields) (place : ℕ) (run : RunFields) (o : Continuation) (p : ℕ) → e.point ≡ Large (large.StoreRunPrefix place run) o → Excepts e p → place ≡ p
 unfolding holds_of
 excepts-run e place run o p at (inl x) =
     let one : Any (λ b. b.place ≡ p) (run_handed place run.units) = subst (λ q. Any (λ b. b.place ≡ p) (holds_of q).hands) at x in
@@ -129,11 +129,11 @@ excepts-run e place run o p at (inr x) =
 
 -- after the store the run's word says it, and all else shows the pool as before
 prefix-tied :
-    (g : Geometry) (s : State) (l : Lists) (who place : ℕ) (run : RunFields) (o : Onward) (s' : State) (e : ErrandFields) → Touches g s l who e s'
-    → IsSoundWithoutCounts g s → IsSoundWith g s l → (s.errand who).point ≡ Large (large.StoreRunPrefix place run) o
-    → IsOwned s who place (need.Large run.units) → Writes s.word (name.Arena place) (prefix_word (prefix.Large run.units)) s'.word
+    (g : Geometry) (s : State) (l : Lists) (caller place : ℕ) (run : RunFields) (o : Continuation) (s' : State) (e : ErrandFields) → Touches g s l caller e s'
+    → IsSoundWithoutCounts g s → IsSoundWith g s l → (s.errand caller).point ≡ Large (large.StoreRunPrefix place run) o
+    → IsOwned s caller place (need.Large run.units) → Writes s.word (name.Arena place) (prefix_word (prefix.Large run.units)) s'.word
     → s'.history ≡ s.history → IsBareHanded e.point → IsTied g s' l
-prefix-tied g s l who place run o s' e h sound old at owned w past bare_after =
+prefix-tied g s l caller place run o s' e h sound old at owned w past bare_after =
     let tied = old.tied in
     let pool = λ (p : ℕ). ap (λ xs. block_at p (pool_of xs)) past in
     let was = λ (p : ℕ) (b : Block) (live : IsLive s' p b). sym (pool p) ∙ live in
@@ -141,9 +141,9 @@ prefix-tied g s l who place run o s' e h sound old at owned w past bare_after =
     one-live s place p owned.block.0 b owned.block.1 here live in
     let needs = λ (p : ℕ) (b : Block) (here : p ≡ place) (live : IsLive s p b).
     ap (λ (x : Block). x.need) (sym (run_is p b here live)) ∙ owned.block.3 in
-    let owns = bare-owns s' who e.point bare_after in
+    let owns = bare-owns s' caller e.point bare_after in
     let units : s'.word name.Units ≡ s.word name.Units = w.elsewhere name.Units (λ same. cc) in
-    ties-but g s l l who (λ p. p ≡ place) e s'
+    ties-but g s l l caller (λ p. p ≡ place) e s'
     (record {
       moves = h.moves;
       either = λ p. cases_eq p place;
@@ -158,7 +158,7 @@ prefix-tied g s l who place run o s' e h sound old at owned w past bare_after =
           let same : need.Large n ≡ need.Large run.units = sym is ∙ needs p b here (was p b live) in
           let units : run.units ≡ n = cc in
           inr (ap (λ q. s'.word (name.Arena q)) here ∙ w.here ∙ run-prefix-word run.units ∙ ap (λ m. 2 * m + 1) units);
-      bound = λ p class b d ne live is its. touched-desc g s l who e s' h p class d its;
+      bound = λ p class b d ne live is its. touched-desc g s l caller e s' h p class d its;
       units = λ unit has.
           let t = tied.units unit has in (
             λ bit.
@@ -178,30 +178,30 @@ prefix-tied g s l who place run o s' e h sound old at owned w past bare_after =
                 (omega (arith, written-usable g s sound p i v b old_live written)) (omega arith) (omega (arith, same))
           ] in
           w.elsewhere (name.Arena (p + 1 + i)) (λ same. apart (ap arena_place same)) ∙ tied.contents p i v b old_live written;
-      excepts = λ p ne excepts. absurd (ne (sym (excepts-run (s.errand who) place run o p at excepts)));
+      excepts = λ p ne excepts. absurd (ne (sym (excepts-run (s.errand caller) place run o p at excepts)));
       hands = owns.0;
       frees = owns.1;
     }) tied
 
 pub store_run_prefix-sound :
-    (g : Geometry) (s : State) (who : ℕ) (s' : State) (place : ℕ) (run : RunFields) (o : Onward) → IsSoundWithoutCounts g s → who < g.callers
-    → (s.errand who).point ≡ Large (large.StoreRunPrefix place run) o → Step s who s' → IsSoundWithoutCounts g s'
+    (g : Geometry) (s : State) (caller : ℕ) (s' : State) (place : ℕ) (run : RunFields) (o : Continuation) → IsSoundWithoutCounts g s → caller < g.callers
+    → (s.errand caller).point ≡ Large (large.StoreRunPrefix place run) o → Step s caller s' → IsSoundWithoutCounts g s'
 unfolding holds_of
-store_run_prefix-sound g s who s' place run o sound has at step =
+store_run_prefix-sound g s caller s' place run o sound has at step =
     let l = sound.parts.0 in
     let old = sound.parts.1 in
     let p : Point = Large (large.StoreRunPrefix place run) o in
-    let fit = fits-at g s l who p old has at in
-    let owned : IsOwned s who place (need.Large run.units) =
-    All-head (λ x. IsOwned s who x.place x.need) (record { place = place; need = need.Large run.units }) [] (hands-at g s l who p old has at) in
+    let fit = fits-at g s l caller p old has at in
+    let owned : IsOwned s caller place (need.Large run.units) =
+    All-head (λ x. IsOwned s caller x.place x.need) (record { place = place; need = need.Large run.units }) [] (hands-at g s l caller p old has at) in
     let t =
-    touched-step g s l who s' p Idle (name.Arena place) (prefix_word (prefix.Large run.units)) s.history old has at
-    (prefix-touches g s l who place run o old fit.point) step in
+    touched-step g s l caller s' p Idle (name.Arena place) (prefix_word (prefix.Large run.units)) s.history old has at
+    (prefix-touches g s l caller place run o old fit.point) step in
     record {
       checked = sound.checked;
       legal = subst (IsLegalWithoutCounts g) (sym t.history) sound.legal;
       parts = (
         l,
-        sound-touched g s l who _ s' t.touches old (prefix-tied g s l who place run o s' _ t.touches sound old at owned t.word t.history idle-bare-handed),
+        sound-touched g s l caller _ s' t.touches old (prefix-tied g s l caller place run o s' _ t.touches sound old at owned t.word t.history idle-bare-handed),
       );
     }

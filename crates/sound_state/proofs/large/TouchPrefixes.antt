@@ -17,7 +17,7 @@ use Rattle.superblock_parts.specs.Fits.{FitsBlock}
 use Rattle.superblock_parts.proofs.ChainLemmas.{chain_of-same}
 use Rattle.superblock_parts.specs.declared.point.BlockPoint.{BlockPoint}
 use Rattle.superblock_parts.specs.declared.point.BlockPoint.TheVariants as block
-use Rattle.errand_steps.specs.declared.onward.Onward.{Onward}
+use Rattle.errand_steps.specs.declared.continuation.Continuation.{Continuation}
 use Rattle.errand_steps.specs.declared.point.Point.{Point}
 use Rattle.errand_steps.specs.declared.point.Point.TheVariants as point
 use Rattle.errand_steps.specs.Steps.{State}
@@ -35,22 +35,22 @@ use Rattle.sound_state.proofs.large.TouchRecalls.{all-stays}
 use Rattle.sound_state.proofs.shared.WordFacts.{frame-of-within}
 
 -- these words have the prefix words of the blocks of bound superblocks, and of frames in which other callers make superblocks
-pub record KeepsPrefixes (g : Geometry) (s : State) (l : Lists) (who : ℕ) (words : WordName → ℕ) : Type 0 where
+pub record KeepsPrefixes (g : Geometry) (s : State) (l : Lists) (caller : ℕ) (words : WordName → ℕ) : Type 0 where
   pub away : (n : WordName) → IsAwayWord n → words n ≡ s.word n
   pub bound :
       (d i : ℕ) → d < descriptor_count g → IsTrue (is_bound g s l d) → i < block_count_of (info_for s d).class
       → words (prefix_name (info_for s d).frame (info_for s d).class i) ≡ s.word (prefix_name (info_for s d).frame (info_for s d).class i)
   pub making :
-      (i f c k : ℕ) → i < g.callers → i ≢ who → f < g.frames → 0 < errand_frames f (s.errand i) → ((d : ℕ) → errand_keeps waiting d (s.errand i) ≡ 0)
+      (i f c k : ℕ) → i < g.callers → i ≢ caller → f < g.frames → 0 < errand_frames f (s.errand i) → ((d : ℕ) → errand_keeps waiting d (s.errand i) ≡ 0)
       → k < block_count_of c
       → words (prefix_name f c k) ≡ s.word (prefix_name f c k)
 
 -- the prefix word of a block of a superblock at hand
 at-hand :
-    (g : Geometry) (s : State) (l : Lists) (who : ℕ) (words : WordName → ℕ) → KeepsPrefixes g s l who words → (at : Site) → at.desc < descriptor_count g
+    (g : Geometry) (s : State) (l : Lists) (caller : ℕ) (words : WordName → ℕ) → KeepsPrefixes g s l caller words → (at : Site) → at.desc < descriptor_count g
     → IsTrue (is_bound g s l at.desc) × IsLocated s at.desc at.frame at.seat.class → (i : ℕ) → i < block_count_of at.seat.class
     → words (prefix_name at.frame at.seat.class i) ≡ s.word (prefix_name at.frame at.seat.class i)
-at-hand g s l who words h at has here i within =
+at-hand g s l caller words h at has here i within =
     let P : ℕ → ℕ → Type 0 = λ f c. words (prefix_name f c i) ≡ s.word (prefix_name f c i) in
     subst (λ f. P f at.seat.class) here.1.frame
     (subst (λ c. P (info_for s at.desc).frame c) here.1.class
@@ -58,68 +58,68 @@ at-hand g s l who words h at has here i within =
 
 -- its links, and its chain of free blocks
 at-link :
-    (g : Geometry) (s : State) (l : Lists) (who : ℕ) (words : WordName → ℕ) → KeepsPrefixes g s l who words → (d i : ℕ) → d < descriptor_count g
+    (g : Geometry) (s : State) (l : Lists) (caller : ℕ) (words : WordName → ℕ) → KeepsPrefixes g s l caller words → (d i : ℕ) → d < descriptor_count g
     → IsTrue (is_bound g s l d) → i < block_count_of (info_for s d).class
     → link_in words (info_for s d).frame (info_for s d).class i ≡ link_in s.word (info_for s d).frame (info_for s d).class i
-at-link g s l who words h d i has bound within = ap link_of (h.bound d i has bound within)
+at-link g s l caller words h d i has bound within = ap link_of (h.bound d i has bound within)
 
 at-chain :
-    (g : Geometry) (s : State) (l : Lists) (who : ℕ) (words : WordName → ℕ) → KeepsPrefixes g s l who words → IsSoundWith g s l → (d : ℕ)
+    (g : Geometry) (s : State) (l : Lists) (caller : ℕ) (words : WordName → ℕ) → KeepsPrefixes g s l caller words → IsSoundWith g s l → (d : ℕ)
     → d < descriptor_count g → IsTrue (is_bound g s l d)
     → chain_of (link_in words (info_for s d).frame (info_for s d).class) ((anchor_for s d).count + reserved_of g s d) (anchor_for s d).avail
     ≡ free_chain (superblock_of g s d)
-at-chain g s l who words h old d has bound =
+at-chain g s l caller words h old d has bound =
     let c : IsChained (superblock_of g s d) = old.chained.chained d has bound in
     chain_of-same (superblock_of g s d).next (link_in words (info_for s d).frame (info_for s d).class) ((anchor_for s d).count + reserved_of g s d)
-    (anchor_for s d).avail (λ j on. at-link g s l who words h d j has bound (c.within j on))
+    (anchor_for s d).avail (λ j on. at-link g s l caller words h d j has bound (c.within j on))
 
 frame-in-hand : (f : ℕ) → 0 < occurs f (f ∷ [])
 frame-in-hand f = grind (arith)
 
 -- nor do the prefix words of its frame change
 at-making :
-    (g : Geometry) (s : State) (l : Lists) (who : ℕ) (words : WordName → ℕ) → KeepsPrefixes g s l who words → (i : ℕ) → i < g.callers → i ≢ who
+    (g : Geometry) (s : State) (l : Lists) (caller : ℕ) (words : WordName → ℕ) → KeepsPrefixes g s l caller words → (i : ℕ) → i < g.callers → i ≢ caller
     → (p : Point) → (s.errand i).point ≡ p → (at : Site) → holds_of p ≡ holding.making at → at.frame < g.frames → (k : ℕ)
     → k < block_count_of at.seat.class → words (prefix_name at.frame at.seat.class k) ≡ s.word (prefix_name at.frame at.seat.class k)
-at-making g s l who words h i has other p stands at making within k lt =
+at-making g s l caller words h i has other p stands at making within k lt =
     let holds : holds_of (s.errand i).point ≡ holding.making at = ap holds_of stands ∙ making in
     h.making i at.frame at.seat.class k has other within (subst (λ x. 0 < occurs at.frame x.frames) (sym holds) (frame-in-hand at.frame))
     (λ d. subst (λ x. kept_among waiting d x.kept ≡ 0) (sym holds) (making-waits d at)) lt
 
 block-stays :
-    (g : Geometry) (s : State) (l : Lists) (who : ℕ) (words : WordName → ℕ) → KeepsPrefixes g s l who words → IsSoundWith g s l → (i : ℕ)
-    → i < g.callers → i ≢ who → (p : BlockPoint) (o : Onward) → (s.errand i).point ≡ point.Block p o → FitsBlock g i p
+    (g : Geometry) (s : State) (l : Lists) (caller : ℕ) (words : WordName → ℕ) → KeepsPrefixes g s l caller words → IsSoundWith g s l → (i : ℕ)
+    → i < g.callers → i ≢ caller → (p : BlockPoint) (o : Continuation) → (s.errand i).point ≡ point.Block p o → FitsBlock g i p
     → AllByRecursion (IsSo g s l i) (block_recalls p) → AllByRecursion (Stays g s words) (block_recalls p)
 unfolding holds_of
-block-stays g s l who words h old i has other (block.LoadLink at share a) o stands fit so =
-    (at-chain g s l who words h old at.desc fit.site.desc so.1.0.0, (tt, tt))
-block-stays g s l who words h old i has other (block.PopBlock at share a prefix) o stands fit so = (
-  at-link g s l who words h at.desc a.avail fit.site.desc so.1.1.0.0
+block-stays g s l caller words h old i has other (block.LoadLink at share a) o stands fit so =
+    (at-chain g s l caller words h old at.desc fit.site.desc so.1.0.0, (tt, tt))
+block-stays g s l caller words h old i has other (block.PopBlock at share a prefix) o stands fit so = (
+  at-link g s l caller words h at.desc a.avail fit.site.desc so.1.1.0.0
       (subst (λ c. a.avail < block_count_of c) (sym so.1.1.0.1.class) fit.anchor.avail),
-  (at-chain g s l who words h old at.desc fit.site.desc so.1.1.0.0, (tt, tt)),
+  (at-chain g s l caller words h old at.desc fit.site.desc so.1.1.0.0, (tt, tt)),
 )
-block-stays g s l who words h old i has other (block.InstallSuperblock at) o stands fit so = (h.away (name.Anchor at.desc) tt, (tt, tt))
-block-stays g s l who words h old i has other (block.PushBlock at k a stored heap) o stands fit so =
-    (at-hand g s l who words h at fit.block.site.desc so.1.0 k fit.block.index, (tt, tt))
-block-stays g s l who words h old i has other (block.LinkBlock at n) o stands fit so =
-    (λ k lt. at-making g s l who words h i has other _ stands at refl fit.site.frame k (omega (arith, lt, fit.index)), tt)
-block-stays g s l who words h old i has other (block.StoreInfo at) o stands fit so =
-    (λ k lt. at-making g s l who words h i has other _ stands at refl fit.frame k lt, tt)
-block-stays g s l who words h old i has other (block.StoreAnchor at) o stands fit so =
-    (h.away (name.Info at.desc) tt, (λ k lt. at-making g s l who words h i has other _ stands at refl fit.frame k lt, tt))
-block-stays g s l who words h old i has other p o stands fit so = grind (arith)
+block-stays g s l caller words h old i has other (block.InstallSuperblock at) o stands fit so = (h.away (name.Anchor at.desc) tt, (tt, tt))
+block-stays g s l caller words h old i has other (block.PushBlock at k a stored heap) o stands fit so =
+    (at-hand g s l caller words h at fit.block.site.desc so.1.0 k fit.block.index, (tt, tt))
+block-stays g s l caller words h old i has other (block.LinkBlock at n) o stands fit so =
+    (λ k lt. at-making g s l caller words h i has other _ stands at refl fit.site.frame k (omega (arith, lt, fit.index)), tt)
+block-stays g s l caller words h old i has other (block.StoreInfo at) o stands fit so =
+    (λ k lt. at-making g s l caller words h i has other _ stands at refl fit.frame k lt, tt)
+block-stays g s l caller words h old i has other (block.StoreAnchor at) o stands fit so =
+    (h.away (name.Info at.desc) tt, (λ k lt. at-making g s l caller words h i has other _ stands at refl fit.frame k lt, tt))
+block-stays g s l caller words h old i has other p o stands fit so = grind (arith)
 
 -- so all that the others remember stays
 pub prefixes-stay :
-    (g : Geometry) (s : State) (l : Lists) (who : ℕ) (words : WordName → ℕ) → KeepsPrefixes g s l who words → IsSoundWith g s l → (i : ℕ)
-    → i < g.callers → i ≢ who → All (Stays g s words) (recalls_of (s.errand i).point)
+    (g : Geometry) (s : State) (l : Lists) (caller : ℕ) (words : WordName → ℕ) → KeepsPrefixes g s l caller words → IsSoundWith g s l → (i : ℕ)
+    → i < g.callers → i ≢ caller → All (Stays g s words) (recalls_of (s.errand i).point)
 unfolding recalls_of
-prefixes-stay g s l who words h old i has other =
+prefixes-stay g s l caller words h old i has other =
     all-stays g s words h.away (s.errand i).point
     (λ b o is.
     let fit = fits-at g s l i (point.Block b o) old has is in
     All-from_recursion (Stays g s words) (block_recalls b)
-    (block-stays g s l who words h old i has other b o is fit.point
+    (block-stays g s l caller words h old i has other b o is fit.point
     (recursion_from_All (IsSo g s l i) (block_recalls b) (so-at g s l i (point.Block b o) old has is))))
 
 pub info-frame : (g : Geometry) (s : State) (l : Lists) (d : ℕ) → IsSoundWith g s l → d < descriptor_count g → (info_for s d).frame < g.frames

@@ -16,11 +16,11 @@ use Rattle.stack_parts.specs.Piles.{next_name}
 use Rattle.hazard_parts.specs.declared.point.DescPoint.{DescPoint}
 use Rattle.partial_parts.specs.declared.point.PartialPoint.{PartialPoint}
 use Rattle.large_parts.specs.declared.point.LargePoint.{LargePoint}
-use Rattle.errand_steps.specs.declared.onward.Onward.{Onward}
+use Rattle.errand_steps.specs.declared.continuation.Continuation.{Continuation}
 use Rattle.errand_steps.specs.declared.point.Point.{Point}
 use Rattle.errand_steps.specs.declared.point.Point.TheVariants as point
 use Rattle.errand_steps.specs.Steps.{State}
-use Rattle.sound_state.specs.Recalls.{Recall, recalls_of, block_recalls, onward_recalls, stack_recalls, resumed_recalls, desc_recalls, partial_recalls, large_recalls, pops, links, says, made}
+use Rattle.sound_state.specs.Recalls.{Recall, recalls_of, block_recalls, continuation_recalls, stack_recalls, resumed_recalls, desc_recalls, partial_recalls, large_recalls, pops, links, says, made}
 use Rattle.sound_state.specs.Superblocks.{info_for, anchor_for, reserved_of}
 use Rattle.sound_state.proofs.large.TouchEffects.{IsAwayWord, Stays}
 use Rattle.sound_state.proofs.shared.RecallTables.{for-each}
@@ -48,27 +48,27 @@ said-block : (p : BlockPoint) → AllByRecursion IsSaid (block_recalls p)
 said-block p = grind (arith)
 
 -- behind a part
-away-onward : (seat : SeatFields) (o : Onward) → AllByRecursion IsAwayRecall (onward_recalls seat o)
-away-onward seat o = grind (arith)
+away-continuation : (seat : SeatFields) (o : Continuation) → AllByRecursion IsAwayRecall (continuation_recalls seat o)
+away-continuation seat o = grind (arith)
 
 -- at a stack
 apart-next : (pile : Pile) (k : ℕ) → IsAwayWord (next_name pile k)
 apart-next Frames k = tt
 apart-next Partials k = tt
 
-away-stack : (p : StackPoint) (o : Onward) → AllByRecursion IsAwayRecall (stack_recalls p o)
-away-stack p o = grind (arith, apart-next, away-onward)
+away-stack : (p : StackPoint) (o : Continuation) → AllByRecursion IsAwayRecall (stack_recalls p o)
+away-stack p o = grind (arith, apart-next, away-continuation)
 
 -- at the descriptors or the hazard words
-away-resumed : (seat : SeatFields) (o : Onward) → AllByRecursion IsAwayRecall (resumed_recalls seat o)
+away-resumed : (seat : SeatFields) (o : Continuation) → AllByRecursion IsAwayRecall (resumed_recalls seat o)
 away-resumed seat o = grind (arith)
 
-away-desc : (p : DescPoint) (o : Onward) → AllByRecursion IsAwayRecall (desc_recalls p o)
-away-desc p o = grind (arith, away-onward, away-resumed)
+away-desc : (p : DescPoint) (o : Continuation) → AllByRecursion IsAwayRecall (desc_recalls p o)
+away-desc p o = grind (arith, away-continuation, away-resumed)
 
 -- at a partial superblock
-away-partial : (p : PartialPoint) (o : Onward) → AllByRecursion IsAwayRecall (partial_recalls p o)
-away-partial p o = grind (arith, away-onward)
+away-partial : (p : PartialPoint) (o : Continuation) → AllByRecursion IsAwayRecall (partial_recalls p o)
+away-partial p o = grind (arith, away-continuation)
 
 -- at a large block
 away-large : (p : LargePoint) → AllByRecursion IsAwayRecall (large_recalls p)
@@ -88,7 +88,7 @@ module _ (g : Geometry) (s : State) (words' : WordName → ℕ) (others : (n : W
 
   -- where what is remembered in a superblock stays, so does all that is remembered
   pub all-stays :
-      (p : Point) → ((b : BlockPoint) (o : Onward) → p ≡ point.Block b o → All (Stays g s words') (block_recalls b))
+      (p : Point) → ((b : BlockPoint) (o : Continuation) → p ≡ point.Block b o → All (Stays g s words') (block_recalls b))
       → All (Stays g s words') (recalls_of p)
   unfolding recalls_of
   all-stays point.Idle blocks = all-apart [] tt

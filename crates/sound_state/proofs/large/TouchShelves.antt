@@ -23,7 +23,7 @@ use Rattle.pool_model.specs.Pool.{Block, Pool, block_at, handed_to, with_changed
 use Rattle.pool_model.proofs.HistoryLemmas.{pool_of-push}
 use Rattle.pool_model.proofs.PoolLemmas.{block_at-changed_other, block_at-changed_same}
 use Rattle.pool_model.proofs.WellFormedLemmas.{sound-of, separate-found}
-use Rattle.errand_steps.specs.declared.onward.Onward.{Onward}
+use Rattle.errand_steps.specs.declared.continuation.Continuation.{Continuation}
 use Rattle.errand_steps.specs.declared.point.Point.{Point}
 use Rattle.errand_steps.specs.declared.point.Point.TheVariants.{Idle, Large}
 use Rattle.errand_steps.specs.declared.reply.Reply.TheVariants as reply
@@ -106,15 +106,15 @@ shelf_number n = 0
 
 -- a block changes hands, and the word of a shelf says what lies there then: the block, which lay on no other shelf, or nothing
 handed-tied :
-    (g : Geometry) (s : State) (l : Lists) (who k place word : ℕ) (to : Owner) (s' : State) (e : ErrandFields) → Touches g s l who e s'
-    → IsSoundWith g s l → Writes s.word (name.Shelf k) word s'.word → IsBareHanded (s.errand who).point → IsBareHanded e.point
+    (g : Geometry) (s : State) (l : Lists) (caller k place word : ℕ) (to : Owner) (s' : State) (e : ErrandFields) → Touches g s l caller e s'
+    → IsSoundWith g s l → Writes s.word (name.Shelf k) word s'.word → IsBareHanded (s.errand caller).point → IsBareHanded e.point
     → (b : Block) → Changes s s' place b (handed_to to b) → ((j : ℕ) → b.owner ≡ Shelf j → j ≡ k)
     → ((p : ℕ) (x : Block) → p ≢ place → IsLive s p x → x.owner ≡ Shelf k → ⊥)
     → ((j : ℕ) → to ≡ Shelf j → (j ≡ k) × (word ≡ shelf_word (shelf.Block place b.need)))
     → ((to ≡ Shelf k → ⊥) → word ≡ shelf_word shelf.Nothing) → IsTied g s' l
-handed-tied g s l who k place word to s' e h old w bare_before bare_after b c from alone onto nothing =
+handed-tied g s l caller k place word to s' e h old w bare_before bare_after b c from alone onto nothing =
     let others = λ (j : ℕ) (differ : j ≢ k). w.elsewhere (name.Shelf j) (λ same. differ (ap shelf_number same)) in
-    tied-touched g s l who e s' h old (changes-places s s' place b (handed_to to b) c) bare_before bare_after
+    tied-touched g s l caller e s' h old (changes-places s s' place b (handed_to to b) c) bare_before bare_after
     (λ p x live. w.elsewhere (name.Arena p) (λ same. cc)) (w.elsewhere name.Units (λ same. cc))
     (λ j p x has_j live on.
     elim (cases_eq p place) [
@@ -154,7 +154,7 @@ handed-tied g s l who k place word to s' e h old w bare_before bare_after b c fr
     ])
 
 -- a block is put on a shelf
-put-bare : (k place : ℕ) (n : Need) (o : Onward) → IsBareHanded (Large (large.PutBlock k place n) o)
+put-bare : (k place : ℕ) (n : Need) (o : Continuation) → IsBareHanded (Large (large.PutBlock k place n) o)
 unfolding holds_of
 put-bare k place n o = grind (arith)
 
@@ -171,12 +171,12 @@ unfolding recalls_of
 idle-recalls = refl
 
 put-touches :
-    (g : Geometry) (s : State) (l : Lists) (who k place : ℕ) (n : Need) (o : Onward) → IsSoundWith g s l → k < SHELVES
+    (g : Geometry) (s : State) (l : Lists) (caller k place : ℕ) (n : Need) (o : Continuation) → IsSoundWith g s l → k < SHELVES
     → IsShelfWord (shelf.Block place n) → s.word (name.Shelf k) ≡ shelf_word shelf.Nothing → (b : Block) → IsLive s place b
-    → IsAllowed g s.history (Put who place k)
-    → TouchesAt g s l who (Large (large.PutBlock k place n) o) Idle (name.Shelf k) (shelf_word (shelf.Block place n)) (s.history ++ Put who place k ∷ [])
+    → IsAllowed g s.history (Put caller place k)
+    → TouchesAt g s l caller (Large (large.PutBlock k place n) o) Idle (name.Shelf k) (shelf_word (shelf.Block place n)) (s.history ++ Put caller place k ∷ [])
 unfolding plan_point_of next_of event_of
-put-touches g s l who k place n o old has fit word b live allowed =
+put-touches g s l caller k place n o old has fit word b live allowed =
     let won : (s.word (name.Shelf k) == shelf_word shelf.Nothing) ≡ true = eq-eqb (s.word (name.Shelf k)) (shelf_word shelf.Nothing) word in
     record {
       leads = inr (reply.Put, rw won refl, refl);
@@ -188,8 +188,8 @@ put-touches g s l who k place n o old has fit word b live allowed =
       cleared = refl;
       told = rw won refl;
       leaves =
-          leaves-event g s l who (Put who place k)
-          (record { caller = refl; gives = λ i. refl; refuses = λ i. refl; allocs = refl; freed = refl }) allowed
+          leaves-event g s l caller (Put caller place k)
+          (record { number = refl; gives = λ i. refl; refuses = λ i. refl; allocs = refl; freed = refl }) allowed
           (λ d i has_d bound lt. changed-there place _ (handed_to (Shelf k)) (pool_of s.history) b (λ x. refl) live);
       before = large-aside _ _;
       after = idle-aside;
@@ -199,48 +199,48 @@ put-touches g s l who k place n o old has fit word b live allowed =
     }
 
 put-tied :
-    (g : Geometry) (s : State) (l : Lists) (who k place : ℕ) (n : Need) (s' : State) (e : ErrandFields) → Touches g s l who e s' → IsSoundWith g s l → k < SHELVES
-    → Writes s.word (name.Shelf k) (shelf_word (shelf.Block place n)) s'.word → IsBareHanded (s.errand who).point → IsBareHanded e.point
-    → IsEmptyShelf (pool_of s.history) k → (b : Block) → b.owner ≡ Caller who → b.need ≡ n → Changes s s' place b (handed_to (Shelf k) b)
+    (g : Geometry) (s : State) (l : Lists) (caller k place : ℕ) (n : Need) (s' : State) (e : ErrandFields) → Touches g s l caller e s' → IsSoundWith g s l → k < SHELVES
+    → Writes s.word (name.Shelf k) (shelf_word (shelf.Block place n)) s'.word → IsBareHanded (s.errand caller).point → IsBareHanded e.point
+    → IsEmptyShelf (pool_of s.history) k → (b : Block) → b.owner ≡ Caller caller → b.need ≡ n → Changes s s' place b (handed_to (Shelf k) b)
     → IsTied g s' l
-put-tied g s l who k place n s' e h old has w bare_before bare_after empty b owned of c =
-    handed-tied g s l who k place (shelf_word (shelf.Block place n)) (Shelf k) s' e h old w bare_before bare_after b c
-    (λ j on. let bad : Caller who ≡ Shelf j = sym owned ∙ on in absurd (cc)) (λ p x ne was on. empty p x was on)
+put-tied g s l caller k place n s' e h old has w bare_before bare_after empty b owned of c =
+    handed-tied g s l caller k place (shelf_word (shelf.Block place n)) (Shelf k) s' e h old w bare_before bare_after b c
+    (λ j on. let bad : Caller caller ≡ Shelf j = sym owned ∙ on in absurd (cc)) (λ p x ne was on. empty p x was on)
     (λ j is. let same : j ≡ k = cc in (same, ap (λ m. shelf_word (shelf.Block place m)) (sym of))) (λ differ. absurd (differ refl))
 
 pub put_block-sound :
-    (g : Geometry) (s : State) (who : ℕ) (s' : State) (k place : ℕ) (n : Need) (o : Onward) → IsSoundWithoutCounts g s → who < g.callers
-    → (s.errand who).point ≡ Large (large.PutBlock k place n) o → s.word (name.Shelf k) ≡ shelf_word shelf.Nothing → Step s who s' → IsSoundWithoutCounts g s'
+    (g : Geometry) (s : State) (caller : ℕ) (s' : State) (k place : ℕ) (n : Need) (o : Continuation) → IsSoundWithoutCounts g s → caller < g.callers
+    → (s.errand caller).point ≡ Large (large.PutBlock k place n) o → s.word (name.Shelf k) ≡ shelf_word shelf.Nothing → Step s caller s' → IsSoundWithoutCounts g s'
 unfolding recalls_of
-put_block-sound g s who s' k place n o sound has at word step =
+put_block-sound g s caller s' k place n o sound has at word step =
     let l = sound.parts.0 in
     let old = sound.parts.1 in
     let p : Point = Large (large.PutBlock k place n) o in
-    let fit = fits-at g s l who p old has at in
-    let owned : IsOwned s who place n = All-head (IsSo g s l who) (owns_all place n) [] (so-at g s l who p old has at) in
+    let fit = fits-at g s l caller p old has at in
+    let owned : IsOwned s caller place n = All-head (IsSo g s l caller) (owns_all place n) [] (so-at g s l caller p old has at) in
     let b : Block = owned.block.0 in
     let empty : IsEmptyShelf (pool_of s.history) k = empty-shelf g s l k old fit.point.shelf word in
-    let allowed : IsAllowed g s.history (Put who place k) = ((b, owned.block.1, owned.block.2), fit.point.shelf, empty) in
+    let allowed : IsAllowed g s.history (Put caller place k) = ((b, owned.block.1, owned.block.2), fit.point.shelf, empty) in
     let t =
-    touched-step g s l who s' p Idle (name.Shelf k) (shelf_word (shelf.Block place n)) (s.history ++ Put who place k ∷ []) old has at
-    (put-touches g s l who k place n o old fit.point.shelf fit.point.block word b owned.block.1 allowed) step in
+    touched-step g s l caller s' p Idle (name.Shelf k) (shelf_word (shelf.Block place n)) (s.history ++ Put caller place k ∷ []) old has at
+    (put-touches g s l caller k place n o old fit.point.shelf fit.point.block word b owned.block.1 allowed) step in
     let c : Changes s s' place b (handed_to (Shelf k) b) =
-    changes-from s s' (Put who place k) place (handed_to (Shelf k)) b t.history refl (λ x. refl) (λ x. refl) owned.block.1 in
-    touched-sound g s l who _ _ _ (Put who place k) s' sound old (has, allowed) t
-    (put-tied g s l who k place n s' _ t.touches old fit.point.shelf t.word (subst IsBareHanded (sym at) (put-bare k place n o)) idle-bare-handed empty b
+    changes-from s s' (Put caller place k) place (handed_to (Shelf k)) b t.history refl (λ x. refl) (λ x. refl) owned.block.1 in
+    touched-sound g s l caller _ _ _ (Put caller place k) s' sound old (has, allowed) t
+    (put-tied g s l caller k place n s' _ t.touches old fit.point.shelf t.word (subst IsBareHanded (sym at) (put-bare k place n o)) idle-bare-handed empty b
     owned.block.2 owned.block.3 c)
 
 -- a block is taken from a shelf
-take_block-bare : (k place : ℕ) (n : Need) (o : Onward) → IsBareHanded (Large (large.TakeBlock k place n) o)
+take_block-bare : (k place : ℕ) (n : Need) (o : Continuation) → IsBareHanded (Large (large.TakeBlock k place n) o)
 unfolding holds_of
 take_block-bare k place n o = grind (arith)
 
 take-touches :
-    (g : Geometry) (s : State) (l : Lists) (who k place : ℕ) (n : Need) (o : Onward) → IsSoundWith g s l → k < SHELVES
-    → s.word (name.Shelf k) ≡ shelf_word (shelf.Block place n) → (b : Block) → IsLive s place b → IsAllowed g s.history (Take who k place)
-    → TouchesAt g s l who (Large (large.TakeBlock k place n) o) Idle (name.Shelf k) (shelf_word shelf.Nothing) (s.history ++ Take who k place ∷ [])
+    (g : Geometry) (s : State) (l : Lists) (caller k place : ℕ) (n : Need) (o : Continuation) → IsSoundWith g s l → k < SHELVES
+    → s.word (name.Shelf k) ≡ shelf_word (shelf.Block place n) → (b : Block) → IsLive s place b → IsAllowed g s.history (Take caller k place)
+    → TouchesAt g s l caller (Large (large.TakeBlock k place n) o) Idle (name.Shelf k) (shelf_word shelf.Nothing) (s.history ++ Take caller k place ∷ [])
 unfolding plan_point_of next_of event_of
-take-touches g s l who k place n o old has word b live allowed =
+take-touches g s l caller k place n o old has word b live allowed =
     let won : (s.word (name.Shelf k) == shelf_word (shelf.Block place n)) ≡ true = eq-eqb (s.word (name.Shelf k)) (shelf_word (shelf.Block place n)) word in
     record {
       leads = inr (reply.Got place n, rw won refl, refl);
@@ -252,9 +252,9 @@ take-touches g s l who k place n o old has word b live allowed =
       cleared = refl;
       told = rw won refl;
       leaves =
-          leaves-event g s l who (Take who k place)
-          (record { caller = refl; gives = λ i. refl; refuses = λ i. refl; allocs = refl; freed = refl }) allowed
-          (λ d i has_d bound lt. changed-there place _ (handed_to (Caller who)) (pool_of s.history) b (λ x. refl) live);
+          leaves-event g s l caller (Take caller k place)
+          (record { number = refl; gives = λ i. refl; refuses = λ i. refl; allocs = refl; freed = refl }) allowed
+          (λ d i has_d bound lt. changed-there place _ (handed_to (Caller caller)) (pool_of s.history) b (λ x. refl) live);
       before = large-aside _ _;
       after = idle-aside;
       recalls = idle-recalls;
@@ -263,46 +263,46 @@ take-touches g s l who k place n o old has word b live allowed =
     }
 
 take-tied :
-    (g : Geometry) (s : State) (l : Lists) (who k place : ℕ) (s' : State) (e : ErrandFields) → Touches g s l who e s' → IsSoundWithoutCounts g s
-    → IsSoundWith g s l → Writes s.word (name.Shelf k) (shelf_word shelf.Nothing) s'.word → IsBareHanded (s.errand who).point
-    → IsBareHanded e.point → (b : Block) → b.owner ≡ Shelf k → Changes s s' place b (handed_to (Caller who) b) → IsTied g s' l
-take-tied g s l who k place s' e h sound old w bare_before bare_after b owned c =
-    handed-tied g s l who k place (shelf_word shelf.Nothing) (Caller who) s' e h old w bare_before bare_after b c
+    (g : Geometry) (s : State) (l : Lists) (caller k place : ℕ) (s' : State) (e : ErrandFields) → Touches g s l caller e s' → IsSoundWithoutCounts g s
+    → IsSoundWith g s l → Writes s.word (name.Shelf k) (shelf_word shelf.Nothing) s'.word → IsBareHanded (s.errand caller).point
+    → IsBareHanded e.point → (b : Block) → b.owner ≡ Shelf k → Changes s s' place b (handed_to (Caller caller) b) → IsTied g s' l
+take-tied g s l caller k place s' e h sound old w bare_before bare_after b owned c =
+    handed-tied g s l caller k place (shelf_word shelf.Nothing) (Caller caller) s' e h old w bare_before bare_after b c
     (λ j on. let same : Shelf k ≡ Shelf j = sym owned ∙ on in cc)
     (λ p x ne was on.
     (separate-found g (pool_of s.history) (sound-of g s.history sound.legal) p place x b was c.was ne).shelves k on owned)
     (λ j is. absurd (cc)) (λ differ. refl)
 
 pub take_block-sound :
-    (g : Geometry) (s : State) (who : ℕ) (s' : State) (k place : ℕ) (n : Need) (o : Onward) → IsSoundWithoutCounts g s → who < g.callers
-    → (s.errand who).point ≡ Large (large.TakeBlock k place n) o → s.word (name.Shelf k) ≡ shelf_word (shelf.Block place n) → Step s who s' → IsSoundWithoutCounts g s'
-take_block-sound g s who s' k place n o sound has at word step =
+    (g : Geometry) (s : State) (caller : ℕ) (s' : State) (k place : ℕ) (n : Need) (o : Continuation) → IsSoundWithoutCounts g s → caller < g.callers
+    → (s.errand caller).point ≡ Large (large.TakeBlock k place n) o → s.word (name.Shelf k) ≡ shelf_word (shelf.Block place n) → Step s caller s' → IsSoundWithoutCounts g s'
+take_block-sound g s caller s' k place n o sound has at word step =
     let l = sound.parts.0 in
     let old = sound.parts.1 in
     let p : Point = Large (large.TakeBlock k place n) o in
-    let fit = fits-at g s l who p old has at in
+    let fit = fits-at g s l caller p old has at in
     let there = shelved-block g s l k place n sound old fit.point.shelf fit.point.block word in
     let b : Block = there.0 in
-    let allowed : IsAllowed g s.history (Take who k place) = ((b, there.1, there.2), fit.point.shelf) in
+    let allowed : IsAllowed g s.history (Take caller k place) = ((b, there.1, there.2), fit.point.shelf) in
     let t =
-    touched-step g s l who s' p Idle (name.Shelf k) (shelf_word shelf.Nothing) (s.history ++ Take who k place ∷ []) old has at
-    (take-touches g s l who k place n o old fit.point.shelf word b there.1 allowed) step in
-    let c : Changes s s' place b (handed_to (Caller who) b) =
-    changes-from s s' (Take who k place) place (handed_to (Caller who)) b t.history refl (λ x. refl) (λ x. refl) there.1 in
-    touched-sound g s l who _ _ _ (Take who k place) s' sound old (has, allowed) t
-    (take-tied g s l who k place s' _ t.touches sound old t.word (subst IsBareHanded (sym at) (take_block-bare k place n o)) idle-bare-handed b there.2 c)
+    touched-step g s l caller s' p Idle (name.Shelf k) (shelf_word shelf.Nothing) (s.history ++ Take caller k place ∷ []) old has at
+    (take-touches g s l caller k place n o old fit.point.shelf word b there.1 allowed) step in
+    let c : Changes s s' place b (handed_to (Caller caller) b) =
+    changes-from s s' (Take caller k place) place (handed_to (Caller caller)) b t.history refl (λ x. refl) (λ x. refl) there.1 in
+    touched-sound g s l caller _ _ _ (Take caller k place) s' sound old (has, allowed) t
+    (take-tied g s l caller k place s' _ t.touches sound old t.word (subst IsBareHanded (sym at) (take_block-bare k place n o)) idle-bare-handed b there.2 c)
 
 -- a shelf is still empty
-none-bare : (k : ℕ) (o : Onward) → IsBareHanded (Large (large.ConfirmNothing k) o)
+none-bare : (k : ℕ) (o : Continuation) → IsBareHanded (Large (large.ConfirmNothing k) o)
 unfolding holds_of
 none-bare k o = grind (arith)
 
 none-touches :
-    (g : Geometry) (s : State) (l : Lists) (who k : ℕ) (o : Onward) → IsSoundWith g s l → k < SHELVES
-    → s.word (name.Shelf k) ≡ shelf_word shelf.Nothing → IsAllowed g s.history (TakeNone who k)
-    → TouchesAt g s l who (Large (large.ConfirmNothing k) o) Idle (name.Shelf k) (shelf_word shelf.Nothing) (s.history ++ TakeNone who k ∷ [])
+    (g : Geometry) (s : State) (l : Lists) (caller k : ℕ) (o : Continuation) → IsSoundWith g s l → k < SHELVES
+    → s.word (name.Shelf k) ≡ shelf_word shelf.Nothing → IsAllowed g s.history (TakeNone caller k)
+    → TouchesAt g s l caller (Large (large.ConfirmNothing k) o) Idle (name.Shelf k) (shelf_word shelf.Nothing) (s.history ++ TakeNone caller k ∷ [])
 unfolding plan_point_of next_of event_of
-none-touches g s l who k o old has word allowed =
+none-touches g s l caller k o old has word allowed =
     let won : (s.word (name.Shelf k) == shelf_word shelf.Nothing) ≡ true = eq-eqb (s.word (name.Shelf k)) (shelf_word shelf.Nothing) word in
     record {
       leads = inr (reply.Empty, rw won refl, refl);
@@ -314,8 +314,8 @@ none-touches g s l who k o old has word allowed =
       cleared = refl;
       told = rw won refl;
       leaves =
-          leaves-event g s l who (TakeNone who k)
-          (record { caller = refl; gives = λ i. refl; refuses = λ i. refl; allocs = refl; freed = refl }) allowed
+          leaves-event g s l caller (TakeNone caller k)
+          (record { number = refl; gives = λ i. refl; refuses = λ i. refl; allocs = refl; freed = refl }) allowed
           (λ d i has_d bound lt. refl);
       before = large-aside _ _;
       after = idle-aside;
@@ -326,11 +326,11 @@ none-touches g s l who k o old has word allowed =
 
 -- words and blocks that all stay are tied as they were
 pub same-tied :
-    (g : Geometry) (s : State) (l : Lists) (who : ℕ) (s' : State) (e : ErrandFields) → Touches g s l who e s' → IsSoundWith g s l
-    → ((m : WordName) → s'.word m ≡ s.word m) → IsBareHanded (s.errand who).point → IsBareHanded e.point
+    (g : Geometry) (s : State) (l : Lists) (caller : ℕ) (s' : State) (e : ErrandFields) → Touches g s l caller e s' → IsSoundWith g s l
+    → ((m : WordName) → s'.word m ≡ s.word m) → IsBareHanded (s.errand caller).point → IsBareHanded e.point
     → ((p : ℕ) → block_at p (pool_of s'.history) ≡ block_at p (pool_of s.history)) → IsTied g s' l
-same-tied g s l who s' e h old words bare_before bare_after pool =
-    tied-touched g s l who e s' h old
+same-tied g s l caller s' e h old words bare_before bare_after pool =
+    tied-touched g s l caller e s' h old
     (record { was = λ p x live. (x, sym (pool p) ∙ live, refl); still = λ p x live. (x, pool p ∙ live, refl) }) bare_before bare_after
     (λ p x live. words (name.Arena p)) (words name.Units)
     (λ j p x has_j live on. words (name.Shelf j) ∙ old.tied.shelved j p x has_j (sym (pool p) ∙ live) on)
@@ -338,18 +338,18 @@ same-tied g s l who s' e h old words bare_before bare_after pool =
     (λ p i v x live written. words (name.Arena (p + 1 + i)) ∙ old.tied.contents p i v x (sym (pool p) ∙ live) written)
 
 pub confirm_nothing-sound :
-    (g : Geometry) (s : State) (who : ℕ) (s' : State) (k : ℕ) (o : Onward) → IsSoundWithoutCounts g s → who < g.callers
-    → (s.errand who).point ≡ Large (large.ConfirmNothing k) o → s.word (name.Shelf k) ≡ shelf_word shelf.Nothing → Step s who s' → IsSoundWithoutCounts g s'
-confirm_nothing-sound g s who s' k o sound has at word step =
+    (g : Geometry) (s : State) (caller : ℕ) (s' : State) (k : ℕ) (o : Continuation) → IsSoundWithoutCounts g s → caller < g.callers
+    → (s.errand caller).point ≡ Large (large.ConfirmNothing k) o → s.word (name.Shelf k) ≡ shelf_word shelf.Nothing → Step s caller s' → IsSoundWithoutCounts g s'
+confirm_nothing-sound g s caller s' k o sound has at word step =
     let l = sound.parts.0 in
     let old = sound.parts.1 in
     let p : Point = Large (large.ConfirmNothing k) o in
-    let fit = fits-at g s l who p old has at in
+    let fit = fits-at g s l caller p old has at in
     let shelf_there : k < SHELVES = fit.point in
-    let allowed : IsAllowed g s.history (TakeNone who k) = (shelf_there, empty-shelf g s l k old shelf_there word) in
+    let allowed : IsAllowed g s.history (TakeNone caller k) = (shelf_there, empty-shelf g s l k old shelf_there word) in
     let t =
-    touched-step g s l who s' p Idle (name.Shelf k) (shelf_word shelf.Nothing) (s.history ++ TakeNone who k ∷ []) old has at
-    (none-touches g s l who k o old shelf_there word allowed) step in
-    touched-sound g s l who _ _ _ (TakeNone who k) s' sound old (has, allowed) t
-    (same-tied g s l who s' _ t.touches old (words-stay s.word (name.Shelf k) _ s'.word t.word (sym word)) (subst IsBareHanded (sym at) (none-bare k o))
-    idle-bare-handed (λ q. ap (block_at q) (ap pool_of t.history ∙ pool_of-push s.history (TakeNone who k))))
+    touched-step g s l caller s' p Idle (name.Shelf k) (shelf_word shelf.Nothing) (s.history ++ TakeNone caller k ∷ []) old has at
+    (none-touches g s l caller k o old shelf_there word allowed) step in
+    touched-sound g s l caller _ _ _ (TakeNone caller k) s' sound old (has, allowed) t
+    (same-tied g s l caller s' _ t.touches old (words-stay s.word (name.Shelf k) _ s'.word t.word (sym word)) (subst IsBareHanded (sym at) (none-bare k o))
+    idle-bare-handed (λ q. ap (block_at q) (ap pool_of t.history ∙ pool_of-push s.history (TakeNone caller k))))

@@ -36,22 +36,22 @@ use Rattle.sound_state.proofs.large.TouchRecalls.{point-stays}
 use Rattle.sound_state.proofs.shared.WonEffects.{settle-leads, LeadsTo}
 
 -- the events after a step leave what the others own, and count no small block
-pub record LeavesOthers (g : Geometry) (s : State) (l : Lists) (who : ℕ) (past : List Event) : Type 0 where
+pub record LeavesOthers (g : Geometry) (s : State) (l : Lists) (caller : ℕ) (past : List Event) : Type 0 where
   pub others :
-      (i place : ℕ) (b : Block) → i ≢ who → block_at place (pool_of s.history) ≡ Some b → b.owner ≡ Caller i
+      (i place : ℕ) (b : Block) → i ≢ caller → block_at place (pool_of s.history) ≡ Some b → b.owner ≡ Caller i
       → block_at place (pool_of past) ≡ Some b
   pub live :
       (d i : ℕ) → d < descriptor_count g → IsTrue (is_bound g s l d) → i < block_count_of (info_for s d).class
       → is_there (block_at (block_place (info_for s d).frame (info_for s d).class i) (pool_of past))
       ≡ is_there (block_at (block_place (info_for s d).frame (info_for s d).class i) (pool_of s.history))
-  pub events : (i : ℕ) → i ≢ who → own i past ≡ own i s.history
+  pub events : (i : ℕ) → i ≢ caller → own i past ≡ own i s.history
   pub gives : (i : ℕ) → count_by (gives_small i) past ≡ count_by (gives_small i) s.history
   pub refuses : (i : ℕ) → count_by (refuses_small i) past ≡ count_by (refuses_small i) s.history
   pub allocs : count_by is_small_alloc past ≡ count_by is_small_alloc s.history
   pub freed : count_by (is_small_free g) past ≡ count_by (is_small_free g) s.history
 
-pub leaves-same : (g : Geometry) (s : State) (l : Lists) (who : ℕ) → LeavesOthers g s l who s.history
-leaves-same g s l who = record {
+pub leaves-same : (g : Geometry) (s : State) (l : Lists) (caller : ℕ) → LeavesOthers g s l caller s.history
+leaves-same g s l caller = record {
   others = λ i place b other found owned. found;
   live = λ d i has bound lt. refl;
   events = λ i other. refl;
@@ -62,22 +62,22 @@ leaves-same g s l who = record {
 }
 
 -- the event is the caller's, and is of no small block that is given, refused or freed
-pub record IsAsideEvent (g : Geometry) (who : ℕ) (event : Event) : Type 0 where
-  pub caller : caller_of event ≡ who
+pub record IsAsideEvent (g : Geometry) (caller : ℕ) (event : Event) : Type 0 where
+  pub number : caller_of event ≡ caller
   pub gives : (i : ℕ) → gives_small i event ≡ false
   pub refuses : (i : ℕ) → refuses_small i event ≡ false
   pub allocs : is_small_alloc event ≡ false
   pub freed : is_small_free g event ≡ false
 
 pub leaves-event :
-    (g : Geometry) (s : State) (l : Lists) (who : ℕ) (event : Event) → IsAsideEvent g who event → IsAllowed g s.history event
+    (g : Geometry) (s : State) (l : Lists) (caller : ℕ) (event : Event) → IsAsideEvent g caller event → IsAllowed g s.history event
     → ((d i : ℕ) → d < descriptor_count g → IsTrue (is_bound g s l d) → i < block_count_of (info_for s d).class
     → is_there (block_at (block_place (info_for s d).frame (info_for s d).class i) (pool_after (pool_of s.history) event))
     ≡ is_there (block_at (block_place (info_for s d).frame (info_for s d).class i) (pool_of s.history)))
-    → LeavesOthers g s l who (s.history ++ event ∷ [])
-leaves-event g s l who event aside allowed live =
+    → LeavesOthers g s l caller (s.history ++ event ∷ [])
+leaves-event g s l caller event aside allowed live =
     let pool = pool_of-push s.history event in
-    let apart = λ (i : ℕ) (other : i ≢ who) (same : caller_of event ≡ i). other (sym same ∙ aside.caller) in
+    let apart = λ (i : ℕ) (other : i ≢ caller) (same : caller_of event ≡ i). other (sym same ∙ aside.number) in
     record {
       others = λ i place b other found owned.
           ap (block_at place) pool ∙ others-keep g s.history event i place b allowed (apart i other) found owned;
@@ -90,7 +90,7 @@ leaves-event g s l who event aside allowed live =
     }
 
 -- such a step from the first point to the second: it writes a word of these, and adds these events
-pub record TouchesAt (g : Geometry) (s : State) (l : Lists) (who : ℕ) (p q : Point) (n : WordName) (new : ℕ) (past : List Event) : Type 0 where
+pub record TouchesAt (g : Geometry) (s : State) (l : Lists) (caller : ℕ) (p q : Point) (n : WordName) (new : ℕ) (past : List Event) : Type 0 where
   pub leads : LeadsTo (next_of p (found_from s p)) q
   pub here : name_of (plan_point_of p) ≡ n
   pub written : after_action (plan_point_of p) (s.word (name_of (plan_point_of p))) ≡ new
@@ -98,8 +98,8 @@ pub record TouchesAt (g : Geometry) (s : State) (l : Lists) (who : ℕ) (p q : P
   pub touched : IsAwayWord n → ⊥
   pub lost : counts_lost p (found_from s p) ≡ false
   pub cleared : counts_cleared p (found_from s p) ≡ false
-  pub told : with_event s.history (event_of who p (found_from s p)) ≡ past
-  pub leaves : LeavesOthers g s l who past
+  pub told : with_event s.history (event_of caller p (found_from s p)) ≡ past
+  pub leaves : LeavesOthers g s l caller past
   pub before : IsAsidePoint p
   pub after : IsAsidePoint q
   pub recalls : recalls_of q ≡ []
@@ -108,30 +108,30 @@ pub record TouchesAt (g : Geometry) (s : State) (l : Lists) (who : ℕ) (p q : P
       → i < block_count_of (info_for s d).class
       → words' (prefix_name (info_for s d).frame (info_for s d).class i) ≡ s.word (prefix_name (info_for s d).frame (info_for s d).class i)
   pub stays :
-      (words' : WordName → ℕ) → Writes s.word n new words' → (i : ℕ) → i < g.callers → i ≢ who → All (Stays g s words') (recalls_of (s.errand i).point)
+      (words' : WordName → ℕ) → Writes s.word n new words' → (i : ℕ) → i < g.callers → i ≢ caller → All (Stays g s words') (recalls_of (s.errand i).point)
 
-pub record Touched (g : Geometry) (s : State) (l : Lists) (who : ℕ) (q : Point) (n : WordName) (new : ℕ) (past : List Event) (s' : State) : Type 0 where
-  pub touches : Touches g s l who (at_point (s.errand who) (found_at s who) q) s'
+pub record Touched (g : Geometry) (s : State) (l : Lists) (caller : ℕ) (q : Point) (n : WordName) (new : ℕ) (past : List Event) (s' : State) : Type 0 where
+  pub touches : Touches g s l caller (at_point (s.errand caller) (found_at s caller) q) s'
   pub word : Writes s.word n new s'.word
   pub history : s'.history ≡ past
 
 step-from-here :
-    (g : Geometry) (s : State) (l : Lists) (who : ℕ) (s' : State) (q : Point) (n : WordName) (new : ℕ) (past : List Event) → IsSoundWith g s l
-    → who < g.callers → TouchesAt g s l who (s.errand who).point q n new past → Step s who s' → Touched g s l who q n new past s'
-step-from-here g s l who s' q n new past old has h step =
-    let p = (s.errand who).point in
-    let x = found_at s who in
-    let moved : settle_of (s.errand who) x ≡ at_point (s.errand who) x q = settle-leads (s.errand who) x q h.leads in
+    (g : Geometry) (s : State) (l : Lists) (caller : ℕ) (s' : State) (q : Point) (n : WordName) (new : ℕ) (past : List Event) → IsSoundWith g s l
+    → caller < g.callers → TouchesAt g s l caller (s.errand caller).point q n new past → Step s caller s' → Touched g s l caller q n new past s'
+step-from-here g s l caller s' q n new past old has h step =
+    let p = (s.errand caller).point in
+    let x = found_at s caller in
+    let moved : settle_of (s.errand caller) x ≡ at_point (s.errand caller) x q = settle-leads (s.errand caller) x q h.leads in
     let writes : Writes s.word n new s'.word =
     subst (λ m. Writes s.word m new s'.word) h.here (subst (λ v. Writes s.word (name_of (plan_point_of p)) v s'.word) h.written step.word) in
-    let own = old.errands who has in
+    let own = old.errands caller has in
     let history : s'.history ≡ past = step.history ∙ h.told in
     let back = sym history in
-    let leaves : LeavesOthers g s l who s'.history = subst (LeavesOthers g s l who) back h.leaves in
+    let leaves : LeavesOthers g s l caller s'.history = subst (LeavesOthers g s l caller) back h.leaves in
     record {
       touches = record {
-        caller = has;
-        moves = subst (λ f. Moves s.errand who f s'.errand) moved step.errand;
+        in_heap = has;
+        moves = subst (λ f. Moves s.errand caller f s'.errand) moved step.errand;
         word = λ m away. writes.elsewhere m (λ same. h.touched (subst IsAwayWord same away));
         below = words-below s.word n new s'.word writes old.words h.below;
         prefixes = h.prefixes s'.word writes;
@@ -144,15 +144,15 @@ step-from-here g s l who s' q n new past old has h step =
         allocs = leaves.allocs;
         freed = leaves.freed;
         rule = record {
-          caller = own.caller;
+          number = own.number;
           geometry = own.geometry;
-          rule = subst IsErrand moved (settle_errand (s.errand who) x own.rule (old.words (name_at s who)));
-          lost = subst (λ b. raised b (s.errand who).lost < 2 ^ 64) (sym h.lost) own.lost;
+          rule = subst IsErrand moved (settle_errand (s.errand caller) x own.rule (old.words (name_at s caller)));
+          lost = subst (λ b. raised b (s.errand caller).lost < 2 ^ 64) (sym h.lost) own.lost;
         };
         retired = refl;
         turns = refl;
-        lost = ap (λ b. raised b (s.errand who).lost) h.lost;
-        cleared = ap (λ b. raised b (s.errand who).cleared) h.cleared;
+        lost = ap (λ b. raised b (s.errand caller).lost) h.lost;
+        cleared = ap (λ b. raised b (s.errand caller).cleared) h.cleared;
         before = h.before;
         after = h.after;
         recalls = h.recalls;
@@ -162,10 +162,10 @@ step-from-here g s l who s' q n new past old has h step =
     }
 
 pub touched-step :
-    (g : Geometry) (s : State) (l : Lists) (who : ℕ) (s' : State) (p q : Point) (n : WordName) (new : ℕ) (past : List Event) → IsSoundWith g s l
-    → who < g.callers → (s.errand who).point ≡ p → TouchesAt g s l who p q n new past → Step s who s' → Touched g s l who q n new past s'
-touched-step g s l who s' p q n new past old has at h step =
-    step-from-here g s l who s' q n new past old has (subst (λ r. TouchesAt g s l who r q n new past) (sym at) h) step
+    (g : Geometry) (s : State) (l : Lists) (caller : ℕ) (s' : State) (p q : Point) (n : WordName) (new : ℕ) (past : List Event) → IsSoundWith g s l
+    → caller < g.callers → (s.errand caller).point ≡ p → TouchesAt g s l caller p q n new past → Step s caller s' → Touched g s l caller q n new past s'
+touched-step g s l caller s' p q n new past old has at h step =
+    step-from-here g s l caller s' q n new past old has (subst (λ r. TouchesAt g s l caller r q n new past) (sym at) h) step
 
 pub stays-still :
     (g : Geometry) (s : State) (n : WordName) (new : ℕ) (words' : WordName → ℕ) → Writes s.word n new words' → ((p : ℕ) → name.Arena p ≢ n)

@@ -31,14 +31,14 @@ use Rattle.pool_model.proofs.HistoryLemmas.{pool_of-push}
 use Rattle.pool_model.proofs.OwnerLemmas.{free-elsewhere}
 use Rattle.pool_model.proofs.PoolLemmas.{every-found, place-found, block_at-here, block_at-past}
 use Rattle.pool_model.proofs.WellFormedLemmas.{class_span, sound-of}
-use Rattle.errand_steps.specs.declared.onward.Onward.{Onward}
+use Rattle.errand_steps.specs.declared.continuation.Continuation.{Continuation}
 use Rattle.errand_steps.specs.declared.point.Point.{Point}
 use Rattle.errand_steps.specs.declared.point.Point.TheVariants.{Idle, Large}
 use Rattle.errand_steps.specs.declared.reply.Reply.TheVariants as reply
 use Rattle.errand_steps.specs.Errands.{ErrandFields}
 use Rattle.errand_steps.specs.Events.{event_of}
 use Rattle.errand_steps.specs.Nexts.{next_of}
-use Rattle.errand_steps.specs.Onwards.{IsRunFor}
+use Rattle.errand_steps.specs.Continuations.{IsRunFor}
 use Rattle.errand_steps.specs.Points.{asked, plan_point_of}
 use Rattle.errand_steps.specs.Steps.{State, Step}
 use Rattle.sound_state.specs.Holdings.{holds_of, run_handed}
@@ -60,7 +60,7 @@ use Rattle.sound_state.proofs.shared.TieLemmas.{IsBareHanded, excepts-none, none
 use Rattle.sound_state.proofs.large.TouchTies.{large-aside, touched-desc, touched-sound}
 
 -- an allocation of units serves its words by as many
-run-asked : (n : ℕ) (o : Onward) → IsRunFor n o → need_of (asked o) ≡ need.Large n
+run-asked : (n : ℕ) (o : Continuation) → IsRunFor n o → need_of (asked o) ≡ need.Large n
 run-asked n o h = grind (arith, h)
 
 -- what units serve isn't small
@@ -133,17 +133,17 @@ clear-run g s l first n sound old within some free q b live =
     let formed : IsWellFormed g b = every-found (IsWellFormed g) q (pool_of s.history) b (sound-of g s.history sound.legal).each live in
     clear-need g s l first n old within some free q b live b.need refl formed.need formed.place
 
-take_run-bare : (w : WantFields) (bits : ℕ) (o : Onward) → IsBareHanded (Large (large.TakeRun w bits) o)
+take_run-bare : (w : WantFields) (bits : ℕ) (o : Continuation) → IsBareHanded (Large (large.TakeRun w bits) o)
 unfolding holds_of
 take_run-bare w bits o = grind (arith)
 
 -- there is no run
 refuse-touches :
-    (g : Geometry) (s : State) (l : Lists) (who : ℕ) (w : WantFields) (bits : ℕ) (o : Onward) → IsSoundWith g s l → s.word name.Units ≡ bits
-    → first_wanted w bits ≡ None → nat_le (asked o) SMALL_MOST ≡ false → IsAllowed g s.history (Refuse who (asked o))
-    → TouchesAt g s l who (Large (large.TakeRun w bits) o) Idle name.Units bits (s.history ++ Refuse who (asked o) ∷ [])
+    (g : Geometry) (s : State) (l : Lists) (caller : ℕ) (w : WantFields) (bits : ℕ) (o : Continuation) → IsSoundWith g s l → s.word name.Units ≡ bits
+    → first_wanted w bits ≡ None → nat_le (asked o) SMALL_MOST ≡ false → IsAllowed g s.history (Refuse caller (asked o))
+    → TouchesAt g s l caller (Large (large.TakeRun w bits) o) Idle name.Units bits (s.history ++ Refuse caller (asked o) ∷ [])
 unfolding plan_point_of next_of event_of
-refuse-touches g s l who w bits o old word none above allowed =
+refuse-touches g s l caller w bits o old word none above allowed =
     let won : (s.word name.Units == bits) ≡ true = eq-eqb (s.word name.Units) bits word in
     record {
       leads = inr (reply.Refused, rw (won, none) refl, refl);
@@ -155,8 +155,8 @@ refuse-touches g s l who w bits o old word none above allowed =
       cleared = refl;
       told = rw (won, none) refl;
       leaves =
-          leaves-event g s l who (Refuse who (asked o))
-          (record { caller = refl; gives = λ i. refl; refuses = λ i. and-false (who == i) (nat_le (asked o) SMALL_MOST) above; allocs = refl; freed = refl })
+          leaves-event g s l caller (Refuse caller (asked o))
+          (record { number = refl; gives = λ i. refl; refuses = λ i. and-false (caller == i) (nat_le (asked o) SMALL_MOST) above; allocs = refl; freed = refl })
           allowed (λ d i has bound lt. refl);
       before = large-aside _ _;
       after = idle-aside;
@@ -166,42 +166,42 @@ refuse-touches g s l who w bits o old word none above allowed =
     }
 
 refused-sound :
-    (g : Geometry) (s : State) (who : ℕ) (s' : State) (w : WantFields) (bits : ℕ) (o : Onward) → IsSoundWithoutCounts g s → who < g.callers
-    → (s.errand who).point ≡ Large (large.TakeRun w bits) o → s.word name.Units ≡ bits → first_wanted w bits ≡ None → Step s who s' → IsSoundWithoutCounts g s'
-refused-sound g s who s' w bits o sound has at word none step =
+    (g : Geometry) (s : State) (caller : ℕ) (s' : State) (w : WantFields) (bits : ℕ) (o : Continuation) → IsSoundWithoutCounts g s → caller < g.callers
+    → (s.errand caller).point ≡ Large (large.TakeRun w bits) o → s.word name.Units ≡ bits → first_wanted w bits ≡ None → Step s caller s' → IsSoundWithoutCounts g s'
+refused-sound g s caller s' w bits o sound has at word none step =
     let l = sound.parts.0 in
     let old = sound.parts.1 in
     let p : Point = Large (large.TakeRun w bits) o in
-    let fit = fits-at g s l who p old has at in
+    let fit = fits-at g s l caller p old has at in
     let served : need_of (asked o) ≡ need.Large w.units = run-asked w.units o fit.goes in
     let exact : IsFirstRun bits w.geometry.units w.units None = subst (IsFirstRun bits w.geometry.units w.units) none (first_run-exact bits w.geometry.units w.units) in
     let heap : w.geometry.units ≡ g.units = ap (λ (h : Geometry). h.units) fit.point.geometry in
-    let refusable : IsRefusable g s.history who (need.Large w.units) =
+    let refusable : IsRefusable g s.history caller (need.Large w.units) =
     λ place free.
     exact free.unit (omega (arith, free.in_heap, heap))
     (λ i inside.
     subst (λ v. bit_at v i ≡ 0) word (clear-bits g s l free.unit w.units i old free.clear inside (omega (arith, free.in_heap, inside.below)))) in
-    let allowed : IsAllowed g s.history (Refuse who (asked o)) = subst (IsRefusable g s.history who) (sym served) refusable in
+    let allowed : IsAllowed g s.history (Refuse caller (asked o)) = subst (IsRefusable g s.history caller) (sym served) refusable in
     let t =
-    touched-step g s l who s' p Idle name.Units bits (s.history ++ Refuse who (asked o) ∷ []) old has at
-    (refuse-touches g s l who w bits o old word none (large-served (asked o) w.units served) allowed) step in
-    touched-sound g s l who _ _ _ (Refuse who (asked o)) s' sound old (has, allowed) t
-    (same-tied g s l who s' _ t.touches old (words-stay s.word name.Units _ s'.word t.word (sym word)) (subst IsBareHanded (sym at) (take_run-bare w bits o))
-    idle-bare-handed (λ q. ap (block_at q) (ap pool_of t.history ∙ pool_of-push s.history (Refuse who (asked o)))))
+    touched-step g s l caller s' p Idle name.Units bits (s.history ++ Refuse caller (asked o) ∷ []) old has at
+    (refuse-touches g s l caller w bits o old word none (large-served (asked o) w.units served) allowed) step in
+    touched-sound g s l caller _ _ _ (Refuse caller (asked o)) s' sound old (has, allowed) t
+    (same-tied g s l caller s' _ t.touches old (words-stay s.word name.Units _ s'.word t.word (sym word)) (subst IsBareHanded (sym at) (take_run-bare w bits o))
+    idle-bare-handed (λ q. ap (block_at q) (ap pool_of t.history ∙ pool_of-push s.history (Refuse caller (asked o)))))
 
 -- where a run is found, it is the first of these units
 abbrev run_at : ℕ → WantFields → RunFields
 run_at first w = record { first = first; units = w.units }
 
 given-touches :
-    (g : Geometry) (s : State) (l : Lists) (who : ℕ) (w : WantFields) (bits : ℕ) (o : Onward) (first : ℕ) → IsSoundWith g s l
+    (g : Geometry) (s : State) (l : Lists) (caller : ℕ) (w : WantFields) (bits : ℕ) (o : Continuation) (first : ℕ) → IsSoundWith g s l
     → s.word name.Units ≡ bits → first_wanted w bits ≡ Some first → w.geometry ≡ g → with_run bits first w.units < 2 ^ 64
-    → nat_le (asked o) SMALL_MOST ≡ false → IsAllowed g s.history (Alloc who (asked o) (unit_place w.geometry.frames first))
-    → TouchesAt g s l who (Large (large.TakeRun w bits) o)
+    → nat_le (asked o) SMALL_MOST ≡ false → IsAllowed g s.history (Alloc caller (asked o) (unit_place w.geometry.frames first))
+    → TouchesAt g s l caller (Large (large.TakeRun w bits) o)
     (Large (large.StoreRunPrefix (unit_place w.geometry.frames first) (run_at first w)) o) name.Units (with_run bits first w.units)
-    (s.history ++ Alloc who (asked o) (unit_place w.geometry.frames first) ∷ [])
+    (s.history ++ Alloc caller (asked o) (unit_place w.geometry.frames first) ∷ [])
 unfolding plan_point_of next_of event_of recalls_of
-given-touches g s l who w bits o first old word some heap below above allowed =
+given-touches g s l caller w bits o first old word some heap below above allowed =
     let won : (s.word name.Units == bits) ≡ true = eq-eqb (s.word name.Units) bits word in
     let place : ℕ = unit_place w.geometry.frames first in
     record {
@@ -214,12 +214,12 @@ given-touches g s l who w bits o first old word some heap below above allowed =
       cleared = refl;
       told = rw (won, some) refl;
       leaves =
-          leaves-event g s l who (Alloc who (asked o) place)
-          (record { caller = refl; gives = λ i. and-false (who == i) (nat_le (asked o) SMALL_MOST) above; refuses = λ i. refl; allocs = above; freed = refl })
+          leaves-event g s l caller (Alloc caller (asked o) place)
+          (record { number = refl; gives = λ i. and-false (caller == i) (nat_le (asked o) SMALL_MOST) above; refuses = λ i. refl; allocs = above; freed = refl })
           allowed
           (λ d i has bound lt.
           ap is_there
-          (block_at-past _ (fresh_block who (asked o) place) (pool_of s.history)
+          (block_at-past _ (fresh_block caller (asked o) place) (pool_of s.history)
           (λ same.
           frame-before g.frames _ _ i first (info-frame g s l d old has) lt (sym same ∙ ap (λ (h : Geometry). unit_place h.frames first) heap))));
       before = large-aside _ _;
@@ -270,18 +270,18 @@ given-units g s s' l first n unit a old w of c has =
     ]
 
 run-given-tied :
-    (g : Geometry) (s : State) (l : Lists) (who words first n : ℕ) (s' : State) (e : ErrandFields) → Touches g s l who e s' → IsSoundWith g s l
-    → IsBareHanded (s.errand who).point → (holds_of e.point).hands ≡ run_handed (unit_place g.frames first) n → (holds_of e.point).frees ≡ []
+    (g : Geometry) (s : State) (l : Lists) (caller words first n : ℕ) (s' : State) (e : ErrandFields) → Touches g s l caller e s' → IsSoundWith g s l
+    → IsBareHanded (s.errand caller).point → (holds_of e.point).hands ≡ run_handed (unit_place g.frames first) n → (holds_of e.point).frees ≡ []
     → Writes s.word name.Units (with_run (s.word name.Units) first n) s'.word → need_of words ≡ need.Large n → first + n ≤ g.units
-    → Comes s s' (unit_place g.frames first) (fresh_block who words (unit_place g.frames first)) → IsTied g s' l
-run-given-tied g s l who words first n s' e h old bare hands frees w served within c =
+    → Comes s s' (unit_place g.frames first) (fresh_block caller words (unit_place g.frames first)) → IsTied g s' l
+run-given-tied g s l caller words first n s' e h old bare hands frees w served within c =
     let tied = old.tied in
     let at : ℕ = unit_place g.frames first in
-    let a : Block = fresh_block who words at in
+    let a : Block = fresh_block caller words at in
     let is_fresh = λ (p : ℕ) (b : Block) (here : p ≡ at) (live : IsLive s' p b).
     one-live s' at p a b c.now here live in
-    let mine : IsOwned s' who at (need.Large n) = record { block = (a, c.now, refl, served) } in
-    ties-but g s l l who (λ p. p ≡ at) e s'
+    let mine : IsOwned s' caller at (need.Large n) = record { block = (a, c.now, refl, served) } in
+    ties-but g s l l caller (λ p. p ≡ at) e s'
     (record {
       moves = h.moves;
       either = λ p. cases_eq p at;
@@ -296,9 +296,9 @@ run-given-tied g s l who words first n s' e h old bare hands frees w served with
           let excepts : Excepts e at = inl (subst (Any (λ x. x.place ≡ at)) (sym hands) (run-excepted at n)) in
           inl
           (record {
-            who = (who, h.caller, subst (λ q. Excepts (s'.errand who) q) (sym here) (subst (λ f. Excepts f at) (sym h.moves.here) excepts));
+            caller = (caller, h.in_heap, subst (λ q. Excepts (s'.errand caller) q) (sym here) (subst (λ f. Excepts f at) (sym h.moves.here) excepts));
           });
-      bound = λ p class b d ne live is its. touched-desc g s l who e s' h p class d its;
+      bound = λ p class b d ne live is its. touched-desc g s l caller e s' h p class d its;
       units = λ unit has. let u = given-units g s s' l first n unit a old w served c has in (u.0, u.1);
       no_more_units =
           let most : 2 ^ (first + n) ≤ 2 ^ g.units = pow_mono within in
@@ -310,30 +310,30 @@ run-given-tied g s l who words first n s' e h old bare hands frees w served with
           none-written (usable_words (need_of words)) i v
           (ap (λ (x : Block). slice_index_or x.contents i None) (is_fresh p b here live) ∙ written) in
           w.elsewhere (name.Arena (p + 1 + i)) (λ same. cc) ∙ tied.contents p i v b (sym (c.elsewhere p differs) ∙ live) written;
-      excepts = λ p ne excepts. absurd (excepts-none (s.errand who) p bare excepts);
+      excepts = λ p ne excepts. absurd (excepts-none (s.errand caller) p bare excepts);
       hands =
-          subst (All (λ x. IsOwned s' who x.place x.need)) (sym hands)
-          (All-cons (λ x. IsOwned s' who x.place x.need) (record { place = at; need = need.Large n }) [] mine
-          (All-nil (λ x. IsOwned s' who x.place x.need)));
-      frees = subst (All (λ x. IsOwned s' who x.place x.need)) (sym frees) (All-nil (λ x. IsOwned s' who x.place x.need));
+          subst (All (λ x. IsOwned s' caller x.place x.need)) (sym hands)
+          (All-cons (λ x. IsOwned s' caller x.place x.need) (record { place = at; need = need.Large n }) [] mine
+          (All-nil (λ x. IsOwned s' caller x.place x.need)));
+      frees = subst (All (λ x. IsOwned s' caller x.place x.need)) (sym frees) (All-nil (λ x. IsOwned s' caller x.place x.need));
     }) tied
 
-run-held : (place : ℕ) (run : RunFields) (o : Onward) → (holds_of (Large (large.StoreRunPrefix place run) o)).hands ≡ run_handed place run.units
+run-held : (place : ℕ) (run : RunFields) (o : Continuation) → (holds_of (Large (large.StoreRunPrefix place run) o)).hands ≡ run_handed place run.units
 unfolding holds_of
 run-held place run o = refl
 
-run-frees : (place : ℕ) (run : RunFields) (o : Onward) → (holds_of (Large (large.StoreRunPrefix place run) o)).frees ≡ []
+run-frees : (place : ℕ) (run : RunFields) (o : Continuation) → (holds_of (Large (large.StoreRunPrefix place run) o)).frees ≡ []
 unfolding holds_of
 run-frees place run o = refl
 
 given-sound :
-    (g : Geometry) (s : State) (who : ℕ) (s' : State) (w : WantFields) (bits : ℕ) (o : Onward) (first : ℕ) → IsSoundWithoutCounts g s → who < g.callers
-    → (s.errand who).point ≡ Large (large.TakeRun w bits) o → s.word name.Units ≡ bits → first_wanted w bits ≡ Some first → Step s who s' → IsSoundWithoutCounts g s'
-given-sound g s who s' w bits o first sound has at word some step =
+    (g : Geometry) (s : State) (caller : ℕ) (s' : State) (w : WantFields) (bits : ℕ) (o : Continuation) (first : ℕ) → IsSoundWithoutCounts g s → caller < g.callers
+    → (s.errand caller).point ≡ Large (large.TakeRun w bits) o → s.word name.Units ≡ bits → first_wanted w bits ≡ Some first → Step s caller s' → IsSoundWithoutCounts g s'
+given-sound g s caller s' w bits o first sound has at word some step =
     let l = sound.parts.0 in
     let old = sound.parts.1 in
     let p : Point = Large (large.TakeRun w bits) o in
-    let fit = fits-at g s l who p old has at in
+    let fit = fits-at g s l caller p old has at in
     let n : ℕ = w.units in
     let words : ℕ = asked o in
     let served : need_of words ≡ need.Large n = run-asked n o fit.goes in
@@ -352,32 +352,32 @@ given-sound g s who s' w bits o first sound has at word some step =
       clear = clear-run g s l first n sound old within fit.point.units.0 free_units;
     } in
     let free_words : IsFree g (pool_of s.history) (need_of words) place = subst (λ m. IsFree g (pool_of s.history) m place) (sym served) free in
-    let allowed : IsAllowed g s.history (Alloc who words place) = free_words in
+    let allowed : IsAllowed g s.history (Alloc caller words place) = free_words in
     let below : with_run bits first n < 2 ^ 64 =
     with_run-below bits first n (omega (arith, within, sound.checked.units.1)) (subst (λ v. v < 2 ^ 64) word (old.words name.Units)) in
     let q : Point = Large (large.StoreRunPrefix place (run_at first w)) o in
     let t =
-    touched-step g s l who s' p q name.Units (with_run bits first n) (s.history ++ Alloc who words place ∷ []) old has at
-    (given-touches g s l who w bits o first old word some fit.point.geometry below (large-served words n served) allowed) step in
-    let pool = ap pool_of t.history ∙ pool_of-push s.history (Alloc who words place) in
-    let came : Comes s s' place (fresh_block who words place) = record {
-      unlive = λ x b live same. free-elsewhere g (pool_of s.history) who words place x b free_words live (sym same);
-      now = ap (block_at place) pool ∙ block_at-here place (fresh_block who words place) (pool_of s.history) refl;
-      elsewhere = λ x ne. ap (block_at x) pool ∙ block_at-past x (fresh_block who words place) (pool_of s.history) (λ same. ne (sym same));
+    touched-step g s l caller s' p q name.Units (with_run bits first n) (s.history ++ Alloc caller words place ∷ []) old has at
+    (given-touches g s l caller w bits o first old word some fit.point.geometry below (large-served words n served) allowed) step in
+    let pool = ap pool_of t.history ∙ pool_of-push s.history (Alloc caller words place) in
+    let came : Comes s s' place (fresh_block caller words place) = record {
+      unlive = λ x b live same. free-elsewhere g (pool_of s.history) caller words place x b free_words live (sym same);
+      now = ap (block_at place) pool ∙ block_at-here place (fresh_block caller words place) (pool_of s.history) refl;
+      elsewhere = λ x ne. ap (block_at x) pool ∙ block_at-past x (fresh_block caller words place) (pool_of s.history) (λ same. ne (sym same));
     } in
-    touched-sound g s l who _ _ _ (Alloc who words place) s' sound old (has, allowed) t
-    (run-given-tied g s l who words first n s' _ t.touches old (subst IsBareHanded (sym at) (take_run-bare w bits o))
+    touched-sound g s l caller _ _ _ (Alloc caller words place) s' sound old (has, allowed) t
+    (run-given-tied g s l caller words first n s' _ t.touches old (subst IsBareHanded (sym at) (take_run-bare w bits o))
     (run-held place (run_at first w) o ∙ ap (λ x. run_handed x n) here) (run-frees place (run_at first w) o)
     (subst (λ v. Writes s.word name.Units (with_run v first n) s'.word) (sym word) t.word) served within
-    (subst (λ x. Comes s s' x (fresh_block who words x)) here came))
+    (subst (λ x. Comes s s' x (fresh_block caller words x)) here came))
 
 take-found :
-    (g : Geometry) (s : State) (who : ℕ) (s' : State) (w : WantFields) (bits : ℕ) (o : Onward) (found : Option ℕ) → IsSoundWithoutCounts g s → who < g.callers
-    → (s.errand who).point ≡ Large (large.TakeRun w bits) o → s.word name.Units ≡ bits → first_wanted w bits ≡ found → Step s who s' → IsSoundWithoutCounts g s'
-take-found g s who s' w bits o None sound has at word is step = refused-sound g s who s' w bits o sound has at word is step
-take-found g s who s' w bits o (Some first) sound has at word is step = given-sound g s who s' w bits o first sound has at word is step
+    (g : Geometry) (s : State) (caller : ℕ) (s' : State) (w : WantFields) (bits : ℕ) (o : Continuation) (found : Option ℕ) → IsSoundWithoutCounts g s → caller < g.callers
+    → (s.errand caller).point ≡ Large (large.TakeRun w bits) o → s.word name.Units ≡ bits → first_wanted w bits ≡ found → Step s caller s' → IsSoundWithoutCounts g s'
+take-found g s caller s' w bits o None sound has at word is step = refused-sound g s caller s' w bits o sound has at word is step
+take-found g s caller s' w bits o (Some first) sound has at word is step = given-sound g s caller s' w bits o first sound has at word is step
 
 pub take_run-sound :
-    (g : Geometry) (s : State) (who : ℕ) (s' : State) (w : WantFields) (bits : ℕ) (o : Onward) → IsSoundWithoutCounts g s → who < g.callers
-    → (s.errand who).point ≡ Large (large.TakeRun w bits) o → s.word name.Units ≡ bits → Step s who s' → IsSoundWithoutCounts g s'
-take_run-sound g s who s' w bits o sound has at word step = take-found g s who s' w bits o (first_wanted w bits) sound has at word refl step
+    (g : Geometry) (s : State) (caller : ℕ) (s' : State) (w : WantFields) (bits : ℕ) (o : Continuation) → IsSoundWithoutCounts g s → caller < g.callers
+    → (s.errand caller).point ≡ Large (large.TakeRun w bits) o → s.word name.Units ≡ bits → Step s caller s' → IsSoundWithoutCounts g s'
+take_run-sound g s caller s' w bits o sound has at word step = take-found g s caller s' w bits o (first_wanted w bits) sound has at word refl step

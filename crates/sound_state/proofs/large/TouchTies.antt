@@ -15,7 +15,7 @@ use Rattle.pool_model.specs.Legal.{IsLegalEventWithoutCounts, IsLegalWithoutCoun
 use Rattle.pool_model.specs.Pool.{Block}
 use Rattle.pool_model.proofs.HistoryLemmas.{EachAfter-push}
 use Rattle.large_parts.specs.declared.point.LargePoint.{LargePoint}
-use Rattle.errand_steps.specs.declared.onward.Onward.{Onward}
+use Rattle.errand_steps.specs.declared.continuation.Continuation.{Continuation}
 use Rattle.errand_steps.specs.declared.point.Point.{Point}
 use Rattle.errand_steps.specs.declared.point.Point.TheVariants.{Large}
 use Rattle.errand_steps.specs.Errands.{ErrandFields}
@@ -37,35 +37,35 @@ pub record SamePlaces (s s' : State) : Type 0 where
 
 -- the superblock of a small block is the same
 pub touched-desc :
-    (g : Geometry) (s : State) (l : Lists) (who : ℕ) (e : ErrandFields) (s' : State) → Touches g s l who e s' → (place class d : ℕ)
+    (g : Geometry) (s : State) (l : Lists) (caller : ℕ) (e : ErrandFields) (s' : State) → Touches g s l caller e s' → (place class d : ℕ)
     → IsBlockOfDesc g s l place class d → IsBlockOfDesc g s' l place class d
-touched-desc g s l who e s' h place class d its = record {
+touched-desc g s l caller e s' h place class d its = record {
   exists = its.exists;
-  bound = subst IsTrue (sym (touched-bound g s l who e s' h d)) its.bound;
-  located = located-touched g s l who e s' h d (frame_of place) class its.located;
+  bound = subst IsTrue (sym (touched-bound g s l caller e s' h d)) its.bound;
+  located = located-touched g s l caller e s' h d (frame_of place) class its.located;
 }
 
 -- the ties of a step that leaves the places, the prefix words and the units
 pub tied-touched :
-    (g : Geometry) (s : State) (l : Lists) (who : ℕ) (e : ErrandFields) (s' : State) → Touches g s l who e s' → IsSoundWith g s l
-    → SamePlaces s s' → IsBareHanded (s.errand who).point → IsBareHanded e.point
+    (g : Geometry) (s : State) (l : Lists) (caller : ℕ) (e : ErrandFields) (s' : State) → Touches g s l caller e s' → IsSoundWith g s l
+    → SamePlaces s s' → IsBareHanded (s.errand caller).point → IsBareHanded e.point
     → ((p : ℕ) (b : Block) → IsLive s p b → s'.word (name.Arena p) ≡ s.word (name.Arena p)) → s'.word name.Units ≡ s.word name.Units
     → ((k place : ℕ) (b : Block) → k < SHELVES → IsLive s' place b → b.owner ≡ Shelf k → s'.word (name.Shelf k) ≡ shelf_word (shelf.Block place b.need))
     → ((k : ℕ) → k < SHELVES → ((place : ℕ) (b : Block) → IsLive s' place b → b.owner ≡ Shelf k → ⊥) → s'.word (name.Shelf k) ≡ shelf_word shelf.Nothing)
     → ((place i v : ℕ) (b : Block) → IsLive s' place b → slice_index_or b.contents i None ≡ Some v → s'.word (name.Arena (place + 1 + i)) ≡ v)
     → IsTied g s' l
-tied-touched g s l who e s' h old same bare_before bare_after prefixes units shelved bare contents =
+tied-touched g s l caller e s' h old same bare_before bare_after prefixes units shelved bare contents =
     let tied = old.tied in
-    let owns = bare-owns s' who e.point bare_after in
+    let owns = bare-owns s' caller e.point bare_after in
     let kept = λ (place w : ℕ) (b : Block) (live : IsLive s place b) (x : IsExcepted g s place ⊎ (s.word (name.Arena place) ≡ w)).
     tie-stays g s s' place w
-    (excepted-stays g s who e s' h.moves place (λ excepts. absurd (excepts-none (s.errand who) place bare_before excepts)))
+    (excepted-stays g s caller e s' h.moves place (λ excepts. absurd (excepts-none (s.errand caller) place bare_before excepts)))
     (prefixes place b live) x in
     record {
       small = λ place class b live is.
           let old_b = same.was place b live in
           let t = tied.small place class old_b.0 old_b.1 (sym old_b.2 ∙ is) in
-          (t.0, touched-desc g s l who e s' h place class t.0 t.1, kept place (2 * t.0) old_b.0 old_b.1 t.2);
+          (t.0, touched-desc g s l caller e s' h place class t.0 t.1, kept place (2 * t.0) old_b.0 old_b.1 t.2);
       large = λ place n b live is.
           let old_b = same.was place b live in
           kept place (2 * n + 1) old_b.0 old_b.1 (tied.large place n old_b.0 old_b.1 (sym old_b.2 ∙ is));
@@ -84,27 +84,27 @@ tied-touched g s l who e s' h old same bare_before bare_after prefixes units she
       bare_shelf = bare;
       contents = contents;
       hands =
-          each-other g (λ i e. All (λ x. IsOwned s' i x.place x.need) (holds_of e.point).hands) s.errand who e s'.errand h.moves
+          each-other g (λ i e. All (λ x. IsOwned s' i x.place x.need) (holds_of e.point).hands) s.errand caller e s'.errand h.moves
           owns.0
-          (λ i has differ k d lt. owned-touched g s l who e s' h i _ _ differ (tied.hands i has k d lt));
+          (λ i has differ k d lt. owned-touched g s l caller e s' h i _ _ differ (tied.hands i has k d lt));
       frees =
-          each-other g (λ i e. All (λ x. IsOwned s' i x.place x.need) (holds_of e.point).frees) s.errand who e s'.errand h.moves
+          each-other g (λ i e. All (λ x. IsOwned s' i x.place x.need) (holds_of e.point).frees) s.errand caller e s'.errand h.moves
           owns.1
-          (λ i has differ k d lt. owned-touched g s l who e s' h i _ _ differ (tied.frees i has k d lt));
+          (λ i has differ k d lt. owned-touched g s l caller e s' h i _ _ differ (tied.frees i has k d lt));
     }
 
 -- a step that tells a legal event keeps the state sound where the words show the pool after it
 pub touched-sound :
-    (g : Geometry) (s : State) (l : Lists) (who : ℕ) (q : Point) (n : WordName) (new : ℕ) (event : Event) (s' : State) → IsSoundWithoutCounts g s
-    → IsSoundWith g s l → IsLegalEventWithoutCounts g s.history event → Touched g s l who q n new (s.history ++ event ∷ []) s' → IsTied g s' l
+    (g : Geometry) (s : State) (l : Lists) (caller : ℕ) (q : Point) (n : WordName) (new : ℕ) (event : Event) (s' : State) → IsSoundWithoutCounts g s
+    → IsSoundWith g s l → IsLegalEventWithoutCounts g s.history event → Touched g s l caller q n new (s.history ++ event ∷ []) s' → IsTied g s' l
     → IsSoundWithoutCounts g s'
-touched-sound g s l who q n new event s' sound old legal t tied = record {
+touched-sound g s l caller q n new event s' sound old legal t tied = record {
   checked = sound.checked;
   legal = subst (IsLegalWithoutCounts g) (sym t.history) (EachAfter-push (IsLegalEventWithoutCounts g) s.history event sound.legal legal);
-  parts = (l, sound-touched g s l who _ s' t.touches old tied);
+  parts = (l, sound-touched g s l caller _ s' t.touches old tied);
 }
 
 -- at a point of large blocks a caller reserves, keeps, guards and pushes nothing
-pub large-aside : (p : LargePoint) (o : Onward) → IsAsidePoint (Large p o)
+pub large-aside : (p : LargePoint) (o : Continuation) → IsAsidePoint (Large p o)
 unfolding holds_of
 large-aside p o = grind (arith)

@@ -23,7 +23,7 @@ use Rattle.pool_model.specs.WellFormed.{IsPlaceFor, IsWellFormed}
 use Rattle.pool_model.proofs.HistoryLemmas.{EachAfter-push}
 use Rattle.pool_model.proofs.PoolLemmas.{every-found, place-found}
 use Rattle.pool_model.proofs.WellFormedLemmas.{class_span, sound-of}
-use Rattle.errand_steps.specs.declared.onward.Onward.{Onward}
+use Rattle.errand_steps.specs.declared.continuation.Continuation.{Continuation}
 use Rattle.errand_steps.specs.declared.point.Point.{Point}
 use Rattle.errand_steps.specs.declared.point.Point.TheVariants.{Idle, Large}
 use Rattle.errand_steps.specs.declared.reply.Reply.TheVariants as reply
@@ -77,10 +77,10 @@ behind-frames frames f c j place i has within behind same = omega (arith, has, s
 
 -- where a usable word of a live block is written, the prefix words of all superblocks stay
 payload-keeps :
-    (g : Geometry) (s : State) (l : Lists) (who place i new : ℕ) (words : WordName → ℕ) → IsSoundWithoutCounts g s → IsSoundWith g s l
+    (g : Geometry) (s : State) (l : Lists) (caller place i new : ℕ) (words : WordName → ℕ) → IsSoundWithoutCounts g s → IsSoundWith g s l
     → Writes s.word (name.Arena (place + 1 + i)) new words → (b : Block) → IsLive s place b → i < usable_words b.need
-    → (m : Need) → b.need ≡ m → IsPlaceFor g m b.place → KeepsPrefixes g s l who words
-payload-keeps g s l who place i new words sound old w b live usable (need.Small c0) of placed =
+    → (m : Need) → b.need ≡ m → IsPlaceFor g m b.place → KeepsPrefixes g s l caller words
+payload-keeps g s l caller place i new words sound old w b live usable (need.Small c0) of placed =
     let t = old.tied.small place c0 b live of in
     let d0 : ℕ = t.0 in
     let its : IsBlockOfDesc g s l place c0 d0 = t.1 in
@@ -116,7 +116,7 @@ payload-keeps g s l who place i new words sound old w b live usable (need.Small 
             | inr ne ↦ other-frame f f0 c c0 i0 j i ne placed.3 lt within places
           ]);
     }
-payload-keeps g s l who place i new words sound old w b live usable (need.Large n) of placed =
+payload-keeps g s l caller place i new words sound old w b live usable (need.Large n) of placed =
     let here : place ≡ b.place = sym (place-found place (pool_of s.history) b live) in
     let behind : g.frames ≤ frame_of place = omega (arith, here, placed.2) in
     record {
@@ -126,26 +126,26 @@ payload-keeps g s l who place i new words sound old w b live usable (need.Large 
           (λ same. behind-frames g.frames _ _ j place i (info-frame g s l d old has) lt behind (ap arena_place same));
       making = λ k f c j has other exists hand none lt. w.elsewhere _ (λ same. behind-frames g.frames f c j place i exists lt behind (ap arena_place same));
     }
-payload-keeps g s l who place i new words sound old w b live usable need.TooLarge of placed = absurd placed
+payload-keeps g s l caller place i new words sound old w b live usable need.TooLarge of placed = absurd placed
 
-write-aside : (place i value : ℕ) (o : Onward) → IsAsidePoint (Large (large.StoreWord place i value) o)
+write-aside : (place i value : ℕ) (o : Continuation) → IsAsidePoint (Large (large.StoreWord place i value) o)
 unfolding holds_of
 write-aside place i value o = grind (arith)
 
-write-bare : (place i value : ℕ) (o : Onward) → IsBareHanded (Large (large.StoreWord place i value) o)
+write-bare : (place i value : ℕ) (o : Continuation) → IsBareHanded (Large (large.StoreWord place i value) o)
 unfolding holds_of
 write-bare place i value o = grind (arith)
 
 write-touches :
-    (g : Geometry) (s : State) (l : Lists) (who place i value : ℕ) (o : Onward) → IsSoundWithoutCounts g s → IsSoundWith g s l
+    (g : Geometry) (s : State) (l : Lists) (caller place i value : ℕ) (o : Continuation) → IsSoundWithoutCounts g s → IsSoundWith g s l
     → place + 1 + i < arena_words g → value < 2 ^ 64 → (b : Block) → IsLive s place b → i < usable_words b.need
-    → IsAllowed g s.history (Write who place i value)
-    → TouchesAt g s l who (Large (large.StoreWord place i value) o) Idle (name.Arena (place + 1 + i)) value (s.history ++ Write who place i value ∷ [])
+    → IsAllowed g s.history (Write caller place i value)
+    → TouchesAt g s l caller (Large (large.StoreWord place i value) o) Idle (name.Arena (place + 1 + i)) value (s.history ++ Write caller place i value ∷ [])
 unfolding plan_point_of next_of event_of
-write-touches g s l who place i value o sound old within below b live usable allowed =
+write-touches g s l caller place i value o sound old within below b live usable allowed =
     let formed : IsWellFormed g b = every-found (IsWellFormed g) place (pool_of s.history) b (sound-of g s.history sound.legal).each live in
     let keeps = λ (words : WordName → ℕ) (w : Writes s.word (name.Arena (place + 1 + i)) value words).
-    payload-keeps g s l who place i value words sound old w b live usable b.need refl formed.place in
+    payload-keeps g s l caller place i value words sound old w b live usable b.need refl formed.place in
     record {
       leads = inr (reply.Wrote, refl, refl);
       here = ap name.Arena (payload-uncut g place i sound.checked within);
@@ -156,26 +156,26 @@ write-touches g s l who place i value o sound old within below b live usable all
       cleared = refl;
       told = refl;
       leaves =
-          leaves-event g s l who (Write who place i value)
-          (record { caller = refl; gives = λ k. refl; refuses = λ k. refl; allocs = refl; freed = refl }) allowed
+          leaves-event g s l caller (Write caller place i value)
+          (record { number = refl; gives = λ k. refl; refuses = λ k. refl; allocs = refl; freed = refl }) allowed
           (λ d k has bound lt. changed-there place _ (written i value) (pool_of s.history) b (λ x. refl) live);
       before = write-aside place i value o;
       after = idle-aside;
       recalls = idle-recalls;
       prefixes = λ words w. (keeps words w).bound;
-      stays = λ words w k has differ. prefixes-stay g s l who words (keeps words w) old k has differ;
+      stays = λ words w k has differ. prefixes-stay g s l caller words (keeps words w) old k has differ;
     }
 
 write-tied :
-    (g : Geometry) (s : State) (l : Lists) (who place i value : ℕ) (s' : State) (e : ErrandFields) → Touches g s l who e s' → IsSoundWithoutCounts g s
-    → IsSoundWith g s l → Writes s.word (name.Arena (place + 1 + i)) value s'.word → IsBareHanded (s.errand who).point → IsBareHanded e.point
-    → (b : Block) → b.owner ≡ Caller who → i < usable_words b.need → Changes s s' place b (written i value b) → IsTied g s' l
-write-tied g s l who place i value s' e h sound old w bare_before bare_after b owned usable c =
+    (g : Geometry) (s : State) (l : Lists) (caller place i value : ℕ) (s' : State) (e : ErrandFields) → Touches g s l caller e s' → IsSoundWithoutCounts g s
+    → IsSoundWith g s l → Writes s.word (name.Arena (place + 1 + i)) value s'.word → IsBareHanded (s.errand caller).point → IsBareHanded e.point
+    → (b : Block) → b.owner ≡ Caller caller → i < usable_words b.need → Changes s s' place b (written i value b) → IsTied g s' l
+write-tied g s l caller place i value s' e h sound old w bare_before bare_after b owned usable c =
     let at : ℕ = place + 1 + i in
     let arena = λ (p : ℕ) (ne : p ≢ at). w.elsewhere (name.Arena p) (λ same. ne (ap arena_place same)) in
     let formed : IsWellFormed g b = every-found (IsWellFormed g) place (pool_of s.history) b (sound-of g s.history sound.legal).each c.was in
     let is_changed = λ (p : ℕ) (x : Block) (here : p ≡ place) (live : IsLive s' p x). changed-is s s' place b (written i value b) c p x here live in
-    tied-touched g s l who e s' h old (changes-places s s' place b (written i value b) c) bare_before bare_after
+    tied-touched g s l caller e s' h old (changes-places s s' place b (written i value b) c) bare_before bare_after
     (λ p x live.
     arena p
     (λ same.
@@ -187,7 +187,7 @@ write-tied g s l who place i value s' e h sound old w bare_before bare_after b o
     (λ k p x has live on.
     elim (cases_eq p place) [
       | inl here ↦
-          let owners : Caller who ≡ Shelf k = sym owned ∙ ap (λ (y : Block). y.owner) (is_changed p x here live) ∙ on in absurd (cc)
+          let owners : Caller caller ≡ Shelf k = sym owned ∙ ap (λ (y : Block). y.owner) (is_changed p x here live) ∙ on in absurd (cc)
       | inr ne ↦ w.elsewhere (name.Shelf k) (λ same. cc) ∙ old.tied.shelved k p x has (sym (c.elsewhere p ne) ∙ live) on
     ])
     (λ k has none.
@@ -198,7 +198,7 @@ write-tied g s l who place i value s' e h sound old w bare_before bare_after b o
       | inl here ↦
           let one : Some b ≡ Some x = sym c.was ∙ ap (λ q. block_at q (pool_of s.history)) (sym here) ∙ live in
           let same : b ≡ x = cc in
-          let owners : Caller who ≡ Shelf k = sym owned ∙ ap (λ (y : Block). y.owner) same ∙ on in absurd (cc)
+          let owners : Caller caller ≡ Shelf k = sym owned ∙ ap (λ (y : Block). y.owner) same ∙ on in absurd (cc)
       | inr ne ↦ none p x (c.elsewhere p ne ∙ live) on
     ]))
     (λ p j v x live said.
@@ -228,31 +228,31 @@ write-tied g s l who place i value s' e h sound old w bare_before bare_after b o
 
 -- a store of a usable word keeps the state sound
 pub store_word-sound :
-    (g : Geometry) (s : State) (who : ℕ) (s' : State) (place i value : ℕ) (o : Onward) → IsSoundWithoutCounts g s → who < g.callers
-    → (s.errand who).point ≡ Large (large.StoreWord place i value) o → Step s who s' → IsSoundWithoutCounts g s'
+    (g : Geometry) (s : State) (caller : ℕ) (s' : State) (place i value : ℕ) (o : Continuation) → IsSoundWithoutCounts g s → caller < g.callers
+    → (s.errand caller).point ≡ Large (large.StoreWord place i value) o → Step s caller s' → IsSoundWithoutCounts g s'
 unfolding recalls_of
-store_word-sound g s who s' place i value o sound has at step =
+store_word-sound g s caller s' place i value o sound has at step =
     let l = sound.parts.0 in
     let old = sound.parts.1 in
     let p : Point = Large (large.StoreWord place i value) o in
-    let fit = fits-at g s l who p old has at in
-    let so : IsSo g s l who (owns place i) = All-head (IsSo g s l who) (owns place i) [] (so-at g s l who p old has at) in
-    let owned : IsOwned s who place so.0 = so.1 in
+    let fit = fits-at g s l caller p old has at in
+    let so : IsSo g s l caller (owns place i) = All-head (IsSo g s l caller) (owns place i) [] (so-at g s l caller p old has at) in
+    let owned : IsOwned s caller place so.0 = so.1 in
     let b : Block = owned.block.0 in
     let usable : i < usable_words b.need = subst (λ m. i < usable_words m) (sym owned.block.3) so.2 in
-    let allowed : IsAllowed g s.history (Write who place i value) = (b, owned.block.1, owned.block.2, usable) in
+    let allowed : IsAllowed g s.history (Write caller place i value) = (b, owned.block.1, owned.block.2, usable) in
     let t =
-    touched-step g s l who s' p Idle (name.Arena (place + 1 + i)) value (s.history ++ Write who place i value ∷ []) old has at
-    (write-touches g s l who place i value o sound old fit.point.0 fit.point.1 b owned.block.1 usable allowed) step in
+    touched-step g s l caller s' p Idle (name.Arena (place + 1 + i)) value (s.history ++ Write caller place i value ∷ []) old has at
+    (write-touches g s l caller place i value o sound old fit.point.0 fit.point.1 b owned.block.1 usable allowed) step in
     let c : Changes s s' place b (written i value b) =
-    changes-from s s' (Write who place i value) place (written i value) b t.history refl (λ x. refl) (λ x. refl) owned.block.1 in
+    changes-from s s' (Write caller place i value) place (written i value) b t.history refl (λ x. refl) (λ x. refl) owned.block.1 in
     record {
       checked = sound.checked;
-      legal = subst (IsLegalWithoutCounts g) (sym t.history) (EachAfter-push (IsLegalEventWithoutCounts g) s.history (Write who place i value) sound.legal (has, allowed));
+      legal = subst (IsLegalWithoutCounts g) (sym t.history) (EachAfter-push (IsLegalEventWithoutCounts g) s.history (Write caller place i value) sound.legal (has, allowed));
       parts = (
         l,
-        sound-touched g s l who _ s' t.touches old
-            (write-tied g s l who place i value s' _ t.touches sound old t.word (subst IsBareHanded (sym at) (write-bare place i value o)) idle-bare-handed b
+        sound-touched g s l caller _ s' t.touches old
+            (write-tied g s l caller place i value s' _ t.touches sound old t.word (subst IsBareHanded (sym at) (write-bare place i value o)) idle-bare-handed b
             owned.block.2 usable c),
       );
     }

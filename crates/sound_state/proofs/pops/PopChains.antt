@@ -60,30 +60,30 @@ first-goes b b' i old chain avail count waits next size here others =
     }
 
 module _
-    (g : Geometry) (s : State) (l : Lists) (who : ℕ) (at : Site) (share : Share) (a : AnchorFields) (link words : ℕ) (e : ErrandFields)
-    (s' : State) (h : Pops g s l who at share a link words e s') where
+    (g : Geometry) (s : State) (l : Lists) (caller : ℕ) (at : Site) (share : Share) (a : AnchorFields) (link words : ℕ) (e : ErrandFields)
+    (s' : State) (h : Pops g s l caller at share a link words e s') where
   popped-lie : LieStill s s'
-  popped-lie = anchor-still (popped-write g s l who at share a link words e s' h)
+  popped-lie = anchor-still (popped-write g s l caller at share a link words e s' h)
 
   -- each frame is in one place
   pub popped-framed : IsSoundWith g s l → IsFramed g s' l
   popped-framed old =
-      framed-after (popped-holds g s l who at share a link words e s' h) l
+      framed-after (popped-holds g s l caller at share a link words e s' h) l
       (λ f d.
-      let bound = popped-bound g s l who at share a link words e s' h d in
-      let waits = popped-waits g s l who at share a link words e s' h d in
+      let bound = popped-bound g s l caller at share a link words e s' h d in
+      let waits = popped-waits g s l caller at share a link words e s' h d in
       rw (bound, waits, info-stays popped-lie d) refl)
       (λ f. has-frames f at a.avail (more_of share a) ∙ sym (popping-no-frames f at.desc at.seat.class share)) old.framed
 
   -- the popped block alone becomes live
-  popped-blocks : BlockEffects g s l who at a.avail s'
+  popped-blocks : BlockEffects g s l caller at a.avail s'
   popped-blocks = record {
     site = h.site;
     bound = h.bound;
     located = h.located;
     index = h.fits.avail;
     still = popped-lie;
-    there = popped-there g s l who at share a link words e s' h;
+    there = popped-there g s l caller at share a link words e s' h;
   }
 
   popped-count : (anchor_for s' at.desc).count + taken_off share a ≡ (anchor_for s at.desc).count
@@ -99,7 +99,7 @@ module _
       let k = (anchor_for s at.desc).count + reserved_of g s at.desc in
       let first : (anchor_for s at.desc).avail ≡ a.avail = ap (λ x. x.avail) h.before in
       let less : k - 1 ≡ (anchor_for s' at.desc).count + reserved_of g s' at.desc =
-      omega (arith, popped-count, popped-credits g s l who at share a link words e s' h) in
+      omega (arith, popped-count, popped-credits g s l caller at share a link words e s' h) in
       let goes : next a.avail ≡ (anchor_for s' at.desc).avail = h.next ∙ sym (ap (λ x. x.avail) h.after) in
       let rest : chain_of next (k - 1) (next a.avail) ≡ free_chain (superblock_of g s' at.desc) =
       ap (λ n. chain_of next n (next a.avail)) less
@@ -107,19 +107,19 @@ module _
       ∙ ap (λ f. chain_of f ((anchor_for s' at.desc).count + reserved_of g s' at.desc) (anchor_for s' at.desc).avail)
       (sym (next-stays popped-lie g at.desc)) in
       ap (chain_of next k) first
-      ∙ chain_of-first next k a.avail (omega (arith, popped-first g s l who at share a link words e s' h)) ∙ ap (λ xs. a.avail ∷ xs) rest
+      ∙ chain_of-first next k a.avail (omega (arith, popped-first g s l caller at share a link words e s' h)) ∙ ap (λ xs. a.avail ∷ xs) rest
 
   popped-here-chained : IsSoundWith g s l → IsChained (superblock_of g s' at.desc)
   popped-here-chained old =
       first-goes (superblock_of g s at.desc) (superblock_of g s' at.desc) a.avail (old.chained.chained at.desc h.site.desc h.bound) popped-chain
-      (ap (λ x. x.avail) h.after ∙ sym h.next) (omega (arith, popped-count)) (popped-waits g s l who at share a link words e s' h at.desc)
+      (ap (λ x. x.avail) h.after ∙ sym h.next) (omega (arith, popped-count)) (popped-waits g s l caller at share a link words e s' h at.desc)
       (next-stays popped-lie g at.desc) (size-stays popped-lie g at.desc)
-      (live-after popped-blocks a.avail ∙ ap is_there (popped-here g s l who at share a link words e s' h)) (rest-live popped-blocks)
+      (live-after popped-blocks a.avail ∙ ap is_there (popped-here g s l caller at share a link words e s' h)) (rest-live popped-blocks)
 
   -- all superblocks keep their popped-blocks in order
   pub popped-chained : IsSoundWithoutCounts g s → IsSoundWith g s l → AreChained g s' l
   popped-chained sound old =
-      chained-after popped-blocks old (λ d. subst IsTrue (popped-bound g s l who at share a link words e s' h d)) (λ bound. popped-here-chained old)
+      chained-after popped-blocks old (λ d. subst IsTrue (popped-bound g s l caller at share a link words e s' h d)) (λ bound. popped-here-chained old)
       (λ d differ.
-      superblock-stays popped-lie g d (popped-anchor g s l who at share a link words e s' h d differ)
-      (popped-reserved g s l who at share a link words e s' h d differ) (popped-waits g s l who at share a link words e s' h d))
+      superblock-stays popped-lie g d (popped-anchor g s l caller at share a link words e s' h d differ)
+      (popped-reserved g s l caller at share a link words e s' h d differ) (popped-waits g s l caller at share a link words e s' h d))

@@ -40,11 +40,11 @@ abbrev pub popped_place : Site → AnchorFields → ℕ
 popped_place at a = block_place at.frame at.seat.class a.avail
 
 -- a caller pops the first available block of a superblock, and all else stays
-pub record Pops (g : Geometry) (s : State) (l : Lists) (who : ℕ) (at : Site) (share : Share) (a : AnchorFields) (link words : ℕ)
+pub record Pops (g : Geometry) (s : State) (l : Lists) (caller : ℕ) (at : Site) (share : Share) (a : AnchorFields) (link words : ℕ)
     (e : ErrandFields) (s' : State) : Type 0 where
-  pub caller : who < g.callers
-  pub moves : Moves s.errand who e s'.errand
-  pub site : IsSiteOf g who at
+  pub in_heap : caller < g.callers
+  pub moves : Moves s.errand caller e s'.errand
+  pub site : IsSiteOf g caller at
   pub fits : IsAnchorOf at.seat.class a
   pub small : need_of words ≡ need.Small at.seat.class
   pub bound : IsTrue (is_bound g s l at.desc)
@@ -54,14 +54,14 @@ pub record Pops (g : Geometry) (s : State) (l : Lists) (who : ℕ) (at : Site) (
   pub next : (superblock_of g s at.desc).next a.avail ≡ link
   pub elsewhere : (n : WordName) → n ≢ name.Anchor at.desc → s'.word n ≡ s.word n
   pub below : (n : WordName) → s'.word n < 2 ^ 64
-  pub history : s'.history ≡ s.history ++ Alloc who words (popped_place at a) ∷ []
-  pub rule : IsOwnErrand g who e
-  pub retired : e.retired ≡ (s.errand who).retired
-  pub turns : e.turns ≡ (s.errand who).turns
-  pub lost : e.lost ≡ (s.errand who).lost
-  pub cleared : e.cleared ≡ (s.errand who).cleared
-  pub holds_before : holds_of (s.errand who).point ≡ holds_before_pop at.desc at.seat.class share
+  pub history : s'.history ≡ s.history ++ Alloc caller words (popped_place at a) ∷ []
+  pub rule : IsOwnErrand g caller e
+  pub retired : e.retired ≡ (s.errand caller).retired
+  pub turns : e.turns ≡ (s.errand caller).turns
+  pub lost : e.lost ≡ (s.errand caller).lost
+  pub cleared : e.cleared ≡ (s.errand caller).cleared
+  pub holds_before : holds_of (s.errand caller).point ≡ holds_before_pop at.desc at.seat.class share
   pub holds_after : holds_of e.point ≡ popped_holds at a.avail (more_of share a)
   pub recalls_after : recalls_of e.point ≡ bound_here at
-  pub stands_before : StandsIn true (s.errand who).point
+  pub stands_before : StandsIn true (s.errand caller).point
   pub stands_after : StandsIn false e.point

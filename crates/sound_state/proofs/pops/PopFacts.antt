@@ -74,10 +74,10 @@ first-occurs next k i some =
     subst (λ xs. 0 < occurs i xs) (sym (chain_of-first next k i some)) (omega (arith, occurs-here i (chain_of next (k - 1) (next i))))
 
 module _
-    (g : Geometry) (s : State) (l : Lists) (who : ℕ) (at : Site) (share : Share) (a : AnchorFields) (link words : ℕ) (e : ErrandFields)
-    (s' : State) (h : Pops g s l who at share a link words e s') where
-  pub popped-holds : HoldingEffects g s who (holds_before_pop at.desc at.seat.class share) (popped_holds at a.avail (more_of share a)) e s'
-  popped-holds = record { caller = h.caller; moves = h.moves; retired = h.retired; before = h.holds_before; after = h.holds_after }
+    (g : Geometry) (s : State) (l : Lists) (caller : ℕ) (at : Site) (share : Share) (a : AnchorFields) (link words : ℕ) (e : ErrandFields)
+    (s' : State) (h : Pops g s l caller at share a link words e s') where
+  pub popped-holds : HoldingEffects g s caller (holds_before_pop at.desc at.seat.class share) (popped_holds at a.avail (more_of share a)) e s'
+  popped-holds = record { in_heap = h.in_heap; moves = h.moves; retired = h.retired; before = h.holds_before; after = h.holds_after }
 
   pub popped-write : AnchorEffects s at.desc s'
   popped-write = record { elsewhere = h.elsewhere }
@@ -145,7 +145,7 @@ module _
       omega (
         arith,
         ap (λ x. reserved_among at.desc x.credits) h.holds_before,
-        term-sum g.callers (λ i. errand_reserves at.desc (s.errand i)) who h.caller,
+        term-sum g.callers (λ i. errand_reserves at.desc (s.errand i)) caller h.in_heap,
         pays-one at.desc at.seat.class share,
       )
 
@@ -160,8 +160,8 @@ module _
       (subst (λ c. block_at (block_place at.frame c (anchor_for s at.desc).avail) (pool_of s.history) ≡ None) h.located.class
       (subst (λ f. block_at (block_place f (info_for s at.desc).class (anchor_for s at.desc).avail) (pool_of s.history) ≡ None) h.located.frame none))
 
-  pub popped-here : block_at (popped_place at a) (pool_of s'.history) ≡ Some (fresh_block who words (popped_place at a))
-  popped-here = given-here who words (popped_place at a) s.history s'.history h.history
+  pub popped-here : block_at (popped_place at a) (pool_of s'.history) ≡ Some (fresh_block caller words (popped_place at a))
+  popped-here = given-here caller words (popped_place at a) s.history s'.history h.history
 
   pub popped-there : (p : ℕ) → p ≢ popped_place at a → block_at p (pool_of s'.history) ≡ block_at p (pool_of s.history)
-  popped-there = given-there who words (popped_place at a) s.history s'.history h.history
+  popped-there = given-there caller words (popped_place at a) s.history s'.history h.history

@@ -96,12 +96,12 @@ filled-keeps d c LastCredit a filled = grind (arith)
 filled-keeps d c (Grant more) a filled = elim filled [ ]
 
 popped-active :
-    (g : Geometry) (s : State) (l : Lists) (who : ℕ) (at : Site) (share : Share) (a : AnchorFields) (link words : ℕ) (e : ErrandFields)
-    (s' : State) → Pops g s l who at share a link words e s' → IsKept g s l → IsReserving share → a.state ≡ phase.Active
-popped-active g s l who at share a link words e s' h kept is =
+    (g : Geometry) (s : State) (l : Lists) (caller : ℕ) (at : Site) (share : Share) (a : AnchorFields) (link words : ℕ) (e : ErrandFields)
+    (s' : State) → Pops g s l caller at share a link words e s' → IsKept g s l → IsReserving share → a.state ≡ phase.Active
+popped-active g s l caller at share a link words e s' h kept is =
     ap (λ x. x.state) (sym h.before)
     ∙ (reserving-active s at.desc at.seat.class share
-    (subst (λ x. All (λ k. IsKeptAs s k.status k.desc k.class) x.kept) h.holds_before (kept.errand who h.caller)) is).state
+    (subst (λ x. All (λ k. IsKeptAs s k.status k.desc k.class) x.kept) h.holds_before (kept.errand caller h.in_heap)) is).state
 
 -- what the caller keeps after the pop is ACTIVE
 more-reserving : (share : Share) (a : AnchorFields) → 0 < more_of share a → IsReserving share
@@ -131,26 +131,26 @@ popped-keeps s at i more active =
     ]
 
 popped-own :
-    (g : Geometry) (s : State) (l : Lists) (who : ℕ) (at : Site) (share : Share) (a : AnchorFields) (link words : ℕ) (e : ErrandFields)
-    (s' : State) → Pops g s l who at share a link words e s' → IsKept g s l → All (λ k. IsKeptAs s' k.status k.desc k.class) (holds_of e.point).kept
-popped-own g s l who at share a link words e s' h kept =
+    (g : Geometry) (s : State) (l : Lists) (caller : ℕ) (at : Site) (share : Share) (a : AnchorFields) (link words : ℕ) (e : ErrandFields)
+    (s' : State) → Pops g s l caller at share a link words e s' → IsKept g s l → All (λ k. IsKeptAs s' k.status k.desc k.class) (holds_of e.point).kept
+popped-own g s l caller at share a link words e s' h kept =
     subst (λ x. All (λ k. IsKeptAs s' k.status k.desc k.class) x.kept) (sym h.holds_after)
     (popped-keeps s' at a.avail (more_of share a)
     (λ more. record {
-      class = ap (λ x. x.class) (popped-info g s l who at share a link words e s' h at.desc) ∙ h.located.class;
+      class = ap (λ x. x.class) (popped-info g s l caller at share a link words e s' h at.desc) ∙ h.located.class;
       state =
           ap (λ x. x.state) h.after ∙ more-stays share a more
-          ∙ popped-active g s l who at share a link words e s' h kept (more-reserving share a more);
+          ∙ popped-active g s l caller at share a link words e s' h kept (more-reserving share a more);
     }))
 
 -- it keeps the superblock in its state, or fills it, which it alone keeps
 popped-goes :
-    (g : Geometry) (s : State) (l : Lists) (who : ℕ) (at : Site) (share : Share) (a : AnchorFields) (link words : ℕ) (e : ErrandFields)
-    (s' : State) → Pops g s l who at share a link words e s' → IsKept g s l
+    (g : Geometry) (s : State) (l : Lists) (caller : ℕ) (at : Site) (share : Share) (a : AnchorFields) (link words : ℕ) (e : ErrandFields)
+    (s' : State) → Pops g s l caller at share a link words e s' → IsKept g s l
     → StaysKept s s' at.desc
-    ⊎ ((1 ≤ kept_places at.desc (holds_of (s.errand who).point).kept)
+    ⊎ ((1 ≤ kept_places at.desc (holds_of (s.errand caller).point).kept)
     × ((popped_anchor share a link).state ≡ phase.Full → (popped_anchor share a link).count ≡ 0))
-popped-goes g s l who at share a link words e s' h kept =
+popped-goes g s l caller at share a link words e s' h kept =
     elim (state-stays share a) [
       | inl filled ↦
           inr (
@@ -159,22 +159,22 @@ popped-goes g s l who at share a link words e s' h kept =
           )
       | inr stays ↦
           inl
-          (state-goes s s' at.desc (popped-info g s l who at share a link words e s' h at.desc)
+          (state-goes s s' at.desc (popped-info g s l caller at share a link words e s' h at.desc)
           (ap (λ x. x.state) h.after ∙ stays ∙ ap (λ x. x.state) (sym h.before))
           (λ partial some.
-          let same = count-stays share a (popped-active g s l who at share a link words e s' h kept) (ap (λ x. x.state) (sym h.before) ∙ partial) in
+          let same = count-stays share a (popped-active g s l caller at share a link words e s' h kept) (ap (λ x. x.state) (sym h.before) ∙ partial) in
           omega (arith, some, same, ap (λ x. x.count) h.after, ap (λ x. x.count) h.before))
           (λ full. omega (arith, ap (λ x. x.count) h.after, ap (λ x. x.count) h.before, count-less share a)))
     ]
 
 pops-move :
-    (g : Geometry) (s : State) (l : Lists) (who : ℕ) (at : Site) (share : Share) (a : AnchorFields) (link words : ℕ) (e : ErrandFields)
-    (s' : State) → Pops g s l who at share a link words e s' → IsKept g s l
-    → MovesAt g s l who at.desc at.seat.class a (popped_anchor share a link) e s'
-pops-move g s l who at share a link words e s' h kept =
-    let active = popped-active g s l who at share a link words e s' h kept in
+    (g : Geometry) (s : State) (l : Lists) (caller : ℕ) (at : Site) (share : Share) (a : AnchorFields) (link words : ℕ) (e : ErrandFields)
+    (s' : State) → Pops g s l caller at share a link words e s' → IsKept g s l
+    → MovesAt g s l caller at.desc at.seat.class a (popped_anchor share a link) e s'
+pops-move g s l caller at share a link words e s' h kept =
+    let active = popped-active g s l caller at share a link words e s' h kept in
     record {
-      caller = h.caller;
+      in_heap = h.in_heap;
       moves = h.moves;
       exists = h.site.desc;
       class = h.located.class;
@@ -186,20 +186,20 @@ pops-move g s l who at share a link words e s' h kept =
       stock = λ class.
           rw (h.holds_before, h.holds_after)
           (omega (arith, popped-stock-weighs at share a class active, h.stands_before.waits class, h.stands_after.waits class));
-      goes = popped-goes g s l who at share a link words e s' h kept;
-      own = popped-own g s l who at share a link words e s' h kept;
+      goes = popped-goes g s l caller at share a link words e s' h kept;
+      own = popped-own g s l caller at share a link words e s' h kept;
     }
 
 pub popped-kept :
-    (g : Geometry) (s : State) (l : Lists) (who : ℕ) (at : Site) (share : Share) (a : AnchorFields) (link words : ℕ) (e : ErrandFields)
-    (s' : State) → Pops g s l who at share a link words e s' → IsSoundWith g s l → IsKept g s' l
-popped-kept g s l who at share a link words e s' h sound =
-    moved-kept g s l who at.desc at.seat.class a (popped_anchor share a link) e s'
-    (pops-move g s l who at share a link words e s' h sound.kept) sound.kept
+    (g : Geometry) (s : State) (l : Lists) (caller : ℕ) (at : Site) (share : Share) (a : AnchorFields) (link words : ℕ) (e : ErrandFields)
+    (s' : State) → Pops g s l caller at share a link words e s' → IsSoundWith g s l → IsKept g s' l
+popped-kept g s l caller at share a link words e s' h sound =
+    moved-kept g s l caller at.desc at.seat.class a (popped_anchor share a link) e s'
+    (pops-move g s l caller at share a link words e s' h sound.kept) sound.kept
 
 pub popped-stocked :
-    (g : Geometry) (s : State) (l : Lists) (who : ℕ) (at : Site) (share : Share) (a : AnchorFields) (link words : ℕ) (e : ErrandFields)
-    (s' : State) → Pops g s l who at share a link words e s' → IsSoundWith g s l → IsStocked g s' l
-popped-stocked g s l who at share a link words e s' h sound =
-    moved-stocked g s l who at.desc at.seat.class a (popped_anchor share a link) e s'
-    (pops-move g s l who at share a link words e s' h sound.kept) sound.stocked
+    (g : Geometry) (s : State) (l : Lists) (caller : ℕ) (at : Site) (share : Share) (a : AnchorFields) (link words : ℕ) (e : ErrandFields)
+    (s' : State) → Pops g s l caller at share a link words e s' → IsSoundWith g s l → IsStocked g s' l
+popped-stocked g s l caller at share a link words e s' h sound =
+    moved-stocked g s l caller at.desc at.seat.class a (popped_anchor share a link) e s'
+    (pops-move g s l caller at share a link words e s' h sound.kept) sound.stocked

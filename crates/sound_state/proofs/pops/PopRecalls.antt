@@ -31,17 +31,17 @@ use Rattle.sound_state.proofs.shared.WaitsAlone.{waits-alone}
 
 -- a pop that was won
 module _
-    (g : Geometry) (s : State) (l : Lists) (who : ℕ) (at : Site) (share : Share) (a : AnchorFields) (link words : ℕ) (e : ErrandFields) (s' : State)
-    (h : Pops g s l who at share a link words e s') where
+    (g : Geometry) (s : State) (l : Lists) (caller : ℕ) (at : Site) (share : Share) (a : AnchorFields) (link words : ℕ) (e : ErrandFields) (s' : State)
+    (h : Pops g s l caller at share a link words e s') where
   -- nobody pops from a superblock that waits to be installed
-  popped-installed : IsSoundWith g s l → (i : ℕ) → i < g.callers → i ≢ who → InstallsNone (s.errand i).point at.desc
+  popped-installed : IsSoundWith g s l → (i : ℕ) → i < g.callers → i ≢ caller → InstallsNone (s.errand i).point at.desc
   unfolding callers_sum
   popped-installed old i has ne site o stands same =
       let alone : reserved_of g s site.desc ≡ errand_reserves site.desc (s.errand i) = (waits-alone g s l i site o old has stands).0 in
-      let mine : 1 ≤ errand_reserves at.desc (s.errand who) =
+      let mine : 1 ≤ errand_reserves at.desc (s.errand caller) =
       subst (λ x. 1 ≤ reserved_among at.desc x.credits) (sym h.holds_before) (pays-one at.desc at.seat.class share) in
-      let mine_too : 1 ≤ errand_reserves site.desc (s.errand who) = subst (λ k. 1 ≤ errand_reserves k (s.errand who)) (sym same) mine in
-      omega (arith, alone, mine_too, two-terms g.callers (λ j. errand_reserves site.desc (s.errand j)) i who has h.caller ne)
+      let mine_too : 1 ≤ errand_reserves site.desc (s.errand caller) = subst (λ k. 1 ≤ errand_reserves k (s.errand caller)) (sym same) mine in
+      omega (arith, alone, mine_too, two-terms g.callers (λ j. errand_reserves site.desc (s.errand j)) i caller has h.in_heap ne)
 
   -- the words of stacks, of descriptors and of the arena stay
   popped-words-steady : AreSteady s s'
@@ -62,15 +62,15 @@ module _
               first = λ is. absurd (omega (arith, so.tag, popped-rises d same, is));
             }
         | inr ne ↦
-            popped-steady g s l s' popped-words-steady d b (popped-anchor g s l who at share a link words e s' h d ne)
-            (popped-reserved g s l who at share a link words e s' h d ne) so
+            popped-steady g s l s' popped-words-steady d b (popped-anchor g s l caller at share a link words e s' h d ne)
+            (popped-reserved g s l caller at share a link words e s' h d ne) so
       ]
 
   popped-tag : (d t : ℕ) → t ≤ (anchor_for s d).tag → t ≡ (anchor_for s' d).tag → t ≡ (anchor_for s d).tag
   popped-tag d t most is =
       elim (cases_eq d at.desc) [
         | inl same ↦ absurd (omega (arith, most, popped-rises d same, is))
-        | inr ne ↦ is ∙ ap (λ x. x.tag) (popped-anchor g s l who at share a link words e s' h d ne)
+        | inr ne ↦ is ∙ ap (λ x. x.tag) (popped-anchor g s l caller at share a link words e s' h d ne)
       ]
 
   -- who owned a block owns it still: the popped place was not live
@@ -79,29 +79,29 @@ module _
       let apart : place ≢ popped_place at a =
       λ same.
       none-some k.block.0
-      (sym (popped-none g s l who at share a link words e s' h sound old) ∙ ap (λ p. block_at p (pool_of s.history)) (sym same) ∙ k.block.1) in
+      (sym (popped-none g s l caller at share a link words e s' h sound old) ∙ ap (λ p. block_at p (pool_of s.history)) (sym same) ∙ k.block.1) in
       record {
         block = (
           k.block.0,
-          popped-there g s l who at share a link words e s' h place apart ∙ k.block.1,
+          popped-there g s l caller at share a link words e s' h place apart ∙ k.block.1,
           k.block.2,
           k.block.3,
         );
       }
 
   -- so a pop leaves what the others remember
-  popped-leaves : IsSoundWithoutCounts g s → IsSoundWith g s l → (i : ℕ) → i ≢ who → Leaves g s l s' i
+  popped-leaves : IsSoundWithoutCounts g s → IsSoundWith g s l → (i : ℕ) → i ≢ caller → Leaves g s l s' i
   popped-leaves sound old i ne = record {
     steady = popped-words-steady;
-    events = ap (own i) h.history ∙ told-own i s.history (Alloc who words (popped_place at a)) (λ same. ne (sym same));
+    events = ap (own i) h.history ∙ told-own i s.history (Alloc caller words (popped_place at a)) (λ same. ne (sym same));
     owned = popped-owned sound old i;
-    empty = λ d is. popped-empty g s l who at share a link words e s' h d;
-    ways = λ d is. popped-ways g s l who at share a link words e s' h d;
+    empty = λ d is. popped-empty g s l caller at share a link words e s' h d;
+    ways = λ d is. popped-ways g s l caller at share a link words e s' h d;
   }
 
   popped-left : (r : Recall) → IsBacked g s l at.desc r → IsLeft g s l s' r
-  popped-left (bound_for d c) backed = subst IsTrue (sym (popped-bound g s l who at share a link words e s' h d))
-  popped-left (bound_at d f c) backed = subst IsTrue (sym (popped-bound g s l who at share a link words e s' h d))
+  popped-left (bound_for d c) backed = subst IsTrue (sym (popped-bound g s l caller at share a link words e s' h d))
+  popped-left (bound_at d f c) backed = subst IsTrue (sym (popped-bound g s l caller at share a link words e s' h d))
   popped-left (pops d b) backed = popped-pops d b
   popped-left (links d b prefix) backed = popped-tag d b.tag backed.1
   popped-left (says n w) backed = h.elsewhere n backed
@@ -109,9 +109,9 @@ module _
 
   pub popped-remembered : IsSoundWithoutCounts g s → IsSoundWith g s l → IsRemembered g s' l
   popped-remembered sound old =
-      remembered-left g s l who e s' h.moves
-      (subst (All (IsSo g s' l who)) (sym h.recalls_after)
-      (here-so g s l s' popped-words-steady who at (subst IsTrue (sym (popped-bound g s l who at share a link words e s' h at.desc)) h.bound) h.located))
+      remembered-left g s l caller e s' h.moves
+      (subst (All (IsSo g s' l caller)) (sym h.recalls_after)
+      (here-so g s l s' popped-words-steady caller at (subst IsTrue (sym (popped-bound g s l caller at share a link words e s' h at.desc)) h.bound) h.located))
       (λ i has ne. popped-leaves sound old i ne)
       (λ i has ne k d lt.
       popped-left _

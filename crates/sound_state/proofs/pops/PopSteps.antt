@@ -18,8 +18,8 @@ use Rattle.superblock_parts.specs.declared.point.BlockPoint.{BlockPoint}
 use Rattle.superblock_parts.specs.declared.point.BlockPoint.TheVariants as block
 use Rattle.superblock_parts.specs.declared.point.Share.{Share}
 use Rattle.errand_steps.specs.declared.next.Next.TheVariants.{At}
-use Rattle.errand_steps.specs.declared.onward.Onward.{Onward}
-use Rattle.errand_steps.specs.declared.onward.Onward.TheVariants as onward
+use Rattle.errand_steps.specs.declared.continuation.Continuation.{Continuation}
+use Rattle.errand_steps.specs.declared.continuation.Continuation.TheVariants as continuation
 use Rattle.errand_steps.specs.declared.point.Point.{Point}
 use Rattle.errand_steps.specs.declared.point.Point.TheVariants.{Block}
 use Rattle.errand_steps.specs.Events.{event_of}
@@ -52,29 +52,29 @@ use Rattle.sound_state.proofs.shared.WonEffects.{AnchorWon, anchor-won}
 abbrev popped_point : Bool → Site → ℕ → ℕ → BlockPoint
 popped_point b at i more = if b then block.InstallCredits at i more else block.StorePrefix at i
 
-popped-enters : (b : Bool) (at : Site) (i more : ℕ) (o : Onward) → enter_block (popped_point b at i more) o ≡ At (Block (popped_point b at i more) o)
+popped-enters : (b : Bool) (at : Site) (i more : ℕ) (o : Continuation) → enter_block (popped_point b at i more) o ≡ At (Block (popped_point b at i more) o)
 popped-enters true at i more o = refl
 popped-enters false at i more o = refl
 
 popped-point-holds :
-    (b : Bool) (at : Site) (i more : ℕ) (o : Onward)
+    (b : Bool) (at : Site) (i more : ℕ) (o : Continuation)
     → holds_of (Block (popped_point b at i more) o)
     ≡ (if b then hold.holds_after_pop at i more else record nothing { hands = block_handed at i })
 unfolding holds_of
 popped-point-holds true at i more o = refl
 popped-point-holds false at i more o = refl
 
-popped-point-recalls : (b : Bool) (at : Site) (i more : ℕ) (o : Onward) → recalls_of (Block (popped_point b at i more) o) ≡ bound_here at
+popped-point-recalls : (b : Bool) (at : Site) (i more : ℕ) (o : Continuation) → recalls_of (Block (popped_point b at i more) o) ≡ bound_here at
 unfolding recalls_of
 popped-point-recalls true at i more o = refl
 popped-point-recalls false at i more o = refl
 
-popped-point-stands : (b : Bool) (at : Site) (i more : ℕ) (o : Onward) → StandsIn false (Block (popped_point b at i more) o)
+popped-point-stands : (b : Bool) (at : Site) (i more : ℕ) (o : Continuation) → StandsIn false (Block (popped_point b at i more) o)
 popped-point-stands true at i more o = grind (arith)
 popped-point-stands false at i more o = grind (arith)
 
 pop_block-stands :
-    (at : Site) (share : Share) (a : AnchorFields) (prefix : ℕ) (o : Onward) → StandsIn true (Block (block.PopBlock at share a prefix) o)
+    (at : Site) (share : Share) (a : AnchorFields) (prefix : ℕ) (o : Continuation) → StandsIn true (Block (block.PopBlock at share a prefix) o)
 pop_block-stands at share a prefix o = grind (arith)
 
 -- the anchor's tag has room, so it isn't cut
@@ -94,37 +94,37 @@ popped-fits share a prefix fits room = record {
 
 -- what the step of a won pop changes
 pub pop-pops :
-    (g : Geometry) (s : State) (l : Lists) (who : ℕ) (s' : State) (at : Site) (share : Share) (a : AnchorFields) (prefix : ℕ) (o : Onward)
-    → IsSoundWithoutCounts g s → IsSoundWith g s l → who < g.callers → (s.errand who).point ≡ Block (block.PopBlock at share a prefix) o
-    → s.word (name.Anchor at.desc) ≡ anchor_word a → Step s who s'
-    → Pops g s l who at share a (link_of prefix) (asked o)
-    (at_point (s.errand who) (won_with (anchor_word a)) (Block (points.after_pop at a.avail (more_of share a)) o)) s'
+    (g : Geometry) (s : State) (l : Lists) (caller : ℕ) (s' : State) (at : Site) (share : Share) (a : AnchorFields) (prefix : ℕ) (o : Continuation)
+    → IsSoundWithoutCounts g s → IsSoundWith g s l → caller < g.callers → (s.errand caller).point ≡ Block (block.PopBlock at share a prefix) o
+    → s.word (name.Anchor at.desc) ≡ anchor_word a → Step s caller s'
+    → Pops g s l caller at share a (link_of prefix) (asked o)
+    (at_point (s.errand caller) (won_with (anchor_word a)) (Block (points.after_pop at a.avail (more_of share a)) o)) s'
 unfolding event_of next_of plan_point_of holds_of recalls_of
-pop-pops g s l who s' at share a prefix o sound is has here word step =
+pop-pops g s l caller s' at share a prefix o sound is has here word step =
     let p : Point = Block (block.PopBlock at share a prefix) o in
     let q : Point = Block (points.after_pop at a.avail (more_of share a)) o in
-    let fit = fits-at g s l who p is has here in
-    let so = so-at g s l who p is has here in
-    let so_links = All-head (IsSo g s l who) (links at.desc a prefix) (pops at.desc a ∷ bound_here at) so in
-    let so_rest = All-tail (IsSo g s l who) (links at.desc a prefix) (pops at.desc a ∷ bound_here at) so in
+    let fit = fits-at g s l caller p is has here in
+    let so = so-at g s l caller p is has here in
+    let so_links = All-head (IsSo g s l caller) (links at.desc a prefix) (pops at.desc a ∷ bound_here at) so in
+    let so_rest = All-tail (IsSo g s l caller) (links at.desc a prefix) (pops at.desc a ∷ bound_here at) so in
     let so_bound =
-    All-head (IsSo g s l who) (bound_at at.desc at.frame at.seat.class) [] (All-tail (IsSo g s l who) (pops at.desc a) (bound_here at) so_rest) in
+    All-head (IsSo g s l caller) (bound_at at.desc at.frame at.seat.class) [] (All-tail (IsSo g s l caller) (pops at.desc a) (bound_here at) so_rest) in
     let before : anchor_for s at.desc ≡ a = ap anchor_of word ∙ anchor_of-anchor_word a fit.point.anchor.fits in
     let room : a.tag + 1 < 2 ^ TAG_BITS =
     subst (λ x. x.tag + 1 < 2 ^ TAG_BITS) before (anchor-tags-below g s sound at.desc fit.point.site.desc) in
     let uncut : popped share a (link_of prefix) ≡ popped_anchor share a (link_of prefix) = popped-uncut share a (link_of prefix) room in
     let fits_new : IsAnchor (popped_anchor share a (link_of prefix)) = popped-fits share a prefix fit.point.anchor.fits room in
     let new : AnchorFields = popped_anchor share a (link_of prefix) in
-    let won : AnchorWon g s who p at.desc a new q s' =
-    anchor-won g s l who s' p at.desc a new q is has here word fit.point.anchor.fits fits_new
+    let won : AnchorWon g s caller p at.desc a new q s' =
+    anchor-won g s l caller s' p at.desc a new q is has here word fit.point.anchor.fits fits_new
     (ap (λ x. Cas (name.Anchor at.desc) (anchor_word a) (anchor_word x)) uncut)
     (inl (popped-enters (nat_lt 0 (more_of share a)) at a.avail (more_of share a) o)) step in
     record {
-      caller = has;
+      in_heap = has;
       moves = won.step.moves;
       site = fit.point.site;
       fits = fit.point.anchor;
-      small = small-asked g who at o (the-alloc o fit.goes) fit.onward;
+      small = small-asked g caller at o (the-alloc o fit.goes) fit.continuation;
       bound = so_bound.0;
       located = so_bound.1;
       before = won.before;
@@ -147,43 +147,43 @@ pop-pops g s l who s' at share a prefix o sound is has here word step =
 
 -- the state after a won pop is sound
 pub pop_block-won :
-    (g : Geometry) (s : State) (who : ℕ) (s' : State) (at : Site) (share : Share) (a : AnchorFields) (prefix : ℕ) (o : Onward)
-    → IsSoundWithoutCounts g s → who < g.callers
-    → (s.errand who).point ≡ Block (block.PopBlock at share a prefix) o → s.word (name.Anchor at.desc) ≡ anchor_word a
-    → Step s who s' → IsSoundWithoutCounts g s'
-pop_block-won g s who s' at share a prefix o sound has here word step =
+    (g : Geometry) (s : State) (caller : ℕ) (s' : State) (at : Site) (share : Share) (a : AnchorFields) (prefix : ℕ) (o : Continuation)
+    → IsSoundWithoutCounts g s → caller < g.callers
+    → (s.errand caller).point ≡ Block (block.PopBlock at share a prefix) o → s.word (name.Anchor at.desc) ≡ anchor_word a
+    → Step s caller s' → IsSoundWithoutCounts g s'
+pop_block-won g s caller s' at share a prefix o sound has here word step =
     let l = sound.parts.0 in
     let is = sound.parts.1 in
-    let e = at_point (s.errand who) (won_with (anchor_word a)) (Block (points.after_pop at a.avail (more_of share a)) o) in
-    let h = pop-pops g s l who s' at share a prefix o sound is has here word step in
+    let e = at_point (s.errand caller) (won_with (anchor_word a)) (Block (points.after_pop at a.avail (more_of share a)) o) in
+    let h = pop-pops g s l caller s' at share a prefix o sound is has here word step in
     record {
       checked = sound.checked;
-      legal = popped-legal g s l who at share a (link_of prefix) (asked o) e s' h sound is;
+      legal = popped-legal g s l caller at share a (link_of prefix) (asked o) e s' h sound is;
       parts = (
         l,
         record {
           words = h.below;
-          errands = each-caller g (IsOwnErrand g) s.errand who e s'.errand h.moves h.rule is.errands;
-          listed = popped-listed g s l who at share a (link_of prefix) (asked o) e s' h is;
-          kept = popped-kept g s l who at share a (link_of prefix) (asked o) e s' h is;
-          chained = popped-chained g s l who at share a (link_of prefix) (asked o) e s' h sound is;
-          framed = popped-framed g s l who at share a (link_of prefix) (asked o) e s' h is;
-          remembered = popped-remembered g s l who at share a (link_of prefix) (asked o) e s' h sound is;
-          guarded = popped-guarded g s l who at share a (link_of prefix) (asked o) e s' h is;
-          stocked = popped-stocked g s l who at share a (link_of prefix) (asked o) e s' h is;
-          turned = popped-turned g s l who at share a (link_of prefix) (asked o) e s' h sound is;
-          tied = popped-tied g s l who at share a (link_of prefix) (asked o) e s' h sound is;
+          errands = each-caller g (IsOwnErrand g) s.errand caller e s'.errand h.moves h.rule is.errands;
+          listed = popped-listed g s l caller at share a (link_of prefix) (asked o) e s' h is;
+          kept = popped-kept g s l caller at share a (link_of prefix) (asked o) e s' h is;
+          chained = popped-chained g s l caller at share a (link_of prefix) (asked o) e s' h sound is;
+          framed = popped-framed g s l caller at share a (link_of prefix) (asked o) e s' h is;
+          remembered = popped-remembered g s l caller at share a (link_of prefix) (asked o) e s' h sound is;
+          guarded = popped-guarded g s l caller at share a (link_of prefix) (asked o) e s' h is;
+          stocked = popped-stocked g s l caller at share a (link_of prefix) (asked o) e s' h is;
+          turned = popped-turned g s l caller at share a (link_of prefix) (asked o) e s' h sound is;
+          tied = popped-tied g s l caller at share a (link_of prefix) (asked o) e s' h sound is;
         },
       );
     }
 
 -- so it is after a pop, won or lost
 pub pop_block-sound :
-    (g : Geometry) (s : State) (who : ℕ) (s' : State) (at : Site) (share : Share) (a : AnchorFields) (prefix : ℕ) (o : Onward)
-    → IsSoundWithoutCounts g s → who < g.callers
-    → (s.errand who).point ≡ Block (block.PopBlock at share a prefix) o → Step s who s' → IsSoundWithoutCounts g s'
-pop_block-sound g s who s' at share a prefix o sound has here step =
+    (g : Geometry) (s : State) (caller : ℕ) (s' : State) (at : Site) (share : Share) (a : AnchorFields) (prefix : ℕ) (o : Continuation)
+    → IsSoundWithoutCounts g s → caller < g.callers
+    → (s.errand caller).point ≡ Block (block.PopBlock at share a prefix) o → Step s caller s' → IsSoundWithoutCounts g s'
+pop_block-sound g s caller s' at share a prefix o sound has here step =
     elim (cases_eq (s.word (name.Anchor at.desc)) (anchor_word a)) [
-      | inl is ↦ pop_block-won g s who s' at share a prefix o sound has here is step
-      | inr other ↦ pop_block-lost g s who s' at share a prefix o sound has here other step
+      | inl is ↦ pop_block-won g s caller s' at share a prefix o sound has here is step
+      | inr other ↦ pop_block-lost g s caller s' at share a prefix o sound has here other step
     ]

@@ -39,11 +39,11 @@ popped-frees at i more = elim (cases_Bool (nat_lt 0 more)) [ inl some ↦ rw som
 
 -- a pop gives the first available block
 pops-give :
-    (g : Geometry) (s : State) (l : Lists) (who : ℕ) (at : Site) (share : Share) (a : AnchorFields) (link words : ℕ) (e : ErrandFields)
-    (s' : State) → Pops g s l who at share a link words e s' → IsSoundWithoutCounts g s → IsSoundWith g s l
-    → Gives g s l who at a.avail words e s'
-pops-give g s l who at share a link words e s' h sound is = record {
-  caller = h.caller;
+    (g : Geometry) (s : State) (l : Lists) (caller : ℕ) (at : Site) (share : Share) (a : AnchorFields) (link words : ℕ) (e : ErrandFields)
+    (s' : State) → Pops g s l caller at share a link words e s' → IsSoundWithoutCounts g s → IsSoundWith g s l
+    → Gives g s l caller at a.avail words e s'
+pops-give g s l caller at share a link words e s' h sound is = record {
+  in_heap = h.in_heap;
   moves = h.moves;
   site = h.site;
   index = h.fits.avail;
@@ -51,16 +51,16 @@ pops-give g s l who at share a link words e s' h sound is = record {
   bound = h.bound;
   located = h.located;
   history = h.history;
-  none = popped-none g s l who at share a link words e s' h sound is;
-  here = popped-here g s l who at share a link words e s' h;
-  there = popped-there g s l who at share a link words e s' h;
+  none = popped-none g s l caller at share a link words e s' h sound is;
+  here = popped-here g s l caller at share a link words e s' h;
+  there = popped-there g s l caller at share a link words e s' h;
   tie_words = record {
     arena = λ place. h.elsewhere (name.Arena place) (λ same. cc);
     units = h.elsewhere name.Units (λ same. cc);
     shelf = λ k. h.elsewhere (name.Shelf k) (λ same. cc);
   };
-  info = popped-info g s l who at share a link words e s' h;
-  bounds = popped-bound g s l who at share a link words e s' h;
+  info = popped-info g s l caller at share a link words e s' h;
+  bounds = popped-bound g s l caller at share a link words e s' h;
   bare = record {
     hands = ap (λ (o : Holding). o.hands) h.holds_before ∙ hands-before at.desc at.seat.class share;
     frees = ap (λ (o : Holding). o.frees) h.holds_before ∙ frees-before at.desc at.seat.class share;
@@ -70,13 +70,13 @@ pops-give g s l who at share a link words e s' h sound is = record {
 }
 
 pub popped-legal :
-    (g : Geometry) (s : State) (l : Lists) (who : ℕ) (at : Site) (share : Share) (a : AnchorFields) (link words : ℕ) (e : ErrandFields)
-    (s' : State) → Pops g s l who at share a link words e s' → IsSoundWithoutCounts g s → IsSoundWith g s l → IsLegalWithoutCounts g s'.history
-popped-legal g s l who at share a link words e s' h sound is =
-    given-legal g s l who at a.avail words e s' (pops-give g s l who at share a link words e s' h sound is) sound is
+    (g : Geometry) (s : State) (l : Lists) (caller : ℕ) (at : Site) (share : Share) (a : AnchorFields) (link words : ℕ) (e : ErrandFields)
+    (s' : State) → Pops g s l caller at share a link words e s' → IsSoundWithoutCounts g s → IsSoundWith g s l → IsLegalWithoutCounts g s'.history
+popped-legal g s l caller at share a link words e s' h sound is =
+    given-legal g s l caller at a.avail words e s' (pops-give g s l caller at share a link words e s' h sound is) sound is
 
 pub popped-tied :
-    (g : Geometry) (s : State) (l : Lists) (who : ℕ) (at : Site) (share : Share) (a : AnchorFields) (link words : ℕ) (e : ErrandFields)
-    (s' : State) → Pops g s l who at share a link words e s' → IsSoundWithoutCounts g s → IsSoundWith g s l → IsTied g s' l
-popped-tied g s l who at share a link words e s' h sound is =
-    given-tied g s l who at a.avail words e s' (pops-give g s l who at share a link words e s' h sound is) is
+    (g : Geometry) (s : State) (l : Lists) (caller : ℕ) (at : Site) (share : Share) (a : AnchorFields) (link words : ℕ) (e : ErrandFields)
+    (s' : State) → Pops g s l caller at share a link words e s' → IsSoundWithoutCounts g s → IsSoundWith g s l → IsTied g s' l
+popped-tied g s l caller at share a link words e s' h sound is =
+    given-tied g s l caller at a.avail words e s' (pops-give g s l caller at share a link words e s' h sound is) is

@@ -23,9 +23,9 @@ use Rattle.sound_state.proofs.shared.ListEffects.{IsListWord, listed-kept}
 use Rattle.sound_state.proofs.shared.TurnEffects.{alloc-event, emptied-kept, head-tag, turned-after, small-served, stands-weighs}
 
 pub popped-listed :
-    (g : Geometry) (s : State) (l : Lists) (who : ℕ) (at : Site) (share : Share) (a : AnchorFields) (link words : ℕ) (e : ErrandFields)
-    (s' : State) → Pops g s l who at share a link words e s' → IsSoundWith g s l → IsListed g s'.word l
-popped-listed g s l who at share a link words e s' h old =
+    (g : Geometry) (s : State) (l : Lists) (caller : ℕ) (at : Site) (share : Share) (a : AnchorFields) (link words : ℕ) (e : ErrandFields)
+    (s' : State) → Pops g s l caller at share a link words e s' → IsSoundWith g s l → IsListed g s'.word l
+popped-listed g s l caller at share a link words e s' h old =
     listed-kept g s.word s'.word l (λ n is. h.elsewhere n (λ same. subst IsListWord same is)) old.listed
 
 -- before and after a pop the hazard word is 0
@@ -38,49 +38,49 @@ after-clear : (at : Site) (i more : ℕ) → (popped_holds at i more).hazard ≡
 after-clear at i more = grind (arith)
 
 pub popped-guarded :
-    (g : Geometry) (s : State) (l : Lists) (who : ℕ) (at : Site) (share : Share) (a : AnchorFields) (link words : ℕ) (e : ErrandFields)
-    (s' : State) → Pops g s l who at share a link words e s' → IsSoundWith g s l → IsGuarded g s'
-popped-guarded g s l who at share a link words e s' h old =
-    let was_clear : (holds_of (s.errand who).point).hazard ≡ clear =
+    (g : Geometry) (s : State) (l : Lists) (caller : ℕ) (at : Site) (share : Share) (a : AnchorFields) (link words : ℕ) (e : ErrandFields)
+    (s' : State) → Pops g s l caller at share a link words e s' → IsSoundWith g s l → IsGuarded g s'
+popped-guarded g s l caller at share a link words e s' h old =
+    let was_clear : (holds_of (s.errand caller).point).hazard ≡ clear =
     ap (λ x. x.hazard) h.holds_before ∙ before-clear at.desc at.seat.class share in
     let is_clear : (holds_of e.point).hazard ≡ clear = ap (λ x. x.hazard) h.holds_after ∙ after-clear at a.avail (more_of share a) in
     let after = h.stands_after in
-    guarded-clear g s who e s' h.caller h.moves (λ i. h.elsewhere (name.Hazard i) (λ same. cc)) was_clear is_clear after.pushed after.passed
+    guarded-clear g s caller e s' h.in_heap h.moves (λ i. h.elsewhere (name.Hazard i) (λ same. cc)) was_clear is_clear after.pushed after.passed
     after.unread after.spare old.guarded
 
 -- the tags of the anchors rise by one at most
 popped-tags :
-    (g : Geometry) (s : State) (l : Lists) (who : ℕ) (at : Site) (share : Share) (a : AnchorFields) (link words : ℕ) (e : ErrandFields)
-    (s' : State) → Pops g s l who at share a link words e s' → (d : ℕ) → (anchor_for s' d).tag ≤ (anchor_for s d).tag + 1
-popped-tags g s l who at share a link words e s' h d =
+    (g : Geometry) (s : State) (l : Lists) (caller : ℕ) (at : Site) (share : Share) (a : AnchorFields) (link words : ℕ) (e : ErrandFields)
+    (s' : State) → Pops g s l caller at share a link words e s' → (d : ℕ) → (anchor_for s' d).tag ≤ (anchor_for s d).tag + 1
+popped-tags g s l caller at share a link words e s' h d =
     elim (cases_eq d at.desc) [
       | inl same ↦
           subst (λ k. (anchor_for s' k).tag ≤ (anchor_for s k).tag + 1) (sym same)
           (omega (arith, ap (λ x. x.tag) h.before, ap (λ x. x.tag) h.after))
-      | inr ne ↦ omega (arith, ap (λ x. x.tag) (popped-anchor g s l who at share a link words e s' h d ne))
+      | inr ne ↦ omega (arith, ap (λ x. x.tag) (popped-anchor g s l caller at share a link words e s' h d ne))
     ]
 
 pub popped-turned :
-    (g : Geometry) (s : State) (l : Lists) (who : ℕ) (at : Site) (share : Share) (a : AnchorFields) (link words : ℕ) (e : ErrandFields)
-    (s' : State) → Pops g s l who at share a link words e s' → IsSoundWithoutCounts g s → IsSoundWith g s l → IsTurned g s' l
-popped-turned g s l who at share a link words e s' h sound old =
+    (g : Geometry) (s : State) (l : Lists) (caller : ℕ) (at : Site) (share : Share) (a : AnchorFields) (link words : ℕ) (e : ErrandFields)
+    (s' : State) → Pops g s l caller at share a link words e s' → IsSoundWithoutCounts g s → IsSoundWith g s l → IsTurned g s' l
+popped-turned g s l caller at share a link words e s' h sound old =
     let turned = old.turned in
-    let before = stands-weighs true (s.errand who) h.stands_before in
+    let before = stands-weighs true (s.errand caller) h.stands_before in
     let after = stands-weighs false e h.stands_after in
     let events =
-    alloc-event g who words (popped_place at a) s.history s'.history (small-served words at.seat.class h.small) h.history in
+    alloc-event g caller words (popped_place at a) s.history s'.history (small-served words at.seat.class h.small) h.history in
     let emptied_same =
     emptied-kept g s l s' l
-    (λ d. rw (popped-away g s l who at share a link words e s' h d, popped-empty g s l who at share a link words e s' h d) refl) in
-    turned-after g s l who e s' l 1 0
+    (λ d. rw (popped-away g s l caller at share a link words e s' h d, popped-empty g s l caller at share a link words e s' h d) refl) in
+    turned-after g s l caller e s' l 1 0
     (record {
-      caller = h.caller;
+      in_heap = h.in_heap;
       moves = h.moves;
       events = events;
-      own_turns = omega (arith, turned.own_turns who h.caller, events.gives, before.under_way, after.under_way, h.turns);
+      own_turns = omega (arith, turned.own_turns caller h.in_heap, events.gives, before.under_way, after.under_way, h.turns);
       own_lost =
-          omega (arith, turned.own_lost who h.caller, events.gives, events.refuses who, before.unanswered, after.discards, after.unanswered, h.turns, h.lost);
-      anchor_tags = λ d has. popped-tags g s l who at share a link words e s' h d;
+          omega (arith, turned.own_lost caller h.in_heap, events.gives, events.refuses caller, before.unanswered, after.discards, after.unanswered, h.turns, h.lost);
+      anchor_tags = λ d has. popped-tags g s l caller at share a link words e s' h d;
       frame_turns = omega (arith, head-tag (h.elsewhere name.FrameHead (λ same. cc)), before.unframed, after.unframed, h.turns);
       emptied = omega (arith, emptied_same, h.cleared);
       list_turns = λ class has.

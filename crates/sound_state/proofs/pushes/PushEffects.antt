@@ -74,30 +74,30 @@ pub record FreeStands (p : Point) : Type 0 where
   pub spare : spare_of p ≡ 0
 
 -- a caller pushes its block onto the free blocks of a superblock, and all else stays
-pub record Pushes (g : Geometry) (s : State) (l : Lists) (who : ℕ) (at : Site) (i : ℕ) (stored : Bool) (a : AnchorFields) (out : Outcome)
+pub record Pushes (g : Geometry) (s : State) (l : Lists) (caller : ℕ) (at : Site) (i : ℕ) (stored : Bool) (a : AnchorFields) (out : Outcome)
     (e : ErrandFields) (s' : State) : Type 0 where
-  pub caller : who < g.callers
-  pub moves : Moves s.errand who e s'.errand
-  pub site : IsSiteOf g who at
+  pub in_heap : caller < g.callers
+  pub moves : Moves s.errand caller e s'.errand
+  pub site : IsSiteOf g caller at
   pub index : i < block_count_of at.seat.class
   pub fits : IsAnchorOf at.seat.class a
   pub goes : IsOutcome out at.seat.class stored a
   pub bound : IsTrue (is_bound g s l at.desc)
   pub located : IsLocated s at.desc at.frame at.seat.class
-  pub owned : IsOwned s who (pushed_place at i) (need.Small at.seat.class)
+  pub owned : IsOwned s caller (pushed_place at i) (need.Small at.seat.class)
   pub before : anchor_for s at.desc ≡ a
   pub after : anchor_for s' at.desc ≡ pushed_anchor out i a
   pub next : (superblock_of g s at.desc).next i ≡ a.avail
   pub elsewhere : (n : WordName) → n ≢ name.Anchor at.desc → s'.word n ≡ s.word n
   pub below : (n : WordName) → s'.word n < 2 ^ 64
-  pub history : s'.history ≡ s.history ++ Free who (pushed_place at i) ∷ []
-  pub rule : IsOwnErrand g who e
-  pub retired : e.retired ≡ (s.errand who).retired
-  pub turns : e.turns ≡ (s.errand who).turns
-  pub lost : e.lost ≡ (s.errand who).lost
-  pub cleared : e.cleared ≡ (s.errand who).cleared
-  pub holds_before : holds_of (s.errand who).point ≡ pushing at i (if_stored stored at.desc)
+  pub history : s'.history ≡ s.history ++ Free caller (pushed_place at i) ∷ []
+  pub rule : IsOwnErrand g caller e
+  pub retired : e.retired ≡ (s.errand caller).retired
+  pub turns : e.turns ≡ (s.errand caller).turns
+  pub lost : e.lost ≡ (s.errand caller).lost
+  pub cleared : e.cleared ≡ (s.errand caller).cleared
+  pub holds_before : holds_of (s.errand caller).point ≡ pushing at i (if_stored stored at.desc)
   pub holds_after : holds_of e.point ≡ pushed_holds out at stored
   pub recalls_after : recalls_of e.point ≡ pushed_recalls out at
-  pub stands_before : FreeStands (s.errand who).point
+  pub stands_before : FreeStands (s.errand caller).point
   pub stands_after : FreeStands e.point

@@ -62,10 +62,10 @@ pub record IsFreeBut (b : Superblock) (i : ℕ) : Type 0 where
   pub others : (j : ℕ) → j < b.size → j ≢ i → b.live j ≡ 0
 
 module _
-    (g : Geometry) (s : State) (l : Lists) (who : ℕ) (at : Site) (i : ℕ) (stored : Bool) (a : AnchorFields) (out : Outcome)
-    (e : ErrandFields) (s' : State) (h : Pushes g s l who at i stored a out e s') where
-  pub pushed-holds : HoldingEffects g s who (pushing at i (if_stored stored at.desc)) (pushed_holds out at stored) e s'
-  pushed-holds = record { caller = h.caller; moves = h.moves; retired = h.retired; before = h.holds_before; after = h.holds_after }
+    (g : Geometry) (s : State) (l : Lists) (caller : ℕ) (at : Site) (i : ℕ) (stored : Bool) (a : AnchorFields) (out : Outcome)
+    (e : ErrandFields) (s' : State) (h : Pushes g s l caller at i stored a out e s') where
+  pub pushed-holds : HoldingEffects g s caller (pushing at i (if_stored stored at.desc)) (pushed_holds out at stored) e s'
+  pushed-holds = record { in_heap = h.in_heap; moves = h.moves; retired = h.retired; before = h.holds_before; after = h.holds_after }
 
   pub pushed-write : AnchorEffects s at.desc s'
   pushed-write = record { elsewhere = h.elsewhere }
@@ -124,14 +124,14 @@ module _
   pub pushed-gone : IsSoundWithoutCounts g s → block_at (pushed_place at i) (pool_of s'.history) ≡ None
   pushed-gone sound =
       ap (λ past. block_at (pushed_place at i) (pool_of past)) h.history
-      ∙ ap (block_at (pushed_place at i)) (pool_of-push s.history (Free who (pushed_place at i)))
+      ∙ ap (block_at (pushed_place at i)) (pool_of-push s.history (Free caller (pushed_place at i)))
       ∙ block_at-without_same (pushed_place at i) (pool_of s.history)
       (sound-differ g (pool_of s.history) (sound-of g s.history (sound.legal)))
 
   pub pushed-there : (p : ℕ) → p ≢ pushed_place at i → block_at p (pool_of s'.history) ≡ block_at p (pool_of s.history)
   pushed-there p ne =
       ap (λ past. block_at p (pool_of past)) h.history
-      ∙ ap (block_at p) (pool_of-push s.history (Free who (pushed_place at i)))
+      ∙ ap (block_at p) (pool_of-push s.history (Free caller (pushed_place at i)))
       ∙ block_at-without_other (pushed_place at i) p (pool_of s.history) ne
 
   -- a block that its caller owns is live
@@ -139,12 +139,12 @@ module _
   pushed-live = located-live g s at.desc at.frame at.seat.class h.located i ∙ ap is_there h.owned.block.1
 
 pub pushed-bare :
-    (g : Geometry) (s : State) (l : Lists) (who : ℕ) (at : Site) (i : ℕ) (stored : Bool) (a : AnchorFields) (e : ErrandFields) (s' : State)
-    → Pushes g s l who at i stored a empties e s' → IsSoundWith g s l → IsFreeBut (superblock_of g s at.desc) i
-pushed-bare g s l who at i stored a e s' h old =
+    (g : Geometry) (s : State) (l : Lists) (caller : ℕ) (at : Site) (i : ℕ) (stored : Bool) (a : AnchorFields) (e : ErrandFields) (s' : State)
+    → Pushes g s l caller at i stored a empties e s' → IsSoundWith g s l → IsFreeBut (superblock_of g s at.desc) i
+pushed-bare g s l caller at i stored a e s' h old =
     let b = superblock_of g s at.desc in
     let all = tally b (old.chained.chained at.desc h.site.desc h.bound) in
-    let live = pushed-live g s l who at i stored a empties e s' h in
+    let live = pushed-live g s l caller at i stored a empties e s' h in
     let count : b.anchor.count ≡ a.count = ap (λ x. x.count) h.before in
     let size : b.size ≡ block_count_of at.seat.class = ap block_count_of h.located.class in
     let has : i < b.size = omega (arith, h.index, size) in

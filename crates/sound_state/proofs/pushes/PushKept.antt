@@ -24,34 +24,34 @@ use Rattle.sound_state.proofs.pushes.PushFacts.{pushed-info, pushed-bare}
 
 -- a superblock that a push makes EMPTY was partial
 pub emptied-inactive :
-    (g : Geometry) (s : State) (l : Lists) (who : ℕ) (at : Site) (i : ℕ) (stored : Bool) (a : AnchorFields) (e : ErrandFields) (s' : State)
-    → Pushes g s l who at i stored a empties e s' → IsSoundWith g s l → (anchor_for s at.desc).state ≢ phase.Active
-emptied-inactive g s l who at i stored a e s' h old active =
-    active-reserves g s l at.desc old h.site.desc h.bound active (pushed-bare g s l who at i stored a e s' h old).reserved
+    (g : Geometry) (s : State) (l : Lists) (caller : ℕ) (at : Site) (i : ℕ) (stored : Bool) (a : AnchorFields) (e : ErrandFields) (s' : State)
+    → Pushes g s l caller at i stored a empties e s' → IsSoundWith g s l → (anchor_for s at.desc).state ≢ phase.Active
+emptied-inactive g s l caller at i stored a e s' h old active =
+    active-reserves g s l at.desc old h.site.desc h.bound active (pushed-bare g s l caller at i stored a e s' h old).reserved
 
 pub emptied-unfull :
-    (g : Geometry) (s : State) (l : Lists) (who : ℕ) (at : Site) (i : ℕ) (stored : Bool) (a : AnchorFields) (e : ErrandFields) (s' : State)
-    → Pushes g s l who at i stored a empties e s' → IsSoundWith g s l → (anchor_for s at.desc).state ≢ phase.Full
-emptied-unfull g s l who at i stored a e s' h old full =
+    (g : Geometry) (s : State) (l : Lists) (caller : ℕ) (at : Site) (i : ℕ) (stored : Bool) (a : AnchorFields) (e : ErrandFields) (s' : State)
+    → Pushes g s l caller at i stored a empties e s' → IsSoundWith g s l → (anchor_for s at.desc).state ≢ phase.Full
+emptied-unfull g s l caller at i stored a e s' h old full =
     let count = old.kept.full at.desc h.site.desc full in
     let bad : ⊥ =
     omega (arith, count, ap (λ x. x.count) h.before, h.goes.0, block_count_of-least at.seat.class h.site.seat.class) in bad
 
 -- a superblock is after the push where it belongs
 here-goes :
-    (g : Geometry) (s : State) (l : Lists) (who : ℕ) (at : Site) (i : ℕ) (stored : Bool) (a : AnchorFields) (out : Outcome) (e : ErrandFields)
-    (s' : State) → Pushes g s l who at i stored a out e s' → IsSoundWith g s l → StaysKept s s' at.desc
-here-goes g s l who at i stored a stays e s' h old =
+    (g : Geometry) (s : State) (l : Lists) (caller : ℕ) (at : Site) (i : ℕ) (stored : Bool) (a : AnchorFields) (out : Outcome) (e : ErrandFields)
+    (s' : State) → Pushes g s l caller at i stored a out e s' → IsSoundWith g s l → StaysKept s s' at.desc
+here-goes g s l caller at i stored a stays e s' h old =
     let state : (anchor_for s' at.desc).state ≡ (anchor_for s at.desc).state = ap (λ x. x.state) h.after ∙ sym (ap (λ x. x.state) h.before) in
     let count : (anchor_for s' at.desc).count ≡ a.count + 1 = ap (λ x. x.count) h.after in
-    state-goes s s' at.desc (pushed-info g s l who at i stored a stays e s' h at.desc) state (λ partial some. omega (arith, count))
+    state-goes s s' at.desc (pushed-info g s l caller at i stored a stays e s' h at.desc) state (λ partial some. omega (arith, count))
     (λ is.
     let full : a.state ≡ phase.Full = sym (ap (λ x. x.state) h.before) ∙ is in
     elim h.goes.1 [
       | inl active ↦ let bad : phase.Active ≡ phase.Full = sym active ∙ full in absurd (cc)
       | inr partial ↦ let bad : phase.Partial ≡ phase.Full = sym partial ∙ full in absurd (cc)
     ])
-here-goes g s l who at i stored a unfills e s' h old =
+here-goes g s l caller at i stored a unfills e s' h old =
     let was : (anchor_for s at.desc).state ≡ phase.Full = ap (λ x. x.state) h.before ∙ h.goes.1 in
     record {
       partly = λ c k.
@@ -67,12 +67,12 @@ here-goes g s l who at i stored a unfills e s' h old =
           ];
       full = λ is. let bad : phase.Partial ≡ phase.Full = sym (ap (λ x. x.state) h.after) ∙ is in cc;
     }
-here-goes g s l who at i stored a empties e s' h old =
-    let info = pushed-info g s l who at i stored a empties e s' h at.desc in
+here-goes g s l caller at i stored a empties e s' h old =
+    let info = pushed-info g s l caller at i stored a empties e s' h at.desc in
     let now : (anchor_for s' at.desc).state ≡ phase.Empty = ap (λ x. x.state) h.after in
     record {
       partly = λ c k. record { class = ap (λ x. x.class) info ∙ k.class; state = inr now };
-      active = λ c k. absurd (emptied-inactive g s l who at i stored a e s' h old k.state);
+      active = λ c k. absurd (emptied-inactive g s l caller at i stored a e s' h old k.state);
       without = λ k. inr now;
       full = λ is. let bad : phase.Empty ≡ phase.Full = sym now ∙ is in cc;
     }
@@ -103,12 +103,12 @@ pushed-stock-weighs unfills at i stored a c is none = let full = is.1 in grind (
 pushed-stock-weighs empties at i stored a c is none = let bare = none refl in grind (arith, bare)
 
 bare-full :
-    (g : Geometry) (s : State) (l : Lists) (who : ℕ) (at : Site) (i : ℕ) (stored : Bool) (a : AnchorFields) (out : Outcome) (e : ErrandFields)
-    (s' : State) → Pushes g s l who at i stored a out e s' → IsSoundWith g s l → out ≡ empties → full_keeps a.state ≡ 0
-bare-full g s l who at i stored a stays e s' h old is = absurd (cc)
-bare-full g s l who at i stored a unfills e s' h old is = absurd (cc)
-bare-full g s l who at i stored a empties e s' h old is =
-    ap (λ x. full_keeps x.state) (sym h.before) ∙ unfull-none (anchor_for s at.desc).state (emptied-unfull g s l who at i stored a e s' h old)
+    (g : Geometry) (s : State) (l : Lists) (caller : ℕ) (at : Site) (i : ℕ) (stored : Bool) (a : AnchorFields) (out : Outcome) (e : ErrandFields)
+    (s' : State) → Pushes g s l caller at i stored a out e s' → IsSoundWith g s l → out ≡ empties → full_keeps a.state ≡ 0
+bare-full g s l caller at i stored a stays e s' h old is = absurd (cc)
+bare-full g s l caller at i stored a unfills e s' h old is = absurd (cc)
+bare-full g s l caller at i stored a empties e s' h old is =
+    ap (λ x. full_keeps x.state) (sym h.before) ∙ unfull-none (anchor_for s at.desc).state (emptied-unfull g s l caller at i stored a e s' h old)
 
 -- what the caller keeps after the push is partly used
 holds-kept :
@@ -121,24 +121,24 @@ holds-kept s unfills at stored is =
 holds-kept s empties at stored is = All-nil (λ (k : Kept). IsKeptAs s k.status k.desc k.class)
 
 now-partly :
-    (g : Geometry) (s : State) (l : Lists) (who : ℕ) (at : Site) (i : ℕ) (stored : Bool) (a : AnchorFields) (out : Outcome) (e : ErrandFields)
-    (s' : State) → Pushes g s l who at i stored a out e s' → out ≡ unfills → IsPartlyUsed s' at.desc at.seat.class
-now-partly g s l who at i stored a stays e s' h is = absurd (cc)
-now-partly g s l who at i stored a empties e s' h is = absurd (cc)
-now-partly g s l who at i stored a unfills e s' h is = record {
-  class = ap (λ x. x.class) (pushed-info g s l who at i stored a unfills e s' h at.desc) ∙ h.located.class;
+    (g : Geometry) (s : State) (l : Lists) (caller : ℕ) (at : Site) (i : ℕ) (stored : Bool) (a : AnchorFields) (out : Outcome) (e : ErrandFields)
+    (s' : State) → Pushes g s l caller at i stored a out e s' → out ≡ unfills → IsPartlyUsed s' at.desc at.seat.class
+now-partly g s l caller at i stored a stays e s' h is = absurd (cc)
+now-partly g s l caller at i stored a empties e s' h is = absurd (cc)
+now-partly g s l caller at i stored a unfills e s' h is = record {
+  class = ap (λ x. x.class) (pushed-info g s l caller at i stored a unfills e s' h at.desc) ∙ h.located.class;
   state = inl (ap (λ x. x.state) h.after, let count : (anchor_for s' at.desc).count ≡ a.count + 1 = ap (λ x. x.count) h.after in omega (arith, count));
 }
 
 -- each descriptor still stands in one place, and as many are out for each class
 pushes-move :
-    (g : Geometry) (s : State) (l : Lists) (who : ℕ) (at : Site) (i : ℕ) (stored : Bool) (a : AnchorFields) (out : Outcome) (e : ErrandFields)
-    (s' : State) → Pushes g s l who at i stored a out e s' → IsSoundWith g s l
-    → MovesAt g s l who at.desc at.seat.class a (pushed_anchor out i a) e s'
-pushes-move g s l who at i stored a out e s' h old =
-    let bare = bare-full g s l who at i stored a out e s' h old in
+    (g : Geometry) (s : State) (l : Lists) (caller : ℕ) (at : Site) (i : ℕ) (stored : Bool) (a : AnchorFields) (out : Outcome) (e : ErrandFields)
+    (s' : State) → Pushes g s l caller at i stored a out e s' → IsSoundWith g s l
+    → MovesAt g s l caller at.desc at.seat.class a (pushed_anchor out i a) e s'
+pushes-move g s l caller at i stored a out e s' h old =
+    let bare = bare-full g s l caller at i stored a out e s' h old in
     record {
-      caller = h.caller;
+      in_heap = h.in_heap;
       moves = h.moves;
       exists = h.site.desc;
       class = h.located.class;
@@ -150,20 +150,20 @@ pushes-move g s l who at i stored a out e s' h old =
       stock = λ class.
           rw (h.holds_before, h.holds_after)
           (omega (arith, pushed-stock-weighs out at i stored a class h.goes bare, h.stands_before.waits class, h.stands_after.waits class));
-      goes = inl (here-goes g s l who at i stored a out e s' h old);
+      goes = inl (here-goes g s l caller at i stored a out e s' h old);
       own =
           subst (λ x. All (λ k. IsKeptAs s' k.status k.desc k.class) x.kept) (sym h.holds_after)
-          (holds-kept s' out at stored (now-partly g s l who at i stored a out e s' h));
+          (holds-kept s' out at stored (now-partly g s l caller at i stored a out e s' h));
     }
 
 pub pushed-kept :
-    (g : Geometry) (s : State) (l : Lists) (who : ℕ) (at : Site) (i : ℕ) (stored : Bool) (a : AnchorFields) (out : Outcome) (e : ErrandFields)
-    (s' : State) → Pushes g s l who at i stored a out e s' → IsSoundWith g s l → IsKept g s' l
-pushed-kept g s l who at i stored a out e s' h old =
-    moved-kept g s l who at.desc at.seat.class a (pushed_anchor out i a) e s' (pushes-move g s l who at i stored a out e s' h old) old.kept
+    (g : Geometry) (s : State) (l : Lists) (caller : ℕ) (at : Site) (i : ℕ) (stored : Bool) (a : AnchorFields) (out : Outcome) (e : ErrandFields)
+    (s' : State) → Pushes g s l caller at i stored a out e s' → IsSoundWith g s l → IsKept g s' l
+pushed-kept g s l caller at i stored a out e s' h old =
+    moved-kept g s l caller at.desc at.seat.class a (pushed_anchor out i a) e s' (pushes-move g s l caller at i stored a out e s' h old) old.kept
 
 pub pushed-stocked :
-    (g : Geometry) (s : State) (l : Lists) (who : ℕ) (at : Site) (i : ℕ) (stored : Bool) (a : AnchorFields) (out : Outcome) (e : ErrandFields)
-    (s' : State) → Pushes g s l who at i stored a out e s' → IsSoundWith g s l → IsStocked g s' l
-pushed-stocked g s l who at i stored a out e s' h old =
-    moved-stocked g s l who at.desc at.seat.class a (pushed_anchor out i a) e s' (pushes-move g s l who at i stored a out e s' h old) old.stocked
+    (g : Geometry) (s : State) (l : Lists) (caller : ℕ) (at : Site) (i : ℕ) (stored : Bool) (a : AnchorFields) (out : Outcome) (e : ErrandFields)
+    (s' : State) → Pushes g s l caller at i stored a out e s' → IsSoundWith g s l → IsStocked g s' l
+pushed-stocked g s l caller at i stored a out e s' h old =
+    moved-stocked g s l caller at.desc at.seat.class a (pushed_anchor out i a) e s' (pushes-move g s l caller at i stored a out e s' h old) old.stocked

@@ -37,60 +37,60 @@ use Rattle.sound_state.proofs.shared.WaitsAlone.{waits-alone}
 
 -- where a push makes it EMPTY, no other caller has a block of it reserved, nor owns one
 none-reserved :
-    (g : Geometry) (s : State) (l : Lists) (who : ℕ) (at : Site) (i : ℕ) (stored : Bool) (a : AnchorFields) (out : Outcome) (e : ErrandFields)
-    (s' : State) → Pushes g s l who at i stored a out e s' → IsSoundWith g s l → (j : ℕ) → j < g.callers → makes_empty out ≡ true
+    (g : Geometry) (s : State) (l : Lists) (caller : ℕ) (at : Site) (i : ℕ) (stored : Bool) (a : AnchorFields) (out : Outcome) (e : ErrandFields)
+    (s' : State) → Pushes g s l caller at i stored a out e s' → IsSoundWith g s l → (j : ℕ) → j < g.callers → makes_empty out ≡ true
     → reserved_among at.desc (holds_of (s.errand j).point).credits ≡ 0
 unfolding callers_sum
-none-reserved g s l who at i stored a stays e s' h old j has is = let bad : false ≡ true = is in absurd (cc)
-none-reserved g s l who at i stored a unfills e s' h old j has is = let bad : false ≡ true = is in absurd (cc)
-none-reserved g s l who at i stored a empties e s' h old j has is =
-    let bare = (pushed-bare g s l who at i stored a e s' h old).reserved in
+none-reserved g s l caller at i stored a stays e s' h old j has is = let bad : false ≡ true = is in absurd (cc)
+none-reserved g s l caller at i stored a unfills e s' h old j has is = let bad : false ≡ true = is in absurd (cc)
+none-reserved g s l caller at i stored a empties e s' h old j has is =
+    let bare = (pushed-bare g s l caller at i stored a e s' h old).reserved in
     let most : errand_reserves at.desc (s.errand j) ≤ callers_sum g (errand_reserves at.desc) s.errand =
     term-sum g.callers (λ k. errand_reserves at.desc (s.errand k)) j has in
     omega (arith, bare, most)
 
 none-owned :
-    (g : Geometry) (s : State) (l : Lists) (who : ℕ) (at : Site) (i : ℕ) (stored : Bool) (a : AnchorFields) (out : Outcome) (e : ErrandFields)
-    (s' : State) → Pushes g s l who at i stored a out e s' → IsSoundWith g s l → (j : ℕ) → j ≢ who → makes_empty out ≡ true
+    (g : Geometry) (s : State) (l : Lists) (caller : ℕ) (at : Site) (i : ℕ) (stored : Bool) (a : AnchorFields) (out : Outcome) (e : ErrandFields)
+    (s' : State) → Pushes g s l caller at i stored a out e s' → IsSoundWith g s l → (j : ℕ) → j ≢ caller → makes_empty out ≡ true
     → OwnsNone g s l j at.desc
-none-owned g s l who at i stored a stays e s' h old j ne is site k fits owned so same = let bad : false ≡ true = is in cc
-none-owned g s l who at i stored a unfills e s' h old j ne is site k fits owned so same = let bad : false ≡ true = is in cc
-none-owned g s l who at i stored a empties e s' h old j ne is site k fits owned so same =
+none-owned g s l caller at i stored a stays e s' h old j ne is site k fits owned so same = let bad : false ≡ true = is in cc
+none-owned g s l caller at i stored a unfills e s' h old j ne is site k fits owned so same = let bad : false ≡ true = is in cc
+none-owned g s l caller at i stored a empties e s' h old j ne is site k fits owned so same =
     let its : IsLocated s at.desc site.frame site.seat.class = subst (λ x. IsLocated s x site.frame site.seat.class) same so.1 in
     let frames : site.frame ≡ at.frame = sym its.frame ∙ h.located.frame in
     let classes : site.seat.class ≡ at.seat.class = sym its.class ∙ h.located.class in
     let here : block_place site.frame site.seat.class k ≡ pushed_place at k =
     ap (λ f. block_place f site.seat.class k) frames ∙ ap (λ c. block_place at.frame c k) classes in
     let apart : k ≢ i =
-    λ one. owned-elsewhere g s l who at i stored a empties e s' h j (block_place site.frame site.seat.class k) (need.Small site.seat.class) ne owned
+    λ one. owned-elsewhere g s l caller at i stored a empties e s' h j (block_place site.frame site.seat.class k) (need.Small site.seat.class) ne owned
     (here ∙ ap (pushed_place at) one) in
     let there : (superblock_of g s at.desc).live k ≡ 1 =
-    was-place g s l who at i stored a empties e s' h k ∙ ap (live_at s) (sym here) ∙ ap is_there owned.block.1 in
-    let none = (pushed-bare g s l who at i stored a e s' h old).others k (subst (λ c. k < block_count_of c) (sym its.class) fits.index) apart in
+    was-place g s l caller at i stored a empties e s' h k ∙ ap (live_at s) (sym here) ∙ ap is_there owned.block.1 in
+    let none = (pushed-bare g s l caller at i stored a e s' h old).others k (subst (λ c. k < block_count_of c) (sym its.class) fits.index) apart in
     let bad : ⊥ = omega (arith, there, none) in bad
 
 -- the caller remembers that the superblock is EMPTY
 own-recalls :
-    (g : Geometry) (s : State) (l : Lists) (who : ℕ) (at : Site) (i : ℕ) (stored : Bool) (a : AnchorFields) (out : Outcome) (e : ErrandFields)
-    (s' : State) → Pushes g s l who at i stored a out e s' → All (IsSo g s' l who) (pushed_recalls out at)
+    (g : Geometry) (s : State) (l : Lists) (caller : ℕ) (at : Site) (i : ℕ) (stored : Bool) (a : AnchorFields) (out : Outcome) (e : ErrandFields)
+    (s' : State) → Pushes g s l caller at i stored a out e s' → All (IsSo g s' l caller) (pushed_recalls out at)
 unfolding callers_sum
-own-recalls g s l who at i stored a stays e s' h = All-nil (IsSo g s' l who)
-own-recalls g s l who at i stored a unfills e s' h = All-nil (IsSo g s' l who)
-own-recalls g s l who at i stored a empties e s' h =
+own-recalls g s l caller at i stored a stays e s' h = All-nil (IsSo g s' l caller)
+own-recalls g s l caller at i stored a unfills e s' h = All-nil (IsSo g s' l caller)
+own-recalls g s l caller at i stored a empties e s' h =
     let none : away_of g s l at.desc ≡ 0 = bound-away g s l at.desc h.bound in
     let least : callers_sum g (errand_keeps on_its_way at.desc) s.errand ≤ callers_sum g (errand_away at.desc) s.errand =
     sum-least g.callers (λ k. errand_keeps on_its_way at.desc (s.errand k)) (λ k. errand_away at.desc (s.errand k)) (λ k lt. omega arith) in
     let is : IsEmptied g s' l at.desc = record {
       state = ap (λ x. x.state) h.after;
       unavailable = omega (arith, none);
-      standing = omega (arith, pushed-ways g s l who at i stored a empties e s' h at.desc, none, least);
+      standing = omega (arith, pushed-ways g s l caller at i stored a empties e s' h at.desc, none, least);
     } in
-    All-cons (IsSo g s' l who) (emptied at.desc) [] is (All-nil (IsSo g s' l who))
+    All-cons (IsSo g s' l caller) (emptied at.desc) [] is (All-nil (IsSo g s' l caller))
 
 -- a push that was won
 module _
-    (g : Geometry) (s : State) (l : Lists) (who : ℕ) (at : Site) (i : ℕ) (stored : Bool) (a : AnchorFields) (out : Outcome) (e : ErrandFields) (s' : State)
-    (h : Pushes g s l who at i stored a out e s') where
+    (g : Geometry) (s : State) (l : Lists) (caller : ℕ) (at : Site) (i : ℕ) (stored : Bool) (a : AnchorFields) (out : Outcome) (e : ErrandFields) (s' : State)
+    (h : Pushes g s l caller at i stored a out e s') where
   -- nobody pushes onto a superblock that waits to be installed
   pushed-installed : IsSoundWith g s l → (j : ℕ) → j < g.callers → InstallsNone (s.errand j).point at.desc
   pushed-installed old j has site o stands same =
@@ -99,7 +99,7 @@ module _
       subst (λ k. sum_below (superblock_of g s k).size (superblock_of g s k).live ≡ 0) same (waits-alone g s l j site o old has stands).1 in
       let size : b.size ≡ block_count_of at.seat.class = ap block_count_of h.located.class in
       let live : b.live i ≤ sum_below b.size b.live = term-sum b.size b.live i (omega (arith, h.index, size)) in
-      omega (arith, none, live, pushed-live g s l who at i stored a out e s' h)
+      omega (arith, none, live, pushed-live g s l caller at i stored a out e s' h)
 
   -- what is bound stays so, but where it is made EMPTY
   bound-goes : (d : ℕ) → (makes_empty out ≡ true → d ≢ at.desc) → IsTrue (is_bound g s l d) → IsTrue (is_bound g s' l d)
@@ -109,9 +109,9 @@ module _
             elim (cases_Bool (makes_empty out)) [
               | inl is ↦ absurd (left is same)
               | inr stands ↦
-                  subst (λ k. IsTrue (is_bound g s' l k)) (sym same) (pushed-bound-here g s l who at i stored a out e s' h ∙ ap not stands)
+                  subst (λ k. IsTrue (is_bound g s' l k)) (sym same) (pushed-bound-here g s l caller at i stored a out e s' h ∙ ap not stands)
             ]
-        | inr ne ↦ subst IsTrue (sym (pushed-bound g s l who at i stored a out e s' h d ne)) was
+        | inr ne ↦ subst IsTrue (sym (pushed-bound g s l caller at i stored a out e s' h d ne)) was
       ]
 
   -- the words of stacks, of descriptors and of the arena stay
@@ -122,7 +122,7 @@ module _
   pops-goes :
       (d : ℕ) (b : AnchorFields) → (makes_empty out ≡ true → d ≢ at.desc) → IsPopped (superblock_of g s d) b → IsPopped (superblock_of g s' d) b
   pops-goes d b left so =
-      let tag = pushed-tag g s l who at i stored a out e s' h d in
+      let tag = pushed-tag g s l caller at i stored a out e s' h d in
       elim (cases_eq d at.desc) [
         | inl same ↦
             elim (cases_Bool (makes_empty out)) [
@@ -130,7 +130,7 @@ module _
               | inr stands ↦
                   let chain : free_chain (superblock_of g s' d) ≡ i ∷ free_chain (superblock_of g s d) =
                   subst (λ k. free_chain (superblock_of g s' k) ≡ i ∷ free_chain (superblock_of g s k)) (sym same)
-                  (pushed-chain g s l who at i stored a out e s' h stands) in
+                  (pushed-chain g s l caller at i stored a out e s' h stands) in
                   record {
                     tag = omega (arith, so.tag, tag);
                     first = λ is.
@@ -139,41 +139,41 @@ module _
                   }
             ]
         | inr ne ↦
-            popped-steady g s l s' pushed-words-steady d b (pushed-anchor g s l who at i stored a out e s' h d ne)
-            (pushed-reserved g s l who at i stored a out e s' h d) so
+            popped-steady g s l s' pushed-words-steady d b (pushed-anchor g s l caller at i stored a out e s' h d ne)
+            (pushed-reserved g s l caller at i stored a out e s' h d) so
       ]
 
   -- so a push leaves what the others remember
-  pushed-leaves : (j : ℕ) → j ≢ who → Leaves g s l s' j
+  pushed-leaves : (j : ℕ) → j ≢ caller → Leaves g s l s' j
   pushed-leaves j ne = record {
     steady = pushed-words-steady;
-    events = ap (own j) h.history ∙ told-own j s.history (Free who (pushed_place at i)) (λ same. ne (sym same));
-    owned = λ place n. pushed-still-owned g s l who at i stored a out e s' h j place n ne;
+    events = ap (own j) h.history ∙ told-own j s.history (Free caller (pushed_place at i)) (λ same. ne (sym same));
+    owned = λ place n. pushed-still-owned g s l caller at i stored a out e s' h j place n ne;
     empty = λ d so.
         let apart : d ≢ at.desc =
         λ same.
         let is : is_empty (anchor_for s at.desc).state ≡ true = ap (λ k. is_empty (anchor_for s k).state) (sym same) ∙ ap is_empty so.state in
-        let bad : true ≡ false = sym is ∙ pushed-stood g s l who at i stored a out e s' h in cc in
-        ap (λ x. is_empty x.state) (pushed-anchor g s l who at i stored a out e s' h d apart);
-    ways = λ d so. pushed-ways g s l who at i stored a out e s' h d;
+        let bad : true ≡ false = sym is ∙ pushed-stood g s l caller at i stored a out e s' h in cc in
+        ap (λ x. is_empty x.state) (pushed-anchor g s l caller at i stored a out e s' h d apart);
+    ways = λ d so. pushed-ways g s l caller at i stored a out e s' h d;
   }
 
   pushed-left : (r : Recall) → IsBacked g s l at.desc r → (makes_empty out ≡ true → IsUnbound at.desc r) → IsLeft g s l s' r
   pushed-left (bound_for d c) backed apart = bound-goes d apart
   pushed-left (bound_at d f c) backed apart = bound-goes d apart
   pushed-left (pops d b) backed apart = pops-goes d b apart
-  pushed-left (links d b prefix) backed apart = λ is. is ∙ pushed-tag g s l who at i stored a out e s' h d
+  pushed-left (links d b prefix) backed apart = λ is. is ∙ pushed-tag g s l caller at i stored a out e s' h d
   pushed-left (says n w) backed apart = h.elsewhere n backed
   pushed-left r backed apart = tt
 
   pub pushed-remembered : IsSoundWith g s l → IsRemembered g s' l
   pushed-remembered old =
-      remembered-left g s l who e s' h.moves
-      (subst (All (IsSo g s' l who)) (sym h.recalls_after) (own-recalls g s l who at i stored a out e s' h))
+      remembered-left g s l caller e s' h.moves
+      (subst (All (IsSo g s' l caller)) (sym h.recalls_after) (own-recalls g s l caller at i stored a out e s' h))
       (λ j has ne. pushed-leaves j ne)
       (λ j has ne k d lt.
       pushed-left _
       (backed-recalls g s l j at.desc old has (pushed-installed old j has) k d lt)
       (λ is.
-      unbound-recalls g s l j at.desc (none-owned g s l who at i stored a out e s' h old j ne is) old has
-      (none-reserved g s l who at i stored a out e s' h old j has is) k d lt)) old.remembered
+      unbound-recalls g s l j at.desc (none-owned g s l caller at i stored a out e s' h old j ne is) old has
+      (none-reserved g s l caller at i stored a out e s' h old j has is) k d lt)) old.remembered

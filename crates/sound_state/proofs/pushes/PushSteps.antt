@@ -25,8 +25,8 @@ use Rattle.stack_parts.specs.declared.point.Pile.TheVariants.{Frames}
 use Rattle.stack_parts.specs.declared.point.StackPoint.TheVariants as stack
 use Rattle.hazard_parts.specs.declared.point.DescPoint.TheVariants as desc
 use Rattle.partial_parts.specs.declared.point.PartialPoint.TheVariants as partial
-use Rattle.errand_steps.specs.declared.onward.Onward.{Onward}
-use Rattle.errand_steps.specs.declared.onward.Onward.TheVariants as onward
+use Rattle.errand_steps.specs.declared.continuation.Continuation.{Continuation}
+use Rattle.errand_steps.specs.declared.continuation.Continuation.TheVariants as continuation
 use Rattle.errand_steps.specs.declared.point.Point.{Point}
 use Rattle.errand_steps.specs.declared.point.Point.TheVariants.{Idle, Block, Stack, Desc, Partial}
 use Rattle.errand_steps.specs.declared.reply.Reply.TheVariants as reply
@@ -50,23 +50,23 @@ use Rattle.sound_state.proofs.shared.WonEffects.{LeadsTo, AnchorWon, anchor-won}
 
 -- where a push leads
 abbrev ended : Bool → Site → Point
-ended stored at = if stored then Desc (desc.ClearHazard at.seat) onward.EndFree else Idle
+ended stored at = if stored then Desc (desc.ClearHazard at.seat) continuation.EndFree else Idle
 
 abbrev pushed_point : Outcome → Site → Bool → ℕ → Point
 pushed_point stays at stored heap = ended stored at
-pushed_point unfills at stored heap = Partial (partial.LoadOwner at.seat at.desc) (onward.Finish stored)
-pushed_point empties at stored heap = Stack (stack.LoadTopToPush at.seat Frames at.frame) (onward.Remove at.desc heap)
+pushed_point unfills at stored heap = Partial (partial.LoadOwner at.seat at.desc) (continuation.Finish stored)
+pushed_point empties at stored heap = Stack (stack.LoadTopToPush at.seat Frames at.frame) (continuation.Remove at.desc heap)
 
 record LeadsByOutcome (at : Site) (i : ℕ) (a : AnchorFields) (stored : Bool) (heap : ℕ) (out : Outcome) : Type 0 where
   is : IsOutcome out at.seat.class stored a
-  next : LeadsTo (enter_block (points.after_push at a stored heap) onward.Free) (pushed_point out at stored heap)
+  next : LeadsTo (enter_block (points.after_push at a stored heap) continuation.Free) (pushed_point out at stored heap)
   anchor : pushed at.seat.class i a ≡ pushed_anchor out i a
 
 -- a block's number has room
 avail-room : (class : ℕ) → block_count_of class ≤ 2 ^ AVAIL_BITS
 avail-room class = omega (arith, block_count_of-most class)
 
-finishes : (at : Site) (stored : Bool) → LeadsTo (enter_block (block.Pushed at.seat stored) onward.Free) (ended stored at)
+finishes : (at : Site) (stored : Bool) → LeadsTo (enter_block (block.Pushed at.seat stored) continuation.Free) (ended stored at)
 finishes at true = inl refl
 finishes at false = inr (reply.Freed, refl, refl)
 
@@ -132,7 +132,7 @@ pushed-point-stands unfills at stored heap = grind (arith)
 pushed-point-stands empties at stored heap = grind (arith)
 
 push-stands :
-    (at : Site) (i : ℕ) (a : AnchorFields) (stored : Bool) (heap : ℕ) (o : Onward) → FreeStands (Block (block.PushBlock at i a stored heap) o)
+    (at : Site) (i : ℕ) (a : AnchorFields) (stored : Bool) (heap : ℕ) (o : Continuation) → FreeStands (Block (block.PushBlock at i a stored heap) o)
 push-stands at i a stored heap o = grind (arith)
 
 -- the anchor after it fits its word
@@ -149,23 +149,23 @@ small-link w lt = omega (arith, lt)
 
 -- a push, and where it leads
 abbrev pub PushesOut : Geometry → State → Lists → ℕ → Site → ℕ → Bool → AnchorFields → State → Type 0
-PushesOut g s l who at i stored a s' = (out : Outcome) × (e : ErrandFields) × Pushes g s l who at i stored a out e s'
+PushesOut g s l caller at i stored a s' = (out : Outcome) × (e : ErrandFields) × Pushes g s l caller at i stored a out e s'
 
 -- what the step of a won push changes
 pub push-pushes :
-    (g : Geometry) (s : State) (l : Lists) (who : ℕ) (s' : State) (at : Site) (i : ℕ) (a : AnchorFields) (stored : Bool) (heap : ℕ) (o : Onward)
-    → IsSoundWith g s l → who < g.callers → (s.errand who).point ≡ Block (block.PushBlock at i a stored heap) o
-    → s.word (name.Anchor at.desc) ≡ anchor_word a → Step s who s' → PushesOut g s l who at i stored a s'
+    (g : Geometry) (s : State) (l : Lists) (caller : ℕ) (s' : State) (at : Site) (i : ℕ) (a : AnchorFields) (stored : Bool) (heap : ℕ) (o : Continuation)
+    → IsSoundWith g s l → caller < g.callers → (s.errand caller).point ≡ Block (block.PushBlock at i a stored heap) o
+    → s.word (name.Anchor at.desc) ≡ anchor_word a → Step s caller s' → PushesOut g s l caller at i stored a s'
 unfolding event_of next_of plan_point_of holds_of recalls_of
-push-pushes g s l who s' at i a stored heap o is has here word step =
+push-pushes g s l caller s' at i a stored heap o is has here word step =
     let p : Point = Block (block.PushBlock at i a stored heap) o in
-    let fit = fits-at g s l who p is has here in
-    let so = so-at g s l who p is has here in
-    let so_link = All-head (IsSo g s l who) (says (prefix_name at.frame at.seat.class i) a.avail) (bound_here at) so in
+    let fit = fits-at g s l caller p is has here in
+    let so = so-at g s l caller p is has here in
+    let so_link = All-head (IsSo g s l caller) (says (prefix_name at.frame at.seat.class i) a.avail) (bound_here at) so in
     let so_bound =
-    All-head (IsSo g s l who) (bound_at at.desc at.frame at.seat.class) []
-    (All-tail (IsSo g s l who) (says (prefix_name at.frame at.seat.class i) a.avail) (bound_here at) so) in
-    let frees = frees-at g s l who p is has here in
+    All-head (IsSo g s l caller) (bound_at at.desc at.frame at.seat.class) []
+    (All-tail (IsSo g s l caller) (says (prefix_name at.frame at.seat.class i) a.avail) (bound_here at) so) in
+    let frees = frees-at g s l caller p is has here in
     let before : anchor_for s at.desc ≡ a = ap anchor_of word ∙ anchor_of-anchor_word a fit.point.anchor.fits in
     let avail : i < 2 ^ AVAIL_BITS = omega (arith, fit.point.block.index, avail-room at.seat.class) in
     let chained : IsChained (superblock_of g s at.desc) = is.chained.chained at.desc fit.point.block.site.desc so_bound.0 in
@@ -175,19 +175,19 @@ push-pushes g s l who s' at i a stored heap o is has here word step =
     let stood : is_empty a.state ≡ false =
     subst (λ x. is_empty x.state ≡ false) before (bound-stands (away_of g s l at.desc == 0) (is_empty (anchor_for s at.desc).state) so_bound.0) in
     let stands : a.state ≢ phase.Empty = λ empty. let bad : is_empty phase.Empty ≡ false = ap is_empty (sym empty) ∙ stood in cc in
-    let to = leads at i a stored heap avail less stands fit.point.stored in
+    let to = leads at i a stored heap avail less stands fit.point.before_last in
     let out : Outcome = to.0 in
     let q : Point = pushed_point out at stored heap in
-    let free : o ≡ onward.Free = the-free o fit.goes in
+    let free : o ≡ continuation.Free = the-free o fit.goes in
     let fits_new : IsAnchor (pushed_anchor out i a) = pushed-fits out at.seat.class i stored a fit.point.anchor.fits avail to.1.is in
-    let won : AnchorWon g s who p at.desc a (pushed_anchor out i a) q s' =
-    anchor-won g s l who s' p at.desc a (pushed_anchor out i a) q is has here word fit.point.anchor.fits fits_new
+    let won : AnchorWon g s caller p at.desc a (pushed_anchor out i a) q s' =
+    anchor-won g s l caller s' p at.desc a (pushed_anchor out i a) q is has here word fit.point.anchor.fits fits_new
     (ap (λ x. Cas (name.Anchor at.desc) (anchor_word a) (anchor_word x)) to.1.anchor)
     (subst (λ r. LeadsTo (enter_block (points.after_push at a stored heap) r) q) (sym free) to.1.next) step in (
       out,
-      at_point (s.errand who) (won_with (anchor_word a)) q,
+      at_point (s.errand caller) (won_with (anchor_word a)) q,
       record {
-        caller = has;
+        in_heap = has;
         moves = won.step.moves;
         site = fit.point.block.site;
         index = fit.point.block.index;
@@ -196,7 +196,7 @@ push-pushes g s l who s' at i a stored heap o is has here word step =
         bound = so_bound.0;
         located = so_bound.1;
         owned =
-            All-head (λ x. IsOwned s who x.place x.need)
+            All-head (λ x. IsOwned s caller x.place x.need)
             (record { place = pushed_place at i; need = need.Small at.seat.class; overwritten = true }) [] frees;
         before = won.before;
         after = won.after;

@@ -32,47 +32,47 @@ use Rattle.sound_state.proofs.shared.TieLemmas.{bare-owns, located-stays, not-li
 
 -- who owns the freed block owns it, so its event is legal
 pub pushed-legal :
-    (g : Geometry) (s : State) (l : Lists) (who : ℕ) (at : Site) (i : ℕ) (stored : Bool) (a : AnchorFields) (out : Outcome) (e : ErrandFields)
-    (s' : State) → Pushes g s l who at i stored a out e s' → IsSoundWithoutCounts g s → IsLegalWithoutCounts g s'.history
-pushed-legal g s l who at i stored a out e s' h sound =
+    (g : Geometry) (s : State) (l : Lists) (caller : ℕ) (at : Site) (i : ℕ) (stored : Bool) (a : AnchorFields) (out : Outcome) (e : ErrandFields)
+    (s' : State) → Pushes g s l caller at i stored a out e s' → IsSoundWithoutCounts g s → IsLegalWithoutCounts g s'.history
+pushed-legal g s l caller at i stored a out e s' h sound =
     subst (IsLegalWithoutCounts g) (sym h.history)
-    (EachAfter-push (IsLegalEventWithoutCounts g) s.history (Frees who (pushed_place at i)) sound.legal
-    (h.caller, (h.owned.block.0, h.owned.block.1, h.owned.block.2)))
+    (EachAfter-push (IsLegalEventWithoutCounts g) s.history (Frees caller (pushed_place at i)) sound.legal
+    (h.in_heap, (h.owned.block.0, h.owned.block.1, h.owned.block.2)))
 
 -- the freed block is its caller's, and small
 pub is-freed :
-    (g : Geometry) (s : State) (l : Lists) (who : ℕ) (at : Site) (i : ℕ) (stored : Bool) (a : AnchorFields) (out : Outcome) (e : ErrandFields)
-    (s' : State) → Pushes g s l who at i stored a out e s' → (place : ℕ) (b : Block) → IsLive s place b → place ≡ pushed_place at i
-    → (b.owner ≡ Caller who) × (b.need ≡ Small at.seat.class)
-is-freed g s l who at i stored a out e s' h place b live same =
+    (g : Geometry) (s : State) (l : Lists) (caller : ℕ) (at : Site) (i : ℕ) (stored : Bool) (a : AnchorFields) (out : Outcome) (e : ErrandFields)
+    (s' : State) → Pushes g s l caller at i stored a out e s' → (place : ℕ) (b : Block) → IsLive s place b → place ≡ pushed_place at i
+    → (b.owner ≡ Caller caller) × (b.need ≡ Small at.seat.class)
+is-freed g s l caller at i stored a out e s' h place b live same =
     let is = one-live s (pushed_place at i) place h.owned.block.0 b h.owned.block.1 same live in
     (ap (λ (x : Block). x.owner) (sym is) ∙ h.owned.block.2, ap (λ (x : Block). x.need) (sym is) ∙ h.owned.block.3)
 
 -- another caller's block is elsewhere, and still its own
 pub owned-elsewhere :
-    (g : Geometry) (s : State) (l : Lists) (who : ℕ) (at : Site) (i : ℕ) (stored : Bool) (a : AnchorFields) (out : Outcome) (e : ErrandFields)
-    (s' : State) → Pushes g s l who at i stored a out e s' → (j place : ℕ) (n : Need) → j ≢ who → IsOwned s j place n → place ≢ pushed_place at i
-owned-elsewhere g s l who at i stored a out e s' h j place n ne k same =
-    let mine = is-freed g s l who at i stored a out e s' h place k.block.0 k.block.1 same in
-    let both : Caller j ≡ Caller who = sym k.block.2 ∙ mine.0 in
+    (g : Geometry) (s : State) (l : Lists) (caller : ℕ) (at : Site) (i : ℕ) (stored : Bool) (a : AnchorFields) (out : Outcome) (e : ErrandFields)
+    (s' : State) → Pushes g s l caller at i stored a out e s' → (j place : ℕ) (n : Need) → j ≢ caller → IsOwned s j place n → place ≢ pushed_place at i
+owned-elsewhere g s l caller at i stored a out e s' h j place n ne k same =
+    let mine = is-freed g s l caller at i stored a out e s' h place k.block.0 k.block.1 same in
+    let both : Caller j ≡ Caller caller = sym k.block.2 ∙ mine.0 in
     ne (cc)
 
 pub pushed-still-owned :
-    (g : Geometry) (s : State) (l : Lists) (who : ℕ) (at : Site) (i : ℕ) (stored : Bool) (a : AnchorFields) (out : Outcome) (e : ErrandFields)
-    (s' : State) → Pushes g s l who at i stored a out e s' → (j place : ℕ) (n : Need) → j ≢ who → IsOwned s j place n → IsOwned s' j place n
-pushed-still-owned g s l who at i stored a out e s' h j place n ne k =
+    (g : Geometry) (s : State) (l : Lists) (caller : ℕ) (at : Site) (i : ℕ) (stored : Bool) (a : AnchorFields) (out : Outcome) (e : ErrandFields)
+    (s' : State) → Pushes g s l caller at i stored a out e s' → (j place : ℕ) (n : Need) → j ≢ caller → IsOwned s j place n → IsOwned s' j place n
+pushed-still-owned g s l caller at i stored a out e s' h j place n ne k =
     owned-stays s s' j place n
     (λ b live.
-    pushed-there g s l who at i stored a out e s' h place (owned-elsewhere g s l who at i stored a out e s' h j place n ne k) ∙ live) k
+    pushed-there g s l caller at i stored a out e s' h place (owned-elsewhere g s l caller at i stored a out e s' h j place n ne k) ∙ live) k
 
 -- who pushes hands out nothing, and frees one block: it excepts no other one
 pushed-excepts :
-    (g : Geometry) (s : State) (l : Lists) (who : ℕ) (at : Site) (i : ℕ) (stored : Bool) (a : AnchorFields) (out : Outcome) (e : ErrandFields)
-    (s' : State) → Pushes g s l who at i stored a out e s' → (place : ℕ) → place ≢ pushed_place at i → Excepts (s.errand who) place
+    (g : Geometry) (s : State) (l : Lists) (caller : ℕ) (at : Site) (i : ℕ) (stored : Bool) (a : AnchorFields) (out : Outcome) (e : ErrandFields)
+    (s' : State) → Pushes g s l caller at i stored a out e s' → (place : ℕ) → place ≢ pushed_place at i → Excepts (s.errand caller) place
     → Excepts e place
-pushed-excepts g s l who at i stored a out e s' h place ne (inl some) =
+pushed-excepts g s l caller at i stored a out e s' h place ne (inl some) =
     absurd (any-none (λ x. x.place ≡ place) (subst (Any (λ x. x.place ≡ place)) (ap (λ (o : Holding). o.hands) h.holds_before) some))
-pushed-excepts g s l who at i stored a out e s' h place ne (inr some) =
+pushed-excepts g s l caller at i stored a out e s' h place ne (inr some) =
     let its : Freed = record { place = pushed_place at i; need = Small at.seat.class; overwritten = true } in
     let one =
     any-one (λ (x : Freed). (x.place ≡ place) × IsTrue x.overwritten) its
@@ -81,28 +81,28 @@ pushed-excepts g s l who at i stored a out e s' h place ne (inr some) =
 
 -- no other block of a superblock that a push makes EMPTY is live
 pub no-other-live :
-    (g : Geometry) (s : State) (l : Lists) (who : ℕ) (at : Site) (i : ℕ) (stored : Bool) (a : AnchorFields) (e : ErrandFields) (s' : State)
-    → Pushes g s l who at i stored a empties e s' → IsSoundWithoutCounts g s → IsSoundWith g s l → (place class : ℕ) (b : Block) → IsLive s place b
+    (g : Geometry) (s : State) (l : Lists) (caller : ℕ) (at : Site) (i : ℕ) (stored : Bool) (a : AnchorFields) (e : ErrandFields) (s' : State)
+    → Pushes g s l caller at i stored a empties e s' → IsSoundWithoutCounts g s → IsSoundWith g s l → (place class : ℕ) (b : Block) → IsLive s place b
     → b.need ≡ Small class → IsLocated s at.desc (frame_of place) class → place ≢ pushed_place at i → ⊥
-no-other-live g s l who at i stored a e s' h sound old place class b live of located differ =
+no-other-live g s l caller at i stored a e s' h sound old place class b live of located differ =
     let lies =
     small-lies g s place class at.frame at.seat.class b sound live of (sym located.frame ∙ h.located.frame) (sym located.class ∙ h.located.class) in
     let apart : lies.0 ≢ i = λ is. differ (lies.2 ∙ ap (pushed_place at) is) in
     let within : lies.0 < (superblock_of g s at.desc).size = subst (λ c. lies.0 < block_count_of c) (sym h.located.class) lies.1 in
     let there : (superblock_of g s at.desc).live lies.0 ≡ 1 =
-    was-place g s l who at i stored a empties e s' h lies.0 ∙ ap (live_at s) (sym lies.2) ∙ ap is_there live in
-    let none = (pushed-bare g s l who at i stored a e s' h old).others lies.0 within apart in
+    was-place g s l caller at i stored a empties e s' h lies.0 ∙ ap (live_at s) (sym lies.2) ∙ ap is_there live in
+    let none = (pushed-bare g s l caller at i stored a e s' h old).others lies.0 within apart in
     let bad : ⊥ = omega (arith, there, none) in bad
 
 -- so the superblock of a live block is bound still
 its-bound :
-    (g : Geometry) (s : State) (l : Lists) (who : ℕ) (at : Site) (i : ℕ) (stored : Bool) (a : AnchorFields) (out : Outcome) (e : ErrandFields)
-    (s' : State) → Pushes g s l who at i stored a out e s' → IsSoundWithoutCounts g s → IsSoundWith g s l → (place class : ℕ) (b : Block) → IsLive s place b
+    (g : Geometry) (s : State) (l : Lists) (caller : ℕ) (at : Site) (i : ℕ) (stored : Bool) (a : AnchorFields) (out : Outcome) (e : ErrandFields)
+    (s' : State) → Pushes g s l caller at i stored a out e s' → IsSoundWithoutCounts g s → IsSoundWith g s l → (place class : ℕ) (b : Block) → IsLive s place b
     → b.need ≡ Small class → IsLocated s at.desc (frame_of place) class → place ≢ pushed_place at i → IsTrue (is_bound g s' l at.desc)
-its-bound g s l who at i stored a stays e s' h sound old place class b live of located ne = pushed-bound-here g s l who at i stored a stays e s' h
-its-bound g s l who at i stored a unfills e s' h sound old place class b live of located ne = pushed-bound-here g s l who at i stored a unfills e s' h
-its-bound g s l who at i stored a empties e s' h sound old place class b live of located ne =
-    absurd (no-other-live g s l who at i stored a e s' h sound old place class b live of located ne)
+its-bound g s l caller at i stored a stays e s' h sound old place class b live of located ne = pushed-bound-here g s l caller at i stored a stays e s' h
+its-bound g s l caller at i stored a unfills e s' h sound old place class b live of located ne = pushed-bound-here g s l caller at i stored a unfills e s' h
+its-bound g s l caller at i stored a empties e s' h sound old place class b live of located ne =
+    absurd (no-other-live g s l caller at i stored a e s' h sound old place class b live of located ne)
 
 -- who pushed hands out and frees nothing
 pushed-hands : (out : Outcome) (at : Site) (stored : Bool) → (pushed_holds out at stored).hands ≡ []
@@ -117,18 +117,18 @@ pushed-frees empties at stored = refl
 
 -- the words still show the pool: only the freed block changes
 pub pushed-tied :
-    (g : Geometry) (s : State) (l : Lists) (who : ℕ) (at : Site) (i : ℕ) (stored : Bool) (a : AnchorFields) (out : Outcome) (e : ErrandFields)
-    (s' : State) → Pushes g s l who at i stored a out e s' → IsSoundWithoutCounts g s → IsSoundWith g s l → IsTied g s' l
-pushed-tied g s l who at i stored a out e s' h sound old =
+    (g : Geometry) (s : State) (l : Lists) (caller : ℕ) (at : Site) (i : ℕ) (stored : Bool) (a : AnchorFields) (out : Outcome) (e : ErrandFields)
+    (s' : State) → Pushes g s l caller at i stored a out e s' → IsSoundWithoutCounts g s → IsSoundWith g s l → IsTied g s' l
+pushed-tied g s l caller at i stored a out e s' h sound old =
     let gone = λ (place : ℕ) (b : Block) (same : place ≡ pushed_place at i) (live : IsLive s' place b).
-    not-live s' (pushed_place at i) place b (pushed-gone g s l who at i stored a out e s' h sound) same live in
+    not-live s' (pushed_place at i) place b (pushed-gone g s l caller at i stored a out e s' h sound) same live in
     let owns =
-    bare-owns s' who e.point
+    bare-owns s' caller e.point
     (record {
       hands = ap (λ (o : Holding). o.hands) h.holds_after ∙ pushed-hands out at stored;
       frees = ap (λ (o : Holding). o.frees) h.holds_after ∙ pushed-frees out at stored;
     }) in
-    small-but g s l l who at.seat.class (λ place. place ≡ pushed_place at i) e s'
+    small-but g s l l caller at.seat.class (λ place. place ≡ pushed_place at i) e s'
     (record {
       moves = h.moves;
       words = record {
@@ -137,9 +137,9 @@ pushed-tied g s l who at i stored a out e s' h sound old =
         shelf = λ k. h.elsewhere (name.Shelf k) (λ same. cc);
       };
       either = λ place. cases_eq place (pushed_place at i);
-      there = pushed-there g s l who at i stored a out e s' h;
+      there = pushed-there g s l caller at i stored a out e s' h;
       before = λ place b same live.
-          let is = is-freed g s l who at i stored a out e s' h place b live same in record { owner = is.0; need = is.1 };
+          let is = is-freed g s l caller at i stored a out e s' h place b live same in record { owner = is.0; need = is.1 };
       after = λ place b same live. absurd (gone place b same live);
       fresh = λ place k v b same live of. gone place b same live;
       small = λ place c b same live of. absurd (gone place b same live);
@@ -149,13 +149,13 @@ pushed-tied g s l who at i stored a out e s' h sound old =
             elim (cases_eq d at.desc) [
               | inl same ↦
                   subst (λ k. IsTrue (is_bound g s' l k)) (sym same)
-                  (its-bound g s l who at i stored a out e s' h sound old place c b live of
+                  (its-bound g s l caller at i stored a out e s' h sound old place c b live of
                   (subst (λ k. IsLocated s k (frame_of place) c) same its.located) ne)
-              | inr differ ↦ subst IsTrue (sym (pushed-bound g s l who at i stored a out e s' h d differ)) its.bound
+              | inr differ ↦ subst IsTrue (sym (pushed-bound g s l caller at i stored a out e s' h d differ)) its.bound
             ];
-        located = located-stays s s' d (frame_of place) c (pushed-info g s l who at i stored a out e s' h d) its.located;
+        located = located-stays s s' d (frame_of place) c (pushed-info g s l caller at i stored a out e s' h d) its.located;
       };
-      excepts = pushed-excepts g s l who at i stored a out e s' h;
+      excepts = pushed-excepts g s l caller at i stored a out e s' h;
       hands = owns.0;
       frees = owns.1;
     }) old.tied

@@ -27,9 +27,9 @@ use Rattle.sound_state.proofs.shared.SumLemmas.{sum-change}
 use Rattle.sound_state.proofs.shared.TurnEffects.{small-free-event, head-tag, no-turn-weighs, one_if-most, turned-after}
 
 pub pushed-listed :
-    (g : Geometry) (s : State) (l : Lists) (who : ℕ) (at : Site) (i : ℕ) (stored : Bool) (a : AnchorFields) (out : Outcome) (e : ErrandFields)
-    (s' : State) → Pushes g s l who at i stored a out e s' → IsSoundWith g s l → IsListed g s'.word l
-pushed-listed g s l who at i stored a out e s' h old =
+    (g : Geometry) (s : State) (l : Lists) (caller : ℕ) (at : Site) (i : ℕ) (stored : Bool) (a : AnchorFields) (out : Outcome) (e : ErrandFields)
+    (s' : State) → Pushes g s l caller at i stored a out e s' → IsSoundWith g s l → IsListed g s'.word l
+pushed-listed g s l caller at i stored a out e s' h old =
     listed-kept g s.word s'.word l (λ n is. h.elsewhere n (λ same. subst IsListWord same is)) old.listed
 
 -- the hazard word is as it was, and guards what it did
@@ -54,14 +54,14 @@ guard-goes empties at true a is guard = tt
 guard-goes empties at false a is guard = let bad : false ≡ true = is.1 in cc
 
 pub pushed-guarded :
-    (g : Geometry) (s : State) (l : Lists) (who : ℕ) (at : Site) (i : ℕ) (stored : Bool) (a : AnchorFields) (out : Outcome) (e : ErrandFields)
-    (s' : State) → Pushes g s l who at i stored a out e s' → IsSoundWith g s l → IsGuarded g s'
-pushed-guarded g s l who at i stored a out e s' h old =
-    let is_before : (holds_of (s.errand who).point).hazard ≡ if_stored stored at.desc = ap (λ x. x.hazard) h.holds_before in
+    (g : Geometry) (s : State) (l : Lists) (caller : ℕ) (at : Site) (i : ℕ) (stored : Bool) (a : AnchorFields) (out : Outcome) (e : ErrandFields)
+    (s' : State) → Pushes g s l caller at i stored a out e s' → IsSoundWith g s l → IsGuarded g s'
+pushed-guarded g s l caller at i stored a out e s' h old =
+    let is_before : (holds_of (s.errand caller).point).hazard ≡ if_stored stored at.desc = ap (λ x. x.hazard) h.holds_before in
     let is_after : (holds_of e.point).hazard ≡ (pushed_holds out at stored).hazard = ap (λ x. x.hazard) h.holds_after in
-    guarded-after g s who e s'
+    guarded-after g s caller e s'
     (record {
-      caller = h.caller;
+      in_heap = h.in_heap;
       moves = h.moves;
       words = λ k. h.elsewhere (name.Hazard k) (λ same. cc);
       hazard = λ w was.
@@ -81,48 +81,48 @@ same-tag empties i a = refl
 
 -- the tags of the anchors stay
 pub pushed-tag :
-    (g : Geometry) (s : State) (l : Lists) (who : ℕ) (at : Site) (i : ℕ) (stored : Bool) (a : AnchorFields) (out : Outcome) (e : ErrandFields)
-    (s' : State) → Pushes g s l who at i stored a out e s' → (d : ℕ) → (anchor_for s' d).tag ≡ (anchor_for s d).tag
-pushed-tag g s l who at i stored a out e s' h d =
+    (g : Geometry) (s : State) (l : Lists) (caller : ℕ) (at : Site) (i : ℕ) (stored : Bool) (a : AnchorFields) (out : Outcome) (e : ErrandFields)
+    (s' : State) → Pushes g s l caller at i stored a out e s' → (d : ℕ) → (anchor_for s' d).tag ≡ (anchor_for s d).tag
+pushed-tag g s l caller at i stored a out e s' h d =
     elim (cases_eq d at.desc) [
       | inl same ↦
           subst (λ k. (anchor_for s' k).tag ≡ (anchor_for s k).tag) (sym same)
           (ap (λ x. x.tag) h.after ∙ same-tag out i a ∙ sym (ap (λ x. x.tag) h.before))
-      | inr ne ↦ ap (λ x. x.tag) (pushed-anchor g s l who at i stored a out e s' h d ne)
+      | inr ne ↦ ap (λ x. x.tag) (pushed-anchor g s l caller at i stored a out e s' h d ne)
     ]
 
 -- at most one superblock more is EMPTY
 pushed-emptied :
-    (g : Geometry) (s : State) (l : Lists) (who : ℕ) (at : Site) (i : ℕ) (stored : Bool) (a : AnchorFields) (out : Outcome) (e : ErrandFields)
-    (s' : State) → Pushes g s l who at i stored a out e s'
+    (g : Geometry) (s : State) (l : Lists) (caller : ℕ) (at : Site) (i : ℕ) (stored : Bool) (a : AnchorFields) (out : Outcome) (e : ErrandFields)
+    (s' : State) → Pushes g s l caller at i stored a out e s'
     → sum_below (descriptor_count g) (emptied_out g s' l) ≤ sum_below (descriptor_count g) (emptied_out g s l) + 1
-pushed-emptied g s l who at i stored a out e s' h =
+pushed-emptied g s l caller at i stored a out e s' h =
     let changed =
     sum-change (descriptor_count g) (emptied_out g s l) (emptied_out g s' l) at.desc h.site.desc
-    (λ d lt ne. rw (pushed-away g s l who at i stored a out e s' h d, pushed-anchor g s l who at i stored a out e s' h d ne) refl) in
+    (λ d lt ne. rw (pushed-away g s l caller at i stored a out e s' h d, pushed-anchor g s l caller at i stored a out e s' h d ne) refl) in
     omega (arith, changed, one_if-most ((away_of g s' l at.desc == 0) && is_empty (anchor_for s' at.desc).state))
 
 pub pushed-turned :
-    (g : Geometry) (s : State) (l : Lists) (who : ℕ) (at : Site) (i : ℕ) (stored : Bool) (a : AnchorFields) (out : Outcome) (e : ErrandFields)
-    (s' : State) → Pushes g s l who at i stored a out e s' → IsSoundWith g s l → IsTurned g s' l
-pushed-turned g s l who at i stored a out e s' h old =
+    (g : Geometry) (s : State) (l : Lists) (caller : ℕ) (at : Site) (i : ℕ) (stored : Bool) (a : AnchorFields) (out : Outcome) (e : ErrandFields)
+    (s' : State) → Pushes g s l caller at i stored a out e s' → IsSoundWith g s l → IsTurned g s' l
+pushed-turned g s l caller at i stored a out e s' h old =
     let turned = old.turned in
-    let before = no-turn-weighs (s.errand who) h.stands_before.stage in
+    let before = no-turn-weighs (s.errand caller) h.stands_before.stage in
     let after = no-turn-weighs e h.stands_after.stage in
     let within : frame_of (pushed_place at i) < g.frames =
     subst (λ f. f < g.frames) (sym (frame_of-block_place at.frame at.seat.class i h.index)) h.site.frame in
-    let events = small-free-event g who (pushed_place at i) s.history s'.history within h.history in
-    turned-after g s l who e s' l 0 1
+    let events = small-free-event g caller (pushed_place at i) s.history s'.history within h.history in
+    turned-after g s l caller e s' l 0 1
     (record {
-      caller = h.caller;
+      in_heap = h.in_heap;
       moves = h.moves;
       events = events;
-      own_turns = omega (arith, turned.own_turns who h.caller, events.gives, after.under_way, h.turns);
+      own_turns = omega (arith, turned.own_turns caller h.in_heap, events.gives, after.under_way, h.turns);
       own_lost =
-          omega (arith, turned.own_lost who h.caller, events.gives, events.refuses who, before.unanswered, after.discards, h.turns, h.lost);
-      anchor_tags = λ d has. omega (arith, pushed-tag g s l who at i stored a out e s' h d);
+          omega (arith, turned.own_lost caller h.in_heap, events.gives, events.refuses caller, before.unanswered, after.discards, h.turns, h.lost);
+      anchor_tags = λ d has. omega (arith, pushed-tag g s l caller at i stored a out e s' h d);
       frame_turns = omega (arith, head-tag (h.elsewhere name.FrameHead (λ same. cc)), after.unframed, h.turns);
-      emptied = omega (arith, pushed-emptied g s l who at i stored a out e s' h, h.cleared);
+      emptied = omega (arith, pushed-emptied g s l caller at i stored a out e s' h, h.cleared);
       list_turns = λ class has.
           omega (arith, head-tag (h.elsewhere (name.ListHead class) (λ same. cc)), h.stands_after.pops, after.unlisted, h.turns, h.cleared);
     })

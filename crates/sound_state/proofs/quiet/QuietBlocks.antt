@@ -8,7 +8,7 @@ use Rattle.word_plan.specs.Seats.{SeatFields}
 use Rattle.word_plan.specs.Sites.{active_name}
 use Rattle.superblock_parts.specs.declared.point.BlockPoint.TheVariants as block
 use Rattle.superblock_parts.specs.Points.{after_active}
-use Rattle.errand_steps.specs.declared.onward.Onward.TheVariants.{Alloc}
+use Rattle.errand_steps.specs.declared.continuation.Continuation.TheVariants.{Alloc}
 use Rattle.errand_steps.specs.declared.point.Point.TheVariants.{Block}
 use Rattle.errand_steps.specs.Events.{event_of}
 use Rattle.errand_steps.specs.Nexts.{next_of, enter_block}
@@ -30,9 +30,9 @@ active-leads s need (Some (Held d credits)) = grind (arith)
 
 -- the load of the active word
 pub load_active-sound :
-    (g : Geometry) (s : State) (who : ℕ) (s' : State) (seat : SeatFields) (need : ℕ) → IsSoundWithoutCounts g s → who < g.callers
-    → (s.errand who).point ≡ Block (block.LoadActive seat) (Alloc need) → Step s who s' → IsSoundWithoutCounts g s'
+    (g : Geometry) (s : State) (caller : ℕ) (s' : State) (seat : SeatFields) (need : ℕ) → IsSoundWithoutCounts g s → caller < g.callers
+    → (s.errand caller).point ≡ Block (block.LoadActive seat) (Alloc need) → Step s caller s' → IsSoundWithoutCounts g s'
 unfolding plan_point_of next_of event_of
-load_active-sound g s who s' seat need sound has at step =
-    quiet-at g s who s' (Block (block.LoadActive seat) (Alloc need)) sound has at (record { event = refl; cleared = refl; word = refl })
-    (leads-on g s who _ _ 0 has at (active-leads seat need (active_of (s.word (active_name seat))))) step
+load_active-sound g s caller s' seat need sound has at step =
+    quiet-at g s caller s' (Block (block.LoadActive seat) (Alloc need)) sound has at (record { event = refl; cleared = refl; word = refl })
+    (leads-on g s caller _ _ 0 has at (active-leads seat need (active_of (s.word (active_name seat))))) step

@@ -9,7 +9,7 @@ use Rattle.word_plan.specs.Seats.{SeatFields, desc_named}
 use Rattle.hazard_parts.specs.declared.point.DescPoint.{DescPoint}
 use Rattle.hazard_parts.specs.declared.point.DescPoint.TheVariants as desc
 use Rattle.hazard_parts.specs.Points.{link_in, after_head, after_next, after_top}
-use Rattle.errand_steps.specs.declared.onward.Onward.{Onward}
+use Rattle.errand_steps.specs.declared.continuation.Continuation.{Continuation}
 use Rattle.errand_steps.specs.declared.next.Next.TheVariants.{At}
 use Rattle.errand_steps.specs.declared.point.Point.TheVariants.{Desc}
 use Rattle.errand_steps.specs.Events.{event_of}
@@ -28,73 +28,73 @@ use Rattle.sound_state.proofs.shared.WordFacts.{link-some}
 
 -- where the head leads
 head-leads :
-    (s : SeatFields) (o : Onward) (d : Option ℕ) → LeadsOn (Desc (desc.LoadDescHead s) o) (enter_desc (after_head s d) o) 0
+    (s : SeatFields) (o : Continuation) (d : Option ℕ) → LeadsOn (Desc (desc.LoadDescHead s) o) (enter_desc (after_head s d) o) 0
 unfolding holds_of recalls_of
 head-leads s o None = grind (arith)
 head-leads s o (Some d) = grind (arith)
 
 -- the load of the head, for a pop
 pub load_desc_head-sound :
-    (g : Geometry) (s : State) (who : ℕ) (s' : State) (seat : SeatFields) (o : Onward) → IsSoundWithoutCounts g s → who < g.callers
-    → (s.errand who).point ≡ Desc (desc.LoadDescHead seat) o → Step s who s' → IsSoundWithoutCounts g s'
+    (g : Geometry) (s : State) (caller : ℕ) (s' : State) (seat : SeatFields) (o : Continuation) → IsSoundWithoutCounts g s → caller < g.callers
+    → (s.errand caller).point ≡ Desc (desc.LoadDescHead seat) o → Step s caller s' → IsSoundWithoutCounts g s'
 unfolding plan_point_of next_of event_of
-load_desc_head-sound g s who s' seat o sound has at step =
-    quiet-at g s who s' (Desc (desc.LoadDescHead seat) o) sound has at (record { event = refl; cleared = refl; word = refl })
-    (leads-on g s who _ _ 0 has at (head-leads seat o (desc_named seat.geometry (s.word name.DescHead)))) step
+load_desc_head-sound g s caller s' seat o sound has at step =
+    quiet-at g s caller s' (Desc (desc.LoadDescHead seat) o) sound has at (record { event = refl; cleared = refl; word = refl })
+    (leads-on g s caller _ _ 0 has at (head-leads seat o (desc_named seat.geometry (s.word name.DescHead)))) step
 
 -- where the name of the descriptor below leads
 next-leads :
-    (g : Geometry) (s : State) (who : ℕ) (seat : SeatFields) (d : ℕ) (o : Onward) (next : Option ℕ) → who < g.callers
-    → (s.errand who).point ≡ Desc (desc.LoadNextDesc seat d) o → link_in seat.geometry (s.word (name.Next d)) ≡ next
-    → LeadsQuietly g s who (Desc (desc.LoadNextDesc seat d) o) (enter_desc (after_next seat d next) o)
+    (g : Geometry) (s : State) (caller : ℕ) (seat : SeatFields) (d : ℕ) (o : Continuation) (next : Option ℕ) → caller < g.callers
+    → (s.errand caller).point ≡ Desc (desc.LoadNextDesc seat d) o → link_in seat.geometry (s.word (name.Next d)) ≡ next
+    → LeadsQuietly g s caller (Desc (desc.LoadNextDesc seat d) o) (enter_desc (after_next seat d next) o)
 unfolding holds_of recalls_of
-next-leads g s who seat d o None has at is = leads-on g s who _ _ 0 has at (grind (arith))
-next-leads g s who seat d o (Some next) has at is = record {
+next-leads g s caller seat d o None has at is = leads-on g s caller _ _ 0 has at (grind (arith))
+next-leads g s caller seat d o (Some next) has at is = record {
   plain = tt;
   holds = grind (arith);
   so = λ l old.
-      All-cons (IsSo g s l who) (noted d next) (looked seat.class ∷ []) (λ on. link-some seat.geometry (s.word (name.Next d)) next is)
-      (so-at g s l who (Desc (desc.LoadNextDesc seat d) o) old has at);
+      All-cons (IsSo g s l caller) (noted d next) (looked seat.class ∷ []) (λ on. link-some seat.geometry (s.word (name.Next d)) next is)
+      (so-at g s l caller (Desc (desc.LoadNextDesc seat d) o) old has at);
 }
 
 -- the load of that name
 pub load_next_desc-sound :
-    (g : Geometry) (s : State) (who : ℕ) (s' : State) (seat : SeatFields) (d : ℕ) (o : Onward) → IsSoundWithoutCounts g s → who < g.callers
-    → (s.errand who).point ≡ Desc (desc.LoadNextDesc seat d) o → Step s who s' → IsSoundWithoutCounts g s'
+    (g : Geometry) (s : State) (caller : ℕ) (s' : State) (seat : SeatFields) (d : ℕ) (o : Continuation) → IsSoundWithoutCounts g s → caller < g.callers
+    → (s.errand caller).point ≡ Desc (desc.LoadNextDesc seat d) o → Step s caller s' → IsSoundWithoutCounts g s'
 unfolding plan_point_of next_of event_of
-load_next_desc-sound g s who s' seat d o sound has at step =
-    quiet-at g s who s' (Desc (desc.LoadNextDesc seat d) o) sound has at (record { event = refl; cleared = refl; word = refl })
-    (next-leads g s who seat d o (link_in seat.geometry (s.word (name.Next d))) has at refl) step
+load_next_desc-sound g s caller s' seat d o sound has at step =
+    quiet-at g s caller s' (Desc (desc.LoadNextDesc seat d) o) sound has at (record { event = refl; cleared = refl; word = refl })
+    (next-leads g s caller seat d o (link_in seat.geometry (s.word (name.Next d))) has at refl) step
 
 -- a caller whose descriptor isn't on top any more reads the head again: its hazard word is as a lost pop leaves it
 reads-again :
-    (g : Geometry) (s : State) (who : ℕ) (p : DescPoint) (seat : SeatFields) (o : Onward) → who < g.callers → (s.errand who).point ≡ Desc p o
+    (g : Geometry) (s : State) (caller : ℕ) (p : DescPoint) (seat : SeatFields) (o : Continuation) → caller < g.callers → (s.errand caller).point ≡ Desc p o
     → HoldsBlocks (Desc p o) (Desc (desc.LoadDescHead seat) o) → (holds_of (Desc p o)).credits ≡ [] → (holds_of (Desc p o)).kept ≡ []
     → (holds_of (Desc p o)).frames ≡ [] → ((class : ℕ) → waits_in class (Desc (desc.LoadDescHead seat) o) ≡ waits_in class (Desc p o))
-    → ((l : Lists) → IsSoundWith g s l → All (IsSo g s l who) (looked seat.class ∷ []))
-    → StepsSteadily g s who (Desc p o) (At (Desc (desc.LoadDescHead seat) o))
+    → ((l : Lists) → IsSoundWith g s l → All (IsSo g s l caller) (looked seat.class ∷ []))
+    → StepsSteadily g s caller (Desc p o) (At (Desc (desc.LoadDescHead seat) o))
 unfolding holds_of recalls_of
-reads-again g s who p seat o has at blocks credits kept frames waits so = record {
+reads-again g s caller p seat o has at blocks credits kept frames waits so = record {
   plain = tt;
   weighs = λ w. weigh-stays _ w (Desc p o) (Desc (desc.LoadDescHead seat) o) (sym credits) (sym kept) (sym frames) waits;
   goes = λ l old.
-      blocks-go g s l who (Desc p o) (Desc (desc.LoadDescHead seat) o) old has at blocks tt (λ d word guard. absurd guard) (none-kept-as s) (so l old);
+      blocks-go g s l caller (Desc p o) (Desc (desc.LoadDescHead seat) o) old has at blocks tt (λ d word guard. absurd guard) (none-kept-as s) (so l old);
 }
 
 -- another descriptor is on top: the hazard word still names the one that was
 pub pop_desc_lost-sound :
-    (g : Geometry) (s : State) (who : ℕ) (s' : State) (seat : SeatFields) (d next : ℕ) (o : Onward) → IsSoundWithoutCounts g s → who < g.callers
-    → (s.errand who).point ≡ Desc (desc.PopDesc seat d next) o → s.word name.DescHead ≢ d + 1 → Step s who s' → IsSoundWithoutCounts g s'
+    (g : Geometry) (s : State) (caller : ℕ) (s' : State) (seat : SeatFields) (d next : ℕ) (o : Continuation) → IsSoundWithoutCounts g s → caller < g.callers
+    → (s.errand caller).point ≡ Desc (desc.PopDesc seat d next) o → s.word name.DescHead ≢ d + 1 → Step s caller s' → IsSoundWithoutCounts g s'
 unfolding plan_point_of next_of event_of holds_of recalls_of
-pop_desc_lost-sound g s who s' seat d next o sound has at lost step =
+pop_desc_lost-sound g s caller s' seat d next o sound has at lost step =
     let p = desc.PopDesc seat d next in
-    lost-steady g s who s' (Desc p o) name.DescHead _ _ sound has at refl refl
-    (reads-again g s who p seat o has at (grind (arith)) refl refl refl (λ class. refl)
-    (λ l old. All-tail (IsSo g s l who) (noted d next) (looked seat.class ∷ []) (so-at g s l who (Desc p o) old has at))) lost step
+    lost-steady g s caller s' (Desc p o) name.DescHead _ _ sound has at refl refl
+    (reads-again g s caller p seat o has at (grind (arith)) refl refl refl (λ class. refl)
+    (λ l old. All-tail (IsSo g s l caller) (noted d next) (looked seat.class ∷ []) (so-at g s l caller (Desc p o) old has at))) lost step
 
 -- where the head leads that is loaded for a push
 head-to-push-leads :
-    (s : SeatFields) (d : ℕ) (o : Onward) (top : Option ℕ)
+    (s : SeatFields) (d : ℕ) (o : Continuation) (top : Option ℕ)
     → LeadsOn (Desc (desc.LoadHeadToPush s d) o) (enter_desc (after_top s d top) o) 0
 unfolding holds_of recalls_of
 head-to-push-leads s d o None = grind (arith)
@@ -102,29 +102,29 @@ head-to-push-leads s d o (Some top) = grind (arith)
 
 -- the load of the head, for a push
 pub load_head_to_push-sound :
-    (g : Geometry) (s : State) (who : ℕ) (s' : State) (seat : SeatFields) (d : ℕ) (o : Onward) → IsSoundWithoutCounts g s → who < g.callers
-    → (s.errand who).point ≡ Desc (desc.LoadHeadToPush seat d) o → Step s who s' → IsSoundWithoutCounts g s'
+    (g : Geometry) (s : State) (caller : ℕ) (s' : State) (seat : SeatFields) (d : ℕ) (o : Continuation) → IsSoundWithoutCounts g s → caller < g.callers
+    → (s.errand caller).point ≡ Desc (desc.LoadHeadToPush seat d) o → Step s caller s' → IsSoundWithoutCounts g s'
 unfolding plan_point_of next_of event_of
-load_head_to_push-sound g s who s' seat d o sound has at step =
-    quiet-at g s who s' (Desc (desc.LoadHeadToPush seat d) o) sound has at (record { event = refl; cleared = refl; word = refl })
-    (leads-on g s who _ _ 0 has at (head-to-push-leads seat d o (link_in seat.geometry (s.word name.DescHead)))) step
+load_head_to_push-sound g s caller s' seat d o sound has at step =
+    quiet-at g s caller s' (Desc (desc.LoadHeadToPush seat d) o) sound has at (record { event = refl; cleared = refl; word = refl })
+    (leads-on g s caller _ _ 0 has at (head-to-push-leads seat d o (link_in seat.geometry (s.word name.DescHead)))) step
 
 -- the head isn't what it was
 pub push_desc_lost-sound :
-    (g : Geometry) (s : State) (who : ℕ) (s' : State) (seat : SeatFields) (d top : ℕ) (o : Onward) → IsSoundWithoutCounts g s → who < g.callers
-    → (s.errand who).point ≡ Desc (desc.PushDesc seat d top) o → s.word name.DescHead ≢ top → Step s who s' → IsSoundWithoutCounts g s'
+    (g : Geometry) (s : State) (caller : ℕ) (s' : State) (seat : SeatFields) (d top : ℕ) (o : Continuation) → IsSoundWithoutCounts g s → caller < g.callers
+    → (s.errand caller).point ≡ Desc (desc.PushDesc seat d top) o → s.word name.DescHead ≢ top → Step s caller s' → IsSoundWithoutCounts g s'
 unfolding plan_point_of next_of event_of holds_of recalls_of
-push_desc_lost-sound g s who s' seat d top o sound has at lost step =
-    lost-at g s who s' (Desc (desc.PushDesc seat d top) o) name.DescHead _ _ sound has at refl refl
-    (leads-on g s who _ _ 1 has at (grind (arith))) lost step
+push_desc_lost-sound g s caller s' seat d top o sound has at lost step =
+    lost-at g s caller s' (Desc (desc.PushDesc seat d top) o) name.DescHead _ _ sound has at refl refl
+    (leads-on g s caller _ _ 1 has at (grind (arith))) lost step
 
 -- the descriptor that the hazard word names isn't the top one any more
 pub reload_desc_head_other-sound :
-    (g : Geometry) (s : State) (who : ℕ) (s' : State) (seat : SeatFields) (d : ℕ) (o : Onward) → IsSoundWithoutCounts g s → who < g.callers
-    → (s.errand who).point ≡ Desc (desc.ReloadDescHead seat d) o → s.word name.DescHead ≢ d + 1 → Step s who s' → IsSoundWithoutCounts g s'
+    (g : Geometry) (s : State) (caller : ℕ) (s' : State) (seat : SeatFields) (d : ℕ) (o : Continuation) → IsSoundWithoutCounts g s → caller < g.callers
+    → (s.errand caller).point ≡ Desc (desc.ReloadDescHead seat d) o → s.word name.DescHead ≢ d + 1 → Step s caller s' → IsSoundWithoutCounts g s'
 unfolding plan_point_of next_of event_of holds_of recalls_of
-reload_desc_head_other-sound g s who s' seat d o sound has at other step =
+reload_desc_head_other-sound g s caller s' seat d o sound has at other step =
     let no = ne_eqb (s.word name.DescHead) (d + 1) other in
-    steady-at g s who s' (Desc (desc.ReloadDescHead seat d) o) sound has at (record { event = refl; cleared = refl; word = refl })
-    (rw no (reads-again g s who (desc.ReloadDescHead seat d) seat o has at (grind (arith)) refl refl refl (λ class. refl)
-    (λ l old. so-at g s l who (Desc (desc.ReloadDescHead seat d) o) old has at))) step
+    steady-at g s caller s' (Desc (desc.ReloadDescHead seat d) o) sound has at (record { event = refl; cleared = refl; word = refl })
+    (rw no (reads-again g s caller (desc.ReloadDescHead seat d) seat o has at (grind (arith)) refl refl refl (λ class. refl)
+    (λ l old. so-at g s l caller (Desc (desc.ReloadDescHead seat d) o) old has at))) step

@@ -12,8 +12,8 @@ use Rattle.stack_parts.specs.declared.point.StackPoint.TheVariants as stack
 use Rattle.stack_parts.specs.Piles.{head_name}
 use Rattle.stack_parts.specs.Points.{after_top}
 use Rattle.large_parts.specs.declared.point.LargePoint.TheVariants as large
-use Rattle.errand_steps.specs.declared.onward.Onward.{Onward}
-use Rattle.errand_steps.specs.declared.onward.Onward.TheVariants as onward
+use Rattle.errand_steps.specs.declared.continuation.Continuation.{Continuation}
+use Rattle.errand_steps.specs.declared.continuation.Continuation.TheVariants as continuation
 use Rattle.errand_steps.specs.declared.point.Point.TheVariants.{Stack, Large}
 use Rattle.errand_steps.specs.declared.reply.Reply.TheVariants as reply
 use Rattle.errand_steps.specs.Events.{event_of}
@@ -28,52 +28,52 @@ use Rattle.sound_state.proofs.quiet.QuietSteps.{LeadsQuietly, ends-quietly, quie
 
 -- a read
 pub load_word-sound :
-    (g : Geometry) (s : State) (who : ℕ) (s' : State) (place i : ℕ) (o : Onward) → IsSoundWithoutCounts g s → who < g.callers
-    → (s.errand who).point ≡ Large (large.LoadWord place i) o → Step s who s' → IsSoundWithoutCounts g s'
+    (g : Geometry) (s : State) (caller : ℕ) (s' : State) (place i : ℕ) (o : Continuation) → IsSoundWithoutCounts g s → caller < g.callers
+    → (s.errand caller).point ≡ Large (large.LoadWord place i) o → Step s caller s' → IsSoundWithoutCounts g s'
 unfolding plan_point_of next_of event_of holds_of
-load_word-sound g s who s' place i o sound has at step =
-    quiet-at g s who s' (Large (large.LoadWord place i) o) sound has at (record { event = refl; cleared = refl; word = refl })
-    (ends-quietly g s who _ _ (grind (arith))) step
+load_word-sound g s caller s' place i o sound has at step =
+    quiet-at g s caller s' (Large (large.LoadWord place i) o) sound has at (record { event = refl; cleared = refl; word = refl })
+    (ends-quietly g s caller _ _ (grind (arith))) step
 
 -- a put that finds a block
 pub put_block_lost-sound :
-    (g : Geometry) (s : State) (who : ℕ) (s' : State) (k place : ℕ) (n : Need) (o : Onward) → IsSoundWithoutCounts g s → who < g.callers
-    → (s.errand who).point ≡ Large (large.PutBlock k place n) o → s.word (name.Shelf k) ≢ shelf_word Nothing → Step s who s' → IsSoundWithoutCounts g s'
+    (g : Geometry) (s : State) (caller : ℕ) (s' : State) (k place : ℕ) (n : Need) (o : Continuation) → IsSoundWithoutCounts g s → caller < g.callers
+    → (s.errand caller).point ≡ Large (large.PutBlock k place n) o → s.word (name.Shelf k) ≢ shelf_word Nothing → Step s caller s' → IsSoundWithoutCounts g s'
 unfolding plan_point_of next_of event_of holds_of
-put_block_lost-sound g s who s' k place n o sound has at lost step =
-    lost-at g s who s' (Large (large.PutBlock k place n) o) (name.Shelf k) _ _ sound has at refl refl
-    (ends-quietly g s who _ _ (grind (arith))) lost step
+put_block_lost-sound g s caller s' k place n o sound has at lost step =
+    lost-at g s caller s' (Large (large.PutBlock k place n) o) (name.Shelf k) _ _ sound has at refl refl
+    (ends-quietly g s caller _ _ (grind (arith))) lost step
 
 -- a take whose block is gone
 pub take_block_lost-sound :
-    (g : Geometry) (s : State) (who : ℕ) (s' : State) (k place : ℕ) (n : Need) (o : Onward) → IsSoundWithoutCounts g s → who < g.callers
-    → (s.errand who).point ≡ Large (large.TakeBlock k place n) o → s.word (name.Shelf k) ≢ shelf_word (Block place n) → Step s who s'
+    (g : Geometry) (s : State) (caller : ℕ) (s' : State) (k place : ℕ) (n : Need) (o : Continuation) → IsSoundWithoutCounts g s → caller < g.callers
+    → (s.errand caller).point ≡ Large (large.TakeBlock k place n) o → s.word (name.Shelf k) ≢ shelf_word (Block place n) → Step s caller s'
     → IsSoundWithoutCounts g s'
 unfolding plan_point_of next_of event_of holds_of
-take_block_lost-sound g s who s' k place n o sound has at lost step =
-    lost-at g s who s' (Large (large.TakeBlock k place n) o) (name.Shelf k) _ _ sound has at refl refl
-    (ends-quietly g s who _ _ (grind (arith))) lost step
+take_block_lost-sound g s caller s' k place n o sound has at lost step =
+    lost-at g s caller s' (Large (large.TakeBlock k place n) o) (name.Shelf k) _ _ sound has at refl refl
+    (ends-quietly g s caller _ _ (grind (arith))) lost step
 
 -- a take that found nothing, where a block lies now
 pub confirm_nothing_lost-sound :
-    (g : Geometry) (s : State) (who : ℕ) (s' : State) (k : ℕ) (o : Onward) → IsSoundWithoutCounts g s → who < g.callers
-    → (s.errand who).point ≡ Large (large.ConfirmNothing k) o → s.word (name.Shelf k) ≢ shelf_word Nothing → Step s who s' → IsSoundWithoutCounts g s'
+    (g : Geometry) (s : State) (caller : ℕ) (s' : State) (k : ℕ) (o : Continuation) → IsSoundWithoutCounts g s → caller < g.callers
+    → (s.errand caller).point ≡ Large (large.ConfirmNothing k) o → s.word (name.Shelf k) ≢ shelf_word Nothing → Step s caller s' → IsSoundWithoutCounts g s'
 unfolding plan_point_of next_of event_of holds_of
-confirm_nothing_lost-sound g s who s' k o sound has at lost step =
-    lost-at g s who s' (Large (large.ConfirmNothing k) o) (name.Shelf k) _ _ sound has at refl refl
-    (ends-quietly g s who _ _ (grind (arith))) lost step
+confirm_nothing_lost-sound g s caller s' k o sound has at lost step =
+    lost-at g s caller s' (Large (large.ConfirmNothing k) o) (name.Shelf k) _ _ sound has at refl refl
+    (ends-quietly g s caller _ _ (grind (arith))) lost step
 
 clear-ends :
-    (seat : SeatFields) (pile : Pile) (h : HeadFields) → h.top ≡ 0 → enter_stack (after_top seat pile h) onward.Clear ≡ End reply.Freed
+    (seat : SeatFields) (pile : Pile) (h : HeadFields) → h.top ≡ 0 → enter_stack (after_top seat pile h) continuation.Clear ≡ End reply.Freed
 clear-ends seat pile h empty = rw empty refl
 
 pub clear_ends-sound :
-    (g : Geometry) (s : State) (who : ℕ) (s' : State) (seat : SeatFields) (pile : Pile) → IsSoundWithoutCounts g s → who < g.callers
-    → (s.errand who).point ≡ Stack (stack.LoadTop seat pile) onward.Clear → (head_of (s.word (head_name seat pile))).top ≡ 0 → Step s who s'
+    (g : Geometry) (s : State) (caller : ℕ) (s' : State) (seat : SeatFields) (pile : Pile) → IsSoundWithoutCounts g s → caller < g.callers
+    → (s.errand caller).point ≡ Stack (stack.LoadTop seat pile) continuation.Clear → (head_of (s.word (head_name seat pile))).top ≡ 0 → Step s caller s'
     → IsSoundWithoutCounts g s'
 unfolding plan_point_of next_of event_of holds_of
-clear_ends-sound g s who s' seat pile sound has at empty step =
+clear_ends-sound g s caller s' seat pile sound has at empty step =
     let h = head_of (s.word (head_name seat pile)) in
-    quiet-at g s who s' (Stack (stack.LoadTop seat pile) onward.Clear) sound has at (record { event = refl; cleared = refl; word = refl })
-    (subst (LeadsQuietly g s who (Stack (stack.LoadTop seat pile) onward.Clear)) (sym (clear-ends seat pile h empty))
-    (ends-quietly g s who _ reply.Freed (grind (arith)))) step
+    quiet-at g s caller s' (Stack (stack.LoadTop seat pile) continuation.Clear) sound has at (record { event = refl; cleared = refl; word = refl })
+    (subst (LeadsQuietly g s caller (Stack (stack.LoadTop seat pile) continuation.Clear)) (sym (clear-ends seat pile h empty))
+    (ends-quietly g s caller _ reply.Freed (grind (arith)))) step

@@ -11,7 +11,7 @@ use Rattle.word_plan.specs.declared.seat.Site.{Site}
 use Rattle.word_plan.specs.Actions.{found_by, name_of}
 use Rattle.superblock_parts.specs.declared.point.BlockPoint.TheVariants as block
 use Rattle.superblock_parts.specs.declared.point.Share.{Share}
-use Rattle.errand_steps.specs.declared.onward.Onward.{Onward}
+use Rattle.errand_steps.specs.declared.continuation.Continuation.{Continuation}
 use Rattle.errand_steps.specs.declared.point.Point.{Point}
 use Rattle.errand_steps.specs.declared.point.Point.TheVariants.{Block}
 use Rattle.errand_steps.specs.Errands.{counts_cleared}
@@ -28,56 +28,56 @@ use Rattle.sound_state.proofs.shared.StepLemmas.{found_from}
 
 -- an exchange that is lost, and after which the caller weighs the same and may stand where it leads, keeps the state sound
 pub lost-steady :
-    (g : Geometry) (s : State) (who : ℕ) (s' : State) (p : Point) (n : WordName) (expected new : ℕ) → IsSoundWithoutCounts g s → who < g.callers
-    → (s.errand who).point ≡ p → plan_point_of p ≡ Cas n expected new → counts_cleared p (lost_with (s.word n)) ≡ false
-    → StepsSteadily g s who p (next_of p (lost_with (s.word n))) → s.word n ≢ expected → Step s who s' → IsSoundWithoutCounts g s'
+    (g : Geometry) (s : State) (caller : ℕ) (s' : State) (p : Point) (n : WordName) (expected new : ℕ) → IsSoundWithoutCounts g s → caller < g.callers
+    → (s.errand caller).point ≡ p → plan_point_of p ≡ Cas n expected new → counts_cleared p (lost_with (s.word n)) ≡ false
+    → StepsSteadily g s caller p (next_of p (lost_with (s.word n))) → s.word n ≢ expected → Step s caller s' → IsSoundWithoutCounts g s'
 unfolding event_of
-lost-steady g s who s' p n expected new sound has at plan cleared steady other step =
+lost-steady g s caller s' p n expected new sound has at plan cleared steady other step =
     let lost : (s.word n == expected) ≡ false = ne_eqb (s.word n) expected other in
     let found : found_from s p ≡ lost_with (s.word n) =
     ap (λ a. found_by a (s.word (name_of a))) plan ∙ ap (λ b. record { value = s.word n; won = b }) lost in
-    steady-at g s who s' p sound has at
+    steady-at g s caller s' p sound has at
     (record {
-      event = ap (event_of who p) found;
+      event = ap (event_of caller p) found;
       cleared = ap (counts_cleared p) found ∙ cleared;
       word = rw plan (cond-false {A = ℕ} (s.word n == expected) new (s.word n) lost);
     })
-    (subst (λ x. StepsSteadily g s who p (next_of p x)) (sym found) steady) step
+    (subst (λ x. StepsSteadily g s caller p (next_of p x)) (sym found) steady) step
 
 -- so does one that leads quietly on
 pub lost-at :
-    (g : Geometry) (s : State) (who : ℕ) (s' : State) (p : Point) (n : WordName) (expected new : ℕ) → IsSoundWithoutCounts g s → who < g.callers
-    → (s.errand who).point ≡ p → plan_point_of p ≡ Cas n expected new → counts_cleared p (lost_with (s.word n)) ≡ false
-    → LeadsQuietly g s who p (next_of p (lost_with (s.word n))) → s.word n ≢ expected → Step s who s' → IsSoundWithoutCounts g s'
-lost-at g s who s' p n expected new sound has at plan cleared leads other step =
-    lost-steady g s who s' p n expected new sound has at plan cleared (quiet-steady g s who p _ has at leads) other step
+    (g : Geometry) (s : State) (caller : ℕ) (s' : State) (p : Point) (n : WordName) (expected new : ℕ) → IsSoundWithoutCounts g s → caller < g.callers
+    → (s.errand caller).point ≡ p → plan_point_of p ≡ Cas n expected new → counts_cleared p (lost_with (s.word n)) ≡ false
+    → LeadsQuietly g s caller p (next_of p (lost_with (s.word n))) → s.word n ≢ expected → Step s caller s' → IsSoundWithoutCounts g s'
+lost-at g s caller s' p n expected new sound has at plan cleared leads other step =
+    lost-steady g s caller s' p n expected new sound has at plan cleared (quiet-steady g s caller p _ has at leads) other step
 
 -- a block is not popped
 pub pop_block-lost :
-    (g : Geometry) (s : State) (who : ℕ) (s' : State) (site : Site) (share : Share) (a : AnchorFields) (prefix : ℕ) (o : Onward)
-    → IsSoundWithoutCounts g s → who < g.callers → (s.errand who).point ≡ Block (block.PopBlock site share a prefix) o
-    → s.word (name.Anchor site.desc) ≢ anchor_word a → Step s who s' → IsSoundWithoutCounts g s'
+    (g : Geometry) (s : State) (caller : ℕ) (s' : State) (site : Site) (share : Share) (a : AnchorFields) (prefix : ℕ) (o : Continuation)
+    → IsSoundWithoutCounts g s → caller < g.callers → (s.errand caller).point ≡ Block (block.PopBlock site share a prefix) o
+    → s.word (name.Anchor site.desc) ≢ anchor_word a → Step s caller s' → IsSoundWithoutCounts g s'
 unfolding plan_point_of next_of holds_of recalls_of
-pop_block-lost g s who s' site share a prefix o sound has at other step =
-    lost-at g s who s' (Block (block.PopBlock site share a prefix) o) (name.Anchor site.desc) _ _ sound has at refl refl
-    (leads-on g s who _ _ 2 has at (grind (arith))) other step
+pop_block-lost g s caller s' site share a prefix o sound has at other step =
+    lost-at g s caller s' (Block (block.PopBlock site share a prefix) o) (name.Anchor site.desc) _ _ sound has at refl refl
+    (leads-on g s caller _ _ 2 has at (grind (arith))) other step
 
 -- reserved blocks are not given back
 pub return_credits-lost :
-    (g : Geometry) (s : State) (who : ℕ) (s' : State) (site : Site) (i more : ℕ) (a : AnchorFields) (o : Onward) → IsSoundWithoutCounts g s
-    → who < g.callers → (s.errand who).point ≡ Block (block.ReturnCredits site i more a) o
-    → s.word (name.Anchor site.desc) ≢ anchor_word a → Step s who s' → IsSoundWithoutCounts g s'
+    (g : Geometry) (s : State) (caller : ℕ) (s' : State) (site : Site) (i more : ℕ) (a : AnchorFields) (o : Continuation) → IsSoundWithoutCounts g s
+    → caller < g.callers → (s.errand caller).point ≡ Block (block.ReturnCredits site i more a) o
+    → s.word (name.Anchor site.desc) ≢ anchor_word a → Step s caller s' → IsSoundWithoutCounts g s'
 unfolding plan_point_of next_of holds_of recalls_of
-return_credits-lost g s who s' site i more a o sound has at other step =
-    lost-at g s who s' (Block (block.ReturnCredits site i more a) o) (name.Anchor site.desc) _ _ sound has at refl refl
-    (leads-on g s who _ _ 0 has at (grind (arith))) other step
+return_credits-lost g s caller s' site i more a o sound has at other step =
+    lost-at g s caller s' (Block (block.ReturnCredits site i more a) o) (name.Anchor site.desc) _ _ sound has at refl refl
+    (leads-on g s caller _ _ 0 has at (grind (arith))) other step
 
 -- a block is not pushed
 pub push_block-lost :
-    (g : Geometry) (s : State) (who : ℕ) (s' : State) (site : Site) (i : ℕ) (a : AnchorFields) (stored : Bool) (heap : ℕ) (o : Onward)
-    → IsSoundWithoutCounts g s → who < g.callers → (s.errand who).point ≡ Block (block.PushBlock site i a stored heap) o
-    → s.word (name.Anchor site.desc) ≢ anchor_word a → Step s who s' → IsSoundWithoutCounts g s'
+    (g : Geometry) (s : State) (caller : ℕ) (s' : State) (site : Site) (i : ℕ) (a : AnchorFields) (stored : Bool) (heap : ℕ) (o : Continuation)
+    → IsSoundWithoutCounts g s → caller < g.callers → (s.errand caller).point ≡ Block (block.PushBlock site i a stored heap) o
+    → s.word (name.Anchor site.desc) ≢ anchor_word a → Step s caller s' → IsSoundWithoutCounts g s'
 unfolding plan_point_of next_of holds_of recalls_of
-push_block-lost g s who s' site i a stored heap o sound has at other step =
-    lost-at g s who s' (Block (block.PushBlock site i a stored heap) o) (name.Anchor site.desc) _ _ sound has at refl refl
-    (leads-on g s who _ _ 1 has at (grind (arith))) other step
+push_block-lost g s caller s' site i a stored heap o sound has at other step =
+    lost-at g s caller s' (Block (block.PushBlock site i a stored heap) o) (name.Anchor site.desc) _ _ sound has at refl refl
+    (leads-on g s caller _ _ 1 has at (grind (arith))) other step

@@ -11,7 +11,7 @@ use Rattle.word_plan.specs.declared.name.WordName.TheVariants as name
 use Rattle.large_parts.specs.declared.point.LargePoint.TheVariants as large
 use Rattle.large_parts.specs.Points.{after_run_prefix, after_shelf}
 use Rattle.large_parts.specs.Runs.{WantFields, RunFields}
-use Rattle.errand_steps.specs.declared.onward.Onward.{Onward}
+use Rattle.errand_steps.specs.declared.continuation.Continuation.{Continuation}
 use Rattle.errand_steps.specs.declared.point.Point.TheVariants.{Large}
 use Rattle.errand_steps.specs.Events.{event_of}
 use Rattle.errand_steps.specs.Nexts.{next_of, enter_large}
@@ -25,25 +25,25 @@ use Rattle.sound_state.proofs.quiet.QuietSteps.{LeadsOn, leads-on, quiet-at}
 
 -- the units are read
 pub load_units-sound :
-    (g : Geometry) (s : State) (who : ℕ) (s' : State) (w : WantFields) (o : Onward) → IsSoundWithoutCounts g s → who < g.callers
-    → (s.errand who).point ≡ Large (large.LoadUnits w) o → Step s who s' → IsSoundWithoutCounts g s'
+    (g : Geometry) (s : State) (caller : ℕ) (s' : State) (w : WantFields) (o : Continuation) → IsSoundWithoutCounts g s → caller < g.callers
+    → (s.errand caller).point ≡ Large (large.LoadUnits w) o → Step s caller s' → IsSoundWithoutCounts g s'
 unfolding plan_point_of next_of event_of holds_of recalls_of
-load_units-sound g s who s' w o sound has at step =
-    quiet-at g s who s' (Large (large.LoadUnits w) o) sound has at (record { event = refl; cleared = refl; word = refl })
-    (leads-on g s who _ _ 0 has at (grind (arith))) step
+load_units-sound g s caller s' w o sound has at step =
+    quiet-at g s caller s' (Large (large.LoadUnits w) o) sound has at (record { event = refl; cleared = refl; word = refl })
+    (leads-on g s caller _ _ 0 has at (grind (arith))) step
 
 -- a run that isn't free any more: the units are read again
 pub take_run_lost-sound :
-    (g : Geometry) (s : State) (who : ℕ) (s' : State) (w : WantFields) (bits : ℕ) (o : Onward) → IsSoundWithoutCounts g s → who < g.callers
-    → (s.errand who).point ≡ Large (large.TakeRun w bits) o → s.word name.Units ≢ bits → Step s who s' → IsSoundWithoutCounts g s'
+    (g : Geometry) (s : State) (caller : ℕ) (s' : State) (w : WantFields) (bits : ℕ) (o : Continuation) → IsSoundWithoutCounts g s → caller < g.callers
+    → (s.errand caller).point ≡ Large (large.TakeRun w bits) o → s.word name.Units ≢ bits → Step s caller s' → IsSoundWithoutCounts g s'
 unfolding plan_point_of next_of event_of holds_of recalls_of
-take_run_lost-sound g s who s' w bits o sound has at lost step =
-    lost-at g s who s' (Large (large.TakeRun w bits) o) name.Units bits _ sound has at refl refl
-    (leads-on g s who _ _ 0 has at (grind (arith))) lost step
+take_run_lost-sound g s caller s' w bits o sound has at lost step =
+    lost-at g s caller s' (Large (large.TakeRun w bits) o) name.Units bits _ sound has at refl refl
+    (leads-on g s caller _ _ 0 has at (grind (arith))) lost step
 
 -- the prefix word of a freed run is read
 run-prefix-leads :
-    (place : ℕ) (run : RunFields) (o : Onward) (found : Option Prefix)
+    (place : ℕ) (run : RunFields) (o : Continuation) (found : Option Prefix)
     → LeadsOn (Large (large.LoadRunPrefix place run) o) (enter_large (after_run_prefix place run found) o) 0
 unfolding holds_of recalls_of
 run-prefix-leads place run o None = grind (arith)
@@ -51,16 +51,16 @@ run-prefix-leads place run o (Some (prefix.Small d)) = grind (arith)
 run-prefix-leads place run o (Some (prefix.Large units)) = grind (arith)
 
 pub load_run_prefix-sound :
-    (g : Geometry) (s : State) (who : ℕ) (s' : State) (place : ℕ) (run : RunFields) (o : Onward) → IsSoundWithoutCounts g s → who < g.callers
-    → (s.errand who).point ≡ Large (large.LoadRunPrefix place run) o → Step s who s' → IsSoundWithoutCounts g s'
+    (g : Geometry) (s : State) (caller : ℕ) (s' : State) (place : ℕ) (run : RunFields) (o : Continuation) → IsSoundWithoutCounts g s → caller < g.callers
+    → (s.errand caller).point ≡ Large (large.LoadRunPrefix place run) o → Step s caller s' → IsSoundWithoutCounts g s'
 unfolding plan_point_of next_of event_of
-load_run_prefix-sound g s who s' place run o sound has at step =
-    quiet-at g s who s' (Large (large.LoadRunPrefix place run) o) sound has at (record { event = refl; cleared = refl; word = refl })
-    (leads-on g s who _ _ 0 has at (run-prefix-leads place run o (prefix_of (s.word (name.Arena place))))) step
+load_run_prefix-sound g s caller s' place run o sound has at step =
+    quiet-at g s caller s' (Large (large.LoadRunPrefix place run) o) sound has at (record { event = refl; cleared = refl; word = refl })
+    (leads-on g s caller _ _ 0 has at (run-prefix-leads place run o (prefix_of (s.word (name.Arena place))))) step
 
 -- a shelf is looked at
 shelf-leads :
-    (k : ℕ) (o : Onward) (found : Option ShelfWord)
+    (k : ℕ) (o : Continuation) (found : Option ShelfWord)
     → LeadsOn (Large (large.LoadShelf k) o) (enter_large (after_shelf k found) o) 0
 unfolding holds_of recalls_of
 shelf-leads k o None = grind (arith)
@@ -68,9 +68,9 @@ shelf-leads k o (Some shelf.Nothing) = grind (arith)
 shelf-leads k o (Some (shelf.Block place need)) = grind (arith)
 
 pub load_shelf-sound :
-    (g : Geometry) (s : State) (who : ℕ) (s' : State) (k : ℕ) (o : Onward) → IsSoundWithoutCounts g s → who < g.callers
-    → (s.errand who).point ≡ Large (large.LoadShelf k) o → Step s who s' → IsSoundWithoutCounts g s'
+    (g : Geometry) (s : State) (caller : ℕ) (s' : State) (k : ℕ) (o : Continuation) → IsSoundWithoutCounts g s → caller < g.callers
+    → (s.errand caller).point ≡ Large (large.LoadShelf k) o → Step s caller s' → IsSoundWithoutCounts g s'
 unfolding plan_point_of next_of event_of
-load_shelf-sound g s who s' k o sound has at step =
-    quiet-at g s who s' (Large (large.LoadShelf k) o) sound has at (record { event = refl; cleared = refl; word = refl })
-    (leads-on g s who _ _ 0 has at (shelf-leads k o (shelf_of (s.word (name.Shelf k))))) step
+load_shelf-sound g s caller s' k o sound has at step =
+    quiet-at g s caller s' (Large (large.LoadShelf k) o) sound has at (record { event = refl; cleared = refl; word = refl })
+    (leads-on g s caller _ _ 0 has at (shelf-leads k o (shelf_of (s.word (name.Shelf k))))) step

@@ -33,21 +33,21 @@ same-stays n w p q h = weigh-stays n w p q (ap (λ x. x.credits) h.holds) (ap (�
 
 -- where the caller holds the same, what it holds is still so
 pub same-point-goes :
-    (g : Geometry) (s : State) (l : Lists) (who : ℕ) (q : Point) → IsSoundWith g s l → who < g.callers → HoldsSame (s.errand who).point q
-    → All (IsSo g s l who) (recalls_of q) → PointGoes g s l who (s.errand who).point q
-same-point-goes g s l who q sound has h so =
+    (g : Geometry) (s : State) (l : Lists) (caller : ℕ) (q : Point) → IsSoundWith g s l → caller < g.callers → HoldsSame (s.errand caller).point q
+    → All (IsSo g s l caller) (recalls_of q) → PointGoes g s l caller (s.errand caller).point q
+same-point-goes g s l caller q sound has h so =
     let back = sym h.holds in
     record {
-      kept = subst (λ held. All (λ k. IsKeptAs s k.status k.desc k.class) held.kept) back (sound.kept.errand who has);
+      kept = subst (λ held. All (λ k. IsKeptAs s k.status k.desc k.class) held.kept) back (sound.kept.errand caller has);
       so = so;
-      hazard = subst (λ held. IsHazard held.hazard (s.word (name.Hazard who))) back (sound.guarded.words who has);
+      hazard = subst (λ held. IsHazard held.hazard (s.word (name.Hazard caller))) back (sound.guarded.words caller has);
       guard = λ d word guard. subst (λ held. IsGuard held.hazard) h.holds guard;
       pushed = h.pushed;
       passed = h.passed;
       unread = h.unread;
       spare = h.spare;
-      hands = subst (λ held. All (λ x. IsOwned s who x.place x.need) held.hands) back (sound.tied.hands who has);
-      frees = subst (λ held. All (λ x. IsOwned s who x.place x.need) held.frees) back (sound.tied.frees who has);
+      hands = subst (λ held. All (λ x. IsOwned s caller x.place x.need) held.hands) back (sound.tied.hands caller has);
+      frees = subst (λ held. All (λ x. IsOwned s caller x.place x.need) held.frees) back (sound.tied.frees caller has);
       excepts = λ place x. subst (λ held. HoldsException held place) back x;
       turn = h.turn;
     }

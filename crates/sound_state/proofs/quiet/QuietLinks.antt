@@ -20,7 +20,7 @@ use Rattle.stack_parts.specs.declared.point.Pile.TheVariants.{Frames, Partials}
 use Rattle.stack_parts.specs.declared.point.StackPoint.TheVariants as stack
 use Rattle.stack_parts.specs.Piles.{next_name, pile_limit}
 use Rattle.hazard_parts.specs.declared.point.DescPoint.TheVariants as desc
-use Rattle.errand_steps.specs.declared.onward.Onward.{Onward}
+use Rattle.errand_steps.specs.declared.continuation.Continuation.{Continuation}
 use Rattle.errand_steps.specs.declared.point.Point.{Point}
 use Rattle.errand_steps.specs.declared.point.Point.TheVariants.{Stack, Desc}
 use Rattle.errand_steps.specs.Fits.{pushed_by}
@@ -56,42 +56,42 @@ link_weight (name.Next d) e = errand_has d e
 link_weight (name.FrameNext f) e = errand_frames f e
 link_weight n e = 0
 
-pub record IsAlone (g : Geometry) (s : State) (l : Lists) (who : ℕ) (n : WordName) : Type 0 where
+pub record IsAlone (g : Geometry) (s : State) (l : Lists) (caller : ℕ) (n : WordName) : Type 0 where
   pub unlisted : IsUnlisted l n
-  pub others : (i : ℕ) → i < g.callers → i ≢ who → link_weight n (s.errand i) ≡ 0
+  pub others : (i : ℕ) → i < g.callers → i ≢ caller → link_weight n (s.errand i) ≡ 0
 
 desc-alone :
-    (g : Geometry) (s : State) (l : Lists) (who d : ℕ) → IsSoundWith g s l → who < g.callers → d < descriptor_count g
-    → 1 ≤ errand_has d (s.errand who) → IsAlone g s l who (name.Next d)
+    (g : Geometry) (s : State) (l : Lists) (caller d : ℕ) → IsSoundWith g s l → caller < g.callers → d < descriptor_count g
+    → 1 ≤ errand_has d (s.errand caller) → IsAlone g s l caller (name.Next d)
 unfolding callers_sum
-desc-alone g s l who d old has exists mine =
+desc-alone g s l caller d old has exists mine =
     let once = old.kept.once d exists in
-    let some : errand_has d (s.errand who) ≤ callers_sum g (errand_has d) s.errand = term-sum g.callers (λ i. errand_has d (s.errand i)) who has in
+    let some : errand_has d (s.errand caller) ≤ callers_sum g (errand_has d) s.errand = term-sum g.callers (λ i. errand_has d (s.errand i)) caller has in
     record {
       unlisted = (
         omega (arith, once, some, mine),
         λ class has_class.
             omega (arith, once, some, mine, term-sum CLASSES (λ class. occurs d (l.partials class)) class has_class),
       );
-      others = λ i has_i other. others-none g (errand_has d) s.errand who i has has_i other mine (omega (arith, once, some, mine));
+      others = λ i has_i other. others-none g (errand_has d) s.errand caller i has has_i other mine (omega (arith, once, some, mine));
     }
 
 frame-alone :
-    (g : Geometry) (s : State) (l : Lists) (who f : ℕ) → IsSoundWith g s l → who < g.callers → f < g.frames
-    → 1 ≤ errand_frames f (s.errand who) → IsAlone g s l who (name.FrameNext f)
+    (g : Geometry) (s : State) (l : Lists) (caller f : ℕ) → IsSoundWith g s l → caller < g.callers → f < g.frames
+    → 1 ≤ errand_frames f (s.errand caller) → IsAlone g s l caller (name.FrameNext f)
 unfolding callers_sum
-frame-alone g s l who f old has exists mine =
+frame-alone g s l caller f old has exists mine =
     let once = old.framed.once f exists in
-    let some : errand_frames f (s.errand who) ≤ callers_sum g (errand_frames f) s.errand =
-    term-sum g.callers (λ i. errand_frames f (s.errand i)) who has in
+    let some : errand_frames f (s.errand caller) ≤ callers_sum g (errand_frames f) s.errand =
+    term-sum g.callers (λ i. errand_frames f (s.errand i)) caller has in
     record {
       unlisted = omega (arith, once, some, mine);
-      others = λ i has_i other. others-none g (errand_frames f) s.errand who i has has_i other mine (omega (arith, once, some, mine));
+      others = λ i has_i other. others-none g (errand_frames f) s.errand caller i has has_i other mine (omega (arith, once, some, mine));
     }
 
 -- who is about to push an index, on a stack or as a descriptor, has it
 pushed-has :
-    (e : ErrandFields) (p : Point) (seat : SeatFields) (pile : Pile) (i : ℕ) (o : Onward) → e.point ≡ p → holds_of p ≡ pushed_too pile i seat o
+    (e : ErrandFields) (p : Point) (seat : SeatFields) (pile : Pile) (i : ℕ) (o : Continuation) → e.point ≡ p → holds_of p ≡ pushed_too pile i seat o
     → 1 ≤ link_weight (next_name pile i) e
 pushed-has e p seat Frames i o at holds =
     subst (λ h. 1 ≤ occurs i h.frames) (sym (ap holds_of at ∙ holds)) (omega (arith, cond-true {A = ℕ} (i == i) 1 0 (eq-eqb i i refl)))
@@ -153,10 +153,10 @@ link-alone n link = absurd link
 
 -- who alone may store the link word, and doesn't remember what it says, keeps what is read
 links-kept :
-    (g : Geometry) (s : State) (l : Lists) (who : ℕ) (n : WordName) (new : ℕ) (words' : WordName → ℕ) → IsSoundWith g s l
-    → IsAlone g s l who n → IsLinkUnread n (s.errand who).point → IsLink n → InRange g n new → new < 2 ^ 64 → Writes s.word n new words'
+    (g : Geometry) (s : State) (l : Lists) (caller : ℕ) (n : WordName) (new : ℕ) (words' : WordName → ℕ) → IsSoundWith g s l
+    → IsAlone g s l caller n → IsLinkUnread n (s.errand caller).point → IsLink n → InRange g n new → new < 2 ^ 64 → Writes s.word n new words'
     → LoneKept g s l words'
-links-kept g s l who n new words' old alone silent link range below w =
+links-kept g s l caller n new words' old alone silent link range below w =
     let kind = link-alone n link in
     lone-kept g s l n new words' old kind.0 below w
     (record {
@@ -171,7 +171,7 @@ links-kept g s l who n new words' old alone silent link range below w =
     let p : Point = (s.errand i).point in
     record {
       link =
-          elim (cases_eq i who) [
+          elim (cases_eq i caller) [
             | inl is ↦ subst (λ j. IsLinkUnread n (s.errand j).point) (sym is) silent
             | inr other ↦ unsaid (s.errand i) p n (old.errands i has).rule refl (alone.others i has other)
           ];
@@ -181,45 +181,45 @@ links-kept g s l who n new words' old alone silent link range below w =
 
 -- the step's write, at a point that is known
 pub written-at :
-    (s : State) (who : ℕ) (s' : State) (p : Point) → (s.errand who).point ≡ p → Step s who s'
+    (s : State) (caller : ℕ) (s' : State) (p : Point) → (s.errand caller).point ≡ p → Step s caller s'
     → Writes s.word (name_of (plan_point_of p)) (after_action (plan_point_of p) (s.word (name_of (plan_point_of p)))) s'.word
-written-at s who s' p at step =
+written-at s caller s' p at step =
     subst
     (λ r. Writes s.word (name_of (plan_point_of r)) (after_action (plan_point_of r) (s.word (name_of (plan_point_of r)))) s'.word)
     at step.word
 
 -- what is to lie below a descriptor that becomes available
 pub store_next_desc-sound :
-    (g : Geometry) (s : State) (who : ℕ) (s' : State) (seat : SeatFields) (d top : ℕ) (o : Onward) → IsSoundWithoutCounts g s → who < g.callers
-    → (s.errand who).point ≡ Desc (desc.StoreNextDesc seat d top) o → Step s who s' → IsSoundWithoutCounts g s'
+    (g : Geometry) (s : State) (caller : ℕ) (s' : State) (seat : SeatFields) (d top : ℕ) (o : Continuation) → IsSoundWithoutCounts g s → caller < g.callers
+    → (s.errand caller).point ≡ Desc (desc.StoreNextDesc seat d top) o → Step s caller s' → IsSoundWithoutCounts g s'
 unfolding plan_point_of next_of event_of holds_of recalls_of
-store_next_desc-sound g s who s' seat d top o sound has at step =
+store_next_desc-sound g s caller s' seat d top o sound has at step =
     let p = Desc (desc.StoreNextDesc seat d top) o in
     let q = Desc (desc.PushDesc seat d top) o in
-    let w : Writes s.word (name.Next d) top s'.word = written-at s who s' p at step in
-    store-sound g s who s' p q (name.Next d) top sound has at
+    let w : Writes s.word (name.Next d) top s'.word = written-at s caller s' p at step in
+    store-sound g s caller s' p q (name.Next d) top sound has at
     (record {
       stores = record { plan = refl; next = λ v. refl; event = λ v. refl; lost = λ v. refl; cleared = λ v. refl };
       lone = tt;
       holds = grind (arith);
       kept = λ l old.
-          let fit = (fits-at g s l who p old has at).point in
-          links-kept g s l who (name.Next d) top s'.word old
-          (desc-alone g s l who d old has fit.desc.desc (retired-has (s.errand who) p d (old.errands who has).rule at refl))
+          let fit = (fits-at g s l caller p old has at).point in
+          links-kept g s l caller (name.Next d) top s'.word old
+          (desc-alone g s l caller d old has fit.desc.desc (retired-has (s.errand caller) p d (old.errands caller has).rule at refl))
           (subst (IsLinkUnread (name.Next d)) (sym at) tt) tt fit.link
           (omega (arith, fit.link, descriptor_count_within g sound.checked)) w;
       so = λ l old.
-          All-cons (IsSo g (between s s'.word) l who) (says (name.Next d) top) (resumed_recalls seat o) (tt, w.here)
-          (so-at g (between s s'.word) l who p old has at);
+          All-cons (IsSo g (between s s'.word) l caller) (says (name.Next d) top) (resumed_recalls seat o) (tt, w.here)
+          (so-at g (between s s'.word) l caller p old has at);
     })
     step
 
 -- so it alone may store the link
 below-alone :
-    (g : Geometry) (s : State) (l : Lists) (who : ℕ) (pile : Pile) (i : ℕ) → IsSoundWith g s l → who < g.callers → i < pile_limit g pile
-    → 1 ≤ link_weight (next_name pile i) (s.errand who) → IsAlone g s l who (next_name pile i)
-below-alone g s l who Frames i old has exists mine = frame-alone g s l who i old has exists mine
-below-alone g s l who Partials i old has exists mine = desc-alone g s l who i old has exists mine
+    (g : Geometry) (s : State) (l : Lists) (caller : ℕ) (pile : Pile) (i : ℕ) → IsSoundWith g s l → caller < g.callers → i < pile_limit g pile
+    → 1 ≤ link_weight (next_name pile i) (s.errand caller) → IsAlone g s l caller (next_name pile i)
+below-alone g s l caller Frames i old has exists mine = frame-alone g s l caller i old has exists mine
+below-alone g s l caller Partials i old has exists mine = desc-alone g s l caller i old has exists mine
 
 next-plain : (pile : Pile) (i : ℕ) → IsPlain (next_name pile i)
 next-plain Frames i = tt
@@ -231,28 +231,28 @@ next-range g Partials i w most = most
 
 -- what is to lie below a frame or a partial superblock that is pushed
 pub store_below-sound :
-    (g : Geometry) (s : State) (who : ℕ) (s' : State) (seat : SeatFields) (pile : Pile) (i : ℕ) (h : HeadFields) (o : Onward) → IsSoundWithoutCounts g s
-    → who < g.callers → (s.errand who).point ≡ Stack (stack.StoreBelow seat pile i h) o → Step s who s' → IsSoundWithoutCounts g s'
+    (g : Geometry) (s : State) (caller : ℕ) (s' : State) (seat : SeatFields) (pile : Pile) (i : ℕ) (h : HeadFields) (o : Continuation) → IsSoundWithoutCounts g s
+    → caller < g.callers → (s.errand caller).point ≡ Stack (stack.StoreBelow seat pile i h) o → Step s caller s' → IsSoundWithoutCounts g s'
 unfolding plan_point_of next_of event_of holds_of recalls_of
-store_below-sound g s who s' seat pile i h o sound has at step =
+store_below-sound g s caller s' seat pile i h o sound has at step =
     let p = Stack (stack.StoreBelow seat pile i h) o in
     let q = Stack (stack.PushTop seat pile i h) o in
     let n = next_name pile i in
-    let w : Writes s.word n h.top s'.word = written-at s who s' p at step in
+    let w : Writes s.word n h.top s'.word = written-at s caller s' p at step in
     let lone : IsLone n = (link-alone n (next-is_link pile i)).0 in
-    store-sound g s who s' p q n h.top sound has at
+    store-sound g s caller s' p q n h.top sound has at
     (record {
       stores = record { plan = refl; next = λ v. refl; event = λ v. refl; lost = λ v. refl; cleared = λ v. refl };
       lone = lone;
       holds = grind (arith);
       kept = λ l old.
-          let fit = (fits-at g s l who p old has at).point in
-          let exists : h.top ≤ pile_limit g pile = so-at g s l who p old has at 0 (tops_exist seat pile h) (omega arith) in
-          links-kept g s l who n h.top s'.word old (below-alone g s l who pile i old has fit.0.index (pushed-has (s.errand who) p seat pile i o at refl))
+          let fit = (fits-at g s l caller p old has at).point in
+          let exists : h.top ≤ pile_limit g pile = so-at g s l caller p old has at 0 (tops_exist seat pile h) (omega arith) in
+          links-kept g s l caller n h.top s'.word old (below-alone g s l caller pile i old has fit.0.index (pushed-has (s.errand caller) p seat pile i o at refl))
           (subst (IsLinkUnread n) (sym at) tt) (next-is_link pile i) (next-range g pile i h.top exists) (omega (arith, fit.1.top)) w;
       so = λ l old.
           let t = between s s'.word in
-          All-cons (IsSo g t l who) (says n h.top) (recalls_of p)
-          (next-plain pile i, sym (lone-written s.word n h.top s'.word lone w n) ∙ w.here) (so-at g t l who p old has at);
+          All-cons (IsSo g t l caller) (says n h.top) (recalls_of p)
+          (next-plain pile i, sym (lone-written s.word n h.top s'.word lone w n) ∙ w.here) (so-at g t l caller p old has at);
     })
     step

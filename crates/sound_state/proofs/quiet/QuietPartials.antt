@@ -24,18 +24,18 @@ use Rattle.partial_parts.specs.Points.{after_slot, after_kept, after_taken_info,
 use Rattle.stack_parts.specs.declared.point.Pile.TheVariants.{Partials}
 use Rattle.stack_parts.specs.declared.point.StackPoint.TheVariants as stack
 use Rattle.hazard_parts.specs.declared.point.DescPoint.TheVariants as desc
-use Rattle.errand_steps.specs.Onwards.{fills}
+use Rattle.errand_steps.specs.Continuations.{fills}
 use Rattle.errand_steps.specs.declared.next.Next.{Next}
 use Rattle.errand_steps.specs.declared.next.Next.TheVariants.{At}
-use Rattle.errand_steps.specs.declared.onward.Onward.{Onward}
-use Rattle.errand_steps.specs.declared.onward.Onward.TheVariants.{Alloc, Finish, GiveBlock, Free, Clear, ClearSecond, Retire}
+use Rattle.errand_steps.specs.declared.continuation.Continuation.{Continuation}
+use Rattle.errand_steps.specs.declared.continuation.Continuation.TheVariants.{Alloc, Finish, GiveBlock, Free, Clear, ClearSecond, Retire}
 use Rattle.errand_steps.specs.Errands.{ErrandFields, point_after}
 use Rattle.errand_steps.specs.declared.point.Point.TheVariants.{Partial, Stack, Desc}
 use Rattle.errand_steps.specs.Events.{event_of}
 use Rattle.errand_steps.specs.Nexts.{next_of, enter_partial}
 use Rattle.errand_steps.specs.Points.{plan_point_of}
 use Rattle.errand_steps.specs.Steps.{State, Step}
-use Rattle.sound_state.specs.Holdings.{Kept, holds_of, onward_holds, partly_used}
+use Rattle.sound_state.specs.Holdings.{Kept, holds_of, continuation_holds, partly_used}
 use Rattle.sound_state.specs.Keepers.{IsKeptAs, IsPartlyUsed}
 use Rattle.sound_state.specs.Lists.{Lists}
 use Rattle.sound_state.specs.Recalls.{recalls_of, IsSo, IsEmptied, IsLocated, located, in_use, emptied}
@@ -74,25 +74,25 @@ slot-leads s need word =
 
 -- the load of the slot
 pub load_slot-sound :
-    (g : Geometry) (s : State) (who : ℕ) (s' : State) (seat : SeatFields) (need : ℕ) → IsSoundWithoutCounts g s → who < g.callers
-    → (s.errand who).point ≡ Partial (partial.LoadSlot seat) (Alloc need) → Step s who s' → IsSoundWithoutCounts g s'
+    (g : Geometry) (s : State) (caller : ℕ) (s' : State) (seat : SeatFields) (need : ℕ) → IsSoundWithoutCounts g s → caller < g.callers
+    → (s.errand caller).point ≡ Partial (partial.LoadSlot seat) (Alloc need) → Step s caller s' → IsSoundWithoutCounts g s'
 unfolding plan_point_of next_of event_of
-load_slot-sound g s who s' seat need sound has at step =
-    quiet-at g s who s' (Partial (partial.LoadSlot seat) (Alloc need)) sound has at (record { event = refl; cleared = refl; word = refl })
-    (leads-on g s who _ _ 0 has at (slot-leads seat need (s.word (slot_name seat)))) step
+load_slot-sound g s caller s' seat need sound has at step =
+    quiet-at g s caller s' (Partial (partial.LoadSlot seat) (Alloc need)) sound has at (record { event = refl; cleared = refl; word = refl })
+    (leads-on g s caller _ _ 0 has at (slot-leads seat need (s.word (slot_name seat)))) step
 
 -- what stands in the slot is taken, and is the caller's then; or it isn't what it was
 pub take_slot-sound :
-    (g : Geometry) (s : State) (who : ℕ) (s' : State) (seat : SeatFields) (d need : ℕ) → IsSoundWithoutCounts g s → who < g.callers
-    → (s.errand who).point ≡ Partial (partial.TakeSlot seat d) (Alloc need) → Step s who s' → IsSoundWithoutCounts g s'
+    (g : Geometry) (s : State) (caller : ℕ) (s' : State) (seat : SeatFields) (d need : ℕ) → IsSoundWithoutCounts g s → caller < g.callers
+    → (s.errand caller).point ≡ Partial (partial.TakeSlot seat d) (Alloc need) → Step s caller s' → IsSoundWithoutCounts g s'
 unfolding plan_point_of next_of event_of holds_of recalls_of
-take_slot-sound g s who s' seat d need sound has at step =
+take_slot-sound g s caller s' seat d need sound has at step =
     elim (cases_eq (s.word (slot_name seat)) (d + 1)) [
       | inl there ↦
           let p = Partial (partial.TakeSlot seat d) (Alloc need) in
           let q = Partial (partial.LoadTakenInfo seat d) (Alloc need) in
-          let exists : (heap_of seat < g.heaps) × (seat.class < CLASSES) = exists-at g s who p sound has at in
-          won-at g s who s' p q (slot_name seat) (d + 1) 0 sound has at
+          let exists : (heap_of seat < g.heaps) × (seat.class < CLASSES) = exists-at g s caller p sound has at in
+          won-at g s caller s' p q (slot_name seat) (d + 1) 0 sound has at
           (record {
             plan = refl;
             next = refl;
@@ -101,81 +101,81 @@ take_slot-sound g s who s' seat d need sound has at step =
             below = omega arith;
             weighs = grind (arith);
             goes = λ l old.
-                alike-goes g s l who p q old has at (grind (arith))
+                alike-goes g s l caller p q old has at (grind (arith))
                 (keeps-too s d seat.class [] (old.kept.slot (heap_of seat) seat.class d exists.0 exists.1 there).1 (none-kept-as s))
-                (All-nil (IsSo g s l who));
+                (All-nil (IsSo g s l caller));
             actives = λ l old words' w. slot-emptied g s l (heap_of seat) seat.class 0 words' old w refl;
           })
           there step
       | inr lost ↦
-          lost-at g s who s' (Partial (partial.TakeSlot seat d) (Alloc need)) (slot_name seat) _ _ sound has at refl refl
-          (leads-on g s who _ _ 0 has at (grind (arith))) lost step
+          lost-at g s caller s' (Partial (partial.TakeSlot seat d) (Alloc need)) (slot_name seat) _ _ sound has at refl refl
+          (leads-on g s caller _ _ 0 has at (grind (arith))) lost step
     ]
 
 -- where the word of a taken descriptor leads
 taken_info-leads :
-    (g : Geometry) (s : State) (who : ℕ) (seat : SeatFields) (d need : ℕ) (i : Option InfoFields) → who < g.callers
-    → (s.errand who).point ≡ Partial (partial.LoadTakenInfo seat d) (Alloc need) → info_in seat.geometry (s.word (name.Info d)) ≡ i
-    → LeadsQuietly g s who (Partial (partial.LoadTakenInfo seat d) (Alloc need)) (enter_partial (after_taken_info seat d i) (Alloc need))
+    (g : Geometry) (s : State) (caller : ℕ) (seat : SeatFields) (d need : ℕ) (i : Option InfoFields) → caller < g.callers
+    → (s.errand caller).point ≡ Partial (partial.LoadTakenInfo seat d) (Alloc need) → info_in seat.geometry (s.word (name.Info d)) ≡ i
+    → LeadsQuietly g s caller (Partial (partial.LoadTakenInfo seat d) (Alloc need)) (enter_partial (after_taken_info seat d i) (Alloc need))
 unfolding holds_of recalls_of
-taken_info-leads g s who seat d need None has at is = leads-on g s who _ _ 0 has at (grind (arith))
-taken_info-leads g s who seat d need (Some info) has at is = record {
+taken_info-leads g s caller seat d need None has at is = leads-on g s caller _ _ 0 has at (grind (arith))
+taken_info-leads g s caller seat d need (Some info) has at is = record {
   plain = tt;
   holds = grind (arith);
   so = λ l old.
       let says : info_for s d ≡ info = info-said seat.geometry (info_of (s.word (name.Info d))) info is in
-      let kept = kept-at g s l who (Partial (partial.LoadTakenInfo seat d) (Alloc need)) old has at in
+      let kept = kept-at g s l caller (Partial (partial.LoadTakenInfo seat d) (Alloc need)) old has at in
       let class = (kept 0 (record { desc = d; class = seat.class; status = partly_used }) (omega arith)).class in
       let here : IsLocated s d info.frame seat.class = record { frame = ap (λ x. x.frame) says; class = class } in
-      All-cons (IsSo g s l who) _ [] here (All-nil (IsSo g s l who));
+      All-cons (IsSo g s l caller) _ [] here (All-nil (IsSo g s l caller));
 }
 
 -- the load of its word
 pub load_taken_info-sound :
-    (g : Geometry) (s : State) (who : ℕ) (s' : State) (seat : SeatFields) (d need : ℕ) → IsSoundWithoutCounts g s → who < g.callers
-    → (s.errand who).point ≡ Partial (partial.LoadTakenInfo seat d) (Alloc need) → Step s who s' → IsSoundWithoutCounts g s'
+    (g : Geometry) (s : State) (caller : ℕ) (s' : State) (seat : SeatFields) (d need : ℕ) → IsSoundWithoutCounts g s → caller < g.callers
+    → (s.errand caller).point ≡ Partial (partial.LoadTakenInfo seat d) (Alloc need) → Step s caller s' → IsSoundWithoutCounts g s'
 unfolding plan_point_of next_of event_of
-load_taken_info-sound g s who s' seat d need sound has at step =
-    quiet-at g s who s' (Partial (partial.LoadTakenInfo seat d) (Alloc need)) sound has at (record { event = refl; cleared = refl; word = refl })
-    (taken_info-leads g s who seat d need (info_in seat.geometry (s.word (name.Info d))) has at refl) step
+load_taken_info-sound g s caller s' seat d need sound has at step =
+    quiet-at g s caller s' (Partial (partial.LoadTakenInfo seat d) (Alloc need)) sound has at (record { event = refl; cleared = refl; word = refl })
+    (taken_info-leads g s caller seat d need (info_in seat.geometry (s.word (name.Info d))) has at refl) step
 
 -- where the anchor of a taken superblock leads that isn't EMPTY
 live-leads :
-    (g : Geometry) (s : State) (who : ℕ) (site : Site) (need : ℕ) (a : Option AnchorFields) → who < g.callers
-    → (s.errand who).point ≡ Partial (partial.LoadGrantAnchor site) (Alloc need) → anchor_in site.seat.class (s.word (name.Anchor site.desc)) ≡ a
-    → is_empty (anchor_for s site.desc).state ≡ false → LeadsQuietly g s who (Partial (partial.LoadGrantAnchor site) (Alloc need))
+    (g : Geometry) (s : State) (caller : ℕ) (site : Site) (need : ℕ) (a : Option AnchorFields) → caller < g.callers
+    → (s.errand caller).point ≡ Partial (partial.LoadGrantAnchor site) (Alloc need) → anchor_in site.seat.class (s.word (name.Anchor site.desc)) ≡ a
+    → is_empty (anchor_for s site.desc).state ≡ false → LeadsQuietly g s caller (Partial (partial.LoadGrantAnchor site) (Alloc need))
     (enter_partial (after_live site a) (Alloc need))
 unfolding holds_of recalls_of
-live-leads g s who site need None has at is used = leads-on g s who _ _ 0 has at (grind (arith))
-live-leads g s who site need (Some a) has at is used = record {
+live-leads g s caller site need None has at is used = leads-on g s caller _ _ 0 has at (grind (arith))
+live-leads g s caller site need (Some a) has at is used = record {
   plain = tt;
   holds = grind (arith);
   so = λ l old.
       let same : a ≡ anchor_for s site.desc = anchor-said site.seat.class (s.word (name.Anchor site.desc)) a is in
       let in_use_still : is_empty a.state ≡ false = ap (λ x. is_empty x.state) same ∙ used in
-      All-cons (IsSo g s l who) (in_use a) (located site.desc site.frame site.seat.class ∷ []) in_use_still
-      (so-at g s l who (Partial (partial.LoadGrantAnchor site) (Alloc need)) old has at);
+      All-cons (IsSo g s l caller) (in_use a) (located site.desc site.frame site.seat.class ∷ []) in_use_still
+      (so-at g s l caller (Partial (partial.LoadGrantAnchor site) (Alloc need)) old has at);
 }
 
 -- the load of the anchor, where it isn't EMPTY
 pub load_grant_anchor-sound :
-    (g : Geometry) (s : State) (who : ℕ) (s' : State) (site : Site) (need : ℕ) → IsSoundWithoutCounts g s → who < g.callers
-    → (s.errand who).point ≡ Partial (partial.LoadGrantAnchor site) (Alloc need) → is_empty (anchor_for s site.desc).state ≡ false
-    → Step s who s' → IsSoundWithoutCounts g s'
+    (g : Geometry) (s : State) (caller : ℕ) (s' : State) (site : Site) (need : ℕ) → IsSoundWithoutCounts g s → caller < g.callers
+    → (s.errand caller).point ≡ Partial (partial.LoadGrantAnchor site) (Alloc need) → is_empty (anchor_for s site.desc).state ≡ false
+    → Step s caller s' → IsSoundWithoutCounts g s'
 unfolding plan_point_of next_of event_of
-load_grant_anchor-sound g s who s' site need sound has at used step =
-    quiet-at g s who s' (Partial (partial.LoadGrantAnchor site) (Alloc need)) sound has at (record { event = refl; cleared = used; word = refl })
-    (rw used (live-leads g s who site need (anchor_in site.seat.class (s.word (name.Anchor site.desc))) has at refl used)) step
+load_grant_anchor-sound g s caller s' site need sound has at used step =
+    quiet-at g s caller s' (Partial (partial.LoadGrantAnchor site) (Alloc need)) sound has at (record { event = refl; cleared = used; word = refl })
+    (rw used (live-leads g s caller site need (anchor_in site.seat.class (s.word (name.Anchor site.desc))) has at refl used)) step
 
 -- its anchor isn't what it was
 pub grant_lost-sound :
-    (g : Geometry) (s : State) (who : ℕ) (s' : State) (site : Site) (a : AnchorFields) (need : ℕ) → IsSoundWithoutCounts g s → who < g.callers
-    → (s.errand who).point ≡ Partial (partial.Grant site a) (Alloc need) → s.word (name.Anchor site.desc) ≢ anchor_word a → Step s who s'
+    (g : Geometry) (s : State) (caller : ℕ) (s' : State) (site : Site) (a : AnchorFields) (need : ℕ) → IsSoundWithoutCounts g s → caller < g.callers
+    → (s.errand caller).point ≡ Partial (partial.Grant site a) (Alloc need) → s.word (name.Anchor site.desc) ≢ anchor_word a → Step s caller s'
     → IsSoundWithoutCounts g s'
 unfolding plan_point_of next_of event_of holds_of recalls_of
-grant_lost-sound g s who s' site a need sound has at lost step =
-    lost-at g s who s' (Partial (partial.Grant site a) (Alloc need)) (name.Anchor site.desc) _ _ sound has at refl refl
-    (leads-on g s who _ _ 1 has at (grind (arith))) lost step
+grant_lost-sound g s caller s' site a need sound has at lost step =
+    lost-at g s caller s' (Partial (partial.Grant site a) (Alloc need)) (name.Anchor site.desc) _ _ sound has at refl refl
+    (leads-on g s caller _ _ 1 has at (grind (arith))) lost step
 
 -- where the word of a descriptor leads whose superblock became partial
 partial-owner-leads :
@@ -187,71 +187,71 @@ partial-owner-leads s d stored (Some info) = grind (arith)
 
 -- the load of its word
 pub load_partial_owner-sound :
-    (g : Geometry) (s : State) (who : ℕ) (s' : State) (seat : SeatFields) (d : ℕ) (stored : Bool) → IsSoundWithoutCounts g s → who < g.callers
-    → (s.errand who).point ≡ Partial (partial.LoadOwner seat d) (Finish stored) → Step s who s' → IsSoundWithoutCounts g s'
+    (g : Geometry) (s : State) (caller : ℕ) (s' : State) (seat : SeatFields) (d : ℕ) (stored : Bool) → IsSoundWithoutCounts g s → caller < g.callers
+    → (s.errand caller).point ≡ Partial (partial.LoadOwner seat d) (Finish stored) → Step s caller s' → IsSoundWithoutCounts g s'
 unfolding plan_point_of next_of event_of
-load_partial_owner-sound g s who s' seat d stored sound has at step =
-    quiet-at g s who s' (Partial (partial.LoadOwner seat d) (Finish stored)) sound has at (record { event = refl; cleared = refl; word = refl })
-    (leads-on g s who _ _ 0 has at (partial-owner-leads seat d stored (info_in seat.geometry (s.word (name.Info d))))) step
+load_partial_owner-sound g s caller s' seat d stored sound has at step =
+    quiet-at g s caller s' (Partial (partial.LoadOwner seat d) (Finish stored)) sound has at (record { event = refl; cleared = refl; word = refl })
+    (leads-on g s caller _ _ 0 has at (partial-owner-leads seat d stored (info_in seat.geometry (s.word (name.Info d))))) step
 
 -- the first superblock from the list isn't EMPTY
 pub load_first_listed-sound :
-    (g : Geometry) (s : State) (who : ℕ) (s' : State) (seat : SeatFields) (d : ℕ) → IsSoundWithoutCounts g s → who < g.callers
-    → (s.errand who).point ≡ Partial (partial.LoadListedAnchor seat d) Clear → is_empty (anchor_for s d).state ≡ false → Step s who s'
+    (g : Geometry) (s : State) (caller : ℕ) (s' : State) (seat : SeatFields) (d : ℕ) → IsSoundWithoutCounts g s → caller < g.callers
+    → (s.errand caller).point ≡ Partial (partial.LoadListedAnchor seat d) Clear → is_empty (anchor_for s d).state ≡ false → Step s caller s'
     → IsSoundWithoutCounts g s'
 unfolding plan_point_of next_of event_of holds_of recalls_of
-load_first_listed-sound g s who s' seat d sound has at used step =
-    quiet-at g s who s' (Partial (partial.LoadListedAnchor seat d) Clear) sound has at (record { event = refl; cleared = refl; word = refl })
-    (rw used (leads-on g s who _ _ 0 has at (grind (arith)))) step
+load_first_listed-sound g s caller s' seat d sound has at used step =
+    quiet-at g s caller s' (Partial (partial.LoadListedAnchor seat d) Clear) sound has at (record { event = refl; cleared = refl; word = refl })
+    (rw used (leads-on g s caller _ _ 0 has at (grind (arith)))) step
 
 -- the superblock that became EMPTY isn't in the slot
 elsewhere-goes :
-    (g : Geometry) (s : State) (who : ℕ) (p : PartialPoint) (seat : SeatFields) (d : ℕ) → who < g.callers → (s.errand who).point ≡ Partial p Free
+    (g : Geometry) (s : State) (caller : ℕ) (p : PartialPoint) (seat : SeatFields) (d : ℕ) → caller < g.callers → (s.errand caller).point ≡ Partial p Free
     → holds_of (Partial p Free) ≡ holds_of (Partial (partial.LoadHeldSlot seat d 0) Free)
     → HoldsBlocks (Partial p Free) (Desc (desc.ClearHazard seat) Clear)
     → ((class : ℕ) → waits_in class (Desc (desc.ClearHazard seat) Clear) ≡ waits_in class (Partial p Free))
-    → StepsSteadily g s who (Partial p Free) (At (Desc (desc.ClearHazard seat) Clear))
+    → StepsSteadily g s caller (Partial p Free) (At (Desc (desc.ClearHazard seat) Clear))
 unfolding holds_of recalls_of
-elsewhere-goes g s who p seat d has at same blocks waits = record {
+elsewhere-goes g s caller p seat d has at same blocks waits = record {
   plain = tt;
   weighs = λ w.
       weigh-stays _ w (Partial p Free) (Desc (desc.ClearHazard seat) Clear) (ap (λ x. x.credits) (sym same)) (ap (λ x. x.kept) (sym same))
       (ap (λ x. x.frames) (sym same)) waits;
   goes = λ l old.
-      blocks-go g s l who (Partial p Free) (Desc (desc.ClearHazard seat) Clear) old has at blocks tt (λ d word guard. rw same tt) (none-kept-as s)
-      (All-nil (IsSo g s l who));
+      blocks-go g s l caller (Partial p Free) (Desc (desc.ClearHazard seat) Clear) old has at blocks tt (λ d word guard. rw same tt) (none-kept-as s)
+      (All-nil (IsSo g s l caller));
 }
 
 -- whether the superblock that became EMPTY stands in the slot
 pub load_held_slot-sound :
-    (g : Geometry) (s : State) (who : ℕ) (s' : State) (seat : SeatFields) (d heap : ℕ) → IsSoundWithoutCounts g s → who < g.callers
-    → (s.errand who).point ≡ Partial (partial.LoadHeldSlot seat d heap) Free → Step s who s' → IsSoundWithoutCounts g s'
+    (g : Geometry) (s : State) (caller : ℕ) (s' : State) (seat : SeatFields) (d heap : ℕ) → IsSoundWithoutCounts g s → caller < g.callers
+    → (s.errand caller).point ≡ Partial (partial.LoadHeldSlot seat d heap) Free → Step s caller s' → IsSoundWithoutCounts g s'
 unfolding plan_point_of next_of event_of holds_of recalls_of
-load_held_slot-sound g s who s' seat d heap sound has at step =
+load_held_slot-sound g s caller s' seat d heap sound has at step =
     elim (cases_eq (s.word (slot_of seat heap)) (d + 1)) [
       | inl there ↦
           let yes = eq-eqb (s.word (slot_of seat heap)) (d + 1) there in
-          quiet-at g s who s' (Partial (partial.LoadHeldSlot seat d heap) Free) sound has at (record { event = refl; cleared = refl; word = refl })
-          (rw yes (leads-on g s who _ _ 0 has at (grind (arith)))) step
+          quiet-at g s caller s' (Partial (partial.LoadHeldSlot seat d heap) Free) sound has at (record { event = refl; cleared = refl; word = refl })
+          (rw yes (leads-on g s caller _ _ 0 has at (grind (arith)))) step
       | inr other ↦
           let no = ne_eqb (s.word (slot_of seat heap)) (d + 1) other in
           let p = partial.LoadHeldSlot seat d heap in
-          steady-at g s who s' (Partial p Free) sound has at (record { event = refl; cleared = refl; word = refl })
-          (rw no (elsewhere-goes g s who p seat d has at refl (grind (arith)) (λ class. refl))) step
+          steady-at g s caller s' (Partial p Free) sound has at (record { event = refl; cleared = refl; word = refl })
+          (rw no (elsewhere-goes g s caller p seat d has at refl (grind (arith)) (λ class. refl))) step
     ]
 
 -- it is removed from there, and is the caller's then; or it isn't there any more
 pub remove_from_slot-sound :
-    (g : Geometry) (s : State) (who : ℕ) (s' : State) (seat : SeatFields) (d heap : ℕ) → IsSoundWithoutCounts g s → who < g.callers
-    → (s.errand who).point ≡ Partial (partial.RemoveFromSlot seat d heap) Free → Step s who s' → IsSoundWithoutCounts g s'
+    (g : Geometry) (s : State) (caller : ℕ) (s' : State) (seat : SeatFields) (d heap : ℕ) → IsSoundWithoutCounts g s → caller < g.callers
+    → (s.errand caller).point ≡ Partial (partial.RemoveFromSlot seat d heap) Free → Step s caller s' → IsSoundWithoutCounts g s'
 unfolding plan_point_of next_of event_of holds_of recalls_of
-remove_from_slot-sound g s who s' seat d heap sound has at step =
+remove_from_slot-sound g s caller s' seat d heap sound has at step =
     elim (cases_eq (s.word (slot_of seat heap)) (d + 1)) [
       | inl there ↦
           let p = Partial (partial.RemoveFromSlot seat d heap) Free in
           let q = Desc (desc.ClearHazard seat) (Retire d) in
-          let exists : (heap < g.heaps) × (seat.class < CLASSES) = exists-at g s who p sound has at in
-          won-at g s who s' p q (slot_of seat heap) (d + 1) 0 sound has at
+          let exists : (heap < g.heaps) × (seat.class < CLASSES) = exists-at g s caller p sound has at in
+          won-at g s caller s' p q (slot_of seat heap) (d + 1) 0 sound has at
           (record {
             plan = refl;
             next = refl;
@@ -260,40 +260,40 @@ remove_from_slot-sound g s who s' seat d heap sound has at step =
             below = omega arith;
             weighs = grind (arith);
             goes = λ l old.
-                alike-goes g s l who p q old has at (grind (arith))
+                alike-goes g s l caller p q old has at (grind (arith))
                 (keeps-too s d seat.class [] (old.kept.slot heap seat.class d exists.0 exists.1 there).1 (none-kept-as s))
-                (so-at g s l who p old has at);
+                (so-at g s l caller p old has at);
             actives = λ l old words' w. slot-emptied g s l heap seat.class 0 words' old w refl;
           })
           there step
       | inr lost ↦
           let p = partial.RemoveFromSlot seat d heap in
-          lost-steady g s who s' (Partial p Free) (slot_of seat heap) _ _ sound has at refl refl
-          (elsewhere-goes g s who p seat d has at refl (grind (arith)) (λ class. refl)) lost step
+          lost-steady g s caller s' (Partial p Free) (slot_of seat heap) _ _ sound has at refl refl
+          (elsewhere-goes g s caller p seat d has at refl (grind (arith)) (λ class. refl)) lost step
     ]
 
 -- the slot into which a superblock is put holds it after the swap
 put-actives :
-    (g : Geometry) (s : State) (l : Lists) (who : ℕ) (seat : SeatFields) (d heap : ℕ) (o : Onward) (words' : WordName → ℕ) → IsSoundWith g s l
-    → who < g.callers → (s.errand who).point ≡ Partial (partial.PutSlot seat d heap) o → Writes s.word (slot_of seat heap) (d + 1) words'
+    (g : Geometry) (s : State) (l : Lists) (caller : ℕ) (seat : SeatFields) (d heap : ℕ) (o : Continuation) (words' : WordName → ℕ) → IsSoundWith g s l
+    → caller < g.callers → (s.errand caller).point ≡ Partial (partial.PutSlot seat d heap) o → Writes s.word (slot_of seat heap) (d + 1) words'
     → ActivesKept g s words'
 unfolding holds_of
-put-actives g s l who seat d heap o words' old has at w =
+put-actives g s l caller seat d heap o words' old has at w =
     let p = Partial (partial.PutSlot seat d heap) o in
-    let fits = (fits-at g s l who p old has at).point in
-    let mine = kept-at g s l who p old has at 0 (record { desc = d; class = seat.class; status = partly_used }) (omega arith) in
+    let fits = (fits-at g s l caller p old has at).point in
+    let mine = kept-at g s l caller p old has at 0 (record { desc = d; class = seat.class; status = partly_used }) (omega arith) in
     slot-written g s l heap seat.class (d + 1) words' old w (omega (arith, fits.desc))
     (λ e is. let same : d ≡ e = omega (arith, is) in subst (λ k. (k < descriptor_count g) × IsPartlyUsed s k seat.class) same (fits.desc, mine))
 
 -- its word fits
 put-below :
-    (g : Geometry) (s : State) (l : Lists) (who : ℕ) (seat : SeatFields) (d heap : ℕ) (o : Onward) → IsChecked g → IsSoundWith g s l
-    → who < g.callers → (s.errand who).point ≡ Partial (partial.PutSlot seat d heap) o → d + 1 < 2 ^ 64
-put-below g s l who seat d heap o checked old has at =
-    omega (arith, (fits-at g s l who (Partial (partial.PutSlot seat d heap) o) old has at).point.desc, descriptor_count_within g checked)
+    (g : Geometry) (s : State) (l : Lists) (caller : ℕ) (seat : SeatFields) (d heap : ℕ) (o : Continuation) → IsChecked g → IsSoundWith g s l
+    → caller < g.callers → (s.errand caller).point ≡ Partial (partial.PutSlot seat d heap) o → d + 1 < 2 ^ 64
+put-below g s l caller seat d heap o checked old has at =
+    omega (arith, (fits-at g s l caller (Partial (partial.PutSlot seat d heap) o) old has at).point.desc, descriptor_count_within g checked)
 
 -- where a superblock leads that is put into an empty slot: it stands there, and nothing is kept any more
-record FillsSlot (seat : SeatFields) (d heap : ℕ) (o : Onward) (n : Next) : Type 0 where
+record FillsSlot (seat : SeatFields) (d heap : ℕ) (o : Continuation) (n : Next) : Type 0 where
   plain : LeadsOrEnds n
   weighs : WeighFrom (slot_of seat heap) 0 (d + 1) (Partial (partial.PutSlot seat d heap) o) (point_after n)
   alike : HoldsAlike (Partial (partial.PutSlot seat d heap) o) (point_after n)
@@ -302,7 +302,7 @@ record FillsSlot (seat : SeatFields) (d heap : ℕ) (o : Onward) (n : Next) : Ty
 
 -- the caller gives its block, or the free finishes: it ends where it stored no hazard word
 filled-leads :
-    (seat : SeatFields) (d heap : ℕ) (o : Onward) → IsTrue (fills o) → FillsSlot seat d heap o (enter_partial (partial.SlotFilled seat) o)
+    (seat : SeatFields) (d heap : ℕ) (o : Continuation) → IsTrue (fills o) → FillsSlot seat d heap o (enter_partial (partial.SlotFilled seat) o)
 unfolding holds_of recalls_of
 filled-leads seat d heap (GiveBlock need site i) is = grind (arith)
 filled-leads seat d heap (Finish true) is = grind (arith)
@@ -311,23 +311,23 @@ filled-leads seat d heap o is = absurd (true≢false (sym is))
 
 -- so the state stays sound where the slot was empty
 put_slot_filled-sound :
-    (g : Geometry) (s : State) (who : ℕ) (s' : State) (seat : SeatFields) (d heap : ℕ) (o : Onward) → IsSoundWithoutCounts g s → who < g.callers
-    → (s.errand who).point ≡ Partial (partial.PutSlot seat d heap) o → s.word (slot_of seat heap) ≡ 0 → Step s who s' → IsSoundWithoutCounts g s'
+    (g : Geometry) (s : State) (caller : ℕ) (s' : State) (seat : SeatFields) (d heap : ℕ) (o : Continuation) → IsSoundWithoutCounts g s → caller < g.callers
+    → (s.errand caller).point ≡ Partial (partial.PutSlot seat d heap) o → s.word (slot_of seat heap) ≡ 0 → Step s caller s' → IsSoundWithoutCounts g s'
 unfolding plan_point_of next_of event_of
-put_slot_filled-sound g s who s' seat d heap o sound has at bare step =
+put_slot_filled-sound g s caller s' seat d heap o sound has at bare step =
     let p = Partial (partial.PutSlot seat d heap) o in
-    let fills = filled-leads seat d heap o (fits-now g s who p sound has at).goes in
-    step-from g s who s' p (enter_partial (partial.SlotFilled seat) o) fills.plain sound has at
+    let fills = filled-leads seat d heap o (fits-now g s caller p sound has at).goes in
+    step-from g s caller s' p (enter_partial (partial.SlotFilled seat) o) fills.plain sound has at
     (λ l old. record {
       next = rw bare refl;
       event = refl;
       cleared = refl;
       goes =
-          alike-goes g s l who p _ old has at fills.alike (subst (All (λ k. IsKeptAs s k.status k.desc k.class)) (sym fills.kept) (none-kept-as s))
-          (subst (All (IsSo g s l who)) (sym fills.recalls) (so-at g s l who p old has at));
+          alike-goes g s l caller p _ old has at fills.alike (subst (All (λ k. IsKeptAs s k.status k.desc k.class)) (sym fills.kept) (none-kept-as s))
+          (subst (All (IsSo g s l caller)) (sym fills.recalls) (so-at g s l caller p old has at));
       weigh = rw bare fills.weighs;
-      below = put-below g s l who seat d heap o sound.checked old has at;
-      actives = λ words' w. put-actives g s l who seat d heap o words' old has at w;
+      below = put-below g s l caller seat d heap o sound.checked old has at;
+      actives = λ words' w. put-actives g s l caller seat d heap o words' old has at w;
     })
     step
 
@@ -338,41 +338,41 @@ displaced-next :
 displaced-next g seat d heap other same within = grind (arith, nat_tests)
 
 put_slot_displaced-sound :
-    (g : Geometry) (s : State) (who : ℕ) (s' : State) (seat : SeatFields) (d heap other : ℕ) (o : Onward) → IsSoundWithoutCounts g s → who < g.callers
-    → (s.errand who).point ≡ Partial (partial.PutSlot seat d heap) o → s.word (slot_of seat heap) ≡ other + 1 → Step s who s'
+    (g : Geometry) (s : State) (caller : ℕ) (s' : State) (seat : SeatFields) (d heap other : ℕ) (o : Continuation) → IsSoundWithoutCounts g s → caller < g.callers
+    → (s.errand caller).point ≡ Partial (partial.PutSlot seat d heap) o → s.word (slot_of seat heap) ≡ other + 1 → Step s caller s'
     → IsSoundWithoutCounts g s'
 unfolding plan_point_of next_of event_of holds_of recalls_of
-put_slot_displaced-sound g s who s' seat d heap other o sound has at there step =
+put_slot_displaced-sound g s caller s' seat d heap other o sound has at there step =
     let p = Partial (partial.PutSlot seat d heap) o in
-    let exists : (heap < g.heaps) × (seat.class < CLASSES) = exists-at g s who p sound has at in
-    step-from g s who s' p (At (Stack (stack.LoadTopToPush seat Partials other) o)) tt sound has at
+    let exists : (heap < g.heaps) × (seat.class < CLASSES) = exists-at g s caller p sound has at in
+    step-from g s caller s' p (At (Stack (stack.LoadTopToPush seat Partials other) o)) tt sound has at
     (λ l old.
-    let fits = fits-at g s l who p old has at in
+    let fits = fits-at g s l caller p old has at in
     let kept = old.kept.slot heap seat.class other exists.0 exists.1 there in
     let this : Kept = record { desc = d; class = seat.class; status = partly_used } in
     let rest =
-    All-tail (λ (k : Kept). IsKeptAs s k.status k.desc k.class) this (onward_holds seat o).kept (kept-at g s l who p old has at) in
+    All-tail (λ (k : Kept). IsKeptAs s k.status k.desc k.class) this (continuation_holds seat o).kept (kept-at g s l caller p old has at) in
     record {
       next = rw (there, displaced-next g seat d heap other fits.point.seat.geometry kept.0) refl;
       event = refl;
       cleared = refl;
       goes =
-          alike-goes g s l who p _ old has at (grind (arith, fits.goes))
-          (keeps-too s other seat.class (onward_holds seat o).kept kept.1 rest) (so-at g s l who p old has at);
+          alike-goes g s l caller p _ old has at (grind (arith, fits.goes))
+          (keeps-too s other seat.class (continuation_holds seat o).kept kept.1 rest) (so-at g s l caller p old has at);
       weigh = rw there (grind (arith));
-      below = put-below g s l who seat d heap o sound.checked old has at;
-      actives = λ words' w. put-actives g s l who seat d heap o words' old has at w;
+      below = put-below g s l caller seat d heap o sound.checked old has at;
+      actives = λ words' w. put-actives g s l caller seat d heap o words' old has at w;
     })
     step
 
 -- a superblock is put into a slot
 pub put_slot-sound :
-    (g : Geometry) (s : State) (who : ℕ) (s' : State) (seat : SeatFields) (d heap : ℕ) (o : Onward) → IsSoundWithoutCounts g s → who < g.callers
-    → (s.errand who).point ≡ Partial (partial.PutSlot seat d heap) o → Step s who s' → IsSoundWithoutCounts g s'
-put_slot-sound g s who s' seat d heap o sound has at step =
+    (g : Geometry) (s : State) (caller : ℕ) (s' : State) (seat : SeatFields) (d heap : ℕ) (o : Continuation) → IsSoundWithoutCounts g s → caller < g.callers
+    → (s.errand caller).point ≡ Partial (partial.PutSlot seat d heap) o → Step s caller s' → IsSoundWithoutCounts g s'
+put_slot-sound g s caller s' seat d heap o sound has at step =
     elim (cases_eq (s.word (slot_of seat heap)) 0) [
-      | inl bare ↦ put_slot_filled-sound g s who s' seat d heap o sound has at bare step
-      | inr held ↦ put_slot_displaced-sound g s who s' seat d heap (s.word (slot_of seat heap) - 1) o sound has at (omega (arith, held)) step
+      | inl bare ↦ put_slot_filled-sound g s caller s' seat d heap o sound has at bare step
+      | inr held ↦ put_slot_displaced-sound g s caller s' seat d heap (s.word (slot_of seat heap) - 1) o sound has at (omega (arith, held)) step
     ]
 
 -- the second superblock from the list is EMPTY: it is kept until the first one stands on the list again
@@ -402,31 +402,31 @@ keeps-listed e seat d first at =
 
 -- the second superblock from the list is EMPTY and is kept until the first one stands on the list again, or it isn't
 pub load_second-sound :
-    (g : Geometry) (s : State) (who : ℕ) (s' : State) (seat : SeatFields) (d first : ℕ) → IsSoundWithoutCounts g s → who < g.callers
-    → (s.errand who).point ≡ Partial (partial.LoadListedAnchor seat d) (ClearSecond first) → Step s who s' → IsSoundWithoutCounts g s'
+    (g : Geometry) (s : State) (caller : ℕ) (s' : State) (seat : SeatFields) (d first : ℕ) → IsSoundWithoutCounts g s → caller < g.callers
+    → (s.errand caller).point ≡ Partial (partial.LoadListedAnchor seat d) (ClearSecond first) → Step s caller s' → IsSoundWithoutCounts g s'
 unfolding plan_point_of next_of event_of holds_of recalls_of
-load_second-sound g s who s' seat d first sound has at step =
+load_second-sound g s caller s' seat d first sound has at step =
     elim (cases_Bool (is_empty (anchor_for s d).state)) [
       | inl bare ↦
           let p = Partial (partial.LoadListedAnchor seat d) (ClearSecond first) in
           let this : Kept = record { desc = d; class = seat.class; status = partly_used } in
           let other : Kept = record { desc = first; class = seat.class; status = partly_used } in
-          steady-at g s who s' p sound has at (record { event = refl; cleared = refl; word = refl })
+          steady-at g s caller s' p sound has at (record { event = refl; cleared = refl; word = refl })
           (rw bare (record {
             plain = tt;
             weighs = λ w. listed-weighs w seat d first;
             goes = λ l old.
-                let kept = kept-at g s l who p old has at in
-                let fits = (fits-at g s l who p old has at).point in
-                let alone = keeps-alone g s l who d old has fits.desc (keeps-listed (s.errand who) seat d first at) in
+                let kept = kept-at g s l caller p old has at in
+                let fits = (fits-at g s l caller p old has at).point in
+                let alone = keeps-alone g s l caller d old has fits.desc (keeps-listed (s.errand caller) seat d first at) in
                 let so : IsEmptied g s l d = record { state = empty-is (anchor_for s d).state bare; unavailable = alone.0; standing = alone.1 } in
-                alike-goes g s l who p _ old has at (grind (arith))
+                alike-goes g s l caller p _ old has at (grind (arith))
                 (keeps-too s first seat.class (this ∷ []) (kept 1 other (omega arith))
                 (keeps-too s d seat.class [] (kept 0 this (omega arith)) (none-kept-as s)))
-                (All-cons (IsSo g s l who) (emptied d) [] so (All-nil (IsSo g s l who)));
+                (All-cons (IsSo g s l caller) (emptied d) [] so (All-nil (IsSo g s l caller)));
           })) step
       | inr used ↦
-          quiet-at g s who s' (Partial (partial.LoadListedAnchor seat d) (ClearSecond first)) sound has at
+          quiet-at g s caller s' (Partial (partial.LoadListedAnchor seat d) (ClearSecond first)) sound has at
           (record { event = refl; cleared = refl; word = refl })
-          (rw used (leads-on g s who _ _ 0 has at (grind (arith)))) step
+          (rw used (leads-on g s caller _ _ 0 has at (grind (arith)))) step
     ]

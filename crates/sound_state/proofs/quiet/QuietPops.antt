@@ -14,7 +14,7 @@ use Rattle.superblock_parts.specs.declared.point.Share.{Share}
 use Rattle.superblock_parts.specs.declared.point.Share.TheVariants.{Credit, LastCredit, Grant}
 use Rattle.superblock_parts.specs.Points.{after_info, after_anchor, after_return_anchor}
 use Rattle.superblock_parts.proofs.ChainLemmas.{chain_of-first, occurs-here}
-use Rattle.errand_steps.specs.declared.onward.Onward.{Onward}
+use Rattle.errand_steps.specs.declared.continuation.Continuation.{Continuation}
 use Rattle.errand_steps.specs.declared.point.Point.{Point}
 use Rattle.errand_steps.specs.declared.point.Point.TheVariants.{Block}
 use Rattle.errand_steps.specs.Events.{event_of}
@@ -37,29 +37,29 @@ info-said g (Some i) info is = grind (arith)
 
 -- where a descriptor's word leads, by what it says
 info-leads :
-    (g : Geometry) (s : State) (who : ℕ) (seat : SeatFields) (d : ℕ) (share : Share) (o : Onward) (said : Option InfoFields) → who < g.callers
-    → (s.errand who).point ≡ Block (block.LoadInfo seat d share) o → info_in seat.geometry (s.word (name.Info d)) ≡ said
-    → LeadsQuietly g s who (Block (block.LoadInfo seat d share) o) (enter_block (after_info seat d share said) o)
+    (g : Geometry) (s : State) (caller : ℕ) (seat : SeatFields) (d : ℕ) (share : Share) (o : Continuation) (said : Option InfoFields) → caller < g.callers
+    → (s.errand caller).point ≡ Block (block.LoadInfo seat d share) o → info_in seat.geometry (s.word (name.Info d)) ≡ said
+    → LeadsQuietly g s caller (Block (block.LoadInfo seat d share) o) (enter_block (after_info seat d share said) o)
 unfolding holds_of recalls_of
-info-leads g s who seat d share o None has at is = leads-on g s who _ _ 0 has at (grind (arith))
-info-leads g s who seat d share o (Some info) has at is = record {
+info-leads g s caller seat d share o None has at is = leads-on g s caller _ _ 0 has at (grind (arith))
+info-leads g s caller seat d share o (Some info) has at is = record {
   plain = tt;
   holds = grind (arith);
   so = λ l old.
       let says : info_for s d ≡ info = info-said seat.geometry (info_of (s.word (name.Info d))) info is in
-      let bound = All-head (IsSo g s l who) (bound_for d seat.class) [] (so-at g s l who (Block (block.LoadInfo seat d share) o) old has at) in
-      All-cons (IsSo g s l who) (bound_at d info.frame seat.class) []
-      (bound.0, record { frame = ap (λ (x : InfoFields). x.frame) says; class = bound.1 }) (All-nil (IsSo g s l who));
+      let bound = All-head (IsSo g s l caller) (bound_for d seat.class) [] (so-at g s l caller (Block (block.LoadInfo seat d share) o) old has at) in
+      All-cons (IsSo g s l caller) (bound_at d info.frame seat.class) []
+      (bound.0, record { frame = ap (λ (x : InfoFields). x.frame) says; class = bound.1 }) (All-nil (IsSo g s l caller));
 }
 
 -- the load of a descriptor's word
 pub load_info-sound :
-    (g : Geometry) (s : State) (who : ℕ) (s' : State) (seat : SeatFields) (d : ℕ) (share : Share) (o : Onward) → IsSoundWithoutCounts g s
-    → who < g.callers → (s.errand who).point ≡ Block (block.LoadInfo seat d share) o → Step s who s' → IsSoundWithoutCounts g s'
+    (g : Geometry) (s : State) (caller : ℕ) (s' : State) (seat : SeatFields) (d : ℕ) (share : Share) (o : Continuation) → IsSoundWithoutCounts g s
+    → caller < g.callers → (s.errand caller).point ≡ Block (block.LoadInfo seat d share) o → Step s caller s' → IsSoundWithoutCounts g s'
 unfolding plan_point_of next_of event_of
-load_info-sound g s who s' seat d share o sound has at step =
-    quiet-at g s who s' (Block (block.LoadInfo seat d share) o) sound has at (record { event = refl; cleared = refl; word = refl })
-    (info-leads g s who seat d share o (info_in seat.geometry (s.word (name.Info d))) has at refl) step
+load_info-sound g s caller s' seat d share o sound has at step =
+    quiet-at g s caller s' (Block (block.LoadInfo seat d share) o) sound has at (record { event = refl; cleared = refl; word = refl })
+    (info-leads g s caller seat d share o (info_in seat.geometry (s.word (name.Info d))) has at refl) step
 
 -- who is about to pop has reserved a block
 before-reserves : (d class : ℕ) (share : Share) → 0 < reserved_among d (holds_before_pop d class share).credits
@@ -69,13 +69,13 @@ before-reserves d class (Grant more) = grind (arith)
 
 -- so the superblock has a free block
 caller-reserves :
-    (g : Geometry) (s : State) (who d : ℕ) (p : Point) → who < g.callers → (s.errand who).point ≡ p
+    (g : Geometry) (s : State) (caller d : ℕ) (p : Point) → caller < g.callers → (s.errand caller).point ≡ p
     → 0 < reserved_among d (holds_of p).credits → 0 < reserved_of g s d
 unfolding callers_sum
-caller-reserves g s who d p has at some =
-    let own : errand_reserves d (s.errand who) ≡ reserved_among d (holds_of p).credits =
+caller-reserves g s caller d p has at some =
+    let own : errand_reserves d (s.errand caller) ≡ reserved_among d (holds_of p).credits =
     ap (λ q. reserved_among d (holds_of q).credits) at in
-    omega (arith, some, own, term-sum g.callers (λ i. errand_reserves d (s.errand i)) who has)
+    omega (arith, some, own, term-sum g.callers (λ i. errand_reserves d (s.errand i)) caller has)
 
 chain-first :
     (g : Geometry) (s : State) (d : ℕ) → 0 < reserved_of g s d → 0 < occurs (anchor_for s d).avail (free_chain (superblock_of g s d))
@@ -91,55 +91,55 @@ anchor-said class word a is = grind (arith, is)
 
 -- where an anchor leads that is read for a pop, by what it says
 anchor-leads :
-    (g : Geometry) (s : State) (who : ℕ) (site : Site) (share : Share) (o : Onward) (said : Option AnchorFields) → who < g.callers
-    → (s.errand who).point ≡ Block (block.LoadAnchor site share) o → anchor_in site.seat.class (s.word (name.Anchor site.desc)) ≡ said
-    → LeadsQuietly g s who (Block (block.LoadAnchor site share) o) (enter_block (after_anchor site share said) o)
+    (g : Geometry) (s : State) (caller : ℕ) (site : Site) (share : Share) (o : Continuation) (said : Option AnchorFields) → caller < g.callers
+    → (s.errand caller).point ≡ Block (block.LoadAnchor site share) o → anchor_in site.seat.class (s.word (name.Anchor site.desc)) ≡ said
+    → LeadsQuietly g s caller (Block (block.LoadAnchor site share) o) (enter_block (after_anchor site share said) o)
 unfolding holds_of recalls_of
-anchor-leads g s who site share o None has at is = leads-on g s who _ _ 0 has at (grind (arith))
-anchor-leads g s who site share o (Some a) has at is = record {
+anchor-leads g s caller site share o None has at is = leads-on g s caller _ _ 0 has at (grind (arith))
+anchor-leads g s caller site share o (Some a) has at is = record {
   plain = tt;
   holds = grind (arith);
   so = λ l old.
       let says : a ≡ anchor_for s site.desc = anchor-said site.seat.class (s.word (name.Anchor site.desc)) a is in
       let some : 0 < reserved_of g s site.desc =
-      caller-reserves g s who site.desc (Block (block.LoadAnchor site share) o) has at (before-reserves site.desc site.seat.class share) in
-      All-cons (IsSo g s l who) (pops site.desc a) (bound_here site)
+      caller-reserves g s caller site.desc (Block (block.LoadAnchor site share) o) has at (before-reserves site.desc site.seat.class share) in
+      All-cons (IsSo g s l caller) (pops site.desc a) (bound_here site)
       (subst (IsPopped (superblock_of g s site.desc)) (sym says) (record { tag = omega arith; first = λ same. chain-first g s site.desc some }))
-      (so-at g s l who (Block (block.LoadAnchor site share) o) old has at);
+      (so-at g s l caller (Block (block.LoadAnchor site share) o) old has at);
 }
 
 -- the load of an anchor for a pop
 pub load_anchor-sound :
-    (g : Geometry) (s : State) (who : ℕ) (s' : State) (site : Site) (share : Share) (o : Onward) → IsSoundWithoutCounts g s → who < g.callers
-    → (s.errand who).point ≡ Block (block.LoadAnchor site share) o → Step s who s' → IsSoundWithoutCounts g s'
+    (g : Geometry) (s : State) (caller : ℕ) (s' : State) (site : Site) (share : Share) (o : Continuation) → IsSoundWithoutCounts g s → caller < g.callers
+    → (s.errand caller).point ≡ Block (block.LoadAnchor site share) o → Step s caller s' → IsSoundWithoutCounts g s'
 unfolding plan_point_of next_of event_of
-load_anchor-sound g s who s' site share o sound has at step =
-    quiet-at g s who s' (Block (block.LoadAnchor site share) o) sound has at (record { event = refl; cleared = refl; word = refl })
-    (anchor-leads g s who site share o (anchor_in site.seat.class (s.word (name.Anchor site.desc))) has at refl) step
+load_anchor-sound g s caller s' site share o sound has at step =
+    quiet-at g s caller s' (Block (block.LoadAnchor site share) o) sound has at (record { event = refl; cleared = refl; word = refl })
+    (anchor-leads g s caller site share o (anchor_in site.seat.class (s.word (name.Anchor site.desc))) has at refl) step
 
 -- the load of a link
 pub load_link-sound :
-    (g : Geometry) (s : State) (who : ℕ) (s' : State) (site : Site) (share : Share) (a : AnchorFields) (o : Onward) → IsSoundWithoutCounts g s
-    → who < g.callers → (s.errand who).point ≡ Block (block.LoadLink site share a) o → Step s who s' → IsSoundWithoutCounts g s'
+    (g : Geometry) (s : State) (caller : ℕ) (s' : State) (site : Site) (share : Share) (a : AnchorFields) (o : Continuation) → IsSoundWithoutCounts g s
+    → caller < g.callers → (s.errand caller).point ≡ Block (block.LoadLink site share a) o → Step s caller s' → IsSoundWithoutCounts g s'
 unfolding plan_point_of next_of event_of holds_of recalls_of
-load_link-sound g s who s' site share a o sound has at step =
+load_link-sound g s caller s' site share a o sound has at step =
     let prefix : ℕ = s.word (prefix_name site.frame site.seat.class a.avail) in
-    quiet-at g s who s' (Block (block.LoadLink site share a) o) sound has at (record { event = refl; cleared = refl; word = refl })
+    quiet-at g s caller s' (Block (block.LoadLink site share a) o) sound has at (record { event = refl; cleared = refl; word = refl })
     (record {
       plain = tt;
       holds = grind (arith);
       so = λ l old.
-          let all = so-at g s l who (Block (block.LoadLink site share a) o) old has at in
+          let all = so-at g s l caller (Block (block.LoadLink site share a) o) old has at in
           let located : IsLocated s site.desc site.frame site.seat.class =
-          (All-head (IsSo g s l who) (bound_at site.desc site.frame site.seat.class) [] (All-tail (IsSo g s l who) (pops site.desc a) (bound_here site) all)).1 in
-          All-cons (IsSo g s l who) (links site.desc a prefix) (pops site.desc a ∷ bound_here site)
+          (All-head (IsSo g s l caller) (bound_at site.desc site.frame site.seat.class) [] (All-tail (IsSo g s l caller) (pops site.desc a) (bound_here site) all)).1 in
+          All-cons (IsSo g s l caller) (links site.desc a prefix) (pops site.desc a ∷ bound_here site)
           (λ same. rw (located.frame, located.class) refl) all;
     })
     step
 
 -- where an anchor leads that is read for a return
 return_anchor-leads :
-    (site : Site) (i more : ℕ) (o : Onward) (said : Option AnchorFields)
+    (site : Site) (i more : ℕ) (o : Continuation) (said : Option AnchorFields)
     → LeadsOn (Block (block.LoadReturn site i more) o) (enter_block (after_return_anchor site i more said) o) 0
 unfolding holds_of recalls_of
 return_anchor-leads site i more o None = grind (arith)
@@ -147,9 +147,9 @@ return_anchor-leads site i more o (Some a) = grind (arith)
 
 -- the load of an anchor for a return
 pub load_return-sound :
-    (g : Geometry) (s : State) (who : ℕ) (s' : State) (site : Site) (i more : ℕ) (o : Onward) → IsSoundWithoutCounts g s → who < g.callers
-    → (s.errand who).point ≡ Block (block.LoadReturn site i more) o → Step s who s' → IsSoundWithoutCounts g s'
+    (g : Geometry) (s : State) (caller : ℕ) (s' : State) (site : Site) (i more : ℕ) (o : Continuation) → IsSoundWithoutCounts g s → caller < g.callers
+    → (s.errand caller).point ≡ Block (block.LoadReturn site i more) o → Step s caller s' → IsSoundWithoutCounts g s'
 unfolding plan_point_of next_of event_of
-load_return-sound g s who s' site i more o sound has at step =
-    quiet-at g s who s' (Block (block.LoadReturn site i more) o) sound has at (record { event = refl; cleared = refl; word = refl })
-    (leads-on g s who _ _ 0 has at (return_anchor-leads site i more o (anchor_in site.seat.class (s.word (name.Anchor site.desc))))) step
+load_return-sound g s caller s' site i more o sound has at step =
+    quiet-at g s caller s' (Block (block.LoadReturn site i more) o) sound has at (record { event = refl; cleared = refl; word = refl })
+    (leads-on g s caller _ _ 0 has at (return_anchor-leads site i more o (anchor_in site.seat.class (s.word (name.Anchor site.desc))))) step

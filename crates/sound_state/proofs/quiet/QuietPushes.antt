@@ -22,7 +22,7 @@ use Rattle.word_plan.specs.Seats.{SeatFields, info_in, anchor_in}
 use Rattle.superblock_parts.specs.Anchors.{is_last}
 use Rattle.superblock_parts.specs.declared.point.BlockPoint.TheVariants as block
 use Rattle.superblock_parts.specs.Points.{after_prefix, after_push_anchor, after_owner}
-use Rattle.errand_steps.specs.declared.onward.Onward.{Onward}
+use Rattle.errand_steps.specs.declared.continuation.Continuation.{Continuation}
 use Rattle.errand_steps.specs.declared.point.Point.{Point}
 use Rattle.errand_steps.specs.declared.point.Point.TheVariants.{Block}
 use Rattle.errand_steps.specs.declared.next.Next.TheVariants.{At}
@@ -42,7 +42,7 @@ use Rattle.sound_state.proofs.shared.PointLemmas.{blocks-go, fits-at, hazard-at,
 
 -- where the word of a guarded descriptor leads
 guarded-owner-leads :
-    (site : Site) (i : ℕ) (a : AnchorFields) (o : Onward) (said : Option InfoFields)
+    (site : Site) (i : ℕ) (a : AnchorFields) (o : Continuation) (said : Option InfoFields)
     → LeadsOn (Block (block.LoadOwner site i a) o) (enter_block (after_owner site i a said) o) 0
 unfolding holds_of recalls_of
 guarded-owner-leads site i a o None = grind (arith)
@@ -50,12 +50,12 @@ guarded-owner-leads site i a o (Some info) = grind (arith)
 
 -- the load of the owner
 pub load_guarded_owner-sound :
-    (g : Geometry) (s : State) (who : ℕ) (s' : State) (site : Site) (i : ℕ) (a : AnchorFields) (o : Onward) → IsSoundWithoutCounts g s
-    → who < g.callers → (s.errand who).point ≡ Block (block.LoadOwner site i a) o → Step s who s' → IsSoundWithoutCounts g s'
+    (g : Geometry) (s : State) (caller : ℕ) (s' : State) (site : Site) (i : ℕ) (a : AnchorFields) (o : Continuation) → IsSoundWithoutCounts g s
+    → caller < g.callers → (s.errand caller).point ≡ Block (block.LoadOwner site i a) o → Step s caller s' → IsSoundWithoutCounts g s'
 unfolding plan_point_of next_of event_of
-load_guarded_owner-sound g s who s' site i a o sound has at step =
-    quiet-at g s who s' (Block (block.LoadOwner site i a) o) sound has at (record { event = refl; cleared = refl; word = refl })
-    (leads-on g s who _ _ 0 has at (guarded-owner-leads site i a o (info_in site.seat.geometry (s.word (name.Info site.desc))))) step
+load_guarded_owner-sound g s caller s' site i a o sound has at step =
+    quiet-at g s caller s' (Block (block.LoadOwner site i a) o) sound has at (record { event = refl; cleared = refl; word = refl })
+    (leads-on g s caller _ _ 0 has at (guarded-owner-leads site i a o (info_in site.seat.geometry (s.word (name.Info site.desc))))) step
 
 -- a small prefix word is twice its descriptor
 small-prefix-word : (word d : ℕ) → word < 2 ^ 64 → prefix_of word ≡ Some (Small d) → word ≡ 2 * d
@@ -66,14 +66,14 @@ small-prefix-word word d below is =
 
 -- the block that is freed is one of the superblock that its prefix word names
 prefix-names :
-    (g : Geometry) (s : State) (l : Lists) (who : ℕ) (seat : SeatFields) (frame i : ℕ) (o : Onward) (d : ℕ) → IsSoundWith g s l
-    → who < g.callers → (s.errand who).point ≡ Block (block.LoadPrefix seat frame i) o
+    (g : Geometry) (s : State) (l : Lists) (caller : ℕ) (seat : SeatFields) (frame i : ℕ) (o : Continuation) (d : ℕ) → IsSoundWith g s l
+    → caller < g.callers → (s.errand caller).point ≡ Block (block.LoadPrefix seat frame i) o
     → prefix_of (s.word (name.Arena (block_place frame seat.class i))) ≡ Some (Small d)
     → IsTrue (is_bound g s l d) × IsLocated s d frame seat.class
-prefix-names g s l who seat frame i o d old has at is =
+prefix-names g s l caller seat frame i o d old has at is =
     let place : ℕ = block_place frame seat.class i in
-    let fit = (fits-at g s l who (Block (block.LoadPrefix seat frame i) o) old has at).point in
-    let (e, of, says) = prefix-ties g s l who seat frame i o old has at in
+    let fit = (fits-at g s l caller (Block (block.LoadPrefix seat frame i) o) old has at).point in
+    let (e, of, says) = prefix-ties g s l caller seat frame i o old has at in
     let same : e ≡ d = omega (arith, says, small-prefix-word (s.word (name.Arena place)) d (old.words (name.Arena place)) is) in
     let located : IsLocated s d (frame_of place) seat.class = subst (λ e. IsLocated s e (frame_of place) seat.class) same of.located in (
       subst (λ e. IsTrue (is_bound g s l e)) same of.bound,
@@ -82,20 +82,20 @@ prefix-names g s l who seat frame i o d old has at is =
 
 -- where a small prefix of one of the heap's descriptors leads
 small-prefix-leads :
-    (g : Geometry) (s : State) (who : ℕ) (seat : SeatFields) (frame i : ℕ) (o : Onward) (d : ℕ) → who < g.callers
-    → (s.errand who).point ≡ Block (block.LoadPrefix seat frame i) o → prefix_of (s.word (name.Arena (block_place frame seat.class i))) ≡ Some
+    (g : Geometry) (s : State) (caller : ℕ) (seat : SeatFields) (frame i : ℕ) (o : Continuation) (d : ℕ) → caller < g.callers
+    → (s.errand caller).point ≡ Block (block.LoadPrefix seat frame i) o → prefix_of (s.word (name.Arena (block_place frame seat.class i))) ≡ Some
     (Small d)
-    → StepsSteadily g s who (Block (block.LoadPrefix seat frame i) o)
+    → StepsSteadily g s caller (Block (block.LoadPrefix seat frame i) o)
     (At (Block (block.LoadPushAnchor (record { seat = seat; desc = d; frame = frame }) i false) o))
 unfolding holds_of recalls_of
-small-prefix-leads g s who seat frame i o d has at is = record {
+small-prefix-leads g s caller seat frame i o d has at is = record {
   plain = tt;
   weighs = λ w. weigh-stays _ w _ _ refl refl refl (λ class. refl);
   goes = λ l old. record {
     kept = All-nil _;
-    so = All-cons (IsSo g s l who) (bound_at d frame seat.class) [] (prefix-names g s l who seat frame i o d old has at is)
-        (All-nil (IsSo g s l who));
-    hazard = hazard-at g s l who (Block (block.LoadPrefix seat frame i) o) old has at;
+    so = All-cons (IsSo g s l caller) (bound_at d frame seat.class) [] (prefix-names g s l caller seat frame i o d old has at is)
+        (All-nil (IsSo g s l caller));
+    hazard = hazard-at g s l caller (Block (block.LoadPrefix seat frame i) o) old has at;
     guard = λ d word guard. guard;
     pushed = refl;
     passed = refl;
@@ -103,9 +103,9 @@ small-prefix-leads g s who seat frame i o d has at is = record {
     spare = refl;
     hands = All-nil _;
     frees =
-        All-cons (λ (b : Freed). IsOwned s who b.place b.need)
+        All-cons (λ (b : Freed). IsOwned s caller b.place b.need)
         (record { place = block_place frame seat.class i; need = need.Small seat.class; overwritten = true }) []
-        (begins-owned g s l who seat frame i o old has at) (All-nil _);
+        (begins-owned g s l caller seat frame i o old has at) (All-nil _);
     excepts = λ place x. absurd (begins-free seat frame i o place x);
     turn = grind (arith);
   };
@@ -113,31 +113,31 @@ small-prefix-leads g s who seat frame i o d has at is = record {
 
 -- one that isn't expected leaves the caller where it is
 prefix-stays :
-    (g : Geometry) (s : State) (who : ℕ) (seat : SeatFields) (frame i : ℕ) (o : Onward) → who < g.callers → (s.errand who).point ≡ Block
+    (g : Geometry) (s : State) (caller : ℕ) (seat : SeatFields) (frame i : ℕ) (o : Continuation) → caller < g.callers → (s.errand caller).point ≡ Block
     (block.LoadPrefix seat frame i) o
-    → StepsSteadily g s who (Block (block.LoadPrefix seat frame i) o) (At (Block (block.LoadPrefix seat frame i) o))
+    → StepsSteadily g s caller (Block (block.LoadPrefix seat frame i) o) (At (Block (block.LoadPrefix seat frame i) o))
 unfolding holds_of recalls_of
-prefix-stays g s who seat frame i o has at = quiet-steady g s who _ _ has at (leads-on g s who _ _ 0 has at (grind (arith)))
+prefix-stays g s caller seat frame i o has at = quiet-steady g s caller _ _ has at (leads-on g s caller _ _ 0 has at (grind (arith)))
 
 prefix-said :
-    (g : Geometry) (s : State) (who : ℕ) (seat : SeatFields) (frame i : ℕ) (o : Onward) (said : Option Prefix) → who < g.callers
-    → (s.errand who).point ≡ Block (block.LoadPrefix seat frame i) o → prefix_of (s.word (name.Arena (block_place frame seat.class i))) ≡ said
-    → StepsSteadily g s who (Block (block.LoadPrefix seat frame i) o) (enter_block (after_prefix seat frame i said) o)
-prefix-said g s who seat frame i o None has at is = prefix-stays g s who seat frame i o has at
-prefix-said g s who seat frame i o (Some (Large units)) has at is = prefix-stays g s who seat frame i o has at
-prefix-said g s who seat frame i o (Some (Small d)) has at is =
+    (g : Geometry) (s : State) (caller : ℕ) (seat : SeatFields) (frame i : ℕ) (o : Continuation) (said : Option Prefix) → caller < g.callers
+    → (s.errand caller).point ≡ Block (block.LoadPrefix seat frame i) o → prefix_of (s.word (name.Arena (block_place frame seat.class i))) ≡ said
+    → StepsSteadily g s caller (Block (block.LoadPrefix seat frame i) o) (enter_block (after_prefix seat frame i said) o)
+prefix-said g s caller seat frame i o None has at is = prefix-stays g s caller seat frame i o has at
+prefix-said g s caller seat frame i o (Some (Large units)) has at is = prefix-stays g s caller seat frame i o has at
+prefix-said g s caller seat frame i o (Some (Small d)) has at is =
     cond_both (nat_lt d (descriptor_count seat.geometry)) (block.LoadPushAnchor (record { seat = seat; desc = d; frame = frame }) i false)
-    (block.LoadPrefix seat frame i) (λ q. StepsSteadily g s who (Block (block.LoadPrefix seat frame i) o) (enter_block q o))
-    (λ exists. small-prefix-leads g s who seat frame i o d has at is) (λ none. prefix-stays g s who seat frame i o has at)
+    (block.LoadPrefix seat frame i) (λ q. StepsSteadily g s caller (Block (block.LoadPrefix seat frame i) o) (enter_block q o))
+    (λ exists. small-prefix-leads g s caller seat frame i o d has at is) (λ none. prefix-stays g s caller seat frame i o has at)
 
 -- the load of a prefix word
 pub load_prefix-sound :
-    (g : Geometry) (s : State) (who : ℕ) (s' : State) (seat : SeatFields) (frame i : ℕ) (o : Onward) → IsSoundWithoutCounts g s → who < g.callers
-    → (s.errand who).point ≡ Block (block.LoadPrefix seat frame i) o → Step s who s' → IsSoundWithoutCounts g s'
+    (g : Geometry) (s : State) (caller : ℕ) (s' : State) (seat : SeatFields) (frame i : ℕ) (o : Continuation) → IsSoundWithoutCounts g s → caller < g.callers
+    → (s.errand caller).point ≡ Block (block.LoadPrefix seat frame i) o → Step s caller s' → IsSoundWithoutCounts g s'
 unfolding plan_point_of next_of event_of
-load_prefix-sound g s who s' seat frame i o sound has at step =
-    steady-at g s who s' (Block (block.LoadPrefix seat frame i) o) sound has at (record { event = refl; cleared = refl; word = refl })
-    (prefix-said g s who seat frame i o (prefix_of (s.word (name.Arena (block_place frame seat.class i)))) has at refl) step
+load_prefix-sound g s caller s' seat frame i o sound has at step =
+    steady-at g s caller s' (Block (block.LoadPrefix seat frame i) o) sound has at (record { event = refl; cleared = refl; word = refl })
+    (prefix-said g s caller seat frame i o (prefix_of (s.word (name.Arena (block_place frame seat.class i)))) has at refl) step
 
 -- a hazard word that names a descriptor was stored
 stored-guards : (stored : Bool) (e d word : ℕ) → IsHazard (if_stored stored e) word → word ≡ d + 1 → IsGuard (if_stored stored e)
@@ -146,39 +146,39 @@ stored-guards false e d word hazard names = omega (arith, hazard, names)
 
 -- where an anchor leads that is read for a push: of one that makes the superblock empty
 push_anchor-last :
-    (g : Geometry) (s : State) (who : ℕ) (site : Site) (i : ℕ) (stored : Bool) (o : Onward) (a : AnchorFields) → who < g.callers
-    → (s.errand who).point ≡ Block (block.LoadPushAnchor site i stored) o → StepsSteadily g s who (Block (block.LoadPushAnchor site i stored) o)
+    (g : Geometry) (s : State) (caller : ℕ) (site : Site) (i : ℕ) (stored : Bool) (o : Continuation) (a : AnchorFields) → caller < g.callers
+    → (s.errand caller).point ≡ Block (block.LoadPushAnchor site i stored) o → StepsSteadily g s caller (Block (block.LoadPushAnchor site i stored) o)
     (At (Block (block.StoreGuard site i a) o))
 unfolding holds_of recalls_of
-push_anchor-last g s who site i stored o a has at =
+push_anchor-last g s caller site i stored o a has at =
     let p : Point = Block (block.LoadPushAnchor site i stored) o in
     record {
       plain = tt;
       weighs = λ w. weigh-stays _ w _ _ refl refl refl (λ class. refl);
       goes = λ l old.
-          blocks-go g s l who p (Block (block.StoreGuard site i a) o) old has at (grind (arith)) tt
-          (λ d word guard. stored-guards stored site.desc d (s.word (name.Hazard who)) (hazard-at g s l who p old has at) word) (All-nil _)
-          (so-at g s l who p old has at);
+          blocks-go g s l caller p (Block (block.StoreGuard site i a) o) old has at (grind (arith)) tt
+          (λ d word guard. stored-guards stored site.desc d (s.word (name.Hazard caller)) (hazard-at g s l caller p old has at) word) (All-nil _)
+          (so-at g s l caller p old has at);
     }
 
 -- and of any
 push_anchor-said :
-    (g : Geometry) (s : State) (who : ℕ) (site : Site) (i : ℕ) (stored : Bool) (o : Onward) (said : Option AnchorFields) → who < g.callers
-    → (s.errand who).point ≡ Block (block.LoadPushAnchor site i stored) o → StepsSteadily g s who (Block (block.LoadPushAnchor site i stored) o)
+    (g : Geometry) (s : State) (caller : ℕ) (site : Site) (i : ℕ) (stored : Bool) (o : Continuation) (said : Option AnchorFields) → caller < g.callers
+    → (s.errand caller).point ≡ Block (block.LoadPushAnchor site i stored) o → StepsSteadily g s caller (Block (block.LoadPushAnchor site i stored) o)
     (enter_block (after_push_anchor site i stored said) o)
 unfolding holds_of recalls_of
-push_anchor-said g s who site i stored o None has at = quiet-steady g s who _ _ has at (leads-on g s who _ _ 0 has at (grind (arith)))
-push_anchor-said g s who site i stored o (Some a) has at =
+push_anchor-said g s caller site i stored o None has at = quiet-steady g s caller _ _ has at (leads-on g s caller _ _ 0 has at (grind (arith)))
+push_anchor-said g s caller site i stored o (Some a) has at =
     cond_both (is_last site.seat.class a) (block.StoreGuard site i a) (block.StoreLink site i a stored 0)
-    (λ q. StepsSteadily g s who (Block (block.LoadPushAnchor site i stored) o) (enter_block q o))
-    (λ last. push_anchor-last g s who site i stored o a has at)
-    (λ more. quiet-steady g s who _ _ has at (leads-on g s who _ _ 0 has at (grind (arith))))
+    (λ q. StepsSteadily g s caller (Block (block.LoadPushAnchor site i stored) o) (enter_block q o))
+    (λ last. push_anchor-last g s caller site i stored o a has at)
+    (λ more. quiet-steady g s caller _ _ has at (leads-on g s caller _ _ 0 has at (grind (arith))))
 
 -- the load of an anchor for a push
 pub load_push_anchor-sound :
-    (g : Geometry) (s : State) (who : ℕ) (s' : State) (site : Site) (i : ℕ) (stored : Bool) (o : Onward) → IsSoundWithoutCounts g s → who < g.callers
-    → (s.errand who).point ≡ Block (block.LoadPushAnchor site i stored) o → Step s who s' → IsSoundWithoutCounts g s'
+    (g : Geometry) (s : State) (caller : ℕ) (s' : State) (site : Site) (i : ℕ) (stored : Bool) (o : Continuation) → IsSoundWithoutCounts g s → caller < g.callers
+    → (s.errand caller).point ≡ Block (block.LoadPushAnchor site i stored) o → Step s caller s' → IsSoundWithoutCounts g s'
 unfolding plan_point_of next_of event_of
-load_push_anchor-sound g s who s' site i stored o sound has at step =
-    steady-at g s who s' (Block (block.LoadPushAnchor site i stored) o) sound has at (record { event = refl; cleared = refl; word = refl })
-    (push_anchor-said g s who site i stored o (anchor_in site.seat.class (s.word (name.Anchor site.desc))) has at) step
+load_push_anchor-sound g s caller s' site i stored o sound has at step =
+    steady-at g s caller s' (Block (block.LoadPushAnchor site i stored) o) sound has at (record { event = refl; cleared = refl; word = refl })
+    (push_anchor-said g s caller site i stored o (anchor_in site.seat.class (s.word (name.Anchor site.desc))) has at) step

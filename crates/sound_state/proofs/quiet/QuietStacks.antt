@@ -13,15 +13,15 @@ use Rattle.stack_parts.specs.declared.point.StackPoint.TheVariants as stack
 use Rattle.stack_parts.specs.Piles.{head_name, next_name, pile_limit}
 use Rattle.stack_parts.specs.Points.{after_top, after_below}
 use Rattle.stack_parts.specs.Stacks.{Stacked, next_in}
-use Rattle.errand_steps.specs.declared.onward.Onward.{Onward}
-use Rattle.errand_steps.specs.declared.onward.Onward.TheVariants.{Clear}
+use Rattle.errand_steps.specs.declared.continuation.Continuation.{Continuation}
+use Rattle.errand_steps.specs.declared.continuation.Continuation.TheVariants.{Clear}
 use Rattle.errand_steps.specs.declared.point.Point.TheVariants.{Stack}
 use Rattle.errand_steps.specs.Events.{event_of}
 use Rattle.errand_steps.specs.Nexts.{next_of, enter_stack, found_empty}
 use Rattle.errand_steps.specs.Points.{plan_point_of}
 use Rattle.errand_steps.specs.Steps.{State, Step}
 use Rattle.sound_state.specs.Holdings.{holds_of}
-use Rattle.sound_state.specs.Recalls.{IsSo, list_of, onward_recalls, recalls_of, tops, nexts, tops_exist}
+use Rattle.sound_state.specs.Recalls.{IsSo, list_of, continuation_recalls, recalls_of, tops, nexts, tops_exist}
 use Rattle.sound_state.specs.Sound.{IsSoundWithoutCounts}
 use Rattle.sound_state.proofs.quiet.QuietExchanges.{lost-at}
 use Rattle.sound_state.proofs.quiet.QuietLemmas.{HoldsSame}
@@ -38,7 +38,7 @@ top-listed next top (x ∷ xs) stack some =
 
 -- at another point of a stack a caller with the same continuation holds the same
 pops-same :
-    (p q : StackPoint) (o : Onward) → holds_of (Stack q o) ≡ holds_of (Stack p o) → HoldsSame (Stack p o) (Stack q o)
+    (p q : StackPoint) (o : Continuation) → holds_of (Stack q o) ≡ holds_of (Stack p o) → HoldsSame (Stack p o) (Stack q o)
 pops-same p q o same = record {
   holds = same;
   waits = λ class. refl;
@@ -51,132 +51,132 @@ pops-same p q o same = record {
 
 -- a head that is read for a push: its top exists
 pub load_top_to_push-sound :
-    (g : Geometry) (s : State) (who : ℕ) (s' : State) (seat : SeatFields) (pile : Pile) (i : ℕ) (o : Onward) → IsSoundWithoutCounts g s
-    → who < g.callers → (s.errand who).point ≡ Stack (stack.LoadTopToPush seat pile i) o → Step s who s' → IsSoundWithoutCounts g s'
+    (g : Geometry) (s : State) (caller : ℕ) (s' : State) (seat : SeatFields) (pile : Pile) (i : ℕ) (o : Continuation) → IsSoundWithoutCounts g s
+    → caller < g.callers → (s.errand caller).point ≡ Stack (stack.LoadTopToPush seat pile i) o → Step s caller s' → IsSoundWithoutCounts g s'
 unfolding plan_point_of next_of event_of holds_of recalls_of
-load_top_to_push-sound g s who s' seat pile i o sound has at step =
+load_top_to_push-sound g s caller s' seat pile i o sound has at step =
     let p = stack.LoadTopToPush seat pile i in
     let h = head_of (s.word (head_name seat pile)) in
-    quiet-at g s who s' (Stack p o) sound has at (record { event = refl; cleared = refl; word = refl })
+    quiet-at g s caller s' (Stack p o) sound has at (record { event = refl; cleared = refl; word = refl })
     (record {
       plain = tt;
       holds = pops-same p (stack.StoreBelow seat pile i h) o refl;
       so = λ l old.
-          let class = (fits-at g s l who (Stack p o) old has at).point.seat.class in
-          All-cons (IsSo g s l who) (tops_exist seat pile h) (onward_recalls seat o)
+          let class = (fits-at g s l caller (Stack p o) old has at).point.seat.class in
+          All-cons (IsSo g s l caller) (tops_exist seat pile h) (continuation_recalls seat o)
           (top-exists (next_in s.word pile) h.top (pile_limit g pile) (list_of l seat pile) (pile-stacked g s l seat pile old.listed class)
           (pile-exists g s l seat pile old.listed class))
-          (so-at g s l who (Stack p o) old has at);
+          (so-at g s l caller (Stack p o) old has at);
     })
     step
 
 -- the next word of the index on top is read: it is remembered as it is
 below-leads-quietly :
-    (g : Geometry) (s : State) (who : ℕ) (seat : SeatFields) (pile : Pile) (h : HeadFields) (o : Onward) → who < g.callers
-    → (s.errand who).point ≡ Stack (stack.LoadBelow seat pile h) o
-    → LeadsQuietly g s who (Stack (stack.LoadBelow seat pile h) o)
+    (g : Geometry) (s : State) (caller : ℕ) (seat : SeatFields) (pile : Pile) (h : HeadFields) (o : Continuation) → caller < g.callers
+    → (s.errand caller).point ≡ Stack (stack.LoadBelow seat pile h) o
+    → LeadsQuietly g s caller (Stack (stack.LoadBelow seat pile h) o)
     (enter_stack (after_below seat pile h (s.word (next_name pile (h.top - 1)))) o)
 unfolding holds_of recalls_of
-below-leads-quietly g s who seat pile h o has at =
+below-leads-quietly g s caller seat pile h o has at =
     let p = stack.LoadBelow seat pile h in
     let below = s.word (next_name pile (h.top - 1)) in
     let q = stack.PopTop seat pile h below in
-    cond_both (nat_le below (pile_limit seat.geometry pile)) q p (λ r. LeadsQuietly g s who (Stack p o) (enter_stack r o))
+    cond_both (nat_le below (pile_limit seat.geometry pile)) q p (λ r. LeadsQuietly g s caller (Stack p o) (enter_stack r o))
     (λ within. record {
       plain = tt;
       holds = pops-same p q o refl;
       so = λ l old.
-          All-cons (IsSo g s l who) (nexts seat pile h below) (tops seat pile h ∷ onward_recalls seat o) (λ same. refl)
-          (so-at g s l who (Stack p o) old has at);
+          All-cons (IsSo g s l caller) (nexts seat pile h below) (tops seat pile h ∷ continuation_recalls seat o) (λ same. refl)
+          (so-at g s l caller (Stack p o) old has at);
     })
-    (λ beyond. leads-on g s who (Stack p o) _ 0 has at (record { plain = tt; holds = pops-same p p o refl; recalls = refl }))
+    (λ beyond. leads-on g s caller (Stack p o) _ 0 has at (record { plain = tt; holds = pops-same p p o refl; recalls = refl }))
 
 pub load_below-sound :
-    (g : Geometry) (s : State) (who : ℕ) (s' : State) (seat : SeatFields) (pile : Pile) (h : HeadFields) (o : Onward) → IsSoundWithoutCounts g s
-    → who < g.callers → (s.errand who).point ≡ Stack (stack.LoadBelow seat pile h) o → Step s who s' → IsSoundWithoutCounts g s'
+    (g : Geometry) (s : State) (caller : ℕ) (s' : State) (seat : SeatFields) (pile : Pile) (h : HeadFields) (o : Continuation) → IsSoundWithoutCounts g s
+    → caller < g.callers → (s.errand caller).point ≡ Stack (stack.LoadBelow seat pile h) o → Step s caller s' → IsSoundWithoutCounts g s'
 unfolding plan_point_of next_of event_of
-load_below-sound g s who s' seat pile h o sound has at step =
-    quiet-at g s who s' (Stack (stack.LoadBelow seat pile h) o) sound has at (record { event = refl; cleared = refl; word = refl })
-    (below-leads-quietly g s who seat pile h o has at) step
+load_below-sound g s caller s' seat pile h o sound has at step =
+    quiet-at g s caller s' (Stack (stack.LoadBelow seat pile h) o) sound has at (record { event = refl; cleared = refl; word = refl })
+    (below-leads-quietly g s caller seat pile h o has at) step
 
 -- a pop that is lost begins again
 pub pop_top_lost-sound :
-    (g : Geometry) (s : State) (who : ℕ) (s' : State) (seat : SeatFields) (pile : Pile) (h : HeadFields) (below : ℕ) (o : Onward)
-    → IsSoundWithoutCounts g s → who < g.callers → (s.errand who).point ≡ Stack (stack.PopTop seat pile h below) o
-    → s.word (head_name seat pile) ≢ head_word h → Step s who s' → IsSoundWithoutCounts g s'
+    (g : Geometry) (s : State) (caller : ℕ) (s' : State) (seat : SeatFields) (pile : Pile) (h : HeadFields) (below : ℕ) (o : Continuation)
+    → IsSoundWithoutCounts g s → caller < g.callers → (s.errand caller).point ≡ Stack (stack.PopTop seat pile h below) o
+    → s.word (head_name seat pile) ≢ head_word h → Step s caller s' → IsSoundWithoutCounts g s'
 unfolding plan_point_of next_of event_of holds_of recalls_of
-pop_top_lost-sound g s who s' seat pile h below o sound has at lost step =
+pop_top_lost-sound g s caller s' seat pile h below o sound has at lost step =
     let p = stack.PopTop seat pile h below in
-    lost-at g s who s' (Stack p o) (head_name seat pile) (head_word h) _ sound has at refl refl
-    (leads-on g s who (Stack p o) _ 2 has at (record { plain = tt; holds = pops-same p (stack.LoadTop seat pile) o refl; recalls = refl })) lost step
+    lost-at g s caller s' (Stack p o) (head_name seat pile) (head_word h) _ sound has at refl refl
+    (leads-on g s caller (Stack p o) _ 2 has at (record { plain = tt; holds = pops-same p (stack.LoadTop seat pile) o refl; recalls = refl })) lost step
 
 -- so does the look whether the stack is still empty
 pub confirm_empty_lost-sound :
-    (g : Geometry) (s : State) (who : ℕ) (s' : State) (seat : SeatFields) (pile : Pile) (h : HeadFields) (o : Onward) → IsSoundWithoutCounts g s
-    → who < g.callers → (s.errand who).point ≡ Stack (stack.ConfirmEmpty seat pile h) o
-    → s.word (head_name seat pile) ≢ head_word h → Step s who s' → IsSoundWithoutCounts g s'
+    (g : Geometry) (s : State) (caller : ℕ) (s' : State) (seat : SeatFields) (pile : Pile) (h : HeadFields) (o : Continuation) → IsSoundWithoutCounts g s
+    → caller < g.callers → (s.errand caller).point ≡ Stack (stack.ConfirmEmpty seat pile h) o
+    → s.word (head_name seat pile) ≢ head_word h → Step s caller s' → IsSoundWithoutCounts g s'
 unfolding plan_point_of next_of event_of holds_of recalls_of
-confirm_empty_lost-sound g s who s' seat pile h o sound has at lost step =
+confirm_empty_lost-sound g s caller s' seat pile h o sound has at lost step =
     let p = stack.ConfirmEmpty seat pile h in
-    lost-at g s who s' (Stack p o) (head_name seat pile) (head_word h) _ sound has at refl refl
-    (leads-on g s who (Stack p o) _ 0 has at (record { plain = tt; holds = pops-same p (stack.LoadTop seat pile) o refl; recalls = refl })) lost step
+    lost-at g s caller s' (Stack p o) (head_name seat pile) (head_word h) _ sound has at refl refl
+    (leads-on g s caller (Stack p o) _ 0 has at (record { plain = tt; holds = pops-same p (stack.LoadTop seat pile) o refl; recalls = refl })) lost step
 
 -- and a push that is lost
 pub push_top_lost-sound :
-    (g : Geometry) (s : State) (who : ℕ) (s' : State) (seat : SeatFields) (pile : Pile) (i : ℕ) (h : HeadFields) (o : Onward)
-    → IsSoundWithoutCounts g s → who < g.callers → (s.errand who).point ≡ Stack (stack.PushTop seat pile i h) o
-    → s.word (head_name seat pile) ≢ head_word h → Step s who s' → IsSoundWithoutCounts g s'
+    (g : Geometry) (s : State) (caller : ℕ) (s' : State) (seat : SeatFields) (pile : Pile) (i : ℕ) (h : HeadFields) (o : Continuation)
+    → IsSoundWithoutCounts g s → caller < g.callers → (s.errand caller).point ≡ Stack (stack.PushTop seat pile i h) o
+    → s.word (head_name seat pile) ≢ head_word h → Step s caller s' → IsSoundWithoutCounts g s'
 unfolding plan_point_of next_of event_of holds_of recalls_of
-push_top_lost-sound g s who s' seat pile i h o sound has at lost step =
+push_top_lost-sound g s caller s' seat pile i h o sound has at lost step =
     let p = stack.PushTop seat pile i h in
-    lost-at g s who s' (Stack p o) (head_name seat pile) (head_word h) _ sound has at refl refl
-    (leads-on g s who (Stack p o) _ 2 has at
+    lost-at g s caller s' (Stack p o) (head_name seat pile) (head_word h) _ sound has at refl refl
+    (leads-on g s caller (Stack p o) _ 2 has at
     (record { plain = tt; holds = pops-same p (stack.LoadTopToPush seat pile i) o refl; recalls = refl })) lost step
 
 -- a stack that is read empty: an allocation looks again, and a clearing that has popped one puts it back
 empty-stack-leads :
-    (seat : SeatFields) (pile : Pile) (h : HeadFields) (o : Onward) → o ≢ Clear
+    (seat : SeatFields) (pile : Pile) (h : HeadFields) (o : Continuation) → o ≢ Clear
     → LeadsOn (Stack (stack.LoadTop seat pile) o) (found_empty seat pile h o) 0
 unfolding holds_of recalls_of
 empty-stack-leads seat pile h o goes = grind (arith)
 
 -- a head that is read for a pop: the index on top is in the list
 top-leads-quietly :
-    (g : Geometry) (s : State) (who : ℕ) (seat : SeatFields) (pile : Pile) (o : Onward) → who < g.callers
-    → (s.errand who).point ≡ Stack (stack.LoadTop seat pile) o
+    (g : Geometry) (s : State) (caller : ℕ) (seat : SeatFields) (pile : Pile) (o : Continuation) → caller < g.callers
+    → (s.errand caller).point ≡ Stack (stack.LoadTop seat pile) o
     → (o ≡ Clear → (head_of (s.word (head_name seat pile))).top ≢ 0)
-    → LeadsQuietly g s who (Stack (stack.LoadTop seat pile) o) (enter_stack (after_top seat pile (head_of (s.word (head_name seat pile)))) o)
+    → LeadsQuietly g s caller (Stack (stack.LoadTop seat pile) o) (enter_stack (after_top seat pile (head_of (s.word (head_name seat pile)))) o)
 unfolding holds_of recalls_of
-top-leads-quietly g s who seat pile o has at goes =
+top-leads-quietly g s caller seat pile o has at goes =
     let p = stack.LoadTop seat pile in
     let h = head_of (s.word (head_name seat pile)) in
     let q = stack.LoadBelow seat pile h in
     cond_both (h.top == 0) (stack.FoundEmpty seat pile h) (if nat_le h.top (pile_limit seat.geometry pile) then q else p)
-    (λ r. LeadsQuietly g s who (Stack p o) (enter_stack r o))
-    (λ empty. leads-on g s who (Stack p o) _ 0 has at (empty-stack-leads seat pile h o (λ is. goes is (eqb-true h.top 0 empty))))
+    (λ r. LeadsQuietly g s caller (Stack p o) (enter_stack r o))
+    (λ empty. leads-on g s caller (Stack p o) _ 0 has at (empty-stack-leads seat pile h o (λ is. goes is (eqb-true h.top 0 empty))))
     (λ some.
-    cond_both (nat_le h.top (pile_limit seat.geometry pile)) q p (λ r. LeadsQuietly g s who (Stack p o) (enter_stack r o))
+    cond_both (nat_le h.top (pile_limit seat.geometry pile)) q p (λ r. LeadsQuietly g s caller (Stack p o) (enter_stack r o))
     (λ within. record {
       plain = tt;
       holds = pops-same p q o refl;
       so = λ l old.
-          let class = (fits-at g s l who (Stack p o) old has at).point.class in
-          All-cons (IsSo g s l who) (tops seat pile h) (onward_recalls seat o)
+          let class = (fits-at g s l caller (Stack p o) old has at).point.class in
+          All-cons (IsSo g s l caller) (tops seat pile h) (continuation_recalls seat o)
           (record {
             tag = omega arith;
             top = λ same.
                 top-listed (next_in s.word pile) h.top (list_of l seat pile) (pile-stacked g s l seat pile old.listed class)
                 (eqb-false h.top 0 some);
           })
-          (so-at g s l who (Stack p o) old has at);
+          (so-at g s l caller (Stack p o) old has at);
     })
-    (λ beyond. leads-on g s who (Stack p o) _ 0 has at (record { plain = tt; holds = pops-same p p o refl; recalls = refl })))
+    (λ beyond. leads-on g s caller (Stack p o) _ 0 has at (record { plain = tt; holds = pops-same p p o refl; recalls = refl })))
 
 pub load_top-sound :
-    (g : Geometry) (s : State) (who : ℕ) (s' : State) (seat : SeatFields) (pile : Pile) (o : Onward) → IsSoundWithoutCounts g s
-    → who < g.callers → (s.errand who).point ≡ Stack (stack.LoadTop seat pile) o
-    → (o ≡ Clear → (head_of (s.word (head_name seat pile))).top ≢ 0) → Step s who s' → IsSoundWithoutCounts g s'
+    (g : Geometry) (s : State) (caller : ℕ) (s' : State) (seat : SeatFields) (pile : Pile) (o : Continuation) → IsSoundWithoutCounts g s
+    → caller < g.callers → (s.errand caller).point ≡ Stack (stack.LoadTop seat pile) o
+    → (o ≡ Clear → (head_of (s.word (head_name seat pile))).top ≢ 0) → Step s caller s' → IsSoundWithoutCounts g s'
 unfolding plan_point_of next_of event_of
-load_top-sound g s who s' seat pile o sound has at goes step =
-    quiet-at g s who s' (Stack (stack.LoadTop seat pile) o) sound has at (record { event = refl; cleared = refl; word = refl })
-    (top-leads-quietly g s who seat pile o has at goes) step
+load_top-sound g s caller s' seat pile o sound has at goes step =
+    quiet-at g s caller s' (Stack (stack.LoadTop seat pile) o) sound has at (record { event = refl; cleared = refl; word = refl })
+    (top-leads-quietly g s caller seat pile o has at goes) step

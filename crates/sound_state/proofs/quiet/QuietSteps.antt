@@ -22,24 +22,24 @@ use Rattle.sound_state.proofs.shared.PointLemmas.{WeighFrom, so-at, stays-active
 use Rattle.sound_state.proofs.shared.StepLemmas.{LeadsOrEnds, PointGoes, found_from}
 
 -- the step tells nothing, clears nothing, and leaves its word
-pub record IsSilent (s : State) (who : ℕ) (p : Point) : Type 0 where
-  pub event : event_of who p (found_from s p) ≡ None
+pub record IsSilent (s : State) (caller : ℕ) (p : Point) : Type 0 where
+  pub event : event_of caller p (found_from s p) ≡ None
   pub cleared : counts_cleared p (found_from s p) ≡ false
   pub word : after_action (plan_point_of p) (s.word (name_of (plan_point_of p))) ≡ s.word (name_of (plan_point_of p))
 
 -- a silent step after which the caller weighs what it weighed, and may stand where it leads
-pub record StepsSteadily (g : Geometry) (s : State) (who : ℕ) (p : Point) (n : Next) : Type 0 where
+pub record StepsSteadily (g : Geometry) (s : State) (caller : ℕ) (p : Point) (n : Next) : Type 0 where
   pub plain : LeadsOrEnds n
   pub weighs : (w : ℕ) → WeighFrom (name_of (plan_point_of p)) w w p (point_after n)
-  pub goes : (l : Lists) → IsSoundWith g s l → PointGoes g s l who p (point_after n)
+  pub goes : (l : Lists) → IsSoundWith g s l → PointGoes g s l caller p (point_after n)
 
 -- keeps the state sound
 pub steady-at :
-    (g : Geometry) (s : State) (who : ℕ) (s' : State) (p : Point) → IsSoundWithoutCounts g s → who < g.callers → (s.errand who).point ≡ p
-    → IsSilent s who p → StepsSteadily g s who p (next_of p (found_from s p)) → Step s who s' → IsSoundWithoutCounts g s'
-steady-at g s who s' p sound has at silent h step =
+    (g : Geometry) (s : State) (caller : ℕ) (s' : State) (p : Point) → IsSoundWithoutCounts g s → caller < g.callers → (s.errand caller).point ≡ p
+    → IsSilent s caller p → StepsSteadily g s caller p (next_of p (found_from s p)) → Step s caller s' → IsSoundWithoutCounts g s'
+steady-at g s caller s' p sound has at silent h step =
     let n = name_of (plan_point_of p) in
-    step-from g s who s' p (next_of p (found_from s p)) h.plain sound has at
+    step-from g s caller s' p (next_of p (found_from s p)) h.plain sound has at
     (λ l old. record {
       next = refl;
       event = silent.event;
@@ -52,31 +52,31 @@ steady-at g s who s' p sound has at silent h step =
     step
 
 -- a step that leads where the caller holds what it held, and what it remembers is so
-pub record LeadsQuietly (g : Geometry) (s : State) (who : ℕ) (p : Point) (n : Next) : Type 0 where
+pub record LeadsQuietly (g : Geometry) (s : State) (caller : ℕ) (p : Point) (n : Next) : Type 0 where
   pub plain : LeadsOrEnds n
   pub holds : HoldsSame p (point_after n)
-  pub so : (l : Lists) → IsSoundWith g s l → All (IsSo g s l who) (recalls_of (point_after n))
+  pub so : (l : Lists) → IsSoundWith g s l → All (IsSo g s l caller) (recalls_of (point_after n))
 
 -- so what it weighs stays, and it may stand there
 pub quiet-steady :
-    (g : Geometry) (s : State) (who : ℕ) (p : Point) (n : Next) → who < g.callers → (s.errand who).point ≡ p → LeadsQuietly g s who p n
-    → StepsSteadily g s who p n
-quiet-steady g s who p n has at h =
+    (g : Geometry) (s : State) (caller : ℕ) (p : Point) (n : Next) → caller < g.callers → (s.errand caller).point ≡ p → LeadsQuietly g s caller p n
+    → StepsSteadily g s caller p n
+quiet-steady g s caller p n has at h =
     let same = h.holds in
     record {
       plain = h.plain;
       weighs = λ w. same-stays (name_of (plan_point_of p)) w p (point_after n) same;
       goes = λ l old.
-          subst (λ r. PointGoes g s l who r (point_after n)) at
-          (same-point-goes g s l who (point_after n) old has (subst (λ r. HoldsSame r (point_after n)) (sym at) same) (h.so l old));
+          subst (λ r. PointGoes g s l caller r (point_after n)) at
+          (same-point-goes g s l caller (point_after n) old has (subst (λ r. HoldsSame r (point_after n)) (sym at) same) (h.so l old));
     }
 
 -- keeps the state sound, if it is silent
 pub quiet-at :
-    (g : Geometry) (s : State) (who : ℕ) (s' : State) (p : Point) → IsSoundWithoutCounts g s → who < g.callers → (s.errand who).point ≡ p
-    → IsSilent s who p → LeadsQuietly g s who p (next_of p (found_from s p)) → Step s who s' → IsSoundWithoutCounts g s'
-quiet-at g s who s' p sound has at silent h step =
-    steady-at g s who s' p sound has at silent (quiet-steady g s who p (next_of p (found_from s p)) has at h) step
+    (g : Geometry) (s : State) (caller : ℕ) (s' : State) (p : Point) → IsSoundWithoutCounts g s → caller < g.callers → (s.errand caller).point ≡ p
+    → IsSilent s caller p → LeadsQuietly g s caller p (next_of p (found_from s p)) → Step s caller s' → IsSoundWithoutCounts g s'
+quiet-at g s caller s' p sound has at silent h step =
+    steady-at g s caller s' p sound has at silent (quiet-steady g s caller p (next_of p (found_from s p)) has at h) step
 
 -- a step that leads where the caller holds the same, and remembers the same but for the first few things
 pub record LeadsOn (p : Point) (n : Next) (forgotten : ℕ) : Type 0 where
@@ -86,15 +86,15 @@ pub record LeadsOn (p : Point) (n : Next) (forgotten : ℕ) : Type 0 where
 
 -- leads quietly
 pub leads-on :
-    (g : Geometry) (s : State) (who : ℕ) (p : Point) (n : Next) (forgotten : ℕ) → who < g.callers → (s.errand who).point ≡ p
-    → LeadsOn p n forgotten → LeadsQuietly g s who p n
-leads-on g s who p n forgotten has at h = record {
+    (g : Geometry) (s : State) (caller : ℕ) (p : Point) (n : Next) (forgotten : ℕ) → caller < g.callers → (s.errand caller).point ≡ p
+    → LeadsOn p n forgotten → LeadsQuietly g s caller p n
+leads-on g s caller p n forgotten has at h = record {
   plain = h.plain;
   holds = h.holds;
-  so = λ l old. subst (All (IsSo g s l who)) (sym h.recalls) (All-drop (IsSo g s l who) forgotten (recalls_of p) (so-at g s l who p old has at));
+  so = λ l old. subst (All (IsSo g s l caller)) (sym h.recalls) (All-drop (IsSo g s l caller) forgotten (recalls_of p) (so-at g s l caller p old has at));
 }
 
 -- a step that ends the call of a caller that holds nothing leads quietly
-pub ends-quietly : (g : Geometry) (s : State) (who : ℕ) (p : Point) (r : Reply) → HoldsSame p Idle → LeadsQuietly g s who p (End r)
+pub ends-quietly : (g : Geometry) (s : State) (caller : ℕ) (p : Point) (r : Reply) → HoldsSame p Idle → LeadsQuietly g s caller p (End r)
 unfolding recalls_of
-ends-quietly g s who p r holds = record { plain = tt; holds = holds; so = λ l old. All-nil (IsSo g s l who) }
+ends-quietly g s caller p r holds = record { plain = tt; holds = holds; so = λ l old. All-nil (IsSo g s l caller) }

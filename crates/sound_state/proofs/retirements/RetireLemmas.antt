@@ -21,7 +21,7 @@ use Rattle.pool_model.specs.declared.event.Event.{Event}
 use Rattle.pool_model.specs.Legal.{IsLegalWithoutCounts}
 use Rattle.hazard_parts.specs.declared.point.DescPoint.TheVariants as desc
 use Rattle.errand_steps.specs.declared.next.Next.TheVariants.{At, End, Retire}
-use Rattle.errand_steps.specs.declared.onward.Onward.{Onward}
+use Rattle.errand_steps.specs.declared.continuation.Continuation.{Continuation}
 use Rattle.errand_steps.specs.declared.point.Point.{Point}
 use Rattle.errand_steps.specs.declared.reply.Reply.{Reply}
 use Rattle.errand_steps.specs.declared.point.Point.TheVariants.{Idle, Desc}
@@ -66,17 +66,17 @@ bound-none away a is = grind (arith)
 
 -- where its superblock is EMPTY, the same superblocks are there
 pub away-bound :
-    (g : Geometry) (s : State) (l : Lists) (who d : ℕ) (e : ErrandFields) (s' : State) → who < g.callers → Moves s.errand who e s'.errand
-    → GoesAway d (s.errand who) e → ((k : ℕ) → anchor_for s' k ≡ anchor_for s k) → (anchor_for s d).state ≡ phase.Empty
+    (g : Geometry) (s : State) (l : Lists) (caller d : ℕ) (e : ErrandFields) (s' : State) → caller < g.callers → Moves s.errand caller e s'.errand
+    → GoesAway d (s.errand caller) e → ((k : ℕ) → anchor_for s' k ≡ anchor_for s k) → (anchor_for s d).state ≡ phase.Empty
     → (k : ℕ) → is_bound g s' l k ≡ is_bound g s l k
-away-bound g s l who d e s' has m away anchors empty k =
+away-bound g s l caller d e s' has m away anchors empty k =
     elim (cases_eq k d) [
       | inl same ↦
           let before : is_bound g s l d ≡ false = bound-none (away_of g s l d) (anchor_for s d) empty in
           let after : is_bound g s' l d ≡ false = bound-none (away_of g s' l d) (anchor_for s' d) (ap (λ a. a.state) (anchors d) ∙ empty) in
           subst (λ j. is_bound g s' l j ≡ is_bound g s l j) (sym same) (after ∙ sym before)
       | inr differ ↦
-          let moved = callers-moved g (errand_away k) s.errand who e s'.errand has m in
+          let moved = callers-moved g (errand_away k) s.errand caller e s'.errand has m in
           let still : away_of g s' l k ≡ away_of g s l k = omega (arith, moved, away.elsewhere k differ) in
           rw (still, anchors k) refl
     ]
@@ -89,12 +89,12 @@ away-out-none away b some = rw (ne_eqb away 0 (λ e. let bad : ⊥ = omega (arit
 
 -- and one less is EMPTY and out
 pub away-emptied :
-    (g : Geometry) (s : State) (l : Lists) (who d : ℕ) (e : ErrandFields) (s' : State) → who < g.callers → Moves s.errand who e s'.errand
-    → GoesAway d (s.errand who) e → ((k : ℕ) → anchor_for s' k ≡ anchor_for s k) → (anchor_for s d).state ≡ phase.Empty
+    (g : Geometry) (s : State) (l : Lists) (caller d : ℕ) (e : ErrandFields) (s' : State) → caller < g.callers → Moves s.errand caller e s'.errand
+    → GoesAway d (s.errand caller) e → ((k : ℕ) → anchor_for s' k ≡ anchor_for s k) → (anchor_for s d).state ≡ phase.Empty
     → d < descriptor_count g → away_of g s l d ≡ 0
     → sum_below (descriptor_count g) (emptied_out g s' l) + 1 ≡ sum_below (descriptor_count g) (emptied_out g s l)
-away-emptied g s l who d e s' has m away anchors empty exists near =
-    let moved = λ (k : ℕ). callers-moved g (errand_away k) s.errand who e s'.errand has m in
+away-emptied g s l caller d e s' has m away anchors empty exists near =
+    let moved = λ (k : ℕ). callers-moved g (errand_away k) s.errand caller e s'.errand has m in
     let change = sum-change (descriptor_count g) (emptied_out g s l) (emptied_out g s' l) d exists
     (λ k lt differ.
     let still : away_of g s' l k ≡ away_of g s l k = omega (arith, moved k, away.elsewhere k differ) in
@@ -116,20 +116,20 @@ retired_at e x d q =
 
 -- where the list is full then, a scan begins
 pub settle-full :
-    (e : ErrandFields) (x : Found) (s : SeatFields) (d : ℕ) (o : Onward) → next_of e.point x ≡ Retire s d o → is_full e ≡ true
+    (e : ErrandFields) (x : Found) (s : SeatFields) (d : ℕ) (o : Continuation) → next_of e.point x ≡ Retire s d o → is_full e ≡ true
     → settle_of e x ≡ retired_at e x d (Desc (desc.ReadHazard s no_words 0) o)
 unfolding settle_of course_of
 settle-full e x s d o is full = rw (is, full) refl
 
 -- else the call is resumed
 settle-resumed :
-    (e : ErrandFields) (x : Found) (s : SeatFields) (d : ℕ) (o : Onward) (q : Point) → next_of e.point x ≡ Retire s d o → is_full e ≡ false
+    (e : ErrandFields) (x : Found) (s : SeatFields) (d : ℕ) (o : Continuation) (q : Point) → next_of e.point x ≡ Retire s d o → is_full e ≡ false
     → resumed s o ≡ At q → settle_of e x ≡ retired_at e x d q
 unfolding settle_of course_of
 settle-resumed e x s d o q is few to = rw (is, few, to) refl
 
 pub settle-resumed-end :
-    (e : ErrandFields) (x : Found) (s : SeatFields) (d : ℕ) (o : Onward) → next_of e.point x ≡ Retire s d o → is_full e ≡ false
+    (e : ErrandFields) (x : Found) (s : SeatFields) (d : ℕ) (o : Continuation) → next_of e.point x ≡ Retire s d o → is_full e ≡ false
     → (r : Reply) → resumed s o ≡ End r → settle_of e x ≡ retired_at e x d Idle
 unfolding settle_of course_of
 settle-resumed-end e x s d o is few r to = rw (is, few, to) refl
@@ -185,22 +185,22 @@ lets-weigh n before after d class h x q e lets plain reserves keeps stock =
     }
 
 -- a step after which the caller stands at another point and has one more descriptor retired
-pub record RetiresTo (g : Geometry) (s : State) (who : ℕ) (d class : ℕ) (h : HazardState) (q : Point) : Type 0 where
-  pub after : settle_of (s.errand who) (found_at s who) ≡ retired_at (s.errand who) (found_at s who) d q
-  pub event : event_at s who ≡ None
+pub record RetiresTo (g : Geometry) (s : State) (caller : ℕ) (d class : ℕ) (h : HazardState) (q : Point) : Type 0 where
+  pub after : settle_of (s.errand caller) (found_at s caller) ≡ retired_at (s.errand caller) (found_at s caller) d q
+  pub event : event_at s caller ≡ None
   pub exists : d < descriptor_count g
   pub empty : (anchor_for s d).state ≡ phase.Empty
-  pub lets : Lets (s.errand who).point q d class partly_used h
+  pub lets : Lets (s.errand caller).point q d class partly_used h
   pub recalls : recalls_of q ≡ []
-  pub turn : TurnRetires (s.errand who).point q (found_at s who)
-  pub full : spare_of q ≡ 1 → is_full (s.errand who) ≡ true
+  pub turn : TurnRetires (s.errand caller).point q (found_at s caller)
+  pub full : spare_of q ≡ 1 → is_full (s.errand caller) ≡ true
 
 -- what the words are after it: the caller's hazard word is 0
-record WordsLeft (g : Geometry) (s : State) (who : ℕ) (e : ErrandFields) (words' : WordName → ℕ) : Type 0 where
-  pub weigh : WeighClose (name_at s who) (word_at s who) (after_action (action_at s who) (word_at s who)) (s.errand who) e
+record WordsLeft (g : Geometry) (s : State) (caller : ℕ) (e : ErrandFields) (words' : WordName → ℕ) : Type 0 where
+  pub weigh : WeighClose (name_at s caller) (word_at s caller) (after_action (action_at s caller) (word_at s caller)) (s.errand caller) e
   pub anchors : (k : ℕ) → words' (name.Anchor k) ≡ s.word (name.Anchor k)
-  pub others : (i : ℕ) → i ≢ who → words' (name.Hazard i) ≡ s.word (name.Hazard i)
-  pub own : words' (name.Hazard who) ≡ 0
+  pub others : (i : ℕ) → i ≢ caller → words' (name.Hazard i) ≡ s.word (name.Hazard i)
+  pub own : words' (name.Hazard caller) ≡ 0
   pub actives : ActivesKept g s words'
   pub below : (n : WordName) → words' n < 2 ^ 64
 
@@ -211,17 +211,17 @@ full-length e d full room =
 
 -- so the caller may go on, with these events
 pub retired-may :
-    (g : Geometry) (s : State) (past : List Event) (l : Lists) (who : ℕ) (x : Found) (d class : ℕ) (status : Status) (h : HazardState) (q : Point)
-    → IsSoundWith g s l → who < g.callers → x.value < 2 ^ 64 → settle_of (s.errand who) x ≡ retired_at (s.errand who) x d q
-    → Lets (s.errand who).point q d class status h → (spare_of q ≡ 1 → is_full (s.errand who) ≡ true) → IsWithout s d
-    → All (IsSo g (record s { history = past }) l who) (recalls_of q)
-    → CountsGo g (record s { history = past }) who (s.errand who) (retired_at (s.errand who) x d q)
-    → MayGoOn g (record s { history = past }) l who (s.errand who) (retired_at (s.errand who) x d q)
-retired-may g s past l who x d class status h q old has word after lets full without so counts =
-    let e = s.errand who in
-    let own = old.errands who has in
-    nothing-may g (record s { history = past }) l who e (retired_at e x d q) lets.bare (settled-own g who e x (retired_at e x d q) own word after)
-    (All-append (IsWithout s) e.retired (d ∷ []) (old.kept.retired who has) (All-cons (IsWithout s) d [] without (All-nil (IsWithout s))))
+    (g : Geometry) (s : State) (past : List Event) (l : Lists) (caller : ℕ) (x : Found) (d class : ℕ) (status : Status) (h : HazardState) (q : Point)
+    → IsSoundWith g s l → caller < g.callers → x.value < 2 ^ 64 → settle_of (s.errand caller) x ≡ retired_at (s.errand caller) x d q
+    → Lets (s.errand caller).point q d class status h → (spare_of q ≡ 1 → is_full (s.errand caller) ≡ true) → IsWithout s d
+    → All (IsSo g (record s { history = past }) l caller) (recalls_of q)
+    → CountsGo g (record s { history = past }) caller (s.errand caller) (retired_at (s.errand caller) x d q)
+    → MayGoOn g (record s { history = past }) l caller (s.errand caller) (retired_at (s.errand caller) x d q)
+retired-may g s past l caller x d class status h q old has word after lets full without so counts =
+    let e = s.errand caller in
+    let own = old.errands caller has in
+    nothing-may g (record s { history = past }) l caller e (retired_at e x d q) lets.bare (settled-own g caller e x (retired_at e x d q) own word after)
+    (All-append (IsWithout s) e.retired (d ∷ []) (old.kept.retired caller has) (All-cons (IsWithout s) d [] without (All-nil (IsWithout s))))
     (λ spare.
     let room : length e.retired ≤ e.geometry.callers = omega (arith, own.rule.room, lets.spare) in
     full-length e d (full spare) room ∙ ap (λ o. o.callers + 1) own.geometry)
@@ -231,64 +231,64 @@ retired-may g s past l who x d class status h q old has word after lets full wit
 
 -- the step keeps the state sound
 retire-sound :
-    (g : Geometry) (s : State) (who : ℕ) (s' : State) (d class : ℕ) (h : HazardState) (q : Point) → IsSoundWithoutCounts g s → who < g.callers
-    → RetiresTo g s who d class h q
-    → ((l : Lists) → IsSoundWith g s l → WordsLeft g s who (retired_at (s.errand who) (found_at s who) d q) s'.word) → Step s who s'
+    (g : Geometry) (s : State) (caller : ℕ) (s' : State) (d class : ℕ) (h : HazardState) (q : Point) → IsSoundWithoutCounts g s → caller < g.callers
+    → RetiresTo g s caller d class h q
+    → ((l : Lists) → IsSoundWith g s l → WordsLeft g s caller (retired_at (s.errand caller) (found_at s caller) d q) s'.word) → Step s caller s'
     → IsSoundWithoutCounts g s'
-retire-sound g s who s' d class h q sound has to left step =
+retire-sound g s caller s' d class h q sound has to left step =
     let l = sound.parts.0 in
     let old = sound.parts.1 in
     let words = left l old in
-    let x = found_at s who in
-    let e = retired_at (s.errand who) x d q in
-    let own = old.errands who has in
-    let exists : Exists g (name_at s who) =
-    subst (λ o. Exists o (name_at s who)) own.geometry
-    (plan-exists (s.errand who).geometry (s.errand who).caller (s.errand who).point own.rule.geometry own.rule.caller own.rule.point) in
-    let moves : Moves s.errand who e s'.errand = subst (λ f. Moves s.errand who f s'.errand) to.after step.errand in
+    let x = found_at s caller in
+    let e = retired_at (s.errand caller) x d q in
+    let own = old.errands caller has in
+    let exists : Exists g (name_at s caller) =
+    subst (λ o. Exists o (name_at s caller)) own.geometry
+    (plan-exists (s.errand caller).geometry (s.errand caller).caller (s.errand caller).point own.rule.geometry own.rule.caller own.rule.point) in
+    let moves : Moves s.errand caller e s'.errand = subst (λ f. Moves s.errand caller f s'.errand) to.after step.errand in
     let past : s'.history ≡ s.history = step.history ∙ ap (with_event s.history) to.event in
     let anchors = λ (k : ℕ). ap anchor_of (words.anchors k) in
-    let away = lets-away d class h (found_at s who) q (s.errand who) to.lets in
-    let keeps : 1 ≤ errand_keeps partly_used d (s.errand who) =
+    let away = lets-away d class h (found_at s caller) q (s.errand caller) to.lets in
+    let keeps : 1 ≤ errand_keeps partly_used d (s.errand caller) =
     rw to.lets.before (kept-itself partly_used d class) in
-    let near = keeps-near g s l who d old has to.exists keeps in
-    let cleared = raised-by (counts_cleared (s.errand who).point x) (s.errand who).cleared
-    (cleared-below g s (record { checked = sound.checked; legal = sound.legal; parts = (l, old) }) who has) in
+    let near = keeps-near g s l caller d old has to.exists keeps in
+    let cleared = raised-by (counts_cleared (s.errand caller).point x) (s.errand caller).cleared
+    (cleared-below g s (record { checked = sound.checked; legal = sound.legal; parts = (l, old) }) caller has) in
     record {
       checked = sound.checked;
       legal = subst (IsLegalWithoutCounts g) (sym past) sound.legal;
       parts = (
         l,
-        sound-alike g s l who e s'
+        sound-alike g s l caller e s'
             (record {
-              caller = has;
+              in_heap = has;
               moves = moves;
               alike =
-                  weigh-close g s l who (name_at s who) _ e s' exists has step.word moves past
-                  (away-bound g s l who d e s' has moves away anchors to.empty) words.weigh;
+                  weigh-close g s l caller (name_at s caller) _ e s' exists has step.word moves past
+                  (away-bound g s l caller d e s' has moves away anchors to.empty) words.weigh;
               may =
-                  retired-may g s s.history l who x d class partly_used h q old has (old.words (name_at s who)) to.after to.lets to.full
-                  (inr to.empty) (subst (All (IsSo g s l who)) (sym to.recalls) (All-nil (IsSo g s l who)))
+                  retired-may g s s.history l caller x d class partly_used h q old has (old.words (name_at s caller)) to.after to.lets to.full
+                  (inr to.empty) (subst (All (IsSo g s l caller)) (sym to.recalls) (All-nil (IsSo g s l caller)))
                   (record {
-                    own_turns = omega (arith, old.turned.own_turns who has, to.turn.under_way);
+                    own_turns = omega (arith, old.turned.own_turns caller has, to.turn.under_way);
                     own_lost =
                         omega (
                           arith,
-                          old.turned.own_lost who has,
+                          old.turned.own_lost caller has,
                           to.turn.discards,
                           to.turn.unanswered,
-                          raised-least (counts_lost (s.errand who).point x) (s.errand who).lost own.lost,
+                          raised-least (counts_lost (s.errand caller).point x) (s.errand caller).lost own.lost,
                         );
                     frame_turns = omega (arith, to.turn.unframed);
                     list_turns = omega (arith, to.turn.pops, cleared);
                   });
               others = words.others;
-              guards = nothing-guards g s who q e.retired (s'.word (name.Hazard who)) to.lets.bare words.own;
+              guards = nothing-guards g s caller q e.retired (s'.word (name.Hazard caller)) to.lets.bare words.own;
               actives = words.actives;
               words = words.below;
               emptied =
-                  let one = away-emptied g s l who d e s' has moves away anchors to.empty to.exists near in
-                  omega (arith, one, cleared, one_if-most (counts_cleared (s.errand who).point x));
+                  let one = away-emptied g s l caller d e s' has moves away anchors to.empty to.exists near in
+                  omega (arith, one, cleared, one_if-most (counts_cleared (s.errand caller).point x));
             })
             old,
       );
@@ -296,19 +296,19 @@ retire-sound g s who s' d class h q sound has to left step =
 
 -- so it does where its word stays, and the caller's hazard word was 0
 retire-reads :
-    (g : Geometry) (s : State) (who : ℕ) (s' : State) (d class : ℕ) (q : Point) → IsSoundWithoutCounts g s → who < g.callers
-    → RetiresTo g s who d class clear q → after_action (action_at s who) (word_at s who) ≡ word_at s who → Step s who s' → IsSoundWithoutCounts g s'
-retire-reads g s who s' d class q sound has to same step =
-    let n = name_at s who in
+    (g : Geometry) (s : State) (caller : ℕ) (s' : State) (d class : ℕ) (q : Point) → IsSoundWithoutCounts g s → caller < g.callers
+    → RetiresTo g s caller d class clear q → after_action (action_at s caller) (word_at s caller) ≡ word_at s caller → Step s caller s' → IsSoundWithoutCounts g s'
+retire-reads g s caller s' d class q sound has to same step =
+    let n = name_at s caller in
     let words = words-stay s.word n _ s'.word step.word same in
-    retire-sound g s who s' d class clear q sound has to
+    retire-sound g s caller s' d class clear q sound has to
     (λ l old. record {
       weigh =
-          lets-weigh n (s.word n) _ d class clear (found_at s who) q (s.errand who) to.lets (λ plain. same) (λ k. ap (word_reserves k n) same)
+          lets-weigh n (s.word n) _ d class clear (found_at s caller) q (s.errand caller) to.lets (λ plain. same) (λ k. ap (word_reserves k n) same)
           (λ k. ap (word_keeps k n) same) (λ c. ap (word_stock c n) same);
       anchors = λ k. words (name.Anchor k);
       others = λ i differ. words (name.Hazard i);
-      own = words (name.Hazard who) ∙ subst (λ held. IsHazard held.hazard (s.word (name.Hazard who))) to.lets.before (old.guarded.words who has);
+      own = words (name.Hazard caller) ∙ subst (λ held. IsHazard held.hazard (s.word (name.Hazard caller))) to.lets.before (old.guarded.words caller has);
       actives = actives-stay g s l s'.word old.kept words;
       below = λ m. subst (λ v. v < 2 ^ 64) (sym (words m)) (old.words m);
     })
@@ -324,23 +324,23 @@ hazard-close n i before after d class h x q e is lets =
     subst (λ m. WeighClose m before after e (retired_at e x d q)) (sym is) here
 
 retire-clears :
-    (g : Geometry) (s : State) (who : ℕ) (s' : State) (d class : ℕ) (h : HazardState) (q : Point) → IsSoundWithoutCounts g s → who < g.callers
-    → RetiresTo g s who d class h q → name_at s who ≡ name.Hazard who → after_action (action_at s who) (word_at s who) ≡ 0
-    → Step s who s' → IsSoundWithoutCounts g s'
-retire-clears g s who s' d class h q sound has to named bare step =
-    let n = name_at s who in
-    let v = after_action (action_at s who) (word_at s who) in
+    (g : Geometry) (s : State) (caller : ℕ) (s' : State) (d class : ℕ) (h : HazardState) (q : Point) → IsSoundWithoutCounts g s → caller < g.callers
+    → RetiresTo g s caller d class h q → name_at s caller ≡ name.Hazard caller → after_action (action_at s caller) (word_at s caller) ≡ 0
+    → Step s caller s' → IsSoundWithoutCounts g s'
+retire-clears g s caller s' d class h q sound has to named bare step =
+    let n = name_at s caller in
+    let v = after_action (action_at s caller) (word_at s caller) in
     let written : Writes s.word n v s'.word = step.word in
-    let w : Writes s.word (name.Hazard who) v s'.word = subst (λ m. Writes s.word m v s'.word) named written in
-    retire-sound g s who s' d class h q sound has to
+    let w : Writes s.word (name.Hazard caller) v s'.word = subst (λ m. Writes s.word m v s'.word) named written in
+    retire-sound g s caller s' d class h q sound has to
     (λ l old. record {
-      weigh = hazard-close n who (s.word n) v d class h (found_at s who) q (s.errand who) named to.lets;
+      weigh = hazard-close n caller (s.word n) v d class h (found_at s caller) q (s.errand caller) named to.lets;
       anchors = λ k. w.elsewhere (name.Anchor k) (λ same. cc);
       others = λ i differ. w.elsewhere (name.Hazard i) (λ same. differ (ap hazard_caller same));
       own = w.here ∙ bare;
-      actives = hazard-actives g s l who v s'.word old w;
+      actives = hazard-actives g s l caller v s'.word old w;
       below = λ m.
-          elim (cases_name m (name.Hazard who)) [
+          elim (cases_name m (name.Hazard caller)) [
             | inl is ↦ subst (λ u. u < 2 ^ 64) (sym (ap s'.word is ∙ w.here ∙ bare)) (omega arith)
             | inr differ ↦ subst (λ u. u < 2 ^ 64) (sym (w.elsewhere m differ)) (old.words m)
           ];
@@ -348,21 +348,21 @@ retire-clears g s who s' d class h q sound has to named bare step =
     step
 
 -- where the call is resumed
-abbrev pub ResumesAt : SeatFields → Onward → Point → Type 0
+abbrev pub ResumesAt : SeatFields → Continuation → Point → Type 0
 ResumesAt s o q = (resumed s o ≡ At q) ⊎ ((q ≡ Idle) × ((r : Reply) × (resumed s o ≡ End r)))
 
 resumes-after :
-    (e : ErrandFields) (x : Found) (s : SeatFields) (d : ℕ) (o : Onward) (q : Point) → next_of e.point x ≡ Retire s d o → is_full e ≡ false
+    (e : ErrandFields) (x : Found) (s : SeatFields) (d : ℕ) (o : Continuation) (q : Point) → next_of e.point x ≡ Retire s d o → is_full e ≡ false
     → ResumesAt s o q → settle_of e x ≡ retired_at e x d q
 resumes-after e x s d o q is few (inl to) = settle-resumed e x s d o q is few to
 resumes-after e x s d o q is few (inr to) =
     subst (λ r. settle_of e x ≡ retired_at e x d r) (sym to.0) (settle-resumed-end e x s d o is few to.1.0 to.1.1)
 
 -- a step from this point that retires a descriptor, and after which a scan begins or the call is resumed at the second point
-pub record Retires (g : Geometry) (s : State) (who : ℕ) (p : Point) (seat : SeatFields) (d : ℕ) (h : HazardState) (o : Onward) (q : Point) : Type 0 where
+pub record Retires (g : Geometry) (s : State) (caller : ℕ) (p : Point) (seat : SeatFields) (d : ℕ) (h : HazardState) (o : Continuation) (q : Point) : Type 0 where
   pub next : next_of p (found_from s p) ≡ Retire seat d o
   pub resumes : ResumesAt seat o q
-  pub event : event_of who p (found_from s p) ≡ None
+  pub event : event_of caller p (found_from s p) ≡ None
   pub exists : d < descriptor_count g
   pub empty : (anchor_for s d).state ≡ phase.Empty
   pub before : holds_of p ≡ record nothing { kept = keep d seat.class partly_used; hazard = h }
@@ -377,16 +377,16 @@ pub record Retires (g : Geometry) (s : State) (who : ℕ) (p : Point) (seat : Se
 
 -- it leads to one or the other
 retires-to :
-    (g : Geometry) (s : State) (who : ℕ) (seat : SeatFields) (d : ℕ) (h : HazardState) (o : Onward) (q : Point) (P : Type 0)
-    → Retires g s who (s.errand who).point seat d h o q → ((r : Point) → RetiresTo g s who d seat.class h r → P) → P
+    (g : Geometry) (s : State) (caller : ℕ) (seat : SeatFields) (d : ℕ) (h : HazardState) (o : Continuation) (q : Point) (P : Type 0)
+    → Retires g s caller (s.errand caller).point seat d h o q → ((r : Point) → RetiresTo g s caller d seat.class h r → P) → P
 unfolding recalls_of
-retires-to g s who seat d h o q P r leads =
-    let e = s.errand who in
+retires-to g s caller seat d h o q P r leads =
+    let e = s.errand caller in
     elim (cases_Bool (is_full e)) [
       | inl full ↦
           leads (Desc (desc.ReadHazard seat no_words 0) o)
           (record {
-            after = settle-full e (found_at s who) seat d o r.next full;
+            after = settle-full e (found_at s caller) seat d o r.next full;
             event = r.event;
             exists = r.exists;
             empty = r.empty;
@@ -398,7 +398,7 @@ retires-to g s who seat d h o q P r leads =
       | inr few ↦
           leads q
           (record {
-            after = resumes-after e (found_at s who) seat d o q r.next few r.resumes;
+            after = resumes-after e (found_at s caller) seat d o q r.next few r.resumes;
             event = r.event;
             exists = r.exists;
             empty = r.empty;
@@ -411,24 +411,24 @@ retires-to g s who seat d h o q P r leads =
 
 -- where the word of the point stays, it keeps the state sound
 pub retire-at :
-    (g : Geometry) (s : State) (who : ℕ) (s' : State) (p : Point) (seat : SeatFields) (d : ℕ) (o : Onward) (q : Point) → IsSoundWithoutCounts g s
-    → who < g.callers → (s.errand who).point ≡ p → Retires g s who p seat d clear o q
-    → after_action (plan_point_of p) (s.word (name_of (plan_point_of p))) ≡ s.word (name_of (plan_point_of p)) → Step s who s' → IsSoundWithoutCounts g s'
-retire-at g s who s' p seat d o q sound has at h same step =
-    let r : Retires g s who (s.errand who).point seat d clear o q = subst (λ z. Retires g s who z seat d clear o q) (sym at) h in
-    let stays : after_action (action_at s who) (word_at s who) ≡ word_at s who =
+    (g : Geometry) (s : State) (caller : ℕ) (s' : State) (p : Point) (seat : SeatFields) (d : ℕ) (o : Continuation) (q : Point) → IsSoundWithoutCounts g s
+    → caller < g.callers → (s.errand caller).point ≡ p → Retires g s caller p seat d clear o q
+    → after_action (plan_point_of p) (s.word (name_of (plan_point_of p))) ≡ s.word (name_of (plan_point_of p)) → Step s caller s' → IsSoundWithoutCounts g s'
+retire-at g s caller s' p seat d o q sound has at h same step =
+    let r : Retires g s caller (s.errand caller).point seat d clear o q = subst (λ z. Retires g s caller z seat d clear o q) (sym at) h in
+    let stays : after_action (action_at s caller) (word_at s caller) ≡ word_at s caller =
     subst (λ z. after_action (plan_point_of z) (s.word (name_of (plan_point_of z))) ≡ s.word (name_of (plan_point_of z))) (sym at) same in
-    retires-to g s who seat d clear o q (IsSoundWithoutCounts g s') r (λ z to. retire-reads g s who s' d seat.class z sound has to stays step)
+    retires-to g s caller seat d clear o q (IsSoundWithoutCounts g s') r (λ z to. retire-reads g s caller s' d seat.class z sound has to stays step)
 
 -- so it does where it clears the caller's hazard word
 pub retire-clearing :
-    (g : Geometry) (s : State) (who : ℕ) (s' : State) (p : Point) (seat : SeatFields) (d : ℕ) (h : HazardState) (o : Onward) (q : Point)
-    → IsSoundWithoutCounts g s → who < g.callers → (s.errand who).point ≡ p → Retires g s who p seat d h o q
-    → name_of (plan_point_of p) ≡ name.Hazard who → after_action (plan_point_of p) (s.word (name_of (plan_point_of p))) ≡ 0
-    → Step s who s' → IsSoundWithoutCounts g s'
-retire-clearing g s who s' p seat d h o q sound has at k named bare step =
-    let r : Retires g s who (s.errand who).point seat d h o q = subst (λ z. Retires g s who z seat d h o q) (sym at) k in
-    let own : name_at s who ≡ name.Hazard who = subst (λ z. name_of (plan_point_of z) ≡ name.Hazard who) (sym at) named in
-    let clears : after_action (action_at s who) (word_at s who) ≡ 0 =
+    (g : Geometry) (s : State) (caller : ℕ) (s' : State) (p : Point) (seat : SeatFields) (d : ℕ) (h : HazardState) (o : Continuation) (q : Point)
+    → IsSoundWithoutCounts g s → caller < g.callers → (s.errand caller).point ≡ p → Retires g s caller p seat d h o q
+    → name_of (plan_point_of p) ≡ name.Hazard caller → after_action (plan_point_of p) (s.word (name_of (plan_point_of p))) ≡ 0
+    → Step s caller s' → IsSoundWithoutCounts g s'
+retire-clearing g s caller s' p seat d h o q sound has at k named bare step =
+    let r : Retires g s caller (s.errand caller).point seat d h o q = subst (λ z. Retires g s caller z seat d h o q) (sym at) k in
+    let own : name_at s caller ≡ name.Hazard caller = subst (λ z. name_of (plan_point_of z) ≡ name.Hazard caller) (sym at) named in
+    let clears : after_action (action_at s caller) (word_at s caller) ≡ 0 =
     subst (λ z. after_action (plan_point_of z) (s.word (name_of (plan_point_of z))) ≡ 0) (sym at) bare in
-    retires-to g s who seat d h o q (IsSoundWithoutCounts g s') r (λ z to. retire-clears g s who s' d seat.class h z sound has to own clears step)
+    retires-to g s caller seat d h o q (IsSoundWithoutCounts g s') r (λ z to. retire-clears g s caller s' d seat.class h z sound has to own clears step)

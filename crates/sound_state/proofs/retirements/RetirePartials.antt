@@ -9,7 +9,7 @@ use Rattle.hazard_parts.specs.declared.point.DescPoint.TheVariants as desc
 use Rattle.partial_parts.specs.declared.point.PartialPoint.TheVariants as partial
 use Rattle.partial_parts.specs.Grants.{is_empty}
 use Rattle.word_plan.specs.Sites.{IsSiteOf, IsDescOf}
-use Rattle.errand_steps.specs.declared.onward.Onward.TheVariants.{Alloc, Look, EndFree, Clear, Retire}
+use Rattle.errand_steps.specs.declared.continuation.Continuation.TheVariants.{Alloc, Look, EndFree, Clear, Retire}
 use Rattle.errand_steps.specs.declared.point.Point.TheVariants.{Idle, Desc, Partial}
 use Rattle.errand_steps.specs.declared.reply.Reply.TheVariants as reply
 use Rattle.errand_steps.specs.Events.{event_of}
@@ -39,15 +39,15 @@ look-nothing seat need = record {
 
 -- the load of the anchor of a taken superblock, where it is EMPTY
 pub load_grant_anchor_empty-sound :
-    (g : Geometry) (s : State) (who : ℕ) (s' : State) (site : Site) (need : ℕ) → IsSoundWithoutCounts g s → who < g.callers
-    → (s.errand who).point ≡ Partial (partial.LoadGrantAnchor site) (Alloc need) → is_empty (anchor_for s site.desc).state ≡ true
-    → Step s who s' → IsSoundWithoutCounts g s'
+    (g : Geometry) (s : State) (caller : ℕ) (s' : State) (site : Site) (need : ℕ) → IsSoundWithoutCounts g s → caller < g.callers
+    → (s.errand caller).point ≡ Partial (partial.LoadGrantAnchor site) (Alloc need) → is_empty (anchor_for s site.desc).state ≡ true
+    → Step s caller s' → IsSoundWithoutCounts g s'
 unfolding plan_point_of next_of event_of holds_of recalls_of
-load_grant_anchor_empty-sound g s who s' site need sound has at empty step =
+load_grant_anchor_empty-sound g s caller s' site need sound has at empty step =
     let p = Partial (partial.LoadGrantAnchor site) (Alloc need) in
-    let fits = fits-at g s sound.parts.0 who p sound.parts.1 has at in
-    let here : IsSiteOf g who site = fits.point in
-    retire-at g s who s' p site.seat site.desc (Look need) (Partial (partial.LoadSlot site.seat) (Alloc need)) sound has at
+    let fits = fits-at g s sound.parts.0 caller p sound.parts.1 has at in
+    let here : IsSiteOf g caller site = fits.point in
+    retire-at g s caller s' p site.seat site.desc (Look need) (Partial (partial.LoadSlot site.seat) (Alloc need)) sound has at
     (record {
       next = rw empty refl;
       resumes = inl refl;
@@ -68,15 +68,15 @@ load_grant_anchor_empty-sound g s who s' site need sound has at empty step =
 
 -- the load of the anchor of the first superblock from the list, where it is EMPTY
 pub load_first_listed_empty-sound :
-    (g : Geometry) (s : State) (who : ℕ) (s' : State) (seat : SeatFields) (d : ℕ) → IsSoundWithoutCounts g s → who < g.callers
-    → (s.errand who).point ≡ Partial (partial.LoadListedAnchor seat d) Clear → is_empty (anchor_for s d).state ≡ true → Step s who s'
+    (g : Geometry) (s : State) (caller : ℕ) (s' : State) (seat : SeatFields) (d : ℕ) → IsSoundWithoutCounts g s → caller < g.callers
+    → (s.errand caller).point ≡ Partial (partial.LoadListedAnchor seat d) Clear → is_empty (anchor_for s d).state ≡ true → Step s caller s'
     → IsSoundWithoutCounts g s'
 unfolding plan_point_of next_of event_of holds_of recalls_of
-load_first_listed_empty-sound g s who s' seat d sound has at empty step =
+load_first_listed_empty-sound g s caller s' seat d sound has at empty step =
     let p = Partial (partial.LoadListedAnchor seat d) Clear in
-    let fits = fits-at g s sound.parts.0 who p sound.parts.1 has at in
-    let here : IsDescOf g who seat d = fits.point in
-    retire-at g s who s' p seat d EndFree Idle sound has at
+    let fits = fits-at g s sound.parts.0 caller p sound.parts.1 has at in
+    let here : IsDescOf g caller seat d = fits.point in
+    retire-at g s caller s' p seat d EndFree Idle sound has at
     (record {
       next = rw empty refl;
       resumes = inr (refl, (reply.Freed, refl));
@@ -97,27 +97,27 @@ load_first_listed_empty-sound g s who s' seat d sound has at empty step =
 
 -- what a free remembers of the superblock that it took out of its slot
 removed-empty :
-    (g : Geometry) (s : State) (l : Lists) (who : ℕ) (seat : SeatFields) (d : ℕ) → IsSoundWith g s l → who < g.callers
-    → (s.errand who).point ≡ Desc (desc.ClearHazard seat) (Retire d) → (anchor_for s d).state ≡ phase.Empty
+    (g : Geometry) (s : State) (l : Lists) (caller : ℕ) (seat : SeatFields) (d : ℕ) → IsSoundWith g s l → caller < g.callers
+    → (s.errand caller).point ≡ Desc (desc.ClearHazard seat) (Retire d) → (anchor_for s d).state ≡ phase.Empty
 unfolding recalls_of
-removed-empty g s l who seat d old has at =
-    let so : IsEmptied g s l d = so-at g s l who (Desc (desc.ClearHazard seat) (Retire d)) old has at 0 (emptied d) (omega arith) in so.state
+removed-empty g s l caller seat d old has at =
+    let so : IsEmptied g s l d = so-at g s l caller (Desc (desc.ClearHazard seat) (Retire d)) old has at 0 (emptied d) (omega arith) in so.state
 
 -- the store of 0 to the hazard word
 pub clear_hazard_retires-sound :
-    (g : Geometry) (s : State) (who : ℕ) (s' : State) (seat : SeatFields) (d : ℕ) → IsSoundWithoutCounts g s → who < g.callers
-    → (s.errand who).point ≡ Desc (desc.ClearHazard seat) (Retire d) → Step s who s' → IsSoundWithoutCounts g s'
+    (g : Geometry) (s : State) (caller : ℕ) (s' : State) (seat : SeatFields) (d : ℕ) → IsSoundWithoutCounts g s → caller < g.callers
+    → (s.errand caller).point ≡ Desc (desc.ClearHazard seat) (Retire d) → Step s caller s' → IsSoundWithoutCounts g s'
 unfolding plan_point_of next_of event_of holds_of recalls_of
-clear_hazard_retires-sound g s who s' seat d sound has at step =
+clear_hazard_retires-sound g s caller s' seat d sound has at step =
     let p = Desc (desc.ClearHazard seat) (Retire d) in
-    let fits = fits-at g s sound.parts.0 who p sound.parts.1 has at in
-    retire-clearing g s who s' p seat d (guarded d) EndFree Idle sound has at
+    let fits = fits-at g s sound.parts.0 caller p sound.parts.1 has at in
+    retire-clearing g s caller s' p seat d (guarded d) EndFree Idle sound has at
     (record {
       next = refl;
       resumes = inr (refl, (reply.Freed, refl));
       event = refl;
-      exists = fits.onward;
-      empty = removed-empty g s sound.parts.0 who seat d sound.parts.1 has at;
+      exists = fits.continuation;
+      empty = removed-empty g s sound.parts.0 caller seat d sound.parts.1 has at;
       before = refl;
       waits = λ c. refl;
       spare = refl;
@@ -128,4 +128,4 @@ clear_hazard_retires-sound g s who s' seat d sound has at step =
       turn = grind (arith);
       scans = grind (arith);
     })
-    (ap name.Hazard fits.point.caller) refl step
+    (ap name.Hazard fits.point.number) refl step

@@ -27,7 +27,7 @@ use Rattle.partial_parts.specs.declared.point.PartialPoint.{PartialPoint}
 use Rattle.large_parts.specs.declared.point.LargePoint.{LargePoint}
 use Rattle.errand_steps.specs.Fits.{FitsPoint}
 use Rattle.errand_steps.specs.Steps.{State}
-use Rattle.errand_steps.specs.declared.onward.Onward.{Onward}
+use Rattle.errand_steps.specs.declared.continuation.Continuation.{Continuation}
 use Rattle.errand_steps.specs.declared.point.Point.TheVariants as point
 use Rattle.errand_steps.specs.declared.point.Point.{Point}
 use Rattle.sound_state.specs.Holdings.{Holding, Kept, Status, reserving, waiting, partly_used, on_its_way, holds_before_pop, holds_after_pop, holds_of, block_holds, stack_holds, desc_holds, partial_holds, large_holds}
@@ -57,24 +57,24 @@ abbrev KeepsNone : ℕ → Holding → Type 0
 KeepsNone d h = kept_among reserving d h.kept + kept_among waiting d h.kept ≡ 0
 
 block-keeps :
-    (g : Geometry) (who d : ℕ) (p : BlockPoint) → FitsBlock g who p → reserved_among d (block_holds p).credits ≡ 0 → KeepsNone d (block_holds p)
-block-keeps g who d (block.LoadInfo s x share) fits none = before-keeps d x s.class share none
-block-keeps g who d (block.LoadAnchor at share) fits none = before-keeps d at.desc at.seat.class share none
-block-keeps g who d (block.LoadLink at share a) fits none = before-keeps d at.desc at.seat.class share none
-block-keeps g who d (block.PopBlock at share a prefix) fits none = before-keeps d at.desc at.seat.class share none
-block-keeps g who d (block.InstallCredits at k more) fits none = after-keeps d at k more fits.1.0 none
-block-keeps g who d (block.InstallSuperblock at) fits none = grind (arith, none)
-block-keeps g who d (block.LoadReturn at k more) fits none = after-keeps d at k more fits.1.0 none
-block-keeps g who d (block.ReturnCredits at k more a) fits none = after-keeps d at k more fits.1.0 none
-block-keeps g who d p fits none = grind (arith)
+    (g : Geometry) (caller d : ℕ) (p : BlockPoint) → FitsBlock g caller p → reserved_among d (block_holds p).credits ≡ 0 → KeepsNone d (block_holds p)
+block-keeps g caller d (block.LoadInfo s x share) fits none = before-keeps d x s.class share none
+block-keeps g caller d (block.LoadAnchor at share) fits none = before-keeps d at.desc at.seat.class share none
+block-keeps g caller d (block.LoadLink at share a) fits none = before-keeps d at.desc at.seat.class share none
+block-keeps g caller d (block.PopBlock at share a prefix) fits none = before-keeps d at.desc at.seat.class share none
+block-keeps g caller d (block.InstallCredits at k more) fits none = after-keeps d at k more fits.1.0 none
+block-keeps g caller d (block.InstallSuperblock at) fits none = grind (arith, none)
+block-keeps g caller d (block.LoadReturn at k more) fits none = after-keeps d at k more fits.1.0 none
+block-keeps g caller d (block.ReturnCredits at k more a) fits none = after-keeps d at k more fits.1.0 none
+block-keeps g caller d p fits none = grind (arith)
 
-stack-keeps : (d : ℕ) (p : StackPoint) (o : Onward) → KeepsNone d (stack_holds p o)
+stack-keeps : (d : ℕ) (p : StackPoint) (o : Continuation) → KeepsNone d (stack_holds p o)
 stack-keeps d p o = grind (arith)
 
-desc-keeps : (d : ℕ) (p : DescPoint) (o : Onward) → KeepsNone d (desc_holds p o)
+desc-keeps : (d : ℕ) (p : DescPoint) (o : Continuation) → KeepsNone d (desc_holds p o)
 desc-keeps d p o = grind (arith)
 
-partial-keeps : (d : ℕ) (p : PartialPoint) (o : Onward) → KeepsNone d (partial_holds p o)
+partial-keeps : (d : ℕ) (p : PartialPoint) (o : Continuation) → KeepsNone d (partial_holds p o)
 partial-keeps d p o = grind (arith)
 
 large-keeps : (d : ℕ) (p : LargePoint) → KeepsNone d (large_holds p)
@@ -82,14 +82,14 @@ large-keeps d p = grind (arith)
 
 -- among all points
 point-keeps :
-    (g : Geometry) (who d : ℕ) (p : Point) → FitsPoint g who p → reserved_among d (holds_of p).credits ≡ 0 → KeepsNone d (holds_of p)
+    (g : Geometry) (caller d : ℕ) (p : Point) → FitsPoint g caller p → reserved_among d (holds_of p).credits ≡ 0 → KeepsNone d (holds_of p)
 unfolding holds_of
-point-keeps g who d point.Idle fits none = refl
-point-keeps g who d (point.Block p o) fits none = block-keeps g who d p fits.point none
-point-keeps g who d (point.Stack p o) fits none = stack-keeps d p o
-point-keeps g who d (point.Desc p o) fits none = desc-keeps d p o
-point-keeps g who d (point.Partial p o) fits none = partial-keeps d p o
-point-keeps g who d (point.Large p o) fits none = large-keeps d p
+point-keeps g caller d point.Idle fits none = refl
+point-keeps g caller d (point.Block p o) fits none = block-keeps g caller d p fits.point none
+point-keeps g caller d (point.Stack p o) fits none = stack-keeps d p o
+point-keeps g caller d (point.Desc p o) fits none = desc-keeps d p o
+point-keeps g caller d (point.Partial p o) fits none = partial-keeps d p o
+point-keeps g caller d (point.Large p o) fits none = large-keeps d p
 
 -- an ACTIVE one isn't partly used, so none is kept so
 not-partly : (s : State) (d c : ℕ) → (anchor_for s d).state ≡ phase.Active → IsPartlyUsed s d c → ⊥
@@ -160,14 +160,14 @@ active-reserves g s l d old has bound active none =
     sum-none CLASSES (λ class. occurs d (l.partials class))
     (λ class lt. occurs-none (λ x. IsPartlyUsed s x class) d (l.partials class) (not-partly s d class active) (kept.listed class lt)) in
     let held : callers_sum g (errand_has d) s.errand ≡ 0 =
-    sum-none g.callers (λ who. errand_has d (s.errand who))
-    (λ who lt.
-    let away : errand_away d (s.errand who) ≤ callers_sum g (errand_away d) s.errand =
-    term-sum g.callers (λ j. errand_away d (s.errand j)) who lt in
-    let reserved : errand_reserves d (s.errand who) ≤ callers_sum g (errand_reserves d) s.errand =
-    term-sum g.callers (λ j. errand_reserves d (s.errand j)) who lt in
-    let others = point-keeps g who d (s.errand who).point (fits-at g s l who (s.errand who).point old lt refl) (omega (arith, reserved, none)) in
-    let partly = active-none-partly s d (holds_of (s.errand who).point).kept active (kept.errand who lt) in
+    sum-none g.callers (λ caller. errand_has d (s.errand caller))
+    (λ caller lt.
+    let away : errand_away d (s.errand caller) ≤ callers_sum g (errand_away d) s.errand =
+    term-sum g.callers (λ j. errand_away d (s.errand j)) caller lt in
+    let reserved : errand_reserves d (s.errand caller) ≤ callers_sum g (errand_reserves d) s.errand =
+    term-sum g.callers (λ j. errand_reserves d (s.errand j)) caller lt in
+    let others = point-keeps g caller d (s.errand caller).point (fits-at g s l caller (s.errand caller).point old lt refl) (omega (arith, reserved, none)) in
+    let partly = active-none-partly s d (holds_of (s.errand caller).point).kept active (kept.errand caller lt) in
     omega (arith, away, out, others, partly)) in
     let full : full_keeps (anchor_for s d).state ≡ 0 = ap full_keeps active in
     omega (arith, kept.once d has, words, listed, held, full, out)

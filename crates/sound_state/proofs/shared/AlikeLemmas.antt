@@ -33,18 +33,18 @@ pub record Alike (g : Geometry) (s : State) (l : Lists) (s' : State) : Type 0 wh
   pub stock : IsStocked g s l → IsStocked g s' l
 
 -- a caller goes on in a state that shows the same
-pub record GoesAlike (g : Geometry) (s : State) (l : Lists) (who : ℕ) (e : ErrandFields) (s' : State) : Type 0 where
-  pub caller : who < g.callers
-  pub moves : Moves s.errand who e s'.errand
+pub record GoesAlike (g : Geometry) (s : State) (l : Lists) (caller : ℕ) (e : ErrandFields) (s' : State) : Type 0 where
+  pub in_heap : caller < g.callers
+  pub moves : Moves s.errand caller e s'.errand
   pub alike : Alike g s l s'
-  pub may : MayGoOn g s l who (s.errand who) e
-  pub others : (i : ℕ) → i ≢ who → s'.word (name.Hazard i) ≡ s.word (name.Hazard i)
-  pub guards : MayGuard g s who e.point e.retired (s'.word (name.Hazard who))
+  pub may : MayGoOn g s l caller (s.errand caller) e
+  pub others : (i : ℕ) → i ≢ caller → s'.word (name.Hazard i) ≡ s.word (name.Hazard i)
+  pub guards : MayGuard g s caller e.point e.retired (s'.word (name.Hazard caller))
   pub actives : ActivesKept g s s'.word
   pub words : (n : WordName) → s'.word n < 2 ^ 64
   pub emptied :
       sum_below (descriptor_count g) (emptied_out g s' l) + e.cleared
-      ≤ sum_below (descriptor_count g) (emptied_out g s l) + (s.errand who).cleared
+      ≤ sum_below (descriptor_count g) (emptied_out g s l) + (s.errand caller).cleared
 
 -- what such a step shows is plain
 plain-shown : (n : WordName) → IsShown n → IsPlain n
@@ -56,12 +56,12 @@ stays-alike g s l s' h (says n w) = h.word n
 stays-alike g s l s' h r = grind (arith)
 
 shows-alike :
-    (g : Geometry) (s : State) (l : Lists) (who : ℕ) (e : ErrandFields) (s' : State) → GoesAlike g s l who e s' → IsSoundBut g s l who
-    → ShowsSame g s l who e s' l.available
-shows-alike g s l who e s' go sound =
+    (g : Geometry) (s : State) (l : Lists) (caller : ℕ) (e : ErrandFields) (s' : State) → GoesAlike g s l caller e s' → IsSoundBut g s l caller
+    → ShowsSame g s l caller e s' l.available
+shows-alike g s l caller e s' go sound =
     let h = go.alike in
     record {
-      caller = go.caller;
+      in_heap = go.in_heap;
       moves = go.moves;
       may = go.may;
       others = go.others;
@@ -87,12 +87,12 @@ shows-alike g s l who e s' go sound =
 
 -- a caller that goes on so makes a state sound that is sound but for what it remembers
 pub sound-but :
-    (g : Geometry) (s : State) (l : Lists) (who : ℕ) (e : ErrandFields) (s' : State) → GoesAlike g s l who e s' → IsSoundBut g s l who
+    (g : Geometry) (s : State) (l : Lists) (caller : ℕ) (e : ErrandFields) (s' : State) → GoesAlike g s l caller e s' → IsSoundBut g s l caller
     → IsSoundWith g s' l
-sound-but g s l who e s' go sound = sound-shown g s l who e s' l.available (shows-alike g s l who e s' go sound) sound
+sound-but g s l caller e s' go sound = sound-shown g s l caller e s' l.available (shows-alike g s l caller e s' go sound) sound
 
 -- and keeps a sound one sound
 pub sound-alike :
-    (g : Geometry) (s : State) (l : Lists) (who : ℕ) (e : ErrandFields) (s' : State) → GoesAlike g s l who e s' → IsSoundWith g s l
+    (g : Geometry) (s : State) (l : Lists) (caller : ℕ) (e : ErrandFields) (s' : State) → GoesAlike g s l caller e s' → IsSoundWith g s l
     → IsSoundWith g s' l
-sound-alike g s l who e s' go sound = sound-but g s l who e s' go (sound-but_one g s l who sound)
+sound-alike g s l caller e s' go sound = sound-but g s l caller e s' go (sound-but_one g s l caller sound)

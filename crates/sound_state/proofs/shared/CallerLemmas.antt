@@ -7,11 +7,11 @@ use Rattle.errand_steps.specs.Steps.{Moves}
 
 -- what holds of the new errand and of those of the others holds of each
 pub each-other :
-    (g : Geometry) (P : ℕ → ErrandFields → Type 0) (errands : ℕ → ErrandFields) (who : ℕ) (e : ErrandFields) (errands' : ℕ → ErrandFields)
-    → Moves errands who e errands' → P who e → ((i : ℕ) → i < g.callers → i ≢ who → P i (errands i))
+    (g : Geometry) (P : ℕ → ErrandFields → Type 0) (errands : ℕ → ErrandFields) (caller : ℕ) (e : ErrandFields) (errands' : ℕ → ErrandFields)
+    → Moves errands caller e errands' → P caller e → ((i : ℕ) → i < g.callers → i ≢ caller → P i (errands i))
     → (i : ℕ) → i < g.callers → P i (errands' i)
-each-other g P errands who e errands' m here others i has =
-    elim (cases_eq i who) [
-      | inl same ↦ let at : P who (errands' who) = subst (P who) (sym m.here) here in subst (λ j. P j (errands' j)) (sym same) at
+each-other g P errands caller e errands' m here others i has =
+    elim (cases_eq i caller) [
+      | inl same ↦ let at : P caller (errands' caller) = subst (P caller) (sym m.here) here in subst (λ j. P j (errands' j)) (sym same) at
       | inr differ ↦ subst (P i) (sym (m.elsewhere i differ)) (others i has differ)
     ]

@@ -16,24 +16,24 @@ cleared-together g s sound =
     omega (arith, is.turned.emptied, small-freed g s.history sound.legal, given-most g s l sound.legal is)
 
 -- one caller's count
-cleared-one : (g : Geometry) (s : State) (who : ℕ) → who < g.callers → (s.errand who).cleared ≤ callers_sum g cleared_of s.errand
+cleared-one : (g : Geometry) (s : State) (caller : ℕ) → caller < g.callers → (s.errand caller).cleared ≤ callers_sum g cleared_of s.errand
 unfolding callers_sum
-cleared-one g s who has = term-sum g.callers (λ i. cleared_of (s.errand i)) who has
+cleared-one g s caller has = term-sum g.callers (λ i. cleared_of (s.errand i)) caller has
 
 -- all turns
 turns-limited : (g : Geometry) (s : State) → IsSoundWithoutCounts g s → callers_sum g turns_of s.errand ≤ g.callers * g.turn_limit
 unfolding callers_sum
 turns-limited g s sound =
-    sum-most g.callers (λ who. turns_of (s.errand who)) g.turn_limit
-    (λ who has.
-    let own = sound.parts.1.errands who has in
+    sum-most g.callers (λ caller. turns_of (s.errand caller)) g.turn_limit
+    (λ caller has.
+    let own = sound.parts.1.errands caller has in
     let limit = ap (λ (o : Geometry). o.turn_limit) own.geometry in
     omega (arith, own.rule.turns, limit))
 
-pub cleared-each : (g : Geometry) (s : State) (who : ℕ) → IsSoundWithoutCounts g s → who < g.callers → (s.errand who).cleared ≤ g.callers * g.turn_limit
-cleared-each g s who sound has =
-    omega (arith, cleared-one g s who has, cleared-together g s sound, turns-limited g s sound)
+pub cleared-each : (g : Geometry) (s : State) (caller : ℕ) → IsSoundWithoutCounts g s → caller < g.callers → (s.errand caller).cleared ≤ g.callers * g.turn_limit
+cleared-each g s caller sound has =
+    omega (arith, cleared-one g s caller has, cleared-together g s sound, turns-limited g s sound)
 
-pub cleared-far : (g : Geometry) (s : State) (who : ℕ) → IsSoundWithoutCounts g s → who < g.callers → (s.errand who).cleared < 2 ^ 42
-cleared-far g s who sound has =
-    omega (arith, cleared-one g s who has, cleared-together g s sound, turns-most g s sound.parts.0 sound.checked sound.parts.1)
+pub cleared-far : (g : Geometry) (s : State) (caller : ℕ) → IsSoundWithoutCounts g s → caller < g.callers → (s.errand caller).cleared < 2 ^ 42
+cleared-far g s caller sound has =
+    omega (arith, cleared-one g s caller has, cleared-together g s sound, turns-most g s sound.parts.0 sound.checked sound.parts.1)

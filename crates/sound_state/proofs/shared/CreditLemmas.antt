@@ -104,29 +104,29 @@ abbrev pub won_with : ℕ → Found
 won_with word = record { value = word; won = true }
 
 -- an exchange that is won and leads on
-pub record WinsTo (g : Geometry) (s : State) (who : ℕ) (p q : Point) (n : WordName) (expected new : ℕ) : Type 0 where
+pub record WinsTo (g : Geometry) (s : State) (caller : ℕ) (p q : Point) (n : WordName) (expected new : ℕ) : Type 0 where
   pub plan : plan_point_of p ≡ Cas n expected new
   pub next : next_of p (won_with (s.word n)) ≡ At q
-  pub event : event_of who p (won_with (s.word n)) ≡ None
+  pub event : event_of caller p (won_with (s.word n)) ≡ None
   pub cleared : counts_cleared p (won_with (s.word n)) ≡ false
   pub below : new < 2 ^ 64
   pub weighs : WeighFrom n expected new p q
-  pub goes : (l : Lists) → IsSoundWith g s l → PointGoes g s l who p q
+  pub goes : (l : Lists) → IsSoundWith g s l → PointGoes g s l caller p q
   pub actives : (l : Lists) → IsSoundWith g s l → (words' : WordName → ℕ) → Writes s.word n new words' → ActivesKept g s words'
 
 -- keeps the state sound
 pub won-at :
-    (g : Geometry) (s : State) (who : ℕ) (s' : State) (p q : Point) (n : WordName) (expected new : ℕ) → IsSoundWithoutCounts g s → who < g.callers
-    → (s.errand who).point ≡ p → WinsTo g s who p q n expected new → s.word n ≡ expected → Step s who s' → IsSoundWithoutCounts g s'
-won-at g s who s' p q n expected new sound has at h is step =
+    (g : Geometry) (s : State) (caller : ℕ) (s' : State) (p q : Point) (n : WordName) (expected new : ℕ) → IsSoundWithoutCounts g s → caller < g.callers
+    → (s.errand caller).point ≡ p → WinsTo g s caller p q n expected new → s.word n ≡ expected → Step s caller s' → IsSoundWithoutCounts g s'
+won-at g s caller s' p q n expected new sound has at h is step =
     let won : (s.word n == expected) ≡ true = eq-eqb (s.word n) expected is in
     let found : found_from s p ≡ won_with (s.word n) =
     ap (λ a. found_by a (s.word (name_of a))) h.plan ∙ ap (λ b. record { value = s.word n; won = b }) won in
     let after : after_action (Cas n expected new) (s.word n) ≡ new = cond-true {A = ℕ} (s.word n == expected) new (s.word n) won in
-    step-from g s who s' p (At q) tt sound has at
+    step-from g s caller s' p (At q) tt sound has at
     (λ l old. record {
       next = ap (next_of p) found ∙ h.next;
-      event = ap (event_of who p) found ∙ h.event;
+      event = ap (event_of caller p) found ∙ h.event;
       cleared = ap (counts_cleared p) found ∙ h.cleared;
       goes = h.goes l old;
       weigh = rw (h.plan, after, is) h.weighs;

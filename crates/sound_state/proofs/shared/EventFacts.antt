@@ -26,13 +26,13 @@ told-own i history event other =
 
 -- a refusal behind a look: the caller's last two events
 pub refused-ends :
-    (who : ℕ) (history : List Event) (words class : ℕ) → need_of words ≡ Small class → EndsWith (own who history) (Looked who class)
-    → EndsRefused (own who (history ++ Refuse who words ∷ [])) who class
-refused-ends who history words class served ends =
-    let last : own who (history ++ Refuse who words ∷ []) ≡ own who history ++ Refuse who words ∷ [] =
-    own-append who history (Refuse who words ∷ []) ∙ rw (eq-eqb who who refl) refl in (
+    (caller : ℕ) (history : List Event) (words class : ℕ) → need_of words ≡ Small class → EndsWith (own caller history) (Looked caller class)
+    → EndsRefused (own caller (history ++ Refuse caller words ∷ [])) caller class
+refused-ends caller history words class served ends =
+    let last : own caller (history ++ Refuse caller words ∷ []) ≡ own caller history ++ Refuse caller words ∷ [] =
+    own-append caller history (Refuse caller words ∷ []) ∙ rw (eq-eqb caller caller refl) refl in (
       ends.0,
       words,
       served,
-      last ∙ ap (λ xs. xs ++ Refuse who words ∷ []) ends.1 ∙ append_assoc ends.0 (Looked who class ∷ []) (Refuse who words ∷ []),
+      last ∙ ap (λ xs. xs ++ Refuse caller words ∷ []) ends.1 ∙ append_assoc ends.0 (Looked caller class ∷ []) (Refuse caller words ∷ []),
     )

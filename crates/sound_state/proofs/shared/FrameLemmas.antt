@@ -71,28 +71,28 @@ site-is d (Some at) has =
     ]
 
 located-block :
-    (g : Geometry) (s : State) (l : Lists) (who : ℕ) (p : BlockPoint) (at : Site) → All (IsSo g s l who) (block_recalls p)
+    (g : Geometry) (s : State) (l : Lists) (caller : ℕ) (p : BlockPoint) (at : Site) → All (IsSo g s l caller) (block_recalls p)
     → installing_block p ≡ Some at → IsLocated s at.desc at.frame at.seat.class
-located-block g s l who p at so is =
-    let both = subst (All (IsSo g s l who)) (recalls-block p at is) so in
-    (All-head (IsSo g s l who) (bound_at at.desc at.frame at.seat.class) []
-    (All-tail (IsSo g s l who) (says (name.Anchor at.desc) (anchor_word (new_anchor at.seat.class))) (bound_here at) both)).1
+located-block g s l caller p at so is =
+    let both = subst (All (IsSo g s l caller)) (recalls-block p at is) so in
+    (All-head (IsSo g s l caller) (bound_at at.desc at.frame at.seat.class) []
+    (All-tail (IsSo g s l caller) (says (name.Anchor at.desc) (anchor_word (new_anchor at.seat.class))) (bound_here at) both)).1
 
 located-site :
-    (g : Geometry) (s : State) (l : Lists) (who : ℕ) (p : Point) (at : Site) → All (IsSo g s l who) (recalls_of p)
+    (g : Geometry) (s : State) (l : Lists) (caller : ℕ) (p : Point) (at : Site) → All (IsSo g s l caller) (recalls_of p)
     → installing p ≡ Some at → IsLocated s at.desc at.frame at.seat.class
 unfolding recalls_of
-located-site g s l who (point.Block p o) at so is = located-block g s l who p at so is
-located-site g s l who p at so is = absurd (none-some at is)
+located-site g s l caller (point.Block p o) at so is = located-block g s l caller p at so is
+located-site g s l caller p at so is = absurd (none-some at is)
 
 waiting-framed :
-    (g : Geometry) (s : State) (l : Lists) (who d f : ℕ) → IsSoundWith g s l → who < g.callers → 1 ≤ errand_keeps waiting d (s.errand who)
-    → (info_for s d).frame ≡ f → 1 ≤ errand_frames f (s.errand who)
-waiting-framed g s l who d f old has waits lies =
-    let p = (s.errand who).point in
+    (g : Geometry) (s : State) (l : Lists) (caller d f : ℕ) → IsSoundWith g s l → caller < g.callers → 1 ≤ errand_keeps waiting d (s.errand caller)
+    → (info_for s d).frame ≡ f → 1 ≤ errand_frames f (s.errand caller)
+waiting-framed g s l caller d f old has waits lies =
+    let p = (s.errand caller).point in
     let (at, is, same) = site-is d (installing p) (omega (arith, waits, waits-is d p)) in
     let there : at.frame ≡ f =
-    sym (located-site g s l who p at (old.remembered.so who has) is).frame ∙ ap (λ k. (info_for s k).frame) same ∙ lies in
+    sym (located-site g s l caller p at (old.remembered.so caller has) is).frame ∙ ap (λ k. (info_for s k).frame) same ∙ lies in
     let one : is_frame f (installing p) ≡ 1 = ap (is_frame f) is ∙ cond-true {A = ℕ} (at.frame == f) 1 0 (eq-eqb at.frame f there) in
     omega (arith, one, frames-held f p)
 
@@ -111,18 +111,18 @@ bound-fills g s l d f bound none lies =
 
 -- a caller that is about to install the superblock of d
 abbrev WaitsToInstall : Geometry → State → ℕ → Type 0
-WaitsToInstall g s d = (who : ℕ) × (who < g.callers) × (1 ≤ errand_keeps waiting d (s.errand who))
+WaitsToInstall g s d = (caller : ℕ) × (caller < g.callers) × (1 ≤ errand_keeps waiting d (s.errand caller))
 
 some-installs : (g : Geometry) (s : State) (d : ℕ) → waiting_of g s d ≢ 0 → WaitsToInstall g s d
 unfolding callers_sum
-some-installs g s d some = some-term g.callers (λ who. errand_keeps waiting d (s.errand who)) (omega (arith, some))
+some-installs g s d some = some-term g.callers (λ caller. errand_keeps waiting d (s.errand caller)) (omega (arith, some))
 
 installs-framed :
     (g : Geometry) (s : State) (l : Lists) (d f : ℕ) → IsSoundWith g s l → WaitsToInstall g s d → (info_for s d).frame ≡ f
     → 1 ≤ callers_sum g (errand_frames f) s.errand
 unfolding callers_sum
-installs-framed g s l d f old (who, has, waits) lies =
-    omega (arith, term-sum g.callers (λ i. errand_frames f (s.errand i)) who has, waiting-framed g s l who d f old has waits lies)
+installs-framed g s l d f old (caller, has, waits) lies =
+    omega (arith, term-sum g.callers (λ i. errand_frames f (s.errand i)) caller has, waiting-framed g s l caller d f old has waits lies)
 
 both-install :
     (g : Geometry) (s : State) (l : Lists) (d e f : ℕ) → IsSoundWith g s l → d ≢ e → WaitsToInstall g s d → WaitsToInstall g s e

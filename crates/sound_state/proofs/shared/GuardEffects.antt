@@ -24,12 +24,12 @@ use Rattle.sound_state.proofs.shared.ShownLemmas.{IsUnretired}
 use Rattle.sound_state.proofs.shared.SumLemmas.{term-sum}
 
 -- a caller goes on, and no hazard word changes; what its own may say it says still, and what it guards it guarded
-pub record GuardEffects (g : Geometry) (s : State) (who : ℕ) (e : ErrandFields) (s' : State) : Type 0 where
-  pub caller : who < g.callers
-  pub moves : Moves s.errand who e s'.errand
+pub record GuardEffects (g : Geometry) (s : State) (caller : ℕ) (e : ErrandFields) (s' : State) : Type 0 where
+  pub in_heap : caller < g.callers
+  pub moves : Moves s.errand caller e s'.errand
   pub words : (i : ℕ) → s'.word (name.Hazard i) ≡ s.word (name.Hazard i)
-  pub hazard : (w : ℕ) → IsHazard (holds_of (s.errand who).point).hazard w → IsHazard (holds_of e.point).hazard w
-  pub guard : IsGuard (holds_of e.point).hazard → IsGuard (holds_of (s.errand who).point).hazard
+  pub hazard : (w : ℕ) → IsHazard (holds_of (s.errand caller).point).hazard w → IsHazard (holds_of e.point).hazard w
+  pub guard : IsGuard (holds_of e.point).hazard → IsGuard (holds_of (s.errand caller).point).hazard
   pub pushed : pushed_by e.point ≡ None
   pub passed : passed_by e.point ≡ 0
   pub unread : length (held_by e.point) ≡ 0
@@ -37,49 +37,49 @@ pub record GuardEffects (g : Geometry) (s : State) (who : ℕ) (e : ErrandFields
 
 -- whoever guards a descriptor did before
 guards-after :
-    (g : Geometry) (s : State) (who : ℕ) (e : ErrandFields) (s' : State) → GuardEffects g s who e s' → (i d : ℕ) → i < g.callers
+    (g : Geometry) (s : State) (caller : ℕ) (e : ErrandFields) (s' : State) → GuardEffects g s caller e s' → (i d : ℕ) → i < g.callers
     → Guards s' i d → Guards s i d
-guards-after g s who e s' h i d has guards = record {
+guards-after g s caller e s' h i d has guards = record {
   word = sym (h.words i) ∙ guards.word;
   guard =
-      each-other g (λ i e. IsGuard (holds_of e.point).hazard → IsGuard (holds_of (s.errand i).point).hazard) s.errand who e s'.errand h.moves
+      each-other g (λ i e. IsGuard (holds_of e.point).hazard → IsGuard (holds_of (s.errand i).point).hazard) s.errand caller e s'.errand h.moves
       h.guard (λ i has differ guard. guard) i has guards.guard;
 }
 
 -- and the guards are kept
 pub guarded-after :
-    (g : Geometry) (s : State) (who : ℕ) (e : ErrandFields) (s' : State) → GuardEffects g s who e s' → IsGuarded g s → IsGuarded g s'
-guarded-after g s who e s' h guarded = record {
+    (g : Geometry) (s : State) (caller : ℕ) (e : ErrandFields) (s' : State) → GuardEffects g s caller e s' → IsGuarded g s → IsGuarded g s'
+guarded-after g s caller e s' h guarded = record {
   words = λ i has.
       subst (λ w. IsHazard (holds_of (s'.errand i).point).hazard w) (sym (h.words i))
-      (each-other g (λ i e. IsHazard (holds_of e.point).hazard (s.word (name.Hazard i))) s.errand who e s'.errand h.moves
-      (h.hazard (s.word (name.Hazard who)) (guarded.words who h.caller)) (λ i has differ. guarded.words i has) i has);
+      (each-other g (λ i e. IsHazard (holds_of e.point).hazard (s.word (name.Hazard i))) s.errand caller e s'.errand h.moves
+      (h.hazard (s.word (name.Hazard caller)) (guarded.words caller h.in_heap)) (λ i has differ. guarded.words i has) i has);
   pushed = λ i other d has has_other guards is.
-      guarded.pushed i other d has has_other (guards-after g s who e s' h i d has guards)
-      (each-other g (λ j e. pushed_by e.point ≡ Some d → pushed_by (s.errand j).point ≡ Some d) s.errand who e s'.errand h.moves
+      guarded.pushed i other d has has_other (guards-after g s caller e s' h i d has guards)
+      (each-other g (λ j e. pushed_by e.point ≡ Some d → pushed_by (s.errand j).point ≡ Some d) s.errand caller e s'.errand h.moves
       (λ is. absurd (none-some d (sym h.pushed ∙ is))) (λ j has differ is. is) other has_other is);
   passed = λ i other d has has_other guards.
-      each-other g (λ j e. Contains e.retired d → i < passed_by e.point → slice_index (held_by e.point) i ≡ d + 1) s.errand who e s'.errand h.moves
+      each-other g (λ j e. Contains e.retired d → i < passed_by e.point → slice_index (held_by e.point) i ≡ d + 1) s.errand caller e s'.errand h.moves
       (λ listed below. let bad : ⊥ = omega (arith, below, h.passed) in absurd bad)
-      (λ j has_j differ. guarded.passed i j d has has_j (guards-after g s who e s' h i d has guards)) other has_other;
+      (λ j has_j differ. guarded.passed i j d has has_j (guards-after g s caller e s' h i d has guards)) other has_other;
   unread = λ i k.
-      each-other g (λ j e. passed_by e.point ≤ k → k < length (held_by e.point) → slice_index (held_by e.point) k ≡ 0) s.errand who e s'.errand h.moves
+      each-other g (λ j e. passed_by e.point ≤ k → k < length (held_by e.point) → slice_index (held_by e.point) k ≡ 0) s.errand caller e s'.errand h.moves
       (λ passed below. let bad : ⊥ = omega (arith, below, h.unread) in absurd bad) (λ j has_j differ. guarded.unread j k has_j) i;
   full =
-      each-other g (λ i e. spare_of e.point ≡ 1 → length e.retired ≡ g.callers + 1) s.errand who e s'.errand h.moves
+      each-other g (λ i e. spare_of e.point ≡ 1 → length e.retired ≡ g.callers + 1) s.errand caller e s'.errand h.moves
       (λ is. let bad : ⊥ = omega (arith, is, h.spare) in absurd bad) (λ i has differ. guarded.full i has);
 }
 
 -- such is an effect of a caller that guards nothing before it and after it
 pub guarded-clear :
-    (g : Geometry) (s : State) (who : ℕ) (e : ErrandFields) (s' : State) → who < g.callers → Moves s.errand who e s'.errand
-    → ((i : ℕ) → s'.word (name.Hazard i) ≡ s.word (name.Hazard i)) → (holds_of (s.errand who).point).hazard ≡ clear
+    (g : Geometry) (s : State) (caller : ℕ) (e : ErrandFields) (s' : State) → caller < g.callers → Moves s.errand caller e s'.errand
+    → ((i : ℕ) → s'.word (name.Hazard i) ≡ s.word (name.Hazard i)) → (holds_of (s.errand caller).point).hazard ≡ clear
     → (holds_of e.point).hazard ≡ clear → pushed_by e.point ≡ None → passed_by e.point ≡ 0 → length (held_by e.point) ≡ 0 → spare_of e.point ≡ 0
     → IsGuarded g s → IsGuarded g s'
-guarded-clear g s who e s' has moves words was_clear is_clear pushed passed unread spare =
-    guarded-after g s who e s'
+guarded-clear g s caller e s' has moves words was_clear is_clear pushed passed unread spare =
+    guarded-after g s caller e s'
     (record {
-      caller = has;
+      in_heap = has;
       moves = moves;
       words = words;
       hazard = λ w. subst (λ x. IsHazard x w) (was_clear ∙ sym is_clear);

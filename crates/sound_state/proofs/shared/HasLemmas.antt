@@ -44,38 +44,38 @@ has-at e p status d at some = keeps-has e status d (keeps-at e p status d at som
 
 -- what one caller has, of which all have one, no other has
 pub others-none :
-    (g : Geometry) (weight : ErrandFields → ℕ) (errands : ℕ → ErrandFields) (who i : ℕ) → who < g.callers → i < g.callers → i ≢ who
-    → 1 ≤ weight (errands who) → callers_sum g weight errands ≤ 1 → weight (errands i) ≡ 0
+    (g : Geometry) (weight : ErrandFields → ℕ) (errands : ℕ → ErrandFields) (caller i : ℕ) → caller < g.callers → i < g.callers → i ≢ caller
+    → 1 ≤ weight (errands caller) → callers_sum g weight errands ≤ 1 → weight (errands i) ≡ 0
 unfolding callers_sum
-others-none g weight errands who i has has_i other mine most =
-    omega (arith, mine, most, two-terms g.callers (λ k. weight (errands k)) i who has_i has other)
+others-none g weight errands caller i has has_i other mine most =
+    omega (arith, mine, most, two-terms g.callers (λ k. weight (errands k)) i caller has_i has other)
 
 -- so two callers that have a descriptor are one
 pub only-one :
-    (g : Geometry) (s : State) (l : Lists) (who i d : ℕ) → IsSoundWith g s l → who < g.callers → i < g.callers → d < descriptor_count g
-    → 1 ≤ errand_has d (s.errand who) → 1 ≤ errand_has d (s.errand i) → i ≡ who
-only-one g s l who i d old has has_i exists mine his =
-    elim (cases_eq i who) [
+    (g : Geometry) (s : State) (l : Lists) (caller i d : ℕ) → IsSoundWith g s l → caller < g.callers → i < g.callers → d < descriptor_count g
+    → 1 ≤ errand_has d (s.errand caller) → 1 ≤ errand_has d (s.errand i) → i ≡ caller
+only-one g s l caller i d old has has_i exists mine his =
+    elim (cases_eq i caller) [
       | inl is ↦ is
       | inr differ ↦
           let once = old.kept.once d exists in
-          let none : errand_has d (s.errand i) ≡ 0 = others-none g (errand_has d) s.errand who i has has_i differ mine (omega (arith, once)) in
+          let none : errand_has d (s.errand i) ≡ 0 = others-none g (errand_has d) s.errand caller i has has_i differ mine (omega (arith, once)) in
           absurd (omega (arith, none, his))
     ]
 
 -- a partly used superblock that a caller keeps isn't away
 pub keeps-near :
-    (g : Geometry) (s : State) (l : Lists) (who d : ℕ) → IsSoundWith g s l → who < g.callers → d < descriptor_count g
-    → 1 ≤ errand_keeps partly_used d (s.errand who) → away_of g s l d ≡ 0
+    (g : Geometry) (s : State) (l : Lists) (caller d : ℕ) → IsSoundWith g s l → caller < g.callers → d < descriptor_count g
+    → 1 ≤ errand_keeps partly_used d (s.errand caller) → away_of g s l d ≡ 0
 unfolding callers_sum
-keeps-near g s l who d old has exists keeps =
+keeps-near g s l caller d old has exists keeps =
     let partly = λ (i : ℕ). errand_keeps partly_used d (s.errand i) in
     let away = λ (i : ℕ). errand_away d (s.errand i) in
     let both : sum_below g.callers (λ i. partly i + away i) ≡ sum_below g.callers partly + sum_below g.callers away = sum-plus g.callers partly away in
     let least : sum_below g.callers (λ i. partly i + away i) ≤ sum_below g.callers (λ i. errand_has d (s.errand i)) =
     sum-least g.callers (λ i. partly i + away i) (λ i. errand_has d (s.errand i)) (λ i lt. omega arith) in
     let once = old.kept.once d exists in
-    let mine : partly who ≤ sum_below g.callers partly = term-sum g.callers partly who has in
+    let mine : partly caller ≤ sum_below g.callers partly = term-sum g.callers partly caller has in
     omega (arith, once, both, least, mine, keeps)
 
 -- a descriptor that has a superblock isn't away

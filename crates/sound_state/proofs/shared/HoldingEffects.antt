@@ -16,14 +16,14 @@ use Rattle.sound_state.proofs.shared.SumLemmas.{sum-same, callers-moved}
 use Rattle.sound_state.proofs.shared.PointLemmas.{kept_places}
 
 -- a caller goes on, and holds this now where it held that; what it has retired stays
-pub record HoldingEffects (g : Geometry) (s : State) (who : ℕ) (was now : Holding) (e : ErrandFields) (s' : State) : Type 0 where
-  pub caller : who < g.callers
-  pub moves : Moves s.errand who e s'.errand
-  pub retired : e.retired ≡ (s.errand who).retired
-  pub before : holds_of (s.errand who).point ≡ was
+pub record HoldingEffects (g : Geometry) (s : State) (caller : ℕ) (was now : Holding) (e : ErrandFields) (s' : State) : Type 0 where
+  pub in_heap : caller < g.callers
+  pub moves : Moves s.errand caller e s'.errand
+  pub retired : e.retired ≡ (s.errand caller).retired
+  pub before : holds_of (s.errand caller).point ≡ was
   pub after : holds_of e.point ≡ now
 
-module _ {g : Geometry} {s : State} {who : ℕ} {was now : Holding} {e : ErrandFields} {s' : State} (h : HoldingEffects g s who was now e s') where
+module _ {g : Geometry} {s : State} {caller : ℕ} {was now : Holding} {e : ErrandFields} {s' : State} (h : HoldingEffects g s caller was now e s') where
   -- whatever is summed over all holdings changes by what the two weigh
   pub holdings-go :
       (weight : Holding → ℕ)
@@ -31,7 +31,7 @@ module _ {g : Geometry} {s : State} {who : ℕ} {was now : Holding} {e : ErrandF
   holdings-go weight =
       omega (
         arith,
-        callers-moved g (λ e. weight (holds_of e.point)) s.errand who e s'.errand h.caller h.moves,
+        callers-moved g (λ e. weight (holds_of e.point)) s.errand caller e s'.errand h.in_heap h.moves,
         ap weight h.before,
         ap weight h.after,
       )
@@ -57,7 +57,7 @@ module _ {g : Geometry} {s : State} {who : ℕ} {was now : Holding} {e : ErrandF
   away-goes l d =
       omega (
         arith,
-        callers-moved g (errand_away d) s.errand who e s'.errand h.caller h.moves,
+        callers-moved g (errand_away d) s.errand caller e s'.errand h.in_heap h.moves,
         ap (occurs d) h.retired,
         ap (λ x. kept_among on_its_way d x.kept) h.before,
         ap (λ x. kept_among on_its_way d x.kept) h.after,
@@ -69,7 +69,7 @@ module _ {g : Geometry} {s : State} {who : ℕ} {was now : Holding} {e : ErrandF
   places-go d =
       omega (
         arith,
-        callers-moved g (errand_has d) s.errand who e s'.errand h.caller h.moves,
+        callers-moved g (errand_has d) s.errand caller e s'.errand h.in_heap h.moves,
         ap (occurs d) h.retired,
         ap (λ x. kept_places d x.kept) h.before,
         ap (λ x. kept_places d x.kept) h.after,
@@ -77,13 +77,13 @@ module _ {g : Geometry} {s : State} {who : ℕ} {was now : Holding} {e : ErrandF
 
   -- and what is out for a class, where it waits for nothing before and after
   pub stock-goes :
-      (class : ℕ) → waits_in class (s.errand who).point ≡ 0 → waits_in class e.point ≡ 0
+      (class : ℕ) → waits_in class (s.errand caller).point ≡ 0 → waits_in class e.point ≡ 0
       → callers_sum g (errand_stock class) s'.errand + stock_among class was.kept
       ≡ callers_sum g (errand_stock class) s.errand + stock_among class now.kept
   stock-goes class waited waits =
       omega (
         arith,
-        callers-moved g (errand_stock class) s.errand who e s'.errand h.caller h.moves,
+        callers-moved g (errand_stock class) s.errand caller e s'.errand h.in_heap h.moves,
         waited,
         waits,
         ap (λ x. stock_among class x.kept) h.before,

@@ -59,7 +59,7 @@ same-stays-kept s s' d info anchor =
     state-goes s s' d info (ap (λ x. x.state) anchor) (λ partial some. omega (arith, some, ap (λ x. x.count) anchor))
     (λ full. omega (arith, ap (λ x. x.count) anchor))
 
--- what a caller keeps is in the state in which it keeps it
+-- what a exists keeps is in the state in which it keeps it
 pub kept-goes : (s s' : State) (status : Status) (d c : ℕ) → StaysKept s s' d → IsKeptAs s status d c → IsKeptAs s' status d c
 kept-goes s s' reserving d c h k = h.active c k
 kept-goes s s' waiting d c h k = h.active c k
@@ -87,56 +87,56 @@ on-kept P Q (k ∷ ks) f all =
     All-cons Q k ks (f k (kept-here k ks) (All-head P k ks all))
     (on-kept P Q ks (λ x on. f x (omega (arith, on, kept_places-more x.desc k ks))) (All-tail P k ks all))
 
--- a caller alone has d
-pub record HasAlone (g : Geometry) (s : State) (l : Lists) (who d : ℕ) : Type 0 where
+-- a exists alone has d
+pub record HasAlone (g : Geometry) (s : State) (l : Lists) (caller d : ℕ) : Type 0 where
   pub words : words_sum g (word_keeps d) s.word ≡ 0
   pub listed : sum_below CLASSES (λ class. occurs d (l.partials class)) ≡ 0
   pub available : occurs d l.available ≡ 0
-  pub retired : occurs d (s.errand who).retired ≡ 0
-  pub others : (i : ℕ) → i < g.callers → i ≢ who → errand_has d (s.errand i) ≡ 0
+  pub retired : occurs d (s.errand caller).retired ≡ 0
+  pub others : (i : ℕ) → i < g.callers → i ≢ caller → errand_has d (s.errand i) ≡ 0
 
 -- it does where it keeps d
 pub has-alone :
-    (g : Geometry) (s : State) (l : Lists) (who d : ℕ) → IsKept g s l → who < g.callers → d < descriptor_count g
-    → 1 ≤ kept_places d (holds_of (s.errand who).point).kept → HasAlone g s l who d
+    (g : Geometry) (s : State) (l : Lists) (caller d : ℕ) → IsKept g s l → caller < g.callers → d < descriptor_count g
+    → 1 ≤ kept_places d (holds_of (s.errand caller).point).kept → HasAlone g s l caller d
 unfolding callers_sum
-has-alone g s l who d kept caller has keeps =
+has-alone g s l caller d kept exists has keeps =
     let once = kept.once d has in
-    let own : errand_has d (s.errand who) ≡ occurs d (s.errand who).retired + kept_places d (holds_of (s.errand who).point).kept =
+    let own : errand_has d (s.errand caller) ≡ occurs d (s.errand caller).retired + kept_places d (holds_of (s.errand caller).point).kept =
     omega arith in
-    let mine : errand_has d (s.errand who) ≤ sum_below g.callers (λ i. errand_has d (s.errand i)) =
-    term-sum g.callers (λ i. errand_has d (s.errand i)) who caller in
+    let mine : errand_has d (s.errand caller) ≤ sum_below g.callers (λ i. errand_has d (s.errand i)) =
+    term-sum g.callers (λ i. errand_has d (s.errand i)) caller exists in
     record {
       words = omega (arith, once, own, keeps, mine);
       listed = omega (arith, once, own, keeps, mine);
       available = omega (arith, once, own, keeps, mine);
       retired = omega (arith, once, own, keeps, mine);
       others = λ i has_i other.
-          omega (arith, once, own, keeps, two-terms g.callers (λ i. errand_has d (s.errand i)) i who has_i caller other);
+          omega (arith, once, own, keeps, two-terms g.callers (λ i. errand_has d (s.errand i)) i caller has_i exists other);
     }
 
--- a caller alone has d before a step, no word holds it after the step, and it is without free blocks where it is FULL then
-pub record ChangesAlone (g : Geometry) (s : State) (l : Lists) (who : ℕ) (s' : State) (d : ℕ) : Type 0 where
-  pub alone : HasAlone g s l who d
+-- a exists alone has d before a step, no word holds it after the step, and it is without free blocks where it is FULL then
+pub record ChangesAlone (g : Geometry) (s : State) (l : Lists) (caller : ℕ) (s' : State) (d : ℕ) : Type 0 where
+  pub alone : HasAlone g s l caller d
   pub words : words_sum g (word_keeps d) s'.word ≡ 0
   pub full : (anchor_for s' d).state ≡ phase.Full → (anchor_for s' d).count ≡ 0
 
 -- a step leaves the lists, and each descriptor in one place
-pub record KeepsPlaces (g : Geometry) (s : State) (l : Lists) (who : ℕ) (e : ErrandFields) (s' : State) : Type 0 where
-  pub caller : who < g.callers
-  pub moves : Moves s.errand who e s'.errand
+pub record KeepsPlaces (g : Geometry) (s : State) (l : Lists) (caller : ℕ) (e : ErrandFields) (s' : State) : Type 0 where
+  pub in_heap : caller < g.callers
+  pub moves : Moves s.errand caller e s'.errand
   pub places : (d : ℕ) → places_of g s' l d ≡ places_of g s l d
   pub actives : ActivesKept g s s'.word
-  pub goes : (d : ℕ) → StaysKept s s' d ⊎ ChangesAlone g s l who s' d
-  pub retired : e.retired ≡ (s.errand who).retired
+  pub goes : (d : ℕ) → StaysKept s s' d ⊎ ChangesAlone g s l caller s' d
+  pub retired : e.retired ≡ (s.errand caller).retired
   pub own : All (λ k. IsKeptAs s' k.status k.desc k.class) (holds_of e.point).kept
 
 -- then each is in the state that belongs there
 pub places-kept :
-    (g : Geometry) (s : State) (l : Lists) (who : ℕ) (e : ErrandFields) (s' : State) → KeepsPlaces g s l who e s' → IsKept g s l
+    (g : Geometry) (s : State) (l : Lists) (caller : ℕ) (e : ErrandFields) (s' : State) → KeepsPlaces g s l caller e s' → IsKept g s l
     → IsKept g s' l
-places-kept g s l who e s' h kept =
-    let goes : (d : ℕ) → (ChangesAlone g s l who s' d → ⊥) → StaysKept s s' d =
+places-kept g s l caller e s' h kept =
+    let goes : (d : ℕ) → (ChangesAlone g s l caller s' d → ⊥) → StaysKept s s' d =
     λ d more. elim (h.goes d) [ inl goes ↦ goes | inr alone ↦ absurd (more alone) ] in
     record {
       once = λ d has. h.places d ∙ kept.once d has;
@@ -169,15 +169,15 @@ places-kept g s l who e s' h kept =
           on-all (IsWithout s) (IsWithout s') l.available
           (λ d on. (goes d (λ a. let none : ⊥ = omega (arith, a.alone.available, on) in none)).without) kept.available;
       retired =
-          each-other g (λ i f. All (IsWithout s') f.retired) s.errand who e s'.errand h.moves
+          each-other g (λ i f. All (IsWithout s') f.retired) s.errand caller e s'.errand h.moves
           (subst (All (IsWithout s')) (sym h.retired)
-          (on-all (IsWithout s) (IsWithout s') (s.errand who).retired
-          (λ d on. (goes d (λ a. let none : ⊥ = omega (arith, a.alone.retired, on) in none)).without) (kept.retired who h.caller)))
+          (on-all (IsWithout s) (IsWithout s') (s.errand caller).retired
+          (λ d on. (goes d (λ a. let none : ⊥ = omega (arith, a.alone.retired, on) in none)).without) (kept.retired caller h.in_heap)))
           (λ i has other.
           on-all (IsWithout s) (IsWithout s') (s.errand i).retired
           (λ d on. (goes d (λ a. let none : ⊥ = omega (arith, a.alone.others i has other, on) in none)).without) (kept.retired i has));
       errand =
-          each-other g (λ i f. All (λ k. IsKeptAs s' k.status k.desc k.class) (holds_of f.point).kept) s.errand who e s'.errand h.moves h.own
+          each-other g (λ i f. All (λ k. IsKeptAs s' k.status k.desc k.class) (holds_of f.point).kept) s.errand caller e s'.errand h.moves h.own
           (λ i has other.
           on-kept (λ k. IsKeptAs s k.status k.desc k.class) (λ k. IsKeptAs s' k.status k.desc k.class) (holds_of (s.errand i).point).kept
           (λ k on.
@@ -200,42 +200,42 @@ words-but g weight words words' n elsewhere none =
     sum-same (word_count g) (λ k. weight (word_name g k) (words (word_name g k))) (λ k. weight (word_name g k) (words' (word_name g k)))
     (λ k lt. same (word_name g k))
 
--- a caller changes the anchor of x, of class c, from a to b, where what it keeps then stands for that
-pub record MovesAt (g : Geometry) (s : State) (l : Lists) (who x c : ℕ) (a b : AnchorFields) (e : ErrandFields) (s' : State) : Type 0 where
-  pub caller : who < g.callers
-  pub moves : Moves s.errand who e s'.errand
+-- a exists changes the anchor of x, of class c, from a to b, where what it keeps then stands for that
+pub record MovesAt (g : Geometry) (s : State) (l : Lists) (caller x c : ℕ) (a b : AnchorFields) (e : ErrandFields) (s' : State) : Type 0 where
+  pub in_heap : caller < g.callers
+  pub moves : Moves s.errand caller e s'.errand
   pub exists : x < descriptor_count g
   pub class : (info_for s x).class ≡ c
   pub before : anchor_for s x ≡ a
   pub after : anchor_for s' x ≡ b
   pub elsewhere : (n : WordName) → n ≢ name.Anchor x → s'.word n ≡ s.word n
-  pub retired : e.retired ≡ (s.errand who).retired
+  pub retired : e.retired ≡ (s.errand caller).retired
   pub places :
       (d : ℕ) → kept_places d (holds_of e.point).kept + (if x == d then full_keeps b.state else 0)
-      ≡ kept_places d (holds_of (s.errand who).point).kept + (if x == d then full_keeps a.state else 0)
+      ≡ kept_places d (holds_of (s.errand caller).point).kept + (if x == d then full_keeps a.state else 0)
   pub stock :
       (class : ℕ) → errand_stock class e + (if c == class then full_keeps b.state else 0)
-      ≡ errand_stock class (s.errand who) + (if c == class then full_keeps a.state else 0)
-  pub goes : StaysKept s s' x ⊎ ((1 ≤ kept_places x (holds_of (s.errand who).point).kept) × (b.state ≡ phase.Full → b.count ≡ 0))
+      ≡ errand_stock class (s.errand caller) + (if c == class then full_keeps a.state else 0)
+  pub goes : StaysKept s s' x ⊎ ((1 ≤ kept_places x (holds_of (s.errand caller).point).kept) × (b.state ≡ phase.Full → b.count ≡ 0))
   pub own : All (λ k. IsKeptAs s' k.status k.desc k.class) (holds_of e.point).kept
 
 moved-info :
-    (g : Geometry) (s : State) (l : Lists) (who x c : ℕ) (a b : AnchorFields) (e : ErrandFields) (s' : State) → MovesAt g s l who x c a b e s'
+    (g : Geometry) (s : State) (l : Lists) (caller x c : ℕ) (a b : AnchorFields) (e : ErrandFields) (s' : State) → MovesAt g s l caller x c a b e s'
     → (d : ℕ) → info_for s' d ≡ info_for s d
-moved-info g s l who x c a b e s' h d = ap (λ w. info_or_zero (info_of w)) (h.elsewhere (name.Info d) (λ same. cc))
+moved-info g s l caller x c a b e s' h d = ap (λ w. info_or_zero (info_of w)) (h.elsewhere (name.Info d) (λ same. cc))
 
 moved-anchor :
-    (g : Geometry) (s : State) (l : Lists) (who x c : ℕ) (a b : AnchorFields) (e : ErrandFields) (s' : State) → MovesAt g s l who x c a b e s'
+    (g : Geometry) (s : State) (l : Lists) (caller x c : ℕ) (a b : AnchorFields) (e : ErrandFields) (s' : State) → MovesAt g s l caller x c a b e s'
     → (d : ℕ) → d ≢ x → anchor_for s' d ≡ anchor_for s d
-moved-anchor g s l who x c a b e s' h d differ = ap anchor_of (h.elsewhere (name.Anchor d) (λ same. differ (ap anchor_number same)))
+moved-anchor g s l caller x c a b e s' h d differ = ap anchor_of (h.elsewhere (name.Anchor d) (λ same. differ (ap anchor_number same)))
 
 -- what is FULL changes at x alone
 moved-full :
-    (g : Geometry) (s : State) (l : Lists) (who x c : ℕ) (a b : AnchorFields) (e : ErrandFields) (s' : State) → MovesAt g s l who x c a b e s'
+    (g : Geometry) (s : State) (l : Lists) (caller x c : ℕ) (a b : AnchorFields) (e : ErrandFields) (s' : State) → MovesAt g s l caller x c a b e s'
     → (d : ℕ)
     → full_keeps (anchor_for s' d).state + (if x == d then full_keeps a.state else 0)
     ≡ full_keeps (anchor_for s d).state + (if x == d then full_keeps b.state else 0)
-moved-full g s l who x c a b e s' h d =
+moved-full g s l caller x c a b e s' h d =
     elim (cases_eq x d) [
       | inl here ↦
           let after : full_keeps (anchor_for s' d).state ≡ full_keeps b.state =
@@ -252,7 +252,7 @@ moved-full g s l who x c a b e s' h d =
       | inr other ↦
           omega (
             arith,
-            ap (λ y. full_keeps y.state) (moved-anchor g s l who x c a b e s' h d (λ same. other (sym same))),
+            ap (λ y. full_keeps y.state) (moved-anchor g s l caller x c a b e s' h d (λ same. other (sym same))),
             cond-false {A = ℕ} (x == d) (full_keeps a.state) 0 (ne_eqb x d other),
             cond-false {A = ℕ} (x == d) (full_keeps b.state) 0 (ne_eqb x d other),
           )
@@ -260,29 +260,29 @@ moved-full g s l who x c a b e s' h d =
 
 -- each descriptor stands in as many places, so in one, in the state that belongs there
 pub moved-kept :
-    (g : Geometry) (s : State) (l : Lists) (who x c : ℕ) (a b : AnchorFields) (e : ErrandFields) (s' : State) → MovesAt g s l who x c a b e s'
+    (g : Geometry) (s : State) (l : Lists) (caller x c : ℕ) (a b : AnchorFields) (e : ErrandFields) (s' : State) → MovesAt g s l caller x c a b e s'
     → IsKept g s l → IsKept g s' l
-moved-kept g s l who x c a b e s' h kept =
+moved-kept g s l caller x c a b e s' h kept =
     let words = λ (d : ℕ). words-but g (word_keeps d) s.word s'.word (name.Anchor x) h.elsewhere (λ w. refl) in
     let active = λ (heap class : ℕ). h.elsewhere (name.Active heap class) (λ same. cc) in
     let slot = λ (heap class : ℕ). h.elsewhere (name.Slot heap class) (λ same. cc) in
-    places-kept g s l who e s'
+    places-kept g s l caller e s'
     (record {
-      caller = h.caller;
+      in_heap = h.in_heap;
       moves = h.moves;
       places = λ d.
-          let now : errand_has d e ≡ occurs d (s.errand who).retired + kept_places d (holds_of e.point).kept =
+          let now : errand_has d e ≡ occurs d (s.errand caller).retired + kept_places d (holds_of e.point).kept =
           omega (arith, ap (occurs d) h.retired) in
-          let was : errand_has d (s.errand who) ≡ occurs d (s.errand who).retired + kept_places d (holds_of (s.errand who).point).kept =
+          let was : errand_has d (s.errand caller) ≡ occurs d (s.errand caller).retired + kept_places d (holds_of (s.errand caller).point).kept =
           omega arith in
           omega (
             arith,
             now,
             was,
-            callers-moved g (errand_has d) s.errand who e s'.errand h.caller h.moves,
+            callers-moved g (errand_has d) s.errand caller e s'.errand h.in_heap h.moves,
             words d,
             h.places d,
-            moved-full g s l who x c a b e s' h d,
+            moved-full g s l caller x c a b e s' h d,
           );
       actives = record {
         active_words = λ heap class has_heap has_class.
@@ -295,13 +295,13 @@ moved-kept g s l who x c a b e s' h kept =
       };
       goes = λ d.
           elim (cases_eq d x) [
-            | inr other ↦ inl (same-stays-kept s s' d (moved-info g s l who x c a b e s' h d) (moved-anchor g s l who x c a b e s' h d other))
+            | inr other ↦ inl (same-stays-kept s s' d (moved-info g s l caller x c a b e s' h d) (moved-anchor g s l caller x c a b e s' h d other))
             | inl same ↦
                 elim h.goes [
                   | inl goes ↦ inl (subst (StaysKept s s') (sym same) goes)
                   | inr keeps ↦
-                      let alone = has-alone g s l who x kept h.caller h.exists keeps.0 in
-                      inr (subst (ChangesAlone g s l who s') (sym same) (record {
+                      let alone = has-alone g s l caller x kept h.in_heap h.exists keeps.0 in
+                      inr (subst (ChangesAlone g s l caller s') (sym same) (record {
                         alone = alone;
                         words = words x ∙ alone.words;
                         full = λ is. ap (λ y. y.count) h.after ∙ keeps.1 (sym (ap (λ y. y.state) h.after) ∙ is);
@@ -314,21 +314,21 @@ moved-kept g s l who x c a b e s' h kept =
 
 -- and as many are out for each class
 pub moved-stocked :
-    (g : Geometry) (s : State) (l : Lists) (who x c : ℕ) (a b : AnchorFields) (e : ErrandFields) (s' : State) → MovesAt g s l who x c a b e s'
+    (g : Geometry) (s : State) (l : Lists) (caller x c : ℕ) (a b : AnchorFields) (e : ErrandFields) (s' : State) → MovesAt g s l caller x c a b e s'
     → IsStocked g s l → IsStocked g s' l
-moved-stocked g s l who x c a b e s' h stocked = record {
+moved-stocked g s l caller x c a b e s' h stocked = record {
   most = λ class has.
       let elsewhere : (d : ℕ) → d < descriptor_count g → d ≢ x → full_stock s' class d ≡ full_stock s class d =
-      λ d lt other. rw (moved-info g s l who x c a b e s' h d, moved-anchor g s l who x c a b e s' h d other) refl in
+      λ d lt other. rw (moved-info g s l caller x c a b e s' h d, moved-anchor g s l caller x c a b e s' h d other) refl in
       let after : full_stock s' class x ≡ (if c == class then full_keeps b.state else 0) =
-      rw (moved-info g s l who x c a b e s' h x, h.class, h.after) refl in
+      rw (moved-info g s l caller x c a b e s' h x, h.class, h.after) refl in
       let before : full_stock s class x ≡ (if c == class then full_keeps a.state else 0) = rw (h.class, h.before) refl in
       omega (
         arith,
         stocked.most class has,
         after,
         before,
-        callers-moved g (errand_stock class) s.errand who e s'.errand h.caller h.moves,
+        callers-moved g (errand_stock class) s.errand caller e s'.errand h.in_heap h.moves,
         words-but g (word_stock class) s.word s'.word (name.Anchor x) h.elsewhere (λ w. refl),
         sum-change (descriptor_count g) (full_stock s class) (full_stock s' class) x h.exists elsewhere,
         h.stock class,

@@ -28,16 +28,16 @@ use Rattle.sound_state.proofs.shared.OverlapLemmas.{formed-at}
 use Rattle.sound_state.proofs.shared.SumLemmas.{term-sum, two-terms}
 
 -- who makes a superblock has its frame in its hand, and no superblock waits with it
-pub record IsMaking (s : State) (who f : ℕ) : Type 0 where
-  pub hand : 0 < errand_frames f (s.errand who)
-  pub waits : (d : ℕ) → errand_keeps waiting d (s.errand who) ≡ 0
+pub record IsMaking (s : State) (caller f : ℕ) : Type 0 where
+  pub hand : 0 < errand_frames f (s.errand caller)
+  pub waits : (d : ℕ) → errand_keeps waiting d (s.errand caller) ≡ 0
 
 making-frame : (at : Site) → 0 < occurs at.frame (making at).frames
 making-frame at = grind (arith)
 
-pub is-making : (s : State) (who : ℕ) (p : Point) (at : Site) → (s.errand who).point ≡ p → holds_of p ≡ making at → IsMaking s who at.frame
-is-making s who p at stands holds =
-    let held : holds_of (s.errand who).point ≡ making at = ap holds_of stands ∙ holds in
+pub is-making : (s : State) (caller : ℕ) (p : Point) (at : Site) → (s.errand caller).point ≡ p → holds_of p ≡ making at → IsMaking s caller at.frame
+is-making s caller p at stands holds =
+    let held : holds_of (s.errand caller).point ≡ making at = ap holds_of stands ∙ holds in
     record {
       hand = subst (λ h. 0 < occurs at.frame h.frames) (sym held) (making-frame at);
       waits = λ d. ap (λ h. kept_among waiting d h.kept) held ∙ making-waits d at;
@@ -45,56 +45,56 @@ is-making s who p at stands holds =
 
 -- so no superblock lies there
 pub making-unbound :
-    (g : Geometry) (s : State) (l : Lists) (who f d : ℕ) → IsSoundWith g s l → who < g.callers → f < g.frames → d < descriptor_count g
-    → IsMaking s who f → IsTrue (is_bound g s l d) → (info_for s d).frame ≢ f
+    (g : Geometry) (s : State) (l : Lists) (caller f d : ℕ) → IsSoundWith g s l → caller < g.callers → f < g.frames → d < descriptor_count g
+    → IsMaking s caller f → IsTrue (is_bound g s l d) → (info_for s d).frame ≢ f
 unfolding callers_sum
-making-unbound g s l who f d old has in_heap exists mine bound at =
+making-unbound g s l caller f d old has in_heap exists mine bound at =
     let once = old.framed.once f in_heap in
     let hands = λ (i : ℕ). errand_frames f (s.errand i) in
     elim (held-or-filled g s l f d old bound at) [
       | inl one ↦
-          let differ : one.0 ≢ who =
+          let differ : one.0 ≢ caller =
           λ is.
-          let some : 0 < errand_keeps waiting d (s.errand who) = subst (λ i. 0 < errand_keeps waiting d (s.errand i)) is one.2 in
+          let some : 0 < errand_keeps waiting d (s.errand caller) = subst (λ i. 0 < errand_keeps waiting d (s.errand i)) is one.2 in
           let bad : ⊥ = omega (arith, some, mine.waits d) in bad in
-          omega (arith, once, one.3, mine.hand, two-terms g.callers hands one.0 who one.1 has differ)
+          omega (arith, once, one.3, mine.hand, two-terms g.callers hands one.0 caller one.1 has differ)
       | inr one ↦
           omega
-          (arith, once, one, mine.hand, term-sum g.callers hands who has, term-sum (descriptor_count g) (fills_frame g s l f) d exists)
+          (arith, once, one, mine.hand, term-sum g.callers hands caller has, term-sum (descriptor_count g) (fills_frame g s l f) d exists)
     ]
 
 -- and no other caller has the frame
 pub making-alone :
-    (g : Geometry) (s : State) (l : Lists) (who other f : ℕ) → IsSoundWith g s l → who < g.callers → other < g.callers → f < g.frames
-    → IsMaking s who f → IsMaking s other f → other ≡ who
+    (g : Geometry) (s : State) (l : Lists) (caller other f : ℕ) → IsSoundWith g s l → caller < g.callers → other < g.callers → f < g.frames
+    → IsMaking s caller f → IsMaking s other f → other ≡ caller
 unfolding callers_sum
-making-alone g s l who other f old has has_other in_heap mine theirs =
+making-alone g s l caller other f old has has_other in_heap mine theirs =
     let once = old.framed.once f in_heap in
-    elim (cases_eq other who) [
+    elim (cases_eq other caller) [
       | inl is ↦ is
       | inr differ ↦
           absurd
           (omega
-          (arith, once, mine.hand, theirs.hand, two-terms g.callers (λ i. errand_frames f (s.errand i)) other who has_other has differ))
+          (arith, once, mine.hand, theirs.hand, two-terms g.callers (λ i. errand_frames f (s.errand i)) other caller has_other has differ))
     ]
 
 -- the frame of a live small block is none that is in the making
 pub small-unmade :
-    (g : Geometry) (s : State) (l : Lists) (who f place class : ℕ) (b : Block) → IsSoundWith g s l → who < g.callers → f < g.frames
-    → IsMaking s who f → IsLive s place b → b.need ≡ Small class → frame_of place ≢ f
-small-unmade g s l who f place class b old has in_heap mine live of at =
+    (g : Geometry) (s : State) (l : Lists) (caller f place class : ℕ) (b : Block) → IsSoundWith g s l → caller < g.callers → f < g.frames
+    → IsMaking s caller f → IsLive s place b → b.need ≡ Small class → frame_of place ≢ f
+small-unmade g s l caller f place class b old has in_heap mine live of at =
     let tied = old.tied.small place class b live of in
-    making-unbound g s l who f tied.0 old has in_heap tied.1.exists mine tied.1.bound (tied.1.located.frame ∙ at)
+    making-unbound g s l caller f tied.0 old has in_heap tied.1.exists mine tied.1.bound (tied.1.located.frame ∙ at)
 
 -- no block is live in a frame that is in the making
 pub live-unmade :
-    (g : Geometry) (s : State) (l : Lists) (who f place : ℕ) (b : Block) (n : Need) → IsSoundWithoutCounts g s → IsSoundWith g s l
-    → who < g.callers → f < g.frames → IsMaking s who f → IsLive s place b → b.need ≡ n → frame_of place ≢ f
-live-unmade g s l who f place b (Small class) sound old has in_heap mine live of =
-    small-unmade g s l who f place class b old has in_heap mine live of
-live-unmade g s l who f place b (Large units) sound old has in_heap mine live of =
+    (g : Geometry) (s : State) (l : Lists) (caller f place : ℕ) (b : Block) (n : Need) → IsSoundWithoutCounts g s → IsSoundWith g s l
+    → caller < g.callers → f < g.frames → IsMaking s caller f → IsLive s place b → b.need ≡ n → frame_of place ≢ f
+live-unmade g s l caller f place b (Small class) sound old has in_heap mine live of =
+    small-unmade g s l caller f place class b old has in_heap mine live of
+live-unmade g s l caller f place b (Large units) sound old has in_heap mine live of =
     λ at.
     let behind : g.frames ≤ frame_of b.place = large-frame g b.need units b.place of (formed-at g s place b sound live).place in
     omega (arith, behind, at, in_heap, ap frame_of (place-found place (pool_of s.history) b live))
-live-unmade g s l who f place b TooLarge sound old has in_heap mine live of =
+live-unmade g s l caller f place b TooLarge sound old has in_heap mine live of =
     absurd (subst (λ n. IsPlaceFor g n b.place) of (formed-at g s place b sound live).place)

@@ -8,7 +8,7 @@ use Rattle.heap_geometry.specs.declared.geometry.Geometry.{Geometry}
 use Rattle.word_plan.specs.declared.action.Found.{Found}
 use Rattle.word_plan.specs.Seats.{SeatFields}
 use Rattle.hazard_parts.specs.declared.point.DescPoint.TheVariants as desc
-use Rattle.errand_steps.specs.declared.onward.Onward.{Onward}
+use Rattle.errand_steps.specs.declared.continuation.Continuation.{Continuation}
 use Rattle.errand_steps.specs.declared.point.Point.{Point}
 use Rattle.errand_steps.specs.declared.point.Point.TheVariants.{Idle, Desc}
 use Rattle.errand_steps.specs.Errands.{ErrandFields, settle_of, counts_lost, no_words}
@@ -49,7 +49,7 @@ idle-nothing = record {
 no_words-zero : (i : ℕ) → i < length no_words → slice_index no_words i ≡ 0
 no_words-zero i lt = grind (arith, common_steps)
 
-pub scan-nothing : (seat : SeatFields) (o : Onward) → HoldsNothing (Desc (desc.ReadHazard seat no_words 0) o)
+pub scan-nothing : (seat : SeatFields) (o : Continuation) → HoldsNothing (Desc (desc.ReadHazard seat no_words 0) o)
 unfolding holds_of
 scan-nothing seat o =
     record { holds = refl; waits = λ class. refl; pushed = refl; passed = refl; unread = no_words-zero }
@@ -61,8 +61,8 @@ keeps-excepts ks h place (inr x) = omega (arith, x.2)
 
 -- the caller guards nothing there
 pub nothing-guards :
-    (g : Geometry) (s : State) (who : ℕ) (q : Point) (retired : List ℕ) (word : ℕ) → HoldsNothing q → word ≡ 0 → MayGuard g s who q retired word
-nothing-guards g s who q retired word h bare = record {
+    (g : Geometry) (s : State) (caller : ℕ) (q : Point) (retired : List ℕ) (word : ℕ) → HoldsNothing q → word ≡ 0 → MayGuard g s caller q retired word
+nothing-guards g s caller q retired word h bare = record {
   hazard = subst (λ held. IsHazard held.hazard word) (sym h.holds) bare;
   guard = λ d is guard. absurd (subst (λ held. IsGuard held.hazard) h.holds guard);
   pushed = λ i d has guards is. absurd (none-some d (sym h.pushed ∙ is));
@@ -72,42 +72,42 @@ nothing-guards g s who q retired word h bare = record {
 
 -- the errand after a step is still the caller's own
 pub settled-own :
-    (g : Geometry) (who : ℕ) (e : ErrandFields) (x : Found) (f : ErrandFields) → IsOwnErrand g who e → x.value < 2 ^ 64 → settle_of e x ≡ f
-    → IsOwnErrand g who f
+    (g : Geometry) (caller : ℕ) (e : ErrandFields) (x : Found) (f : ErrandFields) → IsOwnErrand g caller e → x.value < 2 ^ 64 → settle_of e x ≡ f
+    → IsOwnErrand g caller f
 unfolding settle_of
-settled-own g who e x f own word after =
-    subst (IsOwnErrand g who) after
+settled-own g caller e x f own word after =
+    subst (IsOwnErrand g caller) after
     (record {
-      caller = own.caller;
+      number = own.number;
       geometry = own.geometry;
       rule = settle_errand e x own.rule word;
       lost = raised-below (counts_lost e.point x) e.lost own.lost;
     })
 
 -- the caller's turns and counts go on from one errand to another as they may
-pub record CountsGo (g : Geometry) (s : State) (who : ℕ) (a b : ErrandFields) : Type 0 where
-  pub own_turns : count_by (gives_small who) s.history + turn_open b ≤ b.turns
+pub record CountsGo (g : Geometry) (s : State) (caller : ℕ) (a b : ErrandFields) : Type 0 where
+  pub own_turns : count_by (gives_small caller) s.history + turn_open b ≤ b.turns
   pub own_lost :
       b.turns + errand_discards b
-      ≤ count_by (gives_small who) s.history + count_by (refuses_small who) s.history + b.lost + turn_unanswered b
+      ≤ count_by (gives_small caller) s.history + count_by (refuses_small caller) s.history + b.lost + turn_unanswered b
   pub frame_turns : turn_unframed b + a.turns ≤ turn_unframed a + b.turns
   pub list_turns :
       errand_pops b + turn_unlisted b + a.turns + a.cleared ≤ errand_pops a + turn_unlisted a + b.turns + b.cleared
 
 -- so the caller may go on to such a point, where what it remembers there is so
 pub nothing-may :
-    (g : Geometry) (s : State) (l : Lists) (who : ℕ) (a b : ErrandFields) → HoldsNothing b.point → IsOwnErrand g who b
+    (g : Geometry) (s : State) (l : Lists) (caller : ℕ) (a b : ErrandFields) → HoldsNothing b.point → IsOwnErrand g caller b
     → All (IsWithout s) b.retired → (spare_of b.point ≡ 1 → length b.retired ≡ g.callers + 1)
-    → All (IsSo g s l who) (recalls_of b.point) → ((place : ℕ) → Excepts a place → IsSaidAt g s l place) → CountsGo g s who a b
-    → MayGoOn g s l who a b
-nothing-may g s l who a b h own retired full so said counts = record {
+    → All (IsSo g s l caller) (recalls_of b.point) → ((place : ℕ) → Excepts a place → IsSaidAt g s l place) → CountsGo g s caller a b
+    → MayGoOn g s l caller a b
+nothing-may g s l caller a b h own retired full so said counts = record {
   rule = own;
   kept = subst (λ held. All (λ k. IsKeptAs s k.status k.desc k.class) held.kept) (sym h.holds) (All-nil (λ k. IsKeptAs s k.status k.desc k.class));
   retired = retired;
   so = so;
   full = full;
-  hands = subst (λ held. All (λ x. IsOwned s who x.place x.need) held.hands) (sym h.holds) (All-nil (λ x. IsOwned s who x.place x.need));
-  frees = subst (λ held. All (λ x. IsOwned s who x.place x.need) held.frees) (sym h.holds) (All-nil (λ x. IsOwned s who x.place x.need));
+  hands = subst (λ held. All (λ x. IsOwned s caller x.place x.need) held.hands) (sym h.holds) (All-nil (λ x. IsOwned s caller x.place x.need));
+  frees = subst (λ held. All (λ x. IsOwned s caller x.place x.need) held.frees) (sym h.holds) (All-nil (λ x. IsOwned s caller x.place x.need));
   excepts = λ place x. inr (said place x);
   own_turns = counts.own_turns;
   own_lost = counts.own_lost;

@@ -15,7 +15,7 @@ use Rattle.pool_model.specs.Pool.{Block as Live, block_at, pool_of}
 use Rattle.pool_model.specs.declared.owner.Owner.TheVariants.{Caller, Shelf}
 use Rattle.pool_model.specs.declared.owner.Owner.{Owner}
 use Rattle.errand_steps.specs.Steps.{State}
-use Rattle.errand_steps.specs.declared.onward.Onward.{Onward}
+use Rattle.errand_steps.specs.declared.continuation.Continuation.{Continuation}
 use Rattle.errand_steps.specs.declared.point.Point.TheVariants.{Block}
 use Rattle.sound_state.specs.Holdings.{Handed, Freed, Holding, holds_of}
 use Rattle.sound_state.specs.Lists.{Lists}
@@ -54,18 +54,18 @@ excepter-owns s j place h hands frees (inr a) =
 
 -- so only its owner excepts a block
 pub only-owner :
-    (g : Geometry) (s : State) (l : Lists) (who place : ℕ) (n : Need) → IsSoundWith g s l → IsOwned s who place n → IsExcepted g s place
-    → HoldsException (holds_of (s.errand who).point) place
-only-owner g s l who place n old owned x =
-    let j : ℕ = x.who.0 in
-    let has : j < g.callers = x.who.1 in
-    let excepts : HoldsException (holds_of (s.errand j).point) place = x.who.2 in
+    (g : Geometry) (s : State) (l : Lists) (caller place : ℕ) (n : Need) → IsSoundWith g s l → IsOwned s caller place n → IsExcepted g s place
+    → HoldsException (holds_of (s.errand caller).point) place
+only-owner g s l caller place n old owned x =
+    let j : ℕ = x.caller.0 in
+    let has : j < g.callers = x.caller.1 in
+    let excepts : HoldsException (holds_of (s.errand j).point) place = x.caller.2 in
     let his = excepter-owns s j place (holds_of (s.errand j).point) (old.tied.hands j has) (old.tied.frees j has) excepts in
-    let same : j ≡ who = sym (owner-there s j place his.0 his.1) ∙ owner-there s who place n owned in
+    let same : j ≡ caller = sym (owner-there s j place his.0 his.1) ∙ owner-there s caller place n owned in
     subst (λ k. HoldsException (holds_of (s.errand k).point) place) same excepts
 
 -- who begins to free a block excepts none
-pub begins-free : (seat : SeatFields) (frame i : ℕ) (o : Onward) (place : ℕ) → HoldsException (holds_of (Block (block.LoadPrefix seat frame i) o)) place → ⊥
+pub begins-free : (seat : SeatFields) (frame i : ℕ) (o : Continuation) (place : ℕ) → HoldsException (holds_of (Block (block.LoadPrefix seat frame i) o)) place → ⊥
 unfolding holds_of
 begins-free seat frame i o place (inl a) = any-none (λ (b : Handed). b.place ≡ place) a
 begins-free seat frame i o place (inr a) =
@@ -76,27 +76,27 @@ begins-free seat frame i o place (inr a) =
 
 -- and owns the block
 pub begins-owned :
-    (g : Geometry) (s : State) (l : Lists) (who : ℕ) (seat : SeatFields) (frame i : ℕ) (o : Onward) → IsSoundWith g s l → who < g.callers
-    → (s.errand who).point ≡ Block (block.LoadPrefix seat frame i) o
-    → IsOwned s who (block_place frame seat.class i) (need.Small seat.class)
+    (g : Geometry) (s : State) (l : Lists) (caller : ℕ) (seat : SeatFields) (frame i : ℕ) (o : Continuation) → IsSoundWith g s l → caller < g.callers
+    → (s.errand caller).point ≡ Block (block.LoadPrefix seat frame i) o
+    → IsOwned s caller (block_place frame seat.class i) (need.Small seat.class)
 unfolding holds_of
-begins-owned g s l who seat frame i o old has at =
-    All-head (λ (b : Freed). IsOwned s who b.place b.need)
+begins-owned g s l caller seat frame i o old has at =
+    All-head (λ (b : Freed). IsOwned s caller b.place b.need)
     (record { place = block_place frame seat.class i; need = need.Small seat.class; overwritten = false }) []
-    (subst (λ p. All (λ b. IsOwned s who b.place b.need) (holds_of p).frees) at (old.tied.frees who has))
+    (subst (λ p. All (λ b. IsOwned s caller b.place b.need) (holds_of p).frees) at (old.tied.frees caller has))
 
 -- the prefix word of a block that is freed says whose superblock's it is
 pub prefix-ties :
-    (g : Geometry) (s : State) (l : Lists) (who : ℕ) (seat : SeatFields) (frame i : ℕ) (o : Onward) → IsSoundWith g s l → who < g.callers
-    → (s.errand who).point ≡ Block (block.LoadPrefix seat frame i) o
+    (g : Geometry) (s : State) (l : Lists) (caller : ℕ) (seat : SeatFields) (frame i : ℕ) (o : Continuation) → IsSoundWith g s l → caller < g.callers
+    → (s.errand caller).point ≡ Block (block.LoadPrefix seat frame i) o
     → (d : ℕ) × IsBlockOfDesc g s l (block_place frame seat.class i) seat.class d × (s.word (name.Arena (block_place frame seat.class i)) ≡ 2 * d)
-prefix-ties g s l who seat frame i o old has at =
+prefix-ties g s l caller seat frame i o old has at =
     let place : ℕ = block_place frame seat.class i in
-    let owned : IsOwned s who place (need.Small seat.class) = begins-owned g s l who seat frame i o old has at in
+    let owned : IsOwned s caller place (need.Small seat.class) = begins-owned g s l caller seat frame i o old has at in
     let (d, of, excepted) = old.tied.small place seat.class owned.block.0 owned.block.1 owned.block.3 in
     elim excepted [
       | inl x ↦
           absurd (begins-free seat frame i o place
-          (subst (λ p. HoldsException (holds_of p) place) at (only-owner g s l who place (need.Small seat.class) old owned x)))
+          (subst (λ p. HoldsException (holds_of p) place) at (only-owner g s l caller place (need.Small seat.class) old owned x)))
       | inr says ↦ (d, of, says)
     ]

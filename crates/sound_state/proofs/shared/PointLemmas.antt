@@ -18,16 +18,16 @@ use Rattle.word_plan.proofs.NameLemmas.{cases_name}
 use Rattle.word_plan.specs.declared.seat.Site.{Site}
 use Rattle.word_plan.specs.Occurs.{occurs}
 use Rattle.hazard_parts.specs.declared.point.DescPoint.TheVariants as desc
-use Rattle.errand_steps.specs.declared.onward.Onward.{Onward}
-use Rattle.errand_steps.specs.declared.onward.Onward.TheVariants as onward
+use Rattle.errand_steps.specs.declared.continuation.Continuation.{Continuation}
+use Rattle.errand_steps.specs.declared.continuation.Continuation.TheVariants as continuation
 use Rattle.errand_steps.specs.declared.next.Next.{Next}
 use Rattle.errand_steps.specs.declared.point.Point.TheVariants.{Desc}
 use Rattle.errand_steps.specs.declared.point.Point.{Point}
 use Rattle.errand_steps.specs.Errands.{ErrandFields, point_after, counts_cleared}
 use Rattle.errand_steps.specs.Events.{event_of}
-use Rattle.errand_steps.specs.Fits.{FitsPoint, spare_of, pushed_by, FitsOnward}
+use Rattle.errand_steps.specs.Fits.{FitsPoint, spare_of, pushed_by, FitsContinuation}
 use Rattle.errand_steps.specs.Nexts.{next_of}
-use Rattle.errand_steps.specs.Onwards.{is_alloc, is_free}
+use Rattle.errand_steps.specs.Continuations.{is_alloc, is_free}
 use Rattle.errand_steps.specs.Points.{asked, plan_point_of}
 use Rattle.errand_steps.specs.Steps.{State, Step, action_at, name_at, word_at, found_at}
 use Rattle.errand_steps.proofs.PlanLemmas.{plan-exists}
@@ -47,48 +47,48 @@ use Rattle.sound_state.proofs.shared.WeighLemmas.{IsStill, WeighAlike, alike-mos
 
 -- what a sound state says of a caller at this point
 pub fits-at :
-    (g : Geometry) (s : State) (l : Lists) (who : ℕ) (p : Point) → IsSoundWith g s l → who < g.callers → (s.errand who).point ≡ p
-    → FitsPoint g who p
-fits-at g s l who p old has at =
-    let own = old.errands who has in
-    subst (FitsPoint g who) at
-    (subst (λ h. FitsPoint h who (s.errand who).point) own.geometry
-    (subst (λ i. FitsPoint (s.errand who).geometry i (s.errand who).point) own.caller own.rule.point))
+    (g : Geometry) (s : State) (l : Lists) (caller : ℕ) (p : Point) → IsSoundWith g s l → caller < g.callers → (s.errand caller).point ≡ p
+    → FitsPoint g caller p
+fits-at g s l caller p old has at =
+    let own = old.errands caller has in
+    subst (FitsPoint g caller) at
+    (subst (λ h. FitsPoint h caller (s.errand caller).point) own.geometry
+    (subst (λ i. FitsPoint (s.errand caller).geometry i (s.errand caller).point) own.number own.rule.point))
 
 pub fits-now :
-    (g : Geometry) (s : State) (who : ℕ) (p : Point) → IsSoundWithoutCounts g s → who < g.callers → (s.errand who).point ≡ p → FitsPoint g who p
-fits-now g s who p sound has at = fits-at g s sound.parts.0 who p sound.parts.1 has at
+    (g : Geometry) (s : State) (caller : ℕ) (p : Point) → IsSoundWithoutCounts g s → caller < g.callers → (s.errand caller).point ≡ p → FitsPoint g caller p
+fits-now g s caller p sound has at = fits-at g s sound.parts.0 caller p sound.parts.1 has at
 
 pub kept-at :
-    (g : Geometry) (s : State) (l : Lists) (who : ℕ) (p : Point) → IsSoundWith g s l → who < g.callers → (s.errand who).point ≡ p
+    (g : Geometry) (s : State) (l : Lists) (caller : ℕ) (p : Point) → IsSoundWith g s l → caller < g.callers → (s.errand caller).point ≡ p
     → All (λ k. IsKeptAs s k.status k.desc k.class) (holds_of p).kept
-kept-at g s l who p old has at = subst (λ q. All (λ k. IsKeptAs s k.status k.desc k.class) (holds_of q).kept) at (old.kept.errand who has)
+kept-at g s l caller p old has at = subst (λ q. All (λ k. IsKeptAs s k.status k.desc k.class) (holds_of q).kept) at (old.kept.errand caller has)
 
 pub so-at :
-    (g : Geometry) (s : State) (l : Lists) (who : ℕ) (p : Point) → IsSoundWith g s l → who < g.callers → (s.errand who).point ≡ p
-    → All (IsSo g s l who) (recalls_of p)
-so-at g s l who p old has at = subst (λ q. All (IsSo g s l who) (recalls_of q)) at (old.remembered.so who has)
+    (g : Geometry) (s : State) (l : Lists) (caller : ℕ) (p : Point) → IsSoundWith g s l → caller < g.callers → (s.errand caller).point ≡ p
+    → All (IsSo g s l caller) (recalls_of p)
+so-at g s l caller p old has at = subst (λ q. All (IsSo g s l caller) (recalls_of q)) at (old.remembered.so caller has)
 
 pub hazard-at :
-    (g : Geometry) (s : State) (l : Lists) (who : ℕ) (p : Point) → IsSoundWith g s l → who < g.callers → (s.errand who).point ≡ p
-    → IsHazard (holds_of p).hazard (s.word (name.Hazard who))
-hazard-at g s l who p old has at = subst (λ q. IsHazard (holds_of q).hazard (s.word (name.Hazard who))) at (old.guarded.words who has)
+    (g : Geometry) (s : State) (l : Lists) (caller : ℕ) (p : Point) → IsSoundWith g s l → caller < g.callers → (s.errand caller).point ≡ p
+    → IsHazard (holds_of p).hazard (s.word (name.Hazard caller))
+hazard-at g s l caller p old has at = subst (λ q. IsHazard (holds_of q).hazard (s.word (name.Hazard caller))) at (old.guarded.words caller has)
 
 pub hands-at :
-    (g : Geometry) (s : State) (l : Lists) (who : ℕ) (p : Point) → IsSoundWith g s l → who < g.callers → (s.errand who).point ≡ p
-    → All (λ x. IsOwned s who x.place x.need) (holds_of p).hands
-hands-at g s l who p old has at = subst (λ q. All (λ x. IsOwned s who x.place x.need) (holds_of q).hands) at (old.tied.hands who has)
+    (g : Geometry) (s : State) (l : Lists) (caller : ℕ) (p : Point) → IsSoundWith g s l → caller < g.callers → (s.errand caller).point ≡ p
+    → All (λ x. IsOwned s caller x.place x.need) (holds_of p).hands
+hands-at g s l caller p old has at = subst (λ q. All (λ x. IsOwned s caller x.place x.need) (holds_of q).hands) at (old.tied.hands caller has)
 
 pub frees-at :
-    (g : Geometry) (s : State) (l : Lists) (who : ℕ) (p : Point) → IsSoundWith g s l → who < g.callers → (s.errand who).point ≡ p
-    → All (λ x. IsOwned s who x.place x.need) (holds_of p).frees
-frees-at g s l who p old has at = subst (λ q. All (λ x. IsOwned s who x.place x.need) (holds_of q).frees) at (old.tied.frees who has)
+    (g : Geometry) (s : State) (l : Lists) (caller : ℕ) (p : Point) → IsSoundWith g s l → caller < g.callers → (s.errand caller).point ≡ p
+    → All (λ x. IsOwned s caller x.place x.need) (holds_of p).frees
+frees-at g s l caller p old has at = subst (λ q. All (λ x. IsOwned s caller x.place x.need) (holds_of q).frees) at (old.tied.frees caller has)
 
 -- the continuation of an allocation at work, and of a free
-pub the-alloc : (o : Onward) → IsTrue (is_alloc o) → o ≡ onward.Alloc (asked o)
+pub the-alloc : (o : Continuation) → IsTrue (is_alloc o) → o ≡ continuation.Alloc (asked o)
 the-alloc o is = grind (arith, is)
 
-pub the-free : (o : Onward) → IsTrue (is_free o) → o ≡ onward.Free
+pub the-free : (o : Continuation) → IsTrue (is_free o) → o ≡ continuation.Free
 the-free o is = grind (arith, is)
 
 -- all but the first
@@ -97,9 +97,9 @@ All-rest P x xs h = All-tail P x xs h
 
 -- the word of the point is one of the heap's
 pub exists-at :
-    (g : Geometry) (s : State) (who : ℕ) (p : Point) → IsSoundWithoutCounts g s → who < g.callers → (s.errand who).point ≡ p
+    (g : Geometry) (s : State) (caller : ℕ) (p : Point) → IsSoundWithoutCounts g s → caller < g.callers → (s.errand caller).point ≡ p
     → Exists g (name_of (plan_point_of p))
-exists-at g s who p sound has at = plan-exists g who p sound.checked has (fits-now g s who p sound has at)
+exists-at g s caller p sound has at = plan-exists g caller p sound.checked has (fits-now g s caller p sound has at)
 
 -- at the second point a caller has the blocks and the push that it has at the first, and is no further back in its turn
 pub record HoldsBlocks (p q : Point) : Type 0 where
@@ -113,11 +113,11 @@ pub record HoldsBlocks (p q : Point) : Type 0 where
 
 -- it may stand there, where its hazard word is as the point asks, what it keeps is in its state and what it remembers is so
 pub blocks-go :
-    (g : Geometry) (s : State) (l : Lists) (who : ℕ) (p q : Point) → IsSoundWith g s l → who < g.callers → (s.errand who).point ≡ p
-    → HoldsBlocks p q → IsHazard (holds_of q).hazard (s.word (name.Hazard who))
-    → ((d : ℕ) → s.word (name.Hazard who) ≡ d + 1 → IsGuard (holds_of q).hazard → IsGuard (holds_of p).hazard)
-    → All (λ k. IsKeptAs s k.status k.desc k.class) (holds_of q).kept → All (IsSo g s l who) (recalls_of q) → PointGoes g s l who p q
-blocks-go g s l who p q old has at h hazard guard kept so = record {
+    (g : Geometry) (s : State) (l : Lists) (caller : ℕ) (p q : Point) → IsSoundWith g s l → caller < g.callers → (s.errand caller).point ≡ p
+    → HoldsBlocks p q → IsHazard (holds_of q).hazard (s.word (name.Hazard caller))
+    → ((d : ℕ) → s.word (name.Hazard caller) ≡ d + 1 → IsGuard (holds_of q).hazard → IsGuard (holds_of p).hazard)
+    → All (λ k. IsKeptAs s k.status k.desc k.class) (holds_of q).kept → All (IsSo g s l caller) (recalls_of q) → PointGoes g s l caller p q
+blocks-go g s l caller p q old has at h hazard guard kept so = record {
   kept = kept;
   so = so;
   hazard = hazard;
@@ -126,8 +126,8 @@ blocks-go g s l who p q old has at h hazard guard kept so = record {
   passed = h.passed;
   unread = h.unread;
   spare = h.spare;
-  hands = subst (λ bs. All (λ x. IsOwned s who x.place x.need) bs) (sym h.hands) (hands-at g s l who p old has at);
-  frees = subst (λ bs. All (λ x. IsOwned s who x.place x.need) bs) (sym h.frees) (frees-at g s l who p old has at);
+  hands = subst (λ bs. All (λ x. IsOwned s caller x.place x.need) bs) (sym h.hands) (hands-at g s l caller p old has at);
+  frees = subst (λ bs. All (λ x. IsOwned s caller x.place x.need) bs) (sym h.frees) (frees-at g s l caller p old has at);
   excepts = λ place x.
       elim x [
         | inl a ↦ inl (subst (λ bs. Any (λ b. b.place ≡ place) bs) (sym h.hands) a)
@@ -148,11 +148,11 @@ pub record HoldsAlike (p q : Point) : Type 0 where
   pub turn : TurnGoes p q
 
 pub alike-goes :
-    (g : Geometry) (s : State) (l : Lists) (who : ℕ) (p q : Point) → IsSoundWith g s l → who < g.callers → (s.errand who).point ≡ p
-    → HoldsAlike p q → All (λ k. IsKeptAs s k.status k.desc k.class) (holds_of q).kept → All (IsSo g s l who) (recalls_of q)
-    → PointGoes g s l who p q
-alike-goes g s l who p q old has at h kept so =
-    blocks-go g s l who p q old has at
+    (g : Geometry) (s : State) (l : Lists) (caller : ℕ) (p q : Point) → IsSoundWith g s l → caller < g.callers → (s.errand caller).point ≡ p
+    → HoldsAlike p q → All (λ k. IsKeptAs s k.status k.desc k.class) (holds_of q).kept → All (IsSo g s l caller) (recalls_of q)
+    → PointGoes g s l caller p q
+alike-goes g s l caller p q old has at h kept so =
+    blocks-go g s l caller p q old has at
     (record {
       hands = h.hands;
       frees = h.frees;
@@ -162,7 +162,7 @@ alike-goes g s l who p q old has at h kept so =
       spare = h.spare;
       turn = h.turn;
     })
-    (subst (λ x. IsHazard x (s.word (name.Hazard who))) (sym h.hazard) (hazard-at g s l who p old has at))
+    (subst (λ x. IsHazard x (s.word (name.Hazard caller))) (sym h.hazard) (hazard-at g s l caller p old has at))
     (λ d word guard. subst IsGuard h.hazard guard) kept so
 
 -- in how many places a caller keeps d
@@ -213,11 +213,11 @@ from-weighs n before after e x q h = record {
 }
 
 -- a step from a point that leads there, and what the active words and the slots hold after it
-pub record StepsFrom (g : Geometry) (s : State) (l : Lists) (who : ℕ) (p : Point) (n : Next) : Type 0 where
+pub record StepsFrom (g : Geometry) (s : State) (l : Lists) (caller : ℕ) (p : Point) (n : Next) : Type 0 where
   pub next : next_of p (found_from s p) ≡ n
-  pub event : event_of who p (found_from s p) ≡ None
+  pub event : event_of caller p (found_from s p) ≡ None
   pub cleared : counts_cleared p (found_from s p) ≡ false
-  pub goes : PointGoes g s l who p (point_after n)
+  pub goes : PointGoes g s l caller p (point_after n)
   pub weigh :
       WeighFrom (name_of (plan_point_of p)) (s.word (name_of (plan_point_of p)))
       (after_action (plan_point_of p) (s.word (name_of (plan_point_of p)))) p (point_after n)
@@ -229,33 +229,33 @@ pub record StepsFrom (g : Geometry) (s : State) (l : Lists) (who : ℕ) (p : Poi
 
 -- it keeps the state sound
 pub step-from :
-    (g : Geometry) (s : State) (who : ℕ) (s' : State) (p : Point) (n : Next) → LeadsOrEnds n → IsSoundWithoutCounts g s → who < g.callers
-    → (s.errand who).point ≡ p → ((l : Lists) → IsSoundWith g s l → StepsFrom g s l who p n) → Step s who s' → IsSoundWithoutCounts g s'
-step-from g s who s' p n plain sound has at h step =
-    let e = s.errand who in
+    (g : Geometry) (s : State) (caller : ℕ) (s' : State) (p : Point) (n : Next) → LeadsOrEnds n → IsSoundWithoutCounts g s → caller < g.callers
+    → (s.errand caller).point ≡ p → ((l : Lists) → IsSoundWith g s l → StepsFrom g s l caller p n) → Step s caller s' → IsSoundWithoutCounts g s'
+step-from g s caller s' p n plain sound has at h step =
+    let e = s.errand caller in
     let q = point_after n in
-    let moved = λ (l : Lists) (old : IsSoundWith g s l). subst (λ r. StepsFrom g s l who r n) (sym at) (h l old) in
+    let moved = λ (l : Lists) (old : IsSoundWith g s l). subst (λ r. StepsFrom g s l caller r n) (sym at) (h l old) in
     let weighs : (l : Lists) (old : IsSoundWith g s l)
-    → WeighAlike (name_at s who) (word_at s who) (after_action (action_at s who) (word_at s who)) e (at_point e (found_at s who) q) =
-    λ l old. let m : StepsFrom g s l who e.point n = moved l old in from-weighs _ _ _ e (found_at s who) q m.weigh in
-    step-most g s who s' q sound has
+    → WeighAlike (name_at s caller) (word_at s caller) (after_action (action_at s caller) (word_at s caller)) e (at_point e (found_at s caller) q) =
+    λ l old. let m : StepsFrom g s l caller e.point n = moved l old in from-weighs _ _ _ e (found_at s caller) q m.weigh in
+    step-most g s caller s' q sound has
     (λ l old.
-    let m : StepsFrom g s l who e.point n = moved l old in
+    let m : StepsFrom g s l caller e.point n = moved l old in
     record {
-      after = settle-next e (found_at s who) n plain m.next;
+      after = settle-next e (found_at s caller) n plain m.next;
       event = m.event;
       cleared = m.cleared;
-      stands = goes-stands g s l who e.point q m.goes;
-      weigh = alike-most (name_at s who) _ _ e (at_point e (found_at s who) q) (weighs l old);
+      stands = goes-stands g s l caller e.point q m.goes;
+      weigh = alike-most (name_at s caller) _ _ e (at_point e (found_at s caller) q) (weighs l old);
       below = m.below;
     })
-    (λ l old. let m : StepsFrom g s l who e.point n = moved l old in m.actives s'.word step.word)
+    (λ l old. let m : StepsFrom g s l caller e.point n = moved l old in m.actives s'.word step.word)
     (λ l old.
-    let m : StepsFrom g s l who e.point n = moved l old in
-    let stay = hazards-stay s.word (name_at s who) _ s'.word step.word (weighs l old).still in
+    let m : StepsFrom g s l caller e.point n = moved l old in
+    let stay = hazards-stay s.word (name_at s caller) _ s'.word step.word (weighs l old).still in
     record {
       others = λ i differ. stay i;
-      guards = goes-guards g s l who q e.retired (s'.word (name.Hazard who)) old.guarded has (stay who) m.goes;
+      guards = goes-guards g s l caller q e.retired (s'.word (name.Hazard caller)) old.guarded has (stay caller) m.goes;
     })
     step
 
@@ -313,41 +313,41 @@ none-kept-as s = All-nil (λ (k : Kept). IsKeptAs s k.status k.desc k.class)
 
 -- a partly used superblock that a caller keeps is neither available nor on its way
 pub keeps-alone :
-    (g : Geometry) (s : State) (l : Lists) (who d : ℕ) → IsSoundWith g s l → who < g.callers → d < descriptor_count g
-    → 1 ≤ errand_keeps partly_used d (s.errand who)
+    (g : Geometry) (s : State) (l : Lists) (caller d : ℕ) → IsSoundWith g s l → caller < g.callers → d < descriptor_count g
+    → 1 ≤ errand_keeps partly_used d (s.errand caller)
     → (occurs d l.available ≡ 0) × (callers_sum g (errand_keeps on_its_way d) s.errand ≡ 0)
 unfolding callers_sum
-keeps-alone g s l who d old has exists keeps =
+keeps-alone g s l caller d old has exists keeps =
     let partly = λ (i : ℕ). errand_keeps partly_used d (s.errand i) in
     let ways = λ (i : ℕ). errand_keeps on_its_way d (s.errand i) in
     let both : sum_below g.callers (λ i. partly i + ways i) ≡ sum_below g.callers partly + sum_below g.callers ways = sum-plus g.callers partly ways in
     let least : sum_below g.callers (λ i. partly i + ways i) ≤ sum_below g.callers (λ i. errand_has d (s.errand i)) =
     sum-least g.callers (λ i. partly i + ways i) (λ i. errand_has d (s.errand i)) (λ i lt. omega arith) in
     let once = old.kept.once d exists in
-    let mine : partly who ≤ sum_below g.callers partly = term-sum g.callers partly who has in
+    let mine : partly caller ≤ sum_below g.callers partly = term-sum g.callers partly caller has in
     (omega (arith, once, both, least, mine, keeps), omega (arith, once, both, least, mine, keeps))
 
 -- an allocation of a small class asks for words that the class serves
 pub small-asked :
-    (g : Geometry) (who : ℕ) (at : Site) (o : Onward) → o ≡ onward.Alloc (asked o) → FitsOnward g who at.seat o
+    (g : Geometry) (caller : ℕ) (at : Site) (o : Continuation) → o ≡ continuation.Alloc (asked o) → FitsContinuation g caller at.seat o
     → need_of (asked o) ≡ need.Small at.seat.class
-small-asked g who at o alloc fit = subst (FitsOnward g who at.seat) alloc fit
+small-asked g caller at o alloc fit = subst (FitsContinuation g caller at.seat) alloc fit
 
 -- the hazard words that a scan has not passed are noted as 0
 pub unread-at :
-    (g : Geometry) (s : State) (l : Lists) (who : ℕ) (p : Point) → IsSoundWith g s l → who < g.callers → (s.errand who).point ≡ p
+    (g : Geometry) (s : State) (l : Lists) (caller : ℕ) (p : Point) → IsSoundWith g s l → caller < g.callers → (s.errand caller).point ≡ p
     → (k : ℕ) → passed_by p ≤ k → k < length (held_by p) → slice_index (held_by p) k ≡ 0
-unread-at g s l who p old has at =
+unread-at g s l caller p old has at =
     subst (λ q. (k : ℕ) → passed_by q ≤ k → k < length (held_by q) → slice_index (held_by q) k ≡ 0) at
-    (λ k from below. old.guarded.unread who k has from below)
+    (λ k from below. old.guarded.unread caller k has from below)
 
 -- also when it has noted the next one
 pub noted-unread :
-    (g : Geometry) (s : State) (l : Lists) (who : ℕ) (seat : SeatFields) (held : List ℕ) (i : ℕ) (o : Onward) → IsSoundWith g s l
-    → who < g.callers → (s.errand who).point ≡ Desc (desc.ReadHazard seat held i) o → (k : ℕ) → i + 1 ≤ k
+    (g : Geometry) (s : State) (l : Lists) (caller : ℕ) (seat : SeatFields) (held : List ℕ) (i : ℕ) (o : Continuation) → IsSoundWith g s l
+    → caller < g.callers → (s.errand caller).point ≡ Desc (desc.ReadHazard seat held i) o → (k : ℕ) → i + 1 ≤ k
     → k < length (slice_set held i (s.word (name.Hazard i))) → slice_index (slice_set held i (s.word (name.Hazard i))) k ≡ 0
-noted-unread g s l who seat held i o old has at k from below =
+noted-unread g s l caller seat held i o old has at k from below =
     let differ : k ≢ i = λ same. let bad : ⊥ = omega (arith, same, from) in bad in
     get_or-set_other held i k (s.word (name.Hazard i)) 0 differ
-    ∙ unread-at g s l who (Desc (desc.ReadHazard seat held i) o) old has at k (omega (arith, from))
+    ∙ unread-at g s l caller (Desc (desc.ReadHazard seat held i) o) old has at k (omega (arith, from))
     (omega (arith, below, length-set held i (s.word (name.Hazard i))))

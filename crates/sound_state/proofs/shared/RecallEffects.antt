@@ -115,11 +115,11 @@ module _ (g : Geometry) (s : State) (l : Lists) (s' : State) (steady : AreSteady
 
   -- what a caller remembers that goes on at a superblock
   pub here-so :
-      (who : ℕ) (at : Site) → IsTrue (is_bound g s' l at.desc) → IsLocated s at.desc at.frame at.seat.class
-      → All (IsSo g s' l who) (bound_here at)
-  here-so who at bound lies =
-      All-cons (IsSo g s' l who) (bound_at at.desc at.frame at.seat.class) [] (bound, located-steady at.desc at.frame at.seat.class lies)
-      (All-nil (IsSo g s' l who))
+      (caller : ℕ) (at : Site) → IsTrue (is_bound g s' l at.desc) → IsLocated s at.desc at.frame at.seat.class
+      → All (IsSo g s' l caller) (bound_here at)
+  here-so caller at bound lies =
+      All-cons (IsSo g s' l caller) (bound_at at.desc at.frame at.seat.class) [] (bound, located-steady at.desc at.frame at.seat.class lies)
+      (All-nil (IsSo g s' l caller))
 
 -- and what is remembered stays so
 module _ (g : Geometry) (s : State) (l : Lists) (s' : State) (i : ℕ) (h : Leaves g s l s' i) where
@@ -156,11 +156,11 @@ module _ (g : Geometry) (s : State) (l : Lists) (s' : State) (i : ℕ) (h : Leav
 
 -- and so is all, where what the caller that went on remembers is
 pub remembered-left :
-    (g : Geometry) (s : State) (l : Lists) (who : ℕ) (e : ErrandFields) (s' : State) → Moves s.errand who e s'.errand
-    → All (IsSo g s' l who) (recalls_of e.point) → ((i : ℕ) → i < g.callers → i ≢ who → Leaves g s l s' i)
-    → ((i : ℕ) → i < g.callers → i ≢ who → All (IsLeft g s l s') (recalls_of (s.errand i).point)) → IsRemembered g s l → IsRemembered g s' l
-remembered-left g s l who e s' moves mine leaves left old = record {
+    (g : Geometry) (s : State) (l : Lists) (caller : ℕ) (e : ErrandFields) (s' : State) → Moves s.errand caller e s'.errand
+    → All (IsSo g s' l caller) (recalls_of e.point) → ((i : ℕ) → i < g.callers → i ≢ caller → Leaves g s l s' i)
+    → ((i : ℕ) → i < g.callers → i ≢ caller → All (IsLeft g s l s') (recalls_of (s.errand i).point)) → IsRemembered g s l → IsRemembered g s' l
+remembered-left g s l caller e s' moves mine leaves left old = record {
   so =
-      each-other g (λ i e. All (IsSo g s' l i) (recalls_of e.point)) s.errand who e s'.errand moves mine
+      each-other g (λ i e. All (IsSo g s' l i) (recalls_of e.point)) s.errand caller e s'.errand moves mine
       (λ i has ne k d lt. so-left g s l s' i (leaves i has ne) _ (left i has ne k d lt) (old.so i has k d lt));
 }

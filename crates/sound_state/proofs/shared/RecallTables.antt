@@ -27,16 +27,16 @@ use Rattle.partial_parts.specs.declared.point.PartialPoint.{PartialPoint}
 use Rattle.partial_parts.specs.declared.point.PartialPoint.TheVariants as partial
 use Rattle.partial_parts.specs.Points.{seat_of_partial}
 use Rattle.large_parts.specs.declared.point.LargePoint.{LargePoint}
-use Rattle.errand_steps.specs.declared.onward.Onward.{Onward}
-use Rattle.errand_steps.specs.declared.onward.Onward.TheVariants as onward
+use Rattle.errand_steps.specs.declared.continuation.Continuation.{Continuation}
+use Rattle.errand_steps.specs.declared.continuation.Continuation.TheVariants as continuation
 use Rattle.errand_steps.specs.declared.point.Point.{Point}
 use Rattle.errand_steps.specs.declared.point.Point.TheVariants as point
-use Rattle.errand_steps.specs.Fits.{FitsOnward, FitsPoint}
-use Rattle.errand_steps.specs.Onwards.{clears, goes_desc}
+use Rattle.errand_steps.specs.Fits.{FitsContinuation, FitsPoint}
+use Rattle.errand_steps.specs.Continuations.{clears, goes_desc}
 use Rattle.errand_steps.specs.Steps.{State}
-use Rattle.sound_state.specs.Holdings.{Handed, Freed, reserve, holds_before_pop, holds_of, block_holds, onward_holds, stack_holds, partial_holds}
+use Rattle.sound_state.specs.Holdings.{Handed, Freed, reserve, holds_before_pop, holds_of, block_holds, continuation_holds, stack_holds, partial_holds}
 use Rattle.sound_state.specs.Lists.{Lists}
-use Rattle.sound_state.specs.Recalls.{Recall, IsSo, IsOwned, block_recalls, onward_recalls, stack_recalls, resumed_recalls, desc_recalls, partial_recalls, large_recalls, recalls_of, bound_for, bound_at, pops, links, says}
+use Rattle.sound_state.specs.Recalls.{Recall, IsSo, IsOwned, block_recalls, continuation_recalls, stack_recalls, resumed_recalls, desc_recalls, partial_recalls, large_recalls, recalls_of, bound_for, bound_at, pops, links, says}
 use Rattle.sound_state.specs.Sound.{IsSoundWith}
 use Rattle.sound_state.specs.Superblocks.{anchor_for, is_bound, reserved_among, errand_reserves}
 use Rattle.sound_state.proofs.shared.PointLemmas.{fits-at}
@@ -53,7 +53,7 @@ bound-differs g s l d free e bound same = free (subst (λ k. IsTrue (is_bound g 
 
 -- the caller at the point doesn't wait to install the superblock of d
 abbrev pub InstallsNone : Point → ℕ → Type 0
-InstallsNone p d = (site : Site) (o : Onward) → p ≡ point.Block (block.InstallSuperblock site) o → site.desc ≢ d
+InstallsNone p d = (site : Site) (o : Continuation) → p ≡ point.Block (block.InstallSuperblock site) o → site.desc ≢ d
 
 -- a pop that is remembered is of a bound superblock, and its anchor's tag hasn't fallen; and no anchor of d is remembered
 abbrev pub IsBacked : Geometry → State → Lists → ℕ → Recall → Type 0
@@ -70,7 +70,7 @@ backed-next Partials k d = λ same. cc
 module _ (g : Geometry) (s : State) (l : Lists) (i d : ℕ) where
   -- in a superblock: only one that waits to be installed has its anchor remembered
   backed-block :
-      (p : BlockPoint) (o : Onward) → InstallsNone (point.Block p o) d → AllByRecursion (IsSo g s l i) (block_recalls p)
+      (p : BlockPoint) (o : Continuation) → InstallsNone (point.Block p o) d → AllByRecursion (IsSo g s l i) (block_recalls p)
       → AllByRecursion (IsBacked g s l d) (block_recalls p)
   backed-block (block.LoadLink at share a) o apart so = (so.1.0.0, (tt, tt))
   backed-block (block.PopBlock at share a prefix) o apart so = ((so.1.1.0.0, so.1.0.tag), (so.1.1.0.0, (tt, tt)))
@@ -78,20 +78,20 @@ module _ (g : Geometry) (s : State) (l : Lists) (i d : ℕ) where
   backed-block p o apart so = grind (arith)
 
   -- behind a part, and elsewhere
-  backed-onward : (seat : SeatFields) (o : Onward) → AllByRecursion (IsBacked g s l d) (onward_recalls seat o)
-  backed-onward seat o = grind (arith)
+  backed-continuation : (seat : SeatFields) (o : Continuation) → AllByRecursion (IsBacked g s l d) (continuation_recalls seat o)
+  backed-continuation seat o = grind (arith)
 
-  backed-stack : (p : StackPoint) (o : Onward) → AllByRecursion (IsBacked g s l d) (stack_recalls p o)
-  backed-stack p o = grind (arith, backed-next, backed-onward)
+  backed-stack : (p : StackPoint) (o : Continuation) → AllByRecursion (IsBacked g s l d) (stack_recalls p o)
+  backed-stack p o = grind (arith, backed-next, backed-continuation)
 
-  backed-resumed : (seat : SeatFields) (o : Onward) → AllByRecursion (IsBacked g s l d) (resumed_recalls seat o)
+  backed-resumed : (seat : SeatFields) (o : Continuation) → AllByRecursion (IsBacked g s l d) (resumed_recalls seat o)
   backed-resumed seat o = grind (arith)
 
-  backed-desc : (p : DescPoint) (o : Onward) → AllByRecursion (IsBacked g s l d) (desc_recalls p o)
-  backed-desc p o = grind (arith, backed-onward, backed-resumed)
+  backed-desc : (p : DescPoint) (o : Continuation) → AllByRecursion (IsBacked g s l d) (desc_recalls p o)
+  backed-desc p o = grind (arith, backed-continuation, backed-resumed)
 
-  backed-partial : (p : PartialPoint) (o : Onward) → AllByRecursion (IsBacked g s l d) (partial_recalls p o)
-  backed-partial p o = grind (arith, backed-onward)
+  backed-partial : (p : PartialPoint) (o : Continuation) → AllByRecursion (IsBacked g s l d) (partial_recalls p o)
+  backed-partial p o = grind (arith, backed-continuation)
 
   backed-large : (p : LargePoint) → AllByRecursion (IsBacked g s l d) (large_recalls p)
   backed-large p = grind (arith)
@@ -173,44 +173,44 @@ module _ (g : Geometry) (s : State) (l : Lists) (i d : ℕ) (off : OwnsNone g s 
   apart-block p none fit hands frees so = grind (arith)
 
   -- behind a part
-  apart-onward :
-      (seat : SeatFields) (o : Onward) → FitsOnward g i seat o → OwnHands s i (onward_holds seat o).hands
-      → AllByRecursion (IsSo g s l i) (onward_recalls seat o) → AllByRecursion (IsUnbound d) (onward_recalls seat o)
-  apart-onward seat (onward.GiveBlock words at k) fit hands so = (off at k fit.block (its-handed _ hands) so.0, tt)
-  apart-onward seat o fit hands so = grind (arith)
+  apart-continuation :
+      (seat : SeatFields) (o : Continuation) → FitsContinuation g i seat o → OwnHands s i (continuation_holds seat o).hands
+      → AllByRecursion (IsSo g s l i) (continuation_recalls seat o) → AllByRecursion (IsUnbound d) (continuation_recalls seat o)
+  apart-continuation seat (continuation.GiveBlock words at k) fit hands so = (off at k fit.block (its-handed _ hands) so.0, tt)
+  apart-continuation seat o fit hands so = grind (arith)
 
   -- at a stack
   apart-stack :
-      (p : StackPoint) (o : Onward) → FitsOnward g i (seat_of_stack p) o → OwnHands s i (stack_holds p o).hands
+      (p : StackPoint) (o : Continuation) → FitsContinuation g i (seat_of_stack p) o → OwnHands s i (stack_holds p o).hands
       → AllByRecursion (IsSo g s l i) (stack_recalls p o) → AllByRecursion (IsUnbound d) (stack_recalls p o)
-  apart-stack (stack.LoadTop seat pile) o fit hands so = apart-onward seat o fit hands so
-  apart-stack (stack.LoadBelow seat pile h) o fit hands so = (tt, apart-onward seat o fit hands so.1)
-  apart-stack (stack.PopTop seat pile h below) o fit hands so = (tt, (tt, apart-onward seat o fit hands so.1.1))
-  apart-stack (stack.ConfirmEmpty seat pile h) o fit hands so = apart-onward seat o fit hands so
-  apart-stack (stack.LoadTopToPush seat Frames k) o fit hands so = apart-onward seat o fit hands so
-  apart-stack (stack.LoadTopToPush seat Partials k) o fit hands so = apart-onward seat o fit hands so
-  apart-stack (stack.StoreBelow seat Frames k h) o fit hands so = (tt, apart-onward seat o fit hands so.1)
-  apart-stack (stack.StoreBelow seat Partials k h) o fit hands so = (tt, apart-onward seat o fit hands so.1)
-  apart-stack (stack.PushTop seat Frames k h) o fit hands so = (tt, (tt, apart-onward seat o fit hands so.1.1))
-  apart-stack (stack.PushTop seat Partials k h) o fit hands so = (tt, (tt, apart-onward seat o fit hands so.1.1))
+  apart-stack (stack.LoadTop seat pile) o fit hands so = apart-continuation seat o fit hands so
+  apart-stack (stack.LoadBelow seat pile h) o fit hands so = (tt, apart-continuation seat o fit hands so.1)
+  apart-stack (stack.PopTop seat pile h below) o fit hands so = (tt, (tt, apart-continuation seat o fit hands so.1.1))
+  apart-stack (stack.ConfirmEmpty seat pile h) o fit hands so = apart-continuation seat o fit hands so
+  apart-stack (stack.LoadTopToPush seat Frames k) o fit hands so = apart-continuation seat o fit hands so
+  apart-stack (stack.LoadTopToPush seat Partials k) o fit hands so = apart-continuation seat o fit hands so
+  apart-stack (stack.StoreBelow seat Frames k h) o fit hands so = (tt, apart-continuation seat o fit hands so.1)
+  apart-stack (stack.StoreBelow seat Partials k h) o fit hands so = (tt, apart-continuation seat o fit hands so.1)
+  apart-stack (stack.PushTop seat Frames k h) o fit hands so = (tt, (tt, apart-continuation seat o fit hands so.1.1))
+  apart-stack (stack.PushTop seat Partials k h) o fit hands so = (tt, (tt, apart-continuation seat o fit hands so.1.1))
   apart-stack p o fit hands so = grind (arith)
 
   -- at the descriptors or the hazard words; no block is handed out after a clear
-  apart-cleared : (seat : SeatFields) (o : Onward) → IsTrue (clears o) → AllByRecursion (IsUnbound d) (onward_recalls seat o)
+  apart-cleared : (seat : SeatFields) (o : Continuation) → IsTrue (clears o) → AllByRecursion (IsUnbound d) (continuation_recalls seat o)
   apart-cleared seat o goes = grind (arith, goes)
 
-  apart-resumed : (seat : SeatFields) (o : Onward) → AllByRecursion (IsUnbound d) (resumed_recalls seat o)
+  apart-resumed : (seat : SeatFields) (o : Continuation) → AllByRecursion (IsUnbound d) (resumed_recalls seat o)
   apart-resumed seat o = grind (arith)
 
-  apart-desc : (p : DescPoint) (o : Onward) → IsTrue (goes_desc p o) → AllByRecursion (IsUnbound d) (desc_recalls p o)
+  apart-desc : (p : DescPoint) (o : Continuation) → IsTrue (goes_desc p o) → AllByRecursion (IsUnbound d) (desc_recalls p o)
   apart-desc (desc.ClearHazard seat) o goes = apart-cleared seat o goes
   apart-desc p o goes = grind (arith, apart-resumed)
 
   -- at a partial superblock
   apart-partial :
-      (p : PartialPoint) (o : Onward) → FitsOnward g i (seat_of_partial p) o → OwnHands s i (partial_holds p o).hands
+      (p : PartialPoint) (o : Continuation) → FitsContinuation g i (seat_of_partial p) o → OwnHands s i (partial_holds p o).hands
       → AllByRecursion (IsSo g s l i) (partial_recalls p o) → AllByRecursion (IsUnbound d) (partial_recalls p o)
-  apart-partial (partial.PutSlot seat e heap) o fit hands so = apart-onward seat o fit hands so
+  apart-partial (partial.PutSlot seat e heap) o fit hands so = apart-continuation seat o fit hands so
   apart-partial p o fit hands so = grind (arith)
 
   apart-large : (p : LargePoint) → AllByRecursion (IsUnbound d) (large_recalls p)
@@ -222,9 +222,9 @@ module _ (g : Geometry) (s : State) (l : Lists) (i d : ℕ) (off : OwnsNone g s 
   unfolding holds_of recalls_of
   apart-point point.Idle none fit hands frees so = tt
   apart-point (point.Block p o) none fit hands frees so = apart-block p none fit.point hands frees so
-  apart-point (point.Stack p o) none fit hands frees so = apart-stack p o fit.onward hands so
+  apart-point (point.Stack p o) none fit hands frees so = apart-stack p o fit.continuation hands so
   apart-point (point.Desc p o) none fit hands frees so = apart-desc p o fit.goes
-  apart-point (point.Partial p o) none fit hands frees so = apart-partial p o fit.onward hands so
+  apart-point (point.Partial p o) none fit hands frees so = apart-partial p o fit.continuation hands so
   apart-point (point.Large p o) none fit hands frees so = apart-large p
 
   -- a caller that has no block of the superblock of d reserved, and owns none, remembers nothing that needs it

@@ -60,11 +60,11 @@ same-superblock a a' r r' w w' n n' v v' z z' ea er ew en ev ez = rw (ea, er, ew
 
 -- what holds of the new errand and of those of the callers before holds of each
 pub each-caller :
-    (g : Geometry) (P : ℕ → ErrandFields → Type 0) (errands : ℕ → ErrandFields) (who : ℕ) (e : ErrandFields) (errands' : ℕ → ErrandFields)
-    → Moves errands who e errands' → P who e → ((i : ℕ) → i < g.callers → P i (errands i))
+    (g : Geometry) (P : ℕ → ErrandFields → Type 0) (errands : ℕ → ErrandFields) (caller : ℕ) (e : ErrandFields) (errands' : ℕ → ErrandFields)
+    → Moves errands caller e errands' → P caller e → ((i : ℕ) → i < g.callers → P i (errands i))
     → (i : ℕ) → i < g.callers → P i (errands' i)
-each-caller g P errands who e errands' m here others =
-    each-other g P errands who e errands' m here (λ i has differ. others i has)
+each-caller g P errands caller e errands' m here others =
+    each-other g P errands caller e errands' m here (λ i has differ. others i has)
 
 -- the block at the place is excepted by what this caller hands out or frees
 abbrev pub Excepts : ErrandFields → ℕ → Type 0
@@ -80,19 +80,19 @@ pub record IsSaidAt (g : Geometry) (s : State) (l : Lists) (place : ℕ) : Type 
   pub large : (units : ℕ) (b : Block) → IsLive s place b → b.need ≡ need.Large units → s.word (name.Arena place) ≡ 2 * units + 1
 
 -- a caller may go on from one errand to another in a state
-pub record MayGoOn (g : Geometry) (s : State) (l : Lists) (who : ℕ) (a b : ErrandFields) : Type 0 where
-  pub rule : IsOwnErrand g who b
+pub record MayGoOn (g : Geometry) (s : State) (l : Lists) (caller : ℕ) (a b : ErrandFields) : Type 0 where
+  pub rule : IsOwnErrand g caller b
   pub kept : All (λ k. IsKeptAs s k.status k.desc k.class) (holds_of b.point).kept
   pub retired : All (IsWithout s) b.retired
-  pub so : All (IsSo g s l who) (recalls_of b.point)
+  pub so : All (IsSo g s l caller) (recalls_of b.point)
   pub full : spare_of b.point ≡ 1 → length b.retired ≡ g.callers + 1
-  pub hands : All (λ x. IsOwned s who x.place x.need) (holds_of b.point).hands
-  pub frees : All (λ x. IsOwned s who x.place x.need) (holds_of b.point).frees
+  pub hands : All (λ x. IsOwned s caller x.place x.need) (holds_of b.point).hands
+  pub frees : All (λ x. IsOwned s caller x.place x.need) (holds_of b.point).frees
   pub excepts : (place : ℕ) → Excepts a place → Excepts b place ⊎ IsSaidAt g s l place
-  pub own_turns : count_by (gives_small who) s.history + turn_open b ≤ b.turns
+  pub own_turns : count_by (gives_small caller) s.history + turn_open b ≤ b.turns
   pub own_lost :
       b.turns + errand_discards b
-      ≤ count_by (gives_small who) s.history + count_by (refuses_small who) s.history + b.lost + turn_unanswered b
+      ≤ count_by (gives_small caller) s.history + count_by (refuses_small caller) s.history + b.lost + turn_unanswered b
   pub frame_turns : turn_unframed b + a.turns ≤ turn_unframed a + b.turns
   pub list_turns :
       errand_pops b + turn_unlisted b + a.turns + a.cleared ≤ errand_pops a + turn_unlisted a + b.turns + b.cleared
@@ -109,9 +109,9 @@ pub record GuardsAnew (g : Geometry) (s : State) (q : Point) (d : ℕ) : Type 0 
   pub passed : passed_by q ≡ 0
 
 -- with this hazard word and this retired list a caller may stand at the point, by the hazard words that were there
-pub record MayGuard (g : Geometry) (s : State) (who : ℕ) (q : Point) (retired : List ℕ) (word : ℕ) : Type 0 where
+pub record MayGuard (g : Geometry) (s : State) (caller : ℕ) (q : Point) (retired : List ℕ) (word : ℕ) : Type 0 where
   pub hazard : IsHazard (holds_of q).hazard word
-  pub guard : (d : ℕ) → word ≡ d + 1 → IsGuard (holds_of q).hazard → Guards s who d ⊎ GuardsAnew g s q d
+  pub guard : (d : ℕ) → word ≡ d + 1 → IsGuard (holds_of q).hazard → Guards s caller d ⊎ GuardsAnew g s q d
   pub pushed : (i d : ℕ) → i < g.callers → Guards s i d → pushed_by q ≡ Some d → ⊥
   pub passed :
       (i d : ℕ) → i < g.callers → Guards s i d → Contains retired d → i < passed_by q → slice_index (held_by q) i ≡ d + 1
@@ -173,12 +173,12 @@ StaysSo l ys s s' (says n w) = IsPlain n → s'.word n ≡ s.word n
 StaysSo l ys s s' r = Unit {0}
 
 -- a caller goes on in a state that shows the same superblocks and events, and the same lists but for the available descriptors
-pub record ShowsSame (g : Geometry) (s : State) (l : Lists) (who : ℕ) (e : ErrandFields) (s' : State) (ys : List ℕ) : Type 0 where
-  pub caller : who < g.callers
-  pub moves : Moves s.errand who e s'.errand
-  pub may : MayGoOn g s l who (s.errand who) e
-  pub others : (i : ℕ) → i ≢ who → s'.word (name.Hazard i) ≡ s.word (name.Hazard i)
-  pub guards : MayGuard g s who e.point e.retired (s'.word (name.Hazard who))
+pub record ShowsSame (g : Geometry) (s : State) (l : Lists) (caller : ℕ) (e : ErrandFields) (s' : State) (ys : List ℕ) : Type 0 where
+  pub in_heap : caller < g.callers
+  pub moves : Moves s.errand caller e s'.errand
+  pub may : MayGoOn g s l caller (s.errand caller) e
+  pub others : (i : ℕ) → i ≢ caller → s'.word (name.Hazard i) ≡ s.word (name.Hazard i)
+  pub guards : MayGuard g s caller e.point e.retired (s'.word (name.Hazard caller))
   pub actives : ActivesKept g s s'.word
   pub words : (n : WordName) → s'.word n < 2 ^ 64
   pub word : (n : WordName) → IsShown n → s'.word n ≡ s.word n
@@ -196,31 +196,31 @@ pub record ShowsSame (g : Geometry) (s : State) (l : Lists) (who : ℕ) (e : Err
   pub stock : IsStocked g s l → IsStocked g s' (with_available l ys)
   pub emptied :
       sum_below (descriptor_count g) (emptied_out g s' (with_available l ys)) + e.cleared
-      ≤ sum_below (descriptor_count g) (emptied_out g s l) + (s.errand who).cleared
+      ≤ sum_below (descriptor_count g) (emptied_out g s l) + (s.errand caller).cleared
   pub stays : (i : ℕ) → i < g.callers → All (StaysSo l ys s s') (recalls_of (s.errand i).point)
   pub stays_here : All (StaysSo l ys s s') (recalls_of e.point)
 
 -- what all callers but one remember is so
 abbrev pub OthersRemember : Geometry → State → Lists → ℕ → Type 0
-OthersRemember g s l who = (i : ℕ) → i < g.callers → i ≢ who → All (IsSo g s l i) (recalls_of (s.errand i).point)
+OthersRemember g s l caller = (i : ℕ) → i < g.callers → i ≢ caller → All (IsSo g s l i) (recalls_of (s.errand i).point)
 
 -- the state is sound, but for what one caller remembers
-pub record IsSoundBut (g : Geometry) (s : State) (l : Lists) (who : ℕ) : Type 0 where
+pub record IsSoundBut (g : Geometry) (s : State) (l : Lists) (caller : ℕ) : Type 0 where
   pub words : (n : WordName) → s.word n < 2 ^ 64
   pub errands : (i : ℕ) → i < g.callers → IsOwnErrand g i (s.errand i)
   pub listed : IsListed g s.word l
   pub kept : IsKept g s l
   pub chained : AreChained g s l
   pub framed : IsFramed g s l
-  pub remembered : OthersRemember g s l who
+  pub remembered : OthersRemember g s l caller
   pub guarded : IsGuarded g s
   pub stocked : IsStocked g s l
   pub turned : IsTurned g s l
   pub tied : IsTied g s l
 
 -- so is one that is sound
-pub sound-but_one : (g : Geometry) (s : State) (l : Lists) (who : ℕ) → IsSoundWith g s l → IsSoundBut g s l who
-sound-but_one g s l who sound = record {
+pub sound-but_one : (g : Geometry) (s : State) (l : Lists) (caller : ℕ) → IsSoundWith g s l → IsSoundBut g s l caller
+sound-but_one g s l caller sound = record {
   words = sound.words;
   errands = sound.errands;
   listed = sound.listed;
@@ -234,7 +234,7 @@ sound-but_one g s l who sound = record {
   tied = sound.tied;
 }
 
-module _ (g : Geometry) (s : State) (l : Lists) (who : ℕ) (e : ErrandFields) (s' : State) (ys : List ℕ) (go : ShowsSame g s l who e s' ys) where
+module _ (g : Geometry) (s : State) (l : Lists) (caller : ℕ) (e : ErrandFields) (s' : State) (ys : List ℕ) (go : ShowsSame g s l caller e s' ys) where
   anchor-shown : (d : ℕ) → anchor_for s' d ≡ anchor_for s d
   anchor-shown d = ap anchor_of (go.word (name.Anchor d) tt)
 
@@ -287,8 +287,8 @@ module _ (g : Geometry) (s : State) (l : Lists) (who : ℕ) (e : ErrandFields) (
     class = ap (λ x. x.class) (info-shown d) ∙ k.class;
   }
 
-  owned-shown : (who place : ℕ) (n : Need) → IsOwned s who place n → IsOwned s' who place n
-  owned-shown who place n k = record {
+  owned-shown : (caller place : ℕ) (n : Need) → IsOwned s caller place n → IsOwned s' caller place n
+  owned-shown caller place n k = record {
     block = (
       k.block.0,
       ap (λ e. block_at place (pool_of e)) go.history ∙ k.block.1,
@@ -364,10 +364,10 @@ module _ (g : Geometry) (s : State) (l : Lists) (who : ℕ) (e : ErrandFields) (
         listed = λ class has k d lt. partly-shown _ class (kept.listed class has k d lt);
         available = λ k d lt. without-shown _ (go.without k d lt);
         retired =
-            each-caller g (λ i e. All (IsWithout s') e.retired) s.errand who e s'.errand go.moves
+            each-caller g (λ i e. All (IsWithout s') e.retired) s.errand caller e s'.errand go.moves
             (λ k d lt. without-shown _ (go.may.retired k d lt)) (λ i has k d lt. without-shown _ (kept.retired i has k d lt));
         errand =
-            each-caller g (λ i e. All (λ k. IsKeptAs s' k.status k.desc k.class) (holds_of e.point).kept) s.errand who e s'.errand go.moves
+            each-caller g (λ i e. All (λ k. IsKeptAs s' k.status k.desc k.class) (holds_of e.point).kept) s.errand caller e s'.errand go.moves
             (λ k d lt. kept_as-shown _ _ _ (go.may.kept k d lt)) (λ i has k d lt. kept_as-shown _ _ _ (kept.errand i has k d lt));
       }
 
@@ -386,21 +386,21 @@ module _ (g : Geometry) (s : State) (l : Lists) (who : ℕ) (e : ErrandFields) (
         omega (arith, filled, go.frames f, framed.once f has);
   }
 
-  remembered-shown : OthersRemember g s l who → IsRemembered g s' (with_available l ys)
+  remembered-shown : OthersRemember g s l caller → IsRemembered g s' (with_available l ys)
   remembered-shown old = record {
     so =
-        each-other g (λ i e. All (IsSo g s' (with_available l ys) i) (recalls_of e.point)) s.errand who e s'.errand go.moves
-        (λ k d lt. so-shown who _ (go.stays_here k d lt) (go.may.so k d lt))
+        each-other g (λ i e. All (IsSo g s' (with_available l ys) i) (recalls_of e.point)) s.errand caller e s'.errand go.moves
+        (λ k d lt. so-shown caller _ (go.stays_here k d lt) (go.may.so k d lt))
         (λ i has differ k d lt. so-shown i _ (go.stays i has k d lt) (old i has differ k d lt));
   }
 
   -- whoever guards a descriptor afterwards did before; or it is the caller that went on, and it guards it anew
   guards-shown : (i d : ℕ)
-      → Guards s' i d → Guards s i d ⊎ ((i ≡ who) × GuardsAnew g s e.point d)
+      → Guards s' i d → Guards s i d ⊎ ((i ≡ caller) × GuardsAnew g s e.point d)
   guards-shown i d guards =
-      elim (cases_eq i who) [
+      elim (cases_eq i caller) [
         | inl same ↦
-            let here : Guards s' who d = subst (λ j. Guards s' j d) same guards in
+            let here : Guards s' caller d = subst (λ j. Guards s' j d) same guards in
             elim (go.guards.guard d here.word (subst (λ f. IsGuard (holds_of f.point).hazard) go.moves.here here.guard)) [
               | inl old ↦ inl (subst (λ j. Guards s j d) (sym same) old)
               | inr anew ↦ inr (same, anew)
@@ -415,10 +415,10 @@ module _ (g : Geometry) (s : State) (l : Lists) (who : ℕ) (e : ErrandFields) (
   guarded-shown : IsGuarded g s → IsGuarded g s'
   guarded-shown guarded = record {
     words = λ i has.
-        elim (cases_eq i who) [
+        elim (cases_eq i caller) [
           | inl same ↦
-              let here : IsHazard (holds_of (s'.errand who).point).hazard (s'.word (name.Hazard who)) =
-              subst (λ f. IsHazard (holds_of f.point).hazard (s'.word (name.Hazard who))) (sym go.moves.here) go.guards.hazard in
+              let here : IsHazard (holds_of (s'.errand caller).point).hazard (s'.word (name.Hazard caller)) =
+              subst (λ f. IsHazard (holds_of f.point).hazard (s'.word (name.Hazard caller))) (sym go.moves.here) go.guards.hazard in
               subst (λ j. IsHazard (holds_of (s'.errand j).point).hazard (s'.word (name.Hazard j))) (sym same) here
           | inr differ ↦
               subst (λ w. IsHazard (holds_of (s'.errand i).point).hazard w) (sym (go.others i differ))
@@ -427,39 +427,39 @@ module _ (g : Geometry) (s : State) (l : Lists) (who : ℕ) (e : ErrandFields) (
     pushed = λ i other d has has_other guards.
         elim (guards-shown i d guards) [
           | inl old ↦
-              each-caller g (λ j f. pushed_by f.point ≡ Some d → ⊥) s.errand who e s'.errand go.moves (go.guards.pushed i d has old)
+              each-caller g (λ j f. pushed_by f.point ≡ Some d → ⊥) s.errand caller e s'.errand go.moves (go.guards.pushed i d has old)
               (λ j has_j. guarded.pushed i j d has has_j old) other has_other
           | inr anew ↦
-              each-caller g (λ j f. pushed_by f.point ≡ Some d → ⊥) s.errand who e s'.errand go.moves anew.1.pushed anew.1.unretired.pushed other
+              each-caller g (λ j f. pushed_by f.point ≡ Some d → ⊥) s.errand caller e s'.errand go.moves anew.1.pushed anew.1.unretired.pushed other
               has_other
         ];
     passed = λ i other d has has_other guards.
         elim (guards-shown i d guards) [
           | inl old ↦
-              each-caller g (λ j f. Contains f.retired d → i < passed_by f.point → slice_index (held_by f.point) i ≡ d + 1) s.errand who e s'.errand
+              each-caller g (λ j f. Contains f.retired d → i < passed_by f.point → slice_index (held_by f.point) i ≡ d + 1) s.errand caller e s'.errand
               go.moves (go.guards.passed i d has old) (λ j has_j. guarded.passed i j d has has_j old) other has_other
           | inr anew ↦
-              each-caller g (λ j f. Contains f.retired d → i < passed_by f.point → slice_index (held_by f.point) i ≡ d + 1) s.errand who e s'.errand
+              each-caller g (λ j f. Contains f.retired d → i < passed_by f.point → slice_index (held_by f.point) i ≡ d + 1) s.errand caller e s'.errand
               go.moves (λ listed below. let bad : ⊥ = omega (arith, below, anew.1.passed) in absurd bad)
               (λ j has_j listed below. absurd (anew.1.unretired.listed j has_j listed)) other has_other
         ];
     unread = λ i k has passed below.
-        each-caller g (λ j e. passed_by e.point ≤ k → k < length (held_by e.point) → slice_index (held_by e.point) k ≡ 0) s.errand who e s'.errand
+        each-caller g (λ j e. passed_by e.point ≤ k → k < length (held_by e.point) → slice_index (held_by e.point) k ≡ 0) s.errand caller e s'.errand
         go.moves (go.guards.unread k) (λ j has_j passed below. guarded.unread j k has_j passed below) i has passed below;
     full =
-        each-caller g (λ i e. spare_of e.point ≡ 1 → length e.retired ≡ g.callers + 1) s.errand who e s'.errand go.moves go.may.full guarded.full;
+        each-caller g (λ i e. spare_of e.point ≡ 1 → length e.retired ≡ g.callers + 1) s.errand caller e s'.errand go.moves go.may.full guarded.full;
   }
 
   turned-shown : IsTurned g s l → IsTurned g s' (with_available l ys)
   turned-shown turned =
-      let events = no-event g who s.history s'.history go.history in
-      turned-after g s l who e s' (with_available l ys) 0 0
+      let events = no-event g caller s.history s'.history go.history in
+      turned-after g s l caller e s' (with_available l ys) 0 0
       (record {
-        caller = go.caller;
+        in_heap = go.in_heap;
         moves = go.moves;
         events = events;
         own_turns = omega (arith, go.may.own_turns, events.gives);
-        own_lost = omega (arith, go.may.own_lost, events.gives, events.refuses who);
+        own_lost = omega (arith, go.may.own_lost, events.gives, events.refuses caller);
         anchor_tags = λ d has. omega (arith, ap (λ a. a.tag) (anchor-shown d));
         frame_turns = omega (arith, head-tag (go.word name.FrameHead tt), go.may.frame_turns);
         emptied = omega (arith, go.emptied);
@@ -470,10 +470,10 @@ module _ (g : Geometry) (s : State) (l : Lists) (who : ℕ) (e : ErrandFields) (
   excepted-shown : (place : ℕ)
       → IsExcepted g s place → IsExcepted g s' place ⊎ IsSaidAt g s l place
   excepted-shown place x =
-      let i = x.who.0 in
-      elim (each-caller g (λ j e. Excepts (s.errand j) place → Excepts e place ⊎ IsSaidAt g s l place) s.errand who e s'.errand go.moves
-      (go.may.excepts place) (λ j has same. inl same) i x.who.1 x.who.2) [
-        | inl still ↦ inl (record { who = (i, x.who.1, still) })
+      let i = x.caller.0 in
+      elim (each-caller g (λ j e. Excepts (s.errand j) place → Excepts e place ⊎ IsSaidAt g s l place) s.errand caller e s'.errand go.moves
+      (go.may.excepts place) (λ j has same. inl same) i x.caller.1 x.caller.2) [
+        | inl still ↦ inl (record { caller = (i, x.caller.1, still) })
         | inr said ↦ inr said
       ]
 
@@ -517,18 +517,18 @@ module _ (g : Geometry) (s : State) (l : Lists) (who : ℕ) (e : ErrandFields) (
             (λ place b live is. none place b (ap (λ past. block_at place (pool_of past)) go.history ∙ live) is);
         contents = λ place i v b live is. go.word (name.Arena (place + 1 + i)) tt ∙ tied.contents place i v b (was place b live) is;
         hands =
-            each-caller g (λ i e. All (λ x. IsOwned s' i x.place x.need) (holds_of e.point).hands) s.errand who e s'.errand go.moves
-            (λ k d lt. owned-shown who _ _ (go.may.hands k d lt)) (λ i has k d lt. owned-shown i _ _ (tied.hands i has k d lt));
+            each-caller g (λ i e. All (λ x. IsOwned s' i x.place x.need) (holds_of e.point).hands) s.errand caller e s'.errand go.moves
+            (λ k d lt. owned-shown caller _ _ (go.may.hands k d lt)) (λ i has k d lt. owned-shown i _ _ (tied.hands i has k d lt));
         frees =
-            each-caller g (λ i e. All (λ x. IsOwned s' i x.place x.need) (holds_of e.point).frees) s.errand who e s'.errand go.moves
-            (λ k d lt. owned-shown who _ _ (go.may.frees k d lt)) (λ i has k d lt. owned-shown i _ _ (tied.frees i has k d lt));
+            each-caller g (λ i e. All (λ x. IsOwned s' i x.place x.need) (holds_of e.point).frees) s.errand caller e s'.errand go.moves
+            (λ k d lt. owned-shown caller _ _ (go.may.frees k d lt)) (λ i has k d lt. owned-shown i _ _ (tied.frees i has k d lt));
       }
 
   -- such a step makes a state sound that is sound but for what this caller remembers
-  pub sound-shown : IsSoundBut g s l who → IsSoundWith g s' (with_available l ys)
+  pub sound-shown : IsSoundBut g s l caller → IsSoundWith g s' (with_available l ys)
   sound-shown sound = record {
     words = go.words;
-    errands = each-caller g (IsOwnErrand g) s.errand who e s'.errand go.moves go.may.rule sound.errands;
+    errands = each-caller g (IsOwnErrand g) s.errand caller e s'.errand go.moves go.may.rule sound.errands;
     listed = listed-shown sound.listed;
     kept = kept-shown sound.kept;
     chained = chained-shown sound.chained;

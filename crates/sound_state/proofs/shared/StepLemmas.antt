@@ -50,32 +50,32 @@ pub record TurnGoes (p q : Point) : Type 0 where
       pops_left q + one_if (lacks_partial (turn_stage_of q)) ≤ pops_left p + one_if (lacks_partial (turn_stage_of p))
 
 -- a caller may stand at the second point where it stood at the first
-pub record PointGoes (g : Geometry) (s : State) (l : Lists) (who : ℕ) (p q : Point) : Type 0 where
+pub record PointGoes (g : Geometry) (s : State) (l : Lists) (caller : ℕ) (p q : Point) : Type 0 where
   pub kept : All (λ k. IsKeptAs s k.status k.desc k.class) (holds_of q).kept
-  pub so : All (IsSo g s l who) (recalls_of q)
-  pub hazard : IsHazard (holds_of q).hazard (s.word (name.Hazard who))
-  pub guard : (d : ℕ) → s.word (name.Hazard who) ≡ d + 1 → IsGuard (holds_of q).hazard → IsGuard (holds_of p).hazard
+  pub so : All (IsSo g s l caller) (recalls_of q)
+  pub hazard : IsHazard (holds_of q).hazard (s.word (name.Hazard caller))
+  pub guard : (d : ℕ) → s.word (name.Hazard caller) ≡ d + 1 → IsGuard (holds_of q).hazard → IsGuard (holds_of p).hazard
   pub pushed : pushed_by q ≡ pushed_by p
   pub passed : passed_by q ≡ 0
   pub unread : length (held_by q) ≡ 0
   pub spare : spare_of q ≡ spare_of p
-  pub hands : All (λ x. IsOwned s who x.place x.need) (holds_of q).hands
-  pub frees : All (λ x. IsOwned s who x.place x.need) (holds_of q).frees
+  pub hands : All (λ x. IsOwned s caller x.place x.need) (holds_of q).hands
+  pub frees : All (λ x. IsOwned s caller x.place x.need) (holds_of q).frees
   pub excepts : (place : ℕ) → HoldsException (holds_of p) place → HoldsException (holds_of q) place
   pub turn : TurnGoes p q
 
 -- the same, but for the hazard words
-pub record PointStands (g : Geometry) (s : State) (l : Lists) (who : ℕ) (p q : Point) : Type 0 where
+pub record PointStands (g : Geometry) (s : State) (l : Lists) (caller : ℕ) (p q : Point) : Type 0 where
   pub kept : All (λ k. IsKeptAs s k.status k.desc k.class) (holds_of q).kept
-  pub so : All (IsSo g s l who) (recalls_of q)
+  pub so : All (IsSo g s l caller) (recalls_of q)
   pub spare : spare_of q ≡ spare_of p
-  pub hands : All (λ x. IsOwned s who x.place x.need) (holds_of q).hands
-  pub frees : All (λ x. IsOwned s who x.place x.need) (holds_of q).frees
+  pub hands : All (λ x. IsOwned s caller x.place x.need) (holds_of q).hands
+  pub frees : All (λ x. IsOwned s caller x.place x.need) (holds_of q).frees
   pub excepts : (place : ℕ) → HoldsException (holds_of p) place → HoldsException (holds_of q) place
   pub turn : TurnGoes p q
 
-pub goes-stands : (g : Geometry) (s : State) (l : Lists) (who : ℕ) (p q : Point) → PointGoes g s l who p q → PointStands g s l who p q
-goes-stands g s l who p q h = record {
+pub goes-stands : (g : Geometry) (s : State) (l : Lists) (caller : ℕ) (p q : Point) → PointGoes g s l caller p q → PointStands g s l caller p q
+goes-stands g s l caller p q h = record {
   kept = h.kept;
   so = h.so;
   spare = h.spare;
@@ -87,12 +87,12 @@ goes-stands g s l who p q h = record {
 
 -- who goes on with the same hazard word, and scans nothing, may guard what it guarded
 pub goes-guards :
-    (g : Geometry) (s : State) (l : Lists) (who : ℕ) (q : Point) (retired : List ℕ) (word : ℕ) → IsGuarded g s → who < g.callers
-    → word ≡ s.word (name.Hazard who) → PointGoes g s l who (s.errand who).point q → MayGuard g s who q retired word
-goes-guards g s l who q retired word guarded has same h = record {
+    (g : Geometry) (s : State) (l : Lists) (caller : ℕ) (q : Point) (retired : List ℕ) (word : ℕ) → IsGuarded g s → caller < g.callers
+    → word ≡ s.word (name.Hazard caller) → PointGoes g s l caller (s.errand caller).point q → MayGuard g s caller q retired word
+goes-guards g s l caller q retired word guarded has same h = record {
   hazard = subst (IsHazard (holds_of q).hazard) (sym same) h.hazard;
   guard = λ d is guard. inl (record { word = sym same ∙ is; guard = h.guard d (sym same ∙ is) guard });
-  pushed = λ i d has_i guards is. guarded.pushed i who d has_i has guards (sym h.pushed ∙ is);
+  pushed = λ i d has_i guards is. guarded.pushed i caller d has_i has guards (sym h.pushed ∙ is);
   passed = λ i d has_i guards listed below. let bad : ⊥ = omega (arith, below, h.passed) in absurd bad;
   unread = λ i passed below. let bad : ⊥ = omega (arith, below, h.unread) in absurd bad;
 }
@@ -137,32 +137,32 @@ settle-next e x n plain is = absurd plain
 
 -- so the caller may go on
 pub may-after :
-    (g : Geometry) (s : State) (l : Lists) (who : ℕ) (x : Found) (q : Point) → IsSoundWith g s l → who < g.callers → x.value < 2 ^ 64
-    → settle_of (s.errand who) x ≡ at_point (s.errand who) x q → counts_cleared (s.errand who).point x ≡ false
-    → PointStands g s l who (s.errand who).point q
-    → MayGoOn g s l who (s.errand who) (at_point (s.errand who) x q)
-may-after g s l who x q sound has word after still goes =
-    let e = s.errand who in
-    let old = sound.errands who has in
-    let turned = sound.turned.own_turns who has in
+    (g : Geometry) (s : State) (l : Lists) (caller : ℕ) (x : Found) (q : Point) → IsSoundWith g s l → caller < g.callers → x.value < 2 ^ 64
+    → settle_of (s.errand caller) x ≡ at_point (s.errand caller) x q → counts_cleared (s.errand caller).point x ≡ false
+    → PointStands g s l caller (s.errand caller).point q
+    → MayGoOn g s l caller (s.errand caller) (at_point (s.errand caller) x q)
+may-after g s l caller x q sound has word after still goes =
+    let e = s.errand caller in
+    let old = sound.errands caller has in
+    let turned = sound.turned.own_turns caller has in
     let more : e.lost ≤ raised (counts_lost e.point x) e.lost = raised-least (counts_lost e.point x) e.lost old.lost in
     let same : raised (counts_cleared e.point x) e.cleared ≡ e.cleared = ap (λ b. raised b e.cleared) still in
     record {
       rule = record {
-        caller = old.caller;
+        number = old.number;
         geometry = old.geometry;
         rule = subst IsErrand after (settle_errand e x old.rule word);
         lost = raised-below (counts_lost e.point x) e.lost old.lost;
       };
       kept = goes.kept;
-      retired = sound.kept.retired who has;
+      retired = sound.kept.retired caller has;
       so = goes.so;
-      full = λ spare. sound.guarded.full who has (sym goes.spare ∙ spare);
+      full = λ spare. sound.guarded.full caller has (sym goes.spare ∙ spare);
       hands = goes.hands;
       frees = goes.frees;
       excepts = λ place x. inl (goes.excepts place x);
       own_turns = omega (arith, turned, goes.turn.under_way);
-      own_lost = omega (arith, sound.turned.own_lost who has, goes.turn.discards, goes.turn.unanswered, more);
+      own_lost = omega (arith, sound.turned.own_lost caller has, goes.turn.discards, goes.turn.unanswered, more);
       frame_turns = omega (arith, goes.turn.unframed);
       list_turns = omega (arith, goes.turn.pops, same);
     }
@@ -206,58 +206,58 @@ words-below words n new words' w old below m =
     ]
 
 -- a step after which the caller stands at another point; its hazard word may change
-pub record StepsMost (g : Geometry) (s : State) (l : Lists) (who : ℕ) (q : Point) : Type 0 where
-  pub after : settle_of (s.errand who) (found_at s who) ≡ at_point (s.errand who) (found_at s who) q
-  pub event : event_at s who ≡ None
-  pub cleared : counts_cleared (s.errand who).point (found_at s who) ≡ false
-  pub stands : PointStands g s l who (s.errand who).point q
+pub record StepsMost (g : Geometry) (s : State) (l : Lists) (caller : ℕ) (q : Point) : Type 0 where
+  pub after : settle_of (s.errand caller) (found_at s caller) ≡ at_point (s.errand caller) (found_at s caller) q
+  pub event : event_at s caller ≡ None
+  pub cleared : counts_cleared (s.errand caller).point (found_at s caller) ≡ false
+  pub stands : PointStands g s l caller (s.errand caller).point q
   pub weigh :
-      WeighMost (name_at s who) (word_at s who) (after_action (action_at s who) (word_at s who)) (s.errand who)
-      (at_point (s.errand who) (found_at s who) q)
-  pub below : after_action (action_at s who) (word_at s who) < 2 ^ 64
+      WeighMost (name_at s caller) (word_at s caller) (after_action (action_at s caller) (word_at s caller)) (s.errand caller)
+      (at_point (s.errand caller) (found_at s caller) q)
+  pub below : after_action (action_at s caller) (word_at s caller) < 2 ^ 64
 
 -- the hazard words after it: those of the others stay, and with its own the caller may stand at the point
-pub record HazardsAfter (g : Geometry) (s : State) (who : ℕ) (q : Point) (words' : WordName → ℕ) : Type 0 where
-  pub others : (i : ℕ) → i ≢ who → words' (name.Hazard i) ≡ s.word (name.Hazard i)
-  pub guards : MayGuard g s who q (s.errand who).retired (words' (name.Hazard who))
+pub record HazardsAfter (g : Geometry) (s : State) (caller : ℕ) (q : Point) (words' : WordName → ℕ) : Type 0 where
+  pub others : (i : ℕ) → i ≢ caller → words' (name.Hazard i) ≡ s.word (name.Hazard i)
+  pub guards : MayGuard g s caller q (s.errand caller).retired (words' (name.Hazard caller))
 
 -- the step keeps the state sound
 pub step-most :
-    (g : Geometry) (s : State) (who : ℕ) (s' : State) (q : Point) → IsSoundWithoutCounts g s → who < g.callers
-    → ((l : Lists) → IsSoundWith g s l → StepsMost g s l who q) → ((l : Lists) → IsSoundWith g s l → ActivesKept g s s'.word)
-    → ((l : Lists) → IsSoundWith g s l → HazardsAfter g s who q s'.word) → Step s who s' → IsSoundWithoutCounts g s'
-step-most g s who s' q sound has steps actives hazards step =
+    (g : Geometry) (s : State) (caller : ℕ) (s' : State) (q : Point) → IsSoundWithoutCounts g s → caller < g.callers
+    → ((l : Lists) → IsSoundWith g s l → StepsMost g s l caller q) → ((l : Lists) → IsSoundWith g s l → ActivesKept g s s'.word)
+    → ((l : Lists) → IsSoundWith g s l → HazardsAfter g s caller q s'.word) → Step s caller s' → IsSoundWithoutCounts g s'
+step-most g s caller s' q sound has steps actives hazards step =
     let l = sound.parts.0 in
     let old = sound.parts.1 in
     let to = steps l old in
     let words = hazards l old in
-    let e = at_point (s.errand who) (found_at s who) q in
-    let own = old.errands who has in
-    let exists : Exists g (name_at s who) =
-    subst (λ h. Exists h (name_at s who)) own.geometry
-    (plan-exists (s.errand who).geometry (s.errand who).caller (s.errand who).point own.rule.geometry own.rule.caller own.rule.point) in
-    let moves : Moves s.errand who e s'.errand =
-    subst (λ f. Moves s.errand who f s'.errand) to.after step.errand in
+    let e = at_point (s.errand caller) (found_at s caller) q in
+    let own = old.errands caller has in
+    let exists : Exists g (name_at s caller) =
+    subst (λ h. Exists h (name_at s caller)) own.geometry
+    (plan-exists (s.errand caller).geometry (s.errand caller).caller (s.errand caller).point own.rule.geometry own.rule.caller own.rule.point) in
+    let moves : Moves s.errand caller e s'.errand =
+    subst (λ f. Moves s.errand caller f s'.errand) to.after step.errand in
     let past : s'.history ≡ s.history = step.history ∙ ap (with_event s.history) to.event in
     record {
       checked = sound.checked;
       legal = subst (IsLegalWithoutCounts g) (sym past) sound.legal;
       parts = (
         l,
-        sound-alike g s l who e s'
+        sound-alike g s l caller e s'
             (record {
-              caller = has;
+              in_heap = has;
               moves = moves;
-              alike = weigh-alike g s l who (name_at s who) _ e s' exists has step.word moves past to.weigh;
-              may = may-after g s l who (found_at s who) q old has (old.words (name_at s who)) to.after to.cleared to.stands;
+              alike = weigh-alike g s l caller (name_at s caller) _ e s' exists has step.word moves past to.weigh;
+              may = may-after g s l caller (found_at s caller) q old has (old.words (name_at s caller)) to.after to.cleared to.stands;
               others = words.others;
               guards = words.guards;
               actives = actives l old;
-              words = words-below s.word (name_at s who) _ s'.word step.word old.words to.below;
+              words = words-below s.word (name_at s caller) _ s'.word step.word old.words to.below;
               emptied =
-                  let same : raised (counts_cleared (s.errand who).point (found_at s who)) (s.errand who).cleared ≡ (s.errand who).cleared =
-                  ap (λ b. raised b (s.errand who).cleared) to.cleared in
-                  omega (arith, weigh-emptied g s l who (name_at s who) _ e s' has step.word moves to.weigh, same);
+                  let same : raised (counts_cleared (s.errand caller).point (found_at s caller)) (s.errand caller).cleared ≡ (s.errand caller).cleared =
+                  ap (λ b. raised b (s.errand caller).cleared) to.cleared in
+                  omega (arith, weigh-emptied g s l caller (name_at s caller) _ e s' has step.word moves to.weigh, same);
             })
             old,
       );

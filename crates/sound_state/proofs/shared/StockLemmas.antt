@@ -17,7 +17,7 @@ use Rattle.word_plan.specs.Occurs.{occurs}
 use Rattle.stack_parts.specs.declared.point.Pile.TheVariants.{Partials}
 use Rattle.stack_parts.specs.Stacks.{Stacked, next_in}
 use Rattle.hazard_parts.specs.declared.point.DescPoint.TheVariants as desc
-use Rattle.errand_steps.specs.declared.onward.Onward.{Onward}
+use Rattle.errand_steps.specs.declared.continuation.Continuation.{Continuation}
 use Rattle.errand_steps.specs.declared.point.Point.{Point}
 use Rattle.errand_steps.specs.declared.point.Point.TheVariants as point
 use Rattle.errand_steps.specs.Fits.{FitsPoint, spare_of}
@@ -172,9 +172,9 @@ stock-least (k ∷ ks) all =
       cond-true {A = ℕ} (k.class == k.class) 1 0 (eq-eqb k.class k.class refl),
     )
 
-in-class : (g : Geometry) (who : ℕ) (p : Point) → FitsPoint g who p → InClass (holds_of p).kept
+in-class : (g : Geometry) (caller : ℕ) (p : Point) → FitsPoint g caller p → InClass (holds_of p).kept
 unfolding holds_of
-in-class g who p fits = grind (arith, fits)
+in-class g caller p fits = grind (arith, fits)
 
 spare-most : (p : Point) → spare_of p ≤ 1
 spare-most p = grind (arith)
@@ -195,13 +195,13 @@ caller-has n e =
 abbrev waits_of : ErrandFields → ℕ
 waits_of e = sum_below CLASSES (λ class. waits_in class e.point)
 
-caller-stocked : (g : Geometry) (who n : ℕ) (e : ErrandFields) → FitsPoint g who e.point
+caller-stocked : (g : Geometry) (caller n : ℕ) (e : ErrandFields) → FitsPoint g caller e.point
     → sum_below n (λ d. errand_has d e) + waits_of e ≤ length e.retired + sum_below CLASSES (λ class. errand_stock class e)
-caller-stocked g who n e fits =
+caller-stocked g caller n e fits =
     omega (
       arith,
       caller-has n e,
-      stock-least (holds_of e.point).kept (in-class g who e.point fits),
+      stock-least (holds_of e.point).kept (in-class g caller e.point fits),
       sum-plus CLASSES (λ class. stock_among class (holds_of e.point).kept) (λ class. waits_in class e.point),
     )
 
@@ -214,40 +214,40 @@ callers-stocked : (g : Geometry) (s : State) (l : Lists) (n : ℕ) → IsSoundWi
     ≤ callers_sum g retired_of s.errand + sum_below CLASSES (λ class. callers_sum g (errand_stock class) s.errand)
 unfolding callers_sum
 callers-stocked g s l n sound =
-    let has = λ (d who : ℕ). errand_has d (s.errand who) in
-    let stock = λ (class who : ℕ). errand_stock class (s.errand who) in
-    let waits = λ (who : ℕ). waits_of (s.errand who) in
-    let retired = λ (who : ℕ). retired_of (s.errand who) in
-    let each : sum_below g.callers (λ who. sum_below n (λ d. has d who) + waits who)
-    ≤ sum_below g.callers (λ who. retired who + sum_below CLASSES (λ class. stock class who)) =
-    sum-least g.callers (λ who. sum_below n (λ d. has d who) + waits who) (λ who. retired who + sum_below CLASSES (λ class. stock class who))
-    (λ who lt.
-    let own = sound.errands who lt in
-    caller-stocked (s.errand who).geometry (s.errand who).caller n (s.errand who) own.rule.point) in
+    let has = λ (d caller : ℕ). errand_has d (s.errand caller) in
+    let stock = λ (class caller : ℕ). errand_stock class (s.errand caller) in
+    let waits = λ (caller : ℕ). waits_of (s.errand caller) in
+    let retired = λ (caller : ℕ). retired_of (s.errand caller) in
+    let each : sum_below g.callers (λ caller. sum_below n (λ d. has d caller) + waits caller)
+    ≤ sum_below g.callers (λ caller. retired caller + sum_below CLASSES (λ class. stock class caller)) =
+    sum-least g.callers (λ caller. sum_below n (λ d. has d caller) + waits caller) (λ caller. retired caller + sum_below CLASSES (λ class. stock class caller))
+    (λ caller lt.
+    let own = sound.errands caller lt in
+    caller-stocked (s.errand caller).geometry (s.errand caller).caller n (s.errand caller) own.rule.point) in
     omega (
       arith,
       sum-swap n g.callers has,
       sum-swap CLASSES g.callers stock,
-      sum-plus g.callers (λ who. sum_below n (λ d. has d who)) waits,
-      sum-plus g.callers retired (λ who. sum_below CLASSES (λ class. stock class who)),
+      sum-plus g.callers (λ caller. sum_below n (λ d. has d caller)) waits,
+      sum-plus g.callers retired (λ caller. sum_below CLASSES (λ class. stock class caller)),
     )
 
 -- no more are retired than all callers' lists hold
 retired-most : (g : Geometry) (s : State) (l : Lists) → IsSoundWith g s l → callers_sum g retired_of s.errand ≤ g.callers * (g.callers + 1)
 unfolding callers_sum
 retired-most g s l sound =
-    sum-most g.callers (λ who. retired_of (s.errand who)) (g.callers + 1)
-    (λ who lt.
-    let own = sound.errands who lt in
-    let same : (s.errand who).geometry.callers ≡ g.callers = ap (λ (o : Geometry). o.callers) own.geometry in
-    omega (arith, own.rule.room, spare-most (s.errand who).point))
+    sum-most g.callers (λ caller. retired_of (s.errand caller)) (g.callers + 1)
+    (λ caller lt.
+    let own = sound.errands caller lt in
+    let same : (s.errand caller).geometry.callers ≡ g.callers = ap (λ (o : Geometry). o.callers) own.geometry in
+    omega (arith, own.rule.room, spare-most (s.errand caller).point))
 
 -- a caller that waits
-waits-least : (g : Geometry) (s : State) (who class : ℕ) → who < g.callers → class < CLASSES
-    → waits_in class (s.errand who).point ≤ callers_sum g waits_of s.errand
+waits-least : (g : Geometry) (s : State) (caller class : ℕ) → caller < g.callers → class < CLASSES
+    → waits_in class (s.errand caller).point ≤ callers_sum g waits_of s.errand
 unfolding callers_sum
-waits-least g s who class has is =
-    omega (arith, term-sum g.callers (λ i. waits_of (s.errand i)) who has, term-sum CLASSES (λ c. waits_in c (s.errand who).point) class is)
+waits-least g s caller class has is =
+    omega (arith, term-sum g.callers (λ i. waits_of (s.errand i)) caller has, term-sum CLASSES (λ c. waits_in c (s.errand caller).point) class is)
 
 -- all places together
 places-all : (g : Geometry) (s : State) (l : Lists) → IsSoundWith g s l
@@ -291,11 +291,11 @@ all-stock-most g s l sound =
     sum-most CLASSES (stock_of g s l) (g.frames + g.heaps + 2 * g.callers) (λ class has. sound.stocked.most class has)
 
 -- so where a caller waits, one is available
-available-least : (g : Geometry) (s : State) (l : Lists) → IsSoundWith g s l → (who class : ℕ) → who < g.callers → class < CLASSES
-    → waits_in class (s.errand who).point ≡ 1 → 1 ≤ length l.available
+available-least : (g : Geometry) (s : State) (l : Lists) → IsSoundWith g s l → (caller class : ℕ) → caller < g.callers → class < CLASSES
+    → waits_in class (s.errand caller).point ≡ 1 → 1 ≤ length l.available
 unfolding descriptor_count
-available-least g s l sound who class has is waits =
-    omega (arith, places-all g s l sound, all-stock-most g s l sound, retired-most g s l sound, waits-least g s who class has is)
+available-least g s l sound caller class has is waits =
+    omega (arith, places-all g s l sound, all-stock-most g s l sound, retired-most g s l sound, waits-least g s caller class has is)
 
 -- a stack that isn't empty has a top
 stack-top : (next : ℕ → ℕ) (top n : ℕ) (xs : List ℕ) → Stacked next top xs → All (λ d. d < n) xs → 1 ≤ length xs
@@ -303,24 +303,24 @@ stack-top : (next : ℕ → ℕ) (top n : ℕ) (xs : List ℕ) → Stacked next 
 stack-top next top n [] stacked all some = absurd (let no : ⊥ = omega (arith, some) in no)
 stack-top next top n (x ∷ xs) stacked all some = (x, all 0 0 (omega arith), stacked.0)
 
-pub waiting-has : (g : Geometry) (s : State) → IsSoundWithoutCounts g s → (who class : ℕ) → who < g.callers → class < CLASSES
-    → waits_in class (s.errand who).point ≡ 1 → (d : ℕ) × (d < descriptor_count g) × (s.word name.DescHead ≡ d + 1)
-waiting-has g s sound who class has is waits =
+pub waiting-has : (g : Geometry) (s : State) → IsSoundWithoutCounts g s → (caller class : ℕ) → caller < g.callers → class < CLASSES
+    → waits_in class (s.errand caller).point ≡ 1 → (d : ℕ) × (d < descriptor_count g) × (s.word name.DescHead ≡ d + 1)
+waiting-has g s sound caller class has is waits =
     let l : Lists = sound.parts.0 in
     let with : IsSoundWith g s l = sound.parts.1 in
     stack-top (next_in s.word Partials) (s.word name.DescHead) (descriptor_count g) l.available with.listed.available with.listed.available_exist
-    (available-least g s l with who class has is waits)
+    (available-least g s l with caller class has is waits)
 
 -- the seat of a caller that looks
-looks-seat : (g : Geometry) (who : ℕ) (p : Point) (seat : SeatFields) (o : Onward) → FitsPoint g who p → p ≡ point.Desc (desc.LoadDescHead seat) o
+looks-seat : (g : Geometry) (caller : ℕ) (p : Point) (seat : SeatFields) (o : Continuation) → FitsPoint g caller p → p ≡ point.Desc (desc.LoadDescHead seat) o
     → (seat.class < CLASSES) × (waits_in seat.class p ≡ 1)
-looks-seat g who p seat o fits is =
-    let there : FitsPoint g who (point.Desc (desc.LoadDescHead seat) o) = subst (FitsPoint g who) is fits in
+looks-seat g caller p seat o fits is =
+    let there : FitsPoint g caller (point.Desc (desc.LoadDescHead seat) o) = subst (FitsPoint g caller) is fits in
     (there.point.class, ap (waits_in seat.class) is ∙ cond-true {A = ℕ} (seat.class == seat.class) 1 0 (eq-eqb seat.class seat.class refl))
 
-pub looking-has : (g : Geometry) (s : State) → IsSoundWithoutCounts g s → (who : ℕ) (seat : SeatFields) (o : Onward) → who < g.callers
-    → (s.errand who).point ≡ point.Desc (desc.LoadDescHead seat) o → (d : ℕ) × (d < descriptor_count g) × (s.word name.DescHead ≡ d + 1)
-looking-has g s sound who seat o has is =
-    let own = sound.parts.1.errands who has in
-    let seat_is = looks-seat (s.errand who).geometry (s.errand who).caller (s.errand who).point seat o own.rule.point is in
-    waiting-has g s sound who seat.class has seat_is.0 seat_is.1
+pub looking-has : (g : Geometry) (s : State) → IsSoundWithoutCounts g s → (caller : ℕ) (seat : SeatFields) (o : Continuation) → caller < g.callers
+    → (s.errand caller).point ≡ point.Desc (desc.LoadDescHead seat) o → (d : ℕ) × (d < descriptor_count g) × (s.word name.DescHead ≡ d + 1)
+looking-has g s sound caller seat o has is =
+    let own = sound.parts.1.errands caller has in
+    let seat_is = looks-seat (s.errand caller).geometry (s.errand caller).caller (s.errand caller).point seat o own.rule.point is in
+    waiting-has g s sound caller seat.class has seat_is.0 seat_is.1

@@ -185,17 +185,17 @@ words-one g weight words name exists h =
 
 -- an errand that goes on changes the callers' sum by what it weighs
 pub callers-moved :
-    (g : Geometry) (weight : ErrandFields → ℕ) (errands : ℕ → ErrandFields) (who : ℕ) (e : ErrandFields) (errands' : ℕ → ErrandFields)
-    → who < g.callers → Moves errands who e errands'
-    → callers_sum g weight errands' + weight (errands who) ≡ callers_sum g weight errands + weight e
+    (g : Geometry) (weight : ErrandFields → ℕ) (errands : ℕ → ErrandFields) (caller : ℕ) (e : ErrandFields) (errands' : ℕ → ErrandFields)
+    → caller < g.callers → Moves errands caller e errands'
+    → callers_sum g weight errands' + weight (errands caller) ≡ callers_sum g weight errands + weight e
 unfolding callers_sum
-callers-moved g weight errands who e errands' has m =
-    let changed = sum-change g.callers (λ i. weight (errands i)) (λ i. weight (errands' i)) who has (λ i lt ne. ap weight (m.elsewhere i ne)) in
+callers-moved g weight errands caller e errands' has m =
+    let changed = sum-change g.callers (λ i. weight (errands i)) (λ i. weight (errands' i)) caller has (λ i lt ne. ap weight (m.elsewhere i ne)) in
     omega (arith, changed, ap weight m.here)
 
 -- callers that weigh nothing
 pub callers-none :
     (g : Geometry) (weight : ErrandFields → ℕ) (errands : ℕ → ErrandFields)
-    → ((who : ℕ) → who < g.callers → weight (errands who) ≡ 0) → callers_sum g weight errands ≡ 0
+    → ((caller : ℕ) → caller < g.callers → weight (errands caller) ≡ 0) → callers_sum g weight errands ≡ 0
 unfolding callers_sum
-callers-none g weight errands h = sum-none g.callers (λ who. weight (errands who)) h
+callers-none g weight errands h = sum-none g.callers (λ caller. weight (errands caller)) h

@@ -172,22 +172,22 @@ located-live g s d f c lies i =
 
 -- after the gift of a block it is there, and all other places are as they were
 pub given-here :
-    (who words place : ℕ) (past past' : List Event) → past' ≡ past ++ Alloc who words place ∷ []
-    → block_at place (pool_of past') ≡ Some (fresh_block who words place)
-given-here who words place past past' one =
-    ap (λ past. block_at place (pool_of past)) one ∙ ap (block_at place) (pool_of-push past (Alloc who words place))
-    ∙ block_at-here place (fresh_block who words place) (pool_of past) refl
+    (caller words place : ℕ) (past past' : List Event) → past' ≡ past ++ Alloc caller words place ∷ []
+    → block_at place (pool_of past') ≡ Some (fresh_block caller words place)
+given-here caller words place past past' one =
+    ap (λ past. block_at place (pool_of past)) one ∙ ap (block_at place) (pool_of-push past (Alloc caller words place))
+    ∙ block_at-here place (fresh_block caller words place) (pool_of past) refl
 
 pub given-there :
-    (who words place : ℕ) (past past' : List Event) → past' ≡ past ++ Alloc who words place ∷ [] → (p : ℕ) → p ≢ place
+    (caller words place : ℕ) (past past' : List Event) → past' ≡ past ++ Alloc caller words place ∷ [] → (p : ℕ) → p ≢ place
     → block_at p (pool_of past') ≡ block_at p (pool_of past)
-given-there who words place past past' one p differ =
-    ap (λ past. block_at p (pool_of past)) one ∙ ap (block_at p) (pool_of-push past (Alloc who words place))
-    ∙ block_at-past p (fresh_block who words place) (pool_of past) (λ same. differ (sym same))
+given-there caller words place past past' one p differ =
+    ap (λ past. block_at p (pool_of past)) one ∙ ap (block_at p) (pool_of-push past (Alloc caller words place))
+    ∙ block_at-past p (fresh_block caller words place) (pool_of past) (λ same. differ (sym same))
 
 -- all superblocks lie where they did, and no block becomes live or free but this one of a bound superblock
-pub record BlockEffects (g : Geometry) (s : State) (l : Lists) (who : ℕ) (at : Site) (i : ℕ) (s' : State) : Type 0 where
-  pub site : IsSiteOf g who at
+pub record BlockEffects (g : Geometry) (s : State) (l : Lists) (caller : ℕ) (at : Site) (i : ℕ) (s' : State) : Type 0 where
+  pub site : IsSiteOf g caller at
   pub bound : IsTrue (is_bound g s l at.desc)
   pub located : IsLocated s at.desc at.frame at.seat.class
   pub index : i < block_count_of at.seat.class
@@ -195,7 +195,7 @@ pub record BlockEffects (g : Geometry) (s : State) (l : Lists) (who : ℕ) (at :
   pub there :
       (p : ℕ) → p ≢ block_place at.frame at.seat.class i → block_at p (pool_of s'.history) ≡ block_at p (pool_of s.history)
 
-module _ {g : Geometry} {s : State} {l : Lists} {who : ℕ} {at : Site} {i : ℕ} {s' : State} (h : BlockEffects g s l who at i s') where
+module _ {g : Geometry} {s : State} {l : Lists} {caller : ℕ} {at : Site} {i : ℕ} {s' : State} (h : BlockEffects g s l caller at i s') where
   -- it is none of another superblock's, which has the live blocks that it had
   pub others-live :
       IsSoundWith g s l → (d : ℕ) → d < descriptor_count g → IsTrue (is_bound g s l d) → d ≢ at.desc → (j : ℕ) → j < (superblock_of g s d).size

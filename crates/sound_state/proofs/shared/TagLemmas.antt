@@ -34,35 +34,35 @@ use Rattle.sound_state.proofs.shared.SumLemmas.{sum-same, sum-plus, sum-most, su
 
 -- each small allocation is one of its caller's
 alloc-given : (g : Geometry) (event : Event) → caller_of event < g.callers
-    → cond (is_small_alloc event) 1 0 ≤ sum_below g.callers (λ who. cond (gives_small who event) 1 0)
-alloc-given g (Alloc caller need place) has =
-    let own : cond (gives_small caller (Alloc caller need place)) 1 0 ≤ sum_below g.callers (λ who. cond (gives_small who (Alloc caller need place)) 1 0) =
-    term-sum g.callers (λ who. cond (gives_small who (Alloc caller need place)) 1 0) caller has in
+    → cond (is_small_alloc event) 1 0 ≤ sum_below g.callers (λ caller. cond (gives_small caller event) 1 0)
+alloc-given g (Alloc by need place) has =
+    let own : cond (gives_small by (Alloc by need place)) 1 0 ≤ sum_below g.callers (λ caller. cond (gives_small caller (Alloc by need place)) 1 0) =
+    term-sum g.callers (λ caller. cond (gives_small caller (Alloc by need place)) 1 0) by has in
     grind (arith, own)
-alloc-given g (Looked caller class) has = omega arith
-alloc-given g (Refuse caller need) has = omega arith
-alloc-given g (Free caller place) has = omega arith
-alloc-given g (Write caller place i v) has = omega arith
-alloc-given g (Put caller place shelf) has = omega arith
-alloc-given g (Take caller shelf place) has = omega arith
-alloc-given g (TakeNone caller shelf) has = omega arith
+alloc-given g (Looked by class) has = omega arith
+alloc-given g (Refuse by need) has = omega arith
+alloc-given g (Free by place) has = omega arith
+alloc-given g (Write by place i v) has = omega arith
+alloc-given g (Put by place shelf) has = omega arith
+alloc-given g (Take by shelf place) has = omega arith
+alloc-given g (TakeNone by shelf) has = omega arith
 
 -- all small allocations are the callers' together
 small-given : (g : Geometry) (history : List Event) → IsLegalWithoutCounts g history
-    → count_by is_small_alloc history ≤ sum_below g.callers (λ who. count_by (gives_small who) history)
+    → count_by is_small_alloc history ≤ sum_below g.callers (λ caller. count_by (gives_small caller) history)
 small-given g history legal =
-    kept (IsLegalEventWithoutCounts g) (λ h. count_by is_small_alloc h ≤ sum_below g.callers (λ who. count_by (gives_small who) h)) history
+    kept (IsLegalEventWithoutCounts g) (λ h. count_by is_small_alloc h ≤ sum_below g.callers (λ caller. count_by (gives_small caller) h)) history
     (λ before event h so_far.
     let allocs : count_by is_small_alloc (before ++ event ∷ []) ≡ count_by is_small_alloc before + cond (is_small_alloc event) 1 0 =
     sum_by_push (λ e. cond (is_small_alloc e) 1 0) before event in
-    let each : sum_below g.callers (λ who. count_by (gives_small who) (before ++ event ∷ []))
-    ≡ sum_below g.callers (λ who. count_by (gives_small who) before + cond (gives_small who event) 1 0) =
-    sum-same g.callers (λ who. count_by (gives_small who) before + cond (gives_small who event) 1 0)
-    (λ who. count_by (gives_small who) (before ++ event ∷ []))
-    (λ who has. sum_by_push (λ e. cond (gives_small who e) 1 0) before event) in
-    let both : sum_below g.callers (λ who. count_by (gives_small who) before + cond (gives_small who event) 1 0)
-    ≡ sum_below g.callers (λ who. count_by (gives_small who) before) + sum_below g.callers (λ who. cond (gives_small who event) 1 0) =
-    sum-plus g.callers (λ who. count_by (gives_small who) before) (λ who. cond (gives_small who event) 1 0) in
+    let each : sum_below g.callers (λ caller. count_by (gives_small caller) (before ++ event ∷ []))
+    ≡ sum_below g.callers (λ caller. count_by (gives_small caller) before + cond (gives_small caller event) 1 0) =
+    sum-same g.callers (λ caller. count_by (gives_small caller) before + cond (gives_small caller event) 1 0)
+    (λ caller. count_by (gives_small caller) (before ++ event ∷ []))
+    (λ caller has. sum_by_push (λ e. cond (gives_small caller e) 1 0) before event) in
+    let both : sum_below g.callers (λ caller. count_by (gives_small caller) before + cond (gives_small caller event) 1 0)
+    ≡ sum_below g.callers (λ caller. count_by (gives_small caller) before) + sum_below g.callers (λ caller. cond (gives_small caller event) 1 0) =
+    sum-plus g.callers (λ caller. count_by (gives_small caller) before) (λ caller. cond (gives_small caller event) 1 0) in
     let once = alloc-given g event h.0 in
     omega arith) legal (omega arith)
 
@@ -167,11 +167,11 @@ small-freed g history legal =
 pub turns-most : (g : Geometry) (s : State) (l : Lists) → IsChecked g → IsSoundWith g s l → callers_sum g turns_of s.errand ≤ MAX_CALLERS * MAX_TURNS
 unfolding callers_sum
 turns-most g s l checked sound =
-    let own : sum_below g.callers (λ who. turns_of (s.errand who)) ≤ g.callers * g.turn_limit =
-    sum-most g.callers (λ who. turns_of (s.errand who)) g.turn_limit
-    (λ who has.
-    let limit : (s.errand who).geometry.turn_limit ≡ g.turn_limit = ap (λ (o : Geometry). o.turn_limit) (sound.errands who has).geometry in
-    omega (arith, (sound.errands who has).rule.turns)) in
+    let own : sum_below g.callers (λ caller. turns_of (s.errand caller)) ≤ g.callers * g.turn_limit =
+    sum-most g.callers (λ caller. turns_of (s.errand caller)) g.turn_limit
+    (λ caller has.
+    let limit : (s.errand caller).geometry.turn_limit ≡ g.turn_limit = ap (λ (o : Geometry). o.turn_limit) (sound.errands caller has).geometry in
+    omega (arith, (sound.errands caller has).rule.turns)) in
     omega (arith, mul-le g.callers g.turn_limit MAX_CALLERS MAX_TURNS checked.callers.1 checked.turn_limit.1)
 
 -- no more small blocks are given than turns begun
@@ -179,9 +179,9 @@ pub given-most : (g : Geometry) (s : State) (l : Lists) → IsLegalWithoutCounts
     → count_by is_small_alloc s.history ≤ callers_sum g turns_of s.errand
 unfolding callers_sum
 given-most g s l legal sound =
-    let each : sum_below g.callers (λ who. count_by (gives_small who) s.history) ≤ sum_below g.callers (λ who. turns_of (s.errand who)) =
-    sum-least g.callers (λ who. count_by (gives_small who) s.history) (λ who. turns_of (s.errand who))
-    (λ who has. omega (arith, sound.turned.own_turns who has)) in
+    let each : sum_below g.callers (λ caller. count_by (gives_small caller) s.history) ≤ sum_below g.callers (λ caller. turns_of (s.errand caller)) =
+    sum-least g.callers (λ caller. count_by (gives_small caller) s.history) (λ caller. turns_of (s.errand caller))
+    (λ caller has. omega (arith, sound.turned.own_turns caller has)) in
     omega (arith, small-given g s.history legal)
 
 pub anchor-tags-below : (g : Geometry) (s : State) → IsSoundWithoutCounts g s → (d : ℕ) → d < descriptor_count g → (anchor_for s d).tag + 1 < 2 ^ TAG_BITS
@@ -224,10 +224,10 @@ pub list-tags-counted :
 list-tags-counted g s sound class has = omega (arith, sound.parts.1.turned.list_tags class has, sound.parts.1.turned.emptied)
 
 -- a caller's cleared count is far from its end
-pub cleared-below : (g : Geometry) (s : State) → IsSoundWithoutCounts g s → (who : ℕ) → who < g.callers → (s.errand who).cleared + 1 < 2 ^ 64
+pub cleared-below : (g : Geometry) (s : State) → IsSoundWithoutCounts g s → (caller : ℕ) → caller < g.callers → (s.errand caller).cleared + 1 < 2 ^ 64
 unfolding callers_sum
-cleared-below g s sound who has =
+cleared-below g s sound caller has =
     let l : Lists = sound.parts.0 in
     let is : IsSoundWith g s l = sound.parts.1 in
-    let own : (s.errand who).cleared ≤ sum_below g.callers (λ i. cleared_of (s.errand i)) = term-sum g.callers (λ i. cleared_of (s.errand i)) who has in
+    let own : (s.errand caller).cleared ≤ sum_below g.callers (λ i. cleared_of (s.errand i)) = term-sum g.callers (λ i. cleared_of (s.errand i)) caller has in
     omega (arith, own, is.turned.emptied, small-freed g s.history sound.legal, given-most g s l sound.legal is, turns-most g s l sound.checked is)

@@ -70,23 +70,23 @@ excepts-none e place bare (inr x) =
 
 -- and owns all that it does
 pub bare-owns :
-    (s : State) (who : ℕ) (p : Point) → IsBareHanded p
-    → All (λ x. IsOwned s who x.place x.need) (holds_of p).hands × All (λ x. IsOwned s who x.place x.need) (holds_of p).frees
-bare-owns s who p bare = (
-  subst (All (λ x. IsOwned s who x.place x.need)) (sym bare.hands) (All-nil (λ x. IsOwned s who x.place x.need)),
-  subst (All (λ x. IsOwned s who x.place x.need)) (sym bare.frees) (All-nil (λ x. IsOwned s who x.place x.need)),
+    (s : State) (caller : ℕ) (p : Point) → IsBareHanded p
+    → All (λ x. IsOwned s caller x.place x.need) (holds_of p).hands × All (λ x. IsOwned s caller x.place x.need) (holds_of p).frees
+bare-owns s caller p bare = (
+  subst (All (λ x. IsOwned s caller x.place x.need)) (sym bare.hands) (All-nil (λ x. IsOwned s caller x.place x.need)),
+  subst (All (λ x. IsOwned s caller x.place x.need)) (sym bare.frees) (All-nil (λ x. IsOwned s caller x.place x.need)),
 )
 
 -- what is excepted stays so where the caller that steps excepts it still
 pub excepted-stays :
-    (g : Geometry) (s : State) (who : ℕ) (e : ErrandFields) (s' : State) → Moves s.errand who e s'.errand → (place : ℕ)
-    → (Excepts (s.errand who) place → Excepts e place) → IsExcepted g s place → IsExcepted g s' place
-excepted-stays g s who e s' moves place mine x = record {
-  who = (
-    x.who.0,
-    x.who.1,
-    each-other g (λ j f. Excepts (s.errand j) place → Excepts f place) s.errand who e s'.errand moves mine (λ j has differ same. same)
-        x.who.0 x.who.1 x.who.2,
+    (g : Geometry) (s : State) (caller : ℕ) (e : ErrandFields) (s' : State) → Moves s.errand caller e s'.errand → (place : ℕ)
+    → (Excepts (s.errand caller) place → Excepts e place) → IsExcepted g s place → IsExcepted g s' place
+excepted-stays g s caller e s' moves place mine x = record {
+  caller = (
+    x.caller.0,
+    x.caller.1,
+    each-other g (λ j f. Excepts (s.errand j) place → Excepts f place) s.errand caller e s'.errand moves mine (λ j has differ same. same)
+        x.caller.0 x.caller.1 x.caller.2,
   );
 }
 
@@ -109,12 +109,12 @@ pub owned-stays :
 owned-stays s s' i place n still k = record { block = (k.block.0, still k.block.0 k.block.1, k.block.2, k.block.3) }
 
 -- a step leaves all blocks, and their prefix words, but where it changes one that its caller owns before and after
-pub record TiesBut (g : Geometry) (s : State) (l l' : Lists) (who : ℕ) (changes : ℕ → Type 0) (e : ErrandFields) (s' : State) : Type 0 where
-  pub moves : Moves s.errand who e s'.errand
+pub record TiesBut (g : Geometry) (s : State) (l l' : Lists) (caller : ℕ) (changes : ℕ → Type 0) (e : ErrandFields) (s' : State) : Type 0 where
+  pub moves : Moves s.errand caller e s'.errand
   pub either : (place : ℕ) → changes place ⊎ (changes place → ⊥)
   pub there : (place : ℕ) → (changes place → ⊥) → block_at place (pool_of s'.history) ≡ block_at place (pool_of s.history)
-  pub before : (place : ℕ) (b : Block) → changes place → IsLive s place b → b.owner ≡ Caller who
-  pub after : (place : ℕ) (b : Block) → changes place → IsLive s' place b → b.owner ≡ Caller who
+  pub before : (place : ℕ) (b : Block) → changes place → IsLive s place b → b.owner ≡ Caller caller
+  pub after : (place : ℕ) (b : Block) → changes place → IsLive s' place b → b.owner ≡ Caller caller
   pub arena : (place : ℕ) → (changes place → ⊥) → s'.word (name.Arena place) ≡ s.word (name.Arena place)
   pub shelf : (k : ℕ) → s'.word (name.Shelf k) ≡ s.word (name.Shelf k)
   pub small :
@@ -131,31 +131,31 @@ pub record TiesBut (g : Geometry) (s : State) (l l' : Lists) (who : ℕ) (change
   pub contents :
       (place i v : ℕ) (b : Block) → IsLive s' place b → slice_index_or b.contents i None ≡ Some v
       → s'.word (name.Arena (place + 1 + i)) ≡ v
-  pub excepts : (place : ℕ) → (changes place → ⊥) → Excepts (s.errand who) place → Excepts e place
-  pub hands : All (λ x. IsOwned s' who x.place x.need) (holds_of e.point).hands
-  pub frees : All (λ x. IsOwned s' who x.place x.need) (holds_of e.point).frees
+  pub excepts : (place : ℕ) → (changes place → ⊥) → Excepts (s.errand caller) place → Excepts e place
+  pub hands : All (λ x. IsOwned s' caller x.place x.need) (holds_of e.point).hands
+  pub frees : All (λ x. IsOwned s' caller x.place x.need) (holds_of e.point).frees
 
-no-shelf : (who k : ℕ) (b : Block) → b.owner ≡ Caller who → b.owner ≡ Shelf k → ⊥
-no-shelf who k b its of = let bad : Caller who ≡ Shelf k = sym its ∙ of in absurd (cc)
+no-shelf : (caller k : ℕ) (b : Block) → b.owner ≡ Caller caller → b.owner ≡ Shelf k → ⊥
+no-shelf caller k b its of = let bad : Caller caller ≡ Shelf k = sym its ∙ of in absurd (cc)
 
 -- the blocks of the others, who own them still
 others-own :
-    (g : Geometry) (s : State) (l l' : Lists) (who : ℕ) (changes : ℕ → Type 0) (e : ErrandFields) (s' : State)
-    → TiesBut g s l l' who changes e s' → (i place : ℕ) (n : Need) → i ≢ who → IsOwned s i place n → IsOwned s' i place n
-others-own g s l l' who changes e s' h i place n differ k =
+    (g : Geometry) (s : State) (l l' : Lists) (caller : ℕ) (changes : ℕ → Type 0) (e : ErrandFields) (s' : State)
+    → TiesBut g s l l' caller changes e s' → (i place : ℕ) (n : Need) → i ≢ caller → IsOwned s i place n → IsOwned s' i place n
+others-own g s l l' caller changes e s' h i place n differ k =
     let apart = λ (at : changes place).
-    let both : Caller i ≡ Caller who = sym k.block.2 ∙ h.before place k.block.0 at k.block.1 in
+    let both : Caller i ≡ Caller caller = sym k.block.2 ∙ h.before place k.block.0 at k.block.1 in
     differ (cc) in
     owned-stays s s' i place n (λ b live. h.there place apart ∙ live) k
 
 -- then the words still show the pool
 pub ties-but :
-    (g : Geometry) (s : State) (l l' : Lists) (who : ℕ) (changes : ℕ → Type 0) (e : ErrandFields) (s' : State)
-    → TiesBut g s l l' who changes e s' → IsTied g s l → IsTied g s' l'
-ties-but g s l l' who changes e s' h tied =
+    (g : Geometry) (s : State) (l l' : Lists) (caller : ℕ) (changes : ℕ → Type 0) (e : ErrandFields) (s' : State)
+    → TiesBut g s l l' caller changes e s' → IsTied g s l → IsTied g s' l'
+ties-but g s l l' caller changes e s' h tied =
     let was = λ (place : ℕ) (b : Block) (ne : changes place → ⊥) (live : IsLive s' place b). sym (h.there place ne) ∙ live in
     let stays = λ (place w : ℕ) (ne : changes place → ⊥).
-    tie-stays g s s' place w (excepted-stays g s who e s' h.moves place (h.excepts place ne)) (h.arena place ne) in
+    tie-stays g s s' place w (excepted-stays g s caller e s' h.moves place (h.excepts place ne)) (h.arena place ne) in
     record {
       small = λ place c b live of.
           elim (h.either place) [
@@ -172,20 +172,20 @@ ties-but g s l l' who changes e s' h tied =
       units = h.units;
       no_more_units = h.no_more_units;
       shelved = λ k place b has live of.
-          let ne = λ (at : changes place). no-shelf who k b (h.after place b at live) of in
+          let ne = λ (at : changes place). no-shelf caller k b (h.after place b at live) of in
           h.shelf k ∙ tied.shelved k place b has (was place b ne live) of;
       bare_shelf = λ k has none.
           h.shelf k
           ∙ tied.bare_shelf k has
           (λ place b live of.
-          let ne = λ (at : changes place). no-shelf who k b (h.before place b at live) of in none place b (h.there place ne ∙ live) of);
+          let ne = λ (at : changes place). no-shelf caller k b (h.before place b at live) of in none place b (h.there place ne ∙ live) of);
       contents = h.contents;
       hands =
-          each-other g (λ i e. All (λ x. IsOwned s' i x.place x.need) (holds_of e.point).hands) s.errand who e s'.errand h.moves h.hands
-          (λ i has differ k d lt. others-own g s l l' who changes e s' h i _ _ differ (tied.hands i has k d lt));
+          each-other g (λ i e. All (λ x. IsOwned s' i x.place x.need) (holds_of e.point).hands) s.errand caller e s'.errand h.moves h.hands
+          (λ i has differ k d lt. others-own g s l l' caller changes e s' h i _ _ differ (tied.hands i has k d lt));
       frees =
-          each-other g (λ i e. All (λ x. IsOwned s' i x.place x.need) (holds_of e.point).frees) s.errand who e s'.errand h.moves h.frees
-          (λ i has differ k d lt. others-own g s l l' who changes e s' h i _ _ differ (tied.frees i has k d lt));
+          each-other g (λ i e. All (λ x. IsOwned s' i x.place x.need) (holds_of e.point).frees) s.errand caller e s'.errand h.moves h.frees
+          (λ i has differ k d lt. others-own g s l l' caller changes e s' h i _ _ differ (tied.frees i has k d lt));
     }
 
 -- the words that speak of blocks: prefix words and usable words, units, and shelves
@@ -195,18 +195,18 @@ pub record TieWords (s s' : State) : Type 0 where
   pub shelf : (k : ℕ) → s'.word (name.Shelf k) ≡ s.word (name.Shelf k)
 
 -- a small block in a caller's hands
-pub record IsSmallOf (who class : ℕ) (b : Block) : Type 0 where
-  pub owner : b.owner ≡ Caller who
+pub record IsSmallOf (caller class : ℕ) (b : Block) : Type 0 where
+  pub owner : b.owner ≡ Caller caller
   pub need : b.need ≡ Small class
 
 -- a step leaves those words, and all blocks but where it changes a small one of its caller, in which nothing is written after it
-pub record SmallBut (g : Geometry) (s : State) (l l' : Lists) (who class : ℕ) (changes : ℕ → Type 0) (e : ErrandFields) (s' : State) : Type 0 where
-  pub moves : Moves s.errand who e s'.errand
+pub record SmallBut (g : Geometry) (s : State) (l l' : Lists) (caller class : ℕ) (changes : ℕ → Type 0) (e : ErrandFields) (s' : State) : Type 0 where
+  pub moves : Moves s.errand caller e s'.errand
   pub words : TieWords s s'
   pub either : (place : ℕ) → changes place ⊎ (changes place → ⊥)
   pub there : (place : ℕ) → (changes place → ⊥) → block_at place (pool_of s'.history) ≡ block_at place (pool_of s.history)
-  pub before : (place : ℕ) (b : Block) → changes place → IsLive s place b → IsSmallOf who class b
-  pub after : (place : ℕ) (b : Block) → changes place → IsLive s' place b → IsSmallOf who class b
+  pub before : (place : ℕ) (b : Block) → changes place → IsLive s place b → IsSmallOf caller class b
+  pub after : (place : ℕ) (b : Block) → changes place → IsLive s' place b → IsSmallOf caller class b
   pub fresh : (place i v : ℕ) (b : Block) → changes place → IsLive s' place b → slice_index_or b.contents i None ≡ Some v → ⊥
   pub small :
       (place c : ℕ) (b : Block) → changes place → IsLive s' place b → b.need ≡ Small c
@@ -214,19 +214,19 @@ pub record SmallBut (g : Geometry) (s : State) (l l' : Lists) (who class : ℕ) 
   pub bound :
       (place c : ℕ) (b : Block) (d : ℕ) → (changes place → ⊥) → IsLive s place b → b.need ≡ Small c → IsBlockOfDesc g s l place c d
       → IsBlockOfDesc g s' l' place c d
-  pub excepts : (place : ℕ) → (changes place → ⊥) → Excepts (s.errand who) place → Excepts e place
-  pub hands : All (λ x. IsOwned s' who x.place x.need) (holds_of e.point).hands
-  pub frees : All (λ x. IsOwned s' who x.place x.need) (holds_of e.point).frees
+  pub excepts : (place : ℕ) → (changes place → ⊥) → Excepts (s.errand caller) place → Excepts e place
+  pub hands : All (λ x. IsOwned s' caller x.place x.need) (holds_of e.point).hands
+  pub frees : All (λ x. IsOwned s' caller x.place x.need) (holds_of e.point).frees
 
-no-run : (who class units : ℕ) (b : Block) → IsSmallOf who class b → b.need ≡ Large units → ⊥
-no-run who class units b small of = let bad : Small class ≡ Large units = sym small.need ∙ of in absurd (cc)
+no-run : (caller class units : ℕ) (b : Block) → IsSmallOf caller class b → b.need ≡ Large units → ⊥
+no-run caller class units b small of = let bad : Small class ≡ Large units = sym small.need ∙ of in absurd (cc)
 
 -- then the words still show the pool
 pub small-but :
-    (g : Geometry) (s : State) (l l' : Lists) (who class : ℕ) (changes : ℕ → Type 0) (e : ErrandFields) (s' : State)
-    → SmallBut g s l l' who class changes e s' → IsTied g s l → IsTied g s' l'
-small-but g s l l' who class changes e s' h tied =
-    ties-but g s l l' who changes e s'
+    (g : Geometry) (s : State) (l l' : Lists) (caller class : ℕ) (changes : ℕ → Type 0) (e : ErrandFields) (s' : State)
+    → SmallBut g s l l' caller class changes e s' → IsTied g s l → IsTied g s' l'
+small-but g s l l' caller class changes e s' h tied =
+    ties-but g s l l' caller changes e s'
     (record {
       moves = h.moves;
       either = h.either;
@@ -236,18 +236,18 @@ small-but g s l l' who class changes e s' h tied =
       arena = λ place ne. h.words.arena place;
       shelf = h.words.shelf;
       small = h.small;
-      large = λ place units b at live of. absurd (no-run who class units b (h.after place b at live) of);
+      large = λ place units b at live of. absurd (no-run caller class units b (h.after place b at live) of);
       bound = h.bound;
       units = λ unit has.
           let old = tied.units unit has in (
             λ bit.
                 let c = old.0 (ap (λ w. bit_at w unit) (sym h.words.units) ∙ bit) in
                 let place : ℕ = unit_place g.frames c.1 in
-                let ne = λ (at : changes place). no-run who class c.2 c.0 (h.before place c.0 at c.3) c.4 in
+                let ne = λ (at : changes place). no-run caller class c.2 c.0 (h.before place c.0 at c.3) c.4 in
                 (c.0, c.1, c.2, h.there place ne ∙ c.3, c.4, c.5, c.6),
             λ c.
                 let place : ℕ = unit_place g.frames c.1 in
-                let ne = λ (at : changes place). no-run who class c.2 c.0 (h.after place c.0 at c.3) c.4 in
+                let ne = λ (at : changes place). no-run caller class c.2 c.0 (h.after place c.0 at c.3) c.4 in
                 ap (λ w. bit_at w unit) h.words.units ∙ old.1 (c.0, c.1, c.2, sym (h.there place ne) ∙ c.3, c.4, c.5, c.6),
           );
       no_more_units = subst (λ w. w < 2 ^ g.units) (sym h.words.units) tied.no_more_units;
@@ -261,14 +261,14 @@ small-but g s l l' who class changes e s' h tied =
 
 -- and so they do after a step that changes no block
 pub blocks-stay :
-    (g : Geometry) (s : State) (l l' : Lists) (who : ℕ) (e : ErrandFields) (s' : State) → Moves s.errand who e s'.errand → TieWords s s'
+    (g : Geometry) (s : State) (l l' : Lists) (caller : ℕ) (e : ErrandFields) (s' : State) → Moves s.errand caller e s'.errand → TieWords s s'
     → s'.history ≡ s.history
     → ((place c : ℕ) (b : Block) (d : ℕ) → IsLive s place b → b.need ≡ Small c → IsBlockOfDesc g s l place c d → IsBlockOfDesc g s' l' place c d)
-    → ((place : ℕ) → Excepts (s.errand who) place → Excepts e place)
-    → All (λ x. IsOwned s' who x.place x.need) (holds_of e.point).hands → All (λ x. IsOwned s' who x.place x.need) (holds_of e.point).frees
+    → ((place : ℕ) → Excepts (s.errand caller) place → Excepts e place)
+    → All (λ x. IsOwned s' caller x.place x.need) (holds_of e.point).hands → All (λ x. IsOwned s' caller x.place x.need) (holds_of e.point).frees
     → IsTied g s l → IsTied g s' l'
-blocks-stay g s l l' who e s' moves words history bound excepts hands frees tied =
-    small-but g s l l' who 0 (λ place. ⊥) e s'
+blocks-stay g s l l' caller e s' moves words history bound excepts hands frees tied =
+    small-but g s l l' caller 0 (λ place. ⊥) e s'
     (record {
       moves = moves;
       words = words;

@@ -28,18 +28,18 @@ use Rattle.sound_state.proofs.shared.CallerLemmas.{each-other}
 use Rattle.sound_state.proofs.shared.SumLemmas.{callers-moved, sum-same}
 
 -- the new events give this caller so many small blocks, and free so many
-pub record EventEffects (g : Geometry) (who : ℕ) (past past' : List Event) (given freed : ℕ) : Type 0 where
-  pub elsewhere : (i : ℕ) → i ≢ who → count_by (gives_small i) past' ≡ count_by (gives_small i) past
-  pub gives : count_by (gives_small who) past' ≡ count_by (gives_small who) past + given
+pub record EventEffects (g : Geometry) (caller : ℕ) (past past' : List Event) (given freed : ℕ) : Type 0 where
+  pub elsewhere : (i : ℕ) → i ≢ caller → count_by (gives_small i) past' ≡ count_by (gives_small i) past
+  pub gives : count_by (gives_small caller) past' ≡ count_by (gives_small caller) past + given
   pub refuses : (i : ℕ) → count_by (refuses_small i) past' ≡ count_by (refuses_small i) past
   pub allocs : count_by is_small_alloc past' ≡ count_by is_small_alloc past + given
   pub frees : count_by (is_small_free g) past' ≡ count_by (is_small_free g) past + freed
 
 -- no event is new
-pub no-event : (g : Geometry) (who : ℕ) (past past' : List Event) → past' ≡ past → EventEffects g who past past' 0 0
-no-event g who past past' same = record {
+pub no-event : (g : Geometry) (caller : ℕ) (past past' : List Event) → past' ≡ past → EventEffects g caller past past' 0 0
+no-event g caller past past' same = record {
   elsewhere = λ i differ. ap (count_by (gives_small i)) same;
-  gives = omega (arith, ap (count_by (gives_small who)) same);
+  gives = omega (arith, ap (count_by (gives_small caller)) same);
   refuses = λ i. ap (count_by (refuses_small i)) same;
   allocs = omega (arith, ap (count_by is_small_alloc) same);
   frees = omega (arith, ap (count_by (is_small_free g)) same);
@@ -53,17 +53,17 @@ counted-one f event past past' one = ap (count_by f) one ∙ sum_by_push (λ x. 
 
 -- a small block is given
 pub alloc-event :
-    (g : Geometry) (who words place : ℕ) (past past' : List Event) → nat_le words SMALL_MOST ≡ true → past' ≡ past ++ Alloc who words place ∷ []
-    → EventEffects g who past past' 1 0
-alloc-event g who words place past past' small one =
-    let counts = λ (f : Event → Bool). counted-one f (Alloc who words place) past past' one in
-    let here : cond {A = ℕ} (gives_small who (Alloc who words place)) 1 0 ≡ 1 = rw (eq-eqb who who refl, small) refl in
-    let each : cond {A = ℕ} (is_small_alloc (Alloc who words place)) 1 0 ≡ 1 = rw small refl in
+    (g : Geometry) (caller words place : ℕ) (past past' : List Event) → nat_le words SMALL_MOST ≡ true → past' ≡ past ++ Alloc caller words place ∷ []
+    → EventEffects g caller past past' 1 0
+alloc-event g caller words place past past' small one =
+    let counts = λ (f : Event → Bool). counted-one f (Alloc caller words place) past past' one in
+    let here : cond {A = ℕ} (gives_small caller (Alloc caller words place)) 1 0 ≡ 1 = rw (eq-eqb caller caller refl, small) refl in
+    let each : cond {A = ℕ} (is_small_alloc (Alloc caller words place)) 1 0 ≡ 1 = rw small refl in
     record {
       elsewhere = λ i differ.
-          let none : cond {A = ℕ} (gives_small i (Alloc who words place)) 1 0 ≡ 0 = rw (ne_eqb who i (λ same. differ (sym same))) refl in
+          let none : cond {A = ℕ} (gives_small i (Alloc caller words place)) 1 0 ≡ 0 = rw (ne_eqb caller i (λ same. differ (sym same))) refl in
           omega (arith, counts (gives_small i), none);
-      gives = omega (arith, counts (gives_small who), here);
+      gives = omega (arith, counts (gives_small caller), here);
       refuses = λ i. omega (arith, counts (refuses_small i));
       allocs = omega (arith, counts is_small_alloc, each);
       frees = counts (is_small_free g);
@@ -71,14 +71,14 @@ alloc-event g who words place past past' small one =
 
 -- a small block is freed
 pub small-free-event :
-    (g : Geometry) (who place : ℕ) (past past' : List Event) → frame_of place < g.frames → past' ≡ past ++ Free who place ∷ []
-    → EventEffects g who past past' 0 1
-small-free-event g who place past past' within one =
-    let counts = λ (f : Event → Bool). counted-one f (Free who place) past past' one in
-    let here : cond {A = ℕ} (is_small_free g (Free who place)) 1 0 ≡ 1 = rw (le-leb (frame_of place + 1) g.frames (omega (arith, within))) refl in
+    (g : Geometry) (caller place : ℕ) (past past' : List Event) → frame_of place < g.frames → past' ≡ past ++ Free caller place ∷ []
+    → EventEffects g caller past past' 0 1
+small-free-event g caller place past past' within one =
+    let counts = λ (f : Event → Bool). counted-one f (Free caller place) past past' one in
+    let here : cond {A = ℕ} (is_small_free g (Free caller place)) 1 0 ≡ 1 = rw (le-leb (frame_of place + 1) g.frames (omega (arith, within))) refl in
     record {
       elsewhere = λ i differ. omega (arith, counts (gives_small i));
-      gives = counts (gives_small who);
+      gives = counts (gives_small caller);
       refuses = λ i. omega (arith, counts (refuses_small i));
       allocs = counts is_small_alloc;
       frees = omega (arith, counts (is_small_free g), here);
@@ -128,40 +128,40 @@ pub head-tag : {w w' : ℕ} → w' ≡ w → (head_of w').tag ≡ (head_of w).ta
 head-tag same = ap (λ w. (head_of w).tag) same
 
 -- a caller goes on, and this is all that changes of what bounds the turns
-pub record TurnEffects (g : Geometry) (s : State) (l : Lists) (who : ℕ) (e : ErrandFields) (s' : State) (l' : Lists) (given freed : ℕ) : Type 0 where
-  pub caller : who < g.callers
-  pub moves : Moves s.errand who e s'.errand
-  pub events : EventEffects g who s.history s'.history given freed
-  pub own_turns : count_by (gives_small who) s'.history + turn_open e ≤ e.turns
+pub record TurnEffects (g : Geometry) (s : State) (l : Lists) (caller : ℕ) (e : ErrandFields) (s' : State) (l' : Lists) (given freed : ℕ) : Type 0 where
+  pub in_heap : caller < g.callers
+  pub moves : Moves s.errand caller e s'.errand
+  pub events : EventEffects g caller s.history s'.history given freed
+  pub own_turns : count_by (gives_small caller) s'.history + turn_open e ≤ e.turns
   pub own_lost :
       e.turns + errand_discards e
-      ≤ count_by (gives_small who) s'.history + count_by (refuses_small who) s'.history + e.lost + turn_unanswered e
+      ≤ count_by (gives_small caller) s'.history + count_by (refuses_small caller) s'.history + e.lost + turn_unanswered e
   pub anchor_tags : (d : ℕ) → d < descriptor_count g → (anchor_for s' d).tag ≤ (anchor_for s d).tag + given
   pub frame_turns :
-      (head_of (s'.word name.FrameHead)).tag + turn_unframed e + (s.errand who).turns
-      ≤ (head_of (s.word name.FrameHead)).tag + turn_unframed (s.errand who) + e.turns
+      (head_of (s'.word name.FrameHead)).tag + turn_unframed e + (s.errand caller).turns
+      ≤ (head_of (s.word name.FrameHead)).tag + turn_unframed (s.errand caller) + e.turns
   pub emptied :
       sum_below (descriptor_count g) (emptied_out g s' l') + e.cleared
-      ≤ sum_below (descriptor_count g) (emptied_out g s l) + (s.errand who).cleared + freed
+      ≤ sum_below (descriptor_count g) (emptied_out g s l) + (s.errand caller).cleared + freed
   pub list_turns :
       (class : ℕ) → class < CLASSES
-      → (head_of (s'.word (name.ListHead class))).tag + errand_pops e + turn_unlisted e + (s.errand who).turns + (s.errand who).cleared
-      ≤ (head_of (s.word (name.ListHead class))).tag + errand_pops (s.errand who) + turn_unlisted (s.errand who) + e.turns + e.cleared + 2 * freed
+      → (head_of (s'.word (name.ListHead class))).tag + errand_pops e + turn_unlisted e + (s.errand caller).turns + (s.errand caller).cleared
+      ≤ (head_of (s.word (name.ListHead class))).tag + errand_pops (s.errand caller) + turn_unlisted (s.errand caller) + e.turns + e.cleared + 2 * freed
 
 -- then the bounds stay
 pub turned-after :
-    (g : Geometry) (s : State) (l : Lists) (who : ℕ) (e : ErrandFields) (s' : State) (l' : Lists) (given freed : ℕ)
-    → TurnEffects g s l who e s' l' given freed → IsTurned g s l → IsTurned g s' l'
-turned-after g s l who e s' l' given freed h turned =
-    let moved = λ (weight : ErrandFields → ℕ). callers-moved g weight s.errand who e s'.errand h.caller h.moves in
+    (g : Geometry) (s : State) (l : Lists) (caller : ℕ) (e : ErrandFields) (s' : State) (l' : Lists) (given freed : ℕ)
+    → TurnEffects g s l caller e s' l' given freed → IsTurned g s l → IsTurned g s' l'
+turned-after g s l caller e s' l' given freed h turned =
+    let moved = λ (weight : ErrandFields → ℕ). callers-moved g weight s.errand caller e s'.errand h.in_heap h.moves in
     record {
       own_turns =
-          each-other g (λ i e. count_by (gives_small i) s'.history + turn_open e ≤ e.turns) s.errand who e s'.errand h.moves h.own_turns
+          each-other g (λ i e. count_by (gives_small i) s'.history + turn_open e ≤ e.turns) s.errand caller e s'.errand h.moves h.own_turns
           (λ i has differ. omega (arith, turned.own_turns i has, h.events.elsewhere i differ));
       own_lost =
           each-other g
           (λ i e. e.turns + errand_discards e
-          ≤ count_by (gives_small i) s'.history + count_by (refuses_small i) s'.history + e.lost + turn_unanswered e) s.errand who e s'.errand h.moves
+          ≤ count_by (gives_small i) s'.history + count_by (refuses_small i) s'.history + e.lost + turn_unanswered e) s.errand caller e s'.errand h.moves
           h.own_lost (λ i has differ. omega (arith, turned.own_lost i has, h.events.elsewhere i differ, h.events.refuses i));
       anchor_tags = λ d has. omega (arith, turned.anchor_tags d has, h.anchor_tags d has, h.events.allocs);
       frame_tag = omega (arith, turned.frame_tag, moved turn_unframed, moved turns_of, h.frame_turns);

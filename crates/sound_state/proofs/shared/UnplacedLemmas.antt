@@ -24,9 +24,9 @@ pub record IsUnplaced (g : Geometry) (s : State) (l : Lists) (d : ℕ) : Type 0 
   pub bound : IsTrue (is_bound g s l d) → ⊥
   pub words : (n : WordName) → Exists g n → word_keeps d n (s.word n) ≡ 0
   pub listed : (class : ℕ) → class < CLASSES → occurs d (l.partials class) ≡ 0
-  pub reserving : (who : ℕ) → who < g.callers → errand_keeps reserving d (s.errand who) ≡ 0
-  pub waiting : (who : ℕ) → who < g.callers → errand_keeps waiting d (s.errand who) ≡ 0
-  pub partly : (who : ℕ) → who < g.callers → errand_keeps partly_used d (s.errand who) ≡ 0
+  pub reserving : (caller : ℕ) → caller < g.callers → errand_keeps reserving d (s.errand caller) ≡ 0
+  pub waiting : (caller : ℕ) → caller < g.callers → errand_keeps waiting d (s.errand caller) ≡ 0
+  pub partly : (caller : ℕ) → caller < g.callers → errand_keeps partly_used d (s.errand caller) ≡ 0
   pub full : full_keeps (anchor_for s d).state ≡ 0
 
 -- a descriptor on its way has no superblock
@@ -34,25 +34,25 @@ not-bound : (n : ℕ) (b : Bool) → 1 ≤ n → IsTrue ((n == 0) && b) → ⊥
 not-bound n b some bound = grind (arith, some, bound)
 
 pub way-unplaced :
-    (g : Geometry) (s : State) (l : Lists) (who d : ℕ) → IsSoundWith g s l → who < g.callers → d < descriptor_count g
-    → 1 ≤ errand_keeps on_its_way d (s.errand who) → IsUnplaced g s l d
+    (g : Geometry) (s : State) (l : Lists) (caller d : ℕ) → IsSoundWith g s l → caller < g.callers → d < descriptor_count g
+    → 1 ≤ errand_keeps on_its_way d (s.errand caller) → IsUnplaced g s l d
 unfolding callers_sum
-way-unplaced g s l who d old has exists mine =
+way-unplaced g s l caller d old has exists mine =
     let once = old.kept.once d exists in
-    let some : errand_has d (s.errand who) ≤ callers_sum g (errand_has d) s.errand = term-sum g.callers (λ i. errand_has d (s.errand i)) who has in
-    let has_it : 1 ≤ errand_has d (s.errand who) = omega (arith, mine) in
-    let own : errand_has d (s.errand who) ≤ 1 = omega (arith, once, some) in
-    let away : errand_away d (s.errand who) ≤ callers_sum g (errand_away d) s.errand = term-sum g.callers (λ i. errand_away d (s.errand i)) who has in
+    let some : errand_has d (s.errand caller) ≤ callers_sum g (errand_has d) s.errand = term-sum g.callers (λ i. errand_has d (s.errand i)) caller has in
+    let has_it : 1 ≤ errand_has d (s.errand caller) = omega (arith, mine) in
+    let own : errand_has d (s.errand caller) ≤ 1 = omega (arith, once, some) in
+    let away : errand_away d (s.errand caller) ≤ callers_sum g (errand_away d) s.errand = term-sum g.callers (λ i. errand_away d (s.errand i)) caller has in
     let none = λ (status : Status) (i : ℕ). errand_keeps status d (s.errand i) ≡ 0 in
     let each : (i : ℕ) → i < g.callers → none reserving i × none waiting i × none partly_used i =
     λ i has_i.
-    elim (cases_eq i who) [
+    elim (cases_eq i caller) [
       | inl is ↦
           subst (λ j. none reserving j × none waiting j × none partly_used j) (sym is)
           (omega (arith, own, mine), omega (arith, own, mine), omega (arith, own, mine))
       | inr differ ↦
           let has_none : errand_has d (s.errand i) ≡ 0 =
-          others-none g (errand_has d) s.errand who i has has_i differ has_it (omega (arith, once, some, has_it)) in
+          others-none g (errand_has d) s.errand caller i has has_i differ has_it (omega (arith, once, some, has_it)) in
           (omega (arith, has_none), omega (arith, has_none), omega (arith, has_none))
     ] in
     record {

@@ -11,7 +11,7 @@ use Rattle.superblock_parts.specs.Anchors.{new_anchor, new_credits}
 use Rattle.superblock_parts.specs.declared.point.BlockPoint.TheVariants as block
 use Rattle.errand_steps.specs.Errands.{ErrandFields}
 use Rattle.errand_steps.specs.Steps.{State}
-use Rattle.errand_steps.specs.declared.onward.Onward.{Onward}
+use Rattle.errand_steps.specs.declared.continuation.Continuation.{Continuation}
 use Rattle.errand_steps.specs.declared.point.Point.TheVariants as point
 use Rattle.errand_steps.specs.declared.point.Point.{Point}
 use Rattle.sound_state.specs.Holdings.{waiting, holds_of}
@@ -34,20 +34,20 @@ new_anchor-fits class = record {
 
 -- a caller that waits to install a superblock has reserved its first blocks, and holds block 0 back
 install-reserves :
-    (site : Site) (o : Onward)
+    (site : Site) (o : Continuation)
     → reserved_among site.desc (holds_of (point.Block (block.InstallSuperblock site) o)).credits ≡ new_credits site.seat.class + 1
 unfolding holds_of
 install-reserves site o = grind (arith)
 
 pub install-waits :
-    (e : ErrandFields) (site : Site) (o : Onward) → e.point ≡ point.Block (block.InstallSuperblock site) o
+    (e : ErrandFields) (site : Site) (o : Continuation) → e.point ≡ point.Block (block.InstallSuperblock site) o
     → errand_keeps waiting site.desc e ≡ 1
 unfolding holds_of
 install-waits e site o at = rw at (grind (arith))
 
 -- so it has all that is reserved of it, and nothing of it is live
 pub waits-alone :
-    (g : Geometry) (s : State) (l : Lists) (i : ℕ) (site : Site) (o : Onward) → IsSoundWith g s l → i < g.callers
+    (g : Geometry) (s : State) (l : Lists) (i : ℕ) (site : Site) (o : Continuation) → IsSoundWith g s l → i < g.callers
     → (s.errand i).point ≡ point.Block (block.InstallSuperblock site) o
     → (reserved_of g s site.desc ≡ errand_reserves site.desc (s.errand i))
     × (sum_below (superblock_of g s site.desc).size (superblock_of g s site.desc).live ≡ 0)

@@ -88,10 +88,10 @@ plain-same words n new words' w still m plain =
 
 -- the descriptors that are away stay away, and no other one is
 away-same :
-    (g : Geometry) (s : State) (l : Lists) (who : ℕ) (n : WordName) (before after : ℕ) (e : ErrandFields) (s' : State) → who < g.callers
-    → Moves s.errand who e s'.errand → WeighMost n before after (s.errand who) e → (d : ℕ) → away_of g s' l d ≡ away_of g s l d
-away-same g s l who n before after e s' has m weigh d =
-    omega (arith, callers-moved g (errand_away d) s.errand who e s'.errand has m, weigh.away d)
+    (g : Geometry) (s : State) (l : Lists) (caller : ℕ) (n : WordName) (before after : ℕ) (e : ErrandFields) (s' : State) → caller < g.callers
+    → Moves s.errand caller e s'.errand → WeighMost n before after (s.errand caller) e → (d : ℕ) → away_of g s' l d ≡ away_of g s l d
+away-same g s l caller n before after e s' has m weigh d =
+    omega (arith, callers-moved g (errand_away d) s.errand caller e s'.errand has m, weigh.away d)
 
 -- as many superblocks are FULL, where no anchor and no descriptor's word changes
 pub full-same :
@@ -113,13 +113,13 @@ pub record WeighClose (n : WordName) (before after : ℕ) (a b : ErrandFields) :
   pub stock : (class : ℕ) → word_stock class n after + errand_stock class b ≤ word_stock class n before + errand_stock class a
 
 pub weigh-close :
-    (g : Geometry) (s : State) (l : Lists) (who : ℕ) (n : WordName) (new : ℕ) (e : ErrandFields) (s' : State) → Exists g n
-    → who < g.callers → Writes s.word n new s'.word → Moves s.errand who e s'.errand → s'.history ≡ s.history
-    → ((d : ℕ) → is_bound g s' l d ≡ is_bound g s l d) → WeighClose n (s.word n) new (s.errand who) e → Alike g s l s'
-weigh-close g s l who n new e s' exists has w m past bound weigh =
+    (g : Geometry) (s : State) (l : Lists) (caller : ℕ) (n : WordName) (new : ℕ) (e : ErrandFields) (s' : State) → Exists g n
+    → caller < g.callers → Writes s.word n new s'.word → Moves s.errand caller e s'.errand → s'.history ≡ s.history
+    → ((d : ℕ) → is_bound g s' l d ≡ is_bound g s l d) → WeighClose n (s.word n) new (s.errand caller) e → Alike g s l s'
+weigh-close g s l caller n new e s' exists has w m past bound weigh =
     let plain = plain-same s.word n new s'.word w weigh.plain in
     let words = λ (weight : WordName → ℕ → ℕ). words-written g weight s.word n new s'.word exists w in
-    let callers = λ (weight : ErrandFields → ℕ). callers-moved g weight s.errand who e s'.errand has m in
+    let callers = λ (weight : ErrandFields → ℕ). callers-moved g weight s.errand caller e s'.errand has m in
     let anchor = λ (d : ℕ). ap anchor_of (plain (name.Anchor d) tt) in
     record {
       word = plain;
@@ -146,13 +146,13 @@ weigh-close g s l who n new e s' exists has w m past bound weigh =
     }
 
 pub weigh-alike :
-    (g : Geometry) (s : State) (l : Lists) (who : ℕ) (n : WordName) (new : ℕ) (e : ErrandFields) (s' : State) → Exists g n
-    → who < g.callers → Writes s.word n new s'.word → Moves s.errand who e s'.errand → s'.history ≡ s.history
-    → WeighMost n (s.word n) new (s.errand who) e → Alike g s l s'
-weigh-alike g s l who n new e s' exists has w m past weigh =
+    (g : Geometry) (s : State) (l : Lists) (caller : ℕ) (n : WordName) (new : ℕ) (e : ErrandFields) (s' : State) → Exists g n
+    → caller < g.callers → Writes s.word n new s'.word → Moves s.errand caller e s'.errand → s'.history ≡ s.history
+    → WeighMost n (s.word n) new (s.errand caller) e → Alike g s l s'
+weigh-alike g s l caller n new e s' exists has w m past weigh =
     let plain = plain-same s.word n new s'.word w weigh.plain in
-    weigh-close g s l who n new e s' exists has w m past
-    (λ d. rw (away-same g s l who n _ new e s' has m weigh d, ap anchor_of (plain (name.Anchor d) tt)) refl)
+    weigh-close g s l caller n new e s' exists has w m past
+    (λ d. rw (away-same g s l caller n _ new e s' has m weigh d, ap anchor_of (plain (name.Anchor d) tt)) refl)
     (record {
       plain = weigh.plain;
       reserves = weigh.reserves;
@@ -165,10 +165,10 @@ weigh-alike g s l who n new e s' exists has w m past weigh =
 
 -- as many descriptors are EMPTY and out
 pub weigh-emptied :
-    (g : Geometry) (s : State) (l : Lists) (who : ℕ) (n : WordName) (new : ℕ) (e : ErrandFields) (s' : State) → who < g.callers
-    → Writes s.word n new s'.word → Moves s.errand who e s'.errand → WeighMost n (s.word n) new (s.errand who) e
+    (g : Geometry) (s : State) (l : Lists) (caller : ℕ) (n : WordName) (new : ℕ) (e : ErrandFields) (s' : State) → caller < g.callers
+    → Writes s.word n new s'.word → Moves s.errand caller e s'.errand → WeighMost n (s.word n) new (s.errand caller) e
     → sum_below (descriptor_count g) (emptied_out g s' l) ≡ sum_below (descriptor_count g) (emptied_out g s l)
-weigh-emptied g s l who n new e s' has w m weigh =
+weigh-emptied g s l caller n new e s' has w m weigh =
     let plain = plain-same s.word n new s'.word w weigh.plain in
     sum-same (descriptor_count g) (emptied_out g s l) (emptied_out g s' l)
-    (λ d lt. rw (away-same g s l who n _ new e s' has m weigh d, ap anchor_of (plain (name.Anchor d) tt)) refl)
+    (λ d lt. rw (away-same g s l caller n _ new e s' has m weigh d, ap anchor_of (plain (name.Anchor d) tt)) refl)

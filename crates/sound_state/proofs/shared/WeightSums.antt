@@ -59,13 +59,13 @@ callers-some g a b errands weighs some =
 
 -- where many weights together find at most k at each caller, and nothing at one
 pub callers-together :
-    (g : Geometry) (n : ℕ) (weight : ℕ → ErrandFields → ℕ) (errands : ℕ → ErrandFields) (who k : ℕ) → who < g.callers
-    → sum_below n (λ d. weight d (errands who)) ≡ 0 → ((e : ErrandFields) → sum_below n (λ d. weight d e) ≤ k)
+    (g : Geometry) (n : ℕ) (weight : ℕ → ErrandFields → ℕ) (errands : ℕ → ErrandFields) (caller k : ℕ) → caller < g.callers
+    → sum_below n (λ d. weight d (errands caller)) ≡ 0 → ((e : ErrandFields) → sum_below n (λ d. weight d e) ≤ k)
     → sum_below n (λ d. callers_sum g (weight d) errands) + k ≤ g.callers * k
 unfolding callers_sum
-callers-together g n weight errands who k has none most =
+callers-together g n weight errands caller k has none most =
     omega (
       arith,
       sum-swap n g.callers (λ d i. weight d (errands i)),
-      sum-most-but g.callers (λ i. sum_below n (λ d. weight d (errands i))) k who has none (λ i lt. most (errands i)),
+      sum-most-but g.callers (λ i. sum_below n (λ d. weight d (errands i))) k caller has none (λ i lt. most (errands i)),
     )

@@ -40,53 +40,53 @@ settle-leads e x q leads =
     ]
 
 -- a step from a point that finds this and leads there, or ends the call
-pub record StepEffects (g : Geometry) (s : State) (who : ℕ) (p : Point) (x : Found) (q : Point) (s' : State) : Type 0 where
-  pub moves : Moves s.errand who (at_point (s.errand who) x q) s'.errand
+pub record StepEffects (g : Geometry) (s : State) (caller : ℕ) (p : Point) (x : Found) (q : Point) (s' : State) : Type 0 where
+  pub moves : Moves s.errand caller (at_point (s.errand caller) x q) s'.errand
   pub writes :
       Writes s.word (name_of (plan_point_of p)) (after_action (plan_point_of p) (s.word (name_of (plan_point_of p)))) s'.word
-  pub history : s'.history ≡ with_event s.history (event_of who p x)
-  pub rule : IsOwnErrand g who (at_point (s.errand who) x q)
-  pub lost : raised (counts_lost (s.errand who).point x) (s.errand who).lost ≡ raised (counts_lost p x) (s.errand who).lost
-  pub cleared : raised (counts_cleared (s.errand who).point x) (s.errand who).cleared ≡ raised (counts_cleared p x) (s.errand who).cleared
+  pub history : s'.history ≡ with_event s.history (event_of caller p x)
+  pub rule : IsOwnErrand g caller (at_point (s.errand caller) x q)
+  pub lost : raised (counts_lost (s.errand caller).point x) (s.errand caller).lost ≡ raised (counts_lost p x) (s.errand caller).lost
+  pub cleared : raised (counts_cleared (s.errand caller).point x) (s.errand caller).cleared ≡ raised (counts_cleared p x) (s.errand caller).cleared
 
 pub step-effects :
-    (g : Geometry) (s : State) (l : Lists) (who : ℕ) (s' : State) (p : Point) (x : Found) (q : Point) → IsSoundWith g s l → who < g.callers
-    → (s.errand who).point ≡ p → found_from s p ≡ x → LeadsTo (next_of p x) q → Step s who s' → StepEffects g s who p x q s'
-step-effects g s l who s' p x q old has here finds leads step =
-    let found : found_at s who ≡ x = ap (found_from s) here ∙ finds in
-    let moved : settle_of (s.errand who) (found_at s who) ≡ at_point (s.errand who) x q =
-    ap (settle_of (s.errand who)) found ∙ settle-leads (s.errand who) x q (subst (λ r. LeadsTo (next_of r x) q) (sym here) leads) in
-    let own = old.errands who has in
+    (g : Geometry) (s : State) (l : Lists) (caller : ℕ) (s' : State) (p : Point) (x : Found) (q : Point) → IsSoundWith g s l → caller < g.callers
+    → (s.errand caller).point ≡ p → found_from s p ≡ x → LeadsTo (next_of p x) q → Step s caller s' → StepEffects g s caller p x q s'
+step-effects g s l caller s' p x q old has here finds leads step =
+    let found : found_at s caller ≡ x = ap (found_from s) here ∙ finds in
+    let moved : settle_of (s.errand caller) (found_at s caller) ≡ at_point (s.errand caller) x q =
+    ap (settle_of (s.errand caller)) found ∙ settle-leads (s.errand caller) x q (subst (λ r. LeadsTo (next_of r x) q) (sym here) leads) in
+    let own = old.errands caller has in
     record {
-      moves = subst (λ f. Moves s.errand who f s'.errand) moved step.errand;
+      moves = subst (λ f. Moves s.errand caller f s'.errand) moved step.errand;
       writes =
           subst (λ r. Writes s.word (name_of (plan_point_of r)) (after_action (plan_point_of r) (s.word (name_of (plan_point_of r)))) s'.word) here
           step.word;
-      history = step.history ∙ ap (with_event s.history) (ap (event_of who (s.errand who).point) found ∙ ap (λ r. event_of who r x) here);
+      history = step.history ∙ ap (with_event s.history) (ap (event_of caller (s.errand caller).point) found ∙ ap (λ r. event_of caller r x) here);
       rule = record {
-        caller = own.caller;
+        number = own.number;
         geometry = own.geometry;
-        rule = subst IsErrand moved (settle_errand (s.errand who) (found_at s who) own.rule (old.words (name_at s who)));
-        lost = raised-below (counts_lost (s.errand who).point x) (s.errand who).lost own.lost;
+        rule = subst IsErrand moved (settle_errand (s.errand caller) (found_at s caller) own.rule (old.words (name_at s caller)));
+        lost = raised-below (counts_lost (s.errand caller).point x) (s.errand caller).lost own.lost;
       };
-      lost = ap (λ r. raised (counts_lost r x) (s.errand who).lost) here;
-      cleared = ap (λ r. raised (counts_cleared r x) (s.errand who).cleared) here;
+      lost = ap (λ r. raised (counts_lost r x) (s.errand caller).lost) here;
+      cleared = ap (λ r. raised (counts_cleared r x) (s.errand caller).cleared) here;
     }
 
 -- such a step whose exchange is won
-pub record WonEffects (g : Geometry) (s : State) (who : ℕ) (p : Point) (n : WordName) (expected new : ℕ) (q : Point) (s' : State) : Type 0 where
-  pub step : StepEffects g s who p (won_with expected) q s'
+pub record WonEffects (g : Geometry) (s : State) (caller : ℕ) (p : Point) (n : WordName) (expected new : ℕ) (q : Point) (s' : State) : Type 0 where
+  pub step : StepEffects g s caller p (won_with expected) q s'
   pub writes : Writes s.word n new s'.word
   pub below : (m : WordName) → s'.word m < 2 ^ 64
 
 pub won-effects :
-    (g : Geometry) (s : State) (l : Lists) (who : ℕ) (s' : State) (p : Point) (n : WordName) (expected new : ℕ) (q : Point) → IsSoundWith g s l
-    → who < g.callers → (s.errand who).point ≡ p → s.word n ≡ expected → plan_point_of p ≡ Cas n expected new
-    → LeadsTo (next_of p (won_with expected)) q → new < 2 ^ 64 → Step s who s' → WonEffects g s who p n expected new q s'
-won-effects g s l who s' p n expected new q old has here word plan leads below step =
+    (g : Geometry) (s : State) (l : Lists) (caller : ℕ) (s' : State) (p : Point) (n : WordName) (expected new : ℕ) (q : Point) → IsSoundWith g s l
+    → caller < g.callers → (s.errand caller).point ≡ p → s.word n ≡ expected → plan_point_of p ≡ Cas n expected new
+    → LeadsTo (next_of p (won_with expected)) q → new < 2 ^ 64 → Step s caller s' → WonEffects g s caller p n expected new q s'
+won-effects g s l caller s' p n expected new q old has here word plan leads below step =
     let found : found_by (Cas n expected new) (s.word n) ≡ won_with expected = rw (word, eq-eqb expected expected refl) refl in
     let effects =
-    step-effects g s l who s' p (won_with expected) q old has here (ap (λ c. found_by c (s.word (name_of c))) plan ∙ found) leads step in
+    step-effects g s l caller s' p (won_with expected) q old has here (ap (λ c. found_by c (s.word (name_of c))) plan ∙ found) leads step in
     let after : after_action (Cas n expected new) (s.word n) ≡ new =
     cond-true {A = ℕ} (s.word n == expected) new (s.word n) (eq-eqb (s.word n) expected word) in
     let writes : Writes s.word n new s'.word =
@@ -95,21 +95,21 @@ won-effects g s l who s' p n expected new q old has here word plan leads below s
     record { step = effects; writes = writes; below = words-below s.word n new s'.word writes old.words below }
 
 -- such a step whose exchange is of an anchor
-pub record AnchorWon (g : Geometry) (s : State) (who : ℕ) (p : Point) (d : ℕ) (a b : AnchorFields) (q : Point) (s' : State) : Type 0 where
-  pub step : StepEffects g s who p (won_with (anchor_word a)) q s'
+pub record AnchorWon (g : Geometry) (s : State) (caller : ℕ) (p : Point) (d : ℕ) (a b : AnchorFields) (q : Point) (s' : State) : Type 0 where
+  pub step : StepEffects g s caller p (won_with (anchor_word a)) q s'
   pub before : anchor_for s d ≡ a
   pub after : anchor_for s' d ≡ b
   pub elsewhere : (n : WordName) → n ≢ name.Anchor d → s'.word n ≡ s.word n
   pub below : (n : WordName) → s'.word n < 2 ^ 64
 
 pub anchor-won :
-    (g : Geometry) (s : State) (l : Lists) (who : ℕ) (s' : State) (p : Point) (d : ℕ) (a b : AnchorFields) (q : Point) → IsSoundWith g s l
-    → who < g.callers → (s.errand who).point ≡ p → s.word (name.Anchor d) ≡ anchor_word a → IsAnchor a → IsAnchor b
-    → plan_point_of p ≡ Cas (name.Anchor d) (anchor_word a) (anchor_word b) → LeadsTo (next_of p (won_with (anchor_word a))) q → Step s who s'
-    → AnchorWon g s who p d a b q s'
-anchor-won g s l who s' p d a b q old has here word fits new plan leads step =
+    (g : Geometry) (s : State) (l : Lists) (caller : ℕ) (s' : State) (p : Point) (d : ℕ) (a b : AnchorFields) (q : Point) → IsSoundWith g s l
+    → caller < g.callers → (s.errand caller).point ≡ p → s.word (name.Anchor d) ≡ anchor_word a → IsAnchor a → IsAnchor b
+    → plan_point_of p ≡ Cas (name.Anchor d) (anchor_word a) (anchor_word b) → LeadsTo (next_of p (won_with (anchor_word a))) q → Step s caller s'
+    → AnchorWon g s caller p d a b q s'
+anchor-won g s l caller s' p d a b q old has here word fits new plan leads step =
     let won =
-    won-effects g s l who s' p (name.Anchor d) (anchor_word a) (anchor_word b) q old has here word plan leads (anchor_word-below b new) step in
+    won-effects g s l caller s' p (name.Anchor d) (anchor_word a) (anchor_word b) q old has here word plan leads (anchor_word-below b new) step in
     record {
       step = won.step;
       before = ap anchor_of word ∙ anchor_of-anchor_word a fits;

@@ -40,8 +40,8 @@ pub null-said : active_of (active_word Null) ≡ Some Null
 null-said = active-exact.back Null tt
 
 -- a seat's active word is one of the heap's
-pub seat-active : (g : Geometry) (who : ℕ) (seat : SeatFields) → IsChecked g → IsSeatOf g who seat → Exists g (active_name seat)
-seat-active g who seat checked of =
+pub seat-active : (g : Geometry) (caller : ℕ) (seat : SeatFields) → IsChecked g → IsSeatOf g caller seat → Exists g (active_name seat)
+seat-active g caller seat checked of =
     let heaps : seat.geometry.heaps ≡ g.heaps = ap (λ (h : Geometry). h.heaps) of.geometry in
     let within : heap_of seat < seat.geometry.heaps = heap_of-within seat (omega (arith, heaps, checked.heaps.0)) in
     (omega (arith, within, heaps), of.class)
@@ -73,14 +73,14 @@ pub name-below : (g : Geometry) (d : ℕ) → IsChecked g → d < descriptor_cou
 name-below g d checked exists = omega (arith, descriptor_count_within g checked, exists)
 
 -- what a descriptor says of a superblock at hand is within the limits of the heap
-pub site-heap : (g : Geometry) (who : ℕ) (at : Site) → IsChecked g → IsSiteOf g who at → heap_of at.seat < g.heaps
-site-heap g who at checked site =
+pub site-heap : (g : Geometry) (caller : ℕ) (at : Site) → IsChecked g → IsSiteOf g caller at → heap_of at.seat < g.heaps
+site-heap g caller at checked site =
     let heaps : 0 < at.seat.geometry.heaps = subst (λ h. 0 < h.heaps) (sym site.seat.geometry) (omega (arith, checked.heaps.0)) in
     subst (λ h. heap_of at.seat < h.heaps) site.seat.geometry (heap_of-within at.seat heaps)
 
-pub site-info : (g : Geometry) (who : ℕ) (at : Site) → IsChecked g → IsSiteOf g who at → IsInfo (info_at at)
-site-info g who at checked site = record {
+pub site-info : (g : Geometry) (caller : ℕ) (at : Site) → IsChecked g → IsSiteOf g caller at → IsInfo (info_at at)
+site-info g caller at checked site = record {
   frame = omega (arith, site.frame, checked.frames.1);
-  heap = omega (arith, site-heap g who at checked site, checked.heaps.1);
+  heap = omega (arith, site-heap g caller at checked site, checked.heaps.1);
   class = site.seat.class;
 }

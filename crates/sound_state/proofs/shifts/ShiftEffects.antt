@@ -25,10 +25,10 @@ use Rattle.sound_state.proofs.shared.PointLemmas.{kept_places}
 use Rattle.sound_state.proofs.shared.TurnEffects.{StandsIn}
 
 -- a caller that alone keeps a superblock moves blocks between its count and what it has reserved, and all else stays
-pub record Shifts (g : Geometry) (s : State) (l : Lists) (who : ℕ) (at : Site) (a b : AnchorFields) (e : ErrandFields) (s' : State) : Type 0 where
-  pub caller : who < g.callers
-  pub moves : Moves s.errand who e s'.errand
-  pub site : IsSiteOf g who at
+pub record Shifts (g : Geometry) (s : State) (l : Lists) (caller : ℕ) (at : Site) (a b : AnchorFields) (e : ErrandFields) (s' : State) : Type 0 where
+  pub in_heap : caller < g.callers
+  pub moves : Moves s.errand caller e s'.errand
+  pub site : IsSiteOf g caller at
   pub bound : IsTrue (is_bound g s l at.desc)
   pub located : IsLocated s at.desc at.frame at.seat.class
   pub before : anchor_for s at.desc ≡ a
@@ -41,33 +41,33 @@ pub record Shifts (g : Geometry) (s : State) (l : Lists) (who : ℕ) (at : Site)
   pub elsewhere : (n : WordName) → n ≢ name.Anchor at.desc → s'.word n ≡ s.word n
   pub below : (n : WordName) → s'.word n < 2 ^ 64
   pub history : s'.history ≡ s.history
-  pub rule : IsOwnErrand g who e
-  pub retired : e.retired ≡ (s.errand who).retired
-  pub turns : e.turns ≡ (s.errand who).turns
-  pub lost : e.lost ≡ (s.errand who).lost
-  pub cleared : e.cleared ≡ (s.errand who).cleared
+  pub rule : IsOwnErrand g caller e
+  pub retired : e.retired ≡ (s.errand caller).retired
+  pub turns : e.turns ≡ (s.errand caller).turns
+  pub lost : e.lost ≡ (s.errand caller).lost
+  pub cleared : e.cleared ≡ (s.errand caller).cleared
   pub reserves :
       b.count + reserved_among at.desc (holds_of e.point).credits
-      ≡ a.count + reserved_among at.desc (holds_of (s.errand who).point).credits
+      ≡ a.count + reserved_among at.desc (holds_of (s.errand caller).point).credits
   pub reserves_elsewhere :
-      (d : ℕ) → d ≢ at.desc → reserved_among d (holds_of e.point).credits ≡ reserved_among d (holds_of (s.errand who).point).credits
-  pub waits : (d : ℕ) → kept_among waiting d (holds_of e.point).kept ≡ kept_among waiting d (holds_of (s.errand who).point).kept
-  pub ways : (d : ℕ) → kept_among on_its_way d (holds_of e.point).kept ≡ kept_among on_its_way d (holds_of (s.errand who).point).kept
+      (d : ℕ) → d ≢ at.desc → reserved_among d (holds_of e.point).credits ≡ reserved_among d (holds_of (s.errand caller).point).credits
+  pub waits : (d : ℕ) → kept_among waiting d (holds_of e.point).kept ≡ kept_among waiting d (holds_of (s.errand caller).point).kept
+  pub ways : (d : ℕ) → kept_among on_its_way d (holds_of e.point).kept ≡ kept_among on_its_way d (holds_of (s.errand caller).point).kept
   pub places :
       (d : ℕ) → kept_places d (holds_of e.point).kept + (if at.desc == d then full_keeps b.state else 0)
-      ≡ kept_places d (holds_of (s.errand who).point).kept + (if at.desc == d then full_keeps a.state else 0)
+      ≡ kept_places d (holds_of (s.errand caller).point).kept + (if at.desc == d then full_keeps a.state else 0)
   pub stock :
       (class : ℕ) → stock_among class (holds_of e.point).kept + (if at.seat.class == class then full_keeps b.state else 0)
-      ≡ stock_among class (holds_of (s.errand who).point).kept + (if at.seat.class == class then full_keeps a.state else 0)
-  pub has : 1 ≤ kept_places at.desc (holds_of (s.errand who).point).kept
-  pub frames : (f : ℕ) → occurs f (holds_of e.point).frames ≡ occurs f (holds_of (s.errand who).point).frames
-  pub hands : (holds_of e.point).hands ≡ (holds_of (s.errand who).point).hands
-  pub frees : (holds_of e.point).frees ≡ (holds_of (s.errand who).point).frees
-  pub clear_before : (holds_of (s.errand who).point).hazard ≡ clear
+      ≡ stock_among class (holds_of (s.errand caller).point).kept + (if at.seat.class == class then full_keeps a.state else 0)
+  pub has : 1 ≤ kept_places at.desc (holds_of (s.errand caller).point).kept
+  pub frames : (f : ℕ) → occurs f (holds_of e.point).frames ≡ occurs f (holds_of (s.errand caller).point).frames
+  pub hands : (holds_of e.point).hands ≡ (holds_of (s.errand caller).point).hands
+  pub frees : (holds_of e.point).frees ≡ (holds_of (s.errand caller).point).frees
+  pub clear_before : (holds_of (s.errand caller).point).hazard ≡ clear
   pub clear_after : (holds_of e.point).hazard ≡ clear
   pub kept_after : All (λ k. IsKeptAs s' k.status k.desc k.class) (holds_of e.point).kept
   pub recalls_after : recalls_of e.point ≡ bound_here at
   pub giving : Bool
-  pub stands_before : StandsIn giving (s.errand who).point
+  pub stands_before : StandsIn giving (s.errand caller).point
   pub stands_after : StandsIn giving e.point
-  pub partials : lacks_partial (turn_stage_of e.point) ≡ lacks_partial (turn_stage_of (s.errand who).point)
+  pub partials : lacks_partial (turn_stage_of e.point) ≡ lacks_partial (turn_stage_of (s.errand caller).point)

@@ -22,10 +22,10 @@ use Rattle.sound_state.proofs.shared.SuperblockEffects.{of-each, LieStill, Ancho
 use Rattle.sound_state.proofs.shifts.ShiftEffects.{Shifts}
 
 module _
-    (g : Geometry) (s : State) (l : Lists) (who : ℕ) (at : Site) (a b : AnchorFields) (e : ErrandFields) (s' : State)
-    (h : Shifts g s l who at a b e s') where
-  shifted-holds : HoldingEffects g s who (holds_of (s.errand who).point) (holds_of e.point) e s'
-  shifted-holds = record { caller = h.caller; moves = h.moves; retired = h.retired; before = refl; after = refl }
+    (g : Geometry) (s : State) (l : Lists) (caller : ℕ) (at : Site) (a b : AnchorFields) (e : ErrandFields) (s' : State)
+    (h : Shifts g s l caller at a b e s') where
+  shifted-holds : HoldingEffects g s caller (holds_of (s.errand caller).point) (holds_of e.point) e s'
+  shifted-holds = record { in_heap = h.in_heap; moves = h.moves; retired = h.retired; before = refl; after = refl }
 
   shifted-write : AnchorEffects s at.desc s'
   shifted-write = record { elsewhere = h.elsewhere }

@@ -14,15 +14,15 @@ use Rattle.sound_state.proofs.shifts.ShiftEffects.{Shifts}
 
 -- the caller alone has the descriptor
 pub shifted-alone :
-    (g : Geometry) (s : State) (l : Lists) (who : ℕ) (at : Site) (a b : AnchorFields) (e : ErrandFields) (s' : State) → Shifts g s l who at a b e s'
-    → IsKept g s l → HasAlone g s l who at.desc
-shifted-alone g s l who at a b e s' h kept = has-alone g s l who at.desc kept h.caller h.site.desc h.has
+    (g : Geometry) (s : State) (l : Lists) (caller : ℕ) (at : Site) (a b : AnchorFields) (e : ErrandFields) (s' : State) → Shifts g s l caller at a b e s'
+    → IsKept g s l → HasAlone g s l caller at.desc
+shifted-alone g s l caller at a b e s' h kept = has-alone g s l caller at.desc kept h.in_heap h.site.desc h.has
 
 shifts-move :
-    (g : Geometry) (s : State) (l : Lists) (who : ℕ) (at : Site) (a b : AnchorFields) (e : ErrandFields) (s' : State) → Shifts g s l who at a b e s'
-    → MovesAt g s l who at.desc at.seat.class a b e s'
-shifts-move g s l who at a b e s' h = record {
-  caller = h.caller;
+    (g : Geometry) (s : State) (l : Lists) (caller : ℕ) (at : Site) (a b : AnchorFields) (e : ErrandFields) (s' : State) → Shifts g s l caller at a b e s'
+    → MovesAt g s l caller at.desc at.seat.class a b e s'
+shifts-move g s l caller at a b e s' h = record {
+  in_heap = h.in_heap;
   moves = h.moves;
   exists = h.site.desc;
   class = h.located.class;
@@ -37,13 +37,13 @@ shifts-move g s l who at a b e s' h = record {
 }
 
 pub shifted-kept :
-    (g : Geometry) (s : State) (l : Lists) (who : ℕ) (at : Site) (a b : AnchorFields) (e : ErrandFields) (s' : State) → Shifts g s l who at a b e s'
+    (g : Geometry) (s : State) (l : Lists) (caller : ℕ) (at : Site) (a b : AnchorFields) (e : ErrandFields) (s' : State) → Shifts g s l caller at a b e s'
     → IsSoundWith g s l → IsKept g s' l
-shifted-kept g s l who at a b e s' h old =
-    moved-kept g s l who at.desc at.seat.class a b e s' (shifts-move g s l who at a b e s' h) old.kept
+shifted-kept g s l caller at a b e s' h old =
+    moved-kept g s l caller at.desc at.seat.class a b e s' (shifts-move g s l caller at a b e s' h) old.kept
 
 pub shifted-stocked :
-    (g : Geometry) (s : State) (l : Lists) (who : ℕ) (at : Site) (a b : AnchorFields) (e : ErrandFields) (s' : State) → Shifts g s l who at a b e s'
+    (g : Geometry) (s : State) (l : Lists) (caller : ℕ) (at : Site) (a b : AnchorFields) (e : ErrandFields) (s' : State) → Shifts g s l caller at a b e s'
     → IsSoundWith g s l → IsStocked g s' l
-shifted-stocked g s l who at a b e s' h old =
-    moved-stocked g s l who at.desc at.seat.class a b e s' (shifts-move g s l who at a b e s' h) old.stocked
+shifted-stocked g s l caller at a b e s' h old =
+    moved-stocked g s l caller at.desc at.seat.class a b e s' (shifts-move g s l caller at a b e s' h) old.stocked

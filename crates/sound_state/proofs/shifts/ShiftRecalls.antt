@@ -25,13 +25,13 @@ use Rattle.sound_state.proofs.shifts.ShiftTurns.{shifted-owned, shifted-listed, 
 
 -- a shift
 module _
-    (g : Geometry) (s : State) (l : Lists) (who : ℕ) (at : Site) (a b : AnchorFields) (e : ErrandFields) (s' : State)
-    (h : Shifts g s l who at a b e s') where
+    (g : Geometry) (s : State) (l : Lists) (caller : ℕ) (at : Site) (a b : AnchorFields) (e : ErrandFields) (s' : State)
+    (h : Shifts g s l caller at a b e s') where
   -- nobody else waits to install its superblock
-  shifted-installed : IsSoundWith g s l → (i : ℕ) → i < g.callers → i ≢ who → InstallsNone (s.errand i).point at.desc
+  shifted-installed : IsSoundWith g s l → (i : ℕ) → i < g.callers → i ≢ caller → InstallsNone (s.errand i).point at.desc
   shifted-installed old i has ne site o stands same =
       let none : errand_has site.desc (s.errand i) ≡ 0 =
-      subst (λ k. errand_has k (s.errand i) ≡ 0) (sym same) ((shifted-alone g s l who at a b e s' h old.kept).others i has ne) in
+      subst (λ k. errand_has k (s.errand i) ≡ 0) (sym same) ((shifted-alone g s l caller at a b e s' h old.kept).others i has ne) in
       omega (arith, none, install-waits (s.errand i) site o stands)
 
   -- so it leaves what the others remember
@@ -39,25 +39,25 @@ module _
   shifted-leaves i = record {
     steady = λ n is. h.elsewhere n (λ same. subst IsSteadyWord same is);
     events = ap (own i) h.history;
-    owned = shifted-owned g s l who at a b e s' h i;
-    empty = λ d so. shifted-empty g s l who at a b e s' h d;
-    ways = λ d so. shifted-ways g s l who at a b e s' h d;
+    owned = shifted-owned g s l caller at a b e s' h i;
+    empty = λ d so. shifted-empty g s l caller at a b e s' h d;
+    ways = λ d so. shifted-ways g s l caller at a b e s' h d;
   }
 
   shifted-left : (r : Recall) → IsBacked g s l at.desc r → IsLeft g s l s' r
-  shifted-left (bound_for d c) backed = subst IsTrue (sym (shifted-bound g s l who at a b e s' h d))
-  shifted-left (bound_at d f c) backed = subst IsTrue (sym (shifted-bound g s l who at a b e s' h d))
+  shifted-left (bound_for d c) backed = subst IsTrue (sym (shifted-bound g s l caller at a b e s' h d))
+  shifted-left (bound_at d f c) backed = subst IsTrue (sym (shifted-bound g s l caller at a b e s' h d))
   shifted-left (pops d x) backed =
-      popped-same (superblock_of g s d) (superblock_of g s' d) x (shifted-tag g s l who at a b e s' h d) (shifted-chain g s l who at a b e s' h d)
-  shifted-left (links d x prefix) backed = λ is. is ∙ shifted-tag g s l who at a b e s' h d
+      popped-same (superblock_of g s d) (superblock_of g s' d) x (shifted-tag g s l caller at a b e s' h d) (shifted-chain g s l caller at a b e s' h d)
+  shifted-left (links d x prefix) backed = λ is. is ∙ shifted-tag g s l caller at a b e s' h d
   shifted-left (says n w) backed = h.elsewhere n backed
   shifted-left r backed = tt
 
   pub shifted-remembered : IsSoundWith g s l → IsRemembered g s' l
   shifted-remembered old =
-      remembered-left g s l who e s' h.moves
-      (subst (All (IsSo g s' l who)) (sym h.recalls_after)
-      (here-so g s l s' (shifted-leaves who).steady who at (subst IsTrue (sym (shifted-bound g s l who at a b e s' h at.desc)) h.bound) h.located))
+      remembered-left g s l caller e s' h.moves
+      (subst (All (IsSo g s' l caller)) (sym h.recalls_after)
+      (here-so g s l s' (shifted-leaves caller).steady caller at (subst IsTrue (sym (shifted-bound g s l caller at a b e s' h at.desc)) h.bound) h.located))
       (λ i has ne. shifted-leaves i)
       (λ i has ne k d lt.
       shifted-left _
@@ -67,16 +67,16 @@ module _
   pub shifted-with : IsSoundWith g s l → IsSoundWith g s' l
   shifted-with old = record {
     words = h.below;
-    errands = each-caller g (IsOwnErrand g) s.errand who e s'.errand h.moves h.rule old.errands;
-    listed = shifted-listed g s l who at a b e s' h old;
-    kept = shifted-kept g s l who at a b e s' h old;
-    chained = shifted-chained g s l who at a b e s' h old;
-    framed = shifted-framed g s l who at a b e s' h old;
+    errands = each-caller g (IsOwnErrand g) s.errand caller e s'.errand h.moves h.rule old.errands;
+    listed = shifted-listed g s l caller at a b e s' h old;
+    kept = shifted-kept g s l caller at a b e s' h old;
+    chained = shifted-chained g s l caller at a b e s' h old;
+    framed = shifted-framed g s l caller at a b e s' h old;
     remembered = shifted-remembered old;
-    guarded = shifted-guarded g s l who at a b e s' h old;
-    stocked = shifted-stocked g s l who at a b e s' h old;
-    turned = shifted-turned g s l who at a b e s' h old;
-    tied = shifted-tied g s l who at a b e s' h old;
+    guarded = shifted-guarded g s l caller at a b e s' h old;
+    stocked = shifted-stocked g s l caller at a b e s' h old;
+    turned = shifted-turned g s l caller at a b e s' h old;
+    tied = shifted-tied g s l caller at a b e s' h old;
   }
 
   pub shifted-sound : IsSoundWithoutCounts g s → IsSoundWith g s l → IsSoundWithoutCounts g s'

@@ -26,8 +26,8 @@ use Rattle.word_plan.specs.Occurs.{occurs}
 use Rattle.superblock_parts.specs.Anchors.{returned}
 use Rattle.superblock_parts.specs.declared.point.BlockPoint.TheVariants as block
 use Rattle.superblock_parts.specs.declared.point.Share.TheVariants.{Grant}
-use Rattle.errand_steps.specs.declared.onward.Onward.{Onward}
-use Rattle.errand_steps.specs.declared.onward.Onward.TheVariants as onward
+use Rattle.errand_steps.specs.declared.continuation.Continuation.{Continuation}
+use Rattle.errand_steps.specs.declared.continuation.Continuation.TheVariants as continuation
 use Rattle.errand_steps.specs.declared.point.Point.{Point}
 use Rattle.errand_steps.specs.declared.point.Point.TheVariants.{Block, Partial}
 use Rattle.errand_steps.specs.Events.{event_of}
@@ -62,8 +62,8 @@ live-fewer : (b : Superblock) (i : ℕ) → IsChained b → i < b.size → b.liv
 live-fewer b i chained within live = omega (arith, tally b chained, term-sum b.size b.live i within, live)
 
 -- a live block at hand
-hand-live : (s : State) (who place : ℕ) (n : Need) → IsOwned s who place n → live_at s place ≡ 1
-hand-live s who place n owned = ap is_there owned.block.1
+hand-live : (s : State) (caller place : ℕ) (n : Need) → IsOwned s caller place n → live_at s place ≡ 1
+hand-live s caller place n owned = ap is_there owned.block.1
 
 -- before and after a return
 return-places :
@@ -93,10 +93,10 @@ return-others :
     → kept_among status d (keep at.desc at.seat.class partly_used) ≡ kept_among status d (holds_after_pop at i more).kept
 return-others status at i more d reserves partly = grind (arith, reserves, partly)
 
-return-stands : (at : Site) (i more : ℕ) (a : AnchorFields) (o : Onward) → StandsIn false (Block (block.ReturnCredits at i more a) o)
+return-stands : (at : Site) (i more : ℕ) (a : AnchorFields) (o : Continuation) → StandsIn false (Block (block.ReturnCredits at i more a) o)
 return-stands at i more a o = grind (arith)
 
-put-stands : (at : Site) (heap i words : ℕ) → StandsIn false (Partial (partial.PutSlot at.seat at.desc heap) (onward.GiveBlock words at i))
+put-stands : (at : Site) (heap i words : ℕ) → StandsIn false (Partial (partial.PutSlot at.seat at.desc heap) (continuation.GiveBlock words at i))
 put-stands at heap i words = grind (arith)
 
 -- the anchor with the returned blocks
@@ -104,68 +104,68 @@ abbrev pub with_returned : ℕ → AnchorFields → AnchorFields
 with_returned more a = record { avail = a.avail; count = a.count + more; state = phase.Partial; tag = a.tag }
 
 -- where a return leads
-abbrev pub puts_away : Site → ℕ → Onward → Point
-puts_away at i o = Partial (partial.PutSlot at.seat at.desc (heap_of at.seat)) (onward.GiveBlock (asked o) at i)
+abbrev pub puts_away : Site → ℕ → Continuation → Point
+puts_away at i o = Partial (partial.PutSlot at.seat at.desc (heap_of at.seat)) (continuation.GiveBlock (asked o) at i)
 
 -- reserved blocks and free ones are fewer than all blocks, since one is at hand
 return-fewer :
-    (g : Geometry) (s : State) (l : Lists) (who : ℕ) (site : Site) (i more : ℕ) (a : AnchorFields) (o : Onward) → IsSoundWith g s l
-    → who < g.callers → (s.errand who).point ≡ Block (block.ReturnCredits site i more a) o
+    (g : Geometry) (s : State) (l : Lists) (caller : ℕ) (site : Site) (i more : ℕ) (a : AnchorFields) (o : Continuation) → IsSoundWith g s l
+    → caller < g.callers → (s.errand caller).point ≡ Block (block.ReturnCredits site i more a) o
     → (anchor_for s site.desc).count + more < block_count_of site.seat.class
 unfolding holds_of recalls_of callers_sum
-return-fewer g s l who site i more a o old has here =
+return-fewer g s l caller site i more a o old has here =
     let p : Point = Block (block.ReturnCredits site i more a) o in
-    let fit = fits-at g s l who p old has here in
-    let so = All-head (IsSo g s l who) (bound_at site.desc site.frame site.seat.class) [] (so-at g s l who p old has here) in
-    let owned : IsOwned s who (block_place site.frame site.seat.class i) (need.Small site.seat.class) =
-    All-head (λ (x : Handed). IsOwned s who x.place x.need)
-    (record { place = block_place site.frame site.seat.class i; need = need.Small site.seat.class }) [] (hands-at g s l who p old has here) in
+    let fit = fits-at g s l caller p old has here in
+    let so = All-head (IsSo g s l caller) (bound_at site.desc site.frame site.seat.class) [] (so-at g s l caller p old has here) in
+    let owned : IsOwned s caller (block_place site.frame site.seat.class i) (need.Small site.seat.class) =
+    All-head (λ (x : Handed). IsOwned s caller x.place x.need)
+    (record { place = block_place site.frame site.seat.class i; need = need.Small site.seat.class }) [] (hands-at g s l caller p old has here) in
     let sup : Superblock = superblock_of g s site.desc in
     let size : sup.size ≡ block_count_of site.seat.class = ap block_count_of so.1.class in
     let live : sup.live i ≡ 1 =
     located-live g s site.desc site.frame site.seat.class so.1 i
-    ∙ hand-live s who (block_place site.frame site.seat.class i) (need.Small site.seat.class) owned in
+    ∙ hand-live s caller (block_place site.frame site.seat.class i) (need.Small site.seat.class) owned in
     let chained : IsChained sup = old.chained.chained site.desc fit.point.0.site.desc so.0 in
     let fewer = live-fewer sup i chained (omega (arith, size, fit.point.0.index)) live in
-    let mine : errand_reserves site.desc (s.errand who) ≡ more =
+    let mine : errand_reserves site.desc (s.errand caller) ≡ more =
     ap (λ q. reserved_among site.desc (holds_of q).credits) here ∙ return-reserves site i more in
-    let some : errand_reserves site.desc (s.errand who) ≤ sum_below g.callers (λ j. errand_reserves site.desc (s.errand j)) =
-    term-sum g.callers (λ j. errand_reserves site.desc (s.errand j)) who has in
+    let some : errand_reserves site.desc (s.errand caller) ≤ sum_below g.callers (λ j. errand_reserves site.desc (s.errand j)) =
+    term-sum g.callers (λ j. errand_reserves site.desc (s.errand j)) caller has in
     omega (arith, fewer, size, mine, some)
 
 returned-uncut : (more : ℕ) (a : AnchorFields) → a.count + more < 2 ^ COUNT_BITS → returned more a ≡ with_returned more a
 returned-uncut more a room = ap (λ n. record (with_returned more a) { count = n }) (mod-eq_of_lt {n = a.count + more} {m = 2 ^ COUNT_BITS} room)
 
 pub return-shifts :
-    (g : Geometry) (s : State) (l : Lists) (who : ℕ) (s' : State) (site : Site) (i more : ℕ) (a : AnchorFields) (o : Onward)
-    → IsSoundWith g s l → who < g.callers → (s.errand who).point ≡ Block (block.ReturnCredits site i more a) o
-    → s.word (name.Anchor site.desc) ≡ anchor_word a → Step s who s'
-    → Shifts g s l who site a (with_returned more a) (at_point (s.errand who) (won_with (anchor_word a)) (puts_away site i o)) s'
+    (g : Geometry) (s : State) (l : Lists) (caller : ℕ) (s' : State) (site : Site) (i more : ℕ) (a : AnchorFields) (o : Continuation)
+    → IsSoundWith g s l → caller < g.callers → (s.errand caller).point ≡ Block (block.ReturnCredits site i more a) o
+    → s.word (name.Anchor site.desc) ≡ anchor_word a → Step s caller s'
+    → Shifts g s l caller site a (with_returned more a) (at_point (s.errand caller) (won_with (anchor_word a)) (puts_away site i o)) s'
 unfolding event_of next_of plan_point_of holds_of recalls_of
-return-shifts g s l who s' site i more a o old has here word step =
+return-shifts g s l caller s' site i more a o old has here word step =
     let p : Point = Block (block.ReturnCredits site i more a) o in
     let q : Point = puts_away site i o in
     let b : AnchorFields = with_returned more a in
-    let fit = fits-at g s l who p old has here in
-    let so = All-head (IsSo g s l who) (bound_at site.desc site.frame site.seat.class) [] (so-at g s l who p old has here) in
+    let fit = fits-at g s l caller p old has here in
+    let so = All-head (IsSo g s l caller) (bound_at site.desc site.frame site.seat.class) [] (so-at g s l caller p old has here) in
     let active : IsActive s site.desc site.seat.class =
     All-head (λ k. IsKeptAs s k.status k.desc k.class) (record { desc = site.desc; class = site.seat.class; status = reserving }) []
-    (kept-at g s l who p old has here) in
+    (kept-at g s l caller p old has here) in
     let fits : IsAnchor a = fit.point.2.fits in
     let was : anchor_for s site.desc ≡ a = ap anchor_of word ∙ anchor_of-anchor_word a fits in
     let fewer : a.count + more < block_count_of site.seat.class =
-    subst (λ x. x.count + more < block_count_of site.seat.class) was (return-fewer g s l who site i more a o old has here) in
+    subst (λ x. x.count + more < block_count_of site.seat.class) was (return-fewer g s l caller site i more a o old has here) in
     let room : a.count + more < 2 ^ COUNT_BITS = omega (arith, fewer, block_count_of-most site.seat.class) in
     let new : IsAnchor b = record { avail = fits.avail; count = room; tag = fits.tag } in
-    let won : AnchorWon g s who p site.desc a b q s' =
-    anchor-won g s l who s' p site.desc a b q old has here word fits new
+    let won : AnchorWon g s caller p site.desc a b q s' =
+    anchor-won g s l caller s' p site.desc a b q old has here word fits new
     (ap (λ x. Cas (name.Anchor site.desc) (anchor_word a) (anchor_word x)) (returned-uncut more a room)) (inl refl) step in
     let none : full_keeps a.state ≡ 0 = ap (λ x. full_keeps x.state) (sym was) ∙ ap full_keeps active.state in
     let some : 1 ≤ a.count + more = omega (arith, fit.point.1.0) in
     let info : info_for s' site.desc ≡ info_for s site.desc =
     ap (λ w. info_or_zero (info_of w)) (won.elsewhere (name.Info site.desc) (λ same. cc)) in
     record {
-      caller = has;
+      in_heap = has;
       moves = won.step.moves;
       site = fit.point.0.site;
       bound = so.0;
@@ -186,7 +186,7 @@ return-shifts g s l who s' site i more a o old has here word step =
       lost = won.step.lost;
       cleared = won.step.cleared;
       reserves =
-          let mine : reserved_among site.desc (holds_of (s.errand who).point).credits ≡ more =
+          let mine : reserved_among site.desc (holds_of (s.errand caller).point).credits ≡ more =
           ap (λ r. reserved_among site.desc (holds_of r).credits) here ∙ return-reserves site i more in
           omega (arith, mine);
       reserves_elsewhere = λ d ne. return-elsewhere site i more d ne ∙ sym (ap (λ r. reserved_among d (holds_of r).credits) here);
@@ -224,14 +224,14 @@ return-shifts g s l who s' site i more a o old has here word step =
 
 -- reserved blocks are returned
 pub return_credits_won-sound :
-    (g : Geometry) (s : State) (who : ℕ) (s' : State) (site : Site) (i more : ℕ) (a : AnchorFields) (o : Onward) → IsSoundWithoutCounts g s
-    → who < g.callers → (s.errand who).point ≡ Block (block.ReturnCredits site i more a) o
-    → s.word (name.Anchor site.desc) ≡ anchor_word a → Step s who s' → IsSoundWithoutCounts g s'
-return_credits_won-sound g s who s' site i more a o sound has here word step =
+    (g : Geometry) (s : State) (caller : ℕ) (s' : State) (site : Site) (i more : ℕ) (a : AnchorFields) (o : Continuation) → IsSoundWithoutCounts g s
+    → caller < g.callers → (s.errand caller).point ≡ Block (block.ReturnCredits site i more a) o
+    → s.word (name.Anchor site.desc) ≡ anchor_word a → Step s caller s' → IsSoundWithoutCounts g s'
+return_credits_won-sound g s caller s' site i more a o sound has here word step =
     let l : Lists = sound.parts.0 in
     let old : IsSoundWith g s l = sound.parts.1 in
-    shifted-sound g s l who site a (with_returned more a) (at_point (s.errand who) (won_with (anchor_word a)) (puts_away site i o)) s'
-    (return-shifts g s l who s' site i more a o old has here word step) sound old
+    shifted-sound g s l caller site a (with_returned more a) (at_point (s.errand caller) (won_with (anchor_word a)) (puts_away site i o)) s'
+    (return-shifts g s l caller s' site i more a o old has here word step) sound old
 
 -- before and after a grant, by whether more than one block is granted
 abbrev grant_keeps : ℕ → ℕ → Bool → List Kept
@@ -273,10 +273,10 @@ grant-in_use : (t : Bool) → is_empty (grant_state t) ≡ false
 grant-in_use true = refl
 grant-in_use false = refl
 
-grant-stands : (at : Site) (a : AnchorFields) (words : ℕ) → StandsIn true (Partial (partial.Grant at a) (onward.Alloc words))
+grant-stands : (at : Site) (a : AnchorFields) (words : ℕ) → StandsIn true (Partial (partial.Grant at a) (continuation.Alloc words))
 grant-stands at a words = grind (arith)
 
-loads-stands : (at : Site) (more words : ℕ) → StandsIn true (Block (block.LoadAnchor at (Grant more)) (onward.Alloc words))
+loads-stands : (at : Site) (more words : ℕ) → StandsIn true (Block (block.LoadAnchor at (Grant more)) (continuation.Alloc words))
 loads-stands at more words = grind (arith)
 
 grant-kept :
@@ -315,45 +315,45 @@ granted-together : (a : AnchorFields) → 1 ≤ a.count → (granted a).count + 
 granted-together a some = omega (arith, some)
 
 pub grant-shifts :
-    (g : Geometry) (s : State) (l : Lists) (who : ℕ) (s' : State) (site : Site) (a : AnchorFields) (words : ℕ)
-    → IsSoundWith g s l → who < g.callers → (s.errand who).point ≡ Partial (partial.Grant site a) (onward.Alloc words)
-    → s.word (name.Anchor site.desc) ≡ anchor_word a → Step s who s'
-    → Shifts g s l who site a (granted a)
-    (at_point (s.errand who) (won_with (anchor_word a)) (Block (block.LoadAnchor site (Grant (grant_more a.count))) (onward.Alloc words))) s'
+    (g : Geometry) (s : State) (l : Lists) (caller : ℕ) (s' : State) (site : Site) (a : AnchorFields) (words : ℕ)
+    → IsSoundWith g s l → caller < g.callers → (s.errand caller).point ≡ Partial (partial.Grant site a) (continuation.Alloc words)
+    → s.word (name.Anchor site.desc) ≡ anchor_word a → Step s caller s'
+    → Shifts g s l caller site a (granted a)
+    (at_point (s.errand caller) (won_with (anchor_word a)) (Block (block.LoadAnchor site (Grant (grant_more a.count))) (continuation.Alloc words))) s'
 unfolding event_of next_of plan_point_of holds_of recalls_of
-grant-shifts g s l who s' site a words old has here word step =
-    let p : Point = Partial (partial.Grant site a) (onward.Alloc words) in
+grant-shifts g s l caller s' site a words old has here word step =
+    let p : Point = Partial (partial.Grant site a) (continuation.Alloc words) in
     let more : ℕ = grant_more a.count in
-    let q : Point = Block (block.LoadAnchor site (Grant more)) (onward.Alloc words) in
+    let q : Point = Block (block.LoadAnchor site (Grant more)) (continuation.Alloc words) in
     let b : AnchorFields = granted a in
     let t : Bool = nat_lt 0 more in
     let d : ℕ = site.desc in
     let c : ℕ = site.seat.class in
-    let fit = fits-at g s l who p old has here in
-    let recalled = so-at g s l who p old has here in
-    let used : is_empty a.state ≡ false = All-head (IsSo g s l who) (in_use a) (located d site.frame c ∷ []) recalled in
+    let fit = fits-at g s l caller p old has here in
+    let recalled = so-at g s l caller p old has here in
+    let used : is_empty a.state ≡ false = All-head (IsSo g s l caller) (in_use a) (located d site.frame c ∷ []) recalled in
     let lies : IsLocated s d site.frame c =
-    All-head (IsSo g s l who) (located d site.frame c) [] (All-tail (IsSo g s l who) (in_use a) (located d site.frame c ∷ []) recalled) in
+    All-head (IsSo g s l caller) (located d site.frame c) [] (All-tail (IsSo g s l caller) (in_use a) (located d site.frame c ∷ []) recalled) in
     let partly : IsPartlyUsed s d c =
-    All-head (λ k. IsKeptAs s k.status k.desc k.class) (record { desc = d; class = c; status = partly_used }) [] (kept-at g s l who p old has here) in
+    All-head (λ k. IsKeptAs s k.status k.desc k.class) (record { desc = d; class = c; status = partly_used }) [] (kept-at g s l caller p old has here) in
     let fits : IsAnchor a = fit.point.1.fits in
     let was : anchor_for s d ≡ a = ap anchor_of word ∙ anchor_of-anchor_word a fits in
     let used_still : is_empty (anchor_for s d).state ≡ false = ap (λ x. is_empty x.state) was ∙ used in
     let some : ((anchor_for s d).state ≡ phase.Partial) × (1 ≤ (anchor_for s d).count) = partial-some s d c partly used_still in
     let count : 1 ≤ a.count = subst (λ x. 1 ≤ x.count) was some.1 in
-    let keeps : 1 ≤ errand_keeps partly_used d (s.errand who) =
+    let keeps : 1 ≤ errand_keeps partly_used d (s.errand caller) =
     subst (λ r. 1 ≤ kept_among partly_used d (holds_of r).kept) (sym here) (kept-itself partly_used d c) in
-    let away : away_of g s l d ≡ 0 = keeps-near g s l who d old has fit.point.0.desc keeps in
+    let away : away_of g s l d ≡ 0 = keeps-near g s l caller d old has fit.point.0.desc keeps in
     let bound : IsTrue (is_bound g s l d) = rw (eq-eqb (away_of g s l d) 0 away, used_still) refl in
     let chained : IsChained (superblock_of g s d) = old.chained.chained d fit.point.0.desc bound in
     let size : (superblock_of g s d).size ≡ block_count_of c = ap block_count_of lies.class in
     let new : IsAnchor b = record { avail = fits.avail; count = omega (arith, fits.count, granted-less a); tag = fits.tag } in
-    let won : AnchorWon g s who p d a b q s' =
-    anchor-won g s l who s' p d a b q old has here word fits new refl (inl refl) step in
+    let won : AnchorWon g s caller p d a b q s' =
+    anchor-won g s l caller s' p d a b q old has here word fits new refl (inl refl) step in
     let none : full_keeps a.state ≡ 0 = ap (λ x. full_keeps x.state) (sym was) ∙ ap full_keeps some.0 in
     let info : info_for s' d ≡ info_for s d = ap (λ w. info_or_zero (info_of w)) (won.elsewhere (name.Info d) (λ same. cc)) in
     record {
-      caller = has;
+      in_heap = has;
       moves = won.step.moves;
       site = fit.point.0;
       bound = bound;
@@ -374,7 +374,7 @@ grant-shifts g s l who s' site a words old has here word step =
       lost = won.step.lost;
       cleared = won.step.cleared;
       reserves =
-          let mine : reserved_among d (holds_of (s.errand who).point).credits ≡ 0 = ap (λ r. reserved_among d (holds_of r).credits) here in
+          let mine : reserved_among d (holds_of (s.errand caller).point).credits ≡ 0 = ap (λ r. reserved_among d (holds_of r).credits) here in
           omega (arith, mine, grant-reserves d c more, granted-together a count);
       reserves_elsewhere = λ e ne. grant-elsewhere d c more e ne ∙ sym (ap (λ r. reserved_among e (holds_of r).credits) here);
       waits = λ e. grant-others waiting d c t e refl refl ∙ sym (ap (λ r. kept_among waiting e (holds_of r).kept) here);
@@ -405,34 +405,34 @@ grant-shifts g s l who s' site a words old has here word step =
 
 -- blocks of a partial superblock are granted
 pub grant_won-sound :
-    (g : Geometry) (s : State) (who : ℕ) (s' : State) (site : Site) (a : AnchorFields) (o : Onward) → IsSoundWithoutCounts g s → who < g.callers
-    → (s.errand who).point ≡ Partial (partial.Grant site a) o → s.word (name.Anchor site.desc) ≡ anchor_word a → Step s who s'
+    (g : Geometry) (s : State) (caller : ℕ) (s' : State) (site : Site) (a : AnchorFields) (o : Continuation) → IsSoundWithoutCounts g s → caller < g.callers
+    → (s.errand caller).point ≡ Partial (partial.Grant site a) o → s.word (name.Anchor site.desc) ≡ anchor_word a → Step s caller s'
     → IsSoundWithoutCounts g s'
-grant_won-sound g s who s' site a o sound has here word step =
+grant_won-sound g s caller s' site a o sound has here word step =
     let l : Lists = sound.parts.0 in
     let old : IsSoundWith g s l = sound.parts.1 in
-    let alloc : o ≡ onward.Alloc (asked o) = the-alloc o (fits-at g s l who (Partial (partial.Grant site a) o) old has here).goes in
-    let stands : (s.errand who).point ≡ Partial (partial.Grant site a) (onward.Alloc (asked o)) =
+    let alloc : o ≡ continuation.Alloc (asked o) = the-alloc o (fits-at g s l caller (Partial (partial.Grant site a) o) old has here).goes in
+    let stands : (s.errand caller).point ≡ Partial (partial.Grant site a) (continuation.Alloc (asked o)) =
     here ∙ ap (λ o. Partial (partial.Grant site a) o) alloc in
-    shifted-sound g s l who site a (granted a)
-    (at_point (s.errand who) (won_with (anchor_word a)) (Block (block.LoadAnchor site (Grant (grant_more a.count))) (onward.Alloc (asked o)))) s'
-    (grant-shifts g s l who s' site a (asked o) old has stands word step) sound old
+    shifted-sound g s l caller site a (granted a)
+    (at_point (s.errand caller) (won_with (anchor_word a)) (Block (block.LoadAnchor site (Grant (grant_more a.count))) (continuation.Alloc (asked o)))) s'
+    (grant-shifts g s l caller s' site a (asked o) old has stands word step) sound old
 
 -- so it is after both, won or lost
 pub return_credits-sound :
-    (g : Geometry) (s : State) (who : ℕ) (s' : State) (site : Site) (i more : ℕ) (a : AnchorFields) (o : Onward) → IsSoundWithoutCounts g s
-    → who < g.callers → (s.errand who).point ≡ Block (block.ReturnCredits site i more a) o → Step s who s' → IsSoundWithoutCounts g s'
-return_credits-sound g s who s' site i more a o sound has here step =
+    (g : Geometry) (s : State) (caller : ℕ) (s' : State) (site : Site) (i more : ℕ) (a : AnchorFields) (o : Continuation) → IsSoundWithoutCounts g s
+    → caller < g.callers → (s.errand caller).point ≡ Block (block.ReturnCredits site i more a) o → Step s caller s' → IsSoundWithoutCounts g s'
+return_credits-sound g s caller s' site i more a o sound has here step =
     elim (cases_eq (s.word (name.Anchor site.desc)) (anchor_word a)) [
-      | inl is ↦ return_credits_won-sound g s who s' site i more a o sound has here is step
-      | inr other ↦ return_credits-lost g s who s' site i more a o sound has here other step
+      | inl is ↦ return_credits_won-sound g s caller s' site i more a o sound has here is step
+      | inr other ↦ return_credits-lost g s caller s' site i more a o sound has here other step
     ]
 
 pub grant-sound :
-    (g : Geometry) (s : State) (who : ℕ) (s' : State) (site : Site) (a : AnchorFields) (need : ℕ) → IsSoundWithoutCounts g s → who < g.callers
-    → (s.errand who).point ≡ Partial (partial.Grant site a) (onward.Alloc need) → Step s who s' → IsSoundWithoutCounts g s'
-grant-sound g s who s' site a need sound has here step =
+    (g : Geometry) (s : State) (caller : ℕ) (s' : State) (site : Site) (a : AnchorFields) (need : ℕ) → IsSoundWithoutCounts g s → caller < g.callers
+    → (s.errand caller).point ≡ Partial (partial.Grant site a) (continuation.Alloc need) → Step s caller s' → IsSoundWithoutCounts g s'
+grant-sound g s caller s' site a need sound has here step =
     elim (cases_eq (s.word (name.Anchor site.desc)) (anchor_word a)) [
-      | inl is ↦ grant_won-sound g s who s' site a (onward.Alloc need) sound has here is step
-      | inr other ↦ grant_lost-sound g s who s' site a need sound has here other step
+      | inl is ↦ grant_won-sound g s caller s' site a (continuation.Alloc need) sound has here is step
+      | inr other ↦ grant_lost-sound g s caller s' site a need sound has here other step
     ]

@@ -26,41 +26,41 @@ use Rattle.sound_state.proofs.shared.ListEffects.{IsListWord, listed-kept}
 use Rattle.sound_state.proofs.shared.TurnEffects.{emptied-kept, head-tag, no-event, turned-after, stands-weighs}
 
 pub shifted-listed :
-    (g : Geometry) (s : State) (l : Lists) (who : ℕ) (at : Site) (a b : AnchorFields) (e : ErrandFields) (s' : State) → Shifts g s l who at a b e s' → IsSoundWith g s l → IsListed g s'.word l
-shifted-listed g s l who at a b e s' h old =
+    (g : Geometry) (s : State) (l : Lists) (caller : ℕ) (at : Site) (a b : AnchorFields) (e : ErrandFields) (s' : State) → Shifts g s l caller at a b e s' → IsSoundWith g s l → IsListed g s'.word l
+shifted-listed g s l caller at a b e s' h old =
     listed-kept g s.word s'.word l (λ n is. h.elsewhere n (λ same. subst IsListWord same is)) old.listed
 
 pub shifted-guarded :
-    (g : Geometry) (s : State) (l : Lists) (who : ℕ) (at : Site) (a b : AnchorFields) (e : ErrandFields) (s' : State) → Shifts g s l who at a b e s' → IsSoundWith g s l → IsGuarded g s'
-shifted-guarded g s l who at a b e s' h old =
+    (g : Geometry) (s : State) (l : Lists) (caller : ℕ) (at : Site) (a b : AnchorFields) (e : ErrandFields) (s' : State) → Shifts g s l caller at a b e s' → IsSoundWith g s l → IsGuarded g s'
+shifted-guarded g s l caller at a b e s' h old =
     let after = h.stands_after in
-    guarded-clear g s who e s' h.caller h.moves (λ i. h.elsewhere (name.Hazard i) (λ same. cc)) h.clear_before h.clear_after after.pushed after.passed
+    guarded-clear g s caller e s' h.in_heap h.moves (λ i. h.elsewhere (name.Hazard i) (λ same. cc)) h.clear_before h.clear_after after.pushed after.passed
     after.unread after.spare old.guarded
 
 pub shifted-turned :
-    (g : Geometry) (s : State) (l : Lists) (who : ℕ) (at : Site) (a b : AnchorFields) (e : ErrandFields) (s' : State) → Shifts g s l who at a b e s' → IsSoundWith g s l → IsTurned g s' l
-shifted-turned g s l who at a b e s' h old =
+    (g : Geometry) (s : State) (l : Lists) (caller : ℕ) (at : Site) (a b : AnchorFields) (e : ErrandFields) (s' : State) → Shifts g s l caller at a b e s' → IsSoundWith g s l → IsTurned g s' l
+shifted-turned g s l caller at a b e s' h old =
     let turned = old.turned in
     let p = h.stands_before in
     let q = h.stands_after in
-    let before = stands-weighs h.giving (s.errand who) p in
+    let before = stands-weighs h.giving (s.errand caller) p in
     let after = stands-weighs h.giving e q in
-    let unlisted : turn_unlisted e ≡ turn_unlisted (s.errand who) = ap one_if h.partials in
-    let events = no-event g who s.history s'.history h.history in
+    let unlisted : turn_unlisted e ≡ turn_unlisted (s.errand caller) = ap one_if h.partials in
+    let events = no-event g caller s.history s'.history h.history in
     let emptied_same =
-    emptied-kept g s l s' l (λ d. rw (shifted-away g s l who at a b e s' h d, shifted-empty g s l who at a b e s' h d) refl) in
-    turned-after g s l who e s' l 0 0
+    emptied-kept g s l s' l (λ d. rw (shifted-away g s l caller at a b e s' h d, shifted-empty g s l caller at a b e s' h d) refl) in
+    turned-after g s l caller e s' l 0 0
     (record {
-      caller = h.caller;
+      in_heap = h.in_heap;
       moves = h.moves;
       events = events;
-      own_turns = omega (arith, turned.own_turns who h.caller, events.gives, before.under_way, after.under_way, h.turns);
+      own_turns = omega (arith, turned.own_turns caller h.in_heap, events.gives, before.under_way, after.under_way, h.turns);
       own_lost =
           omega (
             arith,
-            turned.own_lost who h.caller,
+            turned.own_lost caller h.in_heap,
             events.gives,
-            events.refuses who,
+            events.refuses caller,
             before.discards,
             before.unanswered,
             after.discards,
@@ -68,7 +68,7 @@ shifted-turned g s l who at a b e s' h old =
             h.turns,
             h.lost,
           );
-      anchor_tags = λ d has. omega (arith, shifted-tag g s l who at a b e s' h d);
+      anchor_tags = λ d has. omega (arith, shifted-tag g s l caller at a b e s' h d);
       frame_turns = omega (arith, head-tag (h.elsewhere name.FrameHead (λ same. cc)), before.unframed, after.unframed, h.turns);
       emptied = omega (arith, emptied_same, h.cleared);
       list_turns = λ class has.
@@ -78,15 +78,15 @@ shifted-turned g s l who at a b e s' h old =
 
 -- the pool stays, so does what is owned, and what is excepted
 pub shifted-located :
-    (g : Geometry) (s : State) (l : Lists) (who : ℕ) (at : Site) (a b : AnchorFields) (e : ErrandFields) (s' : State) → Shifts g s l who at a b e s' → (d f c : ℕ) → IsLocated s d f c → IsLocated s' d f c
-shifted-located g s l who at a b e s' h d f c k = record {
-  frame = ap (λ x. x.frame) (shifted-info g s l who at a b e s' h d) ∙ k.frame;
-  class = ap (λ x. x.class) (shifted-info g s l who at a b e s' h d) ∙ k.class;
+    (g : Geometry) (s : State) (l : Lists) (caller : ℕ) (at : Site) (a b : AnchorFields) (e : ErrandFields) (s' : State) → Shifts g s l caller at a b e s' → (d f c : ℕ) → IsLocated s d f c → IsLocated s' d f c
+shifted-located g s l caller at a b e s' h d f c k = record {
+  frame = ap (λ x. x.frame) (shifted-info g s l caller at a b e s' h d) ∙ k.frame;
+  class = ap (λ x. x.class) (shifted-info g s l caller at a b e s' h d) ∙ k.class;
 }
 
 pub shifted-owned :
-    (g : Geometry) (s : State) (l : Lists) (who : ℕ) (at : Site) (a b : AnchorFields) (e : ErrandFields) (s' : State) → Shifts g s l who at a b e s' → (i place : ℕ) (n : Need) → IsOwned s i place n → IsOwned s' i place n
-shifted-owned g s l who at a b e s' h i place n k = record {
+    (g : Geometry) (s : State) (l : Lists) (caller : ℕ) (at : Site) (a b : AnchorFields) (e : ErrandFields) (s' : State) → Shifts g s l caller at a b e s' → (i place : ℕ) (n : Need) → IsOwned s i place n → IsOwned s' i place n
+shifted-owned g s l caller at a b e s' h i place n k = record {
   block = (
     k.block.0,
     ap (λ past. block_at place (pool_of past)) h.history ∙ k.block.1,
@@ -96,35 +96,35 @@ shifted-owned g s l who at a b e s' h i place n k = record {
 }
 
 excepts-after :
-    (g : Geometry) (s : State) (l : Lists) (who : ℕ) (at : Site) (a b : AnchorFields) (e : ErrandFields) (s' : State) → Shifts g s l who at a b e s' → (place : ℕ) → Excepts (s.errand who) place → Excepts e place
-excepts-after g s l who at a b e s' h place x =
+    (g : Geometry) (s : State) (l : Lists) (caller : ℕ) (at : Site) (a b : AnchorFields) (e : ErrandFields) (s' : State) → Shifts g s l caller at a b e s' → (place : ℕ) → Excepts (s.errand caller) place → Excepts e place
+excepts-after g s l caller at a b e s' h place x =
     elim x [
       | inl o ↦ inl (subst (λ bs. Any (λ x. x.place ≡ place) bs) (sym h.hands) o)
       | inr o ↦ inr (subst (λ bs. Any (λ x. (x.place ≡ place) × IsTrue x.overwritten) bs) (sym h.frees) o)
     ]
 
 shifted-excepted :
-    (g : Geometry) (s : State) (l : Lists) (who : ℕ) (at : Site) (a b : AnchorFields) (e : ErrandFields) (s' : State) → Shifts g s l who at a b e s' → (place : ℕ) → IsExcepted g s place → IsExcepted g s' place
-shifted-excepted g s l who at a b e s' h place x =
-    let i = x.who.0 in
+    (g : Geometry) (s : State) (l : Lists) (caller : ℕ) (at : Site) (a b : AnchorFields) (e : ErrandFields) (s' : State) → Shifts g s l caller at a b e s' → (place : ℕ) → IsExcepted g s place → IsExcepted g s' place
+shifted-excepted g s l caller at a b e s' h place x =
+    let i = x.caller.0 in
     record {
-      who = (
+      caller = (
         i,
-        x.who.1,
-        each-caller g (λ j e. Excepts (s.errand j) place → Excepts e place) s.errand who e s'.errand h.moves (excepts-after g s l who at a b e s' h place) (λ j has same. same) i
-            x.who.1 x.who.2,
+        x.caller.1,
+        each-caller g (λ j e. Excepts (s.errand j) place → Excepts e place) s.errand caller e s'.errand h.moves (excepts-after g s l caller at a b e s' h place) (λ j has same. same) i
+            x.caller.1 x.caller.2,
       );
     }
 
 shifted-tie :
-    (g : Geometry) (s : State) (l : Lists) (who : ℕ) (at : Site) (a b : AnchorFields) (e : ErrandFields) (s' : State) → Shifts g s l who at a b e s' → (place w : ℕ)
+    (g : Geometry) (s : State) (l : Lists) (caller : ℕ) (at : Site) (a b : AnchorFields) (e : ErrandFields) (s' : State) → Shifts g s l caller at a b e s' → (place w : ℕ)
     → IsExcepted g s place ⊎ (s.word (name.Arena place) ≡ w) → IsExcepted g s' place ⊎ (s'.word (name.Arena place) ≡ w)
-shifted-tie g s l who at a b e s' h place w (inl x) = inl (shifted-excepted g s l who at a b e s' h place x)
-shifted-tie g s l who at a b e s' h place w (inr is) = inr (h.elsewhere (name.Arena place) (λ same. cc) ∙ is)
+shifted-tie g s l caller at a b e s' h place w (inl x) = inl (shifted-excepted g s l caller at a b e s' h place x)
+shifted-tie g s l caller at a b e s' h place w (inr is) = inr (h.elsewhere (name.Arena place) (λ same. cc) ∙ is)
 
 pub shifted-tied :
-    (g : Geometry) (s : State) (l : Lists) (who : ℕ) (at : Site) (a b : AnchorFields) (e : ErrandFields) (s' : State) → Shifts g s l who at a b e s' → IsSoundWith g s l → IsTied g s' l
-shifted-tied g s l who at a b e s' h old =
+    (g : Geometry) (s : State) (l : Lists) (caller : ℕ) (at : Site) (a b : AnchorFields) (e : ErrandFields) (s' : State) → Shifts g s l caller at a b e s' → IsSoundWith g s l → IsTied g s' l
+shifted-tied g s l caller at a b e s' h old =
     let tied = old.tied in
     let was = λ (place : ℕ) (x : Block) (live : IsLive s' place x). ap (λ past. block_at place (pool_of past)) (sym h.history) ∙ live in
     let units = h.elsewhere name.Units (λ same. cc) in
@@ -134,12 +134,12 @@ shifted-tied g s l who at a b e s' h old =
             had.0,
             record {
               exists = had.1.exists;
-              bound = subst IsTrue (sym (shifted-bound g s l who at a b e s' h had.0)) had.1.bound;
-              located = shifted-located g s l who at a b e s' h had.0 (frame_of place) class had.1.located;
+              bound = subst IsTrue (sym (shifted-bound g s l caller at a b e s' h had.0)) had.1.bound;
+              located = shifted-located g s l caller at a b e s' h had.0 (frame_of place) class had.1.located;
             },
-            shifted-tie g s l who at a b e s' h place (2 * had.0) had.2,
+            shifted-tie g s l caller at a b e s' h place (2 * had.0) had.2,
           );
-      large = λ place units x live is. shifted-tie g s l who at a b e s' h place (2 * units + 1) (tied.large place units x (was place x live) is);
+      large = λ place units x live is. shifted-tie g s l caller at a b e s' h place (2 * units + 1) (tied.large place units x (was place x live) is);
       units = λ unit has.
           let had = tied.units unit has in (
             λ bit. let c = had.0 (ap (λ w. bit_at w unit) (sym units) ∙ bit) in
@@ -152,13 +152,13 @@ shifted-tied g s l who at a b e s' h old =
       bare_shelf = λ k has none. h.elsewhere (name.Shelf k) (λ same. cc) ∙ tied.bare_shelf k has (λ place x live is. none place x (ap (λ past. block_at place (pool_of past)) h.history ∙ live) is);
       contents = λ place i v x live is. h.elsewhere (name.Arena (place + 1 + i)) (λ same. cc) ∙ tied.contents place i v x (was place x live) is;
       hands =
-          each-caller g (λ i e. All (λ x. IsOwned s' i x.place x.need) (holds_of e.point).hands) s.errand who e s'.errand h.moves
-          (subst (λ bs. All (λ x. IsOwned s' who x.place x.need) bs) (sym h.hands)
-          (λ k d lt. shifted-owned g s l who at a b e s' h who _ _ (tied.hands who h.caller k d lt)))
-          (λ i has k d lt. shifted-owned g s l who at a b e s' h i _ _ (tied.hands i has k d lt));
+          each-caller g (λ i e. All (λ x. IsOwned s' i x.place x.need) (holds_of e.point).hands) s.errand caller e s'.errand h.moves
+          (subst (λ bs. All (λ x. IsOwned s' caller x.place x.need) bs) (sym h.hands)
+          (λ k d lt. shifted-owned g s l caller at a b e s' h caller _ _ (tied.hands caller h.in_heap k d lt)))
+          (λ i has k d lt. shifted-owned g s l caller at a b e s' h i _ _ (tied.hands i has k d lt));
       frees =
-          each-caller g (λ i e. All (λ x. IsOwned s' i x.place x.need) (holds_of e.point).frees) s.errand who e s'.errand h.moves
-          (subst (λ bs. All (λ x. IsOwned s' who x.place x.need) bs) (sym h.frees)
-          (λ k d lt. shifted-owned g s l who at a b e s' h who _ _ (tied.frees who h.caller k d lt)))
-          (λ i has k d lt. shifted-owned g s l who at a b e s' h i _ _ (tied.frees i has k d lt));
+          each-caller g (λ i e. All (λ x. IsOwned s' i x.place x.need) (holds_of e.point).frees) s.errand caller e s'.errand h.moves
+          (subst (λ bs. All (λ x. IsOwned s' caller x.place x.need) bs) (sym h.frees)
+          (λ k d lt. shifted-owned g s l caller at a b e s' h caller _ _ (tied.frees caller h.in_heap k d lt)))
+          (λ i has k d lt. shifted-owned g s l caller at a b e s' h i _ _ (tied.frees i has k d lt));
     }

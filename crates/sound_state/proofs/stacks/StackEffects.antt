@@ -34,24 +34,24 @@ IsNoHead (name.ListHead class) = ⊥
 IsNoHead n = Unit {0}
 
 -- a caller may stand where it goes on: as `MayGoOn`, but it may begin a scan
-pub record MayStand (g : Geometry) (s : State) (l : Lists) (who : ℕ) (a b : ErrandFields) : Type 0 where
-  pub rule : IsOwnErrand g who b
+pub record MayStand (g : Geometry) (s : State) (l : Lists) (caller : ℕ) (a b : ErrandFields) : Type 0 where
+  pub rule : IsOwnErrand g caller b
   pub kept : All (λ k. IsKeptAs s k.status k.desc k.class) (holds_of b.point).kept
   pub retired : All (IsWithout s) b.retired
-  pub so : All (IsSo g s l who) (recalls_of b.point)
-  pub hazard : IsHazard (holds_of b.point).hazard (s.word (name.Hazard who))
-  pub guard : (d : ℕ) → s.word (name.Hazard who) ≡ d + 1 → IsGuard (holds_of b.point).hazard → IsGuard (holds_of a.point).hazard
+  pub so : All (IsSo g s l caller) (recalls_of b.point)
+  pub hazard : IsHazard (holds_of b.point).hazard (s.word (name.Hazard caller))
+  pub guard : (d : ℕ) → s.word (name.Hazard caller) ≡ d + 1 → IsGuard (holds_of b.point).hazard → IsGuard (holds_of a.point).hazard
   pub pushed : (d : ℕ) → pushed_by b.point ≡ Some d → pushed_by a.point ≡ Some d
   pub passed : passed_by b.point ≡ 0
   pub unread : (k : ℕ) → k < length (held_by b.point) → slice_index (held_by b.point) k ≡ 0
   pub full : spare_of b.point ≡ 1 → length b.retired ≡ g.callers + 1
-  pub hands : All (λ x. IsOwned s who x.place x.need) (holds_of b.point).hands
-  pub frees : All (λ x. IsOwned s who x.place x.need) (holds_of b.point).frees
+  pub hands : All (λ x. IsOwned s caller x.place x.need) (holds_of b.point).hands
+  pub frees : All (λ x. IsOwned s caller x.place x.need) (holds_of b.point).frees
   pub excepts : (place : ℕ) → Excepts a place → Excepts b place
-  pub own_turns : count_by (gives_small who) s.history + turn_open b ≤ b.turns
+  pub own_turns : count_by (gives_small caller) s.history + turn_open b ≤ b.turns
   pub own_lost :
       b.turns + errand_discards b
-      ≤ count_by (gives_small who) s.history + count_by (refuses_small who) s.history + b.lost + turn_unanswered b
+      ≤ count_by (gives_small caller) s.history + count_by (refuses_small caller) s.history + b.lost + turn_unanswered b
   pub cleared : b.cleared ≡ a.cleared
 
 -- a descriptor is away as often as before, or is EMPTY and no less away
@@ -61,10 +61,10 @@ IsAwayStill g s d s' =
     ⊎ (((anchor_for s d).state ≡ phase.Empty) × (callers_sum g (errand_away d) s.errand ≤ callers_sum g (errand_away d) s'.errand))
 
 -- a caller goes on, one head changes, and the index that is off the stack after it or before it is in the caller's hand then; all else stays
-pub record Restacks (g : Geometry) (s : State) (l : Lists) (who : ℕ) (e : ErrandFields) (s' : State) (l' : Lists) : Type 0 where
-  pub caller : who < g.callers
-  pub moves : Moves s.errand who e s'.errand
-  pub may : MayStand g s l who (s.errand who) e
+pub record Restacks (g : Geometry) (s : State) (l : Lists) (caller : ℕ) (e : ErrandFields) (s' : State) (l' : Lists) : Type 0 where
+  pub in_heap : caller < g.callers
+  pub moves : Moves s.errand caller e s'.errand
+  pub may : MayStand g s l caller (s.errand caller) e
   pub word : (n : WordName) → IsNoHead n → s'.word n ≡ s.word n
   pub below : (n : WordName) → s'.word n < 2 ^ 64
   pub history : s'.history ≡ s.history
@@ -88,9 +88,9 @@ pub record Restacks (g : Geometry) (s : State) (l : Lists) (who : ℕ) (e : Erra
       → (head_of (s.word (head_name seat pile))).tag ≡ (head_of (s'.word (head_name seat pile))).tag
       → (i : ℕ) → occurs i (list_of l seat pile) ≤ occurs i (list_of l' seat pile)
   pub frame_turns :
-      (head_of (s'.word name.FrameHead)).tag + turn_unframed e + (s.errand who).turns
-      ≤ (head_of (s.word name.FrameHead)).tag + turn_unframed (s.errand who) + e.turns
+      (head_of (s'.word name.FrameHead)).tag + turn_unframed e + (s.errand caller).turns
+      ≤ (head_of (s.word name.FrameHead)).tag + turn_unframed (s.errand caller) + e.turns
   pub list_turns :
       (class : ℕ)
-      → (head_of (s'.word (name.ListHead class))).tag + errand_pops e + turn_unlisted e + (s.errand who).turns
-      ≤ (head_of (s.word (name.ListHead class))).tag + errand_pops (s.errand who) + turn_unlisted (s.errand who) + e.turns
+      → (head_of (s'.word (name.ListHead class))).tag + errand_pops e + turn_unlisted e + (s.errand caller).turns
+      ≤ (head_of (s.word (name.ListHead class))).tag + errand_pops (s.errand caller) + turn_unlisted (s.errand caller) + e.turns

@@ -18,8 +18,8 @@ use Rattle.stack_parts.specs.declared.point.StackPoint.TheVariants as stack
 use Rattle.stack_parts.specs.Piles.{head_name}
 use Rattle.hazard_parts.specs.declared.point.DescPoint.TheVariants as desc
 use Rattle.errand_steps.specs.declared.next.Next.TheVariants.{Retire}
-use Rattle.errand_steps.specs.declared.onward.Onward.{Onward}
-use Rattle.errand_steps.specs.declared.onward.Onward.TheVariants as onward
+use Rattle.errand_steps.specs.declared.continuation.Continuation.{Continuation}
+use Rattle.errand_steps.specs.declared.continuation.Continuation.TheVariants as continuation
 use Rattle.errand_steps.specs.declared.point.Point.{Point}
 use Rattle.errand_steps.specs.declared.point.Point.TheVariants.{Idle, Block, Stack, Desc}
 use Rattle.word_plan.specs.declared.action.Found.{Found}
@@ -33,10 +33,10 @@ use Rattle.errand_steps.specs.Fits.{spare_of, pushed_by}
 use Rattle.errand_steps.proofs.ErrandLemmas.{settle_errand}
 use Rattle.errand_steps.specs.Events.{event_of}
 use Rattle.errand_steps.specs.Nexts.{next_of}
-use Rattle.errand_steps.specs.Onwards.{pushes}
+use Rattle.errand_steps.specs.Continuations.{pushes}
 use Rattle.errand_steps.specs.Points.{plan_point_of}
 use Rattle.errand_steps.specs.Steps.{State, Step, found_at, name_at}
-use Rattle.sound_state.specs.Holdings.{Kept, Status, clear, keep, onward_holds, holds_of, waiting, partly_used, on_its_way}
+use Rattle.sound_state.specs.Holdings.{Kept, Status, clear, keep, continuation_holds, holds_of, waiting, partly_used, on_its_way}
 use Rattle.sound_state.specs.Guards.{IsGuard, IsHazard, passed_by, held_by}
 use Rattle.sound_state.specs.TurnStages.{turn_stage_of, in_turn, lacks_frame, lacks_partial, lacks_answer, is_unneeded}
 use Rattle.sound_state.specs.Superblocks.{anchor_for, kept_among, reserved_among}
@@ -74,27 +74,27 @@ retired_in_turn e x d q t =
 
 -- where the list is full a scan begins; else the call ends, or goes on with a turn where the caller has one left
 settle-full-in-turn :
-    (e : ErrandFields) (x : Found) (seat : SeatFields) (d : ℕ) (o : Onward) → next_of e.point x ≡ Retire seat d o → is_full e ≡ true
+    (e : ErrandFields) (x : Found) (seat : SeatFields) (d : ℕ) (o : Continuation) → next_of e.point x ≡ Retire seat d o → is_full e ≡ true
     → settle_of e x ≡ retired_in_turn e x d (Desc (desc.ReadHazard seat no_words 0) o) e.turns
 unfolding settle_of course_of
 settle-full-in-turn e x seat d o is full = rw (is, full) refl
 
 settle-ends :
-    (e : ErrandFields) (x : Found) (seat : SeatFields) (d : ℕ) → next_of e.point x ≡ Retire seat d onward.EndFree → is_full e ≡ false
+    (e : ErrandFields) (x : Found) (seat : SeatFields) (d : ℕ) → next_of e.point x ≡ Retire seat d continuation.EndFree → is_full e ≡ false
     → settle_of e x ≡ retired_in_turn e x d Idle e.turns
 unfolding settle_of course_of
 settle-ends e x seat d is full = rw (is, full) refl
 
 settle-spent :
-    (e : ErrandFields) (x : Found) (seat : SeatFields) (d words : ℕ) → next_of e.point x ≡ Retire seat d (onward.Turn words)
+    (e : ErrandFields) (x : Found) (seat : SeatFields) (d words : ℕ) → next_of e.point x ≡ Retire seat d (continuation.Turn words)
     → is_full e ≡ false → is_spent e ≡ true → settle_of e x ≡ retired_in_turn e x d Idle e.turns
 unfolding settle_of course_of
 settle-spent e x seat d words is full spent = rw (is, full, spent) refl
 
 settle-turns :
-    (e : ErrandFields) (x : Found) (seat : SeatFields) (d words : ℕ) → next_of e.point x ≡ Retire seat d (onward.Turn words)
+    (e : ErrandFields) (x : Found) (seat : SeatFields) (d words : ℕ) → next_of e.point x ≡ Retire seat d (continuation.Turn words)
     → is_full e ≡ false → is_spent e ≡ false
-    → settle_of e x ≡ retired_in_turn e x d (Block (block.LoadActive seat) (onward.Alloc words)) (one_more e.turns)
+    → settle_of e x ≡ retired_in_turn e x d (Block (block.LoadActive seat) (continuation.Alloc words)) (one_more e.turns)
 unfolding settle_of course_of
 settle-turns e x seat d words is full left = rw (is, full, left) refl
 
@@ -126,11 +126,11 @@ idle-stands-bare : StandsBare Idle
 unfolding holds_of recalls_of
 idle-stands-bare = grind (arith)
 
-active-bare : (seat : SeatFields) (o : Onward) → StandsBare (Block (block.LoadActive seat) o)
+active-bare : (seat : SeatFields) (o : Continuation) → StandsBare (Block (block.LoadActive seat) o)
 unfolding holds_of recalls_of
 active-bare seat o = grind (arith)
 
-scan-bare : (seat : SeatFields) (o : Onward) → resumed_recalls seat o ≡ [] → StandsBare (Desc (desc.ReadHazard seat no_words 0) o)
+scan-bare : (seat : SeatFields) (o : Continuation) → resumed_recalls seat o ≡ [] → StandsBare (Desc (desc.ReadHazard seat no_words 0) o)
 unfolding holds_of recalls_of
 scan-bare seat o is = record {
   kept = refl;
@@ -196,84 +196,84 @@ tag-stays words words' n m new fits writes same =
     ]
 
 -- a push that goes on with a retirement of d holds nothing but d, and the index where it isn't on the stack yet
-record RetiresOff (seat : SeatFields) (pile : Pile) (i : ℕ) (h : HeadFields) (o : Onward) (d : ℕ) (status : Status) : Type 0 where
-  more : HoldsMore seat pile i (onward_holds seat o) (holds_of (Stack (stack.PushTop seat pile i h) o))
-  kept : (onward_holds seat o).kept ≡ keep d seat.class status
-  frames : (onward_holds seat o).frames ≡ []
+record RetiresOff (seat : SeatFields) (pile : Pile) (i : ℕ) (h : HeadFields) (o : Continuation) (d : ℕ) (status : Status) : Type 0 where
+  more : HoldsMore seat pile i (continuation_holds seat o) (holds_of (Stack (stack.PushTop seat pile i h) o))
+  kept : (continuation_holds seat o).kept ≡ keep d seat.class status
+  frames : (continuation_holds seat o).frames ≡ []
   credits : (holds_of (Stack (stack.PushTop seat pile i h) o)).credits ≡ []
   hands : (holds_of (Stack (stack.PushTop seat pile i h) o)).hands ≡ []
   frees : (holds_of (Stack (stack.PushTop seat pile i h) o)).frees ≡ []
   hazard : (holds_of (Stack (stack.PushTop seat pile i h) o)).hazard ≡ clear
 
 discard-off :
-    (seat : SeatFields) (i : ℕ) (h : HeadFields) (words d : ℕ) → RetiresOff seat Frames i h (onward.Discard words d) d on_its_way
+    (seat : SeatFields) (i : ℕ) (h : HeadFields) (words d : ℕ) → RetiresOff seat Frames i h (continuation.Discard words d) d on_its_way
 unfolding holds_of
 discard-off seat i h words d = grind (arith)
 
-retire-off : (seat : SeatFields) (i : ℕ) (h : HeadFields) (d : ℕ) → RetiresOff seat Partials i h (onward.Retire d) d partly_used
+retire-off : (seat : SeatFields) (i : ℕ) (h : HeadFields) (d : ℕ) → RetiresOff seat Partials i h (continuation.Retire d) d partly_used
 unfolding holds_of
 retire-off seat i h d = grind (arith)
 
 -- where the caller goes on when it has retired d, with so many turns: it stands bare
-record RetiresBare (g : Geometry) (s : State) (who : ℕ) (p : Point) (d : ℕ) (q : Point) (t : ℕ) : Type 0 where
-  settles : settle_of (s.errand who) (found_at s who) ≡ retired_in_turn (s.errand who) (found_at s who) d q t
+record RetiresBare (g : Geometry) (s : State) (caller : ℕ) (p : Point) (d : ℕ) (q : Point) (t : ℕ) : Type 0 where
+  settles : settle_of (s.errand caller) (found_at s caller) ≡ retired_in_turn (s.errand caller) (found_at s caller) d q t
   bare : StandsBare q
-  full : spare_of q ≡ 1 → length (s.errand who).retired ≡ g.callers
-  turns : RetireTurns p q (s.errand who).turns t
+  full : spare_of q ≡ 1 → length (s.errand caller).retired ≡ g.callers
+  turns : RetireTurns p q (s.errand caller).turns t
 
 -- the errand that a won push leaves so, and what it exchanges
 abbrev Retired : Geometry → State → Lists → ℕ → SeatFields → Pile → ℕ → HeadFields → Type 0
-Retired g s l who seat pile i h =
-    (e : ErrandFields) × Exchanges g s l who seat pile (head_pushed i h) e (with_list l seat pile (i ∷ list_of l seat pile))
+Retired g s l caller seat pile i h =
+    (e : ErrandFields) × Exchanges g s l caller seat pile (head_pushed i h) e (with_list l seat pile (i ∷ list_of l seat pile))
 
 push-exchanges :
-    (g : Geometry) (s : State) (l : Lists) (who : ℕ) (seat : SeatFields) (pile : Pile) (i : ℕ) (h : HeadFields) (o : Onward)
-    (d : ℕ) (status : Status) → IsSoundWithoutCounts g s → IsSoundWith g s l → who < g.callers
-    → (s.errand who).point ≡ Stack (stack.PushTop seat pile i h) o → s.word (head_name seat pile) ≡ head_word h
+    (g : Geometry) (s : State) (l : Lists) (caller : ℕ) (seat : SeatFields) (pile : Pile) (i : ℕ) (h : HeadFields) (o : Continuation)
+    (d : ℕ) (status : Status) → IsSoundWithoutCounts g s → IsSoundWith g s l → caller < g.callers
+    → (s.errand caller).point ≡ Stack (stack.PushTop seat pile i h) o → s.word (head_name seat pile) ≡ head_word h
     → RetiresOff seat pile i h o d status → MayRetire s status d → (q : Point) (t : ℕ)
-    → RetiresBare g s who (Stack (stack.PushTop seat pile i h) o) d q t → Retired g s l who seat pile i h
+    → RetiresBare g s caller (Stack (stack.PushTop seat pile i h) o) d q t → Retired g s l caller seat pile i h
 unfolding plan_point_of event_of
-push-exchanges g s l who seat pile i h o d status sound old has at word off may q t r =
+push-exchanges g s l caller seat pile i h o d status sound old has at word off may q t r =
     let p : Point = Stack (stack.PushTop seat pile i h) o in
-    let a : ErrandFields = s.errand who in
-    let x : Found = found_at s who in
+    let a : ErrandFields = s.errand caller in
+    let x : Found = found_at s caller in
     let e : ErrandFields = retired_in_turn a x d q t in
-    let on = pushes-on g s l who seat pile i h o sound old has at word in
+    let on = pushes-on g s l caller seat pile i h o sound old has at word in
     let l' : Lists = with_list l seat pile (i ∷ list_of l seat pile) in
-    let b : Balanced l l' (holds_of p) (onward_holds seat o) =
-    balance-back l' l (onward_holds seat o) (holds_of p)
-    (more-balanced seat pile i l' l (onward_holds seat o) (holds_of p) on.class on.one off.more) in
-    let kept = kept-at g s l who p old has at in
+    let b : Balanced l l' (holds_of p) (continuation_holds seat o) =
+    balance-back l' l (continuation_holds seat o) (holds_of p)
+    (more-balanced seat pile i l' l (continuation_holds seat o) (holds_of p) on.class on.one off.more) in
+    let kept = kept-at g s l caller p old has at in
     let keeps : IsKeptAs s status d seat.class =
     All-head (λ k. IsKeptAs s k.status k.desc k.class) (record { desc = d; class = seat.class; status = status }) []
-    (subst (AreKept s) off.kept (keeps-less s seat pile i (onward_holds seat o) (holds_of p) off.more kept)) in
-    let own = old.errands who has in
+    (subst (AreKept s) off.kept (keeps-less s seat pile i (continuation_holds seat o) (holds_of p) off.more kept)) in
+    let own = old.errands caller has in
     let lost : a.lost ≤ e.lost = raised-least (counts_lost a.point x) a.lost own.lost in
-    let list = on.list (in-hand s seat pile i (onward_holds seat o) (holds_of p) off.more kept) in
+    let list = on.list (in-hand s seat pile i (continuation_holds seat o) (holds_of p) off.more kept) in
     let tag : (head_of (s.word (head_name seat pile))).tag ≡ h.tag = ap (λ (y : HeadFields). y.tag) on.before in
     let turns : RetireTurns a.point q a.turns t = subst (λ z. RetireTurns z q a.turns t) (sym at) r.turns in
-    let stand : MayStand g s l who a e = record {
+    let stand : MayStand g s l caller a e = record {
       rule = record {
-        caller = own.caller;
+        number = own.number;
         geometry = own.geometry;
-        rule = subst IsErrand r.settles (settle_errand a x own.rule (old.words (name_at s who)));
+        rule = subst IsErrand r.settles (settle_errand a x own.rule (old.words (name_at s caller)));
         lost = raised-below (counts_lost a.point x) a.lost own.lost;
       };
       kept = subst (AreKept s) (sym r.bare.kept) (All-nil (λ (k : Kept). IsKeptAs s k.status k.desc k.class));
       retired =
-          All-append (IsWithout s) a.retired (d ∷ []) (old.kept.retired who has)
+          All-append (IsWithout s) a.retired (d ∷ []) (old.kept.retired caller has)
           (All-cons (IsWithout s) d [] (without-retired s status d seat.class may keeps) (All-nil (IsWithout s)));
-      so = subst (All (IsSo g s l who)) (sym r.bare.recalls) (All-nil (IsSo g s l who));
+      so = subst (All (IsSo g s l caller)) (sym r.bare.recalls) (All-nil (IsSo g s l caller));
       hazard =
-          subst (λ z. IsHazard z (s.word (name.Hazard who))) (off.hazard ∙ sym r.bare.hazard)
-          (subst (λ z. IsHazard (holds_of z).hazard (s.word (name.Hazard who))) at (old.guarded.words who has));
+          subst (λ z. IsHazard z (s.word (name.Hazard caller))) (off.hazard ∙ sym r.bare.hazard)
+          (subst (λ z. IsHazard (holds_of z).hazard (s.word (name.Hazard caller))) at (old.guarded.words caller has));
       guard = λ k guarding guard. let bad : ⊥ = subst IsGuard r.bare.hazard guard in absurd bad;
       pushed = λ k is. absurd (let bad : None ≡ Some k = sym r.bare.pushed ∙ is in cc);
       passed = r.bare.passed;
       unread = r.bare.unread;
       full = λ spare. omega (arith, length-append a.retired (d ∷ []), r.full spare);
-      hands = subst (λ bs. All (λ y. IsOwned s who y.place y.need) bs) (sym r.bare.hands) (All-nil (λ y. IsOwned s who y.place y.need));
-      frees = subst (λ bs. All (λ y. IsOwned s who y.place y.need) bs) (sym r.bare.frees) (All-nil (λ y. IsOwned s who y.place y.need));
+      hands = subst (λ bs. All (λ y. IsOwned s caller y.place y.need) bs) (sym r.bare.hands) (All-nil (λ y. IsOwned s caller y.place y.need));
+      frees = subst (λ bs. All (λ y. IsOwned s caller y.place y.need) bs) (sym r.bare.frees) (All-nil (λ y. IsOwned s caller y.place y.need));
       excepts = λ place excepted.
           elim excepted [
             | inl y ↦
@@ -284,8 +284,8 @@ push-exchanges g s l who seat pile i h o d status sound old has at word off may 
                 (subst (λ bs. Any (λ z. (z.place ≡ place) × IsTrue z.overwritten) bs)
                 (ap (λ z. (holds_of z).frees) at ∙ off.frees ∙ sym r.bare.frees) y)
           ];
-      own_turns = omega (arith, old.turned.own_turns who has, turns.under_way);
-      own_lost = omega (arith, old.turned.own_lost who has, turns.discards, lost);
+      own_turns = omega (arith, old.turned.own_turns caller has, turns.under_way);
+      own_lost = omega (arith, old.turned.own_lost caller has, turns.discards, lost);
       cleared = ap (λ z. raised (counts_cleared z x) a.cleared) at;
     } in
     let places = λ (y : ℕ). ap (kept_places y) off.kept ∙ retire-places s status d y seat.class may in
@@ -314,7 +314,7 @@ push-exchanges g s l who seat pile i h o d status sound old has at word off may 
     } in (
       e,
       record {
-        event = subst (λ z. event_of who z (found_from s z) ≡ None) (sym at) (rw on.won refl);
+        event = subst (λ z. event_of caller z (found_from s z) ≡ None) (sym at) (rw on.won refl);
         head = ap (λ z. name_of (plan_point_of z)) at;
         after =
             subst (λ z. after_action (plan_point_of z) (s.word (name_of (plan_point_of z))) ≡ head_word (head_pushed i h)) (sym at) (rw on.won (ap head_word on.uncut));
@@ -336,44 +336,44 @@ says-either false = inr refl
 
 -- a list with no room has as many entries as the heap has callers
 full-list :
-    (g : Geometry) (s : State) (l : Lists) (who : ℕ) (p : Point) → IsSoundWith g s l → who < g.callers → (s.errand who).point ≡ p
-    → spare_of p ≡ 0 → is_full (s.errand who) ≡ true → length (s.errand who).retired ≡ g.callers
-full-list g s l who p old has at spare full =
-    let own = old.errands who has in
-    let callers : (s.errand who).geometry.callers ≡ g.callers = ap (λ (k : Geometry). k.callers) own.geometry in
-    omega (arith, callers, own.rule.room, ap spare_of at, spare, leb-true (s.errand who).geometry.callers (length (s.errand who).retired) full)
+    (g : Geometry) (s : State) (l : Lists) (caller : ℕ) (p : Point) → IsSoundWith g s l → caller < g.callers → (s.errand caller).point ≡ p
+    → spare_of p ≡ 0 → is_full (s.errand caller) ≡ true → length (s.errand caller).retired ≡ g.callers
+full-list g s l caller p old has at spare full =
+    let own = old.errands caller has in
+    let callers : (s.errand caller).geometry.callers ≡ g.callers = ap (λ (k : Geometry). k.callers) own.geometry in
+    omega (arith, callers, own.rule.room, ap spare_of at, spare, leb-true (s.errand caller).geometry.callers (length (s.errand caller).retired) full)
 
 -- a turn that is left can be counted
 one-more-turn :
-    (g : Geometry) (s : State) (l : Lists) (who : ℕ) → IsSoundWith g s l → who < g.callers → is_spent (s.errand who) ≡ false
-    → one_more (s.errand who).turns ≡ (s.errand who).turns + 1
-one-more-turn g s l who old has left =
-    let own = old.errands who has in
+    (g : Geometry) (s : State) (l : Lists) (caller : ℕ) → IsSoundWith g s l → caller < g.callers → is_spent (s.errand caller) ≡ false
+    → one_more (s.errand caller).turns ≡ (s.errand caller).turns + 1
+one-more-turn g s l caller old has left =
+    let own = old.errands caller has in
     omega (arith, own.rule.turns, own.rule.geometry.turn_limit.1)
 
 -- a frame goes back, and the descriptor of a superblock that wasn't needed is retired
 discard-exchanges :
-    (g : Geometry) (s : State) (l : Lists) (who : ℕ) (seat : SeatFields) (i : ℕ) (h : HeadFields) (words d : ℕ) → IsSoundWithoutCounts g s
-    → IsSoundWith g s l → who < g.callers → (s.errand who).point ≡ Stack (stack.PushTop seat Frames i h) (onward.Discard words d)
+    (g : Geometry) (s : State) (l : Lists) (caller : ℕ) (seat : SeatFields) (i : ℕ) (h : HeadFields) (words d : ℕ) → IsSoundWithoutCounts g s
+    → IsSoundWith g s l → caller < g.callers → (s.errand caller).point ≡ Stack (stack.PushTop seat Frames i h) (continuation.Discard words d)
     → s.word name.FrameHead ≡ head_word h
-    → Retired g s l who seat Frames i h
+    → Retired g s l caller seat Frames i h
 unfolding plan_point_of next_of holds_of
-discard-exchanges g s l who seat i h words d sound old has at word =
-    let p : Point = Stack (stack.PushTop seat Frames i h) (onward.Discard words d) in
-    let a : ErrandFields = s.errand who in
-    let x : Found = found_at s who in
+discard-exchanges g s l caller seat i h words d sound old has at word =
+    let p : Point = Stack (stack.PushTop seat Frames i h) (continuation.Discard words d) in
+    let a : ErrandFields = s.errand caller in
+    let x : Found = found_at s caller in
     let won : (s.word name.FrameHead == head_word h) ≡ true = eq-eqb (s.word name.FrameHead) (head_word h) word in
-    let next : next_of a.point x ≡ Retire seat d (onward.Turn words) =
-    subst (λ z. next_of z (found_from s z) ≡ Retire seat d (onward.Turn words)) (sym at) (rw won refl) in
+    let next : next_of a.point x ≡ Retire seat d (continuation.Turn words) =
+    subst (λ z. next_of z (found_from s z) ≡ Retire seat d (continuation.Turn words)) (sym at) (rw won refl) in
     let retires =
-    push-exchanges g s l who seat Frames i h (onward.Discard words d) d on_its_way sound old has at word (discard-off seat i h words d) (inl refl) in
+    push-exchanges g s l caller seat Frames i h (continuation.Discard words d) d on_its_way sound old has at word (discard-off seat i h words d) (inl refl) in
     elim (says-either (is_full a)) [
       | inl full ↦
-          retires (Desc (desc.ReadHazard seat no_words 0) (onward.Turn words)) a.turns
+          retires (Desc (desc.ReadHazard seat no_words 0) (continuation.Turn words)) a.turns
           (record {
-            settles = settle-full-in-turn a x seat d (onward.Turn words) next full;
-            bare = scan-bare seat (onward.Turn words) refl;
-            full = λ spare. full-list g s l who p old has at refl full;
+            settles = settle-full-in-turn a x seat d (continuation.Turn words) next full;
+            bare = scan-bare seat (continuation.Turn words) refl;
+            full = λ spare. full-list g s l caller p old has at refl full;
             turns = grind (arith);
           })
       | inr few ↦
@@ -387,11 +387,11 @@ discard-exchanges g s l who seat i h words d sound old has at word =
                   turns = grind (arith);
                 })
             | inr left ↦
-                let more_turns : one_more a.turns ≡ a.turns + 1 = one-more-turn g s l who old has left in
-                retires (Block (block.LoadActive seat) (onward.Alloc words)) (one_more a.turns)
+                let more_turns : one_more a.turns ≡ a.turns + 1 = one-more-turn g s l caller old has left in
+                retires (Block (block.LoadActive seat) (continuation.Alloc words)) (one_more a.turns)
                 (record {
                   settles = settle-turns a x seat d words next few left;
-                  bare = active-bare seat (onward.Alloc words);
+                  bare = active-bare seat (continuation.Alloc words);
                   full = λ spare. absurd (omega (arith, spare));
                   turns = grind (arith, more_turns);
                 })
@@ -399,39 +399,39 @@ discard-exchanges g s l who seat i h words d sound old has at word =
     ]
 
 pub push_discard_won-sound :
-    (g : Geometry) (s : State) (who : ℕ) (s' : State) (seat : SeatFields) (i : ℕ) (h : HeadFields) (words d : ℕ) → IsSoundWithoutCounts g s
-    → who < g.callers → (s.errand who).point ≡ Stack (stack.PushTop seat Frames i h) (onward.Discard words d)
-    → s.word name.FrameHead ≡ head_word h → Step s who s' → IsSoundWithoutCounts g s'
-push_discard_won-sound g s who s' seat i h words d sound has at word step =
-    exchanges-sound g s who s' seat Frames (head_pushed i h) sound has
+    (g : Geometry) (s : State) (caller : ℕ) (s' : State) (seat : SeatFields) (i : ℕ) (h : HeadFields) (words d : ℕ) → IsSoundWithoutCounts g s
+    → caller < g.callers → (s.errand caller).point ≡ Stack (stack.PushTop seat Frames i h) (continuation.Discard words d)
+    → s.word name.FrameHead ≡ head_word h → Step s caller s' → IsSoundWithoutCounts g s'
+push_discard_won-sound g s caller s' seat i h words d sound has at word step =
+    exchanges-sound g s caller s' seat Frames (head_pushed i h) sound has
     (λ l old.
-    let to = discard-exchanges g s l who seat i h words d sound old has at word in
+    let to = discard-exchanges g s l caller seat i h words d sound old has at word in
     (with_list l seat Frames (i ∷ list_of l seat Frames), to.0, to.1)) step
 
 -- a partial superblock goes back, and the one that was EMPTY is retired
 retire-exchanges :
-    (g : Geometry) (s : State) (l : Lists) (who : ℕ) (seat : SeatFields) (i : ℕ) (h : HeadFields) (d : ℕ) → IsSoundWithoutCounts g s
-    → IsSoundWith g s l → who < g.callers → (s.errand who).point ≡ Stack (stack.PushTop seat Partials i h) (onward.Retire d)
+    (g : Geometry) (s : State) (l : Lists) (caller : ℕ) (seat : SeatFields) (i : ℕ) (h : HeadFields) (d : ℕ) → IsSoundWithoutCounts g s
+    → IsSoundWith g s l → caller < g.callers → (s.errand caller).point ≡ Stack (stack.PushTop seat Partials i h) (continuation.Retire d)
     → s.word (name.ListHead seat.class) ≡ head_word h
-    → Retired g s l who seat Partials i h
+    → Retired g s l caller seat Partials i h
 unfolding plan_point_of next_of holds_of recalls_of
-retire-exchanges g s l who seat i h d sound old has at word =
-    let p : Point = Stack (stack.PushTop seat Partials i h) (onward.Retire d) in
-    let a : ErrandFields = s.errand who in
-    let x : Found = found_at s who in
+retire-exchanges g s l caller seat i h d sound old has at word =
+    let p : Point = Stack (stack.PushTop seat Partials i h) (continuation.Retire d) in
+    let a : ErrandFields = s.errand caller in
+    let x : Found = found_at s caller in
     let won : (s.word (name.ListHead seat.class) == head_word h) ≡ true = eq-eqb (s.word (name.ListHead seat.class)) (head_word h) word in
-    let next : next_of a.point x ≡ Retire seat d onward.EndFree =
-    subst (λ z. next_of z (found_from s z) ≡ Retire seat d onward.EndFree) (sym at) (rw won refl) in
-    let is = All-head (IsSo g s l who) (emptied d) [] (pushes-on g s l who seat Partials i h (onward.Retire d) sound old has at word).so in
+    let next : next_of a.point x ≡ Retire seat d continuation.EndFree =
+    subst (λ z. next_of z (found_from s z) ≡ Retire seat d continuation.EndFree) (sym at) (rw won refl) in
+    let is = All-head (IsSo g s l caller) (emptied d) [] (pushes-on g s l caller seat Partials i h (continuation.Retire d) sound old has at word).so in
     let retires =
-    push-exchanges g s l who seat Partials i h (onward.Retire d) d partly_used sound old has at word (retire-off seat i h d) (inr (refl, is.state)) in
+    push-exchanges g s l caller seat Partials i h (continuation.Retire d) d partly_used sound old has at word (retire-off seat i h d) (inr (refl, is.state)) in
     elim (says-either (is_full a)) [
       | inl full ↦
-          retires (Desc (desc.ReadHazard seat no_words 0) onward.EndFree) a.turns
+          retires (Desc (desc.ReadHazard seat no_words 0) continuation.EndFree) a.turns
           (record {
-            settles = settle-full-in-turn a x seat d onward.EndFree next full;
-            bare = scan-bare seat onward.EndFree refl;
-            full = λ spare. full-list g s l who p old has at refl full;
+            settles = settle-full-in-turn a x seat d continuation.EndFree next full;
+            bare = scan-bare seat continuation.EndFree refl;
+            full = λ spare. full-list g s l caller p old has at refl full;
             turns = grind (arith);
           })
       | inr few ↦
@@ -445,45 +445,45 @@ retire-exchanges g s l who seat i h d sound old has at word =
     ]
 
 pub push_retire_won-sound :
-    (g : Geometry) (s : State) (who : ℕ) (s' : State) (seat : SeatFields) (i : ℕ) (h : HeadFields) (d : ℕ) → IsSoundWithoutCounts g s
-    → who < g.callers → (s.errand who).point ≡ Stack (stack.PushTop seat Partials i h) (onward.Retire d)
-    → s.word (name.ListHead seat.class) ≡ head_word h → Step s who s' → IsSoundWithoutCounts g s'
-push_retire_won-sound g s who s' seat i h d sound has at word step =
-    exchanges-sound g s who s' seat Partials (head_pushed i h) sound has
+    (g : Geometry) (s : State) (caller : ℕ) (s' : State) (seat : SeatFields) (i : ℕ) (h : HeadFields) (d : ℕ) → IsSoundWithoutCounts g s
+    → caller < g.callers → (s.errand caller).point ≡ Stack (stack.PushTop seat Partials i h) (continuation.Retire d)
+    → s.word (name.ListHead seat.class) ≡ head_word h → Step s caller s' → IsSoundWithoutCounts g s'
+push_retire_won-sound g s caller s' seat i h d sound has at word step =
+    exchanges-sound g s caller s' seat Partials (head_pushed i h) sound has
     (λ l old.
-    let to = retire-exchanges g s l who seat i h d sound old has at word in
+    let to = retire-exchanges g s l caller seat i h d sound old has at word in
     (with_list l seat Partials (i ∷ list_of l seat Partials), to.0, to.1)) step
 
 -- after a push a frame's descriptor is retired, or an EMPTY superblock's, or nothing
 push-top-won :
-    (g : Geometry) (s : State) (who : ℕ) (s' : State) (seat : SeatFields) (pile : Pile) (i : ℕ) (h : HeadFields) (o : Onward)
-    → pushes pile o ≡ true → IsSoundWithoutCounts g s → who < g.callers → (s.errand who).point ≡ Stack (stack.PushTop seat pile i h) o
-    → s.word (head_name seat pile) ≡ head_word h → Step s who s' → IsSoundWithoutCounts g s'
-push-top-won g s who s' seat Frames i h (onward.Discard words d) is sound has at word step =
-    push_discard_won-sound g s who s' seat i h words d sound has at word step
-push-top-won g s who s' seat Partials i h (onward.Retire d) is sound has at word step =
-    push_retire_won-sound g s who s' seat i h d sound has at word step
-push-top-won g s who s' seat Partials i h (onward.Discard words d) is sound has at word step = absurd (cc)
-push-top-won g s who s' seat Frames i h (onward.Retire d) is sound has at word step = absurd (cc)
-push-top-won g s who s' seat pile i h o is sound has at word step =
-    push_going_on-sound g s who s' seat pile i h o sound has at refl word step
+    (g : Geometry) (s : State) (caller : ℕ) (s' : State) (seat : SeatFields) (pile : Pile) (i : ℕ) (h : HeadFields) (o : Continuation)
+    → pushes pile o ≡ true → IsSoundWithoutCounts g s → caller < g.callers → (s.errand caller).point ≡ Stack (stack.PushTop seat pile i h) o
+    → s.word (head_name seat pile) ≡ head_word h → Step s caller s' → IsSoundWithoutCounts g s'
+push-top-won g s caller s' seat Frames i h (continuation.Discard words d) is sound has at word step =
+    push_discard_won-sound g s caller s' seat i h words d sound has at word step
+push-top-won g s caller s' seat Partials i h (continuation.Retire d) is sound has at word step =
+    push_retire_won-sound g s caller s' seat i h d sound has at word step
+push-top-won g s caller s' seat Partials i h (continuation.Discard words d) is sound has at word step = absurd (cc)
+push-top-won g s caller s' seat Frames i h (continuation.Retire d) is sound has at word step = absurd (cc)
+push-top-won g s caller s' seat pile i h o is sound has at word step =
+    push_going_on-sound g s caller s' seat pile i h o sound has at refl word step
 
 -- a won push onto a stack
 pub push_top_won-sound :
-    (g : Geometry) (s : State) (who : ℕ) (s' : State) (seat : SeatFields) (pile : Pile) (i : ℕ) (h : HeadFields) (o : Onward)
-    → IsSoundWithoutCounts g s → who < g.callers → (s.errand who).point ≡ Stack (stack.PushTop seat pile i h) o
-    → s.word (head_name seat pile) ≡ head_word h → Step s who s' → IsSoundWithoutCounts g s'
-push_top_won-sound g s who s' seat pile i h o sound has at word step =
-    let fit = fits-at g s sound.parts.0 who (Stack (stack.PushTop seat pile i h) o) sound.parts.1 has at in
-    push-top-won g s who s' seat pile i h o (holds-true (pushes pile o) fit.goes) sound has at word step
+    (g : Geometry) (s : State) (caller : ℕ) (s' : State) (seat : SeatFields) (pile : Pile) (i : ℕ) (h : HeadFields) (o : Continuation)
+    → IsSoundWithoutCounts g s → caller < g.callers → (s.errand caller).point ≡ Stack (stack.PushTop seat pile i h) o
+    → s.word (head_name seat pile) ≡ head_word h → Step s caller s' → IsSoundWithoutCounts g s'
+push_top_won-sound g s caller s' seat pile i h o sound has at word step =
+    let fit = fits-at g s sound.parts.0 caller (Stack (stack.PushTop seat pile i h) o) sound.parts.1 has at in
+    push-top-won g s caller s' seat pile i h o (holds-true (pushes pile o) fit.goes) sound has at word step
 
 -- won or lost
 pub push_top-sound :
-    (g : Geometry) (s : State) (who : ℕ) (s' : State) (seat : SeatFields) (pile : Pile) (i : ℕ) (h : HeadFields) (o : Onward)
-    → IsSoundWithoutCounts g s → who < g.callers → (s.errand who).point ≡ Stack (stack.PushTop seat pile i h) o → Step s who s'
+    (g : Geometry) (s : State) (caller : ℕ) (s' : State) (seat : SeatFields) (pile : Pile) (i : ℕ) (h : HeadFields) (o : Continuation)
+    → IsSoundWithoutCounts g s → caller < g.callers → (s.errand caller).point ≡ Stack (stack.PushTop seat pile i h) o → Step s caller s'
     → IsSoundWithoutCounts g s'
-push_top-sound g s who s' seat pile i h o sound has at step =
+push_top-sound g s caller s' seat pile i h o sound has at step =
     elim (cases_eq (s.word (head_name seat pile)) (head_word h)) [
-      | inl won ↦ push_top_won-sound g s who s' seat pile i h o sound has at won step
-      | inr lost ↦ push_top_lost-sound g s who s' seat pile i h o sound has at lost step
+      | inl won ↦ push_top_won-sound g s caller s' seat pile i h o sound has at won step
+      | inr lost ↦ push_top_lost-sound g s caller s' seat pile i h o sound has at lost step
     ]

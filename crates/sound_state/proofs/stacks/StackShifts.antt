@@ -225,14 +225,14 @@ pub record NewList (g : Geometry) (s : State) (l : Lists) (seat : SeatFields) (p
   pub others : OthersStay seat pile l l'
 
 -- a step from the first point to the second, with a won exchange of a head
-pub record ShiftsHead (g : Geometry) (s : State) (l : Lists) (who : ℕ) (p q : Point) (seat : SeatFields) (pile : Pile) (new : HeadFields)
+pub record ShiftsHead (g : Geometry) (s : State) (l : Lists) (caller : ℕ) (p q : Point) (seat : SeatFields) (pile : Pile) (new : HeadFields)
     (l' : Lists) : Type 0 where
   pub leads : LeadsTo (next_of p (found_from s p)) q
-  pub event : event_of who p (found_from s p) ≡ None
+  pub event : event_of caller p (found_from s p) ≡ None
   pub cleared : counts_cleared p (found_from s p) ≡ false
   pub head : name_of (plan_point_of p) ≡ head_name seat pile
   pub after : after_action (plan_point_of p) (s.word (name_of (plan_point_of p))) ≡ head_word new
-  pub goes : PointGoes g s l who p q
+  pub goes : PointGoes g s l caller p q
   pub list : NewList g s l seat pile new l'
   pub balanced : Balanced l l' (holds_of p) (holds_of q)
   pub credits : (holds_of q).credits ≡ (holds_of p).credits
@@ -345,42 +345,42 @@ pub record ErrandsBalanced (g : Geometry) (s : State) (l l' : Lists) (a b : Erra
       (class : ℕ) → length (l'.partials class) + errand_stock class b ≤ length (l.partials class) + errand_stock class a
 
 -- a won exchange of a head, after which a caller goes on so
-pub record Exchanges (g : Geometry) (s : State) (l : Lists) (who : ℕ) (seat : SeatFields) (pile : Pile) (new : HeadFields) (e : ErrandFields)
+pub record Exchanges (g : Geometry) (s : State) (l : Lists) (caller : ℕ) (seat : SeatFields) (pile : Pile) (new : HeadFields) (e : ErrandFields)
     (l' : Lists) : Type 0 where
-  pub event : event_of who (s.errand who).point (found_from s (s.errand who).point) ≡ None
-  pub head : name_of (plan_point_of (s.errand who).point) ≡ head_name seat pile
+  pub event : event_of caller (s.errand caller).point (found_from s (s.errand caller).point) ≡ None
+  pub head : name_of (plan_point_of (s.errand caller).point) ≡ head_name seat pile
   pub after :
-      after_action (plan_point_of (s.errand who).point) (s.word (name_of (plan_point_of (s.errand who).point))) ≡ head_word new
-  pub settles : settle_of (s.errand who) (found_at s who) ≡ e
-  pub may : MayStand g s l who (s.errand who) e
+      after_action (plan_point_of (s.errand caller).point) (s.word (name_of (plan_point_of (s.errand caller).point))) ≡ head_word new
+  pub settles : settle_of (s.errand caller) (found_at s caller) ≡ e
+  pub may : MayStand g s l caller (s.errand caller) e
   pub list : NewList g s l seat pile new l'
-  pub balanced : ErrandsBalanced g s l l' (s.errand who) e
+  pub balanced : ErrandsBalanced g s l l' (s.errand caller) e
   pub frame_turns :
       (words' : WordName → ℕ) → Writes s.word (head_name seat pile) (head_word new) words'
-      → (head_of (words' name.FrameHead)).tag + turn_unframed e + (s.errand who).turns
-      ≤ (head_of (s.word name.FrameHead)).tag + turn_unframed (s.errand who) + e.turns
+      → (head_of (words' name.FrameHead)).tag + turn_unframed e + (s.errand caller).turns
+      ≤ (head_of (s.word name.FrameHead)).tag + turn_unframed (s.errand caller) + e.turns
   pub list_turns :
       (class : ℕ) (words' : WordName → ℕ) → Writes s.word (head_name seat pile) (head_word new) words'
-      → (head_of (words' (name.ListHead class))).tag + errand_pops e + turn_unlisted e + (s.errand who).turns
-      ≤ (head_of (s.word (name.ListHead class))).tag + errand_pops (s.errand who) + turn_unlisted (s.errand who) + e.turns
+      → (head_of (words' (name.ListHead class))).tag + errand_pops e + turn_unlisted e + (s.errand caller).turns
+      ≤ (head_of (s.word (name.ListHead class))).tag + errand_pops (s.errand caller) + turn_unlisted (s.errand caller) + e.turns
 
 -- what such a step changes
 exchanges-restacks :
-    (g : Geometry) (s : State) (l : Lists) (who : ℕ) (s' : State) (seat : SeatFields) (pile : Pile) (new : HeadFields) (e : ErrandFields)
-    (l' : Lists) → IsSoundWith g s l → who < g.callers → Exchanges g s l who seat pile new e l' → Step s who s'
-    → Restacks g s l who e s' l'
-exchanges-restacks g s l who s' seat pile new e l' old has h step =
-    let moves : Moves s.errand who e s'.errand = subst (λ f. Moves s.errand who f s'.errand) h.settles step.errand in
+    (g : Geometry) (s : State) (l : Lists) (caller : ℕ) (s' : State) (seat : SeatFields) (pile : Pile) (new : HeadFields) (e : ErrandFields)
+    (l' : Lists) → IsSoundWith g s l → caller < g.callers → Exchanges g s l caller seat pile new e l' → Step s caller s'
+    → Restacks g s l caller e s' l'
+exchanges-restacks g s l caller s' seat pile new e l' old has h step =
+    let moves : Moves s.errand caller e s'.errand = subst (λ f. Moves s.errand caller f s'.errand) h.settles step.errand in
     let writes : Writes s.word (head_name seat pile) (head_word new) s'.word =
-    subst (λ n. Writes s.word n (head_word new) s'.word) h.head (subst (λ v. Writes s.word (name_at s who) v s'.word) h.after step.word) in
+    subst (λ n. Writes s.word n (head_word new) s'.word) h.head (subst (λ v. Writes s.word (name_at s caller) v s'.word) h.after step.word) in
     let plain : (n : WordName) → IsNoHead n → s'.word n ≡ s.word n = λ n is. writes.elsewhere n (no-head-apart seat pile n is) in
-    let callers = λ (weight : ErrandFields → ℕ). callers-moved g weight s.errand who e s'.errand has moves in
+    let callers = λ (weight : ErrandFields → ℕ). callers-moved g weight s.errand caller e s'.errand has moves in
     let words = λ (weight : WordName → ℕ → ℕ) (none : (w : ℕ) → weight (head_name seat pile) w ≡ 0).
     words-but g weight s.word s'.word (head_name seat pile) writes.elsewhere none in
     let anchor = λ (d : ℕ). ap anchor_of (plain (name.Anchor d) tt) in
     let b = h.balanced in
     record {
-      caller = has;
+      in_heap = has;
       moves = moves;
       may = h.may;
       word = plain;
@@ -422,11 +422,11 @@ exchanges-restacks g s l who s' seat pile new e l' old has h step =
 
 -- it keeps the state sound, with other lists
 pub exchanges-sound :
-    (g : Geometry) (s : State) (who : ℕ) (s' : State) (seat : SeatFields) (pile : Pile) (new : HeadFields) → IsSoundWithoutCounts g s
-    → who < g.callers
-    → ((l : Lists) → IsSoundWith g s l → (l' : Lists) × (e : ErrandFields) × Exchanges g s l who seat pile new e l') → Step s who s'
+    (g : Geometry) (s : State) (caller : ℕ) (s' : State) (seat : SeatFields) (pile : Pile) (new : HeadFields) → IsSoundWithoutCounts g s
+    → caller < g.callers
+    → ((l : Lists) → IsSoundWith g s l → (l' : Lists) × (e : ErrandFields) × Exchanges g s l caller seat pile new e l') → Step s caller s'
     → IsSoundWithoutCounts g s'
-exchanges-sound g s who s' seat pile new sound has h step =
+exchanges-sound g s caller s' seat pile new sound has h step =
     let l = sound.parts.0 in
     let old = sound.parts.1 in
     let found = h l old in
@@ -436,16 +436,16 @@ exchanges-sound g s who s' seat pile new sound has h step =
       legal = subst (IsLegalWithoutCounts g) (sym past) sound.legal;
       parts = (
         found.0,
-        restacked-sound g s l who found.1 s' found.0
-            (exchanges-restacks g s l who s' seat pile new found.1 found.0 old has found.2 step) old,
+        restacked-sound g s l caller found.1 s' found.0
+            (exchanges-restacks g s l caller s' seat pile new found.1 found.0 old has found.2 step) old,
       );
     }
 
 -- who may go on, and scans nothing, may stand there
 may-stand :
-    (g : Geometry) (s : State) (l : Lists) (who : ℕ) (a b : ErrandFields) → MayGoOn g s l who a b → PointGoes g s l who a.point b.point
-    → b.cleared ≡ a.cleared → MayStand g s l who a b
-may-stand g s l who a b m goes cleared = record {
+    (g : Geometry) (s : State) (l : Lists) (caller : ℕ) (a b : ErrandFields) → MayGoOn g s l caller a b → PointGoes g s l caller a.point b.point
+    → b.cleared ≡ a.cleared → MayStand g s l caller a b
+may-stand g s l caller a b m goes cleared = record {
   rule = m.rule;
   kept = m.kept;
   retired = m.retired;
@@ -466,22 +466,22 @@ may-stand g s l who a b m goes cleared = record {
 
 -- a step from a point to a point is such an exchange
 shifts-exchanges :
-    (g : Geometry) (s : State) (l : Lists) (who : ℕ) (q : Point) (seat : SeatFields) (pile : Pile) (new : HeadFields)
-    (l' : Lists) → IsSoundWith g s l → who < g.callers → ShiftsHead g s l who (s.errand who).point q seat pile new l'
-    → Exchanges g s l who seat pile new (at_point (s.errand who) (found_at s who) q) l'
-shifts-exchanges g s l who q seat pile new l' old has h =
-    let e = at_point (s.errand who) (found_at s who) q in
-    let after : settle_of (s.errand who) (found_at s who) ≡ e = settle-leads (s.errand who) (found_at s who) q h.leads in
+    (g : Geometry) (s : State) (l : Lists) (caller : ℕ) (q : Point) (seat : SeatFields) (pile : Pile) (new : HeadFields)
+    (l' : Lists) → IsSoundWith g s l → caller < g.callers → ShiftsHead g s l caller (s.errand caller).point q seat pile new l'
+    → Exchanges g s l caller seat pile new (at_point (s.errand caller) (found_at s caller) q) l'
+shifts-exchanges g s l caller q seat pile new l' old has h =
+    let e = at_point (s.errand caller) (found_at s caller) q in
+    let after : settle_of (s.errand caller) (found_at s caller) ≡ e = settle-leads (s.errand caller) (found_at s caller) q h.leads in
     record {
       event = h.event;
       head = h.head;
       after = h.after;
       settles = after;
       may =
-          may-stand g s l who (s.errand who) e
-          (may-after g s l who (found_at s who) q old has (old.words (name_at s who)) after h.cleared
-          (goes-stands g s l who (s.errand who).point q h.goes))
-          h.goes (ap (λ b. raised b (s.errand who).cleared) h.cleared);
+          may-stand g s l caller (s.errand caller) e
+          (may-after g s l caller (found_at s caller) q old has (old.words (name_at s caller)) after h.cleared
+          (goes-stands g s l caller (s.errand caller).point q h.goes))
+          h.goes (ap (λ b. raised b (s.errand caller).cleared) h.cleared);
       list = h.list;
       balanced = record {
         available = h.balanced.available;
@@ -494,20 +494,20 @@ shifts-exchanges g s l who q seat pile new l' old has h =
         stock = λ class. omega (arith, h.balanced.stock class, h.waits class);
       };
       frame_turns = λ words' writes.
-          omega (arith, frame-spends s seat pile (s.errand who).point q new words' h.list.fits writes h.spends h.goes.turn.unframed);
+          omega (arith, frame-spends s seat pile (s.errand caller).point q new words' h.list.fits writes h.spends h.goes.turn.unframed);
       list_turns = λ class words' writes.
-          omega (arith, list-spends s seat pile (s.errand who).point q new words' class h.list.fits writes h.spends h.goes.turn.pops);
+          omega (arith, list-spends s seat pile (s.errand caller).point q new words' class h.list.fits writes h.spends h.goes.turn.pops);
     }
 
 -- it keeps the state sound, with other lists
 pub shifts-sound :
-    (g : Geometry) (s : State) (who : ℕ) (s' : State) (p q : Point) (seat : SeatFields) (pile : Pile) (new : HeadFields) → IsSoundWithoutCounts g s
-    → who < g.callers → (s.errand who).point ≡ p
-    → ((l : Lists) → IsSoundWith g s l → (l' : Lists) × ShiftsHead g s l who p q seat pile new l') → Step s who s' → IsSoundWithoutCounts g s'
-shifts-sound g s who s' p q seat pile new sound has at h step =
-    exchanges-sound g s who s' seat pile new sound has
+    (g : Geometry) (s : State) (caller : ℕ) (s' : State) (p q : Point) (seat : SeatFields) (pile : Pile) (new : HeadFields) → IsSoundWithoutCounts g s
+    → caller < g.callers → (s.errand caller).point ≡ p
+    → ((l : Lists) → IsSoundWith g s l → (l' : Lists) × ShiftsHead g s l caller p q seat pile new l') → Step s caller s' → IsSoundWithoutCounts g s'
+shifts-sound g s caller s' p q seat pile new sound has at h step =
+    exchanges-sound g s caller s' seat pile new sound has
     (λ l old.
     let found = h l old in
-    let shifts : ShiftsHead g s l who (s.errand who).point q seat pile new found.0 =
-    subst (λ r. ShiftsHead g s l who r q seat pile new found.0) (sym at) found.1 in
-    (found.0, at_point (s.errand who) (found_at s who) q, shifts-exchanges g s l who q seat pile new found.0 old has shifts)) step
+    let shifts : ShiftsHead g s l caller (s.errand caller).point q seat pile new found.0 =
+    subst (λ r. ShiftsHead g s l caller r q seat pile new found.0) (sym at) found.1 in
+    (found.0, at_point (s.errand caller) (found_at s caller) q, shifts-exchanges g s l caller q seat pile new found.0 old has shifts)) step

@@ -27,19 +27,19 @@ use Rattle.stack_parts.specs.Stacks.{Stacked, next_in}
 use Rattle.hazard_parts.specs.declared.point.DescPoint.TheVariants as desc
 use Rattle.partial_parts.specs.declared.point.PartialPoint.TheVariants as partial
 use Rattle.errand_steps.specs.declared.next.Next.TheVariants.{At}
-use Rattle.errand_steps.specs.declared.onward.Onward.{Onward}
-use Rattle.errand_steps.specs.declared.onward.Onward.TheVariants as onward
+use Rattle.errand_steps.specs.declared.continuation.Continuation.{Continuation}
+use Rattle.errand_steps.specs.declared.continuation.Continuation.TheVariants as continuation
 use Rattle.errand_steps.specs.declared.point.Point.{Point}
 use Rattle.errand_steps.specs.declared.point.Point.TheVariants.{Idle, Block, Stack, Desc, Partial}
 use Rattle.errand_steps.specs.Events.{event_of}
 use Rattle.errand_steps.specs.Nexts.{next_of, popped, put_away}
-use Rattle.errand_steps.specs.Onwards.{pops, pushes}
+use Rattle.errand_steps.specs.Continuations.{pops, pushes}
 use Rattle.errand_steps.specs.Points.{plan_point_of}
 use Rattle.errand_steps.specs.Steps.{State, Step}
 use Rattle.sound_state.specs.Holdings.{Holding, Kept, holds_of, partly_used}
 use Rattle.sound_state.specs.Keepers.{IsKeptAs, IsPartlyUsed}
 use Rattle.sound_state.specs.Lists.{Lists, IsListed}
-use Rattle.sound_state.specs.Recalls.{IsSo, list_of, onward_recalls, recalls_of, nexts, tops, tops_exist, says, made}
+use Rattle.sound_state.specs.Recalls.{IsSo, list_of, continuation_recalls, recalls_of, nexts, tops, tops_exist, says, made}
 use Rattle.sound_state.specs.Sound.{IsSoundWithoutCounts, IsSoundWith}
 use Rattle.sound_state.specs.Stock.{waits_in}
 use Rattle.sound_state.proofs.shared.PointLemmas.{HoldsAlike, alike-goes, fits-at, kept-at, so-at}
@@ -173,7 +173,7 @@ in-hand s seat Partials x a b more kept is =
     (subst (AreKept s) more.0 kept)
 
 -- where a won pop leads, and what the caller holds and remembers there
-record PopLeads (seat : SeatFields) (pile : Pile) (h : HeadFields) (below : ℕ) (o : Onward) (q : Point) : Type 0 where
+record PopLeads (seat : SeatFields) (pile : Pile) (h : HeadFields) (below : ℕ) (o : Continuation) (q : Point) : Type 0 where
   next : popped seat (h.top - 1) o ≡ At q
   holds : HoldsAlike (Stack (stack.PopTop seat pile h below) o) q
   more : HoldsMore seat pile (h.top - 1) (holds_of (Stack (stack.PopTop seat pile h below) o)) (holds_of q)
@@ -184,30 +184,30 @@ record PopLeads (seat : SeatFields) (pile : Pile) (h : HeadFields) (below : ℕ)
 
 -- what is remembered after a pop is so: no link is stored yet
 pop-recalls :
-    (g : Geometry) (s : State) (l : Lists) (who : ℕ) (q : Point)
-    → (recalls_of q ≡ []) ⊎ ((frame : ℕ) × (class : ℕ) × (recalls_of q ≡ made frame class 0 ∷ [])) → All (IsSo g s l who) (recalls_of q)
-pop-recalls g s l who q (inl none) = subst (All (IsSo g s l who)) (sym none) (All-nil (IsSo g s l who))
-pop-recalls g s l who q (inr one) =
-    subst (All (IsSo g s l who)) (sym one.2)
-    (All-cons (IsSo g s l who) (made one.0 one.1 0) [] (λ i below. let bad : ⊥ = omega (arith, below) in absurd bad) (All-nil (IsSo g s l who)))
+    (g : Geometry) (s : State) (l : Lists) (caller : ℕ) (q : Point)
+    → (recalls_of q ≡ []) ⊎ ((frame : ℕ) × (class : ℕ) × (recalls_of q ≡ made frame class 0 ∷ [])) → All (IsSo g s l caller) (recalls_of q)
+pop-recalls g s l caller q (inl none) = subst (All (IsSo g s l caller)) (sym none) (All-nil (IsSo g s l caller))
+pop-recalls g s l caller q (inr one) =
+    subst (All (IsSo g s l caller)) (sym one.2)
+    (All-cons (IsSo g s l caller) (made one.0 one.1 0) [] (λ i below. let bad : ⊥ = omega (arith, below) in absurd bad) (All-nil (IsSo g s l caller)))
 
 -- a won pop that leads there
 pop-leads-sound :
-    (g : Geometry) (s : State) (who : ℕ) (s' : State) (seat : SeatFields) (pile : Pile) (h : HeadFields) (below : ℕ) (o : Onward) (q : Point)
-    → PopLeads seat pile h below o q → IsSoundWithoutCounts g s → who < g.callers → (s.errand who).point ≡ Stack (stack.PopTop seat pile h below) o
-    → s.word (head_name seat pile) ≡ head_word h → Step s who s' → IsSoundWithoutCounts g s'
+    (g : Geometry) (s : State) (caller : ℕ) (s' : State) (seat : SeatFields) (pile : Pile) (h : HeadFields) (below : ℕ) (o : Continuation) (q : Point)
+    → PopLeads seat pile h below o q → IsSoundWithoutCounts g s → caller < g.callers → (s.errand caller).point ≡ Stack (stack.PopTop seat pile h below) o
+    → s.word (head_name seat pile) ≡ head_word h → Step s caller s' → IsSoundWithoutCounts g s'
 unfolding plan_point_of next_of event_of recalls_of
-pop-leads-sound g s who s' seat pile h below o q to sound has at word step =
+pop-leads-sound g s caller s' seat pile h below o q to sound has at word step =
     let p : Point = Stack (stack.PopTop seat pile h below) o in
     let new : HeadFields = record { top = below; tag = h.tag + 1 } in
     let won : (s.word (head_name seat pile) == head_word h) ≡ true = eq-eqb (s.word (head_name seat pile)) (head_word h) word in
-    shifts-sound g s who s' p q seat pile new sound has at
+    shifts-sound g s caller s' p q seat pile new sound has at
     (λ l old.
-    let fit = fits-at g s l who p old has at in
+    let fit = fits-at g s l caller p old has at in
     let class : seat.class < CLASSES = fit.point.0.seat.class in
     let before : head_of (s.word (head_name seat pile)) ≡ h = ap head_of word ∙ head_of-head_word h fit.point.0.head in
-    let so = so-at g s l who p old has at in
-    let next = All-head (IsSo g s l who) (nexts seat pile h below) (tops seat pile h ∷ onward_recalls seat o) so in
+    let so = so-at g s l caller p old has at in
+    let next = All-head (IsSo g s l caller) (nexts seat pile h below) (tops seat pile h ∷ continuation_recalls seat o) so in
     let below_is : s.word (next_name pile (h.top - 1)) ≡ below = next (sym (ap (λ x. x.tag) before)) in
     let stacked : Stacked (next_in s.word pile) h.top (list_of l seat pile) =
     subst (λ x. Stacked (next_in s.word pile) x.top (list_of l seat pile)) before (pile-stacked g s l seat pile old.listed class) in
@@ -230,10 +230,10 @@ pop-leads-sound g s who s' seat pile h below o q to sound has at word step =
         head = refl;
         after = rw won (ap head_word uncut);
         goes =
-            alike-goes g s l who p q old has at to.holds
+            alike-goes g s l caller p q old has at to.holds
             (keeps-more s seat pile (h.top - 1) (holds_of p) (holds_of q) to.more
-            (λ is. All-head (λ d. IsPartlyUsed s d seat.class) (h.top - 1) top.rest (partly is)) (kept-at g s l who p old has at))
-            (pop-recalls g s l who q to.recalls);
+            (λ is. All-head (λ d. IsPartlyUsed s d seat.class) (h.top - 1) top.rest (partly is)) (kept-at g s l caller p old has at))
+            (pop-recalls g s l caller q to.recalls);
         list = record {
           fits = fits;
           listed = λ words' writes.
@@ -256,17 +256,17 @@ pop-leads-sound g s who s' seat pile h below o q to sound has at word step =
     )) step
 
 -- a frame is popped for a new superblock; a partial superblock is taken, or cleared from its list
-abbrev popped_to : SeatFields → HeadFields → Onward → Point
-popped_to seat h (onward.TakeFrame words d) =
-    Block (block.LinkBlock (record { seat = seat; desc = d; frame = h.top - 1 }) 0) (onward.Alloc words)
-popped_to seat h (onward.Alloc words) = Partial (partial.LoadTakenInfo seat (h.top - 1)) (onward.Alloc words)
+abbrev popped_to : SeatFields → HeadFields → Continuation → Point
+popped_to seat h (continuation.TakeFrame words d) =
+    Block (block.LinkBlock (record { seat = seat; desc = d; frame = h.top - 1 }) 0) (continuation.Alloc words)
+popped_to seat h (continuation.Alloc words) = Partial (partial.LoadTakenInfo seat (h.top - 1)) (continuation.Alloc words)
 popped_to seat h o = Partial (partial.LoadListedAnchor seat (h.top - 1)) o
 
 pop-leads :
-    (seat : SeatFields) (pile : Pile) (h : HeadFields) (below : ℕ) (o : Onward) → pops pile o ≡ true
+    (seat : SeatFields) (pile : Pile) (h : HeadFields) (below : ℕ) (o : Continuation) → pops pile o ≡ true
     → PopLeads seat pile h below o (popped_to seat h o)
 unfolding holds_of recalls_of
-pop-leads seat Frames h below (onward.TakeFrame words d) is = record {
+pop-leads seat Frames h below (continuation.TakeFrame words d) is = record {
   next = refl;
   holds = grind (arith);
   more = (refl, refl);
@@ -275,9 +275,9 @@ pop-leads seat Frames h below (onward.TakeFrame words d) is = record {
   recalls = inr (h.top - 1, seat.class, refl);
   spends = omega arith;
 }
-pop-leads seat Partials h below (onward.Alloc words) is = grind (arith)
-pop-leads seat Partials h below onward.Clear is = grind (arith)
-pop-leads seat Partials h below (onward.ClearSecond first) is = grind (arith)
+pop-leads seat Partials h below (continuation.Alloc words) is = grind (arith)
+pop-leads seat Partials h below continuation.Clear is = grind (arith)
+pop-leads seat Partials h below (continuation.ClearSecond first) is = grind (arith)
 pop-leads seat pile h below o is = absurd (cc)
 
 -- what holds is true
@@ -286,33 +286,33 @@ holds-true b is = grind (arith, is)
 
 -- a won pop from a stack
 pub pop_top_won-sound :
-    (g : Geometry) (s : State) (who : ℕ) (s' : State) (seat : SeatFields) (pile : Pile) (h : HeadFields) (below : ℕ) (o : Onward)
-    → IsSoundWithoutCounts g s → who < g.callers → (s.errand who).point ≡ Stack (stack.PopTop seat pile h below) o
-    → s.word (head_name seat pile) ≡ head_word h → Step s who s' → IsSoundWithoutCounts g s'
-pop_top_won-sound g s who s' seat pile h below o sound has at word step =
-    let fit = fits-at g s sound.parts.0 who (Stack (stack.PopTop seat pile h below) o) sound.parts.1 has at in
-    pop-leads-sound g s who s' seat pile h below o (popped_to seat h o) (pop-leads seat pile h below o (holds-true (pops pile o) fit.goes))
+    (g : Geometry) (s : State) (caller : ℕ) (s' : State) (seat : SeatFields) (pile : Pile) (h : HeadFields) (below : ℕ) (o : Continuation)
+    → IsSoundWithoutCounts g s → caller < g.callers → (s.errand caller).point ≡ Stack (stack.PopTop seat pile h below) o
+    → s.word (head_name seat pile) ≡ head_word h → Step s caller s' → IsSoundWithoutCounts g s'
+pop_top_won-sound g s caller s' seat pile h below o sound has at word step =
+    let fit = fits-at g s sound.parts.0 caller (Stack (stack.PopTop seat pile h below) o) sound.parts.1 has at in
+    pop-leads-sound g s caller s' seat pile h below o (popped_to seat h o) (pop-leads seat pile h below o (holds-true (pops pile o) fit.goes))
     sound has at word step
 
 -- won or lost
 pub pop_top-sound :
-    (g : Geometry) (s : State) (who : ℕ) (s' : State) (seat : SeatFields) (pile : Pile) (h : HeadFields) (below : ℕ) (o : Onward)
-    → IsSoundWithoutCounts g s → who < g.callers → (s.errand who).point ≡ Stack (stack.PopTop seat pile h below) o → Step s who s'
+    (g : Geometry) (s : State) (caller : ℕ) (s' : State) (seat : SeatFields) (pile : Pile) (h : HeadFields) (below : ℕ) (o : Continuation)
+    → IsSoundWithoutCounts g s → caller < g.callers → (s.errand caller).point ≡ Stack (stack.PopTop seat pile h below) o → Step s caller s'
     → IsSoundWithoutCounts g s'
-pop_top-sound g s who s' seat pile h below o sound has at step =
+pop_top-sound g s caller s' seat pile h below o sound has at step =
     elim (cases_eq (s.word (head_name seat pile)) (head_word h)) [
-      | inl won ↦ pop_top_won-sound g s who s' seat pile h below o sound has at won step
-      | inr lost ↦ pop_top_lost-sound g s who s' seat pile h below o sound has at lost step
+      | inl won ↦ pop_top_won-sound g s caller s' seat pile h below o sound has at won step
+      | inr lost ↦ pop_top_lost-sound g s caller s' seat pile h below o sound has at lost step
     ]
 
 -- where a won push leads, and what the caller holds and remembers there
-record PushLeads (seat : SeatFields) (pile : Pile) (i : ℕ) (h : HeadFields) (o : Onward) (q : Point) : Type 0 where
+record PushLeads (seat : SeatFields) (pile : Pile) (i : ℕ) (h : HeadFields) (o : Continuation) (q : Point) : Type 0 where
   next : LeadsTo (put_away seat o) q
   holds : HoldsAlike (Stack (stack.PushTop seat pile i h) o) q
   more : HoldsMore seat pile i (holds_of q) (holds_of (Stack (stack.PushTop seat pile i h) o))
   credits : (holds_of q).credits ≡ (holds_of (Stack (stack.PushTop seat pile i h) o)).credits
   waits : (class : ℕ) → waits_in class q ≡ 0
-  recalls : recalls_of q ≡ onward_recalls seat o
+  recalls : recalls_of q ≡ continuation_recalls seat o
 
 -- a tag that stays costs nothing
 push-spends : (pile : Pile) (t : ℕ) (p q : Point) → TurnGoes p q → PaysForTag pile t t p q
@@ -324,8 +324,8 @@ abbrev pub head_pushed : ℕ → HeadFields → HeadFields
 head_pushed i h = record { top = i + 1; tag = h.tag }
 
 -- what a won push finds and leaves: its index in front of the list, which is one of the heap's
-pub record PushesOn (g : Geometry) (s : State) (l : Lists) (who : ℕ) (seat : SeatFields) (pile : Pile) (i : ℕ) (h : HeadFields)
-    (o : Onward) : Type 0 where
+pub record PushesOn (g : Geometry) (s : State) (l : Lists) (caller : ℕ) (seat : SeatFields) (pile : Pile) (i : ℕ) (h : HeadFields)
+    (o : Continuation) : Type 0 where
   pub won : (s.word (head_name seat pile) == head_word h) ≡ true
   pub class : seat.class < CLASSES
   pub before : head_of (s.word (head_name seat pile)) ≡ h
@@ -334,21 +334,21 @@ pub record PushesOn (g : Geometry) (s : State) (l : Lists) (who : ℕ) (seat : S
   pub list :
       (pile ≡ Partials → IsPartlyUsed s i seat.class)
       → NewList g s l seat pile (head_pushed i h) (with_list l seat pile (i ∷ list_of l seat pile))
-  pub so : All (IsSo g s l who) (onward_recalls seat o)
+  pub so : All (IsSo g s l caller) (continuation_recalls seat o)
 
 pub pushes-on :
-    (g : Geometry) (s : State) (l : Lists) (who : ℕ) (seat : SeatFields) (pile : Pile) (i : ℕ) (h : HeadFields) (o : Onward)
-    → IsSoundWithoutCounts g s → IsSoundWith g s l → who < g.callers → (s.errand who).point ≡ Stack (stack.PushTop seat pile i h) o
-    → s.word (head_name seat pile) ≡ head_word h → PushesOn g s l who seat pile i h o
+    (g : Geometry) (s : State) (l : Lists) (caller : ℕ) (seat : SeatFields) (pile : Pile) (i : ℕ) (h : HeadFields) (o : Continuation)
+    → IsSoundWithoutCounts g s → IsSoundWith g s l → caller < g.callers → (s.errand caller).point ≡ Stack (stack.PushTop seat pile i h) o
+    → s.word (head_name seat pile) ≡ head_word h → PushesOn g s l caller seat pile i h o
 unfolding recalls_of
-pushes-on g s l who seat pile i h o sound old has at word =
+pushes-on g s l caller seat pile i h o sound old has at word =
     let p : Point = Stack (stack.PushTop seat pile i h) o in
     let new : HeadFields = head_pushed i h in
-    let fit = fits-at g s l who p old has at in
+    let fit = fits-at g s l caller p old has at in
     let class : seat.class < CLASSES = fit.point.0.seat.class in
     let before : head_of (s.word (head_name seat pile)) ≡ h = ap head_of word ∙ head_of-head_word h fit.point.1 in
-    let so = so-at g s l who p old has at in
-    let said = All-head (IsSo g s l who) (says (next_name pile i) h.top) (tops_exist seat pile h ∷ onward_recalls seat o) so in
+    let so = so-at g s l caller p old has at in
+    let said = All-head (IsSo g s l caller) (says (next_name pile i) h.top) (tops_exist seat pile h ∷ continuation_recalls seat o) so in
     let xs : List ℕ = list_of l seat pile in
     let stacked : Stacked (next_in s.word pile) h.top xs =
     subst (λ x. Stacked (next_in s.word pile) x.top xs) before (pile-stacked g s l seat pile old.listed class) in
@@ -375,23 +375,23 @@ pushes-on g s l who seat pile i h o sound old has at word =
         others = list-elsewhere l seat pile (i ∷ xs);
       };
       so =
-          All-tail (IsSo g s l who) (tops_exist seat pile h) (onward_recalls seat o)
-          (All-tail (IsSo g s l who) (says (next_name pile i) h.top) (tops_exist seat pile h ∷ onward_recalls seat o) so);
+          All-tail (IsSo g s l caller) (tops_exist seat pile h) (continuation_recalls seat o)
+          (All-tail (IsSo g s l caller) (says (next_name pile i) h.top) (tops_exist seat pile h ∷ continuation_recalls seat o) so);
     }
 
 -- a won push that leads there
 push-leads-sound :
-    (g : Geometry) (s : State) (who : ℕ) (s' : State) (seat : SeatFields) (pile : Pile) (i : ℕ) (h : HeadFields) (o : Onward) (q : Point)
-    → PushLeads seat pile i h o q → IsSoundWithoutCounts g s → who < g.callers → (s.errand who).point ≡ Stack (stack.PushTop seat pile i h) o
-    → s.word (head_name seat pile) ≡ head_word h → Step s who s' → IsSoundWithoutCounts g s'
+    (g : Geometry) (s : State) (caller : ℕ) (s' : State) (seat : SeatFields) (pile : Pile) (i : ℕ) (h : HeadFields) (o : Continuation) (q : Point)
+    → PushLeads seat pile i h o q → IsSoundWithoutCounts g s → caller < g.callers → (s.errand caller).point ≡ Stack (stack.PushTop seat pile i h) o
+    → s.word (head_name seat pile) ≡ head_word h → Step s caller s' → IsSoundWithoutCounts g s'
 unfolding plan_point_of next_of event_of
-push-leads-sound g s who s' seat pile i h o q to sound has at word step =
+push-leads-sound g s caller s' seat pile i h o q to sound has at word step =
     let p : Point = Stack (stack.PushTop seat pile i h) o in
-    shifts-sound g s who s' p q seat pile (head_pushed i h) sound has at
+    shifts-sound g s caller s' p q seat pile (head_pushed i h) sound has at
     (λ l old.
-    let on = pushes-on g s l who seat pile i h o sound old has at word in
+    let on = pushes-on g s l caller seat pile i h o sound old has at word in
     let l' : Lists = with_list l seat pile (i ∷ list_of l seat pile) in
-    let kept = kept-at g s l who p old has at in (
+    let kept = kept-at g s l caller p old has at in (
       l',
       record {
         leads = rw on.won to.next;
@@ -400,8 +400,8 @@ push-leads-sound g s who s' seat pile i h o q to sound has at word step =
         head = refl;
         after = rw on.won (ap head_word on.uncut);
         goes =
-            alike-goes g s l who p q old has at to.holds (keeps-less s seat pile i (holds_of q) (holds_of p) to.more kept)
-            (subst (All (IsSo g s l who)) (sym to.recalls) on.so);
+            alike-goes g s l caller p q old has at to.holds (keeps-less s seat pile i (holds_of q) (holds_of p) to.more kept)
+            (subst (All (IsSo g s l caller)) (sym to.recalls) on.so);
         list = on.list (in-hand s seat pile i (holds_of q) (holds_of p) to.more kept);
         balanced =
             balance-back l' l (holds_of q) (holds_of p) (more-balanced seat pile i l' l (holds_of q) (holds_of p) on.class on.one to.more);
@@ -412,37 +412,37 @@ push-leads-sound g s who s' seat pile i h o q to sound has at word step =
     )) step
 
 -- the block is handed out; the hazard word is cleared; the first of two goes back, too; the superblock is looked for in its slot; or the call ends
-abbrev pushed_to : SeatFields → Onward → Point
-pushed_to seat (onward.GiveBlock words at k) = Block (block.StorePrefix at k) (onward.Alloc words)
-pushed_to seat (onward.Finish true) = Desc (desc.ClearHazard seat) onward.EndFree
-pushed_to seat (onward.PushFirst first) = Stack (stack.LoadTopToPush seat Partials first) onward.EndFree
-pushed_to seat (onward.Remove d heap) = Partial (partial.LoadHeldSlot seat d heap) onward.Free
+abbrev pushed_to : SeatFields → Continuation → Point
+pushed_to seat (continuation.GiveBlock words at k) = Block (block.StorePrefix at k) (continuation.Alloc words)
+pushed_to seat (continuation.Finish true) = Desc (desc.ClearHazard seat) continuation.EndFree
+pushed_to seat (continuation.PushFirst first) = Stack (stack.LoadTopToPush seat Partials first) continuation.EndFree
+pushed_to seat (continuation.Remove d heap) = Partial (partial.LoadHeldSlot seat d heap) continuation.Free
 pushed_to seat o = Idle
 
 -- the continuations of a push after which nothing is retired
-abbrev pub keeps_list : Onward → Bool
-keeps_list (onward.Discard words d) = false
-keeps_list (onward.Retire d) = false
+abbrev pub keeps_list : Continuation → Bool
+keeps_list (continuation.Discard words d) = false
+keeps_list (continuation.Retire d) = false
 keeps_list o = true
 
 push-leads :
-    (seat : SeatFields) (pile : Pile) (i : ℕ) (h : HeadFields) (o : Onward) → pushes pile o ≡ true → keeps_list o ≡ true
+    (seat : SeatFields) (pile : Pile) (i : ℕ) (h : HeadFields) (o : Continuation) → pushes pile o ≡ true → keeps_list o ≡ true
     → PushLeads seat pile i h o (pushed_to seat o)
 unfolding holds_of recalls_of
-push-leads seat Partials i h (onward.GiveBlock words at k) is goes = grind (arith)
-push-leads seat Partials i h (onward.Finish true) is goes = grind (arith)
-push-leads seat Partials i h (onward.Finish false) is goes = grind (arith)
-push-leads seat Partials i h onward.EndFree is goes = grind (arith)
-push-leads seat Partials i h (onward.PushFirst first) is goes = grind (arith)
-push-leads seat Frames i h (onward.Remove d heap) is goes = grind (arith)
+push-leads seat Partials i h (continuation.GiveBlock words at k) is goes = grind (arith)
+push-leads seat Partials i h (continuation.Finish true) is goes = grind (arith)
+push-leads seat Partials i h (continuation.Finish false) is goes = grind (arith)
+push-leads seat Partials i h continuation.EndFree is goes = grind (arith)
+push-leads seat Partials i h (continuation.PushFirst first) is goes = grind (arith)
+push-leads seat Frames i h (continuation.Remove d heap) is goes = grind (arith)
 push-leads seat pile i h o is goes = absurd (cc)
 
 -- a won push onto a stack, after which nothing is retired
 pub push_going_on-sound :
-    (g : Geometry) (s : State) (who : ℕ) (s' : State) (seat : SeatFields) (pile : Pile) (i : ℕ) (h : HeadFields) (o : Onward)
-    → IsSoundWithoutCounts g s → who < g.callers → (s.errand who).point ≡ Stack (stack.PushTop seat pile i h) o → keeps_list o ≡ true
-    → s.word (head_name seat pile) ≡ head_word h → Step s who s' → IsSoundWithoutCounts g s'
-push_going_on-sound g s who s' seat pile i h o sound has at goes word step =
-    let fit = fits-at g s sound.parts.0 who (Stack (stack.PushTop seat pile i h) o) sound.parts.1 has at in
-    push-leads-sound g s who s' seat pile i h o (pushed_to seat o) (push-leads seat pile i h o (holds-true (pushes pile o) fit.goes) goes)
+    (g : Geometry) (s : State) (caller : ℕ) (s' : State) (seat : SeatFields) (pile : Pile) (i : ℕ) (h : HeadFields) (o : Continuation)
+    → IsSoundWithoutCounts g s → caller < g.callers → (s.errand caller).point ≡ Stack (stack.PushTop seat pile i h) o → keeps_list o ≡ true
+    → s.word (head_name seat pile) ≡ head_word h → Step s caller s' → IsSoundWithoutCounts g s'
+push_going_on-sound g s caller s' seat pile i h o sound has at goes word step =
+    let fit = fits-at g s sound.parts.0 caller (Stack (stack.PushTop seat pile i h) o) sound.parts.1 has at in
+    push-leads-sound g s caller s' seat pile i h o (pushed_to seat o) (push-leads seat pile i h o (holds-true (pushes pile o) fit.goes) goes)
     sound has at word step

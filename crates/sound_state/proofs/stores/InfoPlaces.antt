@@ -15,7 +15,7 @@ use Rattle.word_plan.specs.Seats.{info_in}
 use Rattle.word_plan.specs.Words.{Writes}
 use Rattle.word_plan.specs.Occurs.{occurs}
 use Rattle.superblock_parts.specs.declared.point.BlockPoint.TheVariants as block
-use Rattle.errand_steps.specs.declared.onward.Onward.{Onward}
+use Rattle.errand_steps.specs.declared.continuation.Continuation.{Continuation}
 use Rattle.errand_steps.specs.declared.point.Point.TheVariants as point
 use Rattle.errand_steps.specs.Steps.{State}
 use Rattle.sound_state.specs.Holdings.{Kept, Status, reserving, waiting, partly_used, on_its_way, holds_of}
@@ -92,7 +92,7 @@ still-kept s w d (k ∷ ks) other r v p = (
 pub placed-kept :
     (g : Geometry) (s : State) (l : Lists) (d new : ℕ) (words' : WordName → ℕ) → IsSoundWith g s l → new < 2 ^ 64
     → IsSome (info_in g new) → Writes s.word (name.Info d) new words' → IsPlaceKept s words' d
-    → ((i : ℕ) → i < g.callers → (at : Site) (o : Onward) → (s.errand i).point ≡ point.Block (block.StoreAnchor at) o → at.desc ≢ d)
+    → ((i : ℕ) → i < g.callers → (at : Site) (o : Continuation) → (s.errand i).point ≡ point.Block (block.StoreAnchor at) o → at.desc ≢ d)
     → LoneKept g s l words'
 placed-kept g s l d new words' old below some w here apart =
     let place : (e : ℕ) → IsPlaceKept s words' e =

@@ -17,7 +17,7 @@ use Rattle.word_plan.specs.Sites.{info_at, IsSiteOf}
 use Rattle.word_plan.specs.Words.{Writes}
 use Rattle.superblock_parts.specs.declared.point.BlockPoint.TheVariants as block
 use Rattle.partial_parts.specs.declared.point.PartialPoint.TheVariants as partial
-use Rattle.errand_steps.specs.declared.onward.Onward.{Onward}
+use Rattle.errand_steps.specs.declared.continuation.Continuation.{Continuation}
 use Rattle.errand_steps.specs.declared.point.Point.{Point}
 use Rattle.errand_steps.specs.declared.point.Point.TheVariants.{Block, Partial}
 use Rattle.errand_steps.specs.Events.{event_of}
@@ -46,52 +46,52 @@ within-some g i in_frames in_heaps =
     let heap : nat_lt i.heap g.heaps ≡ true = lt-ltb i.heap g.heaps in_heaps in
     grind (arith, frame, heap)
 
-site-some : (g : Geometry) (who : ℕ) (at : Site) → IsChecked g → IsSiteOf g who at → IsSome (info_in g (info_word (info_at at)))
-site-some g who at checked site =
-    subst (λ i. IsSome (info_within g i)) (sym (info-exact.back (info_at at) (site-info g who at checked site)))
-    (within-some g (info_at at) site.frame (site-heap g who at checked site))
+site-some : (g : Geometry) (caller : ℕ) (at : Site) → IsChecked g → IsSiteOf g caller at → IsSome (info_in g (info_word (info_at at)))
+site-some g caller at checked site =
+    subst (λ i. IsSome (info_within g i)) (sym (info-exact.back (info_at at) (site-info g caller at checked site)))
+    (within-some g (info_at at) site.frame (site-heap g caller at checked site))
 
 -- nobody else is about to store the anchor of a descriptor that a caller has elsewhere
 anchor-apart :
-    (g : Geometry) (s : State) (l : Lists) (who d i : ℕ) (at : Site) (o : Onward) → IsSoundWith g s l → who < g.callers → i < g.callers
-    → d < descriptor_count g → 1 ≤ errand_has d (s.errand who)
-    → ((s.errand who).point ≡ Block (block.StoreAnchor at) o → ⊥) → (s.errand i).point ≡ Block (block.StoreAnchor at) o → at.desc ≢ d
+    (g : Geometry) (s : State) (l : Lists) (caller d i : ℕ) (at : Site) (o : Continuation) → IsSoundWith g s l → caller < g.callers → i < g.callers
+    → d < descriptor_count g → 1 ≤ errand_has d (s.errand caller)
+    → ((s.errand caller).point ≡ Block (block.StoreAnchor at) o → ⊥) → (s.errand i).point ≡ Block (block.StoreAnchor at) o → at.desc ≢ d
 unfolding holds_of
-anchor-apart g s l who d i at o old has has_i exists mine elsewhere stands same =
+anchor-apart g s l caller d i at o old has has_i exists mine elsewhere stands same =
     let his : 1 ≤ errand_has d (s.errand i) =
     subst (λ k. 1 ≤ errand_has k (s.errand i)) same
     (has-at (s.errand i) (Block (block.StoreAnchor at) o) on_its_way at.desc stands (kept-itself on_its_way at.desc at.seat.class)) in
-    elsewhere (subst (λ k. (s.errand k).point ≡ Block (block.StoreAnchor at) o) (only-one g s l who i d old has has_i exists mine his) stands)
+    elsewhere (subst (λ k. (s.errand k).point ≡ Block (block.StoreAnchor at) o) (only-one g s l caller i d old has has_i exists mine his) stands)
 
 -- the processor heap of a partial superblock that was taken
 pub store_owner-sound :
-    (g : Geometry) (s : State) (who : ℕ) (s' : State) (site : Site) (o : Onward) → IsSoundWithoutCounts g s → who < g.callers
-    → (s.errand who).point ≡ Partial (partial.StoreOwner site) o → Step s who s' → IsSoundWithoutCounts g s'
+    (g : Geometry) (s : State) (caller : ℕ) (s' : State) (site : Site) (o : Continuation) → IsSoundWithoutCounts g s → caller < g.callers
+    → (s.errand caller).point ≡ Partial (partial.StoreOwner site) o → Step s caller s' → IsSoundWithoutCounts g s'
 unfolding plan_point_of next_of event_of holds_of recalls_of
-store_owner-sound g s who s' site o sound has at step =
+store_owner-sound g s caller s' site o sound has at step =
     let p = Partial (partial.StoreOwner site) o in
     let q = Partial (partial.LoadGrantAnchor site) o in
     let d = site.desc in
     let new = info_word (info_at site) in
-    let w : Writes s.word (name.Info d) new s'.word = written-at s who s' p at step in
-    let fit : IsSiteOf g who site = (fits-at g s sound.parts.0 who p sound.parts.1 has at).point in
-    let is_info = site-info g who site sound.checked fit in
+    let w : Writes s.word (name.Info d) new s'.word = written-at s caller s' p at step in
+    let fit : IsSiteOf g caller site = (fits-at g s sound.parts.0 caller p sound.parts.1 has at).point in
+    let is_info = site-info g caller site sound.checked fit in
     let back : info_of (s'.word (name.Info d)) ≡ Some (info_at site) =
     ap info_of w.here ∙ info-exact.back (info_at site) is_info in
-    store-sound g s who s' p q (name.Info d) new sound has at
+    store-sound g s caller s' p q (name.Info d) new sound has at
     (record {
       stores = record { plan = refl; next = λ v. refl; event = λ v. refl; lost = λ v. refl; cleared = λ v. refl };
       lone = tt;
       holds = grind (arith);
       kept = λ l old.
           let lies : IsLocated s d site.frame site.seat.class =
-          All-head (IsSo g s l who) (located d site.frame site.seat.class) [] (so-at g s l who p old has at) in
-          placed-kept g s l d new s'.word old (info-exact.fits (info_at site) is_info) (site-some g who site sound.checked fit) w
+          All-head (IsSo g s l caller) (located d site.frame site.seat.class) [] (so-at g s l caller p old has at) in
+          placed-kept g s l d new s'.word old (info-exact.fits (info_at site) is_info) (site-some g caller site sound.checked fit) w
           (ap (λ i. (info_or_zero i).frame) back ∙ sym lies.frame, ap (λ i. (info_or_zero i).class) back ∙ sym lies.class)
           (λ i has_i other o'.
-          anchor-apart g s l who d i other o' old has has_i fit.desc (has-at (s.errand who) p partly_used d at (kept-itself partly_used d site.seat.class))
+          anchor-apart g s l caller d i other o' old has has_i fit.desc (has-at (s.errand caller) p partly_used d at (kept-itself partly_used d site.seat.class))
           (λ stands. let both : p ≡ Block (block.StoreAnchor other) o' = sym at ∙ stands in cc));
-      so = λ l old. so-at g (between s s'.word) l who p old has at;
+      so = λ l old. so-at g (between s s'.word) l caller p old has at;
     })
     step
 
@@ -111,7 +111,7 @@ unkept-place g s l i d new at words' p has stands some w free =
 unplaced-unread :
     (g : Geometry) (s : State) (l : Lists) (i d new : ℕ) (words' : WordName → ℕ) (p : Point) → i < g.callers → (s.errand i).point ≡ p
     → Writes s.word (name.Info d) new words' → IsUnplaced g s l d
-    → ((at : Site) (o : Onward) → p ≡ Block (block.StoreAnchor at) o → at.desc ≢ d) → IsPlaceUnread s words' (name.Info d) p
+    → ((at : Site) (o : Continuation) → p ≡ Block (block.StoreAnchor at) o → at.desc ≢ d) → IsPlaceUnread s words' (name.Info d) p
 unfolding holds_of
 unplaced-unread g s l i d new words' (Block (block.StoreAnchor at) o) has stands w free anchor = λ is. anchor at o refl (ap info_number is)
 unplaced-unread g s l i d new words' (Partial (partial.StoreOwner at) o) has stands w free anchor =
@@ -124,34 +124,34 @@ unplaced-unread g s l i d new words' p has stands w free anchor = tt
 
 -- what the descriptor of a new superblock says
 pub store_info-sound :
-    (g : Geometry) (s : State) (who : ℕ) (s' : State) (site : Site) (o : Onward) → IsSoundWithoutCounts g s → who < g.callers
-    → (s.errand who).point ≡ Block (block.StoreInfo site) o → Step s who s' → IsSoundWithoutCounts g s'
+    (g : Geometry) (s : State) (caller : ℕ) (s' : State) (site : Site) (o : Continuation) → IsSoundWithoutCounts g s → caller < g.callers
+    → (s.errand caller).point ≡ Block (block.StoreInfo site) o → Step s caller s' → IsSoundWithoutCounts g s'
 unfolding plan_point_of next_of event_of holds_of recalls_of
-store_info-sound g s who s' site o sound has at step =
+store_info-sound g s caller s' site o sound has at step =
     let p = Block (block.StoreInfo site) o in
     let q = Block (block.StoreAnchor site) o in
     let d = site.desc in
     let new = info_word (info_at site) in
-    let w : Writes s.word (name.Info d) new s'.word = written-at s who s' p at step in
-    let fit : IsSiteOf g who site = (fits-at g s sound.parts.0 who p sound.parts.1 has at).point in
-    let is_info = site-info g who site sound.checked fit in
-    let way : 1 ≤ errand_keeps on_its_way d (s.errand who) =
-    keeps-at (s.errand who) p on_its_way d at (kept-itself on_its_way d site.seat.class) in
-    store-sound g s who s' p q (name.Info d) new sound has at
+    let w : Writes s.word (name.Info d) new s'.word = written-at s caller s' p at step in
+    let fit : IsSiteOf g caller site = (fits-at g s sound.parts.0 caller p sound.parts.1 has at).point in
+    let is_info = site-info g caller site sound.checked fit in
+    let way : 1 ≤ errand_keeps on_its_way d (s.errand caller) =
+    keeps-at (s.errand caller) p on_its_way d at (kept-itself on_its_way d site.seat.class) in
+    store-sound g s caller s' p q (name.Info d) new sound has at
     (record {
       stores = record { plan = refl; next = λ v. refl; event = λ v. refl; lost = λ v. refl; cleared = λ v. refl };
       lone = tt;
       holds = grind (arith);
       kept = λ l old.
-          let free : IsUnplaced g s l d = way-unplaced g s l who d old has fit.desc way in
-          unplaced-kept g s l d new s'.word old (info-exact.fits (info_at site) is_info) (site-some g who site sound.checked fit) w free
+          let free : IsUnplaced g s l d = way-unplaced g s l caller d old has fit.desc way in
+          unplaced-kept g s l d new s'.word old (info-exact.fits (info_at site) is_info) (site-some g caller site sound.checked fit) w free
           (λ i has_i.
           unplaced-unread g s l i d new s'.word (s.errand i).point has_i refl w free
           (λ other o'.
-          anchor-apart g s l who d i other o' old has has_i fit.desc (omega (arith, way))
+          anchor-apart g s l caller d i other o' old has has_i fit.desc (omega (arith, way))
           (λ stands. let both : p ≡ Block (block.StoreAnchor other) o' = sym at ∙ stands in cc)));
       so = λ l old.
-          All-cons (IsSo g (between s s'.word) l who) (says (name.Info d) new) (made site.frame site.seat.class (block_count_of site.seat.class) ∷ [])
-          (tt, w.here) (so-at g (between s s'.word) l who p old has at);
+          All-cons (IsSo g (between s s'.word) l caller) (says (name.Info d) new) (made site.frame site.seat.class (block_count_of site.seat.class) ∷ [])
+          (tt, w.here) (so-at g (between s s'.word) l caller p old has at);
     })
     step

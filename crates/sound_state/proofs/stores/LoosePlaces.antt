@@ -51,7 +51,7 @@ pub record IsLoose (g : Geometry) (s : State) (l : Lists) (p : ℕ) : Type 0 whe
   pub ties : (b : Block) → IsLive s p b → IsExcepted g s p
   pub contents :
       (place i v : ℕ) (b : Block) → IsLive s place b → slice_index_or b.contents i None ≡ Some v → place + 1 + i ≢ p
-  pub unread : (who : ℕ) → who < g.callers → IsBlockUnread (name.Arena p) (s.errand who).point
+  pub unread : (caller : ℕ) → caller < g.callers → IsBlockUnread (name.Arena p) (s.errand caller).point
 
 -- a write to a place that nobody reads keeps what is read
 pub arena-kept :
@@ -144,21 +144,21 @@ unread-point g s l i p q old has stands fits away = tt
 
 -- the owner of a live small block, which everybody excepts, may store its prefix word
 pub live-loose :
-    (g : Geometry) (s : State) (l : Lists) (who p class : ℕ) → IsSoundWithoutCounts g s → IsSoundWith g s l → who < g.callers
-    → IsOwned s who p (Small class) → IsExcepted g s p → IsBlockUnread (name.Arena p) (s.errand who).point → IsLoose g s l p
-live-loose g s l who p class sound old has owned excepted off = record {
+    (g : Geometry) (s : State) (l : Lists) (caller p class : ℕ) → IsSoundWithoutCounts g s → IsSoundWith g s l → caller < g.callers
+    → IsOwned s caller p (Small class) → IsExcepted g s p → IsBlockUnread (name.Arena p) (s.errand caller).point → IsLoose g s l p
+live-loose g s l caller p class sound old has owned excepted off = record {
   chains = λ d exists bound i on same.
       none-some owned.block.0
       (sym (free-unlive g s sound l old d i exists bound on) ∙ ap (λ q. block_at q (pool_of s.history)) same ∙ owned.block.1);
   ties = λ b live. excepted;
   contents = λ place i v b live of. unwritten-live g s p place i v owned.block.0 b sound owned.block.1 live of;
   unread = λ i has_i.
-      elim (cases_eq i who) [
+      elim (cases_eq i caller) [
         | inl is ↦ subst (λ j. IsBlockUnread (name.Arena p) (s.errand j).point) (sym is) off
         | inr differ ↦
             unread-point g s l i p (s.errand i).point old has_i refl (fits-at g s l i (s.errand i).point old has_i refl)
             (record {
-              owns = λ n theirs. differ (sym (owner-there s i p n theirs) ∙ owner-there s who p (Small class) owned);
+              owns = λ n theirs. differ (sym (owner-there s i p n theirs) ∙ owner-there s caller p (Small class) owned);
               makes = λ f making at.
                   let placed = (formed-at g s p owned.block.0 sound owned.block.1).place in
                   let frame : frame_of owned.block.0.place < g.frames = small-frame g owned.block.0.need class owned.block.0.place owned.block.3 placed in
@@ -171,26 +171,26 @@ live-loose g s l who p class sound old has owned excepted off = record {
 
 -- so may the maker of a superblock store the link of one of its blocks
 pub making-loose :
-    (g : Geometry) (s : State) (l : Lists) (who f class i : ℕ) → IsSoundWithoutCounts g s → IsSoundWith g s l → who < g.callers
-    → f < g.frames → i < block_count_of class → IsMaking s who f → IsBlockUnread (name.Arena (block_place f class i)) (s.errand who).point
+    (g : Geometry) (s : State) (l : Lists) (caller f class i : ℕ) → IsSoundWithoutCounts g s → IsSoundWith g s l → caller < g.callers
+    → f < g.frames → i < block_count_of class → IsMaking s caller f → IsBlockUnread (name.Arena (block_place f class i)) (s.errand caller).point
     → IsLoose g s l (block_place f class i)
-making-loose g s l who f class i sound old has in_heap within mine off =
+making-loose g s l caller f class i sound old has in_heap within mine off =
     let p = block_place f class i in
     let frame : frame_of p ≡ f = frame_of-block_place f class i within in
     let unlive : (b : Block) → IsLive s p b → ⊥ =
-    λ b live. live-unmade g s l who f p b b.need sound old has in_heap mine live refl frame in
+    λ b live. live-unmade g s l caller f p b b.need sound old has in_heap mine live refl frame in
     record {
       chains = λ d exists bound j on same.
           let inside = (old.chained.chained d exists bound).within j on in
-          making-unbound g s l who f d old has in_heap exists mine bound
+          making-unbound g s l caller f d old has in_heap exists mine bound
           (sym (frame_of-block_place (info_for s d).frame (info_for s d).class j inside) ∙ ap frame_of same ∙ frame);
       ties = λ b live. absurd (unlive b live);
       contents = λ place k v b live of same.
           let there : frame_of (place + 1 + k) ≡ f = ap frame_of same ∙ frame in
-          live-unmade g s l who f place b b.need sound old has in_heap mine live refl
+          live-unmade g s l caller f place b b.need sound old has in_heap mine live refl
           (written-frame g s place k v b b.need sound live refl of (omega (arith, there, in_heap)) ∙ there);
       unread = λ j has_j.
-          elim (cases_eq j who) [
+          elim (cases_eq j caller) [
             | inl is ↦ subst (λ k. IsBlockUnread (name.Arena p) (s.errand k).point) (sym is) off
             | inr differ ↦
                 unread-point g s l j p (s.errand j).point old has_j refl (fits-at g s l j (s.errand j).point old has_j refl)
@@ -198,7 +198,7 @@ making-loose g s l who f class i sound old has in_heap within mine off =
                   owns = λ n theirs. unlive theirs.block.0 theirs.block.1;
                   makes = λ e making at.
                       differ
-                      (making-alone g s l who j f old has has_j in_heap mine (subst (IsMaking s j) (sym at ∙ frame) making));
+                      (making-alone g s l caller j f old has has_j in_heap mine (subst (IsMaking s j) (sym at ∙ frame) making));
                 })
           ];
     }

@@ -29,7 +29,7 @@ use Rattle.superblock_parts.specs.declared.point.BlockPoint.TheVariants as block
 use Rattle.pool_model.specs.Legal.{IsLegalWithoutCounts}
 use Rattle.pool_model.specs.Pool.{Block as Live}
 use Rattle.errand_steps.specs.declared.next.Next.TheVariants.{At, End}
-use Rattle.errand_steps.specs.declared.onward.Onward.{Onward}
+use Rattle.errand_steps.specs.declared.continuation.Continuation.{Continuation}
 use Rattle.errand_steps.specs.declared.point.Point.{Point}
 use Rattle.errand_steps.specs.declared.point.Point.TheVariants.{Idle, Block}
 use Rattle.errand_steps.specs.declared.reply.Reply.{Reply}
@@ -67,35 +67,35 @@ the-one P x is = (0, x, omega arith, refl, is)
 
 -- the link of a block that is freed
 pub store_link-sound :
-    (g : Geometry) (s : State) (who : ℕ) (s' : State) (site : Site) (i : ℕ) (a : AnchorFields) (guarded : Bool) (heap : ℕ) (o : Onward)
-    → IsSoundWithoutCounts g s → who < g.callers → (s.errand who).point ≡ Block (block.StoreLink site i a guarded heap) o → Step s who s' → IsSoundWithoutCounts g s'
+    (g : Geometry) (s : State) (caller : ℕ) (s' : State) (site : Site) (i : ℕ) (a : AnchorFields) (guarded : Bool) (heap : ℕ) (o : Continuation)
+    → IsSoundWithoutCounts g s → caller < g.callers → (s.errand caller).point ≡ Block (block.StoreLink site i a guarded heap) o → Step s caller s' → IsSoundWithoutCounts g s'
 unfolding plan_point_of next_of event_of holds_of recalls_of
-store_link-sound g s who s' site i a guarded heap o sound has at step =
+store_link-sound g s caller s' site i a guarded heap o sound has at step =
     let p = Block (block.StoreLink site i a guarded heap) o in
     let q = Block (block.PushBlock site i a guarded heap) o in
     let place = block_place site.frame site.seat.class i in
     let freed : Freed = record { place = place; need = need.Small site.seat.class; overwritten = true } in
-    let w : Writes s.word (name.Arena place) a.avail s'.word = written-at s who s' p at step in
-    let fit = (fits-at g s sound.parts.0 who p sound.parts.1 has at).point in
+    let w : Writes s.word (name.Arena place) a.avail s'.word = written-at s caller s' p at step in
+    let fit = (fits-at g s sound.parts.0 caller p sound.parts.1 has at).point in
     let below : a.avail < 2 ^ 64 = omega (arith, fit.anchor.avail, block_count_of-most site.seat.class) in
-    store-sound g s who s' p q (name.Arena place) a.avail sound has at
+    store-sound g s caller s' p q (name.Arena place) a.avail sound has at
     (record {
       stores = record { plan = refl; next = λ x. refl; event = λ x. refl; lost = λ x. refl; cleared = λ x. refl };
       lone = tt;
       holds = grind (arith);
       kept = λ l old.
-          let owned : IsOwned s who place (need.Small site.seat.class) =
-          All-head (λ x. IsOwned s who x.place x.need) freed [] (frees-at g s l who p old has at) in
+          let owned : IsOwned s caller place (need.Small site.seat.class) =
+          All-head (λ x. IsOwned s caller x.place x.need) freed [] (frees-at g s l caller p old has at) in
           let mine : HoldsException (holds_of p) place =
           inr (the-one (λ (b : Freed). (b.place ≡ place) × IsTrue b.overwritten) freed (refl, refl)) in
           arena-kept g s l place a.avail s'.word old
-          (live-loose g s l who place site.seat.class sound old has owned
-          (record { who = (who, has, subst (λ r. HoldsException (holds_of r) place) (sym at) mine) })
+          (live-loose g s l caller place site.seat.class sound old has owned
+          (record { caller = (caller, has, subst (λ r. HoldsException (holds_of r) place) (sym at) mine) })
           (subst (IsBlockUnread (name.Arena place)) (sym at) tt))
           below w;
       so = λ l old.
-          All-cons (IsSo g (between s s'.word) l who) (says (prefix_name site.frame site.seat.class i) a.avail) (bound_here site) (tt, w.here)
-          (so-at g (between s s'.word) l who p old has at);
+          All-cons (IsSo g (between s s'.word) l caller) (says (prefix_name site.frame site.seat.class i) a.avail) (bound_here site) (tt, w.here)
+          (so-at g (between s s'.word) l caller p old has at);
     })
     step
 
@@ -105,19 +105,19 @@ need_there None = need.TooLarge
 need_there (Some b) = b.need
 
 same-need :
-    (s : State) (who place : ℕ) (n m : Need) (b : Live) → IsOwned s who place n → IsLive s place b → b.need ≡ m → n ≡ m
-same-need s who place n m b owned live of =
+    (s : State) (caller place : ℕ) (n m : Need) (b : Live) → IsOwned s caller place n → IsLive s place b → b.need ≡ m → n ≡ m
+same-need s caller place n m b owned live of =
     sym owned.block.3 ∙ ap need_there (sym owned.block.1 ∙ live) ∙ of
 
 -- a small block's prefix word that says its descriptor
 small-prefix-says :
-    (g : Geometry) (s : State) (l : Lists) (who : ℕ) (site : Site) (i : ℕ) → IsSoundWith g s l → site.frame < g.frames
+    (g : Geometry) (s : State) (l : Lists) (caller : ℕ) (site : Site) (i : ℕ) → IsSoundWith g s l → site.frame < g.frames
     → site.desc < descriptor_count g → i < block_count_of site.seat.class → IsTrue (is_bound g s l site.desc)
     → IsLocated s site.desc site.frame site.seat.class
-    → IsOwned s who (block_place site.frame site.seat.class i) (need.Small site.seat.class)
+    → IsOwned s caller (block_place site.frame site.seat.class i) (need.Small site.seat.class)
     → s.word (name.Arena (block_place site.frame site.seat.class i)) ≡ 2 * site.desc
     → IsSaidAt g s l (block_place site.frame site.seat.class i)
-small-prefix-says g s l who site i old frame exists within bound located owned says_it =
+small-prefix-says g s l caller site i old frame exists within bound located owned says_it =
     let place = block_place site.frame site.seat.class i in
     let here : frame_of place ≡ site.frame = frame_of-block_place site.frame site.seat.class i within in
     record {
@@ -127,18 +127,18 @@ small-prefix-says g s l who site i old frame exists within bound located owned s
           says_it ∙ ap (λ k. 2 * k) one;
       large = λ units b live of.
           let same : need.Small site.seat.class ≡ need.Large units =
-          same-need s who place (need.Small site.seat.class) (need.Large units) b owned live of in
+          same-need s caller place (need.Small site.seat.class) (need.Large units) b owned live of in
           cc;
     }
 
 -- a step that stores a word of the arena that nobody reads and ends the call of a caller that hands out the block there
-pub record IsLastStore (g : Geometry) (s : State) (who place new : ℕ) (p : Point) (r : Reply) (s' : State) : Type 0 where
-  pub stores : StoresTo who p (name.Arena place) new (End r)
+pub record IsLastStore (g : Geometry) (s : State) (caller place new : ℕ) (p : Point) (r : Reply) (s' : State) : Type 0 where
+  pub stores : StoresTo caller p (name.Arena place) new (End r)
   pub credits : (holds_of p).credits ≡ []
   pub kept : (holds_of p).kept ≡ []
   pub frames : (holds_of p).frames ≡ []
   pub waits : (class : ℕ) → waits_in class p ≡ 0
-  pub hazard : s.word (name.Hazard who) ≡ 0
+  pub hazard : s.word (name.Hazard caller) ≡ 0
   pub turn : TurnGoes p Idle
   pub loose : (l : Lists) → IsSoundWith g s l → IsLoose g s l place
   pub said :
@@ -146,21 +146,21 @@ pub record IsLastStore (g : Geometry) (s : State) (who place new : ℕ) (p : Poi
 
 -- who is idle keeps nothing
 idle-may :
-    (g : Geometry) (s : State) (l : Lists) (who : ℕ) (x : Found) → IsSoundWith g s l → who < g.callers → x.value < 2 ^ 64
-    → settle_of (s.errand who) x ≡ at_point (s.errand who) x Idle → counts_cleared (s.errand who).point x ≡ false
-    → TurnGoes (s.errand who).point Idle
-    → ((q : ℕ) → HoldsException (holds_of (s.errand who).point) q → IsSaidAt g s l q)
-    → MayGoOn g s l who (s.errand who) (at_point (s.errand who) x Idle)
+    (g : Geometry) (s : State) (l : Lists) (caller : ℕ) (x : Found) → IsSoundWith g s l → caller < g.callers → x.value < 2 ^ 64
+    → settle_of (s.errand caller) x ≡ at_point (s.errand caller) x Idle → counts_cleared (s.errand caller).point x ≡ false
+    → TurnGoes (s.errand caller).point Idle
+    → ((q : ℕ) → HoldsException (holds_of (s.errand caller).point) q → IsSaidAt g s l q)
+    → MayGoOn g s l caller (s.errand caller) (at_point (s.errand caller) x Idle)
 unfolding recalls_of
-idle-may g s l who x sound has word after still turn said =
-    let e = s.errand who in
-    let own = sound.errands who has in
-    nothing-may g s l who e (at_point e x Idle) idle-nothing (settled-own g who e x (at_point e x Idle) own word after) (sound.kept.retired who has)
-    (λ spare. let bad : ⊥ = omega (arith, spare) in absurd bad) (All-nil (IsSo g s l who)) said
+idle-may g s l caller x sound has word after still turn said =
+    let e = s.errand caller in
+    let own = sound.errands caller has in
+    nothing-may g s l caller e (at_point e x Idle) idle-nothing (settled-own g caller e x (at_point e x Idle) own word after) (sound.kept.retired caller has)
+    (λ spare. let bad : ⊥ = omega (arith, spare) in absurd bad) (All-nil (IsSo g s l caller)) said
     (record {
-      own_turns = omega (arith, sound.turned.own_turns who has, turn.under_way);
+      own_turns = omega (arith, sound.turned.own_turns caller has, turn.under_way);
       own_lost =
-          omega (arith, sound.turned.own_lost who has, turn.discards, turn.unanswered, raised-least (counts_lost e.point x) e.lost own.lost);
+          omega (arith, sound.turned.own_lost caller has, turn.discards, turn.unanswered, raised-least (counts_lost e.point x) e.lost own.lost);
       frame_turns = omega (arith, turn.unframed);
       list_turns = omega (arith, turn.pops, ap (λ b. raised b e.cleared) still);
     })
@@ -173,47 +173,47 @@ idle-weighs n w p credits kept frames waits = weigh-stays n w p Idle (sym credit
 
 -- it keeps the state sound
 last-sound :
-    (g : Geometry) (s : State) (who : ℕ) (s' : State) (place new : ℕ) (p : Point) (r : Reply) → IsSoundWithoutCounts g s → who < g.callers
-    → (s.errand who).point ≡ p → IsLastStore g s who place new p r s' → new < 2 ^ 64 → Step s who s' → IsSoundWithoutCounts g s'
-last-sound g s who s' place new p r sound has at given below step =
-    let h : IsLastStore g s who place new (s.errand who).point r s' = subst (λ q. IsLastStore g s who place new q r s') (sym at) given in
+    (g : Geometry) (s : State) (caller : ℕ) (s' : State) (place new : ℕ) (p : Point) (r : Reply) → IsSoundWithoutCounts g s → caller < g.callers
+    → (s.errand caller).point ≡ p → IsLastStore g s caller place new p r s' → new < 2 ^ 64 → Step s caller s' → IsSoundWithoutCounts g s'
+last-sound g s caller s' place new p r sound has at given below step =
+    let h : IsLastStore g s caller place new (s.errand caller).point r s' = subst (λ q. IsLastStore g s caller place new q r s') (sym at) given in
     let l = sound.parts.0 in
     let old = sound.parts.1 in
     let t = between s s'.word in
-    let n = name_at s who in
-    let x = found_at t who in
-    let e = at_point (s.errand who) x Idle in
-    let w = store-written s who s' (name.Arena place) new (End r) h.stores step in
-    let again : Step t who s' = step-between s who s' (name.Arena place) new (End r) tt h.stores step in
+    let n = name_at s caller in
+    let x = found_at t caller in
+    let e = at_point (s.errand caller) x Idle in
+    let w = store-written s caller s' (name.Arena place) new (End r) h.stores step in
+    let again : Step t caller s' = step-between s caller s' (name.Arena place) new (End r) tt h.stores step in
     let same : (m : WordName) → s'.word m ≡ t.word m = lone-written s.word (name.Arena place) new s'.word tt w in
     let whole : IsSoundWith g t l = sound-between g s l s'.word (arena-kept g s l place new s'.word old (h.loose l old) below w) old in
-    let still : counts_cleared (s.errand who).point x ≡ false = h.stores.cleared (word_at t who) in
-    let after = settle-end (s.errand who) x r (h.stores.next (word_at t who)) in
-    let moves : Moves s.errand who e s'.errand = subst (λ f. Moves s.errand who f s'.errand) after again.errand in
-    let past : s'.history ≡ s.history = again.history ∙ ap (with_event s.history) (h.stores.event (word_at t who)) in
+    let still : counts_cleared (s.errand caller).point x ≡ false = h.stores.cleared (word_at t caller) in
+    let after = settle-end (s.errand caller) x r (h.stores.next (word_at t caller)) in
+    let moves : Moves s.errand caller e s'.errand = subst (λ f. Moves s.errand caller f s'.errand) after again.errand in
+    let past : s'.history ≡ s.history = again.history ∙ ap (with_event s.history) (h.stores.event (word_at t caller)) in
     let wrote : Writes t.word n (s'.word n) s'.word = record { here = refl; elsewhere = λ m differ. same m } in
-    let weigh : WeighMost n (t.word n) (s'.word n) (s.errand who) e =
-    alike-most n (t.word n) (s'.word n) (s.errand who) e
-    (subst (λ v. WeighAlike n (t.word n) v (s.errand who) e) (sym (same n))
-    (from-weighs n (t.word n) (t.word n) (s.errand who) x Idle
-    (idle-weighs n (t.word n) (s.errand who).point h.credits h.kept h.frames h.waits))) in
+    let weigh : WeighMost n (t.word n) (s'.word n) (s.errand caller) e =
+    alike-most n (t.word n) (s'.word n) (s.errand caller) e
+    (subst (λ v. WeighAlike n (t.word n) v (s.errand caller) e) (sym (same n))
+    (from-weighs n (t.word n) (t.word n) (s.errand caller) x Idle
+    (idle-weighs n (t.word n) (s.errand caller).point h.credits h.kept h.frames h.waits))) in
     record {
       checked = sound.checked;
       legal = subst (IsLegalWithoutCounts g) (sym past) sound.legal;
       parts = (
         l,
-        sound-alike g t l who e s'
+        sound-alike g t l caller e s'
             (record {
-              caller = has;
+              in_heap = has;
               moves = moves;
-              alike = weigh-alike g t l who n (s'.word n) e s' (exists-at g s who (s.errand who).point sound has refl) has wrote moves past weigh;
-              may = idle-may g t l who x whole has (whole.words n) after still h.turn (h.said l whole);
+              alike = weigh-alike g t l caller n (s'.word n) e s' (exists-at g s caller (s.errand caller).point sound has refl) has wrote moves past weigh;
+              may = idle-may g t l caller x whole has (whole.words n) after still h.turn (h.said l whole);
               others = λ i differ. same (name.Hazard i);
-              guards = nothing-guards g t who Idle (s.errand who).retired (s'.word (name.Hazard who)) idle-nothing (same (name.Hazard who) ∙ h.hazard);
+              guards = nothing-guards g t caller Idle (s.errand caller).retired (s'.word (name.Hazard caller)) idle-nothing (same (name.Hazard caller) ∙ h.hazard);
               actives = actives-stay g t l s'.word whole.kept same;
               words = λ m. subst (λ v. v < 2 ^ 64) (sym (same m)) (whole.words m);
               emptied =
-                  omega (arith, weigh-emptied g t l who n (s'.word n) e s' has wrote moves weigh, ap (λ b. raised b (s.errand who).cleared) still);
+                  omega (arith, weigh-emptied g t l caller n (s'.word n) e s' has wrote moves weigh, ap (λ b. raised b (s.errand caller).cleared) still);
             })
             whole,
       );
@@ -225,41 +225,41 @@ small-prefix d = omega arith
 
 -- the prefix word of a block that is handed out
 pub store_prefix-sound :
-    (g : Geometry) (s : State) (who : ℕ) (s' : State) (site : Site) (i : ℕ) (o : Onward) → IsSoundWithoutCounts g s → who < g.callers
-    → (s.errand who).point ≡ Block (block.StorePrefix site i) o → Step s who s' → IsSoundWithoutCounts g s'
+    (g : Geometry) (s : State) (caller : ℕ) (s' : State) (site : Site) (i : ℕ) (o : Continuation) → IsSoundWithoutCounts g s → caller < g.callers
+    → (s.errand caller).point ≡ Block (block.StorePrefix site i) o → Step s caller s' → IsSoundWithoutCounts g s'
 unfolding plan_point_of next_of event_of holds_of recalls_of
-store_prefix-sound g s who s' site i o sound has at step =
+store_prefix-sound g s caller s' site i o sound has at step =
     let p = Block (block.StorePrefix site i) o in
     let class = site.seat.class in
     let place = block_place site.frame class i in
     let handed : Handed = record { place = place; need = need.Small class } in
-    let w : Writes s.word (name.Arena place) (prefix_word (Small site.desc)) s'.word = written-at s who s' p at step in
-    let fit = (fits-at g s sound.parts.0 who p sound.parts.1 has at).point in
+    let w : Writes s.word (name.Arena place) (prefix_word (Small site.desc)) s'.word = written-at s caller s' p at step in
+    let fit = (fits-at g s sound.parts.0 caller p sound.parts.1 has at).point in
     let two : prefix_word (Small site.desc) ≡ 2 * site.desc = small-prefix site.desc in
-    last-sound g s who s' place (prefix_word (Small site.desc)) p (reply.Given place (need.Small class)) sound has at
+    last-sound g s caller s' place (prefix_word (Small site.desc)) p (reply.Given place (need.Small class)) sound has at
     (record {
       stores = record { plan = refl; next = λ x. refl; event = λ x. refl; lost = λ x. refl; cleared = λ x. refl };
       credits = refl;
       kept = refl;
       frames = refl;
       waits = λ k. refl;
-      hazard = hazard-at g s sound.parts.0 who p sound.parts.1 has at;
+      hazard = hazard-at g s sound.parts.0 caller p sound.parts.1 has at;
       turn = grind (arith);
       loose = λ l old.
-          let owned : IsOwned s who place (need.Small class) =
-          All-head (λ x. IsOwned s who x.place x.need) handed [] (hands-at g s l who p old has at) in
+          let owned : IsOwned s caller place (need.Small class) =
+          All-head (λ x. IsOwned s caller x.place x.need) handed [] (hands-at g s l caller p old has at) in
           let mine : HoldsException (holds_of p) place = inl (the-one (λ (b : Handed). b.place ≡ place) handed refl) in
-          live-loose g s l who place class sound old has owned
-          (record { who = (who, has, subst (λ r. HoldsException (holds_of r) place) (sym at) mine) })
+          live-loose g s l caller place class sound old has owned
+          (record { caller = (caller, has, subst (λ r. HoldsException (holds_of r) place) (sym at) mine) })
           (subst (IsBlockUnread (name.Arena place)) (sym at) tt);
       said = λ l old q x.
           let t = between s s'.word in
-          let owned : IsOwned t who place (need.Small class) =
-          All-head (λ x. IsOwned t who x.place x.need) handed [] (hands-at g t l who p old has at) in
-          let here : IsSo g t l who (bound_at site.desc site.frame class) =
-          All-head (IsSo g t l who) (bound_at site.desc site.frame class) [] (so-at g t l who p old has at) in
+          let owned : IsOwned t caller place (need.Small class) =
+          All-head (λ x. IsOwned t caller x.place x.need) handed [] (hands-at g t l caller p old has at) in
+          let here : IsSo g t l caller (bound_at site.desc site.frame class) =
+          All-head (IsSo g t l caller) (bound_at site.desc site.frame class) [] (so-at g t l caller p old has at) in
           let said : IsSaidAt g t l place =
-          small-prefix-says g t l who site i old fit.site.frame fit.site.desc fit.index here.0 here.1 owned (w.here ∙ two) in
+          small-prefix-says g t l caller site i old fit.site.frame fit.site.desc fit.index here.0 here.1 owned (w.here ∙ two) in
           elim x [
             | inl a ↦ subst (IsSaidAt g t l) (any-one (λ (b : Handed). b.place ≡ q) handed a) said
             | inr a ↦ absurd (any-none (λ (b : Freed). (b.place ≡ q) × IsTrue b.overwritten) a)
@@ -282,21 +282,21 @@ links-made-more s f c i n so_far one most k below =
 
 -- the link of a block of a superblock in the making, and where it leads
 link_block-to :
-    (g : Geometry) (s : State) (who : ℕ) (s' : State) (site : Site) (i : ℕ) (o : Onward) (q : BlockPoint) (n : ℕ) → IsSoundWithoutCounts g s
-    → who < g.callers → (s.errand who).point ≡ Block (block.LinkBlock site i) o → Step s who s'
+    (g : Geometry) (s : State) (caller : ℕ) (s' : State) (site : Site) (i : ℕ) (o : Continuation) (q : BlockPoint) (n : ℕ) → IsSoundWithoutCounts g s
+    → caller < g.callers → (s.errand caller).point ≡ Block (block.LinkBlock site i) o → Step s caller s'
     → after_link site i ≡ q → enter_block q o ≡ At (Block q o) → block_holds q ≡ making site
     → block_recalls q ≡ made site.frame site.seat.class n ∷ [] → n ≤ i + 1 → HoldsSame (Block (block.LinkBlock site i) o) (Block q o)
     → IsSoundWithoutCounts g s'
 unfolding plan_point_of next_of event_of holds_of recalls_of
-link_block-to g s who s' site i o q n sound has at step leads enters holds recalls most same =
+link_block-to g s caller s' site i o q n sound has at step leads enters holds recalls most same =
     let p = Block (block.LinkBlock site i) o in
     let f = site.frame in
     let c = site.seat.class in
     let place = block_place f c i in
-    let w : Writes s.word (name.Arena place) (new_link c i) s'.word = written-at s who s' p at step in
-    let fit = (fits-at g s sound.parts.0 who p sound.parts.1 has at).point in
+    let w : Writes s.word (name.Arena place) (new_link c i) s'.word = written-at s caller s' p at step in
+    let fit = (fits-at g s sound.parts.0 caller p sound.parts.1 has at).point in
     let leads_on : next_of p (found_from s p) ≡ At (Block q o) = ap (λ r. enter_block r o) leads ∙ enters in
-    store-sound g s who s' p (Block q o) (name.Arena place) (new_link c i) sound has at
+    store-sound g s caller s' p (Block q o) (name.Arena place) (new_link c i) sound has at
     (record {
       stores = record { plan = refl; next = λ x. leads_on; event = λ x. refl; lost = λ x. refl; cleared = λ x. refl };
       lone = tt;
@@ -304,28 +304,28 @@ link_block-to g s who s' site i o q n sound has at step leads enters holds recal
       kept = λ l old.
           let apart : IsBlockUnread (name.Arena place) p = λ k lt. prefix_name-apart f c k i (omega (arith, lt)) in
           arena-kept g s l place (new_link c i) s'.word old
-          (making-loose g s l who f c i sound old has fit.site.frame fit.index
-          (is-making s who p site at refl) (subst (IsBlockUnread (name.Arena place)) (sym at) apart))
+          (making-loose g s l caller f c i sound old has fit.site.frame fit.index
+          (is-making s caller p site at refl) (subst (IsBlockUnread (name.Arena place)) (sym at) apart))
           (new_link-below c i fit.index) w;
       so = λ l old.
           let t = between s s'.word in
-          let so_far : AreMade t f c i = All-head (IsSo g t l who) (made f c i) [] (so-at g t l who p old has at) in
-          subst (All (IsSo g t l who)) (sym recalls)
-          (All-cons (IsSo g t l who) (made f c n) [] (links-made-more t f c i n so_far w.here most) (All-nil (IsSo g t l who)));
+          let so_far : AreMade t f c i = All-head (IsSo g t l caller) (made f c i) [] (so-at g t l caller p old has at) in
+          subst (All (IsSo g t l caller)) (sym recalls)
+          (All-cons (IsSo g t l caller) (made f c n) [] (links-made-more t f c i n so_far w.here most) (All-nil (IsSo g t l caller)));
     })
     step
 
 pub link_block-sound :
-    (g : Geometry) (s : State) (who : ℕ) (s' : State) (site : Site) (i : ℕ) (o : Onward) → IsSoundWithoutCounts g s
-    → who < g.callers → (s.errand who).point ≡ Block (block.LinkBlock site i) o → Step s who s' → IsSoundWithoutCounts g s'
+    (g : Geometry) (s : State) (caller : ℕ) (s' : State) (site : Site) (i : ℕ) (o : Continuation) → IsSoundWithoutCounts g s
+    → caller < g.callers → (s.errand caller).point ≡ Block (block.LinkBlock site i) o → Step s caller s' → IsSoundWithoutCounts g s'
 unfolding holds_of
-link_block-sound g s who s' site i o sound has at step =
+link_block-sound g s caller s' site i o sound has at step =
     elim (cases_Bool (nat_lt (i + 1) (block_count_of site.seat.class))) [
       | inl more ↦
-          link_block-to g s who s' site i o (block.LinkBlock site (i + 1)) (i + 1) sound has at step
+          link_block-to g s caller s' site i o (block.LinkBlock site (i + 1)) (i + 1) sound has at step
           (ap (λ b. if b then block.LinkBlock site (i + 1) else block.StoreInfo site) more) refl refl refl (omega arith) (grind (arith))
       | inr last ↦
-          link_block-to g s who s' site i o (block.StoreInfo site) (block_count_of site.seat.class) sound has at step
+          link_block-to g s caller s' site i o (block.StoreInfo site) (block_count_of site.seat.class) sound has at step
           (ap (λ b. if b then block.LinkBlock site (i + 1) else block.StoreInfo site) last) refl refl refl
           (omega (arith, ltb-false (i + 1) (block_count_of site.seat.class) last)) (grind (arith))
     ]

@@ -109,7 +109,7 @@ pub record PlacesKept (g : Geometry) (s : State) (l : Lists) (w : WordName → �
       → IsPlaceKept s w d
   pub slot : (heap class d : ℕ) → heap < g.heaps → class < CLASSES → s.word (name.Slot heap class) ≡ d + 1 → IsPlaceKept s w d
   pub listed : (class : ℕ) → class < CLASSES → All (IsPlaceKept s w) (l.partials class)
-  pub errand : (who : ℕ) → who < g.callers → All (λ k. IsKeptStill s w k.status k.desc) (holds_of (s.errand who).point).kept
+  pub errand : (caller : ℕ) → caller < g.callers → All (λ k. IsKeptStill s w k.status k.desc) (holds_of (s.errand caller).point).kept
   pub full : (d : ℕ) → d < descriptor_count g → IsPlaceKept s w d ⊎ (full_keeps (anchor_for s d).state ≡ 0)
 
 -- the words of free blocks and of live ones are what they were
@@ -126,7 +126,7 @@ pub record LoneKept (g : Geometry) (s : State) (l : Lists) (w : WordName → ℕ
   pub links : LinksKept g s l w
   pub places : PlacesKept g s l w
   pub blocks : BlocksKept g s l w
-  pub recalls : (who : ℕ) → who < g.callers → All (IsStillSaid g s l w) (recalls_of (s.errand who).point)
+  pub recalls : (caller : ℕ) → caller < g.callers → All (IsStillSaid g s l w) (recalls_of (s.errand caller).point)
 
 -- what only processor heaps' words weigh stays
 lone-weighs :
@@ -162,11 +162,11 @@ kept_as-between s w on_its_way d c same k = k
 located-between : (s : State) (w : WordName → ℕ) (d f c : ℕ) → IsPlaceKept s w d → IsLocated s d f c → IsLocated (between s w) d f c
 located-between s w d f c same k = record { frame = same.0 ∙ k.frame; class = same.1 ∙ k.class }
 
-owned-between : (s : State) (w : WordName → ℕ) (who place : ℕ) (n : Need) → IsOwned s who place n → IsOwned (between s w) who place n
-owned-between s w who place n k = record { block = k.block }
+owned-between : (s : State) (w : WordName → ℕ) (caller place : ℕ) (n : Need) → IsOwned s caller place n → IsOwned (between s w) caller place n
+owned-between s w caller place n k = record { block = k.block }
 
 excepted-between : (g : Geometry) (s : State) (w : WordName → ℕ) (place : ℕ) → IsExcepted g s place → IsExcepted g (between s w) place
-excepted-between g s w place x = record { who = x.who }
+excepted-between g s w place x = record { caller = x.caller }
 
 -- a superblock with other links
 abbrev with_next : (ℕ → ℕ) → Superblock → Superblock

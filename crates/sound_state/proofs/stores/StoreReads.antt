@@ -29,14 +29,14 @@ use Rattle.hazard_parts.specs.declared.point.DescPoint.TheVariants as desc
 use Rattle.partial_parts.specs.declared.point.PartialPoint.{PartialPoint}
 use Rattle.partial_parts.specs.declared.point.PartialPoint.TheVariants as partial
 use Rattle.large_parts.specs.declared.point.LargePoint.{LargePoint}
-use Rattle.errand_steps.specs.declared.onward.Onward.{Onward}
+use Rattle.errand_steps.specs.declared.continuation.Continuation.{Continuation}
 use Rattle.errand_steps.specs.declared.point.Point.{Point}
 use Rattle.errand_steps.specs.declared.point.Point.TheVariants as point
 use Rattle.errand_steps.specs.Fits.{FitsPoint}
 use Rattle.errand_steps.specs.Steps.{State}
 use Rattle.sound_state.specs.Holdings.{Status, on_its_way}
 use Rattle.sound_state.specs.Lists.{Lists}
-use Rattle.sound_state.specs.Recalls.{IsSo, IsTopStill, recalls_of, onward_recalls, stack_recalls, resumed_recalls, desc_recalls, block_recalls, partial_recalls, large_recalls, list_of}
+use Rattle.sound_state.specs.Recalls.{IsSo, IsTopStill, recalls_of, continuation_recalls, stack_recalls, resumed_recalls, desc_recalls, block_recalls, partial_recalls, large_recalls, list_of}
 use Rattle.sound_state.specs.Sound.{IsSoundWith}
 use Rattle.sound_state.specs.Superblocks.{info_or_zero}
 use Rattle.sound_state.proofs.shared.PointLemmas.{fits-at}
@@ -177,7 +177,7 @@ block-unread n p other = tt
 -- where every frame and class stay, only one that is about to store the anchor remembers the whole word
 pub place-unread :
     (s : State) (w : WordName → ℕ) (n : WordName) (p : Point) → ((d : ℕ) → IsPlaceKept s w d)
-    → ((at : Site) (o : Onward) → p ≡ point.Block (block.StoreAnchor at) o → name.Info at.desc ≢ n) → IsPlaceUnread s w n p
+    → ((at : Site) (o : Continuation) → p ≡ point.Block (block.StoreAnchor at) o → name.Info at.desc ≢ n) → IsPlaceUnread s w n p
 place-unread s w n (point.Block (block.StoreAnchor at) o) place anchor = anchor at o refl
 place-unread s w n (point.Partial (partial.StoreOwner at) o) place anchor = place at.desc
 place-unread s w n (point.Partial (partial.LoadGrantAnchor at) o) place anchor = place at.desc
@@ -192,7 +192,7 @@ record IsKeeping (g : Geometry) (s : State) (l : Lists) (n : WordName) (w : Word
   blocks : BlocksKept g s l w
 
 block-still-said :
-    (g : Geometry) (s : State) (l : Lists) (w : WordName → ℕ) (i : ℕ) (n : WordName) (p : BlockPoint) (o : Onward) → IsKeeping g s l n w
+    (g : Geometry) (s : State) (l : Lists) (w : WordName → ℕ) (i : ℕ) (n : WordName) (p : BlockPoint) (o : Continuation) → IsKeeping g s l n w
     → FitsBlock g i p → AllByRecursion (IsSo g s l i) (block_recalls p) → IsUnread s w n (point.Block p o)
     → AllByRecursion (IsStillSaid g s l w) (block_recalls p)
 block-still-said g s l w i n (block.LoadLink at share x) o h fits so off =
@@ -209,10 +209,10 @@ block-still-said g s l w i n (block.StoreAnchor at) o h fits so off =
     (h.others (name.Info at.desc) off.place, (λ j lt. h.others (prefix_name at.frame at.seat.class j) (off.block j lt), tt))
 block-still-said g s l w i n p o h fits so off = grind (arith)
 
-said-onward :
-    (g : Geometry) (s : State) (l : Lists) (w : WordName → ℕ) (seat : SeatFields) (o : Onward)
-    → AllByRecursion (IsStillSaid g s l w) (onward_recalls seat o)
-said-onward g s l w seat o = grind (arith)
+said-continuation :
+    (g : Geometry) (s : State) (l : Lists) (w : WordName → ℕ) (seat : SeatFields) (o : Continuation)
+    → AllByRecursion (IsStillSaid g s l w) (continuation_recalls seat o)
+said-continuation g s l w seat o = grind (arith)
 
 listed-next :
     (g : Geometry) (s : State) (l : Lists) (w : WordName → ℕ) (seat : SeatFields) (pile : Pile) (i : ℕ) → LinksKept g s l w
@@ -221,40 +221,40 @@ listed-next g s l w seat Frames i kept class on = kept.frames i on
 listed-next g s l w seat Partials i kept class on = kept.partials seat.class class i on
 
 said-stack :
-    (g : Geometry) (s : State) (l : Lists) (w : WordName → ℕ) (i : ℕ) (n : WordName) (p : StackPoint) (o : Onward) → IsKeeping g s l n w
+    (g : Geometry) (s : State) (l : Lists) (w : WordName → ℕ) (i : ℕ) (n : WordName) (p : StackPoint) (o : Continuation) → IsKeeping g s l n w
     → FitsStack g i p → AllByRecursion (IsSo g s l i) (stack_recalls p o) → IsUnread s w n (point.Stack p o)
     → AllByRecursion (IsStillSaid g s l w) (stack_recalls p o)
-said-stack g s l w i n (stack.LoadTop seat pile) o h fits so off = said-onward g s l w seat o
-said-stack g s l w i n (stack.LoadBelow seat pile head) o h fits so off = (tt, said-onward g s l w seat o)
+said-stack g s l w i n (stack.LoadTop seat pile) o h fits so off = said-continuation g s l w seat o
+said-stack g s l w i n (stack.LoadBelow seat pile head) o h fits so off = (tt, said-continuation g s l w seat o)
 said-stack g s l w i n (stack.PopTop seat pile head below) o h fits so off =
     let top : IsTopStill s l seat pile head = so.1.0 in
-    (λ is. listed-next g s l w seat pile (head.top - 1) h.links fits.0.seat.class (top.top is), (tt, said-onward g s l w seat o))
-said-stack g s l w i n (stack.ConfirmEmpty seat pile head) o h fits so off = said-onward g s l w seat o
-said-stack g s l w i n (stack.LoadTopToPush seat pile j) o h fits so off = said-onward g s l w seat o
-said-stack g s l w i n (stack.StoreBelow seat pile j head) o h fits so off = (tt, said-onward g s l w seat o)
-said-stack g s l w i n (stack.PushTop seat pile j head) o h fits so off = (h.others (next_name pile j) off.link, (tt, said-onward g s l w seat o))
+    (λ is. listed-next g s l w seat pile (head.top - 1) h.links fits.0.seat.class (top.top is), (tt, said-continuation g s l w seat o))
+said-stack g s l w i n (stack.ConfirmEmpty seat pile head) o h fits so off = said-continuation g s l w seat o
+said-stack g s l w i n (stack.LoadTopToPush seat pile j) o h fits so off = said-continuation g s l w seat o
+said-stack g s l w i n (stack.StoreBelow seat pile j head) o h fits so off = (tt, said-continuation g s l w seat o)
+said-stack g s l w i n (stack.PushTop seat pile j head) o h fits so off = (h.others (next_name pile j) off.link, (tt, said-continuation g s l w seat o))
 said-stack g s l w i n p o h fits so off = tt
 
 said-resumed :
-    (g : Geometry) (s : State) (l : Lists) (w : WordName → ℕ) (seat : SeatFields) (o : Onward)
+    (g : Geometry) (s : State) (l : Lists) (w : WordName → ℕ) (seat : SeatFields) (o : Continuation)
     → AllByRecursion (IsStillSaid g s l w) (resumed_recalls seat o)
 said-resumed g s l w seat o = grind (arith)
 
 said-desc :
-    (g : Geometry) (s : State) (l : Lists) (w : WordName → ℕ) (n : WordName) (p : DescPoint) (o : Onward) → IsKeeping g s l n w
+    (g : Geometry) (s : State) (l : Lists) (w : WordName → ℕ) (n : WordName) (p : DescPoint) (o : Continuation) → IsKeeping g s l n w
     → IsUnread s w n (point.Desc p o) → AllByRecursion (IsStillSaid g s l w) (desc_recalls p o)
 said-desc g s l w n (desc.PopDesc seat d next) o h off = (λ on. h.links.available d on, (tt, tt))
-said-desc g s l w n (desc.ClearHazard seat) o h off = said-onward g s l w seat o
+said-desc g s l w n (desc.ClearHazard seat) o h off = said-continuation g s l w seat o
 said-desc g s l w n (desc.PushDesc seat d top) o h off = (h.others (name.Next d) off.link, said-resumed g s l w seat o)
 said-desc g s l w n p o h off = grind (arith, said-resumed)
 
 said-partial :
-    (g : Geometry) (s : State) (l : Lists) (w : WordName → ℕ) (n : WordName) (p : PartialPoint) (o : Onward) → IsUnread s w n (point.Partial p o)
+    (g : Geometry) (s : State) (l : Lists) (w : WordName → ℕ) (n : WordName) (p : PartialPoint) (o : Continuation) → IsUnread s w n (point.Partial p o)
     → AllByRecursion (IsStillSaid g s l w) (partial_recalls p o)
 said-partial g s l w n (partial.StoreOwner at) o off = (off.place, tt)
 said-partial g s l w n (partial.LoadGrantAnchor at) o off = (off.place, tt)
 said-partial g s l w n (partial.Grant at x) o off = (tt, (off.place, tt))
-said-partial g s l w n (partial.PutSlot seat e heap) o off = said-onward g s l w seat o
+said-partial g s l w n (partial.PutSlot seat e heap) o off = said-continuation g s l w seat o
 said-partial g s l w n p o off = grind (arith)
 
 said-large : (g : Geometry) (s : State) (l : Lists) (w : WordName → ℕ) (p : LargePoint) → AllByRecursion (IsStillSaid g s l w) (large_recalls p)

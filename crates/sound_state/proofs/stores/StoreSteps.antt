@@ -23,60 +23,60 @@ use Rattle.sound_state.proofs.stores.StoreFields.{IsLone, between, LoneKept, sou
 use Rattle.sound_state.proofs.stores.StoreReads.{lone-written}
 
 -- the point stores a word, and whatever it finds there, it tells nothing and leads to the same
-pub record StoresTo (who : ℕ) (p : Point) (n : WordName) (new : ℕ) (to : Next) : Type 0 where
+pub record StoresTo (caller : ℕ) (p : Point) (n : WordName) (new : ℕ) (to : Next) : Type 0 where
   pub plan : plan_point_of p ≡ Store n new
   pub next : (v : ℕ) → next_of p (found_by (plan_point_of p) v) ≡ to
-  pub event : (v : ℕ) → event_of who p (found_by (plan_point_of p) v) ≡ None
+  pub event : (v : ℕ) → event_of caller p (found_by (plan_point_of p) v) ≡ None
   pub lost : (v : ℕ) → counts_lost p (found_by (plan_point_of p) v) ≡ false
   pub cleared : (v : ℕ) → counts_cleared p (found_by (plan_point_of p) v) ≡ false
 
 -- the step's write
 pub store-written :
-    (s : State) (who : ℕ) (s' : State) (n : WordName) (new : ℕ) (to : Next) → StoresTo who (s.errand who).point n new to → Step s who s'
+    (s : State) (caller : ℕ) (s' : State) (n : WordName) (new : ℕ) (to : Next) → StoresTo caller (s.errand caller).point n new to → Step s caller s'
     → Writes s.word n new s'.word
-store-written s who s' n new to h step = subst (λ a. Writes s.word (name_of a) (after_action a (s.word (name_of a))) s'.word) h.plan step.word
+store-written s caller s' n new to h step = subst (λ a. Writes s.word (name_of a) (after_action a (s.word (name_of a))) s'.word) h.plan step.word
 
 settle-same :
-    (who : ℕ) (e : ErrandFields) (n : WordName) (new : ℕ) (to : Next) (x y : ℕ) → StoresTo who e.point n new to
+    (caller : ℕ) (e : ErrandFields) (n : WordName) (new : ℕ) (to : Next) (x y : ℕ) → StoresTo caller e.point n new to
     → settle_of e (found_by (plan_of e) x) ≡ settle_of e (found_by (plan_of e) y)
 unfolding settle_of course_of
-settle-same who e n new to x y h = rw (h.next x, h.next y, h.lost x, h.lost y, h.cleared x, h.cleared y, h.plan) refl
+settle-same caller e n new to x y h = rw (h.next x, h.next y, h.lost x, h.lost y, h.cleared x, h.cleared y, h.plan) refl
 
 -- such a step is one from the state in between, too, where its word says already what is stored
 pub step-between :
-    (s : State) (who : ℕ) (s' : State) (n : WordName) (new : ℕ) (to : Next) → IsLone n → StoresTo who (s.errand who).point n new to
-    → Step s who s' → Step (between s s'.word) who s'
-step-between s who s' n new to lone h step =
+    (s : State) (caller : ℕ) (s' : State) (n : WordName) (new : ℕ) (to : Next) → IsLone n → StoresTo caller (s.errand caller).point n new to
+    → Step s caller s' → Step (between s s'.word) caller s'
+step-between s caller s' n new to lone h step =
     let t = between s s'.word in
-    let w = store-written s who s' n new to h step in
+    let w = store-written s caller s' n new to h step in
     let again : Writes t.word n new s'.word = record { here = w.here; elsewhere = λ m differ. lone-written s.word n new s'.word lone w m } in
     record {
       busy = step.busy;
       word = subst (λ a. Writes t.word (name_of a) (after_action a (t.word (name_of a))) s'.word) (sym h.plan) again;
       errand =
-          subst (λ e. Moves s.errand who e s'.errand) (settle-same who (s.errand who) n new to (word_at s who) (word_at t who) h) step.errand;
-      history = step.history ∙ ap (with_event s.history) (h.event (word_at s who) ∙ sym (h.event (word_at t who)));
+          subst (λ e. Moves s.errand caller e s'.errand) (settle-same caller (s.errand caller) n new to (word_at s caller) (word_at t caller) h) step.errand;
+      history = step.history ∙ ap (with_event s.history) (h.event (word_at s caller) ∙ sym (h.event (word_at t caller)));
     }
 
 -- a step that stores such a word and leads to this point, where the caller holds the same
-pub record IsStoring (g : Geometry) (s : State) (who : ℕ) (p q : Point) (n : WordName) (new : ℕ) (s' : State) : Type 0 where
-  pub stores : StoresTo who p n new (At q)
+pub record IsStoring (g : Geometry) (s : State) (caller : ℕ) (p q : Point) (n : WordName) (new : ℕ) (s' : State) : Type 0 where
+  pub stores : StoresTo caller p n new (At q)
   pub lone : IsLone n
   pub holds : HoldsSame p q
   pub kept : (l : Lists) → IsSoundWith g s l → LoneKept g s l s'.word
-  pub so : (l : Lists) → IsSoundWith g (between s s'.word) l → All (IsSo g (between s s'.word) l who) (recalls_of q)
+  pub so : (l : Lists) → IsSoundWith g (between s s'.word) l → All (IsSo g (between s s'.word) l caller) (recalls_of q)
 
 -- keeps the state sound
 pub store-sound :
-    (g : Geometry) (s : State) (who : ℕ) (s' : State) (p q : Point) (n : WordName) (new : ℕ) → IsSoundWithoutCounts g s → who < g.callers
-    → (s.errand who).point ≡ p → IsStoring g s who p q n new s' → Step s who s' → IsSoundWithoutCounts g s'
-store-sound g s who s' p q n new sound has at h step =
+    (g : Geometry) (s : State) (caller : ℕ) (s' : State) (p q : Point) (n : WordName) (new : ℕ) → IsSoundWithoutCounts g s → caller < g.callers
+    → (s.errand caller).point ≡ p → IsStoring g s caller p q n new s' → Step s caller s' → IsSoundWithoutCounts g s'
+store-sound g s caller s' p q n new sound has at h step =
     let t = between s s'.word in
     let l = sound.parts.0 in
     let old = sound.parts.1 in
-    let here : StoresTo who (s.errand who).point n new (At q) = subst (λ r. StoresTo who r n new (At q)) (sym at) h.stores in
-    let w = store-written s who s' n new (At q) here step in
-    quiet-at g t who s' p
+    let here : StoresTo caller (s.errand caller).point n new (At q) = subst (λ r. StoresTo caller r n new (At q)) (sym at) h.stores in
+    let w = store-written s caller s' n new (At q) here step in
+    quiet-at g t caller s' p
     (record { checked = sound.checked; legal = sound.legal; parts = (l, sound-between g s l s'.word (h.kept l old) old) }) has at
     (record {
       event = h.stores.event _;
@@ -85,5 +85,5 @@ store-sound g s who s' p q n new sound has at h step =
           subst (λ a. after_action a (t.word (name_of a)) ≡ t.word (name_of a)) (sym h.stores.plan)
           (sym w.here ∙ lone-written s.word n new s'.word h.lone w n);
     })
-    (subst (LeadsQuietly g t who p) (sym (h.stores.next _)) (record { plain = tt; holds = h.holds; so = h.so }))
-    (step-between s who s' n new (At q) h.lone here step)
+    (subst (LeadsQuietly g t caller p) (sym (h.stores.next _)) (record { plain = tt; holds = h.holds; so = h.so }))
+    (step-between s caller s' n new (At q) h.lone here step)

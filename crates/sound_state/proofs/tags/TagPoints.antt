@@ -107,21 +107,21 @@ pop-goes w d e share a prefix fits room same =
 
 -- in a superblock: whoever stores an anchor keeps the descriptor on its way
 tag-block :
-    (g : Geometry) (who d w : ℕ) (p : BlockPoint) → FitsBlock g who p → tag_in w + 1 < 2 ^ TAG_BITS
+    (g : Geometry) (caller d w : ℕ) (p : BlockPoint) → FitsBlock g caller p → tag_in w + 1 < 2 ^ TAG_BITS
     → name_of (plan_block_of p) ≡ name.Anchor d
     → TagGoes (plan_block_of p) (pops_block d p) w ⊎ (1 ≤ kept_among on_its_way d (block_holds p).kept)
-tag-block g who d w (block.PopBlock at share a prefix) fits room is =
+tag-block g caller d w (block.PopBlock at share a prefix) fits room is =
     inl (pop-goes w d at.desc share a prefix fits.anchor.fits room (ap anchor_number is))
-tag-block g who d w (block.ReturnCredits at i more a) fits room is =
+tag-block g caller d w (block.ReturnCredits at i more a) fits room is =
     inl (tag-kept w a (returned more a) fits.2.fits (returned-tag more a fits.2.fits) refl)
-tag-block g who d w (block.PushBlock at i a stored heap) fits room is =
+tag-block g caller d w (block.PushBlock at i a stored heap) fits room is =
     let new = pushed-has-tag at.seat.class i a fits.anchor.fits in
     inl (tag-kept w a (pushed at.seat.class i a) fits.anchor.fits new.0 new.1)
-tag-block g who d w (block.StoreAnchor at) fits room is = inr (rw (eq-eqb at.desc d (ap anchor_number is)) (omega arith))
-tag-block g who d w (block.LoadAnchor at share) fits room is = inl (omega arith)
-tag-block g who d w (block.LoadReturn at i more) fits room is = inl (omega arith)
-tag-block g who d w (block.LoadPushAnchor at i stored) fits room is = inl (omega arith)
-tag-block g who d w p fits room is = absurd (cc)
+tag-block g caller d w (block.StoreAnchor at) fits room is = inr (rw (eq-eqb at.desc d (ap anchor_number is)) (omega arith))
+tag-block g caller d w (block.LoadAnchor at share) fits room is = inl (omega arith)
+tag-block g caller d w (block.LoadReturn at i more) fits room is = inl (omega arith)
+tag-block g caller d w (block.LoadPushAnchor at i stored) fits room is = inl (omega arith)
+tag-block g caller d w p fits room is = absurd (cc)
 
 -- at a stack
 head-not-anchor : (s : SeatFields) (pile : Pile) (d : ℕ) → head_name s pile ≡ name.Anchor d → ⊥
@@ -144,24 +144,24 @@ large-not-anchor p d is = grind (arith, is)
 
 -- at a partial superblock
 tag-partial :
-    (g : Geometry) (who d w : ℕ) (p : PartialPoint) → FitsPartial g who p → name_of (plan_partial_of p) ≡ name.Anchor d
+    (g : Geometry) (caller d w : ℕ) (p : PartialPoint) → FitsPartial g caller p → name_of (plan_partial_of p) ≡ name.Anchor d
     → TagGoes (plan_partial_of p) false w
-tag-partial g who d w (partial.Grant at a) fits is = tag-kept w a (granted a) fits.1.fits (granted-tag a fits.1.fits) refl
-tag-partial g who d w (partial.LoadGrantAnchor at) fits is = omega arith
-tag-partial g who d w (partial.LoadListedAnchor s k) fits is = omega arith
-tag-partial g who d w p fits is = absurd (cc)
+tag-partial g caller d w (partial.Grant at a) fits is = tag-kept w a (granted a) fits.1.fits (granted-tag a fits.1.fits) refl
+tag-partial g caller d w (partial.LoadGrantAnchor at) fits is = omega arith
+tag-partial g caller d w (partial.LoadListedAnchor s k) fits is = omega arith
+tag-partial g caller d w p fits is = absurd (cc)
 
 -- at each point
 pub tag-point :
-    (g : Geometry) (who d w : ℕ) (p : Point) → FitsPoint g who p → tag_in w + 1 < 2 ^ TAG_BITS → name_of (plan_point_of p) ≡ name.Anchor d
+    (g : Geometry) (caller d w : ℕ) (p : Point) → FitsPoint g caller p → tag_in w + 1 < 2 ^ TAG_BITS → name_of (plan_point_of p) ≡ name.Anchor d
     → TagGoes (plan_point_of p) (pops_at d p) w ⊎ (1 ≤ kept_among on_its_way d (holds_of p).kept)
 unfolding plan_point_of holds_of
-tag-point g who d w point.Idle fits room is = absurd (cc)
-tag-point g who d w (point.Block p o) fits room is = tag-block g who d w p fits.point room is
-tag-point g who d w (point.Stack p o) fits room is = absurd (stack-not-anchor p d is)
-tag-point g who d w (point.Desc p o) fits room is = absurd (not-desc p d is)
-tag-point g who d w (point.Partial p o) fits room is = inl (tag-partial g who d w p fits.point is)
-tag-point g who d w (point.Large p o) fits room is = absurd (large-not-anchor p d is)
+tag-point g caller d w point.Idle fits room is = absurd (cc)
+tag-point g caller d w (point.Block p o) fits room is = tag-block g caller d w p fits.point room is
+tag-point g caller d w (point.Stack p o) fits room is = absurd (stack-not-anchor p d is)
+tag-point g caller d w (point.Desc p o) fits room is = absurd (not-desc p d is)
+tag-point g caller d w (point.Partial p o) fits room is = inl (tag-partial g caller d w p fits.point is)
+tag-point g caller d w (point.Large p o) fits room is = absurd (large-not-anchor p d is)
 
 -- a pop is at the anchor of what it pops from
 pops-block : (d : ℕ) (p : BlockPoint) → name_of (plan_block_of p) ≡ name.Anchor d ⊎ (pops_block d p ≡ false)

@@ -16,8 +16,8 @@ use Rattle.sound_state.proofs.tags.TagSteps.{tag-stepped}
 tag-moved :
     (g : Geometry) (s : State) (move : Move) (s' : State) (d : ℕ) → IsSoundWithoutCounts g s → Moved g s move s' → IsBound g s d
     → (anchor_for s' d).tag ≡ (anchor_for s d).tag + pops_in s d move
-tag-moved g s (begins who call) s' d sound moved bound = omega (arith, ap (λ (t : State). (anchor_for t d).tag) moved.1.after)
-tag-moved g s (steps who) s' d sound moved bound = tag-stepped g s who s' d sound moved.0 moved.1 bound
+tag-moved g s (begins caller call) s' d sound moved bound = omega (arith, ap (λ (t : State). (anchor_for t d).tag) moved.1.after)
+tag-moved g s (steps caller) s' d sound moved bound = tag-stepped g s caller s' d sound moved.0 moved.1 bound
 
 pub tag-reached :
     (g : Geometry) (d : ℕ) (s : State) (moves : List Move) (n : ℕ) (s' : State) → IsSoundWithoutCounts g s → ReachesBound g d s moves n s'

@@ -21,39 +21,39 @@ use Rattle.sound_state.proofs.tags.TagPoints.{tag-point, pops-point}
 
 -- a step at another word leaves the anchor, and pops nothing of the superblock
 elsewhere-tag :
-    (s : State) (who : ℕ) (s' : State) (d : ℕ) → Step s who s' → name.Anchor d ≢ name_at s who
-    → (anchor_for s' d).tag ≡ (anchor_for s d).tag + pops_from s who d
-elsewhere-tag s who s' d step differ =
+    (s : State) (caller : ℕ) (s' : State) (d : ℕ) → Step s caller s' → name.Anchor d ≢ name_at s caller
+    → (anchor_for s' d).tag ≡ (anchor_for s d).tag + pops_from s caller d
+elsewhere-tag s caller s' d step differ =
     let same : (anchor_for s' d).tag ≡ (anchor_for s d).tag = ap (λ w. (anchor_of w).tag) (step.word.elsewhere (name.Anchor d) differ) in
-    elim (pops-point d (s.errand who).point) [
+    elim (pops-point d (s.errand caller).point) [
       | inl is ↦ absurd (differ (sym is))
       | inr none ↦ rw none (omega (arith, same))
     ]
 
 -- one at the anchor
 here-tag :
-    (g : Geometry) (s : State) (who : ℕ) (s' : State) (d : ℕ) → IsSoundWithoutCounts g s → who < g.callers → Step s who s' → IsBound g s d
-    → name_at s who ≡ name.Anchor d → (anchor_for s' d).tag ≡ (anchor_for s d).tag + pops_from s who d
-here-tag g s who s' d sound has step bound is =
-    let p = (s.errand who).point in
+    (g : Geometry) (s : State) (caller : ℕ) (s' : State) (d : ℕ) → IsSoundWithoutCounts g s → caller < g.callers → Step s caller s' → IsBound g s d
+    → name_at s caller ≡ name.Anchor d → (anchor_for s' d).tag ≡ (anchor_for s d).tag + pops_from s caller d
+here-tag g s caller s' d sound has step bound is =
+    let p = (s.errand caller).point in
     let a = plan_point_of p in
     let l = sound.parts.0 in
     let old = sound.parts.1 in
     let here : s'.word (name.Anchor d) ≡ after_action a (s.word (name.Anchor d)) =
     ap s'.word (sym is) ∙ step.word.here ∙ ap (λ n. after_action a (s.word n)) is in
-    elim (tag-point g who d (s.word (name.Anchor d)) p (fits-now g s who p sound has refl) (anchor-tags-below g s sound d bound.exists) is) [
+    elim (tag-point g caller d (s.word (name.Anchor d)) p (fits-now g s caller p sound has refl) (anchor-tags-below g s sound d bound.exists) is) [
       | inl goes ↦
           ap (λ w. (anchor_of w).tag) here ∙ goes
           ∙ ap (λ n. (anchor_for s d).tag + one_if (pops_at d p && is_won a (s.word n))) (sym is)
-      | inr way ↦ absurd ((way-unplaced g s l who d old has bound.exists way).bound (bound-with g s l d old bound))
+      | inr way ↦ absurd ((way-unplaced g s l caller d old has bound.exists way).bound (bound-with g s l d old bound))
     ]
 
 -- any step
 pub tag-stepped :
-    (g : Geometry) (s : State) (who : ℕ) (s' : State) (d : ℕ) → IsSoundWithoutCounts g s → who < g.callers → Step s who s' → IsBound g s d
-    → (anchor_for s' d).tag ≡ (anchor_for s d).tag + pops_from s who d
-tag-stepped g s who s' d sound has step bound =
-    elim (cases_name (name.Anchor d) (name_at s who)) [
-      | inl is ↦ here-tag g s who s' d sound has step bound (sym is)
-      | inr differ ↦ elsewhere-tag s who s' d step differ
+    (g : Geometry) (s : State) (caller : ℕ) (s' : State) (d : ℕ) → IsSoundWithoutCounts g s → caller < g.callers → Step s caller s' → IsBound g s d
+    → (anchor_for s' d).tag ≡ (anchor_for s d).tag + pops_from s caller d
+tag-stepped g s caller s' d sound has step bound =
+    elim (cases_name (name.Anchor d) (name_at s caller)) [
+      | inl is ↦ here-tag g s caller s' d sound has step bound (sym is)
+      | inr differ ↦ elsewhere-tag s caller s' d step differ
     ]

@@ -45,27 +45,27 @@ StockFor g s l a b =
     → stock_of g s l class + errand_stock class b ≤ g.frames + g.heaps + 2 * g.callers + errand_stock class a
 
 -- a caller tells the event and goes on with this errand
-pub record TellsOn (g : Geometry) (s : State) (l : Lists) (who : ℕ) (event : Event) (e : ErrandFields) : Type 0 where
-  pub told : IsTold g who event
-  pub weigh : WeighTold (s.errand who) e
-  pub may : MayGoOn g (told_state s event) l who (s.errand who) e
-  pub guards : MayGuard g (told_state s event) who e.point e.retired (s.word (name.Hazard who))
-  pub cleared : e.cleared ≡ (s.errand who).cleared
-  pub stock : StockFor g s l (s.errand who) e
+pub record TellsOn (g : Geometry) (s : State) (l : Lists) (caller : ℕ) (event : Event) (e : ErrandFields) : Type 0 where
+  pub told : IsTold g caller event
+  pub weigh : WeighTold (s.errand caller) e
+  pub may : MayGoOn g (told_state s event) l caller (s.errand caller) e
+  pub guards : MayGuard g (told_state s event) caller e.point e.retired (s.word (name.Hazard caller))
+  pub cleared : e.cleared ≡ (s.errand caller).cleared
+  pub stock : StockFor g s l (s.errand caller) e
 
 -- as many descriptors are away
 told-away :
-    (g : Geometry) (s : State) (l : Lists) (who : ℕ) (e : ErrandFields) (s' : State) → who < g.callers → Moves s.errand who e s'.errand
-    → WeighTold (s.errand who) e → (d : ℕ) → away_of g s' l d ≡ away_of g s l d
-told-away g s l who e s' has m weigh d = omega (arith, callers-moved g (errand_away d) s.errand who e s'.errand has m, weigh.away d)
+    (g : Geometry) (s : State) (l : Lists) (caller : ℕ) (e : ErrandFields) (s' : State) → caller < g.callers → Moves s.errand caller e s'.errand
+    → WeighTold (s.errand caller) e → (d : ℕ) → away_of g s' l d ≡ away_of g s l d
+told-away g s l caller e s' has m weigh d = omega (arith, callers-moved g (errand_away d) s.errand caller e s'.errand has m, weigh.away d)
 
 told-alike :
-    (g : Geometry) (s : State) (l : Lists) (who : ℕ) (event : Event) (e : ErrandFields) (s' : State) → who < g.callers
-    → ((n : WordName) → s'.word n ≡ s.word n) → Moves s.errand who e s'.errand → s'.history ≡ s.history ++ event ∷ []
-    → WeighTold (s.errand who) e → StockFor g s l (s.errand who) e → Alike g (told_state s event) l s'
-told-alike g s l who event e s' has same m past weigh room =
+    (g : Geometry) (s : State) (l : Lists) (caller : ℕ) (event : Event) (e : ErrandFields) (s' : State) → caller < g.callers
+    → ((n : WordName) → s'.word n ≡ s.word n) → Moves s.errand caller e s'.errand → s'.history ≡ s.history ++ event ∷ []
+    → WeighTold (s.errand caller) e → StockFor g s l (s.errand caller) e → Alike g (told_state s event) l s'
+told-alike g s l caller event e s' has same m past weigh room =
     let words = λ (weight : WordName → ℕ → ℕ). words-same g weight s.word s'.word same in
-    let callers = λ (weight : ErrandFields → ℕ). callers-moved g weight s.errand who e s'.errand has m in
+    let callers = λ (weight : ErrandFields → ℕ). callers-moved g weight s.errand caller e s'.errand has m in
     let anchor = λ (d : ℕ). ap anchor_of (same (name.Anchor d)) in
     record {
       word = λ n plain. same n;
@@ -73,7 +73,7 @@ told-alike g s l who event e s' has same m past weigh room =
       reserved = λ d. omega (arith, words (word_reserves d), callers (errand_reserves d), weigh.reserves d);
       waits = λ d. omega (arith, callers (errand_keeps waiting d), weigh.waits d);
       ways = λ d. omega (arith, callers (errand_keeps on_its_way d), weigh.ways d);
-      bound = λ d. rw (told-away g s l who e s' has m weigh d, anchor d) refl;
+      bound = λ d. rw (told-away g s l caller e s' has m weigh d, anchor d) refl;
       places = λ d. omega (arith, words (word_keeps d), callers (errand_has d), weigh.places d, ap (λ a. full_keeps a.state) (anchor d));
       frames = λ f. omega (arith, callers (errand_frames f), weigh.frames f);
       stock = λ stocked.
@@ -88,43 +88,43 @@ told-alike g s l who event e s' has same m past weigh room =
 
 -- the state after it is sound
 tells-on :
-    (g : Geometry) (s : State) (l : Lists) (who : ℕ) (event : Event) (e : ErrandFields) (s' : State) → IsSoundWith g s l → who < g.callers
-    → ((n : WordName) → s'.word n ≡ s.word n) → Moves s.errand who e s'.errand → s'.history ≡ s.history ++ event ∷ []
-    → TellsOn g s l who event e → IsSoundWith g s' l
-tells-on g s l who event e s' sound has same m past tells =
+    (g : Geometry) (s : State) (l : Lists) (caller : ℕ) (event : Event) (e : ErrandFields) (s' : State) → IsSoundWith g s l → caller < g.callers
+    → ((n : WordName) → s'.word n ≡ s.word n) → Moves s.errand caller e s'.errand → s'.history ≡ s.history ++ event ∷ []
+    → TellsOn g s l caller event e → IsSoundWith g s' l
+tells-on g s l caller event e s' sound has same m past tells =
     let t = told_state s event in
-    let but : IsSoundBut g t l who = told-but g s l who event tells.told sound in
-    sound-but g t l who e s'
+    let but : IsSoundBut g t l caller = told-but g s l caller event tells.told sound in
+    sound-but g t l caller e s'
     (record {
-      caller = has;
+      in_heap = has;
       moves = record { here = m.here; elsewhere = m.elsewhere };
-      alike = told-alike g s l who event e s' has same m past tells.weigh tells.stock;
+      alike = told-alike g s l caller event e s' has same m past tells.weigh tells.stock;
       may = tells.may;
       others = λ i differ. same (name.Hazard i);
-      guards = subst (λ w. MayGuard g t who e.point e.retired w) (sym (same (name.Hazard who))) tells.guards;
+      guards = subst (λ w. MayGuard g t caller e.point e.retired w) (sym (same (name.Hazard caller))) tells.guards;
       actives = actives-stay g t l s'.word but.kept same;
       words = λ n. subst (λ w. w < 2 ^ 64) (sym (same n)) (sound.words n);
       emptied =
           let out : sum_below (descriptor_count g) (emptied_out g s' l) ≡ sum_below (descriptor_count g) (emptied_out g s l) =
           sum-same (descriptor_count g) (emptied_out g s l) (emptied_out g s' l)
-          (λ d lt. rw (told-away g s l who e s' has m tells.weigh d, ap anchor_of (same (name.Anchor d))) refl) in
+          (λ d lt. rw (told-away g s l caller e s' has m tells.weigh d, ap anchor_of (same (name.Anchor d))) refl) in
           omega (arith, out, tells.cleared);
     })
     but
 
 -- so such a step keeps the state sound
 pub step-tells :
-    (g : Geometry) (s : State) (who : ℕ) (event : Event) (e : ErrandFields) (s' : State) → IsSoundWithoutCounts g s → who < g.callers
-    → settle_of (s.errand who) (found_at s who) ≡ e → event_at s who ≡ Some event
-    → after_action (action_at s who) (word_at s who) ≡ word_at s who → IsAllowed g s.history event
-    → ((l : Lists) → IsSoundWith g s l → TellsOn g s l who event e) → Step s who s' → IsSoundWithoutCounts g s'
-step-tells g s who event e s' sound has after said stays allowed tells step =
+    (g : Geometry) (s : State) (caller : ℕ) (event : Event) (e : ErrandFields) (s' : State) → IsSoundWithoutCounts g s → caller < g.callers
+    → settle_of (s.errand caller) (found_at s caller) ≡ e → event_at s caller ≡ Some event
+    → after_action (action_at s caller) (word_at s caller) ≡ word_at s caller → IsAllowed g s.history event
+    → ((l : Lists) → IsSoundWith g s l → TellsOn g s l caller event e) → Step s caller s' → IsSoundWithoutCounts g s'
+step-tells g s caller event e s' sound has after said stays allowed tells step =
     let l = sound.parts.0 in
     let old = sound.parts.1 in
     let to = tells l old in
     let past : s'.history ≡ s.history ++ event ∷ [] = step.history ∙ ap (with_event s.history) said in
-    let moves : Moves s.errand who e s'.errand = subst (λ f. Moves s.errand who f s'.errand) after step.errand in
-    let mine : caller_of event < g.callers = subst (λ i. i < g.callers) (sym to.told.caller) has in
+    let moves : Moves s.errand caller e s'.errand = subst (λ f. Moves s.errand caller f s'.errand) after step.errand in
+    let mine : caller_of event < g.callers = subst (λ i. i < g.callers) (sym to.told.number) has in
     record {
       checked = sound.checked;
       legal =
@@ -132,6 +132,6 @@ step-tells g s who event e s' sound has after said stays allowed tells step =
           (EachAfter-push (IsLegalEventWithoutCounts g) s.history event sound.legal (mine, allowed));
       parts = (
         l,
-        tells-on g s l who event e s' old has (words-stay s.word (name_at s who) _ s'.word step.word stays) moves past to,
+        tells-on g s l caller event e s' old has (words-stay s.word (name_at s caller) _ s'.word step.word stays) moves past to,
       );
     }

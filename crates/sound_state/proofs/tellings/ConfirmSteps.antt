@@ -27,8 +27,8 @@ use Rattle.pool_model.specs.declared.event.Event.TheVariants.{Looked, Refuse}
 use Rattle.pool_model.specs.Histories.{own}
 use Rattle.pool_model.specs.Legal.{IsRefusable}
 use Rattle.errand_steps.specs.declared.next.Next.TheVariants.{At, Retire}
-use Rattle.errand_steps.specs.declared.onward.Onward.{Onward}
-use Rattle.errand_steps.specs.declared.onward.Onward.TheVariants as onward
+use Rattle.errand_steps.specs.declared.continuation.Continuation.{Continuation}
+use Rattle.errand_steps.specs.declared.continuation.Continuation.TheVariants as continuation
 use Rattle.errand_steps.specs.declared.point.Point.{Point}
 use Rattle.errand_steps.specs.declared.point.Point.TheVariants.{Idle, Stack, Desc}
 use Rattle.errand_steps.specs.declared.reply.Reply.TheVariants as reply
@@ -36,7 +36,7 @@ use Rattle.errand_steps.specs.Errands.{ErrandFields, settle_of, raised, counts_l
 use Rattle.errand_steps.specs.Events.{event_of}
 use Rattle.errand_steps.specs.Fits.{FitsPoint, spare_of}
 use Rattle.errand_steps.specs.Nexts.{next_of}
-use Rattle.errand_steps.specs.Onwards.{confirms}
+use Rattle.errand_steps.specs.Continuations.{confirms}
 use Rattle.errand_steps.specs.Points.{plan_point_of}
 use Rattle.errand_steps.specs.Steps.{State, Step, action_at, name_at, word_at, found_at, event_at}
 use Rattle.sound_state.specs.Guards.{IsHazard}
@@ -63,9 +63,9 @@ use Rattle.sound_state.proofs.tellings.TellLemmas.{IsTold, told_state, told-but,
 
 -- where the caller remembers nothing, all of the state is sound
 but-whole :
-    (g : Geometry) (s : State) (l : Lists) (who : ℕ) → IsSoundBut g s l who → All (IsSo g s l who) (recalls_of (s.errand who).point)
+    (g : Geometry) (s : State) (l : Lists) (caller : ℕ) → IsSoundBut g s l caller → All (IsSo g s l caller) (recalls_of (s.errand caller).point)
     → IsSoundWith g s l
-but-whole g s l who but own = record {
+but-whole g s l caller but own = record {
   words = but.words;
   errands = but.errands;
   listed = but.listed;
@@ -74,7 +74,7 @@ but-whole g s l who but own = record {
   framed = but.framed;
   remembered = record {
     so = λ i has.
-        elim (cases_eq i who) [
+        elim (cases_eq i caller) [
           | inl same ↦ subst (λ j. All (IsSo g s l j) (recalls_of (s.errand j).point)) (sym same) own
           | inr differ ↦ but.remembered i has differ
         ];
@@ -86,18 +86,18 @@ but-whole g s l who but own = record {
 }
 
 -- a look and a refusal are such events
-looked-told : (g : Geometry) (who class : ℕ) → IsTold g who (Looked who class)
-looked-told g who class = record { caller = refl; pool = λ pool. refl; gives = λ i. refl; allocs = refl; frees = refl }
+looked-told : (g : Geometry) (caller class : ℕ) → IsTold g caller (Looked caller class)
+looked-told g caller class = record { number = refl; pool = λ pool. refl; gives = λ i. refl; allocs = refl; frees = refl }
 
-refused-told : (g : Geometry) (who words : ℕ) → IsTold g who (Refuse who words)
-refused-told g who words = record { caller = refl; pool = λ pool. refl; gives = λ i. refl; allocs = refl; frees = refl }
+refused-told : (g : Geometry) (caller words : ℕ) → IsTold g caller (Refuse caller words)
+refused-told g caller words = record { number = refl; pool = λ pool. refl; gives = λ i. refl; allocs = refl; frees = refl }
 
 -- a look: the caller waits for a descriptor
 abbrev looking : SeatFields → HeadFields → ℕ → Point
-looking seat h words = Stack (stack.ConfirmEmpty seat Partials h) (onward.Alloc words)
+looking seat h words = Stack (stack.ConfirmEmpty seat Partials h) (continuation.Alloc words)
 
 abbrev waiting_one : SeatFields → ℕ → Point
-waiting_one seat words = Desc (desc.LoadDescHead seat) (onward.Alloc words)
+waiting_one seat words = Desc (desc.LoadDescHead seat) (continuation.Alloc words)
 
 look-turn : (seat : SeatFields) (h : HeadFields) (words : ℕ) → TurnGoes (looking seat h words) (waiting_one seat words)
 look-turn seat h words = record {
@@ -109,18 +109,18 @@ look-turn seat h words = record {
 }
 
 look-stands :
-    (g : Geometry) (s : State) (l : Lists) (who : ℕ) (seat : SeatFields) (h : HeadFields) (words : ℕ)
-    → PointStands g (told_state s (Looked who seat.class)) l who (looking seat h words) (waiting_one seat words)
+    (g : Geometry) (s : State) (l : Lists) (caller : ℕ) (seat : SeatFields) (h : HeadFields) (words : ℕ)
+    → PointStands g (told_state s (Looked caller seat.class)) l caller (looking seat h words) (waiting_one seat words)
 unfolding holds_of recalls_of
-look-stands g s l who seat h words =
-    let t = told_state s (Looked who seat.class) in
+look-stands g s l caller seat h words =
+    let t = told_state s (Looked caller seat.class) in
     record {
       kept = All-nil (λ k. IsKeptAs t k.status k.desc k.class);
       so =
-          All-cons (IsSo g t l who) (looked seat.class) [] (told-ends who s.history (Looked who seat.class) refl) (All-nil (IsSo g t l who));
+          All-cons (IsSo g t l caller) (looked seat.class) [] (told-ends caller s.history (Looked caller seat.class) refl) (All-nil (IsSo g t l caller));
       spare = refl;
-      hands = All-nil (λ x. IsOwned t who x.place x.need);
-      frees = All-nil (λ x. IsOwned t who x.place x.need);
+      hands = All-nil (λ x. IsOwned t caller x.place x.need);
+      frees = All-nil (λ x. IsOwned t caller x.place x.need);
       excepts = λ place x. absurd (keeps-excepts [] clear place x);
       turn = look-turn seat h words;
     }
@@ -147,25 +147,25 @@ unfolding holds_of
 waits-one c e x seat words = omega arith
 
 look-room :
-    (g : Geometry) (s : State) (l : Lists) (who : ℕ) (x : Found) (seat : SeatFields) (h : HeadFields) (words : ℕ) → IsSoundWith g s l
-    → who < g.callers → (s.errand who).point ≡ looking seat h words → l.partials seat.class ≡ []
-    → StockFor g s l (s.errand who) (at_point (s.errand who) x (waiting_one seat words))
-look-room g s l who x seat h words old has at bare class is =
-    let one = waits-one class (s.errand who) x seat words in
-    let none = look-kept-none class (s.errand who) seat h words at in
+    (g : Geometry) (s : State) (l : Lists) (caller : ℕ) (x : Found) (seat : SeatFields) (h : HeadFields) (words : ℕ) → IsSoundWith g s l
+    → caller < g.callers → (s.errand caller).point ≡ looking seat h words → l.partials seat.class ≡ []
+    → StockFor g s l (s.errand caller) (at_point (s.errand caller) x (waiting_one seat words))
+look-room g s l caller x seat h words old has at bare class is =
+    let one = waits-one class (s.errand caller) x seat words in
+    let none = look-kept-none class (s.errand caller) seat h words at in
     elim (cases_eq seat.class class) [
       | inl same ↦
           let there : l.partials class ≡ [] = ap l.partials (sym same) ∙ bare in
-          omega (arith, one, cond-true {A = ℕ} (seat.class == class) 1 0 (eq-eqb seat.class class same), look-stock g s l who class old has there none)
+          omega (arith, one, cond-true {A = ℕ} (seat.class == class) 1 0 (eq-eqb seat.class class same), look-stock g s l caller class old has there none)
       | inr differ ↦
           omega (arith, one, cond-false {A = ℕ} (seat.class == class) 1 0 (ne_eqb seat.class class differ), old.stocked.most class is)
     ]
 
 look-guards :
-    (g : Geometry) (s : State) (who : ℕ) (seat : SeatFields) (words : ℕ) (retired : List ℕ) (word : ℕ)
-    → MayGuard g s who (waiting_one seat words) retired word
+    (g : Geometry) (s : State) (caller : ℕ) (seat : SeatFields) (words : ℕ) (retired : List ℕ) (word : ℕ)
+    → MayGuard g s caller (waiting_one seat words) retired word
 unfolding holds_of
-look-guards g s who seat words retired word = record {
+look-guards g s caller seat words retired word = record {
   hazard = tt;
   guard = λ d is guard. absurd guard;
   pushed = λ i d has guards is. absurd (none-some d is);
@@ -175,61 +175,61 @@ look-guards g s who seat words retired word = record {
 
 -- the head's top is 0, so the class's list is empty
 bare-list :
-    (g : Geometry) (s : State) (l : Lists) (who : ℕ) (seat : SeatFields) (h : HeadFields) → IsSoundWith g s l → IsBare g who seat h
+    (g : Geometry) (s : State) (l : Lists) (caller : ℕ) (seat : SeatFields) (h : HeadFields) → IsSoundWith g s l → IsBare g caller seat h
     → s.word (name.ListHead seat.class) ≡ head_word h → l.partials seat.class ≡ []
-bare-list g s l who seat h old fits same =
+bare-list g s l caller seat h old fits same =
     stacked-none (next_in s.word Partials) (head_of (s.word (name.ListHead seat.class))).top (l.partials seat.class)
     (old.listed.partials seat.class fits.seat.class)
     (ap (λ w. (head_of w).top) same ∙ ap (λ x. x.top) (head_of-head_word h fits.head) ∙ fits.top)
 
 -- a look that finds no partial superblock
 pub confirm_no_partial-sound :
-    (g : Geometry) (s : State) (who : ℕ) (s' : State) (seat : SeatFields) (h : HeadFields) (words : ℕ) → IsSoundWithoutCounts g s
-    → who < g.callers → (s.errand who).point ≡ Stack (stack.ConfirmEmpty seat Partials h) (onward.Alloc words)
-    → s.word (name.ListHead seat.class) ≡ head_word h → Step s who s' → IsSoundWithoutCounts g s'
+    (g : Geometry) (s : State) (caller : ℕ) (s' : State) (seat : SeatFields) (h : HeadFields) (words : ℕ) → IsSoundWithoutCounts g s
+    → caller < g.callers → (s.errand caller).point ≡ Stack (stack.ConfirmEmpty seat Partials h) (continuation.Alloc words)
+    → s.word (name.ListHead seat.class) ≡ head_word h → Step s caller s' → IsSoundWithoutCounts g s'
 unfolding plan_point_of next_of event_of holds_of recalls_of
-confirm_no_partial-sound g s who s' seat h words sound has at same step =
+confirm_no_partial-sound g s caller s' seat h words sound has at same step =
     let p = looking seat h words in
     let q = waiting_one seat words in
-    let e = s.errand who in
-    let x = found_at s who in
-    let event = Looked who seat.class in
+    let e = s.errand caller in
+    let x = found_at s caller in
+    let event = Looked caller seat.class in
     let wins = eq-eqb (s.word (name.ListHead seat.class)) (head_word h) same in
     let next : next_of p (found_from s p) ≡ At q = rw wins refl in
-    let said : event_of who p (found_from s p) ≡ Some event = rw wins refl in
+    let said : event_of caller p (found_from s p) ≡ Some event = rw wins refl in
     let stays : after_action (plan_point_of p) (s.word (name_of (plan_point_of p))) ≡ s.word (name_of (plan_point_of p)) =
     rw wins (sym same) in
     let after : settle_of e x ≡ at_point e x q =
     settle-at e x q (subst (λ r. next_of r (found_from s r) ≡ At q) (sym at) next) in
-    let fits : FitsPoint g who p = fits-at g s sound.parts.0 who p sound.parts.1 has at in
+    let fits : FitsPoint g caller p = fits-at g s sound.parts.0 caller p sound.parts.1 has at in
     let cleared : counts_cleared e.point x ≡ false = ap (λ r. counts_cleared r x) at in
-    step-tells g s who event (at_point e x q) s' sound has after
-    (subst (λ r. event_of who r (found_from s r) ≡ Some event) (sym at) said)
+    step-tells g s caller event (at_point e x q) s' sound has after
+    (subst (λ r. event_of caller r (found_from s r) ≡ Some event) (sym at) said)
     (subst (λ r. after_action (plan_point_of r) (s.word (name_of (plan_point_of r))) ≡ s.word (name_of (plan_point_of r))) (sym at) stays)
     fits.point.seat.class
     (λ l old.
     let t = told_state s event in
-    let but : IsSoundBut g t l who = told-but g s l who event (looked-told g who seat.class) old in
+    let but : IsSoundBut g t l caller = told-but g s l caller event (looked-told g caller seat.class) old in
     let whole : IsSoundWith g t l =
-    but-whole g t l who but (subst (λ r. All (IsSo g t l who) (recalls_of r)) (sym at) (All-nil (IsSo g t l who))) in
+    but-whole g t l caller but (subst (λ r. All (IsSo g t l caller) (recalls_of r)) (sym at) (All-nil (IsSo g t l caller))) in
     record {
-      told = looked-told g who seat.class;
+      told = looked-told g caller seat.class;
       weigh = look-weigh e x seat h words at;
       may =
-          may-after g t l who x q whole has (old.words (name_at s who)) after cleared
-          (subst (λ r. PointStands g t l who r q) (sym at) (look-stands g s l who seat h words));
-      guards = look-guards g t who seat words e.retired (s.word (name.Hazard who));
+          may-after g t l caller x q whole has (old.words (name_at s caller)) after cleared
+          (subst (λ r. PointStands g t l caller r q) (sym at) (look-stands g s l caller seat h words));
+      guards = look-guards g t caller seat words e.retired (s.word (name.Hazard caller));
       cleared = ap (λ b. raised b e.cleared) cleared;
-      stock = look-room g s l who x seat h words old has at (bare-list g s l who seat h old fits.point same);
+      stock = look-room g s l caller x seat h words old has at (bare-list g s l caller seat h old fits.point same);
     })
     step
 
 -- a refusal: the caller retires the descriptor that was on its way
 abbrev refusing : SeatFields → HeadFields → ℕ → ℕ → Point
-refusing seat h words d = Stack (stack.ConfirmEmpty seat Frames h) (onward.TakeFrame words d)
+refusing seat h words d = Stack (stack.ConfirmEmpty seat Frames h) (continuation.TakeFrame words d)
 
 abbrev scanning : SeatFields → Point
-scanning seat = Desc (desc.ReadHazard seat no_words 0) onward.Refuse
+scanning seat = Desc (desc.ReadHazard seat no_words 0) continuation.Refuse
 
 -- how far the caller's turn is
 record TurnRefused (p q : Point) : Type 0 where
@@ -266,145 +266,145 @@ refused-weigh e x q d class to =
     }
 
 refused-room :
-    (g : Geometry) (s : State) (l : Lists) (who : ℕ) (x : Found) (q : Point) (d class : ℕ) → IsSoundWith g s l
-    → Lets (s.errand who).point q d class on_its_way clear → StockFor g s l (s.errand who) (retired_at (s.errand who) x d q)
-refused-room g s l who x q d class old to c is =
-    let less : errand_stock c (retired_at (s.errand who) x d q) ≤ errand_stock c (s.errand who) =
+    (g : Geometry) (s : State) (l : Lists) (caller : ℕ) (x : Found) (q : Point) (d class : ℕ) → IsSoundWith g s l
+    → Lets (s.errand caller).point q d class on_its_way clear → StockFor g s l (s.errand caller) (retired_at (s.errand caller) x d q)
+refused-room g s l caller x q d class old to c is =
+    let less : errand_stock c (retired_at (s.errand caller) x d q) ≤ errand_stock c (s.errand caller) =
     rw (to.before, to.bare.holds, to.bare.waits c) (omega arith) in
     omega (arith, less, old.stocked.most c is)
 
-refuses-one : (who words : ℕ) → nat_le words SMALL_MOST ≡ true → cond {A = ℕ} (refuses_small who (Refuse who words)) 1 0 ≡ 1
-refuses-one who words small = rw (eq-eqb who who refl, small) refl
+refuses-one : (caller words : ℕ) → nat_le words SMALL_MOST ≡ true → cond {A = ℕ} (refuses_small caller (Refuse caller words)) 1 0 ≡ 1
+refuses-one caller words small = rw (eq-eqb caller caller refl, small) refl
 
 refused-may :
-    (g : Geometry) (s : State) (l : Lists) (who : ℕ) (x : Found) (q : Point) (words d class : ℕ) → IsSoundWith g s l → who < g.callers
-    → x.value < 2 ^ 64 → settle_of (s.errand who) x ≡ retired_at (s.errand who) x d q → counts_cleared (s.errand who).point x ≡ false
-    → nat_le words SMALL_MOST ≡ true → Lets (s.errand who).point q d class on_its_way clear → TurnRefused (s.errand who).point q
-    → (spare_of q ≡ 1 → is_full (s.errand who) ≡ true) → All (IsSo g (told_state s (Refuse who words)) l who) (recalls_of q)
-    → MayGoOn g (told_state s (Refuse who words)) l who (s.errand who) (retired_at (s.errand who) x d q)
-refused-may g s l who x q words d class old has word after still small to turn full so =
-    let e = s.errand who in
-    let event = Refuse who words in
-    let gives = counted-not (gives_small who) s.history event refl in
-    let refuses : count_by (refuses_small who) (s.history ++ event ∷ []) ≡ count_by (refuses_small who) s.history + 1 =
-    omega (arith, told-counts (refuses_small who) s.history event, refuses-one who words small) in
+    (g : Geometry) (s : State) (l : Lists) (caller : ℕ) (x : Found) (q : Point) (words d class : ℕ) → IsSoundWith g s l → caller < g.callers
+    → x.value < 2 ^ 64 → settle_of (s.errand caller) x ≡ retired_at (s.errand caller) x d q → counts_cleared (s.errand caller).point x ≡ false
+    → nat_le words SMALL_MOST ≡ true → Lets (s.errand caller).point q d class on_its_way clear → TurnRefused (s.errand caller).point q
+    → (spare_of q ≡ 1 → is_full (s.errand caller) ≡ true) → All (IsSo g (told_state s (Refuse caller words)) l caller) (recalls_of q)
+    → MayGoOn g (told_state s (Refuse caller words)) l caller (s.errand caller) (retired_at (s.errand caller) x d q)
+refused-may g s l caller x q words d class old has word after still small to turn full so =
+    let e = s.errand caller in
+    let event = Refuse caller words in
+    let gives = counted-not (gives_small caller) s.history event refl in
+    let refuses : count_by (refuses_small caller) (s.history ++ event ∷ []) ≡ count_by (refuses_small caller) s.history + 1 =
+    omega (arith, told-counts (refuses_small caller) s.history event, refuses-one caller words small) in
     let on_way : IsWithout s d =
-    subst (λ held. All (λ k. IsKeptAs s k.status k.desc k.class) held.kept) to.before (old.kept.errand who has) 0
+    subst (λ held. All (λ k. IsKeptAs s k.status k.desc k.class) held.kept) to.before (old.kept.errand caller has) 0
     (record { desc = d; class = class; status = on_its_way }) (omega arith) in
-    retired-may g s (s.history ++ event ∷ []) l who x d class on_its_way clear q old has word after to full on_way so
+    retired-may g s (s.history ++ event ∷ []) l caller x d class on_its_way clear q old has word after to full on_way so
     (record {
-      own_turns = omega (arith, old.turned.own_turns who has, turn.under_way, gives);
+      own_turns = omega (arith, old.turned.own_turns caller has, turn.under_way, gives);
       own_lost =
           omega (
             arith,
-            old.turned.own_lost who has,
+            old.turned.own_lost caller has,
             turn.discards,
             one_if-most (lacks_answer (turn_stage_of e.point)),
             gives,
             refuses,
-            raised-least (counts_lost e.point x) e.lost (old.errands who has).lost,
+            raised-least (counts_lost e.point x) e.lost (old.errands caller has).lost,
           );
       frame_turns = omega (arith, turn.unframed);
       list_turns = omega (arith, turn.pops, ap (λ b. raised b e.cleared) still);
     })
 
 refused-tells :
-    (g : Geometry) (s : State) (l : Lists) (who : ℕ) (x : Found) (q : Point) (words d class : ℕ) → IsSoundWith g s l → who < g.callers
-    → x.value < 2 ^ 64 → settle_of (s.errand who) x ≡ retired_at (s.errand who) x d q → counts_cleared (s.errand who).point x ≡ false
-    → nat_le words SMALL_MOST ≡ true → Lets (s.errand who).point q d class on_its_way clear → TurnRefused (s.errand who).point q
-    → (spare_of q ≡ 1 → is_full (s.errand who) ≡ true) → All (IsSo g (told_state s (Refuse who words)) l who) (recalls_of q)
-    → TellsOn g s l who (Refuse who words) (retired_at (s.errand who) x d q)
-refused-tells g s l who x q words d class old has word after still small to turn full so =
-    let e = s.errand who in
-    let bare : s.word (name.Hazard who) ≡ 0 =
-    subst (λ held. IsHazard held.hazard (s.word (name.Hazard who))) to.before (old.guarded.words who has) in
+    (g : Geometry) (s : State) (l : Lists) (caller : ℕ) (x : Found) (q : Point) (words d class : ℕ) → IsSoundWith g s l → caller < g.callers
+    → x.value < 2 ^ 64 → settle_of (s.errand caller) x ≡ retired_at (s.errand caller) x d q → counts_cleared (s.errand caller).point x ≡ false
+    → nat_le words SMALL_MOST ≡ true → Lets (s.errand caller).point q d class on_its_way clear → TurnRefused (s.errand caller).point q
+    → (spare_of q ≡ 1 → is_full (s.errand caller) ≡ true) → All (IsSo g (told_state s (Refuse caller words)) l caller) (recalls_of q)
+    → TellsOn g s l caller (Refuse caller words) (retired_at (s.errand caller) x d q)
+refused-tells g s l caller x q words d class old has word after still small to turn full so =
+    let e = s.errand caller in
+    let bare : s.word (name.Hazard caller) ≡ 0 =
+    subst (λ held. IsHazard held.hazard (s.word (name.Hazard caller))) to.before (old.guarded.words caller has) in
     record {
-      told = refused-told g who words;
+      told = refused-told g caller words;
       weigh = refused-weigh e x q d class to;
-      may = refused-may g s l who x q words d class old has word after still small to turn full so;
-      guards = nothing-guards g (told_state s (Refuse who words)) who q (retired_at e x d q).retired (s.word (name.Hazard who)) to.bare bare;
+      may = refused-may g s l caller x q words d class old has word after still small to turn full so;
+      guards = nothing-guards g (told_state s (Refuse caller words)) caller q (retired_at e x d q).retired (s.word (name.Hazard caller)) to.bare bare;
       cleared = ap (λ b. raised b e.cleared) still;
-      stock = refused-room g s l who x q d class old to;
+      stock = refused-room g s l caller x q d class old to;
     }
 
 -- a refusal for want of a frame
 pub confirm_no_frame-sound :
-    (g : Geometry) (s : State) (who : ℕ) (s' : State) (seat : SeatFields) (h : HeadFields) (words d : ℕ) → IsSoundWithoutCounts g s
-    → who < g.callers → (s.errand who).point ≡ Stack (stack.ConfirmEmpty seat Frames h) (onward.TakeFrame words d)
-    → s.word name.FrameHead ≡ head_word h → Step s who s' → IsSoundWithoutCounts g s'
+    (g : Geometry) (s : State) (caller : ℕ) (s' : State) (seat : SeatFields) (h : HeadFields) (words d : ℕ) → IsSoundWithoutCounts g s
+    → caller < g.callers → (s.errand caller).point ≡ Stack (stack.ConfirmEmpty seat Frames h) (continuation.TakeFrame words d)
+    → s.word name.FrameHead ≡ head_word h → Step s caller s' → IsSoundWithoutCounts g s'
 unfolding plan_point_of next_of event_of recalls_of
-confirm_no_frame-sound g s who s' seat h words d sound has at same step =
+confirm_no_frame-sound g s caller s' seat h words d sound has at same step =
     let p = refusing seat h words d in
-    let e = s.errand who in
-    let x = found_at s who in
-    let event = Refuse who words in
+    let e = s.errand caller in
+    let x = found_at s caller in
+    let event = Refuse caller words in
     let wins = eq-eqb (s.word name.FrameHead) (head_word h) same in
-    let leads : next_of p (found_from s p) ≡ Retire seat d onward.Refuse = rw wins refl in
-    let said : event_of who p (found_from s p) ≡ Some event = rw wins refl in
+    let leads : next_of p (found_from s p) ≡ Retire seat d continuation.Refuse = rw wins refl in
+    let said : event_of caller p (found_from s p) ≡ Some event = rw wins refl in
     let keeps : after_action (plan_point_of p) (s.word (name_of (plan_point_of p))) ≡ s.word (name_of (plan_point_of p)) =
     rw wins (sym same) in
-    let next : next_of e.point x ≡ Retire seat d onward.Refuse =
-    subst (λ r. next_of r (found_from s r) ≡ Retire seat d onward.Refuse) (sym at) leads in
-    let told : event_at s who ≡ Some event = subst (λ r. event_of who r (found_from s r) ≡ Some event) (sym at) said in
-    let stays : after_action (action_at s who) (word_at s who) ≡ word_at s who =
+    let next : next_of e.point x ≡ Retire seat d continuation.Refuse =
+    subst (λ r. next_of r (found_from s r) ≡ Retire seat d continuation.Refuse) (sym at) leads in
+    let told : event_at s caller ≡ Some event = subst (λ r. event_of caller r (found_from s r) ≡ Some event) (sym at) said in
+    let stays : after_action (action_at s caller) (word_at s caller) ≡ word_at s caller =
     subst (λ r. after_action (plan_point_of r) (s.word (name_of (plan_point_of r))) ≡ s.word (name_of (plan_point_of r))) (sym at) keeps in
-    let fits : FitsPoint g who p = fits-at g s sound.parts.0 who p sound.parts.1 has at in
-    let served : need_of words ≡ Small seat.class = fits.onward.0 in
+    let fits : FitsPoint g caller p = fits-at g s sound.parts.0 caller p sound.parts.1 has at in
+    let served : need_of words ≡ Small seat.class = fits.continuation.0 in
     let small : nat_le words SMALL_MOST ≡ true = small-served words seat.class served in
     let cleared : counts_cleared e.point x ≡ false = ap (λ r. counts_cleared r x) at in
-    let allowed : IsRefusable g s.history who (need_of words) =
-    subst (IsRefusable g s.history who) (sym served) (so-at g s sound.parts.0 who p sound.parts.1 has at 0 (looked seat.class) (omega arith)) in
+    let allowed : IsRefusable g s.history caller (need_of words) =
+    subst (IsRefusable g s.history caller) (sym served) (so-at g s sound.parts.0 caller p sound.parts.1 has at 0 (looked seat.class) (omega arith)) in
     elim (cases_Bool (is_full e)) [
       | inl full ↦
-          let after = settle-full e x seat d onward.Refuse next full in
-          step-tells g s who event (retired_at e x d (scanning seat)) s' sound has after told stays allowed
+          let after = settle-full e x seat d continuation.Refuse next full in
+          step-tells g s caller event (retired_at e x d (scanning seat)) s' sound has after told stays allowed
           (λ l old.
-          refused-tells g s l who x (scanning seat) words d seat.class old has (old.words (name_at s who)) after cleared small
+          refused-tells g s l caller x (scanning seat) words d seat.class old has (old.words (name_at s caller)) after cleared small
           (subst (λ r. Lets r (scanning seat) d seat.class on_its_way clear) (sym at)
-          (refused-lets seat h words d (scanning seat) (scan-nothing seat onward.Refuse)))
+          (refused-lets seat h words d (scanning seat) (scan-nothing seat continuation.Refuse)))
           (subst (λ r. TurnRefused r (scanning seat)) (sym at) (refused-scan seat h words d)) (λ spare. full)
-          (All-cons (IsSo g (told_state s event) l who) (refused seat.class) []
-          (refused-ends who s.history words seat.class served (so-at g s l who p old has at 0 (looked seat.class) (omega arith)))
-          (All-nil (IsSo g (told_state s event) l who))))
+          (All-cons (IsSo g (told_state s event) l caller) (refused seat.class) []
+          (refused-ends caller s.history words seat.class served (so-at g s l caller p old has at 0 (looked seat.class) (omega arith)))
+          (All-nil (IsSo g (told_state s event) l caller))))
           step
       | inr few ↦
-          let after = settle-resumed-end e x seat d onward.Refuse next few reply.Refused refl in
-          step-tells g s who event (retired_at e x d Idle) s' sound has after told stays allowed
+          let after = settle-resumed-end e x seat d continuation.Refuse next few reply.Refused refl in
+          step-tells g s caller event (retired_at e x d Idle) s' sound has after told stays allowed
           (λ l old.
-          refused-tells g s l who x Idle words d seat.class old has (old.words (name_at s who)) after cleared small
+          refused-tells g s l caller x Idle words d seat.class old has (old.words (name_at s caller)) after cleared small
           (subst (λ r. Lets r Idle d seat.class on_its_way clear) (sym at) (refused-lets seat h words d Idle idle-nothing))
           (subst (λ r. TurnRefused r Idle) (sym at) (refused-idle seat h words d))
-          (λ spare. let bad : ⊥ = omega (arith, spare) in absurd bad) (All-nil (IsSo g (told_state s event) l who)))
+          (λ spare. let bad : ⊥ = omega (arith, spare) in absurd bad) (All-nil (IsSo g (told_state s event) l caller)))
           step
     ]
 
 -- so does the look whether the stack is still empty, where it is
 confirm_empty-cases :
-    (g : Geometry) (s : State) (who : ℕ) (s' : State) (seat : SeatFields) (pile : Pile) (h : HeadFields) (o : Onward) → IsTrue (confirms pile o)
-    → IsSoundWithoutCounts g s → who < g.callers → (s.errand who).point ≡ Stack (stack.ConfirmEmpty seat pile h) o
-    → s.word (head_name seat pile) ≡ head_word h → Step s who s' → IsSoundWithoutCounts g s'
-confirm_empty-cases g s who s' seat Partials h (onward.Alloc words) goes sound has at same step =
-    confirm_no_partial-sound g s who s' seat h words sound has at same step
-confirm_empty-cases g s who s' seat Frames h (onward.TakeFrame words d) goes sound has at same step =
-    confirm_no_frame-sound g s who s' seat h words d sound has at same step
-confirm_empty-cases g s who s' seat pile h o goes sound has at same step = absurd (cc)
+    (g : Geometry) (s : State) (caller : ℕ) (s' : State) (seat : SeatFields) (pile : Pile) (h : HeadFields) (o : Continuation) → IsTrue (confirms pile o)
+    → IsSoundWithoutCounts g s → caller < g.callers → (s.errand caller).point ≡ Stack (stack.ConfirmEmpty seat pile h) o
+    → s.word (head_name seat pile) ≡ head_word h → Step s caller s' → IsSoundWithoutCounts g s'
+confirm_empty-cases g s caller s' seat Partials h (continuation.Alloc words) goes sound has at same step =
+    confirm_no_partial-sound g s caller s' seat h words sound has at same step
+confirm_empty-cases g s caller s' seat Frames h (continuation.TakeFrame words d) goes sound has at same step =
+    confirm_no_frame-sound g s caller s' seat h words d sound has at same step
+confirm_empty-cases g s caller s' seat pile h o goes sound has at same step = absurd (cc)
 
 pub confirm_empty_won-sound :
-    (g : Geometry) (s : State) (who : ℕ) (s' : State) (seat : SeatFields) (pile : Pile) (h : HeadFields) (o : Onward) → IsSoundWithoutCounts g s
-    → who < g.callers → (s.errand who).point ≡ Stack (stack.ConfirmEmpty seat pile h) o
-    → s.word (head_name seat pile) ≡ head_word h → Step s who s' → IsSoundWithoutCounts g s'
-confirm_empty_won-sound g s who s' seat pile h o sound has at same step =
-    let fits : FitsPoint g who (Stack (stack.ConfirmEmpty seat pile h) o) =
-    fits-at g s sound.parts.0 who (Stack (stack.ConfirmEmpty seat pile h) o) sound.parts.1 has at in
-    confirm_empty-cases g s who s' seat pile h o fits.goes sound has at same step
+    (g : Geometry) (s : State) (caller : ℕ) (s' : State) (seat : SeatFields) (pile : Pile) (h : HeadFields) (o : Continuation) → IsSoundWithoutCounts g s
+    → caller < g.callers → (s.errand caller).point ≡ Stack (stack.ConfirmEmpty seat pile h) o
+    → s.word (head_name seat pile) ≡ head_word h → Step s caller s' → IsSoundWithoutCounts g s'
+confirm_empty_won-sound g s caller s' seat pile h o sound has at same step =
+    let fits : FitsPoint g caller (Stack (stack.ConfirmEmpty seat pile h) o) =
+    fits-at g s sound.parts.0 caller (Stack (stack.ConfirmEmpty seat pile h) o) sound.parts.1 has at in
+    confirm_empty-cases g s caller s' seat pile h o fits.goes sound has at same step
 
 -- won or lost
 pub confirm_empty-sound :
-    (g : Geometry) (s : State) (who : ℕ) (s' : State) (seat : SeatFields) (pile : Pile) (h : HeadFields) (o : Onward)
-    → IsSoundWithoutCounts g s → who < g.callers → (s.errand who).point ≡ Stack (stack.ConfirmEmpty seat pile h) o → Step s who s'
+    (g : Geometry) (s : State) (caller : ℕ) (s' : State) (seat : SeatFields) (pile : Pile) (h : HeadFields) (o : Continuation)
+    → IsSoundWithoutCounts g s → caller < g.callers → (s.errand caller).point ≡ Stack (stack.ConfirmEmpty seat pile h) o → Step s caller s'
     → IsSoundWithoutCounts g s'
-confirm_empty-sound g s who s' seat pile h o sound has at step =
+confirm_empty-sound g s caller s' seat pile h o sound has at step =
     elim (cases_eq (s.word (head_name seat pile)) (head_word h)) [
-      | inl won ↦ confirm_empty_won-sound g s who s' seat pile h o sound has at won step
-      | inr lost ↦ confirm_empty_lost-sound g s who s' seat pile h o sound has at lost step
+      | inl won ↦ confirm_empty_won-sound g s caller s' seat pile h o sound has at won step
+      | inr lost ↦ confirm_empty_lost-sound g s caller s' seat pile h o sound has at lost step
     ]

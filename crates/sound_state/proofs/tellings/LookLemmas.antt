@@ -209,22 +209,22 @@ unfolding holds_of
 point-stocks-two class p = grind (arith)
 
 callers-two :
-    (g : Geometry) (s : State) (who class : ℕ) → who < g.callers → errand_stock class (s.errand who) ≡ 0
+    (g : Geometry) (s : State) (caller class : ℕ) → caller < g.callers → errand_stock class (s.errand caller) ≡ 0
     → callers_sum g (errand_stock class) s.errand + 2 ≤ 2 * g.callers
 unfolding callers_sum
-callers-two g s who class has none =
-    omega (arith, sum-most-but g.callers (λ i. errand_stock class (s.errand i)) 2 who has none (λ i lt. point-stocks-two class (s.errand i).point))
+callers-two g s caller class has none =
+    omega (arith, sum-most-but g.callers (λ i. errand_stock class (s.errand i)) 2 caller has none (λ i lt. point-stocks-two class (s.errand i).point))
 
 -- so one more may be out
 pub look-stock :
-    (g : Geometry) (s : State) (l : Lists) (who class : ℕ) → IsSoundWith g s l → who < g.callers → l.partials class ≡ []
-    → errand_stock class (s.errand who) ≡ 0 → stock_of g s l class + 1 ≤ g.frames + g.heaps + 2 * g.callers
-look-stock g s l who class sound has bare none =
+    (g : Geometry) (s : State) (l : Lists) (caller class : ℕ) → IsSoundWith g s l → caller < g.callers → l.partials class ≡ []
+    → errand_stock class (s.errand caller) ≡ 0 → stock_of g s l class + 1 ≤ g.frames + g.heaps + 2 * g.callers
+look-stock g s l caller class sound has bare none =
     omega (
       arith,
       words-parts g s l sound class,
       ap (length {A = ℕ}) bare,
-      callers-two g s who class has none,
+      callers-two g s caller class has none,
       sum-least (descriptor_count g) (full_stock s class) (λ d. full_keeps (anchor_for s d).state) (λ d lt. full-least s class d),
       filled-most g s l sound,
     )

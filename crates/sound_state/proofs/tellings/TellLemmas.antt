@@ -24,8 +24,8 @@ use Rattle.sound_state.proofs.shared.EventFacts.{counted-not, told-own, told-cou
 use Rattle.sound_state.proofs.shared.ShownLemmas.{IsSoundBut}
 
 -- an event of the caller that leaves the pool; it gives no small block and frees none
-pub record IsTold (g : Geometry) (who : ℕ) (event : Event) : Type 0 where
-  pub caller : caller_of event ≡ who
+pub record IsTold (g : Geometry) (caller : ℕ) (event : Event) : Type 0 where
+  pub number : caller_of event ≡ caller
   pub pool : (pool : Pool) → pool_after pool event ≡ pool
   pub gives : (i : ℕ) → gives_small i event ≡ false
   pub allocs : is_small_alloc event ≡ false
@@ -38,47 +38,47 @@ told_state s event = record { word = s.word; errand = s.errand; history = s.hist
 counted-least : (P : Event → Bool) (history : List Event) (event : Event) → count_by P history ≤ count_by P (history ++ event ∷ [])
 counted-least P history event = omega (arith, told-counts P history event)
 
-pub told-ends : (who : ℕ) (history : List Event) (event : Event) → caller_of event ≡ who → EndsWith (own who (history ++ event ∷ [])) event
-told-ends who history event is =
-    (own who history, own-append who history (event ∷ []) ∙ rw (eq-eqb (caller_of event) who is) refl)
+pub told-ends : (caller : ℕ) (history : List Event) (event : Event) → caller_of event ≡ caller → EndsWith (own caller (history ++ event ∷ [])) event
+told-ends caller history event is =
+    (own caller history, own-append caller history (event ∷ []) ∙ rw (eq-eqb (caller_of event) caller is) refl)
 
 -- the pool is the same
-told-pool : (g : Geometry) (s : State) (who : ℕ) (event : Event) → IsTold g who event → pool_of (told_state s event).history ≡ pool_of s.history
-told-pool g s who event h = pool_of-push s.history event ∙ h.pool (pool_of s.history)
+told-pool : (g : Geometry) (s : State) (caller : ℕ) (event : Event) → IsTold g caller event → pool_of (told_state s event).history ≡ pool_of s.history
+told-pool g s caller event h = pool_of-push s.history event ∙ h.pool (pool_of s.history)
 
-told-superblock : (g : Geometry) (s : State) (who : ℕ) (event : Event) → IsTold g who event → (d : ℕ) → superblock_of g (told_state s event) d ≡ superblock_of g s d
-told-superblock g s who event h d = rw (told-pool g s who event h) refl
+told-superblock : (g : Geometry) (s : State) (caller : ℕ) (event : Event) → IsTold g caller event → (d : ℕ) → superblock_of g (told_state s event) d ≡ superblock_of g s d
+told-superblock g s caller event h d = rw (told-pool g s caller event h) refl
 
 told-owned :
-    (g : Geometry) (s : State) (who : ℕ) (event : Event) → IsTold g who event → (i place : ℕ) (n : Need) → IsOwned s i place n
+    (g : Geometry) (s : State) (caller : ℕ) (event : Event) → IsTold g caller event → (i place : ℕ) (n : Need) → IsOwned s i place n
     → IsOwned (told_state s event) i place n
-told-owned g s who event h i place n k = record {
-  block = (k.block.0, ap (block_at place) (told-pool g s who event h) ∙ k.block.1, k.block.2, k.block.3);
+told-owned g s caller event h i place n k = record {
+  block = (k.block.0, ap (block_at place) (told-pool g s caller event h) ∙ k.block.1, k.block.2, k.block.3);
 }
 
 -- what another caller remembers stays so
 told-so :
-    (g : Geometry) (s : State) (l : Lists) (who : ℕ) (event : Event) → IsTold g who event → (i : ℕ) → i ≢ who → (r : Recall) → IsSo g s l i r
+    (g : Geometry) (s : State) (l : Lists) (caller : ℕ) (event : Event) → IsTold g caller event → (i : ℕ) → i ≢ caller → (r : Recall) → IsSo g s l i r
     → IsSo g (told_state s event) l i r
-told-so g s l who event h i differ (bound_for d c) so = so
-told-so g s l who event h i differ (located d f c) so = record { frame = so.frame; class = so.class }
-told-so g s l who event h i differ (bound_at d f c) so = (so.0, record { frame = so.1.frame; class = so.1.class })
-told-so g s l who event h i differ (pops d a) so = subst (λ b. IsPopped b a) (sym (told-superblock g s who event h d)) so
-told-so g s l who event h i differ (links d a prefix) so = so
-told-so g s l who event h i differ (tops seat p head) so = record { tag = so.tag; top = so.top }
-told-so g s l who event h i differ (nexts seat p head below) so = so
-told-so g s l who event h i differ (tops_exist seat p head) so = so
-told-so g s l who event h i differ (says n w) so = so
-told-so g s l who event h i differ (made f c blocks) so = so
-told-so g s l who event h i differ (in_use a) so = so
-told-so g s l who event h i differ (emptied d) so = record { state = so.state; unavailable = so.unavailable; standing = so.standing }
-told-so g s l who event h i differ (noted d next) so = so
-told-so g s l who event h i differ (owns place k) so = (so.0, told-owned g s who event h i place so.0 so.1, so.2)
-told-so g s l who event h i differ (owns_all place n) so = told-owned g s who event h i place n so
-told-so g s l who event h i differ (looked c) so =
-    subst (λ e. EndsWith e (Looked i c)) (sym (told-own i s.history event (λ e. differ (sym e ∙ h.caller)))) so
-told-so g s l who event h i differ (refused c) so =
-    subst (λ e. EndsRefused e i c) (sym (told-own i s.history event (λ e. differ (sym e ∙ h.caller)))) so
+told-so g s l caller event h i differ (bound_for d c) so = so
+told-so g s l caller event h i differ (located d f c) so = record { frame = so.frame; class = so.class }
+told-so g s l caller event h i differ (bound_at d f c) so = (so.0, record { frame = so.1.frame; class = so.1.class })
+told-so g s l caller event h i differ (pops d a) so = subst (λ b. IsPopped b a) (sym (told-superblock g s caller event h d)) so
+told-so g s l caller event h i differ (links d a prefix) so = so
+told-so g s l caller event h i differ (tops seat p head) so = record { tag = so.tag; top = so.top }
+told-so g s l caller event h i differ (nexts seat p head below) so = so
+told-so g s l caller event h i differ (tops_exist seat p head) so = so
+told-so g s l caller event h i differ (says n w) so = so
+told-so g s l caller event h i differ (made f c blocks) so = so
+told-so g s l caller event h i differ (in_use a) so = so
+told-so g s l caller event h i differ (emptied d) so = record { state = so.state; unavailable = so.unavailable; standing = so.standing }
+told-so g s l caller event h i differ (noted d next) so = so
+told-so g s l caller event h i differ (owns place k) so = (so.0, told-owned g s caller event h i place so.0 so.1, so.2)
+told-so g s l caller event h i differ (owns_all place n) so = told-owned g s caller event h i place n so
+told-so g s l caller event h i differ (looked c) so =
+    subst (λ e. EndsWith e (Looked i c)) (sym (told-own i s.history event (λ e. differ (sym e ∙ h.number)))) so
+told-so g s l caller event h i differ (refused c) so =
+    subst (λ e. EndsRefused e i c) (sym (told-own i s.history event (λ e. differ (sym e ∙ h.number)))) so
 
 -- each descriptor stands where it stood
 partly-told : (s : State) (event : Event) (d c : ℕ) → IsPartlyUsed s d c → IsPartlyUsed (told_state s event) d c
@@ -118,8 +118,8 @@ guarded-told g s event guarded = record {
   full = guarded.full;
 }
 
-turned-told : (g : Geometry) (s : State) (l : Lists) (who : ℕ) (event : Event) → IsTold g who event → IsTurned g s l → IsTurned g (told_state s event) l
-turned-told g s l who event h turned =
+turned-told : (g : Geometry) (s : State) (l : Lists) (caller : ℕ) (event : Event) → IsTold g caller event → IsTurned g s l → IsTurned g (told_state s event) l
+turned-told g s l caller event h turned =
     let frees = counted-not (is_small_free g) s.history event h.frees in
     let allocs = counted-not is_small_alloc s.history event h.allocs in
     record {
@@ -135,12 +135,12 @@ turned-told g s l who event h turned =
 tie-told :
     (g : Geometry) (s : State) (event : Event) (place w : ℕ) → IsExcepted g s place ⊎ (s.word (name.Arena place) ≡ w)
     → IsExcepted g (told_state s event) place ⊎ (s.word (name.Arena place) ≡ w)
-tie-told g s event place w (inl x) = inl (record { who = x.who })
+tie-told g s event place w (inl x) = inl (record { caller = x.caller })
 tie-told g s event place w (inr is) = inr is
 
-tied-told : (g : Geometry) (s : State) (l : Lists) (who : ℕ) (event : Event) → IsTold g who event → IsTied g s l → IsTied g (told_state s event) l
-tied-told g s l who event h tied =
-    let same = told-pool g s who event h in
+tied-told : (g : Geometry) (s : State) (l : Lists) (caller : ℕ) (event : Event) → IsTold g caller event → IsTied g s l → IsTied g (told_state s event) l
+tied-told g s l caller event h tied =
+    let same = told-pool g s caller event h in
     let was = λ (place : ℕ) (b : Block) (live : IsLive (told_state s event) place b). ap (block_at place) (sym same) ∙ live in
     record {
       small = λ place class b live is.
@@ -163,27 +163,27 @@ tied-told g s l who event h tied =
       shelved = λ k place b has live is. tied.shelved k place b has (was place b live) is;
       bare_shelf = λ k has none. tied.bare_shelf k has (λ place b live is. none place b (ap (block_at place) same ∙ live) is);
       contents = λ place i v b live is. tied.contents place i v b (was place b live) is;
-      hands = λ i has k d lt. told-owned g s who event h i _ _ (tied.hands i has k d lt);
-      frees = λ i has k d lt. told-owned g s who event h i _ _ (tied.frees i has k d lt);
+      hands = λ i has k d lt. told-owned g s caller event h i _ _ (tied.hands i has k d lt);
+      frees = λ i has k d lt. told-owned g s caller event h i _ _ (tied.frees i has k d lt);
     }
 
 -- all but what the caller remembers is as it was
 pub told-but :
-    (g : Geometry) (s : State) (l : Lists) (who : ℕ) (event : Event) → IsTold g who event → IsSoundWith g s l
-    → IsSoundBut g (told_state s event) l who
-told-but g s l who event h sound = record {
+    (g : Geometry) (s : State) (l : Lists) (caller : ℕ) (event : Event) → IsTold g caller event → IsSoundWith g s l
+    → IsSoundBut g (told_state s event) l caller
+told-but g s l caller event h sound = record {
   words = sound.words;
   errands = sound.errands;
   listed = sound.listed;
   kept = kept-told g s l event sound.kept;
   chained = record {
     infos = sound.chained.infos;
-    chained = λ d has bound. subst IsChained (sym (told-superblock g s who event h d)) (sound.chained.chained d has bound);
+    chained = λ d has bound. subst IsChained (sym (told-superblock g s caller event h d)) (sound.chained.chained d has bound);
   };
   framed = record { once = sound.framed.once };
-  remembered = λ i has differ k r lt. told-so g s l who event h i differ _ (sound.remembered.so i has k r lt);
+  remembered = λ i has differ k r lt. told-so g s l caller event h i differ _ (sound.remembered.so i has k r lt);
   guarded = guarded-told g s event sound.guarded;
   stocked = record { most = sound.stocked.most };
-  turned = turned-told g s l who event h sound.turned;
-  tied = tied-told g s l who event h sound.tied;
+  turned = turned-told g s l caller event h sound.turned;
+  tied = tied-told g s l caller event h sound.tied;
 }

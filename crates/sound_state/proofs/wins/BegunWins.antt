@@ -27,14 +27,14 @@ use Rattle.sound_state.proofs.shared.SumLemmas.{callers-moved}
 
 -- what a caller noted when it found no superblock active bounds its errand
 abbrev SinceBounds : State → Wins → ℕ → ErrandFields → Type 0
-SinceBounds s w who e =
-    (wins : ℕ) → w.found_none who ≡ Some wins
+SinceBounds s w caller e =
+    (wins : ℕ) → w.found_none caller ≡ Some wins
     → (wins ≤ length w.list)
     × (e.turns
-    ≤ count_by (gives_small who) s.history + count_by (refuses_small who) s.history
-    + count_by (installs_against who) (list.take wins w.list) + turn_unanswered e)
-    × All (IsInstalledSince s w.list who wins) (expects_of e.point)
-    × (errand_discards e ≤ count_by (installs_against who) (drop wins w.list))
+    ≤ count_by (gives_small caller) s.history + count_by (refuses_small caller) s.history
+    + count_by (installs_against caller) (list.take wins w.list) + turn_unanswered e)
+    × All (IsInstalledSince s w.list caller wins) (expects_of e.point)
+    × (errand_discards e ≤ count_by (installs_against caller) (drop wins w.list))
 
 -- an errand that begins counts as the idle one before it, and its turn is one that has no answer yet
 record BeginsAs (e f : ErrandFields) : Type 0 where
@@ -86,46 +86,46 @@ idle-answered : (e : ErrandFields) → IsIdle e → turn_unanswered e ≡ 0
 idle-answered e idle = rw (idle-is e.point idle) refl
 
 begun-won :
-    (g : Geometry) (s : State) (w : Wins) (who : ℕ) (f : ErrandFields) (errands : ℕ → ErrandFields) → IsWon g s w → who < g.callers
-    → IsIdle (s.errand who) → BeginsAs (s.errand who) f → Moves s.errand who f errands → IsWon g (with_errands s errands) w
-begun-won g s w who f errands won has idle b moves =
+    (g : Geometry) (s : State) (w : Wins) (caller : ℕ) (f : ErrandFields) (errands : ℕ → ErrandFields) → IsWon g s w → caller < g.callers
+    → IsIdle (s.errand caller) → BeginsAs (s.errand caller) f → Moves s.errand caller f errands → IsWon g (with_errands s errands) w
+begun-won g s w caller f errands won has idle b moves =
     let s' = with_errands s errands in
     let n = won.noted in
     let i = won.installed in
-    let quiet = idle-answered (s.errand who) idle in
+    let quiet = idle-answered (s.errand caller) idle in
     record {
       noted = record {
         callers = n.callers;
-        won = each-caller g (λ k e. e.won ≡ min (count_by (is_by k) w.list) (2 ^ 64 - 1)) s.errand who f errands moves (b.won ∙ n.won who has) n.won;
+        won = each-caller g (λ k e. e.won ≡ min (count_by (is_by k) w.list) (2 ^ 64 - 1)) s.errand caller f errands moves (b.won ∙ n.won caller has) n.won;
         past = n.past;
         expected =
-            each-caller g (λ k e. All (IsExpected s' w k) (expects_of e.point)) s.errand who f errands moves
-            (subst (All (IsExpected s' w who)) (sym b.expects) (All-nil (IsExpected s' w who)))
+            each-caller g (λ k e. All (IsExpected s' w k) (expects_of e.point)) s.errand caller f errands moves
+            (subst (All (IsExpected s' w caller)) (sym b.expects) (All-nil (IsExpected s' w caller)))
             (λ k has_k j d lt. let x = n.expected k has_k j d lt in record { wins = x.wins; noted = x.noted; so = x.so });
       };
-      contended = record { most = omega (arith, won.contended.most, callers-moved g lost_of s.errand who f errands has moves, b.lost) };
+      contended = record { most = omega (arith, won.contended.most, callers-moved g lost_of s.errand caller f errands has moves, b.lost) };
       installed = record {
         own =
-            each-caller g (λ k e. count_by (installs_by k) w.list + errand_offers e ≤ count_by (gives_small k) s.history) s.errand who f errands moves
-            (omega (arith, b.offers, i.own who has)) i.own;
+            each-caller g (λ k e. count_by (installs_by k) w.list + errand_offers e ≤ count_by (gives_small k) s.history) s.errand caller f errands moves
+            (omega (arith, b.offers, i.own caller has)) i.own;
         turns =
             each-caller g
             (λ k e. e.turns
             ≤ count_by (gives_small k) s.history + count_by (refuses_small k) s.history + count_by (installs_against k) w.list
             + turn_unanswered e)
-            s.errand who f errands moves
-            (omega (arith, b.turns, i.turns who has, quiet)) i.turns;
+            s.errand caller f errands moves
+            (omega (arith, b.turns, i.turns caller has, quiet)) i.turns;
         found =
-            each-caller g (λ k e. IsTrue (is_seeking (turn_stage_of e.point)) → (wins : ℕ) × (w.found_none k ≡ Some wins)) s.errand who f errands moves
+            each-caller g (λ k e. IsTrue (is_seeking (turn_stage_of e.point)) → (wins : ℕ) × (w.found_none k ≡ Some wins)) s.errand caller f errands moves
             (λ seeks. absurd (true≢false (sym seeks ∙ b.seeks))) i.found;
         since = λ k wins has_k is.
             let x =
-            each-caller g (SinceBounds s w) s.errand who f errands moves
+            each-caller g (SinceBounds s w) s.errand caller f errands moves
             (λ past noted.
-            let old = i.since who past has noted in (
+            let old = i.since caller past has noted in (
               old.past,
               omega (arith, b.turns, old.turns, quiet),
-              subst (All (IsInstalledSince s w.list who past)) (sym b.expects) (All-nil (IsInstalledSince s w.list who past)),
+              subst (All (IsInstalledSince s w.list caller past)) (sym b.expects) (All-nil (IsInstalledSince s w.list caller past)),
               omega (arith, b.discards),
             ))
             (λ j has_j past noted. let old = i.since j past has_j noted in (old.past, old.turns, old.installed, old.discards))
@@ -135,8 +135,8 @@ begun-won g s w who f errands won has idle b moves =
     }
 
 pub begins-won :
-    (g : Geometry) (s : State) (w : Wins) (who : ℕ) (call : Call) (s' : State) → IsWon g s w → who < g.callers → Begins s who call s'
+    (g : Geometry) (s : State) (w : Wins) (caller : ℕ) (call : Call) (s' : State) → IsWon g s w → caller < g.callers → Begins s caller call s'
     → IsWon g s' w
-begins-won g s w who call s' won has b =
+begins-won g s w caller call s' won has b =
     subst (λ t. IsWon g t w) (sym b.after)
-    (begun-won g s w who (begun_by (s.errand who) call) b.errands won has b.idle (begun-as (s.errand who) call b.idle) b.moves)
+    (begun-won g s w caller (begun_by (s.errand caller) call) b.errands won has b.idle (begun-as (s.errand caller) call b.idle) b.moves)

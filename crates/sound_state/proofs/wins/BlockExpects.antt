@@ -23,28 +23,28 @@ use Rattle.superblock_parts.specs.declared.point.Share.{Share}
 use Rattle.superblock_parts.specs.declared.point.Share.TheVariants.{Credit, LastCredit, Grant}
 use Rattle.superblock_parts.specs.Anchors.{more_of, is_last}
 use Rattle.superblock_parts.specs.Points.{after_active, after_info, after_anchor, after_pop, after_return_anchor, after_push_anchor, after_owner}
-use Rattle.errand_steps.specs.declared.onward.Onward.{Onward}
-use Rattle.errand_steps.specs.declared.onward.Onward.TheVariants as onward
+use Rattle.errand_steps.specs.declared.continuation.Continuation.{Continuation}
+use Rattle.errand_steps.specs.declared.continuation.Continuation.TheVariants as continuation
 use Rattle.errand_steps.specs.declared.point.Point.{Point}
 use Rattle.errand_steps.specs.declared.point.Point.TheVariants.{Block}
 use Rattle.errand_steps.specs.Nexts.{next_of, enter_block}
-use Rattle.errand_steps.specs.Onwards.{has_left_block}
+use Rattle.errand_steps.specs.Continuations.{has_left_block}
 use Rattle.errand_steps.specs.Points.{plan_point_of}
-use Rattle.sound_state.specs.Expectations.{expects_of, onward_expects, none_active, unless_credit, anchor_still}
+use Rattle.sound_state.specs.Expectations.{expects_of, continuation_expects, none_active, unless_credit, anchor_still}
 use Rattle.sound_state.proofs.wins.ExpectLemmas.{read-anchor, MayAll, SeesAs, expects-none, seen-more, load-sees, load-seen, whole-carried, rest-carried, option_both}
 use Rattle.sound_state.proofs.wins.WinDefs.{ExpectsOn, next_expects}
 
 -- where a step from p leads to q, it carries or sees all that its caller expects after it
-abbrev BlockCarries : BlockPoint → Onward → ℕ → BlockPoint → Type 0
+abbrev BlockCarries : BlockPoint → Continuation → ℕ → BlockPoint → Type 0
 BlockCarries p o v q = MayAll (Block p o) v (next_expects (enter_block q o))
 
 -- what waits behind a part, where the step sees that no superblock is active
-seen-onward :
-    (p : Point) (v : ℕ) (s : SeatFields) (o : Onward) → SeesAs p v (active_name s) (active_word Null) → MayAll p v (onward_expects s o)
-seen-onward p v s (onward.Alloc words) seen = seen-more p v (active_name s) (active_word Null) [] seen (expects-none p v)
-seen-onward p v s (onward.TakeFrame words d) seen = seen-more p v (active_name s) (active_word Null) [] seen (expects-none p v)
-seen-onward p v s (onward.Look words) seen = seen-more p v (active_name s) (active_word Null) [] seen (expects-none p v)
-seen-onward p v s o seen = expects-none p v
+seen-continuation :
+    (p : Point) (v : ℕ) (s : SeatFields) (o : Continuation) → SeesAs p v (active_name s) (active_word Null) → MayAll p v (continuation_expects s o)
+seen-continuation p v s (continuation.Alloc words) seen = seen-more p v (active_name s) (active_word Null) [] seen (expects-none p v)
+seen-continuation p v s (continuation.TakeFrame words d) seen = seen-more p v (active_name s) (active_word Null) [] seen (expects-none p v)
+seen-continuation p v s (continuation.Look words) seen = seen-more p v (active_name s) (active_word Null) [] seen (expects-none p v)
+seen-continuation p v s o seen = expects-none p v
 
 -- an active word says what it was made of
 active-said : (v : ℕ) (w : ActiveWord) → v < 2 ^ 64 → active_of v ≡ Some w → v ≡ active_word w
@@ -54,12 +54,12 @@ active-said v w below is =
 
 -- where an active word leads
 active-on :
-    (s : SeatFields) (o : Onward) (v : ℕ) (w : Option ActiveWord) → v < 2 ^ 64 → active_of v ≡ w
+    (s : SeatFields) (o : Continuation) (v : ℕ) (w : Option ActiveWord) → v < 2 ^ 64 → active_of v ≡ w
     → BlockCarries (block.LoadActive s) o v (after_active s w)
 unfolding plan_point_of expects_of
 active-on s o v None below is = expects-none (Block (block.LoadActive s) o) v
 active-on s o v (Some Null) below is =
-    seen-onward (Block (block.LoadActive s) o) v s o
+    seen-continuation (Block (block.LoadActive s) o) v s o
     (load-sees (Block (block.LoadActive s) o) v (active_name s) (active_word Null) refl (active-said v Null below is))
 active-on s o v (Some (Held d credits)) below is =
     cond_both (nat_lt d (descriptor_count s.geometry)) (block.TakeCredit s d credits) (block.LoadActive s) (BlockCarries (block.LoadActive s) o v)
@@ -70,7 +70,7 @@ active-on s o v (Some (Held d credits)) below is =
 
 -- the last credit is taken, or another one
 taken-on :
-    (s : SeatFields) (d credits : ℕ) (o : Onward) (v : ℕ) (last : Bool) → (v == active_word (Held d credits)) ≡ true → (credits == 0) ≡ last
+    (s : SeatFields) (d credits : ℕ) (o : Continuation) (v : ℕ) (last : Bool) → (v == active_word (Held d credits)) ≡ true → (credits == 0) ≡ last
     → BlockCarries (block.TakeCredit s d credits) o v (block.LoadInfo s d (if last then LastCredit else Credit))
 unfolding plan_point_of expects_of active_word
 taken-on s d credits o v false won last = expects-none (Block (block.TakeCredit s d credits) o) v
@@ -81,7 +81,7 @@ taken-on s d credits o v true won last =
 
 -- a pop that leads to an offer was paid for by the last credit or by a grant
 offers-on :
-    (at : Site) (share : Share) (a : AnchorFields) (prefix : ℕ) (o : Onward) (v : ℕ) → nat_lt 0 (more_of share a) ≡ true
+    (at : Site) (share : Share) (a : AnchorFields) (prefix : ℕ) (o : Continuation) (v : ℕ) → nat_lt 0 (more_of share a) ≡ true
     → BlockCarries (block.PopBlock at share a prefix) o v (block.InstallCredits at a.avail (more_of share a))
 unfolding plan_point_of expects_of
 offers-on at Credit a prefix o v more = absurd (true≢false (sym more))
@@ -99,7 +99,7 @@ credit-apart s LastCredit n apart = (apart, tt)
 credit-apart s (Grant more) n apart = (apart, tt)
 
 -- what a caller expects after a step in a superblock it expected before, or the step saw it or left it so
-pub block-expects : (p : BlockPoint) (o : Onward) (v : ℕ) → has_left_block p ≡ false → v < 2 ^ 64 → ExpectsOn (Block p o) v
+pub block-expects : (p : BlockPoint) (o : Continuation) (v : ℕ) → has_left_block p ≡ false → v < 2 ^ 64 → ExpectsOn (Block p o) v
 unfolding plan_point_of next_of expects_of
 block-expects (block.LoadActive s) o v inside below = active-on s o v (active_of v) below refl
 block-expects (block.TakeCredit s d credits) o v inside below =

@@ -58,163 +58,163 @@ lost-cases p x lost = inl lost
 
 -- on another word than that of the step a pair is dirty if it was
 dirty-apart :
-    (g : Geometry) (s : State) (who : ℕ) (w : Wins) → IsNoted g s w → (i : ℕ) (m : WordName) → m ≢ name_at s who
-    → is_dirty (wins_after s who w) i m ≡ is_dirty w i m
-dirty-apart g s who w old i m differ =
-    ap (dirty_since (win_list_after s who w.list) i m) (noted-apart s who w i m differ)
-    ∙ dirty-same w.list (option_to_list (win_at s who)) i m (w.noted i m) (old.past i m)
-    (no-count (is_against i m) s who (against-apart s who i m differ))
+    (g : Geometry) (s : State) (caller : ℕ) (w : Wins) → IsNoted g s w → (i : ℕ) (m : WordName) → m ≢ name_at s caller
+    → is_dirty (wins_after s caller w) i m ≡ is_dirty w i m
+dirty-apart g s caller w old i m differ =
+    ap (dirty_since (win_list_after s caller w.list) i m) (noted-apart s caller w i m differ)
+    ∙ dirty-same w.list (option_to_list (win_at s caller)) i m (w.noted i m) (old.past i m)
+    (no-count (is_against i m) s caller (against-apart s caller i m differ))
 
 -- and so is one of another caller, where nothing is won
 dirty-others :
-    (g : Geometry) (s : State) (who : ℕ) (w : Wins) → IsNoted g s w → counts_won (action_at s who) (found_at s who) ≡ false → (i : ℕ) (m : WordName)
-    → i ≢ who → is_dirty (wins_after s who w) i m ≡ is_dirty w i m
-dirty-others g s who w old none i m other =
-    ap (dirty_since (win_list_after s who w.list) i m) (noted-others s who w i m other)
-    ∙ dirty-same w.list (option_to_list (win_at s who)) i m (w.noted i m) (old.past i m) (no-won (is_against i m) s who none)
+    (g : Geometry) (s : State) (caller : ℕ) (w : Wins) → IsNoted g s w → counts_won (action_at s caller) (found_at s caller) ≡ false → (i : ℕ) (m : WordName)
+    → i ≢ caller → is_dirty (wins_after s caller w) i m ≡ is_dirty w i m
+dirty-others g s caller w old none i m other =
+    ap (dirty_since (win_list_after s caller w.list) i m) (noted-others s caller w i m other)
+    ∙ dirty-same w.list (option_to_list (win_at s caller)) i m (w.noted i m) (old.past i m) (no-won (is_against i m) s caller none)
 
 -- the caller's own pair is clean after a lost exchange
 own-lost :
-    (s : State) (who : ℕ) (w : Wins) → is_lost_exchange (action_at s who) (found_at s who) ≡ true
-    → is_dirty (wins_after s who w) who (name_at s who) ≡ false
-own-lost s who w lost =
-    ap (dirty_since (win_list_after s who w.list) who (name_at s who))
-    (noted-own s who w (name_at s who) refl ∙ note-lost s who (length (win_list_after s who w.list)) (w.noted who (name_at s who)) lost)
+    (s : State) (caller : ℕ) (w : Wins) → is_lost_exchange (action_at s caller) (found_at s caller) ≡ true
+    → is_dirty (wins_after s caller w) caller (name_at s caller) ≡ false
+own-lost s caller w lost =
+    ap (dirty_since (win_list_after s caller w.list) caller (name_at s caller))
+    (noted-own s caller w (name_at s caller) refl ∙ note-lost s caller (length (win_list_after s caller w.list)) (w.noted caller (name_at s caller)) lost)
 
 -- and where it saw or changed the word
 own-seen :
-    (s : State) (who : ℕ) (w : Wins) → is_lost_exchange (action_at s who) (found_at s who) ≡ false → is_self_exchange (action_at s who) ≡ false
-    → is_dirty (wins_after s who w) who (name_at s who) ≡ false
-own-seen s who w kept new =
-    ap (dirty_since (win_list_after s who w.list) who (name_at s who))
-    (noted-own s who w (name_at s who) refl ∙ note-seen s who (length (win_list_after s who w.list)) (w.noted who (name_at s who)) kept new)
-    ∙ clean-now (win_list_after s who w.list) who (name_at s who)
+    (s : State) (caller : ℕ) (w : Wins) → is_lost_exchange (action_at s caller) (found_at s caller) ≡ false → is_self_exchange (action_at s caller) ≡ false
+    → is_dirty (wins_after s caller w) caller (name_at s caller) ≡ false
+own-seen s caller w kept new =
+    ap (dirty_since (win_list_after s caller w.list) caller (name_at s caller))
+    (noted-own s caller w (name_at s caller) refl ∙ note-seen s caller (length (win_list_after s caller w.list)) (w.noted caller (name_at s caller)) kept new)
+    ∙ clean-now (win_list_after s caller w.list) caller (name_at s caller)
 
 -- what it confirmed is as it was
 own-confirmed :
-    (g : Geometry) (s : State) (who : ℕ) (w : Wins) → IsNoted g s w → is_lost_exchange (action_at s who) (found_at s who) ≡ false
-    → is_self_exchange (action_at s who) ≡ true → is_dirty (wins_after s who w) who (name_at s who) ≡ is_dirty w who (name_at s who)
-own-confirmed g s who w old kept same =
-    let m = name_at s who in
-    ap (dirty_since (win_list_after s who w.list) who m)
-    (noted-own s who w m refl ∙ note-confirmed s who (length (win_list_after s who w.list)) (w.noted who m) kept same)
-    ∙ dirty-same w.list (option_to_list (win_at s who)) who m (w.noted who m) (old.past who m)
-    (no-count (is_against who m) s who (against-own s who m))
+    (g : Geometry) (s : State) (caller : ℕ) (w : Wins) → IsNoted g s w → is_lost_exchange (action_at s caller) (found_at s caller) ≡ false
+    → is_self_exchange (action_at s caller) ≡ true → is_dirty (wins_after s caller w) caller (name_at s caller) ≡ is_dirty w caller (name_at s caller)
+own-confirmed g s caller w old kept same =
+    let m = name_at s caller in
+    ap (dirty_since (win_list_after s caller w.list) caller m)
+    (noted-own s caller w m refl ∙ note-confirmed s caller (length (win_list_after s caller w.list)) (w.noted caller m) kept same)
+    ∙ dirty-same w.list (option_to_list (win_at s caller)) caller m (w.noted caller m) (old.past caller m)
+    (no-count (is_against caller m) s caller (against-own s caller m))
 
 -- so the own pair is no more dirty than it was
 own-most :
-    (g : Geometry) (s : State) (who : ℕ) (w : Wins) → IsNoted g s w
-    → one_if (is_dirty (wins_after s who w) who (name_at s who)) ≤ one_if (is_dirty w who (name_at s who))
-own-most g s who w old =
-    elim (cases_Bool (is_lost_exchange (action_at s who) (found_at s who))) [
-      | inl lost ↦ omega (arith, ap one_if (own-lost s who w lost))
+    (g : Geometry) (s : State) (caller : ℕ) (w : Wins) → IsNoted g s w
+    → one_if (is_dirty (wins_after s caller w) caller (name_at s caller)) ≤ one_if (is_dirty w caller (name_at s caller))
+own-most g s caller w old =
+    elim (cases_Bool (is_lost_exchange (action_at s caller) (found_at s caller))) [
+      | inl lost ↦ omega (arith, ap one_if (own-lost s caller w lost))
       | inr kept ↦
-          elim (cases_Bool (is_self_exchange (action_at s who))) [
-            | inl same ↦ omega (arith, ap one_if (own-confirmed g s who w old kept same))
-            | inr new ↦ omega (arith, ap one_if (own-seen s who w kept new))
+          elim (cases_Bool (is_self_exchange (action_at s caller))) [
+            | inl same ↦ omega (arith, ap one_if (own-confirmed g s caller w old kept same))
+            | inr new ↦ omega (arith, ap one_if (own-seen s caller w kept new))
           ]
     ]
 
 -- where it counts as lost the own pair was dirty, and is clean
 pub was-dirty :
-    (g : Geometry) (s : State) (who : ℕ) (w : Wins) → who < g.callers → IsNoted g s w → LosesOn (s.errand who).point (word_at s who)
-    → counts_lost (s.errand who).point (found_at s who) ≡ true → is_dirty w who (name_at s who) ≡ true
-was-dirty g s who w has old loses lost =
+    (g : Geometry) (s : State) (caller : ℕ) (w : Wins) → caller < g.callers → IsNoted g s w → LosesOn (s.errand caller).point (word_at s caller)
+    → counts_lost (s.errand caller).point (found_at s caller) ≡ true → is_dirty w caller (name_at s caller) ≡ true
+was-dirty g s caller w has old loses lost =
     let (e, h, is) =
-    some-all (IsExpected s w who) (λ e. (e.word ≡ name_at s who) × (word_at s who ≢ e.value)) (expects_of (s.errand who).point)
-    (old.expected who has) (loses lost) in
+    some-all (IsExpected s w caller) (λ e. (e.word ≡ name_at s caller) × (word_at s caller ≢ e.value)) (expects_of (s.errand caller).point)
+    (old.expected caller has) (loses lost) in
     elim h.so [
       | inl same ↦ absurd (is.1 (sym (ap s.word is.0) ∙ same))
-      | inr dirty ↦ subst (λ m. is_dirty w who m ≡ true) is.0 dirty
+      | inr dirty ↦ subst (λ m. is_dirty w caller m ≡ true) is.0 dirty
     ]
 
 now-clean :
-    (s : State) (who : ℕ) (w : Wins) → counts_lost (s.errand who).point (found_at s who) ≡ true
-    → is_dirty (wins_after s who w) who (name_at s who) ≡ false
-now-clean s who w lost =
-    elim (lost-cases (s.errand who).point (found_at s who) lost) [
-      | inl fails ↦ own-lost s who w fails
-      | inr seen ↦ own-seen s who w seen.0 seen.1
+    (s : State) (caller : ℕ) (w : Wins) → counts_lost (s.errand caller).point (found_at s caller) ≡ true
+    → is_dirty (wins_after s caller w) caller (name_at s caller) ≡ false
+now-clean s caller w lost =
+    elim (lost-cases (s.errand caller).point (found_at s caller) lost) [
+      | inl fails ↦ own-lost s caller w fails
+      | inr seen ↦ own-seen s caller w seen.0 seen.1
     ]
 
 -- on its word no more pairs are dirty after a win than there are other callers
 on-won :
-    (g : Geometry) (s : State) (who : ℕ) (w : Wins) → who < g.callers → counts_won (action_at s who) (found_at s who) ≡ true
-    → dirty_on g (wins_after s who w) (name_at s who) + 1 ≤ g.callers
-on-won g s who w has won =
-    let new = won-new (action_at s who) (found_at s who) won in
+    (g : Geometry) (s : State) (caller : ℕ) (w : Wins) → caller < g.callers → counts_won (action_at s caller) (found_at s caller) ≡ true
+    → dirty_on g (wins_after s caller w) (name_at s caller) + 1 ≤ g.callers
+on-won g s caller w has won =
+    let new = won-new (action_at s caller) (found_at s caller) won in
     omega (
       arith,
-      sum-most-but g.callers (λ i. one_if (is_dirty (wins_after s who w) i (name_at s who))) 1 who has (ap one_if (own-seen s who w new.0 new.1))
-          (λ i lt. one_if-most (is_dirty (wins_after s who w) i (name_at s who))),
+      sum-most-but g.callers (λ i. one_if (is_dirty (wins_after s caller w) i (name_at s caller))) 1 caller has (ap one_if (own-seen s caller w new.0 new.1))
+          (λ i lt. one_if-most (is_dirty (wins_after s caller w) i (name_at s caller))),
     )
 
 -- where nothing is won the own pair alone changes
 on-none :
-    (g : Geometry) (s : State) (who : ℕ) (w : Wins) → who < g.callers → IsNoted g s w → counts_won (action_at s who) (found_at s who) ≡ false
-    → dirty_on g (wins_after s who w) (name_at s who) + one_if (is_dirty w who (name_at s who))
-    ≡ dirty_on g w (name_at s who) + one_if (is_dirty (wins_after s who w) who (name_at s who))
-on-none g s who w has old none =
-    sum-change g.callers (λ i. one_if (is_dirty w i (name_at s who))) (λ i. one_if (is_dirty (wins_after s who w) i (name_at s who))) who has
-    (λ i lt other. ap one_if (dirty-others g s who w old none i (name_at s who) other))
+    (g : Geometry) (s : State) (caller : ℕ) (w : Wins) → caller < g.callers → IsNoted g s w → counts_won (action_at s caller) (found_at s caller) ≡ false
+    → dirty_on g (wins_after s caller w) (name_at s caller) + one_if (is_dirty w caller (name_at s caller))
+    ≡ dirty_on g w (name_at s caller) + one_if (is_dirty (wins_after s caller w) caller (name_at s caller))
+on-none g s caller w has old none =
+    sum-change g.callers (λ i. one_if (is_dirty w i (name_at s caller))) (λ i. one_if (is_dirty (wins_after s caller w) i (name_at s caller))) caller has
+    (λ i lt other. ap one_if (dirty-others g s caller w old none i (name_at s caller) other))
 
 -- on every other word all stay
 on-apart :
-    (g : Geometry) (s : State) (who : ℕ) (w : Wins) → IsNoted g s w → (m : WordName) → m ≢ name_at s who
-    → dirty_on g (wins_after s who w) m ≡ dirty_on g w m
-on-apart g s who w old m differ =
-    sum-same g.callers (λ i. one_if (is_dirty w i m)) (λ i. one_if (is_dirty (wins_after s who w) i m))
-    (λ i lt. ap one_if (dirty-apart g s who w old i m differ))
+    (g : Geometry) (s : State) (caller : ℕ) (w : Wins) → IsNoted g s w → (m : WordName) → m ≢ name_at s caller
+    → dirty_on g (wins_after s caller w) m ≡ dirty_on g w m
+on-apart g s caller w old m differ =
+    sum-same g.callers (λ i. one_if (is_dirty w i m)) (λ i. one_if (is_dirty (wins_after s caller w) i m))
+    (λ i lt. ap one_if (dirty-apart g s caller w old i m differ))
 
 -- so all pairs change as those on its word do
 pairs-changed :
-    (g : Geometry) (s : State) (who : ℕ) (w : Wins) → Exists g (name_at s who) → IsNoted g s w
-    → dirty_pairs g (wins_after s who w) + dirty_on g w (name_at s who) ≡ dirty_pairs g w + dirty_on g (wins_after s who w) (name_at s who)
-pairs-changed g s who w exists old =
-    let n = name_at s who in
+    (g : Geometry) (s : State) (caller : ℕ) (w : Wins) → Exists g (name_at s caller) → IsNoted g s w
+    → dirty_pairs g (wins_after s caller w) + dirty_on g w (name_at s caller) ≡ dirty_pairs g w + dirty_on g (wins_after s caller w) (name_at s caller)
+pairs-changed g s caller w exists old =
+    let n = name_at s caller in
     let changed =
-    sum-change (word_count g) (λ k. dirty_on g w (word_name g k)) (λ k. dirty_on g (wins_after s who w) (word_name g k)) (word_index g n)
+    sum-change (word_count g) (λ k. dirty_on g w (word_name g k)) (λ k. dirty_on g (wins_after s caller w) (word_name g k)) (word_index g n)
     (word_index-within g n exists)
-    (λ k lt ne. on-apart g s who w old (word_name g k) (λ q. ne (sym (word_index-word_name g k lt) ∙ ap (word_index g) q))) in
+    (λ k lt ne. on-apart g s caller w old (word_name g k) (λ q. ne (sym (word_index-word_name g k lt) ∙ ap (word_index g) q))) in
     let P : WordName → Type 0 =
-    λ m. dirty_pairs g (wins_after s who w) + dirty_on g w m ≡ dirty_pairs g w + dirty_on g (wins_after s who w) m in
+    λ m. dirty_pairs g (wins_after s caller w) + dirty_on g w m ≡ dirty_pairs g w + dirty_on g (wins_after s caller w) m in
     subst P (word_name-word_index g n exists) changed
 
 -- what all callers lost changes as the caller's count does
 losses-after :
-    (g : Geometry) (s : State) (who : ℕ) (s' : State) → who < g.callers → Step s who s'
-    → callers_sum g lost_of s'.errand + (s.errand who).lost
-    ≡ callers_sum g lost_of s.errand + raised (counts_lost (s.errand who).point (found_at s who)) (s.errand who).lost
+    (g : Geometry) (s : State) (caller : ℕ) (s' : State) → caller < g.callers → Step s caller s'
+    → callers_sum g lost_of s'.errand + (s.errand caller).lost
+    ≡ callers_sum g lost_of s.errand + raised (counts_lost (s.errand caller).point (found_at s caller)) (s.errand caller).lost
 unfolding settle_of
-losses-after g s who s' has step = callers-moved g lost_of s.errand who (settle_of (s.errand who) (found_at s who)) s'.errand has step.errand
+losses-after g s caller s' has step = callers-moved g lost_of s.errand caller (settle_of (s.errand caller) (found_at s caller)) s'.errand has step.errand
 
 -- a win adds to the dirty pairs at most one of each other caller, and what counts as lost takes one off
 pub pairs-after :
-    (g : Geometry) (s : State) (who : ℕ) (w : Wins) → who < g.callers → Exists g (name_at s who) → LosesOn (s.errand who).point (word_at s who)
+    (g : Geometry) (s : State) (caller : ℕ) (w : Wins) → caller < g.callers → Exists g (name_at s caller) → LosesOn (s.errand caller).point (word_at s caller)
     → IsNoted g s w
-    → dirty_pairs g (wins_after s who w) + one_if (counts_lost (s.errand who).point (found_at s who))
-    ≤ dirty_pairs g w + (g.callers - 1) * one_if (counts_won (action_at s who) (found_at s who))
-pairs-after g s who w has exists loses noted =
-    let e = s.errand who in
-    let pairs = pairs-changed g s who w exists noted in
-    elim (cases_Bool (counts_won (action_at s who) (found_at s who))) [
+    → dirty_pairs g (wins_after s caller w) + one_if (counts_lost (s.errand caller).point (found_at s caller))
+    ≤ dirty_pairs g w + (g.callers - 1) * one_if (counts_won (action_at s caller) (found_at s caller))
+pairs-after g s caller w has exists loses noted =
+    let e = s.errand caller in
+    let pairs = pairs-changed g s caller w exists noted in
+    elim (cases_Bool (counts_won (action_at s caller) (found_at s caller))) [
       | inl won ↦
-          let product : (g.callers - 1) * one_if (counts_won (action_at s who) (found_at s who)) ≡ g.callers - 1 =
+          let product : (g.callers - 1) * one_if (counts_won (action_at s caller) (found_at s caller)) ≡ g.callers - 1 =
           rw won (omega arith) in
-          omega (arith, pairs, product, on-won g s who w has won, ap one_if (won-not-lost e.point (found_at s who) won))
+          omega (arith, pairs, product, on-won g s caller w has won, ap one_if (won-not-lost e.point (found_at s caller) won))
       | inr none ↦
-          let own = on-none g s who w has noted none in
-          elim (cases_Bool (counts_lost e.point (found_at s who))) [
+          let own = on-none g s caller w has noted none in
+          elim (cases_Bool (counts_lost e.point (found_at s caller))) [
             | inl lost ↦
                 omega (
                   arith,
                   pairs,
                   own,
                   ap one_if lost,
-                  ap one_if (was-dirty g s who w has noted loses lost),
-                  ap one_if (now-clean s who w lost),
+                  ap one_if (was-dirty g s caller w has noted loses lost),
+                  ap one_if (now-clean s caller w lost),
                 )
-            | inr kept ↦ omega (arith, pairs, own, ap one_if kept, own-most g s who w noted)
+            | inr kept ↦ omega (arith, pairs, own, ap one_if kept, own-most g s caller w noted)
           ]
     ]
 
@@ -228,37 +228,37 @@ won-most pairs pairs' on on' lost lost' callers list list' old changed most same
 
 -- a step keeps what is lost within what is won
 pub step-contended :
-    (g : Geometry) (s : State) (who : ℕ) (s' : State) (w : Wins) → who < g.callers → Exists g (name_at s who) → Step s who s'
-    → LosesOn (s.errand who).point (word_at s who) → IsNoted g s w → IsContended g s w → IsContended g s' (wins_after s who w)
-step-contended g s who s' w has exists step loses noted old =
-    let n = name_at s who in
-    let e = s.errand who in
-    let pairs = pairs-changed g s who w exists noted in
-    let lost_sum = losses-after g s who s' has step in
-    elim (cases_Bool (counts_won (action_at s who) (found_at s who))) [
+    (g : Geometry) (s : State) (caller : ℕ) (s' : State) (w : Wins) → caller < g.callers → Exists g (name_at s caller) → Step s caller s'
+    → LosesOn (s.errand caller).point (word_at s caller) → IsNoted g s w → IsContended g s w → IsContended g s' (wins_after s caller w)
+step-contended g s caller s' w has exists step loses noted old =
+    let n = name_at s caller in
+    let e = s.errand caller in
+    let pairs = pairs-changed g s caller w exists noted in
+    let lost_sum = losses-after g s caller s' has step in
+    elim (cases_Bool (counts_won (action_at s caller) (found_at s caller))) [
       | inl won ↦
-          let still : raised (counts_lost e.point (found_at s who)) e.lost ≡ e.lost =
-          ap (λ b. raised b e.lost) (won-not-lost e.point (found_at s who) won) in
+          let still : raised (counts_lost e.point (found_at s caller)) e.lost ≡ e.lost =
+          ap (λ b. raised b e.lost) (won-not-lost e.point (found_at s caller) won) in
           let same : callers_sum g lost_of s'.errand ≡ callers_sum g lost_of s.errand = omega (arith, lost_sum, still) in
           record {
             most =
-                won-most (dirty_pairs g w) (dirty_pairs g (wins_after s who w)) (dirty_on g w n) (dirty_on g (wins_after s who w) n)
-                (callers_sum g lost_of s.errand) (callers_sum g lost_of s'.errand) g.callers (length w.list) (length (win_list_after s who w.list))
-                old.most pairs (on-won g s who w has won) same (list-longer s who w.list won);
+                won-most (dirty_pairs g w) (dirty_pairs g (wins_after s caller w)) (dirty_on g w n) (dirty_on g (wins_after s caller w) n)
+                (callers_sum g lost_of s.errand) (callers_sum g lost_of s'.errand) g.callers (length w.list) (length (win_list_after s caller w.list))
+                old.most pairs (on-won g s caller w has won) same (list-longer s caller w.list won);
           }
       | inr none ↦
-          let own = on-none g s who w has noted none in
-          let stays : (g.callers - 1) * length (win_list_after s who w.list) ≡ (g.callers - 1) * length w.list =
-          ap (λ list. (g.callers - 1) * length list) (list-stays s who w.list none) in
-          elim (cases_Bool (counts_lost e.point (found_at s who))) [
+          let own = on-none g s caller w has noted none in
+          let stays : (g.callers - 1) * length (win_list_after s caller w.list) ≡ (g.callers - 1) * length w.list =
+          ap (λ list. (g.callers - 1) * length list) (list-stays s caller w.list none) in
+          elim (cases_Bool (counts_lost e.point (found_at s caller))) [
             | inl lost ↦
-                let was = ap one_if (was-dirty g s who w has noted loses lost) in
-                let now = ap one_if (now-clean s who w lost) in
-                let more : raised (counts_lost e.point (found_at s who)) e.lost ≤ e.lost + 1 =
+                let was = ap one_if (was-dirty g s caller w has noted loses lost) in
+                let now = ap one_if (now-clean s caller w lost) in
+                let more : raised (counts_lost e.point (found_at s caller)) e.lost ≤ e.lost + 1 =
                 subst (λ b. raised b e.lost ≤ e.lost + 1) (sym lost) (raised-most true e.lost) in
                 record { most = omega (arith, old.most, pairs, lost_sum, own, stays, was, now, more) }
             | inr not_lost ↦
-                let still : raised (counts_lost e.point (found_at s who)) e.lost ≡ e.lost = ap (λ b. raised b e.lost) not_lost in
-                record { most = omega (arith, old.most, pairs, lost_sum, own, stays, own-most g s who w noted, still) }
+                let still : raised (counts_lost e.point (found_at s caller)) e.lost ≡ e.lost = ap (λ b. raised b e.lost) not_lost in
+                record { most = omega (arith, old.most, pairs, lost_sum, own, stays, own-most g s caller w noted, still) }
           ]
     ]

@@ -27,13 +27,13 @@ count-behind p xs ys n within = ap (count_by p) (drop-append-le n xs ys within) 
 -- what a list counts for each caller, by its first element and the others
 pub counts-first :
     {X : Type 0} (n : ℕ) (p : ℕ → X → Bool) (x : X) (xs : List X)
-    → sum_below n (λ who. count_by (p who) (x ∷ xs)) ≡ sum_below n (λ who. count_by (p who) (x ∷ [])) + sum_below n (λ who. count_by (p who) xs)
+    → sum_below n (λ caller. count_by (p caller) (x ∷ xs)) ≡ sum_below n (λ caller. count_by (p caller) (x ∷ [])) + sum_below n (λ caller. count_by (p caller) xs)
 counts-first n p x xs =
-    let one = λ (who : ℕ). count_by (p who) (x ∷ []) in
-    let rest = λ (who : ℕ). count_by (p who) xs in
+    let one = λ (caller : ℕ). count_by (p caller) (x ∷ []) in
+    let rest = λ (caller : ℕ). count_by (p caller) xs in
     omega (
       arith,
-      sum-same n (λ who. one who + rest who) (λ who. count_by (p who) (x ∷ xs)) (λ who lt. count-append (p who) (x ∷ []) xs),
+      sum-same n (λ caller. one caller + rest caller) (λ caller. count_by (p caller) (x ∷ xs)) (λ caller lt. count-append (p caller) (x ∷ []) xs),
       sum-plus n one rest,
     )
 

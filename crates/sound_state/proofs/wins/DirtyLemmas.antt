@@ -14,33 +14,33 @@ IsPast list o = (wins : ℕ) → o ≡ Some wins → wins ≤ length list
 
 -- another caller's win stays one
 pub dirty-stays :
-    (list more : List Win) (who : ℕ) (m : WordName) (o : Option ℕ) → IsPast list o → IsTrue (dirty_since list who m o)
-    → IsTrue (dirty_since (list ++ more) who m o)
-dirty-stays list more who m None past dirty = dirty
-dirty-stays list more who m (Some wins) past dirty =
-    let behind = count-behind (is_against who m) list more wins (past wins refl) in
-    let some = ltb-true 0 (count_by (is_against who m) (drop wins list)) dirty in
-    lt-ltb 0 (count_by (is_against who m) (drop wins (list ++ more))) (omega (arith, behind, some))
+    (list more : List Win) (caller : ℕ) (m : WordName) (o : Option ℕ) → IsPast list o → IsTrue (dirty_since list caller m o)
+    → IsTrue (dirty_since (list ++ more) caller m o)
+dirty-stays list more caller m None past dirty = dirty
+dirty-stays list more caller m (Some wins) past dirty =
+    let behind = count-behind (is_against caller m) list more wins (past wins refl) in
+    let some = ltb-true 0 (count_by (is_against caller m) (drop wins list)) dirty in
+    lt-ltb 0 (count_by (is_against caller m) (drop wins (list ++ more))) (omega (arith, behind, some))
 
 -- wins that aren't against the caller on the word change nothing there
 pub dirty-same :
-    (list more : List Win) (who : ℕ) (m : WordName) (o : Option ℕ) → IsPast list o → count_by (is_against who m) more ≡ 0
-    → dirty_since (list ++ more) who m o ≡ dirty_since list who m o
-dirty-same list more who m None past none = refl
-dirty-same list more who m (Some wins) past none =
-    let behind = count-behind (is_against who m) list more wins (past wins refl) in
-    let same : count_by (is_against who m) (drop wins (list ++ more)) ≡ count_by (is_against who m) (drop wins list) =
+    (list more : List Win) (caller : ℕ) (m : WordName) (o : Option ℕ) → IsPast list o → count_by (is_against caller m) more ≡ 0
+    → dirty_since (list ++ more) caller m o ≡ dirty_since list caller m o
+dirty-same list more caller m None past none = refl
+dirty-same list more caller m (Some wins) past none =
+    let behind = count-behind (is_against caller m) list more wins (past wins refl) in
+    let same : count_by (is_against caller m) (drop wins (list ++ more)) ≡ count_by (is_against caller m) (drop wins list) =
     omega (arith, behind, none) in
     ap (nat_lt 0) same
 
 -- a win against the caller on the word is one since every note
 pub dirty-now :
-    (list more : List Win) (who : ℕ) (m : WordName) (wins : ℕ) → wins ≤ length list → 0 < count_by (is_against who m) more
-    → IsTrue (dirty_since (list ++ more) who m (Some wins))
-dirty-now list more who m wins within some =
-    lt-ltb 0 (count_by (is_against who m) (drop wins (list ++ more)))
-    (omega (arith, count-behind (is_against who m) list more wins within, some))
+    (list more : List Win) (caller : ℕ) (m : WordName) (wins : ℕ) → wins ≤ length list → 0 < count_by (is_against caller m) more
+    → IsTrue (dirty_since (list ++ more) caller m (Some wins))
+dirty-now list more caller m wins within some =
+    lt-ltb 0 (count_by (is_against caller m) (drop wins (list ++ more)))
+    (omega (arith, count-behind (is_against caller m) list more wins within, some))
 
 -- nothing is won since the note of all wins
-pub clean-now : (list : List Win) (who : ℕ) (m : WordName) → dirty_since list who m (Some (length list)) ≡ false
-clean-now list who m = ap (λ xs. nat_lt 0 (count_by (is_against who m) xs)) (drop_all (length list) list (omega arith))
+pub clean-now : (list : List Win) (caller : ℕ) (m : WordName) → dirty_since list caller m (Some (length list)) ≡ false
+clean-now list caller m = ap (λ xs. nat_lt 0 (count_by (is_against caller m) xs)) (drop_all (length list) list (omega arith))

@@ -12,11 +12,11 @@ use Rattle.word_plan.specs.declared.name.WordName.{WordName}
 use Rattle.word_plan.specs.Actions.{name_of, found_by}
 use Rattle.word_plan.specs.Seats.{SeatFields, desc_named, anchor_in}
 use Rattle.word_plan.specs.Sites.{active_name}
-use Rattle.errand_steps.specs.declared.onward.Onward.{Onward}
-use Rattle.errand_steps.specs.Onwards.{is_alloc}
+use Rattle.errand_steps.specs.declared.continuation.Continuation.{Continuation}
+use Rattle.errand_steps.specs.Continuations.{is_alloc}
 use Rattle.errand_steps.specs.declared.point.Point.{Point}
 use Rattle.errand_steps.specs.Points.{plan_point_of}
-use Rattle.sound_state.specs.Expectations.{Expected, expect, expects_of, onward_expects, none_active}
+use Rattle.sound_state.specs.Expectations.{Expected, expect, expects_of, continuation_expects, none_active}
 use Rattle.sound_state.proofs.wins.WinDefs.{IsSeen, MayExpect, found_in}
 
 -- the caller expects this among others
@@ -46,8 +46,8 @@ pub all-in_rest : (e : Expected) (xs : List Expected) → All (IsIn (e ∷ xs)) 
 all-in_rest e xs k d lt = any-rest (λ x. x ≡ get_or xs k d) e xs (all-in xs k d lt)
 
 -- what waits behind a part expects an active word
-pub onward-active : (s : SeatFields) (o : Onward) → All (λ e. e.word ≡ active_name s) (onward_expects s o)
-onward-active s o = All-from_recursion (λ e. e.word ≡ active_name s) (onward_expects s o) (grind (arith))
+pub continuation-active : (s : SeatFields) (o : Continuation) → All (λ e. e.word ≡ active_name s) (continuation_expects s o)
+continuation-active s o = All-from_recursion (λ e. e.word ≡ active_name s) (continuation_expects s o) (grind (arith))
 
 -- a step from the point that finds v carries or sees this; and all of these
 abbrev pub MayOne : Point → ℕ → Expected → Type 0
@@ -79,22 +79,22 @@ rest-carried p v e es is apart =
     all-carried p v es (rw is (all-in_rest e es)) (All-from_recursion (λ e. e.word ≢ name_of (plan_point_of p)) es apart)
 
 -- and what waits behind a part
-pub onward-apart : (n : WordName) (s : SeatFields) (o : Onward) → active_name s ≢ n → All (λ e. e.word ≢ n) (onward_expects s o)
-onward-apart n s o apart k d lt = λ is. apart (sym (onward-active s o k d lt) ∙ is)
+pub continuation-apart : (n : WordName) (s : SeatFields) (o : Continuation) → active_name s ≢ n → All (λ e. e.word ≢ n) (continuation_expects s o)
+continuation-apart n s o apart k d lt = λ is. apart (sym (continuation-active s o k d lt) ∙ is)
 
-pub onward-carried :
-    (p : Point) (v : ℕ) (s : SeatFields) (o : Onward) → All (IsIn (expects_of p)) (onward_expects s o)
-    → active_name s ≢ name_of (plan_point_of p) → MayAll p v (onward_expects s o)
-onward-carried p v s o within apart = all-carried p v (onward_expects s o) within (onward-apart (name_of (plan_point_of p)) s o apart)
+pub continuation-carried :
+    (p : Point) (v : ℕ) (s : SeatFields) (o : Continuation) → All (IsIn (expects_of p)) (continuation_expects s o)
+    → active_name s ≢ name_of (plan_point_of p) → MayAll p v (continuation_expects s o)
+continuation-carried p v s o within apart = all-carried p v (continuation_expects s o) within (continuation-apart (name_of (plan_point_of p)) s o apart)
 
 -- with what is expected of a word before it
 pub both-carried :
-    (p : Point) (v : ℕ) (n : WordName) (w : ℕ) (s : SeatFields) (o : Onward) → All (IsIn (expects_of p)) (expect n w (onward_expects s o))
-    → n ≢ name_of (plan_point_of p) → active_name s ≢ name_of (plan_point_of p) → MayAll p v (expect n w (onward_expects s o))
+    (p : Point) (v : ℕ) (n : WordName) (w : ℕ) (s : SeatFields) (o : Continuation) → All (IsIn (expects_of p)) (expect n w (continuation_expects s o))
+    → n ≢ name_of (plan_point_of p) → active_name s ≢ name_of (plan_point_of p) → MayAll p v (expect n w (continuation_expects s o))
 both-carried p v n w s o within other apart =
-    all-carried p v (expect n w (onward_expects s o)) within
-    (All-cons (λ e. e.word ≢ name_of (plan_point_of p)) (record { word = n; value = w }) (onward_expects s o) other
-    (onward-apart (name_of (plan_point_of p)) s o apart))
+    all-carried p v (expect n w (continuation_expects s o)) within
+    (All-cons (λ e. e.word ≢ name_of (plan_point_of p)) (record { word = n; value = w }) (continuation_expects s o) other
+    (continuation-apart (name_of (plan_point_of p)) s o apart))
 
 -- what the step sees, and what is expected beside that
 pub seen-more :
@@ -137,5 +137,5 @@ read-anchor class v a below is = grind (arith, is, anchor_word-anchor_of v below
 
 -- an allocation at work expects that none is active
 pub alloc-active :
-    (P : Expected → Type 0) (s : SeatFields) (o : Onward) → IsTrue (is_alloc o) → All P (onward_expects s o) → All P (none_active s)
+    (P : Expected → Type 0) (s : SeatFields) (o : Continuation) → IsTrue (is_alloc o) → All P (continuation_expects s o) → All P (none_active s)
 alloc-active P s o goes rest = grind (arith, goes, rest)

@@ -18,22 +18,22 @@ use Rattle.sound_state.proofs.shared.SumLemmas.{sum-none, callers-none}
 
 -- no note is dirty
 none-dirty : (g : Geometry) → dirty_pairs g no_wins ≡ 0
-none-dirty g = sum-none (word_count g) (λ k. dirty_on g no_wins (word_name g k)) (λ k lt. sum-none g.callers _ (λ who has. refl))
+none-dirty g = sum-none (word_count g) (λ k. dirty_on g no_wins (word_name g k)) (λ k lt. sum-none g.callers _ (λ caller has. refl))
 
 pub first-won : (g : Geometry) (first : WordName → ℕ) (s : State) → IsOpening g first s → IsWon g s no_wins
 unfolding expects_of
 first-won g first s opens = record {
   noted = record {
     callers = All-nil (λ x. x.caller < g.callers);
-    won = λ who has. ap (λ e. e.won) (opens.errand who has);
-    past = λ who word wins is. absurd (cc);
-    expected = λ who has. subst (λ e. All (IsExpected s no_wins who) (expects_of e.point)) (sym (opens.errand who has)) (All-nil (IsExpected s no_wins who));
+    won = λ caller has. ap (λ e. e.won) (opens.errand caller has);
+    past = λ caller word wins is. absurd (cc);
+    expected = λ caller has. subst (λ e. All (IsExpected s no_wins caller) (expects_of e.point)) (sym (opens.errand caller has)) (All-nil (IsExpected s no_wins caller));
   };
-  contended = record { most = omega (arith, none-dirty g, callers-none g lost_of s.errand (λ who has. ap lost_of (opens.errand who has))) };
+  contended = record { most = omega (arith, none-dirty g, callers-none g lost_of s.errand (λ caller has. ap lost_of (opens.errand caller has))) };
   installed = record {
-    own = λ who has. rw (opens.errand who has) (omega arith);
-    turns = λ who has. rw (opens.errand who has) (omega arith);
-    found = λ who has seeks. absurd (true≢false (sym (subst (λ e. IsTrue (is_seeking (turn_stage_of e.point))) (opens.errand who has) seeks)));
-    since = λ who wins has is. absurd (cc);
+    own = λ caller has. rw (opens.errand caller has) (omega arith);
+    turns = λ caller has. rw (opens.errand caller has) (omega arith);
+    found = λ caller has seeks. absurd (true≢false (sym (subst (λ e. IsTrue (is_seeking (turn_stage_of e.point))) (opens.errand caller has) seeks)));
+    since = λ caller wins has is. absurd (cc);
   };
 }

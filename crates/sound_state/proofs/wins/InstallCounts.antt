@@ -16,54 +16,54 @@ use Rattle.sound_state.proofs.wins.SameNames.{same-name-refl}
 use Rattle.sound_state.proofs.wins.WinDefs.{given_by, refused_by}
 
 -- an install of others on a word is one of others
-pub on-against : (who : ℕ) (word : WordName) (xs : List Win) → count_by (installs_on who word) xs ≤ count_by (installs_against who) xs
-on-against who word xs =
-    count-most (installs_on who word) (installs_against who) xs (λ x. grind (arith))
+pub on-against : (caller : ℕ) (word : WordName) (xs : List Win) → count_by (installs_on caller word) xs ≤ count_by (installs_against caller) xs
+on-against caller word xs =
+    count-most (installs_on caller word) (installs_against caller) xs (λ x. grind (arith))
 
 -- with one more event
 pub count-gives :
-    (who : ℕ) (history : List Event) (o : Option Event)
-    → count_by (gives_small who) (with_event history o) ≡ count_by (gives_small who) history + given_by who o
-count-gives who history None = omega arith
-count-gives who history (Some e) = sum_by_push (λ x. cond (gives_small who x) 1 0) history e
+    (caller : ℕ) (history : List Event) (o : Option Event)
+    → count_by (gives_small caller) (with_event history o) ≡ count_by (gives_small caller) history + given_by caller o
+count-gives caller history None = omega arith
+count-gives caller history (Some e) = sum_by_push (λ x. cond (gives_small caller x) 1 0) history e
 
 pub count-refuses :
-    (who : ℕ) (history : List Event) (o : Option Event)
-    → count_by (refuses_small who) (with_event history o) ≡ count_by (refuses_small who) history + refused_by who o
-count-refuses who history None = omega arith
-count-refuses who history (Some e) = sum_by_push (λ x. cond (refuses_small who x) 1 0) history e
+    (caller : ℕ) (history : List Event) (o : Option Event)
+    → count_by (refuses_small caller) (with_event history o) ≡ count_by (refuses_small caller) history + refused_by caller o
+count-refuses caller history None = omega arith
+count-refuses caller history (Some e) = sum_by_push (λ x. cond (refuses_small caller x) 1 0) history e
 
 -- a caller's win counts for it where it is an offer that was won, and never against it
-by-offer : (who : ℕ) (word : WordName) (b won : Bool)
-    → counted (installs_by who) (if won then Some (record { caller = who; word = word; install = b }) else None) ≤ one_if (b && won)
-by-offer who word b won = grind (arith)
+by-offer : (caller : ℕ) (word : WordName) (b won : Bool)
+    → counted (installs_by caller) (if won then Some (record { caller = caller; word = word; install = b }) else None) ≤ one_if (b && won)
+by-offer caller word b won = grind (arith)
 
 pub own-install :
-    (s : State) (who : ℕ) → counted (installs_by who) (win_at s who) ≤ one_if (offers (s.errand who).point && (found_at s who).won)
-own-install s who =
-    let won = counts_won (action_at s who) (found_at s who) in
-    omega (arith, by-offer who (name_at s who) (offers (s.errand who).point) won, install-won (s.errand who).point (found_at s who))
+    (s : State) (caller : ℕ) → counted (installs_by caller) (win_at s caller) ≤ one_if (offers (s.errand caller).point && (found_at s caller).won)
+own-install s caller =
+    let won = counts_won (action_at s caller) (found_at s caller) in
+    omega (arith, by-offer caller (name_at s caller) (offers (s.errand caller).point) won, install-won (s.errand caller).point (found_at s caller))
 
-no-install-against-own : (who : ℕ) (word : WordName) (b won : Bool)
-    → counted (installs_against who) (if won then Some (record { caller = who; word = word; install = b }) else None) ≡ 0
-no-install-against-own who word b true = rw (eq-eqb who who refl) (grind (arith))
-no-install-against-own who word b false = refl
+no-install-against-own : (caller : ℕ) (word : WordName) (b won : Bool)
+    → counted (installs_against caller) (if won then Some (record { caller = caller; word = word; install = b }) else None) ≡ 0
+no-install-against-own caller word b true = rw (eq-eqb caller caller refl) (grind (arith))
+no-install-against-own caller word b false = refl
 
-pub none-against : (s : State) (who : ℕ) → counted (installs_against who) (win_at s who) ≡ 0
-none-against s who = no-install-against-own who (name_at s who) (offers (s.errand who).point) (counts_won (action_at s who) (found_at s who))
+pub none-against : (s : State) (caller : ℕ) → counted (installs_against caller) (win_at s caller) ≡ 0
+none-against s caller = no-install-against-own caller (name_at s caller) (offers (s.errand caller).point) (counts_won (action_at s caller) (found_at s caller))
 
 -- another caller's win doesn't count for a caller
-by-other : (who i : ℕ) (word : WordName) (b won : Bool) → i ≢ who
-    → counted (installs_by i) (if won then Some (record { caller = who; word = word; install = b }) else None) ≡ 0
-by-other who i word b true ne = rw (ne_eqb who i (λ same. ne (sym same))) (grind (arith))
-by-other who i word b false ne = refl
+by-other : (caller i : ℕ) (word : WordName) (b won : Bool) → i ≢ caller
+    → counted (installs_by i) (if won then Some (record { caller = caller; word = word; install = b }) else None) ≡ 0
+by-other caller i word b true ne = rw (ne_eqb caller i (λ same. ne (sym same))) (grind (arith))
+by-other caller i word b false ne = refl
 
-pub other-install : (s : State) (who i : ℕ) → i ≢ who → counted (installs_by i) (win_at s who) ≡ 0
-other-install s who i ne = by-other who i (name_at s who) (offers (s.errand who).point) (counts_won (action_at s who) (found_at s who)) ne
+pub other-install : (s : State) (caller i : ℕ) → i ≢ caller → counted (installs_by i) (win_at s caller) ≡ 0
+other-install s caller i ne = by-other caller i (name_at s caller) (offers (s.errand caller).point) (counts_won (action_at s caller) (found_at s caller)) ne
 
 -- an install that was won counts against each other caller on its word
 pub installs-there :
-    (s : State) (who i : ℕ) → i ≢ who → IsTrue (offers (s.errand who).point) → counts_won (action_at s who) (found_at s who) ≡ true
-    → counted (installs_on i (name_at s who)) (win_at s who) ≡ 1
-installs-there s who i ne offer won =
-    rw (won, offer, ne_eqb who i (λ same. ne (sym same)), same-name-refl (name_at s who)) refl
+    (s : State) (caller i : ℕ) → i ≢ caller → IsTrue (offers (s.errand caller).point) → counts_won (action_at s caller) (found_at s caller) ≡ true
+    → counted (installs_on i (name_at s caller)) (win_at s caller) ≡ 1
+installs-there s caller i ne offer won =
+    rw (won, offer, ne_eqb caller i (λ same. ne (sym same)), same-name-refl (name_at s caller)) refl

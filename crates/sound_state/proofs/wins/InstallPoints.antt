@@ -9,7 +9,7 @@ use Rattle.word_plan.specs.declared.action.Found.{Found}
 use Rattle.word_plan.specs.Actions.{name_of}
 use Rattle.superblock_parts.specs.declared.point.BlockPoint.{BlockPoint}
 use Rattle.superblock_parts.specs.declared.point.BlockPoint.TheVariants as block
-use Rattle.errand_steps.specs.declared.onward.Onward.{Onward}
+use Rattle.errand_steps.specs.declared.continuation.Continuation.{Continuation}
 use Rattle.errand_steps.specs.declared.point.Point.{Point}
 use Rattle.errand_steps.specs.declared.point.Point.TheVariants as point
 use Rattle.errand_steps.specs.Points.{plan_point_of}
@@ -62,7 +62,7 @@ not-null : (v : ℕ) → not (v == active_word Null) ≡ true → v ≢ active_w
 not-null v lost is = absurd (grind (arith, lost, is))
 
 loses-block :
-    (p : BlockPoint) (o : Onward) (v : ℕ) (P : Expected → Type 0)
+    (p : BlockPoint) (o : Continuation) (v : ℕ) (P : Expected → Type 0)
     → IsTrue (offers_new (point.Block p o) && not (found_in (point.Block p o) v).won)
     → All P (expects_of (point.Block p o)) → LosesNew (point.Block p o) v P
 unfolding expects_of plan_point_of

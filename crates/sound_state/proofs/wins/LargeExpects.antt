@@ -10,7 +10,7 @@ use Rattle.word_plan.specs.declared.name.WordName.TheVariants as name
 use Rattle.large_parts.specs.declared.point.LargePoint.{LargePoint}
 use Rattle.large_parts.specs.declared.point.LargePoint.TheVariants as large
 use Rattle.large_parts.specs.Points.{after_shelf}
-use Rattle.errand_steps.specs.declared.onward.Onward.{Onward}
+use Rattle.errand_steps.specs.declared.continuation.Continuation.{Continuation}
 use Rattle.errand_steps.specs.declared.point.Point.TheVariants.{Large}
 use Rattle.errand_steps.specs.Nexts.{next_of, enter_large}
 use Rattle.errand_steps.specs.Points.{plan_point_of}
@@ -26,7 +26,7 @@ shelf-word-back v w below is =
 
 -- where a shelf's word leads
 shelf-on :
-    (shelf : ℕ) (o : Onward) (v : ℕ) (w : Option ShelfWord) → v < 2 ^ 64 → shelf_of v ≡ w
+    (shelf : ℕ) (o : Continuation) (v : ℕ) (w : Option ShelfWord) → v < 2 ^ 64 → shelf_of v ≡ w
     → MayAll (Large (large.LoadShelf shelf) o) v (next_expects (enter_large (after_shelf shelf w) o))
 unfolding plan_point_of expects_of
 shelf-on shelf o v None below is = expects-none (Large (large.LoadShelf shelf) o) v
@@ -38,7 +38,7 @@ shelf-on shelf o v (Some (Block place need)) below is =
     (shelf-word-back v (Block place need) below is) (expects-none (Large (large.LoadShelf shelf) o) v)
 
 -- what a caller expects after a step there the step saw
-pub large-expects : (p : LargePoint) (o : Onward) (v : ℕ) → v < 2 ^ 64 → ExpectsOn (Large p o) v
+pub large-expects : (p : LargePoint) (o : Continuation) (v : ℕ) → v < 2 ^ 64 → ExpectsOn (Large p o) v
 unfolding plan_point_of next_of expects_of
 large-expects (large.LoadUnits w) o v below =
     load-seen (Large (large.LoadUnits w) o) v name.Units v [] refl refl (expects-none (Large (large.LoadUnits w) o) v)

@@ -14,7 +14,7 @@ use Rattle.sound_state.proofs.wins.CountLemmas.{counts-first, count-one}
 
 -- each win is one of its caller's
 all-won :
-    (n : ℕ) (xs : List Win) → All (λ x. x.caller < n) xs → length xs ≤ sum_below n (λ who. count_by (is_by who) xs)
+    (n : ℕ) (xs : List Win) → All (λ x. x.caller < n) xs → length xs ≤ sum_below n (λ caller. count_by (is_by caller) xs)
 all-won n [] all = omega arith
 all-won n (x ∷ xs) all =
     let here : x.caller < n = All-head (λ y. y.caller < n) x xs all in
@@ -22,7 +22,7 @@ all-won n (x ∷ xs) all =
       arith,
       counts-first n is_by x xs,
       all-won n xs (All-tail (λ y. y.caller < n) x xs all),
-      term-sum n (λ who. count_by (is_by who) (x ∷ [])) x.caller here,
+      term-sum n (λ caller. count_by (is_by caller) (x ∷ [])) x.caller here,
       count-one (is_by x.caller) x (eq-eqb x.caller x.caller refl),
     )
 
@@ -34,17 +34,17 @@ more-times : (k a b c : ℕ) → a ≤ k * b → b ≤ c → a ≤ k * c
 more-times k a b c most less = grind (arith, most, less)
 
 pub losses-bounded :
-    (g : Geometry) (s : State) (w : Wins) → IsWon g s w → ((who : ℕ) → who < g.callers → (s.errand who).won < 2 ^ 64 - 1)
+    (g : Geometry) (s : State) (w : Wins) → IsWon g s w → ((caller : ℕ) → caller < g.callers → (s.errand caller).won < 2 ^ 64 - 1)
     → callers_sum g lost_of s.errand ≤ (g.callers - 1) * callers_sum g won_of s.errand
 unfolding callers_sum
 losses-bounded g s w won below =
     let noted = won.noted in
-    let wins : length w.list ≤ sum_below g.callers (λ who. (s.errand who).won) =
+    let wins : length w.list ≤ sum_below g.callers (λ caller. (s.errand caller).won) =
     omega (
       arith,
       all-won g.callers w.list noted.callers,
-      sum-same g.callers (λ who. (s.errand who).won) (λ who. count_by (is_by who) w.list)
-          (λ who has. won-counted (s.errand who).won (count_by (is_by who) w.list) (noted.won who has) (below who has)),
+      sum-same g.callers (λ caller. (s.errand caller).won) (λ caller. count_by (is_by caller) w.list)
+          (λ caller has. won-counted (s.errand caller).won (count_by (is_by caller) w.list) (noted.won caller has) (below caller has)),
     ) in
-    more-times (g.callers - 1) (sum_below g.callers (λ who. (s.errand who).lost)) (length w.list) (sum_below g.callers (λ who. (s.errand who).won))
+    more-times (g.callers - 1) (sum_below g.callers (λ caller. (s.errand caller).lost)) (length w.list) (sum_below g.callers (λ caller. (s.errand caller).won))
     (omega (arith, won.contended.most)) wins

@@ -33,10 +33,10 @@ writes-one before a b name value first second n =
     ]
 
 moves-one :
-    (before a b : ℕ → ErrandFields) (who : ℕ) (e : ErrandFields) → Moves before who e a → Moves before who e b → (other : ℕ)
+    (before a b : ℕ → ErrandFields) (caller : ℕ) (e : ErrandFields) → Moves before caller e a → Moves before caller e b → (other : ℕ)
     → a other ≡ b other
-moves-one before a b who e first second other =
-    elim (cases_eq other who) [
+moves-one before a b caller e first second other =
+    elim (cases_eq other caller) [
       | inl same ↦ ap a same ∙ (first.here ∙ (sym second.here ∙ ap b (sym same)))
       | inr differ ↦ first.elsewhere other differ ∙ sym (second.elsewhere other differ)
     ]
@@ -49,20 +49,20 @@ same-one a b same =
     words ∙ (errands ∙ ap (λ h. state_with b.word b.errand h) same.history)
 
 -- so a step has one outcome, and a move has one
-pub step-one : (s a b : State) (who : ℕ) → Step s who a → Step s who b → a ≡ b
-step-one s a b who first second =
+pub step-one : (s a b : State) (caller : ℕ) → Step s caller a → Step s caller b → a ≡ b
+step-one s a b caller first second =
     same-one a b
     (record {
       word = writes-one s.word a.word b.word _ _ first.word second.word;
-      errand = moves-one s.errand a.errand b.errand who _ first.errand second.errand;
+      errand = moves-one s.errand a.errand b.errand caller _ first.errand second.errand;
       history = first.history ∙ sym second.history;
     })
 
 moved-one : (g : Geometry) (s a b : State) (move : Move) → Moved g s move a → Moved g s move b → a ≡ b
-moved-one g s a b (begins who call) first second =
+moved-one g s a b (begins caller call) first second =
     first.1.after
-    ∙ (ap (with_errands s) (fun_ext (moves-one s.errand first.1.errands second.1.errands who _ first.1.moves second.1.moves)) ∙ sym second.1.after)
-moved-one g s a b (steps who) first second = step-one s a b who first.1 second.1
+    ∙ (ap (with_errands s) (fun_ext (moves-one s.errand first.1.errands second.1.errands caller _ first.1.moves second.1.moves)) ∙ sym second.1.after)
+moved-one g s a b (steps caller) first second = step-one s a b caller first.1 second.1
 
 -- every run makes a list
 pub reached-made :
@@ -101,8 +101,8 @@ made-one g s w (move ∷ rest) a b u v (m, first, firsts) (n, second, seconds) =
 moved-won :
     (g : Geometry) (s : State) (w : Wins) (move : Move) (s' : State) → IsSound g s → IsWon g s w → Moved g s move s'
     → IsWon g s' (made_by s move w)
-moved-won g s w (begins who call) s' sound won moved = begins-won g s w who call s' won moved.0 moved.1
-moved-won g s w (steps who) s' sound won moved = steps-won g s w who s' (without-counts g s sound) won moved.0 moved.1
+moved-won g s w (begins caller call) s' sound won moved = begins-won g s w caller call s' won moved.0 moved.1
+moved-won g s w (steps caller) s' sound won moved = steps-won g s w caller s' (without-counts g s sound) won moved.0 moved.1
 
 -- and so does a run
 pub made-won :

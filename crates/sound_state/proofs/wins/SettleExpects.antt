@@ -17,14 +17,14 @@ use Rattle.partial_parts.specs.declared.point.PartialPoint.{PartialPoint}
 use Rattle.partial_parts.specs.Points.{settle_partial_of}
 use Rattle.large_parts.specs.declared.point.LargePoint.{LargePoint}
 use Rattle.large_parts.specs.Points.{settle_large_of}
-use Rattle.errand_steps.specs.declared.onward.Onward.{Onward}
+use Rattle.errand_steps.specs.declared.continuation.Continuation.{Continuation}
 use Rattle.errand_steps.specs.declared.next.Next.{Next}
 use Rattle.errand_steps.specs.declared.next.Next.TheVariants.{At, End, Turn, Retire, Pick, Unlist}
 use Rattle.errand_steps.specs.declared.point.Point.{Point}
 use Rattle.errand_steps.specs.declared.point.Point.TheVariants as point
 use Rattle.errand_steps.specs.Errands.{ErrandFields, settle_of, course_of, after_list, after_turn, picked, turned, is_full, no_words, point_after}
 use Rattle.errand_steps.specs.Nexts.{next_of, resumed, enter_block, enter_stack, enter_desc, enter_partial, enter_large}
-use Rattle.sound_state.specs.Expectations.{Expected, expects_of, onward_expects, desc_expects}
+use Rattle.sound_state.specs.Expectations.{Expected, expects_of, continuation_expects, desc_expects}
 use Rattle.sound_state.proofs.wins.WinDefs.{next_expects}
 
 -- whether a scan is over
@@ -33,29 +33,29 @@ is_pick (Pick s held o) = true
 is_pick n = false
 
 -- no part but that of the descriptors has scans
-pub no-pick-block : (p : BlockPoint) (o : Onward) → is_pick (enter_block p o) ≡ false
+pub no-pick-block : (p : BlockPoint) (o : Continuation) → is_pick (enter_block p o) ≡ false
 no-pick-block p o = grind (arith)
 
-pub no-pick-stack : (p : StackPoint) (o : Onward) → is_pick (enter_stack p o) ≡ false
+pub no-pick-stack : (p : StackPoint) (o : Continuation) → is_pick (enter_stack p o) ≡ false
 no-pick-stack p o = grind (arith)
 
-pub no-pick-partial : (p : PartialPoint) (o : Onward) → is_pick (enter_partial p o) ≡ false
+pub no-pick-partial : (p : PartialPoint) (o : Continuation) → is_pick (enter_partial p o) ≡ false
 no-pick-partial p o = grind (arith)
 
-pub no-pick-large : (p : LargePoint) (o : Onward) → is_pick (enter_large p o) ≡ false
+pub no-pick-large : (p : LargePoint) (o : Continuation) → is_pick (enter_large p o) ≡ false
 no-pick-large p o = grind (arith)
 
 -- a scan that is over leaves the point where its last hazard word was read
 scanned-expects :
-    (P : Expected → Type 0) (q : DescPoint) (r : Onward) (x : Found) (s : SeatFields) (held : List ℕ) (o : Onward)
-    → enter_desc (settle_desc_of q x) r ≡ Pick s held o → All P (onward_expects s o) → All P (desc_expects q r)
+    (P : Expected → Type 0) (q : DescPoint) (r : Continuation) (x : Found) (s : SeatFields) (held : List ℕ) (o : Continuation)
+    → enter_desc (settle_desc_of q x) r ≡ Pick s held o → All P (continuation_expects s o) → All P (desc_expects q r)
 scanned-expects P (desc.ReadHazard t words at) r x s held o is all = grind (arith, is)
 scanned-expects P q r x s held o is all = grind (arith, is, All-nil P)
 
 -- a scan ends where the last hazard word is read: the caller expects there what it expected
 picked-expects :
-    (P : Expected → Type 0) (p : Point) (x : Found) (s : SeatFields) (held : List ℕ) (o : Onward) → next_of p x ≡ Pick s held o
-    → All P (onward_expects s o) → All P (expects_of p)
+    (P : Expected → Type 0) (p : Point) (x : Found) (s : SeatFields) (held : List ℕ) (o : Continuation) → next_of p x ≡ Pick s held o
+    → All P (continuation_expects s o) → All P (expects_of p)
 unfolding next_of expects_of
 picked-expects P point.Idle x s held o is all = All-nil P
 picked-expects P (point.Block p r) x s held o is all =
@@ -70,15 +70,15 @@ picked-expects P (point.Large p r) x s held o is all =
 
 -- how a call goes on after a retirement: where it takes a partial superblock it expects what it expected
 resumed-expects :
-    (P : Expected → Type 0) (e : ErrandFields) (s : SeatFields) (o : Onward) → All P (onward_expects s o)
+    (P : Expected → Type 0) (e : ErrandFields) (s : SeatFields) (o : Continuation) → All P (continuation_expects s o)
     → All P (expects_of (point_after (after_turn e (resumed s o))))
 unfolding expects_of
 resumed-expects P e s o all = grind (arith, all)
 
 -- so it does where it picks a descriptor, and where none can be picked
 first-expects :
-    (P : Expected → Type 0) (e : ErrandFields) (x : Found) (s : SeatFields) (held : List ℕ) (o : Onward) (first : Option ℕ)
-    → next_of e.point x ≡ Pick s held o → All P (onward_expects s o)
+    (P : Expected → Type 0) (e : ErrandFields) (x : Found) (s : SeatFields) (held : List ℕ) (o : Continuation) (first : Option ℕ)
+    → next_of e.point x ≡ Pick s held o → All P (continuation_expects s o)
     → All P (expects_of (point_after (after_turn e (picked e s o first))))
 unfolding expects_of
 first-expects P e x s held o None is all = picked-expects P e.point x s held o is all
@@ -91,7 +91,7 @@ turned-expects P e s need = grind (arith)
 
 -- and where it scans
 retired-expects :
-    (P : Expected → Type 0) (e : ErrandFields) (s : SeatFields) (d : ℕ) (o : Onward) → All P (onward_expects s o)
+    (P : Expected → Type 0) (e : ErrandFields) (s : SeatFields) (d : ℕ) (o : Continuation) → All P (continuation_expects s o)
     → All P (expects_of (point_after (after_turn e (after_list e (Retire s d o)))))
 unfolding expects_of
 retired-expects P e s d o all =

@@ -15,14 +15,14 @@ use Rattle.stack_parts.specs.declared.point.StackPoint.{StackPoint}
 use Rattle.stack_parts.specs.declared.point.StackPoint.TheVariants as stack
 use Rattle.stack_parts.specs.Piles.{head_name, next_name}
 use Rattle.stack_parts.specs.Points.{plan_stack_of, seat_of_stack, after_top, after_below}
-use Rattle.errand_steps.specs.declared.onward.Onward.{Onward}
+use Rattle.errand_steps.specs.declared.continuation.Continuation.{Continuation}
 use Rattle.errand_steps.specs.declared.point.Point.TheVariants.{Stack}
 use Rattle.errand_steps.specs.Fits.{FitsInStack}
 use Rattle.errand_steps.specs.Nexts.{next_of, enter_stack, popped, confirmed_empty, put_away}
-use Rattle.errand_steps.specs.Onwards.{has_left_stack}
+use Rattle.errand_steps.specs.Continuations.{has_left_stack}
 use Rattle.errand_steps.specs.Points.{plan_point_of}
-use Rattle.sound_state.specs.Expectations.{Expected, expects_of, onward_expects, head_still}
-use Rattle.sound_state.proofs.wins.ExpectLemmas.{IsIn, MayOne, MayAll, all-in, all-in_rest, onward-carried, load-seen, both-carried}
+use Rattle.sound_state.specs.Expectations.{Expected, expects_of, continuation_expects, head_still}
+use Rattle.sound_state.proofs.wins.ExpectLemmas.{IsIn, MayOne, MayAll, all-in, all-in_rest, continuation-carried, load-seen, both-carried}
 use Rattle.sound_state.proofs.wins.WinDefs.{ExpectsOn, next_expects}
 
 -- an active word is no word of a stack, and a head lies below no index
@@ -40,84 +40,84 @@ below-apart s Partials i = λ is. cc
 
 -- what waits behind the part is expected in it
 stack-holds :
-    (p : StackPoint) (o : Onward) → has_left_stack p ≡ false → All (IsIn (expects_of (Stack p o))) (onward_expects (seat_of_stack p) o)
+    (p : StackPoint) (o : Continuation) → has_left_stack p ≡ false → All (IsIn (expects_of (Stack p o))) (continuation_expects (seat_of_stack p) o)
 unfolding expects_of
 stack-holds p o inside = grind (arith, inside, all-in, all-in_rest)
 
 -- a head that is read for a pop
 top-expects :
-    (P : Expected → Type 0) (s : SeatFields) (pile : Pile) (h : HeadFields) (o : Onward) → All P (onward_expects s o)
+    (P : Expected → Type 0) (s : SeatFields) (pile : Pile) (h : HeadFields) (o : Continuation) → All P (continuation_expects s o)
     → All P (head_still s pile h o) → All P (next_expects (enter_stack (after_top s pile h) o))
 unfolding expects_of
 top-expects P s pile h o rest all = grind (arith, rest, all)
 
 -- the next word of the index on top
 below-expects :
-    (P : Expected → Type 0) (s : SeatFields) (pile : Pile) (h : HeadFields) (below : ℕ) (o : Onward) → All P (head_still s pile h o)
+    (P : Expected → Type 0) (s : SeatFields) (pile : Pile) (h : HeadFields) (below : ℕ) (o : Continuation) → All P (head_still s pile h o)
     → All P (next_expects (enter_stack (after_below s pile h below) o))
 unfolding expects_of
 below-expects P s pile h below o all = grind (arith, all)
 
 -- an index was popped
 popped-leads :
-    (P : Expected → Type 0) (s : SeatFields) (i : ℕ) (o : Onward) → All P (onward_expects s o) → All P (next_expects (popped s i o))
+    (P : Expected → Type 0) (s : SeatFields) (i : ℕ) (o : Continuation) → All P (continuation_expects s o) → All P (next_expects (popped s i o))
 unfolding expects_of
 popped-leads P s i o rest = grind (arith, rest)
 
 -- the stack is empty
 confirmed-leads :
-    (P : Expected → Type 0) (s : SeatFields) (o : Onward) → All P (onward_expects s o) → All P (next_expects (confirmed_empty s o))
+    (P : Expected → Type 0) (s : SeatFields) (o : Continuation) → All P (continuation_expects s o) → All P (next_expects (confirmed_empty s o))
 unfolding expects_of
 confirmed-leads P s o rest = grind (arith, rest, All-nil P)
 
 -- what was to be put away stands there
-pub put-leads : (P : Expected → Type 0) (s : SeatFields) (o : Onward) → All P (next_expects (put_away s o))
+pub put-leads : (P : Expected → Type 0) (s : SeatFields) (o : Continuation) → All P (next_expects (put_away s o))
 unfolding expects_of
 put-leads P s o = grind (arith, All-nil P)
 
 -- where a step from p leads to q, it carries or sees all that its caller expects after it
-abbrev StackCarries : StackPoint → Onward → ℕ → StackPoint → Type 0
+abbrev StackCarries : StackPoint → Continuation → ℕ → StackPoint → Type 0
 StackCarries p o v q = MayAll (Stack p o) v (next_expects (enter_stack q o))
 
 -- what waits behind the part is carried
-stack-onward-carried :
-    (p : StackPoint) (o : Onward) (v : ℕ) → has_left_stack p ≡ false → active_name (seat_of_stack p) ≢ name_of (plan_stack_of p)
-    → MayAll (Stack p o) v (onward_expects (seat_of_stack p) o)
+stack-continuation-carried :
+    (p : StackPoint) (o : Continuation) (v : ℕ) → has_left_stack p ≡ false → active_name (seat_of_stack p) ≢ name_of (plan_stack_of p)
+    → MayAll (Stack p o) v (continuation_expects (seat_of_stack p) o)
 unfolding plan_point_of
-stack-onward-carried p o v inside apart = onward-carried (Stack p o) v (seat_of_stack p) o (stack-holds p o inside) apart
+stack-continuation-carried p o v inside apart = continuation-carried (Stack p o) v (seat_of_stack p) o (stack-holds p o inside) apart
 
 -- a step at a stack carries or sees all that its caller expects after it
 pub stack-expects :
-    (g : Geometry) (who : ℕ) (p : StackPoint) (o : Onward) (v : ℕ) → FitsInStack g who p o → v < 2 ^ 64 → ExpectsOn (Stack p o) v
+    (g : Geometry) (caller : ℕ) (p : StackPoint) (o : Continuation) (v : ℕ) → FitsInStack g caller p o → v < 2 ^ 64 → ExpectsOn (Stack p o) v
 unfolding plan_point_of next_of expects_of
-stack-expects g who (stack.LoadTop s pile) o v fits below =
+stack-expects g caller (stack.LoadTop s pile) o v fits below =
     let p = stack.LoadTop s pile in
-    let rest = stack-onward-carried p o v refl (head-apart s pile) in
+    let rest = stack-continuation-carried p o v refl (head-apart s pile) in
     top-expects (MayOne (Stack p o) v) s pile (head_of v) o rest
-    (load-seen (Stack p o) v (head_name s pile) (head_word (head_of v)) (onward_expects s o) refl (sym (head_word-head_of v below)) rest)
-stack-expects g who (stack.LoadBelow s pile h) o v fits below =
+    (load-seen (Stack p o) v (head_name s pile) (head_word (head_of v)) (continuation_expects s o) refl (sym (head_word-head_of v below)) rest)
+stack-expects g caller (stack.LoadBelow s pile h) o v fits below =
     below-expects (MayOne (Stack (stack.LoadBelow s pile h) o) v) s pile h v o
     (both-carried (Stack (stack.LoadBelow s pile h) o) v (head_name s pile) (head_word h) s o
     (all-in (head_still s pile h o)) (below-apart s pile (h.top - 1)) (next-apart s pile (h.top - 1)))
-stack-expects g who (stack.PopTop s pile h next) o v fits below =
+stack-expects g caller (stack.PopTop s pile h next) o v fits below =
     let p = stack.PopTop s pile h next in
-    let rest = stack-onward-carried p o v refl (head-apart s pile) in
+    let rest = stack-continuation-carried p o v refl (head-apart s pile) in
     cond_both (v == head_word h) (stack.Popped s pile (h.top - 1)) (stack.LoadTop s pile) (StackCarries p o v)
     (λ won. popped-leads (MayOne (Stack p o) v) s (h.top - 1) o rest) (λ lost. rest)
-stack-expects g who (stack.ConfirmEmpty s pile h) o v fits below =
+stack-expects g caller (stack.ConfirmEmpty s pile h) o v fits below =
     let p = stack.ConfirmEmpty s pile h in
-    let rest = stack-onward-carried p o v refl (head-apart s pile) in
+    let rest = stack-continuation-carried p o v refl (head-apart s pile) in
     cond_both (v == head_word h) (stack.ConfirmedEmpty s pile) (stack.LoadTop s pile) (StackCarries p o v)
     (λ won. confirmed-leads (MayOne (Stack p o) v) s o rest) (λ lost. rest)
-stack-expects g who (stack.LoadTopToPush s pile i) o v fits below =
+stack-expects g caller (stack.LoadTopToPush s pile i) o v fits below =
     let p = stack.LoadTopToPush s pile i in
-    load-seen (Stack p o) v (head_name s pile) (head_word (head_of v)) (onward_expects s o) refl (sym (head_word-head_of v below))
-    (stack-onward-carried p o v refl (head-apart s pile))
-stack-expects g who (stack.StoreBelow s pile i h) o v fits below =
+    load-seen (Stack p o) v (head_name s pile) (head_word (head_of v)) (continuation_expects s o) refl (sym (head_word-head_of v below))
+    (stack-continuation-carried p o v refl (head-apart s pile))
+stack-expects g caller (stack.StoreBelow s pile i h) o v fits below =
     both-carried (Stack (stack.StoreBelow s pile i h) o) v (head_name s pile) (head_word h) s o
     (all-in (head_still s pile h o)) (below-apart s pile i) (next-apart s pile i)
-stack-expects g who (stack.PushTop s pile i h) o v fits below =
+stack-expects g caller (stack.PushTop s pile i h) o v fits below =
     let p = stack.PushTop s pile i h in
     cond_both (v == head_word h) (stack.Pushed s pile) (stack.LoadTopToPush s pile i) (StackCarries p o v)
-    (λ won. put-leads (MayOne (Stack p o) v) s o) (λ lost. stack-onward-carried p o v refl (head-apart s pile))
-stack-expects g who p o v fits below = absurd (true≢false fits.inside)
+    (λ won. put-leads (MayOne (Stack p o) v) s o) (λ lost. stack-continuation-carried p o v refl (head-apart s pile))
+stack-expects g caller p o v fits below = absurd (true≢false fits.inside)

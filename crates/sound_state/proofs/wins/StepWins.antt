@@ -37,109 +37,109 @@ word-stays (And name mask) v won store = absurd (true≢false won)
 
 -- what the caller wins by its step, where it wins
 abbrev pub the_win : State → ℕ → Win
-the_win s who = record { caller = who; word = name_at s who; install = offers (s.errand who).point }
+the_win s caller = record { caller = caller; word = name_at s caller; install = offers (s.errand caller).point }
 
-pub win-some : (s : State) (who : ℕ) → counts_won (action_at s who) (found_at s who) ≡ true → win_at s who ≡ Some (the_win s who)
-win-some s who won = cond-true (counts_won (action_at s who) (found_at s who)) (Some (the_win s who)) None won
+pub win-some : (s : State) (caller : ℕ) → counts_won (action_at s caller) (found_at s caller) ≡ true → win_at s caller ≡ Some (the_win s caller)
+win-some s caller won = cond-true (counts_won (action_at s caller) (found_at s caller)) (Some (the_win s caller)) None won
 
-pub win-none : (s : State) (who : ℕ) → counts_won (action_at s who) (found_at s who) ≡ false → win_at s who ≡ None
-win-none s who none = cond-false (counts_won (action_at s who) (found_at s who)) (Some (the_win s who)) None none
+pub win-none : (s : State) (caller : ℕ) → counts_won (action_at s caller) (found_at s caller) ≡ false → win_at s caller ≡ None
+win-none s caller none = cond-false (counts_won (action_at s caller) (found_at s caller)) (Some (the_win s caller)) None none
 
 -- so the list stays, or has one more
 pub list-stays :
-    (s : State) (who : ℕ) (list : List Win) → counts_won (action_at s who) (found_at s who) ≡ false → win_list_after s who list ≡ list
-list-stays s who list none = ap (λ o. list ++ option_to_list o) (win-none s who none) ∙ append-nil list
+    (s : State) (caller : ℕ) (list : List Win) → counts_won (action_at s caller) (found_at s caller) ≡ false → win_list_after s caller list ≡ list
+list-stays s caller list none = ap (λ o. list ++ option_to_list o) (win-none s caller none) ∙ append-nil list
 
 pub list-longer :
-    (s : State) (who : ℕ) (list : List Win) → counts_won (action_at s who) (found_at s who) ≡ true
-    → length (win_list_after s who list) ≡ length list + 1
-list-longer s who list won =
-    ap (λ o. length (list ++ option_to_list o)) (win-some s who won) ∙ length-append list (the_win s who ∷ [])
+    (s : State) (caller : ℕ) (list : List Win) → counts_won (action_at s caller) (found_at s caller) ≡ true
+    → length (win_list_after s caller list) ≡ length list + 1
+list-longer s caller list won =
+    ap (λ o. length (list ++ option_to_list o)) (win-some s caller won) ∙ length-append list (the_win s caller ∷ [])
 
-pub list-least : (s : State) (who : ℕ) (list : List Win) → length list ≤ length (win_list_after s who list)
-list-least s who list = omega (arith, length-append list (option_to_list (win_at s who)))
+pub list-least : (s : State) (caller : ℕ) (list : List Win) → length list ≤ length (win_list_after s caller list)
+list-least s caller list = omega (arith, length-append list (option_to_list (win_at s caller)))
 
 -- what holds of what it wins, if anything, holds of each such win
-pub all-win : (P : Win → Type 0) (s : State) (who : ℕ) → P (the_win s who) → All P (option_to_list (win_at s who))
-all-win P s who h =
-    elim (cases_Bool (counts_won (action_at s who) (found_at s who))) [
-      | inl won ↦ subst (λ o. All P (option_to_list o)) (sym (win-some s who won)) (All-cons P (the_win s who) [] h (All-nil P))
-      | inr none ↦ subst (λ o. All P (option_to_list o)) (sym (win-none s who none)) (All-nil P)
+pub all-win : (P : Win → Type 0) (s : State) (caller : ℕ) → P (the_win s caller) → All P (option_to_list (win_at s caller))
+all-win P s caller h =
+    elim (cases_Bool (counts_won (action_at s caller) (found_at s caller))) [
+      | inl won ↦ subst (λ o. All P (option_to_list o)) (sym (win-some s caller won)) (All-cons P (the_win s caller) [] h (All-nil P))
+      | inr none ↦ subst (λ o. All P (option_to_list o)) (sym (win-none s caller none)) (All-nil P)
     ]
 
 -- where its win isn't of a kind, it adds none of that kind
 pub no-count :
-    (p : Win → Bool) (s : State) (who : ℕ) → p (the_win s who) ≡ false → count_by p (option_to_list (win_at s who)) ≡ 0
-no-count p s who h =
-    elim (cases_Bool (counts_won (action_at s who) (found_at s who))) [
-      | inl won ↦ ap (λ o. count_by p (option_to_list o)) (win-some s who won) ∙ count-other p (the_win s who) h
-      | inr none ↦ ap (λ o. count_by p (option_to_list o)) (win-none s who none)
+    (p : Win → Bool) (s : State) (caller : ℕ) → p (the_win s caller) ≡ false → count_by p (option_to_list (win_at s caller)) ≡ 0
+no-count p s caller h =
+    elim (cases_Bool (counts_won (action_at s caller) (found_at s caller))) [
+      | inl won ↦ ap (λ o. count_by p (option_to_list o)) (win-some s caller won) ∙ count-other p (the_win s caller) h
+      | inr none ↦ ap (λ o. count_by p (option_to_list o)) (win-none s caller none)
     ]
 
 -- where it wins nothing, it adds none of any kind
 pub no-won :
-    (p : Win → Bool) (s : State) (who : ℕ) → counts_won (action_at s who) (found_at s who) ≡ false
-    → count_by p (option_to_list (win_at s who)) ≡ 0
-no-won p s who none = ap (λ o. count_by p (option_to_list o)) (win-none s who none)
+    (p : Win → Bool) (s : State) (caller : ℕ) → counts_won (action_at s caller) (found_at s caller) ≡ false
+    → count_by p (option_to_list (win_at s caller)) ≡ 0
+no-won p s caller none = ap (λ o. count_by p (option_to_list o)) (win-none s caller none)
 
 -- where it wins, and its win is of the kind, it adds one
 pub one-count :
-    (p : Win → Bool) (s : State) (who : ℕ) → counts_won (action_at s who) (found_at s who) ≡ true → p (the_win s who) ≡ true
-    → count_by p (option_to_list (win_at s who)) ≡ 1
-one-count p s who won h = ap (λ o. count_by p (option_to_list o)) (win-some s who won) ∙ count-one p (the_win s who) h
+    (p : Win → Bool) (s : State) (caller : ℕ) → counts_won (action_at s caller) (found_at s caller) ≡ true → p (the_win s caller) ≡ true
+    → count_by p (option_to_list (win_at s caller)) ≡ 1
+one-count p s caller won h = ap (λ o. count_by p (option_to_list o)) (win-some s caller won) ∙ count-one p (the_win s caller) h
 
 -- its win isn't against itself, nor against anyone on another word; on its word it is against every other caller
-pub against-own : (s : State) (who : ℕ) (m : WordName) → is_against who m (the_win s who) ≡ false
-against-own s who m = rw (eq-eqb who who refl) refl
+pub against-own : (s : State) (caller : ℕ) (m : WordName) → is_against caller m (the_win s caller) ≡ false
+against-own s caller m = rw (eq-eqb caller caller refl) refl
 
-pub against-apart : (s : State) (who i : ℕ) (m : WordName) → m ≢ name_at s who → is_against i m (the_win s who) ≡ false
-against-apart s who i m differ =
-    and_right (not (who == i)) (same_name (name_at s who) m) (same-name-differs (name_at s who) m (λ is. differ (sym is)))
+pub against-apart : (s : State) (caller i : ℕ) (m : WordName) → m ≢ name_at s caller → is_against i m (the_win s caller) ≡ false
+against-apart s caller i m differ =
+    and_right (not (caller == i)) (same_name (name_at s caller) m) (same-name-differs (name_at s caller) m (λ is. differ (sym is)))
 
 pub against-other :
-    (s : State) (who i : ℕ) (m : WordName) → i ≢ who → m ≡ name_at s who → is_against i m (the_win s who) ≡ true
-against-other s who i m other is =
-    and_from (not (who == i)) (same_name (name_at s who) m) (ap not (ne_eqb who i (λ same. other (sym same))))
-    (same-name-one (name_at s who) m (sym is))
+    (s : State) (caller i : ℕ) (m : WordName) → i ≢ caller → m ≡ name_at s caller → is_against i m (the_win s caller) ≡ true
+against-other s caller i m other is =
+    and_from (not (caller == i)) (same_name (name_at s caller) m) (ap not (ne_eqb caller i (λ same. other (sym same))))
+    (same-name-one (name_at s caller) m (sym is))
 
 -- the notes of other callers, and of other words, stay
 pub noted-others :
-    (s : State) (who : ℕ) (w : Wins) (i : ℕ) (m : WordName) → i ≢ who → (wins_after s who w).noted i m ≡ w.noted i m
-noted-others s who w i m other =
-    cond-false ((i == who) && same_name m (name_at s who)) (note_at s who (length (win_list_after s who w.list)) (w.noted who m)) (w.noted i m)
-    (and_left (i == who) (same_name m (name_at s who)) (ne_eqb i who other))
+    (s : State) (caller : ℕ) (w : Wins) (i : ℕ) (m : WordName) → i ≢ caller → (wins_after s caller w).noted i m ≡ w.noted i m
+noted-others s caller w i m other =
+    cond-false ((i == caller) && same_name m (name_at s caller)) (note_at s caller (length (win_list_after s caller w.list)) (w.noted caller m)) (w.noted i m)
+    (and_left (i == caller) (same_name m (name_at s caller)) (ne_eqb i caller other))
 
 pub noted-apart :
-    (s : State) (who : ℕ) (w : Wins) (i : ℕ) (m : WordName) → m ≢ name_at s who → (wins_after s who w).noted i m ≡ w.noted i m
-noted-apart s who w i m differ =
-    cond-false ((i == who) && same_name m (name_at s who)) (note_at s who (length (win_list_after s who w.list)) (w.noted who m)) (w.noted i m)
-    (and_right (i == who) (same_name m (name_at s who)) (same-name-differs m (name_at s who) differ))
+    (s : State) (caller : ℕ) (w : Wins) (i : ℕ) (m : WordName) → m ≢ name_at s caller → (wins_after s caller w).noted i m ≡ w.noted i m
+noted-apart s caller w i m differ =
+    cond-false ((i == caller) && same_name m (name_at s caller)) (note_at s caller (length (win_list_after s caller w.list)) (w.noted caller m)) (w.noted i m)
+    (and_right (i == caller) (same_name m (name_at s caller)) (same-name-differs m (name_at s caller) differ))
 
 -- the caller notes its word
 pub noted-own :
-    (s : State) (who : ℕ) (w : Wins) (m : WordName) → m ≡ name_at s who
-    → (wins_after s who w).noted who m ≡ note_at s who (length (win_list_after s who w.list)) (w.noted who m)
-noted-own s who w m is =
-    cond-true ((who == who) && same_name m (name_at s who)) (note_at s who (length (win_list_after s who w.list)) (w.noted who m)) (w.noted who m)
-    (and_from (who == who) (same_name m (name_at s who)) (eq-eqb who who refl) (same-name-one m (name_at s who) is))
+    (s : State) (caller : ℕ) (w : Wins) (m : WordName) → m ≡ name_at s caller
+    → (wins_after s caller w).noted caller m ≡ note_at s caller (length (win_list_after s caller w.list)) (w.noted caller m)
+noted-own s caller w m is =
+    cond-true ((caller == caller) && same_name m (name_at s caller)) (note_at s caller (length (win_list_after s caller w.list)) (w.noted caller m)) (w.noted caller m)
+    (and_from (caller == caller) (same_name m (name_at s caller)) (eq-eqb caller caller refl) (same-name-one m (name_at s caller) is))
 
 -- of a load, a store and a change that it won it notes all wins; of an exchange that it lost none
 pub note-seen :
-    (s : State) (who wins : ℕ) (old : Option ℕ) → is_lost_exchange (action_at s who) (found_at s who) ≡ false → is_self_exchange (action_at s who) ≡ false
-    → note_at s who wins old ≡ Some wins
-note-seen s who wins old kept new =
-    cond-false (is_lost_exchange (action_at s who) (found_at s who)) None (if is_self_exchange (action_at s who) then old else Some wins) kept
-    ∙ cond-false (is_self_exchange (action_at s who)) old (Some wins) new
+    (s : State) (caller wins : ℕ) (old : Option ℕ) → is_lost_exchange (action_at s caller) (found_at s caller) ≡ false → is_self_exchange (action_at s caller) ≡ false
+    → note_at s caller wins old ≡ Some wins
+note-seen s caller wins old kept new =
+    cond-false (is_lost_exchange (action_at s caller) (found_at s caller)) None (if is_self_exchange (action_at s caller) then old else Some wins) kept
+    ∙ cond-false (is_self_exchange (action_at s caller)) old (Some wins) new
 
 pub note-lost :
-    (s : State) (who wins : ℕ) (old : Option ℕ) → is_lost_exchange (action_at s who) (found_at s who) ≡ true → note_at s who wins old ≡ None
-note-lost s who wins old lost =
-    cond-true (is_lost_exchange (action_at s who) (found_at s who)) None (if is_self_exchange (action_at s who) then old else Some wins) lost
+    (s : State) (caller wins : ℕ) (old : Option ℕ) → is_lost_exchange (action_at s caller) (found_at s caller) ≡ true → note_at s caller wins old ≡ None
+note-lost s caller wins old lost =
+    cond-true (is_lost_exchange (action_at s caller) (found_at s caller)) None (if is_self_exchange (action_at s caller) then old else Some wins) lost
 
 -- of an exchange of a number for itself what it had noted
 pub note-confirmed :
-    (s : State) (who wins : ℕ) (old : Option ℕ) → is_lost_exchange (action_at s who) (found_at s who) ≡ false → is_self_exchange (action_at s who) ≡ true
-    → note_at s who wins old ≡ old
-note-confirmed s who wins old kept same =
-    cond-false (is_lost_exchange (action_at s who) (found_at s who)) None (if is_self_exchange (action_at s who) then old else Some wins) kept
-    ∙ cond-true (is_self_exchange (action_at s who)) old (Some wins) same
+    (s : State) (caller wins : ℕ) (old : Option ℕ) → is_lost_exchange (action_at s caller) (found_at s caller) ≡ false → is_self_exchange (action_at s caller) ≡ true
+    → note_at s caller wins old ≡ old
+note-confirmed s caller wins old kept same =
+    cond-false (is_lost_exchange (action_at s caller) (found_at s caller)) None (if is_self_exchange (action_at s caller) then old else Some wins) kept
+    ∙ cond-true (is_self_exchange (action_at s caller)) old (Some wins) same

@@ -24,13 +24,13 @@ use Rattle.hazard_parts.specs.declared.point.DescPoint.{DescPoint}
 use Rattle.partial_parts.specs.declared.point.PartialPoint.{PartialPoint}
 use Rattle.partial_parts.specs.declared.point.PartialPoint.TheVariants as partial
 use Rattle.large_parts.specs.declared.point.LargePoint.{LargePoint}
-use Rattle.errand_steps.specs.declared.onward.Onward.{Onward}
+use Rattle.errand_steps.specs.declared.continuation.Continuation.{Continuation}
 use Rattle.errand_steps.specs.declared.point.Point.{Point}
 use Rattle.errand_steps.specs.declared.point.Point.TheVariants as point
 use Rattle.errand_steps.specs.Points.{plan_point_of}
 use Rattle.errand_steps.specs.Steps.{State}
 use Rattle.errand_steps.proofs.PlanLemmas.{plan-exists}
-use Rattle.sound_state.specs.Expectations.{Expected, unless_credit, onward_expects, block_expects, stack_expects, desc_expects, partial_expects, large_expects, expects_of}
+use Rattle.sound_state.specs.Expectations.{Expected, unless_credit, continuation_expects, block_expects, stack_expects, desc_expects, partial_expects, large_expects, expects_of}
 use Rattle.sound_state.specs.Holdings.{partly_used, on_its_way, keep, partial_holds, holds_of}
 use Rattle.sound_state.specs.Lists.{Lists}
 use Rattle.sound_state.specs.Recalls.{IsSo, block_recalls, recalls_of}
@@ -82,26 +82,26 @@ module _ (g : Geometry) (s : State) (l : Lists) (i : ℕ) (Q : ℕ → Type 0) w
   expects-apart-block p free so = grind (arith)
 
   -- behind a part
-  expects-apart-onward : (seat : SeatFields) (o : Onward) → AreApart Q (onward_expects seat o)
-  expects-apart-onward seat o = grind (arith)
+  expects-apart-continuation : (seat : SeatFields) (o : Continuation) → AreApart Q (continuation_expects seat o)
+  expects-apart-continuation seat o = grind (arith)
 
   apart-head : (seat : SeatFields) (pile : Pile) → IsApartFrom Q (head_name seat pile)
   apart-head seat Frames = tt
   apart-head seat Partials = tt
 
   -- at a stack
-  expects-apart-stack : (p : StackPoint) (o : Onward) → AreApart Q (stack_expects p o)
-  expects-apart-stack p o = grind (arith, apart-head, expects-apart-onward)
+  expects-apart-stack : (p : StackPoint) (o : Continuation) → AreApart Q (stack_expects p o)
+  expects-apart-stack p o = grind (arith, apart-head, expects-apart-continuation)
 
   -- at the descriptors or the hazard words
-  expects-apart-desc : (p : DescPoint) (o : Onward) → AreApart Q (desc_expects p o)
-  expects-apart-desc p o = grind (arith, expects-apart-onward)
+  expects-apart-desc : (p : DescPoint) (o : Continuation) → AreApart Q (desc_expects p o)
+  expects-apart-desc p o = grind (arith, expects-apart-continuation)
 
   -- at a partial superblock: a grant keeps its descriptor
   expects-apart-partial :
-      (p : PartialPoint) (o : Onward) → ((d : ℕ) → 1 ≤ kept_among partly_used d (partial_holds p o).kept → Q d) → AreApart Q (partial_expects p o)
-  expects-apart-partial (partial.Grant at a) o kept = (kept at.desc (kept-itself partly_used at.desc at.seat.class), expects-apart-onward at.seat o)
-  expects-apart-partial p o kept = grind (arith, expects-apart-onward)
+      (p : PartialPoint) (o : Continuation) → ((d : ℕ) → 1 ≤ kept_among partly_used d (partial_holds p o).kept → Q d) → AreApart Q (partial_expects p o)
+  expects-apart-partial (partial.Grant at a) o kept = (kept at.desc (kept-itself partly_used at.desc at.seat.class), expects-apart-continuation at.seat o)
+  expects-apart-partial p o kept = grind (arith, expects-apart-continuation)
 
   -- at a large block or a shelf
   expects-apart-large : (p : LargePoint) → AreApart Q (large_expects p)
@@ -113,7 +113,7 @@ module _ (g : Geometry) (s : State) (l : Lists) (i : ℕ) (Q : ℕ → Type 0) w
   unfolding holds_of recalls_of expects_of
   expects-apart-point (point.Block p o) free kept so = expects-apart-block p free so
   expects-apart-point (point.Partial p o) free kept so = expects-apart-partial p o kept
-  expects-apart-point p free kept so = grind (arith, apart-head, expects-apart-onward)
+  expects-apart-point p free kept so = grind (arith, apart-head, expects-apart-continuation)
 
 -- a point that stores a word: it is one that nobody exchanges, or the anchor of its caller's new superblock
 abbrev StoresApart : Point → Type 0
@@ -134,10 +134,10 @@ stores-point p = grind (arith)
 
 -- what a caller stores no other one expects
 pub stores-unexpected :
-    (g : Geometry) (s : State) (l : Lists) (who other : ℕ) → IsSoundWith g s l → who < g.callers → other < g.callers → other ≢ who
-    → All (λ e. IsStore (plan_point_of (s.errand who).point) → e.word ≢ name_of (plan_point_of (s.errand who).point)) (expects_of (s.errand other).point)
-stores-unexpected g s l who other old has has_other differ =
-    let p = (s.errand who).point in
+    (g : Geometry) (s : State) (l : Lists) (caller other : ℕ) → IsSoundWith g s l → caller < g.callers → other < g.callers → other ≢ caller
+    → All (λ e. IsStore (plan_point_of (s.errand caller).point) → e.word ≢ name_of (plan_point_of (s.errand caller).point)) (expects_of (s.errand other).point)
+stores-unexpected g s l caller other old has has_other differ =
+    let p = (s.errand caller).point in
     let q = (s.errand other).point in
     let so = recursion_from_All (IsSo g s l other) (recalls_of q) (old.remembered.so other has_other) in
     λ k e lt stores.
@@ -150,12 +150,12 @@ stores-unexpected g s l who other old has has_other differ =
       | inr new ↦
           λ is.
           let d = new.0 in
-          let own = old.errands who has in
+          let own = old.errands caller has in
           let exists : Exists g (name_of (plan_point_of p)) =
           subst (λ h. Exists h (name_of (plan_point_of p))) own.geometry
-          (plan-exists (s.errand who).geometry (s.errand who).caller p own.rule.geometry own.rule.caller own.rule.point) in
+          (plan-exists (s.errand caller).geometry (s.errand caller).caller p own.rule.geometry own.rule.caller own.rule.point) in
           let below : d < descriptor_count g = subst (Exists g) new.2 exists in
-          let none : IsUnplaced g s l d = way-unplaced g s l who d old has below new.1 in
+          let none : IsUnplaced g s l d = way-unplaced g s l caller d old has below new.1 in
           let apart : All (λ x. IsApartFrom (λ j. j ≢ d) x.word) (expects_of q) =
           All-from_recursion _ (expects_of q)
           (expects-apart-point g s l other (λ j. j ≢ d) q

@@ -18,48 +18,48 @@ use Rattle.sound_state.proofs.wins.CountLemmas.{counts-first, count-append}
 
 -- an install is its caller's
 install-of-one :
-    (who caller : ℕ) (install : Bool)
-    → one_if (install && not (caller == who)) + one_if (install && (caller == who)) ≤ one_if (install && (caller == caller))
-install-of-one who caller install = rw (eq-eqb caller caller refl) (grind (arith))
+    (caller by : ℕ) (install : Bool)
+    → one_if (install && not (by == caller)) + one_if (install && (by == caller)) ≤ one_if (install && (by == by))
+install-of-one caller by install = rw (eq-eqb by by refl) (grind (arith))
 
 all-installs :
-    (n who : ℕ) (xs : List Win) → All (λ x. x.caller < n) xs
-    → count_by (installs_against who) xs + count_by (installs_by who) xs ≤ sum_below n (λ k. count_by (installs_by k) xs)
-all-installs n who [] all = omega arith
-all-installs n who (x ∷ xs) all =
+    (n caller : ℕ) (xs : List Win) → All (λ x. x.caller < n) xs
+    → count_by (installs_against caller) xs + count_by (installs_by caller) xs ≤ sum_below n (λ k. count_by (installs_by k) xs)
+all-installs n caller [] all = omega arith
+all-installs n caller (x ∷ xs) all =
     let here : x.caller < n = All-head (λ y. y.caller < n) x xs all in
     omega (
       arith,
-      install-of-one who x.caller x.install,
+      install-of-one caller x.caller x.install,
       term-sum n (λ k. count_by (installs_by k) (x ∷ [])) x.caller here,
       counts-first n installs_by x xs,
-      count-append (installs_against who) (x ∷ []) xs,
-      count-append (installs_by who) (x ∷ []) xs,
-      all-installs n who xs (All-tail (λ y. y.caller < n) x xs all),
+      count-append (installs_against caller) (x ∷ []) xs,
+      count-append (installs_by caller) (x ∷ []) xs,
+      all-installs n caller xs (All-tail (λ y. y.caller < n) x xs all),
     )
 
 -- a small block is given to one caller
-given : (n caller : ℕ) (small : Bool) → sum_below n (λ who. cond {A = ℕ} ((caller == who) && small) 1 0) ≤ one_if small
-given n caller true = omega (
+given : (n by : ℕ) (small : Bool) → sum_below n (λ caller. cond {A = ℕ} ((by == caller) && small) 1 0) ≤ one_if small
+given n by true = omega (
   arith,
-  sum-same n (λ who. if caller == who then 1 else 0) (λ who. cond {A = ℕ} ((caller == who) && true) 1 0) (λ who lt. grind (arith)),
-  sum-once n caller,
+  sum-same n (λ caller. if by == caller then 1 else 0) (λ caller. cond {A = ℕ} ((by == caller) && true) 1 0) (λ caller lt. grind (arith)),
+  sum-once n by,
 )
-given n caller false = omega (arith, sum-none n (λ who. cond {A = ℕ} ((caller == who) && false) 1 0) (λ who lt. grind (arith)))
+given n by false = omega (arith, sum-none n (λ caller. cond {A = ℕ} ((by == caller) && false) 1 0) (λ caller lt. grind (arith)))
 
 given-alloc :
-    (n : ℕ) (e : Event) → sum_below n (λ who. cond {A = ℕ} (gives_small who e) 1 0) ≤ cond (is_small_alloc e) 1 0
-given-alloc n (Alloc caller words place) = given n caller (nat_le words SMALL_MOST)
-given-alloc n e = omega (arith, sum-none n (λ who. 0) (λ who lt. refl))
+    (n : ℕ) (e : Event) → sum_below n (λ caller. cond {A = ℕ} (gives_small caller e) 1 0) ≤ cond (is_small_alloc e) 1 0
+given-alloc n (Alloc by words place) = given n by (nat_le words SMALL_MOST)
+given-alloc n e = omega (arith, sum-none n (λ caller. 0) (λ caller lt. refl))
 
 all-given :
-    (n : ℕ) (history : List Event) → sum_below n (λ who. count_by (gives_small who) history) ≤ count_by is_small_alloc history
-all-given n [] = omega (arith, sum-none n (λ who. 0) (λ who lt. refl))
+    (n : ℕ) (history : List Event) → sum_below n (λ caller. count_by (gives_small caller) history) ≤ count_by is_small_alloc history
+all-given n [] = omega (arith, sum-none n (λ caller. 0) (λ caller lt. refl))
 all-given n (e ∷ history) =
     omega (
       arith,
       counts-first n gives_small e history,
-      sum-same n (λ who. cond {A = ℕ} (gives_small who e) 1 0) (λ who. count_by (gives_small who) (e ∷ [])) (λ who lt. omega arith),
+      sum-same n (λ caller. cond {A = ℕ} (gives_small caller e) 1 0) (λ caller. count_by (gives_small caller) (e ∷ [])) (λ caller lt. omega arith),
       given-alloc n e,
       count-append is_small_alloc (e ∷ []) history,
       all-given n history,
@@ -67,34 +67,34 @@ all-given n (e ∷ history) =
 
 -- what the callers but one install is no more than what they are given
 others-given :
-    (n who : ℕ) (f h : ℕ → ℕ) → who < n → ((k : ℕ) → k < n → f k ≤ h k) → sum_below n f + h who ≤ sum_below n h + f who
-others-given n who f h has least =
-    let mixed = λ (k : ℕ). if k == who then h k else f k in
-    let here : mixed who ≡ h who = cond-true {A = ℕ} (who == who) (h who) (f who) (eq-eqb who who refl) in
+    (n caller : ℕ) (f h : ℕ → ℕ) → caller < n → ((k : ℕ) → k < n → f k ≤ h k) → sum_below n f + h caller ≤ sum_below n h + f caller
+others-given n caller f h has least =
+    let mixed = λ (k : ℕ). if k == caller then h k else f k in
+    let here : mixed caller ≡ h caller = cond-true {A = ℕ} (caller == caller) (h caller) (f caller) (eq-eqb caller caller refl) in
     omega (
       arith,
       here,
-      sum-change n f mixed who has (λ k lt ne. cond-false {A = ℕ} (k == who) (h k) (f k) (ne_eqb k who ne)),
+      sum-change n f mixed caller has (λ k lt ne. cond-false {A = ℕ} (k == caller) (h k) (f k) (ne_eqb k caller ne)),
       sum-least n mixed h
           (λ k lt.
-          elim (cases_eq k who) [
-            | inl e ↦ omega (arith, cond-true {A = ℕ} (k == who) (h k) (f k) (eq-eqb k who e))
-            | inr ne ↦ omega (arith, cond-false {A = ℕ} (k == who) (h k) (f k) (ne_eqb k who ne), least k lt)
+          elim (cases_eq k caller) [
+            | inl e ↦ omega (arith, cond-true {A = ℕ} (k == caller) (h k) (f k) (eq-eqb k caller e))
+            | inr ne ↦ omega (arith, cond-false {A = ℕ} (k == caller) (h k) (f k) (ne_eqb k caller ne), least k lt)
           ]),
     )
 
 pub turns-bounded :
-    (g : Geometry) (s : State) (w : Wins) (who : ℕ) → IsWon g s w → who < g.callers
-    → (s.errand who).turns ≤ count_by is_small_alloc s.history + count_by (refuses_small who) s.history + turn_unanswered (s.errand who)
-turns-bounded g s w who won has =
+    (g : Geometry) (s : State) (w : Wins) (caller : ℕ) → IsWon g s w → caller < g.callers
+    → (s.errand caller).turns ≤ count_by is_small_alloc s.history + count_by (refuses_small caller) s.history + turn_unanswered (s.errand caller)
+turns-bounded g s w caller won has =
     let own = λ (k : ℕ). count_by (installs_by k) w.list in
     let gives = λ (k : ℕ). count_by (gives_small k) s.history in
-    let less : sum_below g.callers own + gives who ≤ sum_below g.callers gives + own who =
-    others-given g.callers who own gives has (λ k lt. omega (arith, won.installed.own k lt)) in
+    let less : sum_below g.callers own + gives caller ≤ sum_below g.callers gives + own caller =
+    others-given g.callers caller own gives has (λ k lt. omega (arith, won.installed.own k lt)) in
     omega (
       arith,
-      won.installed.turns who has,
-      all-installs g.callers who w.list won.noted.callers,
+      won.installed.turns caller has,
+      all-installs g.callers caller w.list won.noted.callers,
       less,
       all-given g.callers s.history,
     )

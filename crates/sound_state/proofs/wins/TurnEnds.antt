@@ -5,12 +5,12 @@ use Rattle.heap_geometry.specs.declared.geometry.Geometry.{Geometry}
 use Rattle.word_plan.specs.declared.action.Found.{Found}
 use Rattle.errand_steps.specs.declared.next.Next.{Next}
 use Rattle.errand_steps.specs.declared.next.Next.TheVariants.{At, End, Turn, Retire, Pick, Unlist}
-use Rattle.errand_steps.specs.declared.onward.Onward.{Onward}
+use Rattle.errand_steps.specs.declared.continuation.Continuation.{Continuation}
 use Rattle.errand_steps.specs.declared.point.Point.{Point}
 use Rattle.errand_steps.specs.declared.point.Point.TheVariants as point
 use Rattle.errand_steps.specs.Fits.{FitsPoint}
 use Rattle.errand_steps.specs.Nexts.{next_of}
-use Rattle.errand_steps.specs.Onwards.{resumes}
+use Rattle.errand_steps.specs.Continuations.{resumes}
 use Rattle.sound_state.specs.TurnStages.{turn_stage_of, is_unneeded}
 use Rattle.sound_state.specs.Turns.{one_if}
 use Rattle.sound_state.proofs.wins.WinDefs.{next_discards}
@@ -21,7 +21,7 @@ next_ends (At p) = 0
 next_ends n = next_discards n
 
 -- the point is one at the descriptors or the hazard words, with this continuation
-abbrev pub WaitsWith : Onward → Point → Type 0
+abbrev pub WaitsWith : Continuation → Point → Type 0
 WaitsWith o (point.Desc p r) = r ≡ o
 WaitsWith o p = ⊥
 
@@ -40,9 +40,9 @@ pub record EndsTo (p : Point) (n : Next) : Type 0 where
   pub ends : next_ends n ≤ one_if (is_unneeded (turn_stage_of p))
 
 -- at each point
-pub ends-to : (g : Geometry) (who : ℕ) (p : Point) (x : Found) → FitsPoint g who p → EndsTo p (next_of p x)
+pub ends-to : (g : Geometry) (caller : ℕ) (p : Point) (x : Found) → FitsPoint g caller p → EndsTo p (next_of p x)
 unfolding next_of
-ends-to g who (point.Stack p o) x fits = let goes = fits.goes in grind (arith, goes)
-ends-to g who (point.Desc p o) x fits = let goes = fits.goes in grind (arith, goes)
-ends-to g who (point.Partial p o) x fits = let goes = fits.goes in grind (arith, goes)
-ends-to g who p x fits = grind (arith)
+ends-to g caller (point.Stack p o) x fits = let goes = fits.goes in grind (arith, goes)
+ends-to g caller (point.Desc p o) x fits = let goes = fits.goes in grind (arith, goes)
+ends-to g caller (point.Partial p o) x fits = let goes = fits.goes in grind (arith, goes)
+ends-to g caller p x fits = grind (arith)

@@ -20,14 +20,14 @@ use Rattle.partial_parts.specs.declared.point.PartialPoint.{PartialPoint}
 use Rattle.partial_parts.specs.Points.{settle_partial_of}
 use Rattle.large_parts.specs.declared.point.LargePoint.{LargePoint}
 use Rattle.large_parts.specs.Points.{settle_large_of}
-use Rattle.errand_steps.specs.declared.onward.Onward.{Onward}
+use Rattle.errand_steps.specs.declared.continuation.Continuation.{Continuation}
 use Rattle.errand_steps.specs.declared.point.Point.TheVariants as point
 use Rattle.errand_steps.specs.Events.{event_of}
 use Rattle.errand_steps.specs.Nexts.{enter_stack, enter_desc, enter_partial, enter_large, enter_block}
-use Rattle.errand_steps.specs.Onwards.{goes_stack, goes_desc, goes_partial, GoesLarge, has_left_stack, has_left_desc, has_left_partial, has_left_large, goes_block, has_left_block}
+use Rattle.errand_steps.specs.Continuations.{goes_stack, goes_desc, goes_partial, GoesLarge, has_left_stack, has_left_desc, has_left_partial, has_left_large, goes_block, has_left_block}
 use Rattle.errand_steps.specs.Points.{asked}
-use Rattle.errand_steps.specs.declared.onward.Onward.TheVariants as onward
-use Rattle.sound_state.specs.TurnStages.{onward_turn_stage, is_turn}
+use Rattle.errand_steps.specs.declared.continuation.Continuation.TheVariants as continuation
+use Rattle.sound_state.specs.TurnStages.{continuation_turn_stage, is_turn}
 use Rattle.sound_state.proofs.wins.WinDefs.{TurnsTo}
 
 -- an active word that says null is null
@@ -37,53 +37,53 @@ null-read v is = grind (arith, is)
 
 -- where an active word leads
 active-turns :
-    (who : ℕ) (s : SeatFields) (words : ℕ) (x : Found) (w : Option ActiveWord) → active_of x.value ≡ w
-    → TurnsTo who (point.Block (block.LoadActive s) (onward.Alloc words)) x.value x.won
-    (event_of who (point.Block (block.LoadActive s) (onward.Alloc words)) x) (enter_block (after_active s w) (onward.Alloc words))
+    (caller : ℕ) (s : SeatFields) (words : ℕ) (x : Found) (w : Option ActiveWord) → active_of x.value ≡ w
+    → TurnsTo caller (point.Block (block.LoadActive s) (continuation.Alloc words)) x.value x.won
+    (event_of caller (point.Block (block.LoadActive s) (continuation.Alloc words)) x) (enter_block (after_active s w) (continuation.Alloc words))
 unfolding event_of
-active-turns who s words x None is = grind (arith)
-active-turns who s words x (Some Null) is = grind (arith, null-read x.value is)
-active-turns who s words x (Some (Held d credits)) is = grind (arith)
+active-turns caller s words x None is = grind (arith)
+active-turns caller s words x (Some Null) is = grind (arith, null-read x.value is)
+active-turns caller s words x (Some (Held d credits)) is = grind (arith)
 
 -- in a superblock, where an allocation is of a small block
 pub block-turns :
-    (who : ℕ) (p : BlockPoint) (o : Onward) (x : Found) → (IsTrue (is_turn (onward_turn_stage o)) → nat_le (asked o) SMALL_MOST ≡ true)
+    (caller : ℕ) (p : BlockPoint) (o : Continuation) (x : Found) → (IsTrue (is_turn (continuation_turn_stage o)) → nat_le (asked o) SMALL_MOST ≡ true)
     → IsTrue (goes_block p o) → has_left_block p ≡ false
-    → TurnsTo who (point.Block p o) x.value x.won (event_of who (point.Block p o) x) (enter_block (settle_block_of p x) o)
+    → TurnsTo caller (point.Block p o) x.value x.won (event_of caller (point.Block p o) x) (enter_block (settle_block_of p x) o)
 unfolding event_of
-block-turns who (block.LoadActive s) (onward.Alloc words) x small goes inside = active-turns who s words x (active_of x.value) refl
-block-turns who p o x small goes inside = grind (arith)
+block-turns caller (block.LoadActive s) (continuation.Alloc words) x small goes inside = active-turns caller s words x (active_of x.value) refl
+block-turns caller p o x small goes inside = grind (arith)
 
 -- at a stack, where an allocation is of a small block
 pub stack-turns :
-    (who : ℕ) (p : StackPoint) (o : Onward) (x : Found) → (IsTrue (is_turn (onward_turn_stage o)) → nat_le (asked o) SMALL_MOST ≡ true)
+    (caller : ℕ) (p : StackPoint) (o : Continuation) (x : Found) → (IsTrue (is_turn (continuation_turn_stage o)) → nat_le (asked o) SMALL_MOST ≡ true)
     → IsTrue (goes_stack p o) → has_left_stack p ≡ false
-    → TurnsTo who (point.Stack p o) x.value x.won (event_of who (point.Stack p o) x)
+    → TurnsTo caller (point.Stack p o) x.value x.won (event_of caller (point.Stack p o) x)
     (enter_stack (settle_stack_of p x) o)
 unfolding event_of
-stack-turns who (stack.Popped s pile i) o x small goes inside = absurd (true≢false inside)
-stack-turns who p o x small goes inside = grind (arith)
+stack-turns caller (stack.Popped s pile i) o x small goes inside = absurd (true≢false inside)
+stack-turns caller p o x small goes inside = grind (arith)
 
 -- at the descriptors or the hazard words
 pub desc-turns :
-    (who : ℕ) (p : DescPoint) (o : Onward) (x : Found) → IsTrue (goes_desc p o) → has_left_desc p ≡ false
-    → TurnsTo who (point.Desc p o) x.value x.won (event_of who (point.Desc p o) x)
+    (caller : ℕ) (p : DescPoint) (o : Continuation) (x : Found) → IsTrue (goes_desc p o) → has_left_desc p ≡ false
+    → TurnsTo caller (point.Desc p o) x.value x.won (event_of caller (point.Desc p o) x)
     (enter_desc (settle_desc_of p x) o)
 unfolding event_of
-desc-turns who p o x goes inside = grind (arith)
+desc-turns caller p o x goes inside = grind (arith)
 
 -- at a partial superblock
 pub partial-turns :
-    (who : ℕ) (p : PartialPoint) (o : Onward) (x : Found) → IsTrue (goes_partial p o) → has_left_partial p ≡ false
-    → TurnsTo who (point.Partial p o) x.value x.won (event_of who (point.Partial p o) x)
+    (caller : ℕ) (p : PartialPoint) (o : Continuation) (x : Found) → IsTrue (goes_partial p o) → has_left_partial p ≡ false
+    → TurnsTo caller (point.Partial p o) x.value x.won (event_of caller (point.Partial p o) x)
     (enter_partial (settle_partial_of p x) o)
 unfolding event_of
-partial-turns who p o x goes inside = grind (arith)
+partial-turns caller p o x goes inside = grind (arith)
 
 -- at a large block, a usable word or a shelf
 pub large-turns :
-    (who : ℕ) (p : LargePoint) (o : Onward) (x : Found) → GoesLarge p o → has_left_large p ≡ false
-    → TurnsTo who (point.Large p o) x.value x.won (event_of who (point.Large p o) x)
+    (caller : ℕ) (p : LargePoint) (o : Continuation) (x : Found) → GoesLarge p o → has_left_large p ≡ false
+    → TurnsTo caller (point.Large p o) x.value x.won (event_of caller (point.Large p o) x)
     (enter_large (settle_large_of p x) o)
 unfolding event_of
-large-turns who p o x goes inside = grind (arith)
+large-turns caller p o x goes inside = grind (arith)

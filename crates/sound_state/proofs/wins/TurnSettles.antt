@@ -45,10 +45,10 @@ pub record TurnSettles (e : ErrandFields) (x : Found) : Type 0 where
   pub turns : (settle_of e x).turns ≤ e.turns + one_if (begins_turn e (after_list e (next_of e.point x)))
 
 -- at each point where the caller may stand
-pub settles-turn : (g : Geometry) (who : ℕ) (e : ErrandFields) (x : Found) → FitsPoint g who e.point → TurnSettles e x
+pub settles-turn : (g : Geometry) (caller : ℕ) (e : ErrandFields) (x : Found) → FitsPoint g caller e.point → TurnSettles e x
 unfolding settle_of course_of
-settles-turn g who e x fits =
-    let on = ends-to g who e.point x fits in
+settles-turn g caller e x fits =
+    let on = ends-to g caller e.point x fits in
     record {
       to = settles-to e (next_of e.point x) on.goes;
       ends = on.ends;

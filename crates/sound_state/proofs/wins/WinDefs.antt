@@ -18,8 +18,8 @@ use Rattle.errand_steps.specs.Errands.{is_lost_exchange, counts_lost}
 use Rattle.errand_steps.specs.Events.{event_of}
 use Rattle.errand_steps.specs.Nexts.{next_of}
 use Rattle.errand_steps.specs.Points.{plan_point_of}
-use Rattle.sound_state.specs.Expectations.{Expected, expects_of, onward_expects}
-use Rattle.sound_state.specs.TurnStages.{turn_stage_of, onward_turn_stage, is_turn, lacks_answer, is_seeking, is_unneeded, is_offering}
+use Rattle.sound_state.specs.Expectations.{Expected, expects_of, continuation_expects}
+use Rattle.sound_state.specs.TurnStages.{turn_stage_of, continuation_turn_stage, is_turn, lacks_answer, is_seeking, is_unneeded, is_offering}
 use Rattle.sound_state.specs.Turns.{one_if, gives_small, refuses_small}
 use Rattle.sound_state.specs.Wins.{is_self_exchange, offers}
 
@@ -42,34 +42,34 @@ abbrev pub next_expects : Next → List Expected
 next_expects (At p) = expects_of p
 next_expects (End r) = []
 next_expects (Turn s need) = []
-next_expects (Retire s d o) = onward_expects s o
-next_expects (Pick s held o) = onward_expects s o
-next_expects (Unlist s d o) = onward_expects s o
+next_expects (Retire s d o) = continuation_expects s o
+next_expects (Pick s held o) = continuation_expects s o
+next_expects (Unlist s d o) = continuation_expects s o
 
 -- 1 where it has no answer yet there; where its new superblock wasn't needed; where it found none active
 abbrev pub next_unanswered : Next → ℕ
 next_unanswered (At p) = one_if (lacks_answer (turn_stage_of p))
 next_unanswered (End r) = 0
 next_unanswered (Turn s need) = 1
-next_unanswered (Retire s d o) = one_if (lacks_answer (onward_turn_stage o))
-next_unanswered (Pick s held o) = one_if (lacks_answer (onward_turn_stage o))
-next_unanswered (Unlist s d o) = one_if (lacks_answer (onward_turn_stage o))
+next_unanswered (Retire s d o) = one_if (lacks_answer (continuation_turn_stage o))
+next_unanswered (Pick s held o) = one_if (lacks_answer (continuation_turn_stage o))
+next_unanswered (Unlist s d o) = one_if (lacks_answer (continuation_turn_stage o))
 
 abbrev pub next_discards : Next → ℕ
 next_discards (At p) = one_if (is_unneeded (turn_stage_of p))
 next_discards (End r) = 0
 next_discards (Turn s need) = 1
-next_discards (Retire s d o) = one_if (is_unneeded (onward_turn_stage o))
-next_discards (Pick s held o) = one_if (is_unneeded (onward_turn_stage o))
-next_discards (Unlist s d o) = one_if (is_unneeded (onward_turn_stage o))
+next_discards (Retire s d o) = one_if (is_unneeded (continuation_turn_stage o))
+next_discards (Pick s held o) = one_if (is_unneeded (continuation_turn_stage o))
+next_discards (Unlist s d o) = one_if (is_unneeded (continuation_turn_stage o))
 
 abbrev pub next_seeks : Next → Bool
 next_seeks (At p) = is_seeking (turn_stage_of p)
 next_seeks (End r) = false
 next_seeks (Turn s need) = false
-next_seeks (Retire s d o) = is_turn (onward_turn_stage o)
-next_seeks (Pick s held o) = is_turn (onward_turn_stage o)
-next_seeks (Unlist s d o) = is_turn (onward_turn_stage o)
+next_seeks (Retire s d o) = is_turn (continuation_turn_stage o)
+next_seeks (Pick s held o) = is_turn (continuation_turn_stage o)
+next_seeks (Unlist s d o) = is_turn (continuation_turn_stage o)
 
 abbrev pub next_offers : Next → ℕ
 next_offers (At p) = one_if (is_offering (turn_stage_of p))
@@ -105,20 +105,20 @@ LosesOn p v =
 
 -- 1 where the event gives this caller a small block, and where it refuses one
 abbrev pub given_by : ℕ → Option Event → ℕ
-given_by who None = 0
-given_by who (Some e) = one_if (gives_small who e)
+given_by caller None = 0
+given_by caller (Some e) = one_if (gives_small caller e)
 
 abbrev pub refused_by : ℕ → Option Event → ℕ
-refused_by who None = 0
-refused_by who (Some e) = one_if (refuses_small who e)
+refused_by caller None = 0
+refused_by caller (Some e) = one_if (refuses_small caller e)
 
 -- what a step does to its caller's turn that finds v, is won or isn't, adds this event and leads there
-pub record TurnsTo (who : ℕ) (p : Point) (v : ℕ) (won : Bool) (e : Option Event) (n : Next) : Type 0 where
-  pub unanswered : one_if (lacks_answer (turn_stage_of p)) ≤ given_by who e + refused_by who e + next_unanswered n
+pub record TurnsTo (caller : ℕ) (p : Point) (v : ℕ) (won : Bool) (e : Option Event) (n : Next) : Type 0 where
+  pub unanswered : one_if (lacks_answer (turn_stage_of p)) ≤ given_by caller e + refused_by caller e + next_unanswered n
   pub discards : next_discards n ≤ one_if (is_unneeded (turn_stage_of p)) + one_if (offers_new p && not won)
-  pub offers : next_offers n + one_if (offers p && won) ≤ one_if (is_offering (turn_stage_of p)) + given_by who e
+  pub offers : next_offers n + one_if (offers p && won) ≤ one_if (is_offering (turn_stage_of p)) + given_by caller e
   pub seeks : IsTrue (next_seeks n) → IsTrue (is_seeking (turn_stage_of p)) ⊎ (IsTrue (looks_active p) × (v ≡ active_word Null))
 
 -- the same, with what the step finds where its word is v
 abbrev pub TurnsOn : ℕ → Point → ℕ → Type 0
-TurnsOn who p v = TurnsTo who p v (found_in p v).won (event_of who p (found_in p v)) (next_of p (found_in p v))
+TurnsOn caller p v = TurnsTo caller p v (found_in p v).won (event_of caller p (found_in p v)) (next_of p (found_in p v))

@@ -36,14 +36,14 @@ use Rattle.sound_state.proofs.wins.StoreLemmas.{stores-unexpected}
 use Rattle.sound_state.proofs.wins.WinDefs.{ExpectsOn, LosesOn, MayExpect, found_in}
 
 -- what a caller expects after a step it carries or sees
-expects-on : (g : Geometry) (who : ℕ) (p : Point) (v : ℕ) → FitsPoint g who p → v < 2 ^ 64 → ExpectsOn p v
+expects-on : (g : Geometry) (caller : ℕ) (p : Point) (v : ℕ) → FitsPoint g caller p → v < 2 ^ 64 → ExpectsOn p v
 unfolding next_of expects_of
-expects-on g who Idle v fits below = All-nil (MayExpect Idle (plan_point_of Idle) (found_in Idle v))
-expects-on g who (Block p o) v fits below = block-expects p o v fits.inside below
-expects-on g who (Stack p o) v fits below = stack-expects g who p o v fits below
-expects-on g who (Desc p o) v fits below = desc-expects g who p o v fits
-expects-on g who (Partial p o) v fits below = partial-expects g who p o v fits below
-expects-on g who (Large p o) v fits below = large-expects p o v below
+expects-on g caller Idle v fits below = All-nil (MayExpect Idle (plan_point_of Idle) (found_in Idle v))
+expects-on g caller (Block p o) v fits below = block-expects p o v fits.inside below
+expects-on g caller (Stack p o) v fits below = stack-expects g caller p o v fits below
+expects-on g caller (Desc p o) v fits below = desc-expects g caller p o v fits
+expects-on g caller (Partial p o) v fits below = partial-expects g caller p o v fits below
+expects-on g caller (Large p o) v fits below = large-expects p o v below
 
 -- the first of these is of the word, and expects another number there
 abbrev FirstDiffers : WordName → ℕ → List Expected → Type 0
@@ -65,44 +65,44 @@ pub loses-on : (p : Point) (v : ℕ) → LosesOn p v
 loses-on p v lost = first-differs (name_of (plan_point_of p)) v (expects_of p) (lost-expects p v lost)
 
 -- the errand after a step expects what its caller carries or sees
-pub expects-after : (g : Geometry) (s : State) (who : ℕ) → IsSoundWithoutCounts g s → who < g.callers → ExpectsAfter s who
-expects-after g s who sound has =
-    let e = s.errand who in
-    let own = sound.parts.1.errands who has in
-    expects-settled e (found_at s who) (MayExpect e.point (action_at s who) (found_at s who))
-    (expects-on e.geometry e.caller e.point (word_at s who) own.rule.point (sound.parts.1.words (name_at s who)))
+pub expects-after : (g : Geometry) (s : State) (caller : ℕ) → IsSoundWithoutCounts g s → caller < g.callers → ExpectsAfter s caller
+expects-after g s caller sound has =
+    let e = s.errand caller in
+    let own = sound.parts.1.errands caller has in
+    expects-settled e (found_at s caller) (MayExpect e.point (action_at s caller) (found_at s caller))
+    (expects-on e.geometry e.caller e.point (word_at s caller) own.rule.point (sound.parts.1.words (name_at s caller)))
 
 -- so a step keeps what was won and noted, and what that bounds
 pub steps-won :
-    (g : Geometry) (s : State) (w : Wins) (who : ℕ) (s' : State) → IsSoundWithoutCounts g s → IsWon g s w → who < g.callers → Step s who s'
-    → IsWon g s' (wins_after s who w)
-steps-won g s w who s' sound won has step =
+    (g : Geometry) (s : State) (w : Wins) (caller : ℕ) (s' : State) → IsSoundWithoutCounts g s → IsWon g s w → caller < g.callers → Step s caller s'
+    → IsWon g s' (wins_after s caller w)
+steps-won g s w caller s' sound won has step =
     let l = sound.parts.0 in
     let old = sound.parts.1 in
-    let e = s.errand who in
-    let own = old.errands who has in
-    let expects = expects-after g s who sound has in
-    let exists : Exists g (name_at s who) =
-    subst (λ h. Exists h (name_at s who)) own.geometry
+    let e = s.errand caller in
+    let own = old.errands caller has in
+    let expects = expects-after g s caller sound has in
+    let exists : Exists g (name_at s caller) =
+    subst (λ h. Exists h (name_at s caller)) own.geometry
     (plan-exists e.geometry e.caller e.point own.rule.geometry own.rule.caller own.rule.point) in
     record {
       noted =
-          step-noted g s who s' w has step expects (λ other has_other differ. stores-unexpected g s l who other old has has_other differ) won.noted;
-      contended = step-contended g s who s' w has exists step (loses-on e.point (word_at s who)) won.noted won.contended;
-      installed = step-installed g s w who s' has (fits-at g s l who e.point old has refl) step won.installed expects;
+          step-noted g s caller s' w has step expects (λ other has_other differ. stores-unexpected g s l caller other old has has_other differ) won.noted;
+      contended = step-contended g s caller s' w has exists step (loses-on e.point (word_at s caller)) won.noted won.contended;
+      installed = step-installed g s w caller s' has (fits-at g s l caller e.point old has refl) step won.installed expects;
     }
 
 -- the pair of who loses was dirty
 pub lost-dirty :
-    (g : Geometry) (s : State) (w : Wins) (who : ℕ) → IsWon g s w → who < g.callers → counts_lost (s.errand who).point (found_at s who) ≡ true
-    → IsDirty w who (name_at s who)
-lost-dirty g s w who won has lost = was-dirty g s who w has won.noted (loses-on (s.errand who).point (word_at s who)) lost
+    (g : Geometry) (s : State) (w : Wins) (caller : ℕ) → IsWon g s w → caller < g.callers → counts_lost (s.errand caller).point (found_at s caller) ≡ true
+    → IsDirty w caller (name_at s caller)
+lost-dirty g s w caller won has lost = was-dirty g s caller w has won.noted (loses-on (s.errand caller).point (word_at s caller)) lost
 
 -- and so the dirty pairs change with what is won and lost
 pub step-pairs :
-    (g : Geometry) (s : State) (w : Wins) (who : ℕ) → IsSound g s → IsWon g s w → who < g.callers
-    → dirty_pairs g (wins_after s who w) + one_if (counts_lost (s.errand who).point (found_at s who))
-    ≤ dirty_pairs g w + (g.callers - 1) * one_if (counts_won (action_at s who) (found_at s who))
-step-pairs g s w who sound won has =
-    let p = (s.errand who).point in
-    pairs-after g s who w has (exists-at g s who p (without-counts g s sound) has refl) (loses-on p (word_at s who)) won.noted
+    (g : Geometry) (s : State) (w : Wins) (caller : ℕ) → IsSound g s → IsWon g s w → caller < g.callers
+    → dirty_pairs g (wins_after s caller w) + one_if (counts_lost (s.errand caller).point (found_at s caller))
+    ≤ dirty_pairs g w + (g.callers - 1) * one_if (counts_won (action_at s caller) (found_at s caller))
+step-pairs g s w caller sound won has =
+    let p = (s.errand caller).point in
+    pairs-after g s caller w has (exists-at g s caller p (without-counts g s sound) has refl) (loses-on p (word_at s caller)) won.noted

@@ -13,7 +13,7 @@ ghost use Rattle.sound_state.specs.Sound.{IsSoundWithoutCounts};
 /// is of the caller's own block and finds what was written there, a refusal was told, and a shelf that is
 /// full or that changed holds what the answer says.
 pub fn answers_are_meant()
-    ensures { (g : Geometry) (s : State) (who : ℕ) (reply : Reply) (after : State)
-        → IsSoundWithoutCounts g s → who < g.callers → Step s who after
-        → answer_of (s.errand who) (found_at s who) ≡ Done reply → IsMeant g s who reply after }
+    ensures { (g : Geometry) (s : State) (caller : ℕ) (reply : Reply) (after : State)
+        → IsSoundWithoutCounts g s → caller < g.callers → Step s caller after
+        → answer_of (s.errand caller) (found_at s caller) ≡ Done reply → IsMeant g s caller reply after }
 {}

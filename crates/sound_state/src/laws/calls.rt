@@ -18,32 +18,32 @@ ghost use Rattle.sound_state.specs.Sound.{IsSound};
 /// A caller's own events since it began a call are the call's events so far, after each move of
 /// whichever caller; and at the step that ends the call they are the events of a call that ends so.
 pub fn moves_add_the_events_of_a_call()
-    ensures begins { (g : Geometry) (s : State) (who : ℕ) (call : Call) (after : State)
-        → IsSound g s → who < g.callers → Begins s who call after → IsBusy (after.errand who)
-        → IsInCall who call (own who s.history) after }
-    ensures goes_on { (g : Geometry) (s : State) (who : ℕ) (call : Call) (before : List Event) (move : Move)
-        (after : State) → IsSound g s → who < g.callers → IsInCall who call before s → Moved g s move after
-        → IsBusy (after.errand who) → IsInCall who call before after }
-    ensures ends { (g : Geometry) (s : State) (who : ℕ) (call : Call) (before : List Event) (after : State)
-        (reply : Reply) → IsSound g s → who < g.callers → IsInCall who call before s → Step s who after
-        → answer_of (s.errand who) (found_at s who) ≡ Done reply
-        → HasEndedCall who call before reply after }
+    ensures begins { (g : Geometry) (s : State) (caller : ℕ) (call : Call) (after : State)
+        → IsSound g s → caller < g.callers → Begins s caller call after → IsBusy (after.errand caller)
+        → IsInCall caller call (own caller s.history) after }
+    ensures goes_on { (g : Geometry) (s : State) (caller : ℕ) (call : Call) (before : List Event) (move : Move)
+        (after : State) → IsSound g s → caller < g.callers → IsInCall caller call before s → Moved g s move after
+        → IsBusy (after.errand caller) → IsInCall caller call before after }
+    ensures ends { (g : Geometry) (s : State) (caller : ℕ) (call : Call) (before : List Event) (after : State)
+        (reply : Reply) → IsSound g s → caller < g.callers → IsInCall caller call before s → Step s caller after
+        → answer_of (s.errand caller) (found_at s caller) ≡ Done reply
+        → HasEndedCall caller call before reply after }
 {}
 
 /// So it is over a whole run of moves, of any callers in any order, among which the caller begins
 /// nothing more. A caller that is in no call adds no event, whatever the others do.
 pub fn calls_add_their_events()
-    ensures under_way { (g : Geometry) (s : State) (who : ℕ) (call : Call) (begun : State) (moves : List Move)
-        (later : State) → IsSound g s → who < g.callers → Begins s who call begun
-        → BeginsNothing who moves → Reaches g begun moves later → IsBusy (later.errand who)
-        → IsInCall who call (own who s.history) later }
-    ensures ended { (g : Geometry) (s : State) (who : ℕ) (call : Call) (begun : State) (moves : List Move)
-        (later after : State) (reply : Reply) → IsSound g s → who < g.callers → Begins s who call begun
-        → BeginsNothing who moves → Reaches g begun moves later → Step later who after
-        → answer_of (later.errand who) (found_at later who) ≡ Done reply
-        → HasEndedCall who call (own who s.history) reply after }
-    ensures idle { (g : Geometry) (s : State) (who : ℕ) (moves : List Move) (later : State)
-        → IsSound g s → who < g.callers → IsIdle (s.errand who) → BeginsNothing who moves
+    ensures under_way { (g : Geometry) (s : State) (caller : ℕ) (call : Call) (begun : State) (moves : List Move)
+        (later : State) → IsSound g s → caller < g.callers → Begins s caller call begun
+        → BeginsNothing caller moves → Reaches g begun moves later → IsBusy (later.errand caller)
+        → IsInCall caller call (own caller s.history) later }
+    ensures ended { (g : Geometry) (s : State) (caller : ℕ) (call : Call) (begun : State) (moves : List Move)
+        (later after : State) (reply : Reply) → IsSound g s → caller < g.callers → Begins s caller call begun
+        → BeginsNothing caller moves → Reaches g begun moves later → Step later caller after
+        → answer_of (later.errand caller) (found_at later caller) ≡ Done reply
+        → HasEndedCall caller call (own caller s.history) reply after }
+    ensures idle { (g : Geometry) (s : State) (caller : ℕ) (moves : List Move) (later : State)
+        → IsSound g s → caller < g.callers → IsIdle (s.errand caller) → BeginsNothing caller moves
         → Reaches g s moves later
-        → (later.errand who ≡ s.errand who) × (own who later.history ≡ own who s.history) }
+        → (later.errand caller ≡ s.errand caller) × (own caller later.history ≡ own caller s.history) }
 {}

@@ -13,7 +13,7 @@ ghost use Rattle.word_plan.specs.Seats.{SeatFields};
 ghost use Rattle.word_plan.specs.Occurs.{occurs};
 ghost use Rattle.pool_model.specs.Pool.{Block, block_at, span_of, pool_of};
 ghost use Rattle.hazard_parts.specs.declared.point.DescPoint.TheVariants.{LoadDescHead};
-ghost use Rattle.errand_steps.specs.declared.onward.Onward.{Onward};
+ghost use Rattle.errand_steps.specs.declared.continuation.Continuation.{Continuation};
 ghost use Rattle.errand_steps.specs.declared.point.Point.TheVariants as point;
 ghost use Rattle.errand_steps.specs.Steps.{State};
 ghost use Rattle.sound_state.specs.Consequences.{IsTaken, IsBound, AddsUp};
@@ -53,10 +53,10 @@ pub fn tags_stay_below()
 pub fn cleared_counts_stay_below()
     ensures together { (g : Geometry) (s : State) → IsSoundWithoutCounts g s
         → callers_sum g cleared_of s.errand ≤ callers_sum g turns_of s.errand }
-    ensures each { (g : Geometry) (s : State) (who : ℕ) → IsSoundWithoutCounts g s → who < g.callers
-        → (s.errand who).cleared ≤ g.callers * g.turn_limit }
-    ensures below { (g : Geometry) (s : State) (who : ℕ) → IsSoundWithoutCounts g s → who < g.callers
-        → (s.errand who).cleared < 2 ^ 42 }
+    ensures each { (g : Geometry) (s : State) (caller : ℕ) → IsSoundWithoutCounts g s → caller < g.callers
+        → (s.errand caller).cleared ≤ g.callers * g.turn_limit }
+    ensures below { (g : Geometry) (s : State) (caller : ℕ) → IsSoundWithoutCounts g s → caller < g.callers
+        → (s.errand caller).cleared < 2 ^ 42 }
 {}
 
 /// Two live blocks have no word in common. A live small block is a block of a superblock and none of
@@ -82,11 +82,11 @@ pub fn blocks_add_up()
 /// While a caller looks for a descriptor, one is available: the word that it loads names one of the
 /// heap's.
 pub fn a_descriptor_is_always_available()
-    ensures waiting { (g : Geometry) (s : State) → IsSoundWithoutCounts g s → (who class : ℕ)
-        → who < g.callers → class < CLASSES → waits_in class (s.errand who).point ≡ 1
+    ensures waiting { (g : Geometry) (s : State) → IsSoundWithoutCounts g s → (caller class : ℕ)
+        → caller < g.callers → class < CLASSES → waits_in class (s.errand caller).point ≡ 1
         → (d : ℕ) × (d < descriptor_count g) × (s.word name.DescHead ≡ d + 1) }
     ensures looking { (g : Geometry) (s : State) → IsSoundWithoutCounts g s
-        → (who : ℕ) (seat : SeatFields) (o : Onward) → who < g.callers
-        → (s.errand who).point ≡ point.Desc (LoadDescHead seat) o
+        → (caller : ℕ) (seat : SeatFields) (o : Continuation) → caller < g.callers
+        → (s.errand caller).point ≡ point.Desc (LoadDescHead seat) o
         → (d : ℕ) × (d < descriptor_count g) × (s.word name.DescHead ≡ d + 1) }
 {}

@@ -5,7 +5,7 @@ ghost use Rattle.heap_geometry.specs.declared.geometry.Geometry.{Geometry};
 ghost use Rattle.word_plan.specs.declared.name.WordName.TheVariants as name;
 ghost use Rattle.word_plan.specs.Seats.{SeatFields};
 ghost use Rattle.hazard_parts.specs.declared.point.DescPoint.TheVariants.{PopDesc};
-ghost use Rattle.errand_steps.specs.declared.onward.Onward.{Onward};
+ghost use Rattle.errand_steps.specs.declared.continuation.Continuation.{Continuation};
 ghost use Rattle.errand_steps.specs.declared.point.Point.TheVariants as point;
 ghost use Rattle.errand_steps.specs.Fits.{pushed_by};
 ghost use Rattle.errand_steps.specs.Steps.{State, Step};
@@ -17,22 +17,22 @@ ghost use Rattle.sound_state.specs.Sound.{IsSoundWithoutCounts};
 /// Whatever a caller guards nobody is about to push on the available descriptors: no scan has picked it,
 /// and whoever has retired it and has read the caller's hazard word in a scan has noted it there.
 pub fn guarded_are_not_pushed()
-    ensures { (g : Geometry) (s : State) (who d : ℕ) → IsSoundWithoutCounts g s → who < g.callers → Guards s who d
-        → IsGuardedBy g s who d }
+    ensures { (g : Geometry) (s : State) (caller d : ℕ) → IsSoundWithoutCounts g s → caller < g.callers → Guards s caller d
+        → IsGuardedBy g s caller d }
 {}
 
 /// No descriptor goes back to the available ones but by a caller's push of it: one that is available after
 /// a step and that the caller was not about to push was available before.
 pub fn only_pushes_make_available()
-    ensures { (g : Geometry) (s : State) (who d : ℕ) (after : State) → IsSoundWithoutCounts g s → who < g.callers
-        → Step s who after → pushed_by (s.errand who).point ≢ Some d → IsAvailable g after d → IsAvailable g s d }
+    ensures { (g : Geometry) (s : State) (caller d : ℕ) (after : State) → IsSoundWithoutCounts g s → caller < g.callers
+        → Step s caller after → pushed_by (s.errand caller).point ≢ Some d → IsAvailable g after d → IsAvailable g s d }
 {}
 
 /// As long as the descriptor that a caller is about to pop is available, the one below it is the one that
 /// the caller noted: so a pop that is won puts that one on top.
 pub fn what_lies_below_is_noted()
-    ensures { (g : Geometry) (s : State) (who d next : ℕ) (seat : SeatFields) (o : Onward) → IsSoundWithoutCounts g s
-        → who < g.callers → (s.errand who).point ≡ point.Desc (PopDesc seat d next) o → IsAvailable g s d
+    ensures { (g : Geometry) (s : State) (caller d next : ℕ) (seat : SeatFields) (o : Continuation) → IsSoundWithoutCounts g s
+        → caller < g.callers → (s.errand caller).point ≡ point.Desc (PopDesc seat d next) o → IsAvailable g s d
         → s.word (name.Next d) ≡ next }
 {}
 
@@ -41,11 +41,11 @@ pub fn what_lies_below_is_noted()
 /// it guarded the descriptor, and goes on with another one. So a guarded descriptor does not go back to the
 /// available ones.
 pub fn guards_last()
-    ensures guarded { (g : Geometry) (who d : ℕ) (s : State) (moves : List Move) (after : State) → IsSoundWithoutCounts g s
-        → who < g.callers → Guards s who d → ReachesUnstored g who s moves after → IsGuardedBy g after who d }
-    ensures kept { (g : Geometry) (who d : ℕ) (s : State) (moves : List Move) (after : State) → IsSoundWithoutCounts g s
-        → who < g.callers → IsGuardedBy g s who d → ReachesUnstored g who s moves after → IsGuardedBy g after who d }
-    ensures unavailable { (g : Geometry) (who d : ℕ) (s : State) (moves : List Move) (after : State) → IsSoundWithoutCounts g s
-        → who < g.callers → IsGuardedBy g s who d → ReachesUnstored g who s moves after
+    ensures guarded { (g : Geometry) (caller d : ℕ) (s : State) (moves : List Move) (after : State) → IsSoundWithoutCounts g s
+        → caller < g.callers → Guards s caller d → ReachesUnstored g caller s moves after → IsGuardedBy g after caller d }
+    ensures kept { (g : Geometry) (caller d : ℕ) (s : State) (moves : List Move) (after : State) → IsSoundWithoutCounts g s
+        → caller < g.callers → IsGuardedBy g s caller d → ReachesUnstored g caller s moves after → IsGuardedBy g after caller d }
+    ensures unavailable { (g : Geometry) (caller d : ℕ) (s : State) (moves : List Move) (after : State) → IsSoundWithoutCounts g s
+        → caller < g.callers → IsGuardedBy g s caller d → ReachesUnstored g caller s moves after
         → IsAvailable g after d → IsAvailable g s d }
 {}

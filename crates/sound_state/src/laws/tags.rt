@@ -14,9 +14,9 @@ ghost use Rattle.sound_state.specs.Tags.{pops_from, ReachesBound};
 /// block of it raises the tag by one, and every other step of every caller leaves it. So it does over
 /// moves of any callers, calls that begin among them.
 pub fn tags_count_pops()
-    ensures step { (g : Geometry) (s : State) (who : ℕ) (after : State) (d : ℕ) → IsSoundWithoutCounts g s
-        → who < g.callers → Step s who after → IsBound g s d
-        → (anchor_for after d).tag ≡ (anchor_for s d).tag + pops_from s who d }
+    ensures step { (g : Geometry) (s : State) (caller : ℕ) (after : State) (d : ℕ) → IsSoundWithoutCounts g s
+        → caller < g.callers → Step s caller after → IsBound g s d
+        → (anchor_for after d).tag ≡ (anchor_for s d).tag + pops_from s caller d }
     ensures run { (g : Geometry) (d : ℕ) (s : State) (moves : List Move) (n : ℕ) (after : State) → IsSoundWithoutCounts g s
         → ReachesBound g d s moves n after → (anchor_for after d).tag ≡ (anchor_for s d).tag + n }
 {}

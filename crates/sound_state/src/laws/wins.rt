@@ -26,15 +26,15 @@ pub fn nothing_is_won_at_first()
 
 /// A call that begins wins, notes and loses nothing.
 pub fn begun_calls_keep_wins()
-    ensures { (g : Geometry) (s : State) (w : Wins) (who : ℕ) (call : Call) (after : State)
-        → IsWon g s w → who < g.callers → Begins s who call after → IsWon g after w }
+    ensures { (g : Geometry) (s : State) (w : Wins) (caller : ℕ) (call : Call) (after : State)
+        → IsWon g s w → caller < g.callers → Begins s caller call after → IsWon g after w }
 {}
 
 /// A step keeps what was won and noted, and the bounds on what is lost, on turns and on installs.
 pub fn steps_keep_wins()
-    ensures { (g : Geometry) (s : State) (w : Wins) (who : ℕ) (after : State)
-        → IsSound g s → IsWon g s w → who < g.callers → Step s who after
-        → IsWon g after (wins_after s who w) }
+    ensures { (g : Geometry) (s : State) (w : Wins) (caller : ℕ) (after : State)
+        → IsSound g s → IsWon g s w → caller < g.callers → Step s caller after
+        → IsWon g after (wins_after s caller w) }
 {}
 
 /// Every run makes a list of what its callers win, with their notes. From one state, and from what was
@@ -72,11 +72,11 @@ pub fn reached_states_have_wins()
 /// before. And the step uses that pair up, while a win makes at most one pair of each other caller
 /// dirty.
 pub fn lost_exchanges_were_dirty()
-    ensures dirty { (g : Geometry) (s : State) (w : Wins) (who : ℕ) → IsWon g s w → who < g.callers
-        → counts_lost (s.errand who).point (found_at s who) ≡ true → IsDirty w who (name_at s who) }
-    ensures used { (g : Geometry) (s : State) (w : Wins) (who : ℕ) → IsSound g s → IsWon g s w → who < g.callers
-        → dirty_pairs g (wins_after s who w) + one_if (counts_lost (s.errand who).point (found_at s who))
-        ≤ dirty_pairs g w + (g.callers - 1) * one_if (counts_won (action_at s who) (found_at s who)) }
+    ensures dirty { (g : Geometry) (s : State) (w : Wins) (caller : ℕ) → IsWon g s w → caller < g.callers
+        → counts_lost (s.errand caller).point (found_at s caller) ≡ true → IsDirty w caller (name_at s caller) }
+    ensures used { (g : Geometry) (s : State) (w : Wins) (caller : ℕ) → IsSound g s → IsWon g s w → caller < g.callers
+        → dirty_pairs g (wins_after s caller w) + one_if (counts_lost (s.errand caller).point (found_at s caller))
+        ≤ dirty_pairs g w + (g.callers - 1) * one_if (counts_won (action_at s caller) (found_at s caller)) }
 {}
 
 /// The exchanges that callers lost are, with the pairs that are dirty, at most the wins of the list times
@@ -86,15 +86,15 @@ pub fn losses_are_bounded()
     ensures list { (g : Geometry) (s : State) (w : Wins) → IsWon g s w
         → callers_sum g lost_of s.errand + dirty_pairs g w ≤ (g.callers - 1) * length w.list }
     ensures won { (g : Geometry) (s : State) (w : Wins) → IsWon g s w
-        → ((who : ℕ) → who < g.callers → (s.errand who).won < 2 ^ 64 - 1)
+        → ((caller : ℕ) → caller < g.callers → (s.errand caller).won < 2 ^ 64 - 1)
         → callers_sum g lost_of s.errand ≤ (g.callers - 1) * callers_sum g won_of s.errand }
 {}
 
 /// A caller installs at most as often as it is given a small block, and one time less while it has such
 /// a block and offers what it reserved beside.
 pub fn installs_are_bounded()
-    ensures { (g : Geometry) (s : State) (w : Wins) (who : ℕ) → IsWon g s w → who < g.callers
-        → count_by (installs_by who) w.list + errand_offers (s.errand who) ≤ count_by (gives_small who) s.history }
+    ensures { (g : Geometry) (s : State) (w : Wins) (caller : ℕ) → IsWon g s w → caller < g.callers
+        → count_by (installs_by caller) w.list + errand_offers (s.errand caller) ≤ count_by (gives_small caller) s.history }
 {}
 
 /// Beside the turns that gave it a small block or refused it a small need, and the one that has no answer
@@ -102,15 +102,15 @@ pub fn installs_are_bounded()
 /// So all its turns are at most the small blocks given to any caller, the small needs refused to itself,
 /// and the turn that has no answer yet.
 pub fn turns_are_bounded()
-    ensures list { (g : Geometry) (s : State) (w : Wins) (who : ℕ) → IsWon g s w → who < g.callers
-        → (s.errand who).turns
-        ≤ count_by (gives_small who) s.history + count_by (refuses_small who) s.history
-        + count_by (installs_against who) w.list + turn_unanswered (s.errand who) }
-    ensures lost { (g : Geometry) (s : State) (who : ℕ) → IsSound g s → who < g.callers
-        → (s.errand who).turns + errand_discards (s.errand who)
-        ≤ count_by (gives_small who) s.history + count_by (refuses_small who) s.history
-        + (s.errand who).lost + turn_unanswered (s.errand who) }
-    ensures given { (g : Geometry) (s : State) (w : Wins) (who : ℕ) → IsWon g s w → who < g.callers
-        → (s.errand who).turns
-        ≤ count_by is_small_alloc s.history + count_by (refuses_small who) s.history + turn_unanswered (s.errand who) }
+    ensures list { (g : Geometry) (s : State) (w : Wins) (caller : ℕ) → IsWon g s w → caller < g.callers
+        → (s.errand caller).turns
+        ≤ count_by (gives_small caller) s.history + count_by (refuses_small caller) s.history
+        + count_by (installs_against caller) w.list + turn_unanswered (s.errand caller) }
+    ensures lost { (g : Geometry) (s : State) (caller : ℕ) → IsSound g s → caller < g.callers
+        → (s.errand caller).turns + errand_discards (s.errand caller)
+        ≤ count_by (gives_small caller) s.history + count_by (refuses_small caller) s.history
+        + (s.errand caller).lost + turn_unanswered (s.errand caller) }
+    ensures given { (g : Geometry) (s : State) (w : Wins) (caller : ℕ) → IsWon g s w → caller < g.callers
+        → (s.errand caller).turns
+        ≤ count_by is_small_alloc s.history + count_by (refuses_small caller) s.history + turn_unanswered (s.errand caller) }
 {}

@@ -56,41 +56,41 @@ fn word(core: &Core, name: WordName) -> Option<u64> {
     if has { Some(core.word(name)) } else { None }
 }
 
-/// A turn of the seat, where the heap has it.
-fn turn(core: &mut Core, seat: u32) -> Result<Option<Progress>, AllocError> {
-    if seat < core.layout.geometry().callers {
-        Ok(Some(core.advance(seat)?))
+/// A turn of the caller, where the heap has it.
+fn turn(core: &mut Core, caller: u32) -> Result<Option<Progress>, AllocError> {
+    if caller < core.layout.geometry().callers {
+        Ok(Some(core.advance(caller)?))
     } else {
         Ok(None)
     }
 }
 
-/// Turns of the seat to the end of its call: how many steps it makes, and what the call answers.
-fn finish(core: &mut Core, seat: u32) -> Result<(u64, Option<Reply>), AllocError> {
+/// Turns of the caller to the end of its call: how many steps it makes, and what the call answers.
+fn finish(core: &mut Core, caller: u32) -> Result<(u64, Option<Reply>), AllocError> {
     let before = core.steps();
     let mut answer = None;
     for _ in 0..1100 {
-        if let Some(Progress::Done(reply)) = turn(core, seat)? {
+        if let Some(Progress::Done(reply)) = turn(core, caller)? {
             answer = Some(reply);
         }
     }
     Ok((core.steps().saturating_sub(before), answer))
 }
 
-/// Turns of these seats, where the heap has them all.
-fn run(core: &mut Core, seats: &[u8]) -> Option<Result<u64, Stopped>> {
+/// Turns of these callers, where the heap has them all.
+fn run(core: &mut Core, callers: &[u8]) -> Option<Result<u64, Stopped>> {
     let callers = core.layout.geometry().callers;
-    if seats.iter().all(|seat| u32::from(*seat) < callers) {
-        Some(core.run_schedule(seats))
+    if callers.iter().all(|caller| u32::from(*caller) < callers) {
+        Some(core.run_schedule(callers))
     } else {
         None
     }
 }
 
-/// Steps of the seat alone to the end of its call, where the heap has it.
-fn alone(core: &mut Core, seat: u32) -> Option<Result<u64, Stopped>> {
-    if seat < core.layout.geometry().callers {
-        Some(core.run_alone(seat))
+/// Steps of the caller alone to the end of its call, where the heap has it.
+fn alone(core: &mut Core, caller: u32) -> Option<Result<u64, Stopped>> {
+    if caller < core.layout.geometry().callers {
+        Some(core.run_alone(caller))
     } else {
         None
     }
@@ -142,28 +142,28 @@ fn live_at(events: &[Event], place: u32) -> Option<(Need, Owner)>
     live
 }
 
-/// Whether the seat is there and idle.
-fn can_begin(core: &Core, seat: u32) -> bool
-    ensures seat { IsTrue result → seat < core.now.geometry.callers }
-    ensures idle { IsTrue result → IsIdle (errand_at core.now.errands seat) }
+/// Whether the caller is there and idle.
+fn can_begin(core: &Core, caller: u32) -> bool
+    ensures caller { IsTrue result → caller < core.now.geometry.callers }
+    ensures idle { IsTrue result → IsIdle (errand_at core.now.errands caller) }
 {
-    seat < core.layout.geometry().callers && core.idle(seat)
+    caller < core.layout.geometry().callers && core.idle(caller)
 }
 
-/// Whether the events tell that the seat owns a block at the place, that serves this need.
-fn owns(core: &Core, seat: u32, place: u32, need: Need) -> bool
-    ensures { IsTrue result → OwnsBlock core.now seat place need }
+/// Whether the events tell that the caller owns a block at the place, that serves this need.
+fn owns(core: &Core, caller: u32, place: u32, need: Need) -> bool
+    ensures { IsTrue result → OwnsBlock core.now caller place need }
 {
     match live_at(core.events(), place) {
-        Some((of, owner)) => of == need && owner == Owner::Caller(seat),
+        Some((of, owner)) => of == need && owner == Owner::Caller(caller),
         None => false,
     }
 }
 
-/// Begins an allocation, where the seat is idle.
-fn begin(core: &mut Core, seat: u32, need: u32) -> Option<Begun> {
-    if can_begin(core, seat) {
-        Some(core.begin_alloc(seat, need))
+/// Begins an allocation, where the caller is idle.
+fn begin(core: &mut Core, caller: u32, need: u32) -> Option<Begun> {
+    if can_begin(core, caller) {
+        Some(core.begin_alloc(caller, need))
     } else {
         None
     }
@@ -178,16 +178,18 @@ enum Request {
     Put(u8),
 }
 
-/// Begins a call, where the seat is idle and owns the block.
-fn call(core: &mut Core, seat: u32, place: u32, need: Need, request: Request) -> bool {
-    if !can_begin(core, seat) || !owns(core, seat, place, need) {
+/// Begins a call, where the caller is idle and owns the block.
+fn call(core: &mut Core, caller: u32, place: u32, need: Need, request: Request) -> bool {
+    if !can_begin(core, caller) || !owns(core, caller, place, need) {
         return false;
     }
     match request {
-        Request::Free => core.begin_free(seat, place, need),
-        Request::Write(i, v) if need == THREE && i < 3 => core.begin_write(seat, place, need, i, v),
-        Request::Read(i) if need == THREE && i < 3 => core.begin_read(seat, place, need, i),
-        Request::Put(shelf) if shelf < SHELVES => core.begin_put(seat, place, need, shelf),
+        Request::Free => core.begin_free(caller, place, need),
+        Request::Write(i, v) if need == THREE && i < 3 => core.begin_write(
+            caller, place, need, i, v,
+        ),
+        Request::Read(i) if need == THREE && i < 3 => core.begin_read(caller, place, need, i),
+        Request::Put(shelf) if shelf < SHELVES => core.begin_put(caller, place, need, shelf),
         _ => return false,
     }
     true
@@ -213,7 +215,7 @@ fn complete(
     }
 }
 
-/// Steps of seat 0 to the end of its call, as long as there are any; how many are left then.
+/// Steps of caller 0 to the end of its call, as long as there are any; how many are left then.
 fn spend(core: &mut Core, steps: u64) -> Result<u64, AllocError> {
     let mut left = steps;
     for _ in 0..steps {
@@ -248,14 +250,14 @@ fn take(core: &mut Core, shelf: u8) -> bool {
     can
 }
 
-/// Turns, won and lost exchanges, and empty superblocks of the seat.
-fn counts(core: &Core, seat: u32) -> Option<(u64, u64, u64, u64)> {
-    if seat < core.layout.geometry().callers {
+/// Turns, won and lost exchanges, and empty superblocks of the caller.
+fn counts(core: &Core, caller: u32) -> Option<(u64, u64, u64, u64)> {
+    if caller < core.layout.geometry().callers {
         Some((
-            core.turns(seat),
-            core.won(seat),
-            core.lost(seat),
-            core.cleared(seat),
+            core.turns(caller),
+            core.won(caller),
+            core.lost(caller),
+            core.cleared(caller),
         ))
     } else {
         None
@@ -285,14 +287,14 @@ fn given(place: u32, need: Need) -> Option<Reply> {
     Some(Reply::Given { place, need })
 }
 
-// Seat 0 has the anchor and the link when seat 1 pops the same block.
+// Seat 0 has the anchor and the link when caller 1 pops the same block.
 #[test]
 fn a_lost_pop_begins_again(rt: HostRuntime) -> Result<(), Fail> {
     let mut core = open_installed(rt.alloc(), heap(1, 0, 2, 9), 9)?;
     assert_eq!(rt; begin(&mut core, 0, 1023), Some(Begun::Started));
     assert_eq!(rt; begin(&mut core, 1, 1023), Some(Begun::Started));
-    let seats = [0, 0, 0, 0, 0, 1, 1, 1, 1, 1, 1];
-    assert_eq!(rt; run(&mut core, &seats), Some(Ok(11)));
+    let callers = [0, 0, 0, 0, 0, 1, 1, 1, 1, 1, 1];
+    assert_eq!(rt; run(&mut core, &callers), Some(Ok(11)));
     assert_eq!(rt; word(&core, WordName::Anchor(0)), Some(5_242_881));
     assert_eq!(rt; word(&core, WordName::Active(0, 9)), Some(0));
     assert_eq!(rt; turn(&mut core, 0)?, Some(Progress::Lost));
@@ -476,7 +478,7 @@ fn turns_of_an_idle_seat_are_no_steps(rt: HostRuntime) -> Result<(), Fail> {
     Ok(())
 }
 
-// Seat 0 stops for ever after each of its 44 steps. Wherever that is, seat 1 alone is given a block and
+// Seat 0 stops for ever after each of its 44 steps. Wherever that is, caller 1 alone is given a block and
 // frees it, in as many steps, and loses no exchange.
 #[test]
 fn a_caller_ends_its_calls_wherever_another_stopped(rt: HostRuntime) -> Result<(), Fail> {

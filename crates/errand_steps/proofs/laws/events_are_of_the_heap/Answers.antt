@@ -5,4 +5,4 @@ pub returns-clause-own : goal.returns-clause-own
 returns-clause-own c e x event is = event_own e.caller e.point x event is
 
 pub returns-clause-given : goal.returns-clause-given
-returns-clause-given c e x who need place h is = event_given e.geometry e.caller e.point x who need place h.point is
+returns-clause-given c e x caller need place h is = event_given e.geometry e.caller e.point x caller need place h.point is

@@ -15,10 +15,10 @@ pub returns-clause-losses : goal.returns-clause-losses
 returns-clause-losses c = λ c run. omega (arith, (run-won c.geometry (state_of c) c.steps run).contended.most)
 
 pub returns-clause-installs : goal.returns-clause-installs
-returns-clause-installs c = λ c run who has. (run-won c.geometry (state_of c) c.steps run).installed.own who has
+returns-clause-installs c = λ c run caller has. (run-won c.geometry (state_of c) c.steps run).installed.own caller has
 
 pub returns-clause-met : goal.returns-clause-met
-returns-clause-met c = λ c run who has. (run-won c.geometry (state_of c) c.steps run).installed.turns who has
+returns-clause-met c = λ c run caller has. (run-won c.geometry (state_of c) c.steps run).installed.turns caller has
 
 pub returns-clause-contended : goal.returns-clause-contended
 returns-clause-contended c =
@@ -26,7 +26,7 @@ returns-clause-contended c =
 
 pub returns-clause-turns : goal.returns-clause-turns
 returns-clause-turns c =
-    λ c who core has. turns-bounded c.geometry (state_of c) core.run.wins who (run-won c.geometry (state_of c) c.steps core.run) has
+    λ c caller core has. turns-bounded c.geometry (state_of c) core.run.wins caller (run-won c.geometry (state_of c) c.steps core.run) has
 
 pub returns-clause-lost : goal.returns-clause-lost
-returns-clause-lost c = λ c who core has. (core-sound c core).parts.1.turned.own_lost who has
+returns-clause-lost c = λ c caller core has. (core-sound c core).parts.1.turned.own_lost caller has

@@ -8,5 +8,5 @@ pub returns-clause-ended : goal.returns-clause-ended
 returns-clause-ended c = begun-ends
 
 pub returns-clause-idle : goal.returns-clause-idle
-returns-clause-idle c = λ g s who moves later sound has idle none reached.
-    let aside = run-aside g s who moves later idle none reached in (aside.errand, aside.events)
+returns-clause-idle c = λ g s caller moves later sound has idle none reached.
+    let aside = run-aside g s caller moves later idle none reached in (aside.errand, aside.events)

@@ -8,7 +8,7 @@ pub returns-clause-falls : goal.returns-clause-falls
 returns-clause-falls c = alone-falls
 
 pub returns-clause-ends : goal.returns-clause-ends
-returns-clause-ends c = λ g s who sound has. ends-within g (alone_left g s who) s who sound has (omega arith)
+returns-clause-ends c = λ g s caller sound has. ends-within g (alone_left g s caller) s caller sound has (omega arith)
 
 pub returns-clause-every : goal.returns-clause-every
-returns-clause-every c = λ g s who turns n after sound has run left. ends-alone g turns s who n after sound has left run
+returns-clause-every c = λ g s caller turns n after sound has run left. ends-alone g turns s caller n after sound has left run

@@ -2,19 +2,19 @@ use Rattle.sound_state.proofs.endings.RunsAlone.{runs-alone, alone-most, leads-f
 use Rattle.sound_state.proofs.laws.endings.alone_runs_are_short.Goals as goal
 
 pub returns-clause-left : goal.returns-clause-left
-returns-clause-left c = λ g s who turns n after sound has run. (runs-alone g turns s who n after sound has run).left
+returns-clause-left c = λ g s caller turns n after sound has run. (runs-alone g turns s caller n after sound has run).left
 
 pub returns-clause-most : goal.returns-clause-most
 returns-clause-most c = alone-most
 
 pub returns-clause-few : goal.returns-clause-few
 returns-clause-few c =
-    λ g s who turns n after sound has run room. leads-few g s who n after sound has (runs-alone g turns s who n after sound has run) room
+    λ g s caller turns n after sound has run room. leads-few g s caller n after sound has (runs-alone g turns s caller n after sound has run) room
 
 pub returns-clause-lost : goal.returns-clause-lost
 returns-clause-lost c =
-    λ g s who turns n after sound has run. let leads = runs-alone g turns s who n after sound has run in (leads.lost, leads.met)
+    λ g s caller turns n after sound has run. let leads = runs-alone g turns s caller n after sound has run in (leads.lost, leads.met)
 
 pub returns-clause-cleared : goal.returns-clause-cleared
 returns-clause-cleared c =
-    λ g s who turns n after sound has run. let leads = runs-alone g turns s who n after sound has run in (leads.cleared, leads.emptied)
+    λ g s caller turns n after sound has run. let leads = runs-alone g turns s caller n after sound has run in (leads.cleared, leads.emptied)

@@ -8,4 +8,4 @@ pub returns-clause-expects : goal.returns-clause-expects
 returns-clause-expects c = begun-expects
 
 pub returns-clause-stale : goal.returns-clause-stale
-returns-clause-stale c = λ g s who e call idle is. none-stale g s who (ap (λ e. expects_of e.point) is ∙ begun-expects e call idle)
+returns-clause-stale c = λ g s caller e call idle is. none-stale g s caller (ap (λ e. expects_of e.point) is ∙ begun-expects e call idle)

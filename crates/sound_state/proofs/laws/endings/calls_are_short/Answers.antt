@@ -5,5 +5,5 @@ use Rattle.sound_state.proofs.laws.endings.calls_are_short.Goals as goal
 
 pub returns : goal.returns
 returns c =
-    λ g s who sound has.
-    left-most g who (s.errand who).point sound.checked (fits-at g s sound.parts.0 who (s.errand who).point sound.parts.1 has refl)
+    λ g s caller sound has.
+    left-most g caller (s.errand caller).point sound.checked (fits-at g s sound.parts.0 caller (s.errand caller).point sound.parts.1 has refl)

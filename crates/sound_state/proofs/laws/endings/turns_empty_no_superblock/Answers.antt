@@ -10,13 +10,13 @@ use Rattle.sound_state.proofs.laws.endings.turns_empty_no_superblock.Goals as go
 
 pub returns-clause-kept : goal.returns-clause-kept
 returns-clause-kept c =
-    λ g s who after class d sound has turn step exists.
-    empties-fall g s who after class d (without-counts g s sound) (without-counts g after (steps-counted g s who after sound has step)) has turn step
+    λ g s caller after class d sound has turn step exists.
+    empties-fall g s caller after class d (without-counts g s sound) (without-counts g after (steps-counted g s caller after sound has step)) has turn step
 
 pub returns-clause-falls : goal.returns-clause-falls
 returns-clause-falls c =
-    λ g s who after sound has step.
-    clearings-fall g s who after (without-counts g s sound) (without-counts g after (steps-counted g s who after sound has step)) has step
+    λ g s caller after sound has step.
+    clearings-fall g s caller after (without-counts g s sound) (without-counts g after (steps-counted g s caller after sound has step)) has step
 
 pub returns-clause-freed : goal.returns-clause-freed
 returns-clause-freed c = λ g s class sound. emptied-freed g s class (without-counts g s sound)

@@ -4,10 +4,10 @@ use Rattle.step_core.proofs.machine.Core.begin_read.Goals as goal
 
 pub begin_read-requires-clause-block : goal.begin_read-requires-clause-block
 begin_read-requires-clause-block c =
-    block-begun _ c.args.self.now c.args.seat c.args.place c.args.need c.index_mut.result.now c.self.invariant c.self.view_is
-    c.requires.seat c.index_mut.ensures.value c.requires.owned
+    block-begun _ c.args.self.now c.args.caller c.args.place c.args.need c.index_mut.result.now c.self.invariant c.self.view_is
+    c.requires.caller c.index_mut.ensures.value c.requires.owned
 
 pub invariant_of-self : goal.invariant_of-self
 invariant_of-self c =
-    core-begun _ c.args.self.now c.args.seat (read c.args.place c.args.need c.args.i) c.index_mut.result.now c.begin_read.new.self c.self.invariant
-    c.self.view_is c.requires.seat c.index_mut.ensures.value c.requires.idle (record { block = c.requires.owned }, c.requires.word) c.begin_read.ensures
+    core-begun _ c.args.self.now c.args.caller (read c.args.place c.args.need c.args.i) c.index_mut.result.now c.begin_read.new.self c.self.invariant
+    c.self.view_is c.requires.caller c.index_mut.ensures.value c.requires.idle (record { block = c.requires.owned }, c.requires.word) c.begin_read.ensures

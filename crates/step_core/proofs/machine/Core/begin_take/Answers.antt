@@ -4,5 +4,5 @@ use Rattle.step_core.proofs.machine.Core.begin_take.Goals as goal
 
 pub invariant_of-self : goal.invariant_of-self
 invariant_of-self c =
-    core-begun _ c.args.self.now c.args.seat (take c.args.shelf) c.index_mut.result.now c.begin_take.new.self c.self.invariant
-    c.self.view_is c.requires.seat c.index_mut.ensures.value c.requires.idle c.requires.shelf c.begin_take.ensures
+    core-begun _ c.args.self.now c.args.caller (take c.args.shelf) c.index_mut.result.now c.begin_take.new.self c.self.invariant
+    c.self.view_is c.requires.caller c.index_mut.ensures.value c.requires.idle c.requires.shelf c.begin_take.ensures

@@ -4,7 +4,7 @@ use Rattle.step_core.proofs.AloneLemmas.{IsSoFar}
 use Rattle.step_core.proofs.machine.Core.run_alone.Given as goal
 
 abbrev pub invariant-loop-self : goal.invariant-loop-self
-invariant-loop-self l = IsSoFar l.fn.self l.self l.seat l.steps
+invariant-loop-self l = IsSoFar l.fn.self l.self l.caller l.steps
 
 abbrev pub decreases-loop-self : goal.decreases-loop-self
-decreases-loop-self l = alone_left l.self.geometry (state_of l.self) l.seat
+decreases-loop-self l = alone_left l.self.geometry (state_of l.self) l.caller

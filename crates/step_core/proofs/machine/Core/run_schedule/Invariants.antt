@@ -4,11 +4,11 @@ use Rattle.step_core.specs.Cores.{state_of}
 use Rattle.step_core.specs.Steps.{counted}
 use Rattle.step_core.proofs.machine.Core.run_schedule.Given as goal
 
-abbrev pub invariant-loop-seat : goal.invariant-loop-seat
-invariant-loop-seat l =
+abbrev pub invariant-loop-caller : goal.invariant-loop-caller
+invariant-loop-caller l =
     record {
       geometry : l.self.geometry ≡ l.fn.self.geometry;
-      few : l.steps ≤ l.seat-index;
+      few : l.steps ≤ l.caller-index;
       counts : l.self.steps ≡ counted l.fn.self.steps l.steps;
-      run : Run (state_of l.fn.self) (take l.seat-index l.seats) l.steps (state_of l.self);
+      run : Run (state_of l.fn.self) (take l.caller-index l.callers) l.steps (state_of l.self);
     }

@@ -1,7 +1,7 @@
 use Rattle.std.proofs.Common.{ap}
 use Rattle.step_core.specs.Cores.{CoreFields}
 use Rattle.step_core.specs.Steps.{stepped}
-use Rattle.step_core.proofs.machine.Core.turn.Goals as goal
+use Rattle.step_core.proofs.machine.Core.fill_slot.Goals as goal
 
 pub returns-in_ok-step-clause-counts : goal.returns-in_ok-step-clause-counts
 unfolding stepped

@@ -14,20 +14,20 @@ use Rattle.partial_parts.specs.declared.point.PartialPoint.{PartialPoint}
 use Rattle.partial_parts.specs.declared.point.PartialPoint.TheVariants as partial
 use Rattle.large_parts.specs.declared.point.LargePoint.{LargePoint}
 use Rattle.large_parts.specs.declared.point.LargePoint.TheVariants as large
-use Rattle.errand_steps.specs.declared.onward.Onward.{Onward}
-use Rattle.errand_steps.specs.declared.onward.Onward.TheVariants.{Alloc, TakeFrame, GiveBlock, Discard, Turn, Look, Refuse, Free, Remove, Clear, ClearSecond, Retire, PushFirst, Finish, EndFree, Nothing}
+use Rattle.errand_steps.specs.declared.continuation.Continuation.{Continuation}
+use Rattle.errand_steps.specs.declared.continuation.Continuation.TheVariants.{Alloc, TakeFrame, GiveBlock, Discard, Turn, Look, Refuse, Free, Remove, Clear, ClearSecond, Retire, PushFirst, Finish, EndFree, Nothing}
 
 -- the continuation is that of an allocation at work in a superblock; of a free there
-abbrev pub is_alloc : Onward → Bool
+abbrev pub is_alloc : Continuation → Bool
 is_alloc (Alloc words) = true
 is_alloc o = false
 
-abbrev pub is_free : Onward → Bool
+abbrev pub is_free : Continuation → Bool
 is_free Free = true
 is_free o = false
 
 -- those at a pop from a stack; an allocation and a clearing pop partial superblocks
-abbrev pub pops : Pile → Onward → Bool
+abbrev pub pops : Pile → Continuation → Bool
 pops Frames (TakeFrame words d) = true
 pops Frames o = false
 pops Partials (Alloc words) = true
@@ -36,33 +36,33 @@ pops Partials (ClearSecond first) = true
 pops Partials o = false
 
 -- those at the step that confirms that a stack is empty
-abbrev pub confirms : Pile → Onward → Bool
+abbrev pub confirms : Pile → Continuation → Bool
 confirms Frames (TakeFrame words d) = true
 confirms Frames o = false
 confirms Partials (Alloc words) = true
 confirms Partials o = false
 
 -- those at a push
-abbrev pub pushes : Pile → Onward → Bool
+abbrev pub pushes : Pile → Continuation → Bool
 pushes Frames (Discard words d) = true
 pushes Frames (Remove d heap) = true
 pushes Frames o = false
 pushes Partials (GiveBlock words at i) = true
-pushes Partials (Finish guarded) = true
+pushes Partials (Finish stored) = true
 pushes Partials EndFree = true
 pushes Partials (Retire d) = true
 pushes Partials (PushFirst first) = true
 pushes Partials o = false
 
 -- those at the end of a free, which clears its hazard word
-abbrev pub clears : Onward → Bool
+abbrev pub clears : Continuation → Bool
 clears Clear = true
 clears (Retire d) = true
 clears EndFree = true
 clears o = false
 
 -- those after a retirement
-abbrev pub resumes : Onward → Bool
+abbrev pub resumes : Continuation → Bool
 resumes (Turn words) = true
 resumes (Look words) = true
 resumes Refuse = true
@@ -70,36 +70,36 @@ resumes EndFree = true
 resumes o = false
 
 -- those where a superblock is put into a slot, and where its owner is looked for
-abbrev pub fills : Onward → Bool
+abbrev pub fills : Continuation → Bool
 fills (GiveBlock words at i) = true
-fills (Finish guarded) = true
+fills (Finish stored) = true
 fills o = false
 
-abbrev pub is_finish : Onward → Bool
-is_finish (Finish guarded) = true
+abbrev pub is_finish : Continuation → Bool
+is_finish (Finish stored) = true
 is_finish o = false
 
 -- those of a clearing
-abbrev pub is_clearing : Onward → Bool
+abbrev pub is_clearing : Continuation → Bool
 is_clearing Clear = true
 is_clearing (ClearSecond first) = true
 is_clearing o = false
 
 -- the continuations that stand at a point of a superblock, or where it is left
-abbrev pub goes_block : BlockPoint → Onward → Bool
+abbrev pub goes_block : BlockPoint → Continuation → Bool
 goes_block (block.LoadPrefix s frame i) o = is_free o
-goes_block (block.LoadPushAnchor at i guarded) o = is_free o
+goes_block (block.LoadPushAnchor at i stored) o = is_free o
 goes_block (block.StoreGuard at i a) o = is_free o
 goes_block (block.LoadOwner at i a) o = is_free o
-goes_block (block.StoreLink at i a guarded heap) o = is_free o
-goes_block (block.PushBlock at i a guarded heap) o = is_free o
+goes_block (block.StoreLink at i a stored heap) o = is_free o
+goes_block (block.PushBlock at i a stored heap) o = is_free o
 goes_block (block.BecameEmpty at heap) o = is_free o
-goes_block (block.BecamePartial at guarded) o = is_free o
-goes_block (block.Pushed s guarded) o = is_free o
+goes_block (block.BecamePartial at stored) o = is_free o
+goes_block (block.Pushed s stored) o = is_free o
 goes_block p o = is_alloc o
 
 -- at a stack
-abbrev pub goes_stack : StackPoint → Onward → Bool
+abbrev pub goes_stack : StackPoint → Continuation → Bool
 goes_stack (stack.LoadTop s pile) o = pops pile o
 goes_stack (stack.LoadBelow s pile h) o = pops pile o
 goes_stack (stack.PopTop s pile h below) o = pops pile o
@@ -113,7 +113,7 @@ goes_stack (stack.ConfirmedEmpty s pile) o = confirms pile o
 goes_stack (stack.Pushed s pile) o = pushes pile o
 
 -- at the descriptors or the hazard words
-abbrev pub goes_desc : DescPoint → Onward → Bool
+abbrev pub goes_desc : DescPoint → Continuation → Bool
 goes_desc (desc.ClearHazard s) o = clears o
 goes_desc (desc.Cleared s) o = clears o
 goes_desc (desc.ReadHazard s held at) o = resumes o
@@ -125,7 +125,7 @@ goes_desc (desc.Pushed s d) o = resumes o
 goes_desc p o = is_alloc o
 
 -- at a partial superblock
-abbrev pub goes_partial : PartialPoint → Onward → Bool
+abbrev pub goes_partial : PartialPoint → Continuation → Bool
 goes_partial (partial.LoadOwner s d) o = is_finish o
 goes_partial (partial.PutSlot s d heap) o = fills o
 goes_partial (partial.SlotFilled s) o = fills o
@@ -140,16 +140,16 @@ goes_partial (partial.ListedPartial s d) o = is_clearing o
 goes_partial p o = is_alloc o
 
 -- an allocation of a run goes on with its words, which as many units serve; every other call ends here
-abbrev pub IsRunFor : ℕ → Onward → Type 0
+abbrev pub IsRunFor : ℕ → Continuation → Type 0
 IsRunFor units (Alloc words) = need_of words ≡ need.Large units
 IsRunFor units o = ⊥
 
-abbrev pub is_last : Onward → Bool
+abbrev pub is_last : Continuation → Bool
 is_last Nothing = true
 is_last o = false
 
 -- at a large block, a usable word or a shelf
-abbrev pub GoesLarge : LargePoint → Onward → Type 0
+abbrev pub GoesLarge : LargePoint → Continuation → Type 0
 GoesLarge (large.LoadUnits w) o = IsRunFor w.units o
 GoesLarge (large.TakeRun w bits) o = IsRunFor w.units o
 GoesLarge (large.StoreRunPrefix place run) o = IsRunFor run.units o
@@ -164,8 +164,8 @@ has_left_block (block.Returned at i) = true
 has_left_block (block.Discarded at) = true
 has_left_block (block.Given at i) = true
 has_left_block (block.BecameEmpty at heap) = true
-has_left_block (block.BecamePartial at guarded) = true
-has_left_block (block.Pushed s guarded) = true
+has_left_block (block.BecamePartial at stored) = true
+has_left_block (block.Pushed s stored) = true
 has_left_block p = false
 
 abbrev pub has_left_stack : StackPoint → Bool

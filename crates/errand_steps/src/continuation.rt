@@ -9,7 +9,7 @@ use word_plan::seat::Site;
 ///
 /// `need` is the usable words that the allocation asked for. A descriptor stands for its superblock.
 #[derive(Clone, Copy)]
-pub enum Onward {
+pub enum Continuation {
     /// An allocation.
     Alloc { need: u32 },
     /// An allocation that pops a frame for this new descriptor.
@@ -39,7 +39,7 @@ pub enum Onward {
     /// A free that pushes this one on the list and ends.
     PushFirst { first: u16 },
     /// A free that clears its hazard word, where it stored it, and ends.
-    Finish { guarded: bool },
+    Finish { stored: bool },
     /// A free that ends.
     EndFree,
     /// A call that ends with the part.
@@ -47,25 +47,25 @@ pub enum Onward {
 }
 
 /// The usable words that an allocation asked for; 0 for other calls.
-pub fn asked(onward: Onward) -> u32
-    ensures { result ≡ asked onward }
+pub fn asked(continuation: Continuation) -> u32
+    ensures { result ≡ asked continuation }
 {
-    match onward {
-        Onward::Alloc { need }
-        | Onward::TakeFrame { need, .. }
-        | Onward::GiveBlock { need, .. }
-        | Onward::Discard { need, .. }
-        | Onward::Turn { need }
-        | Onward::Look { need } => need,
-        Onward::Refuse
-        | Onward::Free
-        | Onward::Remove { .. }
-        | Onward::Clear
-        | Onward::ClearSecond { .. }
-        | Onward::Retire { .. }
-        | Onward::PushFirst { .. }
-        | Onward::Finish { .. }
-        | Onward::EndFree
-        | Onward::Nothing => 0,
+    match continuation {
+        Continuation::Alloc { need }
+        | Continuation::TakeFrame { need, .. }
+        | Continuation::GiveBlock { need, .. }
+        | Continuation::Discard { need, .. }
+        | Continuation::Turn { need }
+        | Continuation::Look { need } => need,
+        Continuation::Refuse
+        | Continuation::Free
+        | Continuation::Remove { .. }
+        | Continuation::Clear
+        | Continuation::ClearSecond { .. }
+        | Continuation::Retire { .. }
+        | Continuation::PushFirst { .. }
+        | Continuation::Finish { .. }
+        | Continuation::EndFree
+        | Continuation::Nothing => 0,
     }
 }
