@@ -9,4 +9,5 @@ pub mod ContinuationLemmas
 pub mod PlanLemmas
 pub mod RetiredLemmas
 pub mod SpentLemmas
+pub mod StayLemmas
 pub mod StepLemmas

@@ -14,6 +14,11 @@ use Rattle.partial_parts.specs.declared.point.PartialPoint.{PartialPoint}
 use Rattle.partial_parts.specs.declared.point.PartialPoint.TheVariants as partial
 use Rattle.large_parts.specs.declared.point.LargePoint.{LargePoint}
 use Rattle.large_parts.specs.declared.point.LargePoint.TheVariants as large
+pub use Rattle.superblock_parts.specs.Points.{has_left_block}
+pub use Rattle.stack_parts.specs.Points.{has_left_stack}
+pub use Rattle.hazard_parts.specs.Points.{has_left_desc}
+pub use Rattle.partial_parts.specs.Points.{has_left_partial}
+pub use Rattle.large_parts.specs.Points.{has_left_large}
 use Rattle.errand_steps.specs.declared.continuation.Continuation.{Continuation}
 use Rattle.errand_steps.specs.declared.continuation.Continuation.TheVariants.{Alloc, TakeFrame, GiveBlock, Discard, Turn, Look, Refuse, Free, Remove, Clear, ClearSecond, Retire, PushFirst, Finish, EndFree, Nothing}
 
@@ -156,53 +161,3 @@ GoesLarge (large.StoreRunPrefix place run) o = IsRunFor run.units o
 GoesLarge (large.GivenRun place run) o = IsRunFor run.units o
 GoesLarge large.NoRun o = IsTrue (is_alloc o)
 GoesLarge p o = IsTrue (is_last o)
-
--- the point is one at which its part has been left
-abbrev pub has_left_block : BlockPoint → Bool
-has_left_block (block.WantsPartial s) = true
-has_left_block (block.Returned at i) = true
-has_left_block (block.Discarded at) = true
-has_left_block (block.Given at i) = true
-has_left_block (block.BecameEmpty at heap) = true
-has_left_block (block.BecamePartial at stored) = true
-has_left_block (block.Pushed s stored) = true
-has_left_block p = false
-
-abbrev pub has_left_stack : StackPoint → Bool
-has_left_stack (stack.Popped s pile i) = true
-has_left_stack (stack.FoundEmpty s pile h) = true
-has_left_stack (stack.ConfirmedEmpty s pile) = true
-has_left_stack (stack.Pushed s pile) = true
-has_left_stack p = false
-
-abbrev pub has_left_desc : DescPoint → Bool
-has_left_desc (desc.Got s d) = true
-has_left_desc (desc.Cleared s) = true
-has_left_desc (desc.Scanned s held) = true
-has_left_desc (desc.Pushed s d) = true
-has_left_desc p = false
-
-abbrev pub has_left_partial : PartialPoint → Bool
-has_left_partial (partial.SlotEmpty s) = true
-has_left_partial (partial.Granted at more) = true
-has_left_partial (partial.TookEmpty at) = true
-has_left_partial (partial.SlotFilled s) = true
-has_left_partial (partial.Displaced s d) = true
-has_left_partial (partial.NotInSlot s) = true
-has_left_partial (partial.Removed s d) = true
-has_left_partial (partial.ListedEmpty s d) = true
-has_left_partial (partial.ListedPartial s d) = true
-has_left_partial p = false
-
-abbrev pub has_left_large : LargePoint → Bool
-has_left_large (large.GivenRun place run) = true
-has_left_large large.NoRun = true
-has_left_large large.FreedRun = true
-has_left_large large.Wrote = true
-has_left_large (large.Word value) = true
-has_left_large large.PutDone = true
-has_left_large (large.ShelfFull found) = true
-has_left_large (large.Got place block) = true
-has_left_large large.NothingThere = true
-has_left_large (large.Missed expected found) = true
-has_left_large p = false

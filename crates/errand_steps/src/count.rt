@@ -2,8 +2,8 @@
 
 ghost use Rattle.std.specs.Prelude.{◌≡◌};
 ghost use Rattle.errand_steps.specs.Errands.{counts_won, counts_lost, counts_cleared, is_lost_exchange, raised};
+ghost use Rattle.errand_steps.specs.Points.{plan_point_of};
 
-use crate::enter::plan_point;
 use crate::point::Point;
 use hazard_parts::point::DescPoint;
 use large_parts::point::LargePoint;
@@ -24,9 +24,10 @@ pub fn counts_won(action: Action, found: Found) -> bool
 }
 
 /// Whether a step is lost: an exchange that isn't won, but for a put that finds a block, or a
-/// descriptor that isn't the top one any more.
+/// descriptor that isn't the top one any more. The action is the point's.
 #[tactic(auto, unfolding(crate::specs::Points::plan_point_of))]
-pub fn counts_lost(point: &Point, found: Found) -> bool
+pub fn counts_lost(point: &Point, action: Action, found: Found) -> bool
+    requires { action ≡ plan_point_of point.now }
     ensures { result ≡ counts_lost point.now found }
 {
     match *point {
@@ -38,7 +39,7 @@ pub fn counts_lost(point: &Point, found: Found) -> bool
             at: LargePoint::PutBlock { .. },
             ..
         } => false,
-        _ => is_lost_exchange(plan_point(point), found),
+        _ => is_lost_exchange(action, found),
     }
 }
 

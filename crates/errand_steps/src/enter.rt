@@ -6,7 +6,8 @@ pub mod large;
 pub mod partials;
 pub mod stacks;
 
-ghost use Rattle.std.specs.Prelude.{◌≡◌};
+ghost use Rattle.std.specs.Prelude.{◌≡◌, IsTrue, false};
+ghost use Rattle.errand_steps.specs.declared.next.Next.TheVariants.{At};
 ghost use Rattle.errand_steps.specs.Nexts.{next_of, resumed};
 ghost use Rattle.errand_steps.specs.Points.{plan_point_of};
 
@@ -21,15 +22,19 @@ use crate::point::Point;
 use crate::reply::Reply;
 use hazard_parts::plan::plan_desc;
 use hazard_parts::settle::settle_desc;
+use hazard_parts::stay::stays_desc;
 use large_parts::plan::plan_large;
 use large_parts::settle::settle_large;
 use partial_parts::plan::plan_partial;
 use partial_parts::point::PartialPoint;
 use partial_parts::settle::settle_partial;
+use partial_parts::stay::stays_partial;
 use stack_parts::plan::plan_stack;
 use stack_parts::settle::settle_stack;
+use stack_parts::stay::stays_stack;
 use superblock_parts::plan::plan_block;
 use superblock_parts::settle::settle_block;
+use superblock_parts::stay::stays_block;
 use word_plan::action::{Action, Found};
 use word_plan::name::WordName;
 use word_plan::seat::Seat;
@@ -64,6 +69,23 @@ pub fn next_of(point: &Point, found: Found) -> Next
             continuation,
         ),
         Point::Large { at, continuation } => enter_large(settle_large(at, found), continuation),
+    }
+}
+
+/// Goes on to what follows the step in which the point's action found this, where that is a point of
+/// the same part, and answers whether it does; else nothing changes. Most steps go on so, and are not
+/// copied. From a large block, a usable word or a shelf no caller goes on so.
+#[tactic(auto, using(crate::proofs::StayLemmas::stay_block, crate::proofs::StayLemmas::stay_stack, crate::proofs::StayLemmas::stay_desc, crate::proofs::StayLemmas::stay_partial), unfolding(crate::specs::Nexts::next_of))]
+pub(crate) fn stays(point: &mut Point, found: Found) -> bool
+    ensures stays { IsTrue result → next_of point.old found ≡ At point.new }
+    ensures leaves { result ≡ false → point.new ≡ point.old }
+{
+    match point {
+        Point::Block { at, .. } => stays_block(at, found),
+        Point::Stack { at, .. } => stays_stack(at, found),
+        Point::Desc { at, .. } => stays_desc(at, found),
+        Point::Partial { at, .. } => stays_partial(at, found),
+        Point::Large { .. } | Point::Idle => false,
     }
 }
 

@@ -17,7 +17,7 @@ ghost use Rattle.errand_steps.specs.Points.{is_idle};
 
 use crate::continuation::Continuation;
 use crate::count::{counts_cleared, counts_lost, counts_won, raised};
-use crate::enter::{next_of, plan_point, resumed};
+use crate::enter::{next_of, plan_point, resumed, stays};
 use crate::next::Next;
 use crate::point::Point;
 use crate::reply::{Offer, Progress, Reply};
@@ -134,22 +134,49 @@ impl Errand {
         self.cleared
     }
 
-    /// Goes on to the errand that follows what its action found.
-    #[tactic(auto, using(crate::proofs::ErrandLemmas::listable), unfolding(crate::specs::Errands::settle_of, crate::specs::Errands::course_of))]
-    pub fn go_on(&mut self, found: Found)
-        requires { IsBusy self.old }
-        ensures { self.new ≡ settle_of self.old found }
+    /// Goes on to the errand that follows what its action found, and answers what the step came to.
+    /// The action is the one that was planned.
+    #[tactic(auto, using(crate::proofs::StayLemmas::stayed_errand, crate::proofs::StayLemmas::stayed_answer))]
+    pub fn go_on(&mut self, action: Action, found: Found) -> Progress
+        requires busy { IsBusy self.old }
+        requires planned { action ≡ plan_of self.old }
+        ensures errand { self.new ≡ settle_of self.old found }
+        ensures answer { result ≡ answer_of self.old found }
     {
+        let lost = counts_lost(&self.point, action, found);
+        let cleared = counts_cleared(&self.point, found);
+        if stays(&mut self.point, found) {
+            self.won = raised(counts_won(action, found), self.won);
+            self.lost = raised(lost, self.lost);
+            self.cleared = raised(cleared, self.cleared);
+            going_on(lost, cleared)
+        } else {
+            self.leave(action, found)
+        }
+    }
+
+    /// The same, from any point.
+    #[tactic(auto, using(crate::proofs::ErrandLemmas::listable), unfolding(crate::specs::Errands::settle_of, crate::specs::Errands::course_of, crate::specs::Errands::answer_of))]
+    fn leave(&mut self, action: Action, found: Found) -> Progress
+        requires busy { IsBusy self.old }
+        requires planned { action ≡ plan_of self.old }
+        ensures errand { self.new ≡ settle_of self.old found }
+        ensures answer { result ≡ answer_of self.old found }
+    {
+        let lost = counts_lost(&self.point, action, found);
+        let cleared = counts_cleared(&self.point, found);
         let next = next_of(&self.point, found);
         let listed = self.after_list(&next);
         let begins = self.begins_turn(&listed);
         let course = self.after_turn(listed);
-        self.won = raised(counts_won(plan_point(&self.point), found), self.won);
-        self.lost = raised(counts_lost(&self.point, found), self.lost);
-        self.cleared = raised(counts_cleared(&self.point, found), self.cleared);
+        self.won = raised(counts_won(action, found), self.won);
+        self.lost = raised(lost, self.lost);
+        self.cleared = raised(cleared, self.cleared);
         self.turns = raised(begins, self.turns);
         change_list(&mut self.retired, next);
+        let progress = told(&course, lost, cleared);
         self.point = point_after(course);
+        progress
     }
 
     /// What follows a step: a point, or the end of the call.
@@ -294,7 +321,7 @@ pub fn settle(errand: Errand, found: Found) -> Errand
     ensures { result ≡ settle_of errand found }
 {
     let mut errand = errand;
-    errand.go_on(found);
+    let _ = errand.go_on(plan(&errand), found);
     errand
 }
 
@@ -304,12 +331,21 @@ pub fn answer(errand: &Errand, found: Found) -> Progress
     requires { IsBusy errand.now }
     ensures { result ≡ answer_of errand.now found }
 {
-    match errand.course(found) {
+    let lost = counts_lost(&errand.point, plan(errand), found);
+    told(
+        &errand.course(found),
+        lost,
+        counts_cleared(&errand.point, found),
+    )
+}
+
+/// What a step answers, by what follows it.
+fn told(next: &Next, lost: bool, cleared: bool) -> Progress
+    ensures { result ≡ told next.now lost cleared }
+{
+    match *next {
         Next::End { reply } => Progress::Done(reply),
-        _ => going_on(
-            counts_lost(&errand.point, found),
-            counts_cleared(&errand.point, found),
-        ),
+        _ => going_on(lost, cleared),
     }
 }
 

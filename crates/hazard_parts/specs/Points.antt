@@ -1,5 +1,5 @@
 -- What each point does, and where it leads.
-use Rattle.std.specs.Prelude.{ℕ, Option, Some, None, List, ◌+◌, ◌==◌, nat_lt, nat_le, slice_set, if◌then◌else◌}
+use Rattle.std.specs.Prelude.{ℕ, Bool, true, false, Option, Some, None, List, ◌+◌, ◌==◌, nat_lt, nat_le, slice_set, if◌then◌else◌}
 use Rattle.heap_geometry.specs.declared.geometry.Geometry.{Geometry}
 use Rattle.word_plan.specs.declared.action.Action.{Action}
 use Rattle.word_plan.specs.declared.action.Action.TheVariants.{Load, Store, Cas}
@@ -93,3 +93,16 @@ settle_desc_of (Got s d) x = Got s d
 settle_desc_of (Cleared s) x = Cleared s
 settle_desc_of (Scanned s held) x = Scanned s held
 settle_desc_of (Pushed s d) x = Pushed s d
+
+-- the point is one at which the part has been left
+abbrev pub has_left_desc : DescPoint → Bool
+has_left_desc (Got s d) = true
+has_left_desc (Cleared s) = true
+has_left_desc (Scanned s held) = true
+has_left_desc (Pushed s d) = true
+has_left_desc p = false
+
+-- hazard words are being read
+abbrev pub is_scan : DescPoint → Bool
+is_scan (ReadHazard s held at) = true
+is_scan p = false

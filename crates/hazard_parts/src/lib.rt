@@ -16,5 +16,6 @@ pub mod plan;
 pub mod point;
 pub mod retired;
 pub mod settle;
+pub mod stay;
 #[cfg(test)]
 mod tests;

@@ -1,5 +1,5 @@
 -- What each point does, and where it leads.
-use Rattle.std.specs.Prelude.{ℕ, Option, Some, None, ◌+◌, ◌%◌, ◌^◌, if◌then◌else◌}
+use Rattle.std.specs.Prelude.{ℕ, Bool, true, false, Option, Some, None, ◌+◌, ◌%◌, ◌^◌, if◌then◌else◌}
 use Rattle.heap_geometry.specs.Place.{unit_place}
 use Rattle.packed_words.specs.declared.prefix.Prefix.{Prefix}
 use Rattle.packed_words.specs.declared.prefix.Prefix.TheVariants.{Small, Large}
@@ -98,3 +98,17 @@ settle_large_of (ShelfFull found) x = ShelfFull found
 settle_large_of (Got place need) x = Got place need
 settle_large_of NothingThere x = NothingThere
 settle_large_of (Missed expected found) x = Missed expected found
+
+-- the point is one at which the part has been left
+abbrev pub has_left_large : LargePoint → Bool
+has_left_large (GivenRun place run) = true
+has_left_large NoRun = true
+has_left_large FreedRun = true
+has_left_large Wrote = true
+has_left_large (Word value) = true
+has_left_large PutDone = true
+has_left_large (ShelfFull found) = true
+has_left_large (Got place block) = true
+has_left_large NothingThere = true
+has_left_large (Missed expected found) = true
+has_left_large p = false

@@ -1,5 +1,5 @@
 -- What each point does, and where it leads.
-use Rattle.std.specs.Prelude.{ℕ, Option, Some, None, ◌+◌, ◌==◌, if◌then◌else◌}
+use Rattle.std.specs.Prelude.{ℕ, Bool, true, false, Option, Some, None, ◌+◌, ◌==◌, if◌then◌else◌}
 use Rattle.packed_words.specs.Anchor.{AnchorFields, anchor_word, anchor_of}
 use Rattle.packed_words.specs.Info.{InfoFields, info_word}
 use Rattle.word_plan.specs.declared.action.Action.{Action}
@@ -132,3 +132,16 @@ settle_partial_of (NotInSlot s) x = NotInSlot s
 settle_partial_of (Removed s d) x = Removed s d
 settle_partial_of (ListedEmpty s d) x = ListedEmpty s d
 settle_partial_of (ListedPartial s d) x = ListedPartial s d
+
+-- the point is one at which the part has been left
+abbrev pub has_left_partial : PartialPoint → Bool
+has_left_partial (SlotEmpty s) = true
+has_left_partial (Granted at more) = true
+has_left_partial (TookEmpty at) = true
+has_left_partial (SlotFilled s) = true
+has_left_partial (Displaced s d) = true
+has_left_partial (NotInSlot s) = true
+has_left_partial (Removed s d) = true
+has_left_partial (ListedEmpty s d) = true
+has_left_partial (ListedPartial s d) = true
+has_left_partial p = false

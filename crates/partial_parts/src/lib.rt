@@ -13,6 +13,7 @@ pub mod laws;
 pub mod plan;
 pub mod point;
 pub mod settle;
+pub mod stay;
 #[cfg(test)]
 mod tests;
 mod words;

@@ -1,5 +1,5 @@
 -- What each point does, and where it leads.
-use Rattle.std.specs.Prelude.{ℕ, ◌-◌, ◌==◌, nat_le, if◌then◌else◌}
+use Rattle.std.specs.Prelude.{ℕ, Bool, true, false, ◌-◌, ◌==◌, nat_le, if◌then◌else◌}
 use Rattle.packed_words.specs.Head.{HeadFields, head_word, head_of}
 use Rattle.word_plan.specs.declared.action.Action.{Action}
 use Rattle.word_plan.specs.declared.action.Action.TheVariants.{Load, Store, Cas}
@@ -63,3 +63,11 @@ settle_stack_of (Popped s p i) x = Popped s p i
 settle_stack_of (FoundEmpty s p h) x = FoundEmpty s p h
 settle_stack_of (ConfirmedEmpty s p) x = ConfirmedEmpty s p
 settle_stack_of (Pushed s p) x = Pushed s p
+
+-- the point is one at which the part has been left
+abbrev pub has_left_stack : StackPoint → Bool
+has_left_stack (Popped s pile i) = true
+has_left_stack (FoundEmpty s pile h) = true
+has_left_stack (ConfirmedEmpty s pile) = true
+has_left_stack (Pushed s pile) = true
+has_left_stack p = false

@@ -45,13 +45,13 @@ answer-busy e x = told-busy (course_of e x) _ _
 -- what the code computes of the errand that it read is what the next step will do
 pub next-made :
     (c value : CoreFields) (caller : ℕ) (x : ErrandFields) (action : Action) (name : WordName) (index word : ℕ) (found : Found)
-    (answer : Progress) (event : Option Event) → IsCore c → c ≡ value → caller < value.geometry.callers
+    (event : Option Event) → IsCore c → c ≡ value → caller < value.geometry.callers
     → x ≡ slice_index_or c.errands caller x → action ≡ plan_of x → Exists x.geometry (name_of action) → name ≡ name_of action
     → index ≡ word_index c.geometry name → word ≡ after_action action (word_in value.geometry value.words name)
-    → found ≡ found_by action (word_in value.geometry value.words name) → answer ≡ answer_of x found
+    → found ≡ found_by action (word_in value.geometry value.words name)
     → event ≡ event_of x.caller x.point found
-    → IsNext value caller (record { index = index; word = word; found = found; progress = answer; event = event })
-next-made c value caller x action name index word found answer event core view below read is_action is is_name is_index is_word is_found answers is_event =
+    → IsNext value caller (record { action = action; index = index; word = word; found = found; event = event })
+next-made c value caller x action name index word found event core view below read is_action is is_name is_index is_word is_found is_event =
     let here : x ≡ errand_at value.errands caller = errand-read c value caller x core view below read in
     let own : IsOwnErrand c.geometry caller x = errand-own c value caller x core view below read in
     let geometry : x.geometry ≡ value.geometry = own.geometry ∙ ap (λ (v : CoreFields). v.geometry) view in
@@ -64,6 +64,7 @@ next-made c value caller x action name index word found answer event core view b
     let A : Action → Type 0 = λ a. Exists value.geometry (name_of a) in
     record {
       there = subst A action_here (subst G geometry is);
+      action = action_here;
       index = is_index ∙ (ap (λ (v : CoreFields). word_index v.geometry name) view ∙ ap (word_index value.geometry) name_here);
       word = is_word ∙ (ap (λ n. after_action action (w n)) name_here ∙ ap (λ a. after_action a (word_at (state_of value) caller)) action_here);
       found = found_here;
@@ -71,7 +72,6 @@ next-made c value caller x action name index word found answer event core view b
           is_event
           ∙ (ap (λ k. event_of k x.point found) own.number
           ∙ (ap (λ (z : ErrandFields). event_of caller z.point found) here ∙ ap (event_of caller (errand_at value.errands caller).point) found_here));
-      progress = answers ∙ (ap (λ z. answer_of z found) here ∙ ap (answer_of (errand_at value.errands caller)) found_here);
     }
 
 -- the parts that a step makes, one after the other, are those of the machine after it
@@ -95,18 +95,18 @@ pub record IsKeptStep (c : CoreFields) (caller : ℕ) (answer : Progress) (after
   pub is : IsStepped c caller answer after
 
 pub step-made :
-    (c value : CoreFields) (caller : ℕ) (n : NextStep) (x e : ErrandFields) (events : List Event) (steps : ℕ) → IsCore c → c ≡ value
-    → caller < value.geometry.callers → IsBusy (errand_at value.errands caller) → IsNext value caller n
-    → x ≡ slice_index_or c.errands caller x → e ≡ settle_of x n.found → events ≡ with_event c.events n.event
+    (c value : CoreFields) (caller : ℕ) (n : NextStep) (x e : ErrandFields) (answer : Progress) (events : List Event) (steps : ℕ) → IsCore c
+    → c ≡ value → caller < value.geometry.callers → IsBusy (errand_at value.errands caller) → IsNext value caller n
+    → x ≡ slice_index_or c.errands caller x → e ≡ settle_of x n.found → answer ≡ answer_of x n.found → events ≡ with_event c.events n.event
     → steps ≡ one_more c.steps
-    → IsKeptStep value caller n.progress (record {
+    → IsKeptStep value caller answer (record {
       geometry = c.geometry;
       words = slice_set c.words n.index n.word;
       errands = slice_set c.errands caller e;
       events = events;
       steps = steps;
     })
-step-made c value caller n x e events steps core view below busy next read is_errand are_events are_steps =
+step-made c value caller n x e answer events steps core view below busy next read is_errand is_answer are_events are_steps =
     let N : CoreFields → Type 0 = λ v. IsNext v caller n in
     let B : CoreFields → Type 0 = λ v. IsBusy (errand_at v.errands caller) in
     let L : CoreFields → Type 0 = λ v. caller < v.geometry.callers in
@@ -123,15 +123,17 @@ step-made c value caller n x e events steps core view below busy next read is_er
     let exact : after ≡ stepped c caller = made-stepped c caller n x e events steps next' here is_errand are_events are_steps in
     let K : CoreFields → Type 0 = IsCore in
     let S : CoreFields → Type 0 = λ v. Step (state_of c) caller (state_of v) in
-    let T : CoreFields → Type 0 = λ v. IsKeptStep v caller n.progress after in
+    let answers : answer ≡ answer_of (errand_at c.errands caller) (found_at (state_of c) caller) =
+    is_answer ∙ (ap (λ z. answer_of z n.found) here ∙ ap (answer_of (errand_at c.errands caller)) next'.found) in
+    let T : CoreFields → Type 0 = λ v. IsKeptStep v caller answer after in
     subst T view
     (record {
       core = subst K (sym exact) (core-stepped c caller core below' (subst B (sym view) busy) next'.there);
       is = record {
         step = subst S (sym exact) (step-stepped c caller core below' (subst B (sym view) busy) next'.there);
         exact = exact;
-        answers = next'.progress;
-        some = λ idle. answer-busy (errand_at c.errands caller) (found_at (state_of c) caller) (sym next'.progress ∙ idle);
+        answers = answers;
+        some = λ idle. answer-busy (errand_at c.errands caller) (found_at (state_of c) caller) (sym answers ∙ idle);
       };
     })
 

@@ -1,7 +1,7 @@
 pub mod CoreLemmas
+pub mod SeenLemmas
 pub mod StepLemmas
 pub mod FirstLemmas
 pub mod AdvanceLemmas
 pub mod AloneLemmas
-pub mod ToldLemmas
 pub mod MeantLemmas

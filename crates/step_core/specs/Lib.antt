@@ -1,5 +1,5 @@
 pub mod Cores
 pub mod Firsts
 pub mod Openings
+pub mod Seen
 pub mod Steps
-pub mod Told

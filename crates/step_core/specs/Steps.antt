@@ -38,11 +38,11 @@ AnswersSo c caller answer after =
 -- what a caller's next step will do
 pub record IsNext (c : CoreFields) (caller : ℕ) (n : NextStep) : Type 0 where
   pub there : Exists c.geometry (name_at (state_of c) caller)
+  pub action : n.action ≡ action_at (state_of c) caller
   pub index : n.index ≡ word_index c.geometry (name_at (state_of c) caller)
   pub word : n.word ≡ after_action (action_at (state_of c) caller) (word_at (state_of c) caller)
   pub found : n.found ≡ found_at (state_of c) caller
   pub event : n.event ≡ event_at (state_of c) caller
-  pub progress : n.progress ≡ answer_of (errand_at c.errands caller) (found_at (state_of c) caller)
 
 -- a count that has risen so many times; it stands still at its end
 abbrev pub counted : ℕ → ℕ → ℕ

@@ -9,3 +9,4 @@
 mod first;
 pub mod laws;
 pub mod machine;
+mod seen;

@@ -1,9 +1,12 @@
 //! The machine.
 
-ghost use Rattle.std.specs.Prelude.{◌≡◌, ◌<◌, ◌≤◌, ◌+◌, ◌-◌, ◌*◌, ◌^◌, All, Ok, OnOk, OnErr, IfOk, IfSome};
+ghost use Rattle.std.specs.Prelude.{ℕ, Some, ◌≡◌, ◌<◌, ◌≤◌, ◌+◌, ◌-◌, ◌*◌, ◌^◌, All, Ok, OnOk, OnErr, IfOk, IfSome};
 ghost use Rattle.std.specs.Result.{IfErr};
 ghost use Rattle.heap_geometry.specs.Geometry.{IsChecked};
-ghost use Rattle.heap_geometry.specs.Need.{usable_words};
+ghost use Rattle.heap_geometry.specs.Need.{IsNeed, usable_words};
+ghost use Rattle.heap_geometry.specs.declared.need.Need.{Need};
+ghost use Rattle.pool_model.specs.declared.owner.Owner.TheVariants.{Caller};
+ghost use Rattle.pool_model.specs.Pool.{block_at, pool_of};
 ghost use Rattle.heap_geometry.specs.declared.limits.TheConstants.{CALL_STEPS, CLASSES, SHELVES};
 ghost use Rattle.word_plan.specs.Actions.{name_of};
 ghost use Rattle.word_plan.specs.Table.{Exists};
@@ -15,16 +18,19 @@ ghost use Rattle.step_core.specs.Cores.{errand_at, with_errand, IsCore, OwnsBloc
 ghost use Rattle.errand_steps.specs.Openings.{opening};
 ghost use Rattle.step_core.specs.Openings.{first_words, IsOpened};
 ghost use Rattle.errand_steps.specs.Steps.{with_event, Slot, Run};
+ghost use Rattle.step_core.specs.Seen.{seen};
 ghost use Rattle.step_core.specs.Steps.{IsStepped, IsNext, AnswersSo, RunsPart, counted, RunsAlone};
 ghost use Rattle.errand_steps.specs.Errands.{ErrandFields};
 ghost use Rattle.sound_state.specs.Alone.{clearings, stale_words};
 
 use crate::first::{first_errands, first_table};
-use errand_steps::errand::{Errand, answer, event, plan};
+use crate::seen::seen_at;
+use errand_steps::errand::{Errand, event, plan};
 use errand_steps::reply::{Begun, Progress};
 use heap_geometry::geometry::Geometry;
 use heap_geometry::need::Need;
 use pool_model::event::Event;
+use pool_model::owner::Owner;
 use std::alloc::{AllocError, Global};
 use std::marker::Model;
 use word_plan::action::{Action, Found, apply};
@@ -64,14 +70,14 @@ pub struct Stopped {
     pub steps: u64,
 }
 
-/// What one step will do: where its word stands in the table, the word afterwards, what the action
-/// finds, what the step comes to, and its event, if it has one.
+/// What one step will do: its action, where its word stands in the table, the word afterwards, what the
+/// action finds, and the event, if it has one.
 #[derive(Clone, Copy)]
 struct NextStep {
+    action: Action,
     index: u32,
     word: u64,
     found: Found,
-    progress: Progress,
     event: Option<Event>,
 }
 
@@ -201,9 +207,9 @@ impl Core {
         let next = self.next_step(caller);
         add_event(&mut self.events, next.event)?;
         self.words[next.index as usize] = next.word;
-        self.errands[caller as usize].go_on(next.found);
+        let progress = self.errands[caller as usize].go_on(next.action, next.found);
         self.steps = self.steps.saturating_add(1);
-        Ok(next.progress)
+        Ok(progress)
     }
 
     /// What the next step of a caller will do.
@@ -214,13 +220,13 @@ impl Core {
     {
         let errand = &self.errands[caller as usize];
         let action = plan(errand);
-        let name = name_of(&action);
-        let (word, found) = apply(&action, self.word(name));
+        let index = self.layout.index(name_of(&action));
+        let (word, found) = apply(&action, self.words[index as usize]);
         NextStep {
-            index: self.layout.index(name),
+            action,
+            index,
             word,
             found,
-            progress: answer(errand, found),
             event: event(errand, found),
         }
     }
@@ -322,6 +328,24 @@ impl Core {
         ensures { result.now ≡ self.now.events }
     {
         self.events.as_slice()
+    }
+
+    /// The heap's numbers.
+    pub fn geometry(&self) -> Geometry
+        ensures value { result ≡ self.now.geometry }
+        ensures checked { IsChecked result }
+    {
+        self.layout.geometry()
+    }
+
+    /// What the block at this place serves and who owns it; `None` where none is live there. It looks
+    /// through the events from the last one back, to the one that gave the block or took it away.
+    pub fn block_at(&self, place: u32) -> Option<(Need, Owner)>
+        ensures value { result ≡ seen (block_at place (pool_of self.now.events)) }
+        ensures need { IfSome result (λ live. IsNeed live.0) }
+        ensures owned { (caller : ℕ) (need : Need) → result ≡ Some (need, Caller caller) → OwnsBlock self.now caller place need }
+    {
+        seen_at(self.events.as_slice(), place)
     }
 
     /// How many turns the caller has begun, at most the turn limit.

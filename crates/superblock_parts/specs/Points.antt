@@ -189,3 +189,14 @@ settle_block_of (Given at i) x = Given at i
 settle_block_of (BecameEmpty at heap) x = BecameEmpty at heap
 settle_block_of (BecamePartial at stored) x = BecamePartial at stored
 settle_block_of (Pushed s stored) x = Pushed s stored
+
+-- the point is one at which the part has been left
+abbrev pub has_left_block : BlockPoint → Bool
+has_left_block (WantsPartial s) = true
+has_left_block (Returned at i) = true
+has_left_block (Discarded at) = true
+has_left_block (Given at i) = true
+has_left_block (BecameEmpty at heap) = true
+has_left_block (BecamePartial at stored) = true
+has_left_block (Pushed s stored) = true
+has_left_block p = false

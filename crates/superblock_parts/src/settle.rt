@@ -152,7 +152,7 @@ pub fn settle_block(point: BlockPoint, found: Found) -> BlockPoint
 }
 
 /// What the taker of one of these credits pays with.
-fn share_of(credits: u8) -> Share
+pub(crate) fn share_of(credits: u8) -> Share
     ensures { result ≡ (if credits == 0 then Share.LastCredit else Share.Credit) }
 {
     if credits == 0 {

@@ -4,18 +4,13 @@
 ghost use Rattle.std.specs.Prelude.{◌≡◌, ◌<◌, IsTrue};
 ghost use Rattle.heap_geometry.specs.Geometry.{IsChecked, IsWithin};
 ghost use Rattle.heap_geometry.specs.declared.limits.TheConstants.{MAX_FRAMES, MAX_UNITS, MAX_CALLERS, MAX_TURNS};
-ghost use Rattle.heap_geometry.specs.declared.need.Need.{Need};
-ghost use Rattle.pool_model.specs.declared.owner.Owner.{Owner};
-ghost use Rattle.pool_model.specs.Pool.{pool_of};
 ghost use Rattle.errand_steps.specs.Begins.{IsIdle};
 ghost use Rattle.step_core.specs.Cores.{errand_at, OwnsBlock};
-ghost use Rattle.step_core.specs.Told.{IsTold, told_after, owned_by};
 
 use super::*;
 use crate::laws::open_installed;
 use errand_steps::reply::Reply;
 use heap_geometry::limits::{CLASSES, SHELVES};
-use heap_geometry::need::class_of;
 use pool_model::owner::Owner;
 use std::test::Fail;
 
@@ -56,8 +51,8 @@ fn word(core: &Core, name: WordName) -> Option<u64> {
     if has { Some(core.word(name)) } else { None }
 }
 
-/// A turn of the caller, where the heap has it.
-fn turn(core: &mut Core, caller: u32) -> Result<Option<Progress>, AllocError> {
+/// A slot of a schedule for the caller, where the heap has it.
+fn slot(core: &mut Core, caller: u32) -> Result<Option<Progress>, AllocError> {
     if caller < core.layout.geometry().callers {
         Ok(Some(core.advance(caller)?))
     } else {
@@ -65,22 +60,22 @@ fn turn(core: &mut Core, caller: u32) -> Result<Option<Progress>, AllocError> {
     }
 }
 
-/// Turns of the caller to the end of its call: how many steps it makes, and what the call answers.
+/// Slots of the caller to the end of its call: how many steps it makes, and what the call answers.
 fn finish(core: &mut Core, caller: u32) -> Result<(u64, Option<Reply>), AllocError> {
     let before = core.steps();
     let mut answer = None;
     for _ in 0..1100 {
-        if let Some(Progress::Done(reply)) = turn(core, caller)? {
+        if let Some(Progress::Done(reply)) = slot(core, caller)? {
             answer = Some(reply);
         }
     }
     Ok((core.steps().saturating_sub(before), answer))
 }
 
-/// Turns of these callers, where the heap has them all.
+/// A schedule of these callers, where the heap has them all.
 fn run(core: &mut Core, callers: &[u8]) -> Option<Result<u64, Stopped>> {
-    let callers = core.layout.geometry().callers;
-    if callers.iter().all(|caller| u32::from(*caller) < callers) {
+    let limit = core.layout.geometry().callers;
+    if callers.iter().all(|caller| u32::from(*caller) < limit) {
         Some(core.run_schedule(callers))
     } else {
         None
@@ -96,52 +91,6 @@ fn alone(core: &mut Core, caller: u32) -> Option<Result<u64, Stopped>> {
     }
 }
 
-/// What is told of the block at a place after one more event.
-fn told_after(live: Option<(Need, Owner)>, event: Event, place: u32) -> Option<(Need, Owner)>
-    ensures { result ≡ told_after live event place }
-{
-    match event {
-        Event::Alloc {
-            caller,
-            need,
-            place: at,
-        } if at == place => Some((class_of(need), Owner::Caller(caller))),
-        Event::Free { place: at, .. } if at == place => None,
-        Event::Put {
-            place: at,
-            shelf,
-            ..
-        } if at == place => owned_by(live, Owner::Shelf(shelf)),
-        Event::Take {
-            caller,
-            place: at,
-            ..
-        } if at == place => owned_by(live, Owner::Caller(caller)),
-        _ => live,
-    }
-}
-
-/// The same block with another owner.
-fn owned_by(live: Option<(Need, Owner)>, owner: Owner) -> Option<(Need, Owner)>
-    ensures { result ≡ owned_by live owner }
-{
-    match live {
-        Some((need, _)) => Some((need, owner)),
-        None => None,
-    }
-}
-
-/// The live block at a place, where the events tell it.
-fn live_at(events: &[Event], place: u32) -> Option<(Need, Owner)>
-    ensures { IsTold (pool_of events.now) place result }
-{
-    let mut live = None;
-    for event in events {
-        live = told_after(live, *event, place);
-    }
-    live
-}
-
 /// Whether the caller is there and idle.
 fn can_begin(core: &Core, caller: u32) -> bool
     ensures caller { IsTrue result → caller < core.now.geometry.callers }
@@ -154,7 +103,7 @@ fn can_begin(core: &Core, caller: u32) -> bool
 fn owns(core: &Core, caller: u32, place: u32, need: Need) -> bool
     ensures { IsTrue result → OwnsBlock core.now caller place need }
 {
-    match live_at(core.events(), place) {
+    match core.block_at(place) {
         Some((of, owner)) => of == need && owner == Owner::Caller(caller),
         None => false,
     }
@@ -220,7 +169,7 @@ fn spend(core: &mut Core, steps: u64) -> Result<u64, AllocError> {
     let mut left = steps;
     for _ in 0..steps {
         if !can_begin(core, 0) {
-            let _ = turn(core, 0)?;
+            let _ = slot(core, 0)?;
             left = left.saturating_sub(1);
         }
     }
@@ -297,7 +246,7 @@ fn a_lost_pop_begins_again(rt: HostRuntime) -> Result<(), Fail> {
     assert_eq!(rt; run(&mut core, &callers), Some(Ok(11)));
     assert_eq!(rt; word(&core, WordName::Anchor(0)), Some(5_242_881));
     assert_eq!(rt; word(&core, WordName::Active(0, 9)), Some(0));
-    assert_eq!(rt; turn(&mut core, 0)?, Some(Progress::Lost));
+    assert_eq!(rt; slot(&mut core, 0)?, Some(Progress::Lost));
     assert_eq!(rt; run(&mut core, &[0, 0, 0]), Some(Ok(3)));
     assert_eq!(rt; word(&core, WordName::Anchor(0)), Some(9_437_184));
     let events = [
@@ -457,9 +406,9 @@ fn the_turn_limit_ends_small_allocations(rt: HostRuntime) -> Result<(), Fail> {
 }
 
 #[test]
-fn turns_of_an_idle_seat_are_no_steps(rt: HostRuntime) -> Result<(), Fail> {
+fn slots_of_an_idle_caller_are_no_steps(rt: HostRuntime) -> Result<(), Fail> {
     let mut core = Core::open(rt.alloc(), heap(1, 0, 1, 9))?;
-    assert_eq!(rt; turn(&mut core, 0)?, Some(Progress::Idle));
+    assert_eq!(rt; slot(&mut core, 0)?, Some(Progress::Idle));
     assert_eq!(rt; begin(&mut core, 0, 1023), Some(Begun::Started));
     assert_eq!(rt; run(&mut core, &[0; 30]), Some(Ok(19)));
     assert!(rt; can_begin(&core, 0));

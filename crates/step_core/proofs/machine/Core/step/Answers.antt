@@ -16,22 +16,22 @@ index_mut-requires c =
 
 pub invariant_of-self-2 : goal.invariant_of-self-2
 invariant_of-self-2 c =
-    (step-made _ c.args.self.now c.args.caller c.next_step-next.result c.index_mut-2.result.now c.go_on.new.self
+    (step-made _ c.args.self.now c.args.caller c.next_step-next.result c.index_mut-2.result.now c.go_on-progress.new.self c.go_on-progress.result
     c.add_event.new.events.items c.saturating_add-self-inside.result c.self.invariant c.self.view_is c.requires.caller c.requires.busy
-    c.next_step-next.ensures c.index_mut-2.ensures.value c.go_on.ensures c.in_ok-add_event.ensures.ok
+    c.next_step-next.ensures c.index_mut-2.ensures.value c.go_on-progress.ensures.errand c.go_on-progress.ensures.answer c.in_ok-add_event.ensures.ok
     c.saturating_add-self-inside.ensures).core
 
 pub returns-clause-ok : goal.returns-clause-ok
 returns-clause-ok c =
-    (step-made _ c.args.self.now c.args.caller c.next_step-next.result c.index_mut-2.result.now c.go_on.new.self
+    (step-made _ c.args.self.now c.args.caller c.next_step-next.result c.index_mut-2.result.now c.go_on-progress.new.self c.go_on-progress.result
     c.add_event.new.events.items c.saturating_add-self-inside.result c.self.invariant c.self.view_is c.requires.caller c.requires.busy
-    c.next_step-next.ensures c.index_mut-2.ensures.value c.go_on.ensures c.in_ok-add_event.ensures.ok
+    c.next_step-next.ensures c.index_mut-2.ensures.value c.go_on-progress.ensures.errand c.go_on-progress.ensures.answer c.in_ok-add_event.ensures.ok
     c.saturating_add-self-inside.ensures).is
 
 pub returns-clause-meant : goal.returns-clause-meant
 returns-clause-meant c =
-    step-meant c.args.self.now c.args.caller c.next_step-next.result.progress _ (subst IsCore c.self.view_is c.self.invariant) c.requires.caller
-    (step-made _ c.args.self.now c.args.caller c.next_step-next.result c.index_mut-2.result.now c.go_on.new.self
+    step-meant c.args.self.now c.args.caller c.go_on-progress.result _ (subst IsCore c.self.view_is c.self.invariant) c.requires.caller
+    (step-made _ c.args.self.now c.args.caller c.next_step-next.result c.index_mut-2.result.now c.go_on-progress.new.self c.go_on-progress.result
     c.add_event.new.events.items c.saturating_add-self-inside.result c.self.invariant c.self.view_is c.requires.caller c.requires.busy
-    c.next_step-next.ensures c.index_mut-2.ensures.value c.go_on.ensures c.in_ok-add_event.ensures.ok
+    c.next_step-next.ensures c.index_mut-2.ensures.value c.go_on-progress.ensures.errand c.go_on-progress.ensures.answer c.in_ok-add_event.ensures.ok
     c.saturating_add-self-inside.ensures).is
