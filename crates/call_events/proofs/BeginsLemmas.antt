@@ -28,10 +28,10 @@ free-begins :
     → IsUnderWay e.caller (free place need) (free_begun e place need).point []
 unfolding free_begun
 free-begins e place (Small class) idle block busy =
-    let at = block.1 in
-    let f = frame_is at.0 class at.1 place at.3 (sym at.4) in
-    let i = index_is at.0 class at.1 place at.3 (sym at.4) in
-    (rw (f, i) (sym at.4), refl, refl)
+    let stands = block.1 in
+    let f = frame_is stands.0 class stands.1 place stands.3 (sym stands.4) in
+    let i = index_is stands.0 class stands.1 place stands.3 (sym stands.4) in
+    (rw (f, i) (sym stands.4), refl, refl)
 free-begins e place (Large units) idle block busy = (refl, refl, refl)
 free-begins e place TooLarge idle block busy = absurd (true≢false (sym idle ∙ busy))
 

@@ -58,71 +58,71 @@ empty-sound :
     (g : Geometry) (s : State) (caller : ℕ) (s' : State) (seat : SeatFields) (pile : Pile) (o : Continuation) → IsSoundWithoutCounts g s → caller < g.callers
     → (s.errand caller).point ≡ Stack (stack.LoadTop seat pile) o → (head_of (s.word (head_name seat pile))).top ≡ 0 → Step s caller s'
     → IsSoundWithoutCounts g s'
-empty-sound g s caller s' seat pile continuation.Clear sound has at empty step = clear_ends-sound g s caller s' seat pile sound has at empty step
-empty-sound g s caller s' seat pile o sound has at empty step = load_top-sound g s caller s' seat pile o sound has at (λ is. absurd (cc)) step
+empty-sound g s caller s' seat pile continuation.Clear sound has stands empty step = clear_ends-sound g s caller s' seat pile sound has stands empty step
+empty-sound g s caller s' seat pile o sound has stands empty step = load_top-sound g s caller s' seat pile o sound has stands (λ is. absurd (cc)) step
 
 -- the load of a head, which may end a clearing
 top-sound :
     (g : Geometry) (s : State) (caller : ℕ) (s' : State) (seat : SeatFields) (pile : Pile) (o : Continuation) → IsSoundWithoutCounts g s → caller < g.callers
     → (s.errand caller).point ≡ Stack (stack.LoadTop seat pile) o → Step s caller s' → IsSoundWithoutCounts g s'
-top-sound g s caller s' seat pile o sound has at step =
+top-sound g s caller s' seat pile o sound has stands step =
     elim (cases_eq (head_of (s.word (head_name seat pile))).top 0) [
-      | inl empty ↦ empty-sound g s caller s' seat pile o sound has at empty step
-      | inr some ↦ load_top-sound g s caller s' seat pile o sound has at (λ clear. some) step
+      | inl empty ↦ empty-sound g s caller s' seat pile o sound has stands empty step
+      | inr some ↦ load_top-sound g s caller s' seat pile o sound has stands (λ clear. some) step
     ]
 
 stack-sound :
     (g : Geometry) (s : State) (caller : ℕ) (s' : State) (p : StackPoint) (o : Continuation) → IsSoundWithoutCounts g s → caller < g.callers
     → (s.errand caller).point ≡ Stack p o → Step s caller s' → IsSoundWithoutCounts g s'
 unfolding plan_point_of
-stack-sound g s caller s' (stack.LoadTop seat pile) o sound has at step = top-sound g s caller s' seat pile o sound has at step
-stack-sound g s caller s' (stack.LoadBelow seat pile h) o sound has at step = load_below-sound g s caller s' seat pile h o sound has at step
-stack-sound g s caller s' (stack.PopTop seat pile h below) o sound has at step =
-    pop_top-sound g s caller s' seat pile h below o sound has at step
-stack-sound g s caller s' (stack.ConfirmEmpty seat pile h) o sound has at step =
-    confirm_empty-sound g s caller s' seat pile h o sound has at step
-stack-sound g s caller s' (stack.LoadTopToPush seat pile i) o sound has at step =
-    load_top_to_push-sound g s caller s' seat pile i o sound has at step
-stack-sound g s caller s' (stack.StoreBelow seat pile i h) o sound has at step = store_below-sound g s caller s' seat pile i h o sound has at step
-stack-sound g s caller s' (stack.PushTop seat pile i h) o sound has at step =
-    push_top-sound g s caller s' seat pile i h o sound has at step
-stack-sound g s caller s' p o sound has at step = absurd (true≢false (fits-now g s caller (Stack p o) sound has at).inside)
+stack-sound g s caller s' (stack.LoadTop seat pile) o sound has stands step = top-sound g s caller s' seat pile o sound has stands step
+stack-sound g s caller s' (stack.LoadBelow seat pile h) o sound has stands step = load_below-sound g s caller s' seat pile h o sound has stands step
+stack-sound g s caller s' (stack.PopTop seat pile h below) o sound has stands step =
+    pop_top-sound g s caller s' seat pile h below o sound has stands step
+stack-sound g s caller s' (stack.ConfirmEmpty seat pile h) o sound has stands step =
+    confirm_empty-sound g s caller s' seat pile h o sound has stands step
+stack-sound g s caller s' (stack.LoadTopToPush seat pile i) o sound has stands step =
+    load_top_to_push-sound g s caller s' seat pile i o sound has stands step
+stack-sound g s caller s' (stack.StoreBelow seat pile i h) o sound has stands step = store_below-sound g s caller s' seat pile i h o sound has stands step
+stack-sound g s caller s' (stack.PushTop seat pile i h) o sound has stands step =
+    push_top-sound g s caller s' seat pile i h o sound has stands step
+stack-sound g s caller s' p o sound has stands step = absurd (true≢false (fits-now g s caller (Stack p o) sound has stands).inside)
 
 block-sound :
     (g : Geometry) (s : State) (caller : ℕ) (s' : State) (p : BlockPoint) (o : Continuation) → IsSoundWithoutCounts g s → caller < g.callers
     → (s.errand caller).point ≡ Block p o → Step s caller s' → IsSoundWithoutCounts g s'
 unfolding plan_point_of
-block-sound g s caller s' (block.LoadActive seat) o sound has at step =
-    let is : o ≡ continuation.Alloc (asked o) = the-alloc o (fits-now g s caller _ sound has at).goes in
-    load_active-sound g s caller s' seat (asked o) sound has (at ∙ ap (Block (block.LoadActive seat)) is) step
-block-sound g s caller s' (block.TakeCredit seat d credits) o sound has at step =
-    take_credit-sound g s caller s' seat d credits o sound has at step
-block-sound g s caller s' (block.LoadInfo seat d share) o sound has at step = load_info-sound g s caller s' seat d share o sound has at step
-block-sound g s caller s' (block.LoadAnchor site share) o sound has at step = load_anchor-sound g s caller s' site share o sound has at step
-block-sound g s caller s' (block.LoadLink site share a) o sound has at step = load_link-sound g s caller s' site share a o sound has at step
-block-sound g s caller s' (block.PopBlock site share a prefix) o sound has at step =
-    pop_block-sound g s caller s' site share a prefix o sound has at step
-block-sound g s caller s' (block.StorePrefix site i) o sound has at step = store_prefix-sound g s caller s' site i o sound has at step
-block-sound g s caller s' (block.InstallCredits site i more) o sound has at step =
-    install_credits-sound g s caller s' site i more o sound has at step
-block-sound g s caller s' (block.InstallSuperblock site) o sound has at step =
-    install_superblock-sound g s caller s' site o sound has at step
-block-sound g s caller s' (block.LoadReturn site i more) o sound has at step = load_return-sound g s caller s' site i more o sound has at step
-block-sound g s caller s' (block.ReturnCredits site i more a) o sound has at step =
-    return_credits-sound g s caller s' site i more a o sound has at step
-block-sound g s caller s' (block.LoadPrefix seat frame i) o sound has at step = load_prefix-sound g s caller s' seat frame i o sound has at step
-block-sound g s caller s' (block.LoadPushAnchor site i guarded) o sound has at step =
-    load_push_anchor-sound g s caller s' site i guarded o sound has at step
-block-sound g s caller s' (block.StoreGuard site i a) o sound has at step = store_guard-sound g s caller s' site i a o sound has at step
-block-sound g s caller s' (block.LoadOwner site i a) o sound has at step = load_guarded_owner-sound g s caller s' site i a o sound has at step
-block-sound g s caller s' (block.StoreLink site i a guarded heap) o sound has at step =
-    store_link-sound g s caller s' site i a guarded heap o sound has at step
-block-sound g s caller s' (block.PushBlock site i a guarded heap) o sound has at step =
-    push_block-sound g s caller s' site i a guarded heap o sound has at step
-block-sound g s caller s' (block.LinkBlock site i) o sound has at step = link_block-sound g s caller s' site i o sound has at step
-block-sound g s caller s' (block.StoreInfo site) o sound has at step = store_info-sound g s caller s' site o sound has at step
-block-sound g s caller s' (block.StoreAnchor site) o sound has at step = store_anchor-sound g s caller s' site o sound has at step
-block-sound g s caller s' p o sound has at step = absurd (true≢false (fits-now g s caller (Block p o) sound has at).inside)
+block-sound g s caller s' (block.LoadActive seat) o sound has stands step =
+    let is : o ≡ continuation.Alloc (asked o) = the-alloc o (fits-now g s caller _ sound has stands).goes in
+    load_active-sound g s caller s' seat (asked o) sound has (stands ∙ ap (Block (block.LoadActive seat)) is) step
+block-sound g s caller s' (block.TakeCredit seat d credits) o sound has stands step =
+    take_credit-sound g s caller s' seat d credits o sound has stands step
+block-sound g s caller s' (block.LoadInfo seat d share) o sound has stands step = load_info-sound g s caller s' seat d share o sound has stands step
+block-sound g s caller s' (block.LoadAnchor site share) o sound has stands step = load_anchor-sound g s caller s' site share o sound has stands step
+block-sound g s caller s' (block.LoadLink site share a) o sound has stands step = load_link-sound g s caller s' site share a o sound has stands step
+block-sound g s caller s' (block.PopBlock site share a prefix) o sound has stands step =
+    pop_block-sound g s caller s' site share a prefix o sound has stands step
+block-sound g s caller s' (block.StorePrefix site i) o sound has stands step = store_prefix-sound g s caller s' site i o sound has stands step
+block-sound g s caller s' (block.InstallCredits site i more) o sound has stands step =
+    install_credits-sound g s caller s' site i more o sound has stands step
+block-sound g s caller s' (block.InstallSuperblock site) o sound has stands step =
+    install_superblock-sound g s caller s' site o sound has stands step
+block-sound g s caller s' (block.LoadReturn site i more) o sound has stands step = load_return-sound g s caller s' site i more o sound has stands step
+block-sound g s caller s' (block.ReturnCredits site i more a) o sound has stands step =
+    return_credits-sound g s caller s' site i more a o sound has stands step
+block-sound g s caller s' (block.LoadPrefix seat frame i) o sound has stands step = load_prefix-sound g s caller s' seat frame i o sound has stands step
+block-sound g s caller s' (block.LoadPushAnchor site i guarded) o sound has stands step =
+    load_push_anchor-sound g s caller s' site i guarded o sound has stands step
+block-sound g s caller s' (block.StoreGuard site i a) o sound has stands step = store_guard-sound g s caller s' site i a o sound has stands step
+block-sound g s caller s' (block.LoadOwner site i a) o sound has stands step = load_guarded_owner-sound g s caller s' site i a o sound has stands step
+block-sound g s caller s' (block.StoreLink site i a guarded heap) o sound has stands step =
+    store_link-sound g s caller s' site i a guarded heap o sound has stands step
+block-sound g s caller s' (block.PushBlock site i a guarded heap) o sound has stands step =
+    push_block-sound g s caller s' site i a guarded heap o sound has stands step
+block-sound g s caller s' (block.LinkBlock site i) o sound has stands step = link_block-sound g s caller s' site i o sound has stands step
+block-sound g s caller s' (block.StoreInfo site) o sound has stands step = store_info-sound g s caller s' site o sound has stands step
+block-sound g s caller s' (block.StoreAnchor site) o sound has stands step = store_anchor-sound g s caller s' site o sound has stands step
+block-sound g s caller s' p o sound has stands step = absurd (true≢false (fits-now g s caller (Block p o) sound has stands).inside)
 
 -- a free clears its hazard word to look through the list, to retire what it removed, or to end
 clears-cases :
@@ -136,25 +136,25 @@ desc-sound :
     (g : Geometry) (s : State) (caller : ℕ) (s' : State) (p : DescPoint) (o : Continuation) → IsSoundWithoutCounts g s → caller < g.callers
     → (s.errand caller).point ≡ Desc p o → Step s caller s' → IsSoundWithoutCounts g s'
 unfolding plan_point_of
-desc-sound g s caller s' (desc.LoadDescHead seat) o sound has at step = load_desc_head-sound g s caller s' seat o sound has at step
-desc-sound g s caller s' (desc.StoreHazard seat d) o sound has at step = store_hazard-sound g s caller s' seat d o sound has at step
-desc-sound g s caller s' (desc.ReloadDescHead seat d) o sound has at step =
-    reload_desc_head-sound g s caller s' seat d o sound has at step
-desc-sound g s caller s' (desc.LoadNextDesc seat d) o sound has at step = load_next_desc-sound g s caller s' seat d o sound has at step
-desc-sound g s caller s' (desc.PopDesc seat d next) o sound has at step =
-    pop_desc-sound g s caller s' seat d next o sound has at step
-desc-sound g s caller s' (desc.ClearAfterPop seat d) o sound has at step = clear_after_pop-sound g s caller s' seat d o sound has at step
-desc-sound g s caller s' (desc.ClearHazard seat) o sound has at step =
+desc-sound g s caller s' (desc.LoadDescHead seat) o sound has stands step = load_desc_head-sound g s caller s' seat o sound has stands step
+desc-sound g s caller s' (desc.StoreHazard seat d) o sound has stands step = store_hazard-sound g s caller s' seat d o sound has stands step
+desc-sound g s caller s' (desc.ReloadDescHead seat d) o sound has stands step =
+    reload_desc_head-sound g s caller s' seat d o sound has stands step
+desc-sound g s caller s' (desc.LoadNextDesc seat d) o sound has stands step = load_next_desc-sound g s caller s' seat d o sound has stands step
+desc-sound g s caller s' (desc.PopDesc seat d next) o sound has stands step =
+    pop_desc-sound g s caller s' seat d next o sound has stands step
+desc-sound g s caller s' (desc.ClearAfterPop seat d) o sound has stands step = clear_after_pop-sound g s caller s' seat d o sound has stands step
+desc-sound g s caller s' (desc.ClearHazard seat) o sound has stands step =
     clears-cases (λ o. (s.errand caller).point ≡ Desc (desc.ClearHazard seat) o → IsSoundWithoutCounts g s')
-    (λ at. clear_hazard_looks-sound g s caller s' seat sound has at step) (λ at. clear_hazard_ends-sound g s caller s' seat sound has at step)
-    (λ d at. retired.clear_hazard_retires-sound g s caller s' seat d sound has at step) o
-    (fits-now g s caller _ sound has at).goes at
-desc-sound g s caller s' (desc.ReadHazard seat held i) o sound has at step = read_hazard-sound g s caller s' seat held i o sound has at step
-desc-sound g s caller s' (desc.LoadHeadToPush seat d) o sound has at step = load_head_to_push-sound g s caller s' seat d o sound has at step
-desc-sound g s caller s' (desc.StoreNextDesc seat d top) o sound has at step = store_next_desc-sound g s caller s' seat d top o sound has at step
-desc-sound g s caller s' (desc.PushDesc seat d top) o sound has at step =
-    push_desc-sound g s caller s' seat d top o sound has at step
-desc-sound g s caller s' p o sound has at step = absurd (true≢false (fits-now g s caller (Desc p o) sound has at).inside)
+    (λ stands. clear_hazard_looks-sound g s caller s' seat sound has stands step) (λ stands. clear_hazard_ends-sound g s caller s' seat sound has stands step)
+    (λ d stands. retired.clear_hazard_retires-sound g s caller s' seat d sound has stands step) o
+    (fits-now g s caller _ sound has stands).goes stands
+desc-sound g s caller s' (desc.ReadHazard seat held i) o sound has stands step = read_hazard-sound g s caller s' seat held i o sound has stands step
+desc-sound g s caller s' (desc.LoadHeadToPush seat d) o sound has stands step = load_head_to_push-sound g s caller s' seat d o sound has stands step
+desc-sound g s caller s' (desc.StoreNextDesc seat d top) o sound has stands step = store_next_desc-sound g s caller s' seat d top o sound has stands step
+desc-sound g s caller s' (desc.PushDesc seat d top) o sound has stands step =
+    push_desc-sound g s caller s' seat d top o sound has stands step
+desc-sound g s caller s' p o sound has stands step = absurd (true≢false (fits-now g s caller (Desc p o) sound has stands).inside)
 
 -- a clearing has popped none yet, or one
 clearing-cases :
@@ -173,76 +173,76 @@ finish-cases P finishes o is = absurd (true≢false (sym is))
 taken-sound :
     (g : Geometry) (s : State) (caller : ℕ) (s' : State) (site : Site) (need : ℕ) → IsSoundWithoutCounts g s → caller < g.callers
     → (s.errand caller).point ≡ Partial (partial.LoadGrantAnchor site) (continuation.Alloc need) → Step s caller s' → IsSoundWithoutCounts g s'
-taken-sound g s caller s' site need sound has at step =
+taken-sound g s caller s' site need sound has stands step =
     elim (cases_Bool (is_empty (anchor_for s site.desc).state)) [
-      | inl empty ↦ retired.load_grant_anchor_empty-sound g s caller s' site need sound has at empty step
-      | inr used ↦ partials.load_grant_anchor-sound g s caller s' site need sound has at used step
+      | inl empty ↦ retired.load_grant_anchor_empty-sound g s caller s' site need sound has stands empty step
+      | inr used ↦ partials.load_grant_anchor-sound g s caller s' site need sound has stands used step
     ]
 
 -- at the first one that was popped from the list
 first-listed-sound :
     (g : Geometry) (s : State) (caller : ℕ) (s' : State) (seat : SeatFields) (d : ℕ) → IsSoundWithoutCounts g s → caller < g.callers
     → (s.errand caller).point ≡ Partial (partial.LoadListedAnchor seat d) continuation.Clear → Step s caller s' → IsSoundWithoutCounts g s'
-first-listed-sound g s caller s' seat d sound has at step =
+first-listed-sound g s caller s' seat d sound has stands step =
     elim (cases_Bool (is_empty (anchor_for s d).state)) [
-      | inl empty ↦ retired.load_first_listed_empty-sound g s caller s' seat d sound has at empty step
-      | inr used ↦ partials.load_first_listed-sound g s caller s' seat d sound has at used step
+      | inl empty ↦ retired.load_first_listed_empty-sound g s caller s' seat d sound has stands empty step
+      | inr used ↦ partials.load_first_listed-sound g s caller s' seat d sound has stands used step
     ]
 
 -- and at any
 listed-sound :
     (g : Geometry) (s : State) (caller : ℕ) (s' : State) (seat : SeatFields) (d : ℕ) (o : Continuation) → IsSoundWithoutCounts g s → caller < g.callers
     → (s.errand caller).point ≡ Partial (partial.LoadListedAnchor seat d) o → Step s caller s' → IsSoundWithoutCounts g s'
-listed-sound g s caller s' seat d o sound has at step =
+listed-sound g s caller s' seat d o sound has stands step =
     clearing-cases (λ o. (s.errand caller).point ≡ Partial (partial.LoadListedAnchor seat d) o → IsSoundWithoutCounts g s')
-    (λ at. first-listed-sound g s caller s' seat d sound has at step)
-    (λ first at. partials.load_second-sound g s caller s' seat d first sound has at step) o
-    (fits-now g s caller _ sound has at).goes at
+    (λ stands. first-listed-sound g s caller s' seat d sound has stands step)
+    (λ first stands. partials.load_second-sound g s caller s' seat d first sound has stands step) o
+    (fits-now g s caller _ sound has stands).goes stands
 
 partial-sound :
     (g : Geometry) (s : State) (caller : ℕ) (s' : State) (p : PartialPoint) (o : Continuation) → IsSoundWithoutCounts g s → caller < g.callers
     → (s.errand caller).point ≡ Partial p o → Step s caller s' → IsSoundWithoutCounts g s'
 unfolding plan_point_of
-partial-sound g s caller s' (partial.LoadSlot seat) o sound has at step =
-    let is : o ≡ continuation.Alloc (asked o) = the-alloc o (fits-now g s caller _ sound has at).goes in
-    partials.load_slot-sound g s caller s' seat (asked o) sound has (at ∙ ap (Partial (partial.LoadSlot seat)) is) step
-partial-sound g s caller s' (partial.TakeSlot seat d) o sound has at step =
-    let is : o ≡ continuation.Alloc (asked o) = the-alloc o (fits-now g s caller _ sound has at).goes in
-    partials.take_slot-sound g s caller s' seat d (asked o) sound has (at ∙ ap (Partial (partial.TakeSlot seat d)) is) step
-partial-sound g s caller s' (partial.LoadTakenInfo seat d) o sound has at step =
-    let is : o ≡ continuation.Alloc (asked o) = the-alloc o (fits-now g s caller _ sound has at).goes in
-    partials.load_taken_info-sound g s caller s' seat d (asked o) sound has (at ∙ ap (Partial (partial.LoadTakenInfo seat d)) is) step
-partial-sound g s caller s' (partial.StoreOwner site) o sound has at step = store_owner-sound g s caller s' site o sound has at step
-partial-sound g s caller s' (partial.LoadGrantAnchor site) o sound has at step =
-    let is : o ≡ continuation.Alloc (asked o) = the-alloc o (fits-now g s caller _ sound has at).goes in
-    taken-sound g s caller s' site (asked o) sound has (at ∙ ap (Partial (partial.LoadGrantAnchor site)) is) step
-partial-sound g s caller s' (partial.Grant site a) o sound has at step =
-    let is : o ≡ continuation.Alloc (asked o) = the-alloc o (fits-now g s caller _ sound has at).goes in
-    grant-sound g s caller s' site a (asked o) sound has (at ∙ ap (Partial (partial.Grant site a)) is) step
-partial-sound g s caller s' (partial.LoadOwner seat d) o sound has at step =
+partial-sound g s caller s' (partial.LoadSlot seat) o sound has stands step =
+    let is : o ≡ continuation.Alloc (asked o) = the-alloc o (fits-now g s caller _ sound has stands).goes in
+    partials.load_slot-sound g s caller s' seat (asked o) sound has (stands ∙ ap (Partial (partial.LoadSlot seat)) is) step
+partial-sound g s caller s' (partial.TakeSlot seat d) o sound has stands step =
+    let is : o ≡ continuation.Alloc (asked o) = the-alloc o (fits-now g s caller _ sound has stands).goes in
+    partials.take_slot-sound g s caller s' seat d (asked o) sound has (stands ∙ ap (Partial (partial.TakeSlot seat d)) is) step
+partial-sound g s caller s' (partial.LoadTakenInfo seat d) o sound has stands step =
+    let is : o ≡ continuation.Alloc (asked o) = the-alloc o (fits-now g s caller _ sound has stands).goes in
+    partials.load_taken_info-sound g s caller s' seat d (asked o) sound has (stands ∙ ap (Partial (partial.LoadTakenInfo seat d)) is) step
+partial-sound g s caller s' (partial.StoreOwner site) o sound has stands step = store_owner-sound g s caller s' site o sound has stands step
+partial-sound g s caller s' (partial.LoadGrantAnchor site) o sound has stands step =
+    let is : o ≡ continuation.Alloc (asked o) = the-alloc o (fits-now g s caller _ sound has stands).goes in
+    taken-sound g s caller s' site (asked o) sound has (stands ∙ ap (Partial (partial.LoadGrantAnchor site)) is) step
+partial-sound g s caller s' (partial.Grant site a) o sound has stands step =
+    let is : o ≡ continuation.Alloc (asked o) = the-alloc o (fits-now g s caller _ sound has stands).goes in
+    grant-sound g s caller s' site a (asked o) sound has (stands ∙ ap (Partial (partial.Grant site a)) is) step
+partial-sound g s caller s' (partial.LoadOwner seat d) o sound has stands step =
     finish-cases (λ o. (s.errand caller).point ≡ Partial (partial.LoadOwner seat d) o → IsSoundWithoutCounts g s')
-    (λ guarded at. partials.load_partial_owner-sound g s caller s' seat d guarded sound has at step) o
-    (fits-now g s caller _ sound has at).goes at
-partial-sound g s caller s' (partial.PutSlot seat d heap) o sound has at step = partials.put_slot-sound g s caller s' seat d heap o sound has at step
-partial-sound g s caller s' (partial.LoadHeldSlot seat d heap) o sound has at step =
-    let is : o ≡ continuation.Free = the-free o (fits-now g s caller _ sound has at).goes in
-    partials.load_held_slot-sound g s caller s' seat d heap sound has (at ∙ ap (Partial (partial.LoadHeldSlot seat d heap)) is) step
-partial-sound g s caller s' (partial.RemoveFromSlot seat d heap) o sound has at step =
-    let is : o ≡ continuation.Free = the-free o (fits-now g s caller _ sound has at).goes in
-    partials.remove_from_slot-sound g s caller s' seat d heap sound has (at ∙ ap (Partial (partial.RemoveFromSlot seat d heap)) is) step
-partial-sound g s caller s' (partial.LoadListedAnchor seat d) o sound has at step = listed-sound g s caller s' seat d o sound has at step
-partial-sound g s caller s' p o sound has at step = absurd (true≢false (fits-now g s caller (Partial p o) sound has at).inside)
+    (λ guarded stands. partials.load_partial_owner-sound g s caller s' seat d guarded sound has stands step) o
+    (fits-now g s caller _ sound has stands).goes stands
+partial-sound g s caller s' (partial.PutSlot seat d heap) o sound has stands step = partials.put_slot-sound g s caller s' seat d heap o sound has stands step
+partial-sound g s caller s' (partial.LoadHeldSlot seat d heap) o sound has stands step =
+    let is : o ≡ continuation.Free = the-free o (fits-now g s caller _ sound has stands).goes in
+    partials.load_held_slot-sound g s caller s' seat d heap sound has (stands ∙ ap (Partial (partial.LoadHeldSlot seat d heap)) is) step
+partial-sound g s caller s' (partial.RemoveFromSlot seat d heap) o sound has stands step =
+    let is : o ≡ continuation.Free = the-free o (fits-now g s caller _ sound has stands).goes in
+    partials.remove_from_slot-sound g s caller s' seat d heap sound has (stands ∙ ap (Partial (partial.RemoveFromSlot seat d heap)) is) step
+partial-sound g s caller s' (partial.LoadListedAnchor seat d) o sound has stands step = listed-sound g s caller s' seat d o sound has stands step
+partial-sound g s caller s' p o sound has stands step = absurd (true≢false (fits-now g s caller (Partial p o) sound has stands).inside)
 
 -- a step from any point keeps the state sound
 step-at :
     (g : Geometry) (s : State) (caller : ℕ) (s' : State) (p : Point) → IsSoundWithoutCounts g s → caller < g.callers → (s.errand caller).point ≡ p
     → Step s caller s' → IsSoundWithoutCounts g s'
-step-at g s caller s' Idle sound has at step = absurd (true≢false (sym (ap is_idle at) ∙ step.busy))
-step-at g s caller s' (Block p o) sound has at step = block-sound g s caller s' p o sound has at step
-step-at g s caller s' (Stack p o) sound has at step = stack-sound g s caller s' p o sound has at step
-step-at g s caller s' (Desc p o) sound has at step = desc-sound g s caller s' p o sound has at step
-step-at g s caller s' (Partial p o) sound has at step = partial-sound g s caller s' p o sound has at step
-step-at g s caller s' (Large p o) sound has at step = large-sound g s caller s' p o sound has at step
+step-at g s caller s' Idle sound has stands step = absurd (true≢false (sym (ap is_idle stands) ∙ step.busy))
+step-at g s caller s' (Block p o) sound has stands step = block-sound g s caller s' p o sound has stands step
+step-at g s caller s' (Stack p o) sound has stands step = stack-sound g s caller s' p o sound has stands step
+step-at g s caller s' (Desc p o) sound has stands step = desc-sound g s caller s' p o sound has stands step
+step-at g s caller s' (Partial p o) sound has stands step = partial-sound g s caller s' p o sound has stands step
+step-at g s caller s' (Large p o) sound has stands step = large-sound g s caller s' p o sound has stands step
 
 pub steps-sound :
     (g : Geometry) (s : State) (caller : ℕ) (s' : State) → IsSoundWithoutCounts g s → caller < g.callers → Step s caller s' → IsSoundWithoutCounts g s'

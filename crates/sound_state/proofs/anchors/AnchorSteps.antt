@@ -50,7 +50,7 @@ use Rattle.sound_state.proofs.shared.WordFacts.{site-info}
 
 -- a caller that makes a superblock is in a turn
 making-weighs : (e : ErrandFields) (b : BlockPoint) (o : Continuation) → e.point ≡ Block b o → block_turn_stage b ≡ frame_taken → TurnWeighs e 1 0 0
-making-weighs e b o at is = stage-weighs frame_taken e (ap turn_stage_of at ∙ is) refl
+making-weighs e b o stands is = stage-weighs frame_taken e (ap turn_stage_of stands ∙ is) refl
 
 -- the tags and the turns
 anchored-turned :
@@ -103,7 +103,7 @@ pub store_anchor-sound :
     (g : Geometry) (s : State) (caller : ℕ) (s' : State) (site : Site) (o : Continuation) → IsSoundWithoutCounts g s → caller < g.callers
     → (s.errand caller).point ≡ Block (block.StoreAnchor site) o → Step s caller s' → IsSoundWithoutCounts g s'
 unfolding plan_point_of next_of event_of holds_of recalls_of
-store_anchor-sound g s caller s' site o sound has at step =
+store_anchor-sound g s caller s' site o sound has stands step =
     let p = Block (block.StoreAnchor site) o in
     let q = Block (block.InstallSuperblock site) o in
     let c = site.seat.class in
@@ -111,8 +111,8 @@ store_anchor-sound g s caller s' site o sound has at step =
     let old = sound.parts.1 in
     let x = found_from s p in
     let e = at_point (s.errand caller) x q in
-    let fit : IsSiteOf g caller site = (fits-at g s l caller p old has at).point in
-    let effects : StepEffects g s caller p x q s' = step-effects g s l caller s' p x q old has at refl (inl refl) step in
+    let fit : IsSiteOf g caller site = (fits-at g s l caller p old has stands).point in
+    let effects : StepEffects g s caller p x q s' = step-effects g s l caller s' p x q old has stands refl (inl refl) step in
     let past : s'.history ≡ s.history = effects.history in
     let w : Writes s.word (name.Anchor site.desc) (anchor_word (new_anchor c)) s'.word = effects.writes in
     let h : Anchors g s l caller site e s' = record {
@@ -122,10 +122,10 @@ store_anchor-sound g s caller s' site o sound has at step =
       writes = w;
       history = past;
       retired = refl;
-      holds_before = ap holds_of at;
+      holds_before = ap holds_of stands;
       holds_after = refl;
     } in
-    let so = so-at g s l caller p old has at in
+    let so = so-at g s l caller p old has stands in
     let said : s.word (name.Info site.desc) ≡ info_word (info_at site) =
     (All-head (IsSo g s l caller) (says (name.Info site.desc) (info_word (info_at site))) (made site.frame c (block_count_of c) ∷ []) so).1 in
     let links_made : AreMade s site.frame c (block_count_of c) =
@@ -142,7 +142,7 @@ store_anchor-sound g s caller s' site o sound has at step =
     no-block-there (block_at (block_place site.frame c i) (pool_of s.history))
     (λ b live.
     live-unmade g s l caller site.frame (block_place site.frame c i) b b.need sound old has fit.frame
-    (is-making s caller p site at refl) live refl (frame_of-block_place site.frame c i lt)) in
+    (is-making s caller p site stands refl) live refl (frame_of-block_place site.frame c i lt)) in
     record {
       checked = sound.checked;
       legal = subst (IsLegalWithoutCounts g) (sym past) sound.legal;
@@ -159,9 +159,9 @@ store_anchor-sound g s caller s' site o sound has at step =
           framed = anchored-framed g s l caller site e s' h old;
           remembered = anchored-remembered g s l caller site e s' h old lies refl;
           guarded = anchored-guarded g s l caller site e s' o h refl old;
-          stocked = anchored-stocked g s l caller site e s' o h at refl old;
+          stocked = anchored-stocked g s l caller site e s' o h stands refl old;
           turned =
-              anchored-turned g s l caller site e s' o h at refl refl
+              anchored-turned g s l caller site e s' o h stands refl refl
               (raised-least (counts_lost (s.errand caller).point x) (s.errand caller).lost (old.errands caller has).lost)
               effects.cleared old;
           tied = anchored-tied g s l caller site e s' h old;

@@ -63,10 +63,10 @@ module _
   -- it tells what its point says, and where that is nothing the events stay
   pub event-told :
       (p : Point) (e : Option Event) → (s.errand caller).point ≡ p → event_of caller p (found_from s p) ≡ e → event_at s caller ≡ e
-  event-told p e at told = subst (λ q. event_of caller q (found_from s q) ≡ e) (sym at) told
+  event-told p e stands told = subst (λ q. event_of caller q (found_from s q) ≡ e) (sym stands) told
 
   pub past-stays : (p : Point) → (s.errand caller).point ≡ p → event_of caller p (found_from s p) ≡ None → after.history ≡ s.history
-  past-stays p at none = step.history ∙ ap (with_event s.history) (event-told p None at none)
+  past-stays p stands none = step.history ∙ ap (with_event s.history) (event-told p None stands none)
 
   pub owned-after : after.history ≡ s.history → (place : ℕ) (n : Need) → IsOwned s caller place n → IsOwned after caller place n
   owned-after same place n mine = record {
@@ -101,48 +101,48 @@ module _
       (place : ℕ) (run : RunFields) (o : Continuation) → (s.errand caller).point ≡ Large (large.StoreRunPrefix place run) o
       → IsMeant g s caller (reply.Given place (need.Large run.units)) after
   unfolding plan_point_of event_of holds_of
-  run-meant place run o at =
+  run-meant place run o stands =
       let p = Large (large.StoreRunPrefix place run) o in
-      let asked = run-for-alloc run.units o (fits-now g s caller p sound has at).goes in
+      let asked = run-for-alloc run.units o (fits-now g s caller p sound has stands).goes in
       let mine : IsOwned s caller place (need.Large run.units) =
-      hands-at g s sound.parts.0 caller p sound.parts.1 has at 0 (record { place = place; need = need.Large run.units }) (omega arith) in
-      let same = past-stays p at refl in
-      (asked.0, ap continuation_at at ∙ asked.1, asked.2, owned-after same place (need.Large run.units) mine)
+      hands-at g s sound.parts.0 caller p sound.parts.1 has stands 0 (record { place = place; need = need.Large run.units }) (omega arith) in
+      let same = past-stays p stands refl in
+      (asked.0, ap continuation_at stands ∙ asked.1, asked.2, owned-after same place (need.Large run.units) mine)
 
   -- no run is free
   no_run-meant :
       (w : WantFields) (bits : ℕ) (o : Continuation) → (s.errand caller).point ≡ Large (large.TakeRun w bits) o → (s.word name.Units == bits) ≡ true
       → first_wanted w bits ≡ None → IsMeant g s caller reply.Refused after
   unfolding plan_point_of event_of
-  no_run-meant w bits o at won none =
+  no_run-meant w bits o stands won none =
       let p = Large (large.TakeRun w bits) o in
-      let asked = run-for-alloc w.units o (fits-now g s caller p sound has at).goes in
+      let asked = run-for-alloc w.units o (fits-now g s caller p sound has stands).goes in
       let refused : event_at s caller ≡ Some (Refuse caller asked.0) =
-      event-told p (Some (Refuse caller asked.0)) at
+      event-told p (Some (Refuse caller asked.0)) stands
       (rw won
       (subst (λ f. Some (run_event caller (asked_by o) w f) ≡ Some (Refuse caller asked.0)) (sym none) (ap (λ q. Some (Refuse caller (asked_by q))) asked.1))) in
-      inr (asked.0, w.units, ap continuation_at at ∙ asked.1, asked.2, refused)
+      inr (asked.0, w.units, ap continuation_at stands ∙ asked.1, asked.2, refused)
 
   -- a word that is read
   read-meant :
       (place i : ℕ) (o : Continuation) → (s.errand caller).point ≡ Large (large.LoadWord place i) o
       → IsMeant g s caller (reply.Word (found_from s (Large (large.LoadWord place i) o)).value) after
   unfolding plan_point_of event_of recalls_of
-  read-meant place i o at =
+  read-meant place i o stands =
       let p = Large (large.LoadWord place i) o in
-      let fits = fits-now g s caller p sound has at in
-      let mine = so-at g s sound.parts.0 caller p sound.parts.1 has at 0 (owns place i) (omega arith) in
-      let same = past-stays p at refl in
+      let fits = fits-now g s caller p sound has stands in
+      let mine = so-at g s sound.parts.0 caller p sound.parts.1 has stands 0 (owns place i) (omega arith) in
+      let same = past-stays p stands refl in
       let owned = owned-after same place mine.0 mine.1 in
       let b = owned.block.0 in
       let uncut : payload_name place i ≡ name.Arena (place + 1 + i) = ap name.Arena (payload-uncut g place i sound.checked fits.point) in
       let here : after.word (name.Arena (place + 1 + i)) ≡ s.word (payload_name place i) =
-      ap after.word (sym uncut) ∙ (written-at s caller after p at step).here in
+      ap after.word (sym uncut) ∙ (written-at s caller after p stands step).here in
       let live : IsLive s place b = ap (λ past. block_at place (pool_of past)) (sym same) ∙ owned.block.1 in (
         place,
         i,
         b,
-        (o, at),
+        (o, stands),
         owned.block.1,
         owned.block.2,
         subst (λ n. i < usable_words n) (sym owned.block.3) mine.2,
@@ -155,13 +155,13 @@ module _
       (k place : ℕ) (n : Need) (o : Continuation) → (s.errand caller).point ≡ Large (large.PutBlock k place n) o
       → (s.word (name.Shelf k) == shelf_word lies.Nothing) ≡ false → IsMeant g s caller (reply.Full (s.word (name.Shelf k))) after
   unfolding plan_point_of event_of recalls_of
-  full-meant k place n o at lost =
+  full-meant k place n o stands lost =
       let p = Large (large.PutBlock k place n) o in
-      let fits = fits-now g s caller p sound has at in
-      let same = past-stays p at (rw lost refl) in
-      let mine : IsOwned s caller place n = so-at g s sound.parts.0 caller p sound.parts.1 has at 0 (owns_all place n) (omega arith) in
+      let fits = fits-now g s caller p sound has stands in
+      let same = past-stays p stands (rw lost refl) in
+      let mine : IsOwned s caller place n = so-at g s sound.parts.0 caller p sound.parts.1 has stands 0 (owns_all place n) (omega arith) in
       elim (shelf-says k fits.point.shelf) [
-        | inl holds ↦ (k, place, n, (o, at), owned-after same place n mine, holds-stays same k (s.word (name.Shelf k)) holds)
+        | inl holds ↦ (k, place, n, (o, stands), owned-after same place n mine, holds-stays same k (s.word (name.Shelf k)) holds)
         | inr empty ↦ absurd (eqb-false (s.word (name.Shelf k)) (shelf_word lies.Nothing) lost empty.1)
       ]
 
@@ -170,12 +170,12 @@ module _
       (k place : ℕ) (n : Need) (o : Continuation) → (s.errand caller).point ≡ Large (large.TakeBlock k place n) o
       → (s.word (name.Shelf k) == shelf_word (lies.Block place n)) ≡ true → IsMeant g s caller (reply.Got place n) after
   unfolding plan_point_of event_of
-  got-meant k place n o at won =
+  got-meant k place n o stands won =
       let p = Large (large.TakeBlock k place n) o in
       let old = sound.parts.1 in
-      let fit = fits-now g s caller p sound has at in
+      let fit = fits-now g s caller p sound has stands in
       let there : s.word (name.Shelf k) ≡ shelf_word (lies.Block place n) = eqb-true (s.word (name.Shelf k)) (shelf_word (lies.Block place n)) won in
-      let taken : event_at s caller ≡ Some (Take caller k place) = event-told p (Some (Take caller k place)) at (rw won refl) in
+      let taken : event_at s caller ≡ Some (Take caller k place) = event-told p (Some (Take caller k place)) stands (rw won refl) in
       let grown : after.history ≡ s.history ++ Take caller k place ∷ [] = step.history ∙ ap (with_event s.history) taken in
       let legal =
       EachAfter-last (IsLegalEventWithoutCounts g) s.history (Take caller k place)
@@ -192,15 +192,15 @@ module _
       shelf-exact.one_word (lies.Block place b.need) (lies.Block place n) (shelf-fits g b.need place sound.checked formed.need formed_here)
       fit.point.block says in
       let c = changes-from s after (Take caller k place) place (handed_to (Caller caller)) b grown refl (λ x. refl) (λ x. refl) live in
-      (k, ((o, at), taken), record { block = (handed_to (Caller caller) b, c.now, refl, (cc)) })
+      (k, ((o, stands), taken), record { block = (handed_to (Caller caller) b, c.now, refl, (cc)) })
 
   -- the shelf's word is another one
   missed-meant :
       (k saw : ℕ) (p : LargePoint) (o : Continuation) → k < SHELVES → (s.errand caller).point ≡ Large p o → Takes s caller k saw
       → event_of caller (Large p o) (found_from s (Large p o)) ≡ None → (s.word (name.Shelf k) == saw) ≡ false
       → IsMeant g s caller (reply.Missed saw (s.word (name.Shelf k))) after
-  missed-meant k saw p o in_heap at takes none lost =
-      let same = past-stays (Large p o) at none in
+  missed-meant k saw p o in_heap stands takes none lost =
+      let same = past-stays (Large p o) stands none in
       let differ : saw ≢ s.word (name.Shelf k) = λ is. eqb-false (s.word (name.Shelf k)) saw lost (sym is) in
       let lying : ShelfHolds after k (s.word (name.Shelf k)) ⊎ ShelfIsEmpty after k (s.word (name.Shelf k)) =
       elim (shelf-says k in_heap) [
@@ -217,51 +217,51 @@ module _
       (p : LargePoint) (o : Continuation) (r : Reply) → (s.errand caller).point ≡ Large p o
       → EndsBy (s.errand caller) (next_of (Large p o) (found_from s (Large p o))) r → IsMeant g s caller r after
   unfolding plan_point_of next_of event_of
-  large-meant (large.LoadUnits w) o r at ends = absurd ends
-  large-meant (large.TakeRun w bits) o r at ends =
+  large-meant (large.LoadUnits w) o r stands ends = absurd ends
+  large-meant (large.TakeRun w bits) o r stands ends =
       let e = s.errand caller in
       elim (either-ends e (s.word name.Units == bits) (after_take w (first_wanted w bits)) (large.LoadUnits w) o r ends) [
         | inl won ↦
             let none = take-ends e w o (first_wanted w bits) r won.1 in
-            answered reply.Refused r none.1 (no_run-meant w bits o at won.0 none.0)
+            answered reply.Refused r none.1 (no_run-meant w bits o stands won.0 none.0)
         | inr lost ↦ absurd lost.1
       ]
-  large-meant (large.StoreRunPrefix place run) o r at ends =
-      answered (reply.Given place (need.Large run.units)) r ends (run-meant place run o at)
-  large-meant (large.LoadRunPrefix place run) o r at ends = absurd (prefix-goes-on (s.errand caller) place run o (prefix_of (s.word (name.Arena place))) r ends)
-  large-meant (large.FreeRun place run) o r at ends = answered reply.Freed r ends freed-meant
-  large-meant (large.StoreWord place i v) o r at ends =
+  large-meant (large.StoreRunPrefix place run) o r stands ends =
+      answered (reply.Given place (need.Large run.units)) r ends (run-meant place run o stands)
+  large-meant (large.LoadRunPrefix place run) o r stands ends = absurd (prefix-goes-on (s.errand caller) place run o (prefix_of (s.word (name.Arena place))) r ends)
+  large-meant (large.FreeRun place run) o r stands ends = answered reply.Freed r ends freed-meant
+  large-meant (large.StoreWord place i v) o r stands ends =
       answered reply.Wrote r ends
-      (place, i, v, ((o, at), event-told (Large (large.StoreWord place i v) o) (Some (Write caller place i v)) at refl))
-  large-meant (large.LoadWord place i) o r at ends =
-      answered (reply.Word (s.word (payload_name place i))) r ends (read-meant place i o at)
-  large-meant (large.PutBlock k place n) o r at ends =
+      (place, i, v, ((o, stands), event-told (Large (large.StoreWord place i v) o) (Some (Write caller place i v)) stands refl))
+  large-meant (large.LoadWord place i) o r stands ends =
+      answered (reply.Word (s.word (payload_name place i))) r ends (read-meant place i o stands)
+  large-meant (large.PutBlock k place n) o r stands ends =
       let w = s.word (name.Shelf k) in
       elim (either-ends (s.errand caller) (w == shelf_word lies.Nothing) large.PutDone (large.ShelfFull w) o r ends) [
         | inl won ↦
             answered reply.Put r won.1
-            (place, k, n, ((o, at), event-told (Large (large.PutBlock k place n) o) (Some (Put caller place k)) at (rw (won.0) refl)))
-        | inr lost ↦ answered (reply.Full w) r lost.1 (full-meant k place n o at lost.0)
+            (place, k, n, ((o, stands), event-told (Large (large.PutBlock k place n) o) (Some (Put caller place k)) stands (rw (won.0) refl)))
+        | inr lost ↦ answered (reply.Full w) r lost.1 (full-meant k place n o stands lost.0)
       ]
-  large-meant (large.LoadShelf k) o r at ends = absurd (shelf-goes-on (s.errand caller) k o (shelf_of (s.word (name.Shelf k))) r ends)
-  large-meant (large.TakeBlock k place n) o r at ends =
+  large-meant (large.LoadShelf k) o r stands ends = absurd (shelf-goes-on (s.errand caller) k o (shelf_of (s.word (name.Shelf k))) r ends)
+  large-meant (large.TakeBlock k place n) o r stands ends =
       let p = large.TakeBlock k place n in
       let w = s.word (name.Shelf k) in
       let saw = shelf_word (lies.Block place n) in
-      let fits = fits-now g s caller (Large p o) sound has at in
+      let fits = fits-now g s caller (Large p o) sound has stands in
       elim (either-ends (s.errand caller) (w == saw) (large.Got place n) (large.Missed saw w) o r ends) [
-        | inl won ↦ answered (reply.Got place n) r won.1 (got-meant k place n o at won.0)
+        | inl won ↦ answered (reply.Got place n) r won.1 (got-meant k place n o stands won.0)
         | inr lost ↦
             answered (reply.Missed saw w) r lost.1
-            (missed-meant k saw p o fits.point.shelf at (inl (place, n, (o, at), refl)) (rw (lost.0) refl) lost.0)
+            (missed-meant k saw p o fits.point.shelf stands (inl (place, n, (o, stands), refl)) (rw (lost.0) refl) lost.0)
       ]
-  large-meant (large.ConfirmNothing k) o r at ends =
+  large-meant (large.ConfirmNothing k) o r stands ends =
       let p = large.ConfirmNothing k in
       let w = s.word (name.Shelf k) in
       let saw = shelf_word lies.Nothing in
-      let fits = fits-now g s caller (Large p o) sound has at in
+      let fits = fits-now g s caller (Large p o) sound has stands in
       elim (either-ends (s.errand caller) (w == saw) large.NothingThere (large.Missed saw w) o r ends) [
-        | inl won ↦ answered reply.Empty r won.1 (k, ((o, at), event-told (Large p o) (Some (TakeNone caller k)) at (rw (won.0) refl)))
-        | inr lost ↦ answered (reply.Missed saw w) r lost.1 (missed-meant k saw p o fits.point at (inr ((o, at), refl)) (rw (lost.0) refl) lost.0)
+        | inl won ↦ answered reply.Empty r won.1 (k, ((o, stands), event-told (Large p o) (Some (TakeNone caller k)) stands (rw (won.0) refl)))
+        | inr lost ↦ answered (reply.Missed saw w) r lost.1 (missed-meant k saw p o fits.point stands (inr ((o, stands), refl)) (rw (lost.0) refl) lost.0)
       ]
-  large-meant p o r at ends = absurd (cc ((fits-now g s caller (Large p o) sound has at).inside))
+  large-meant p o r stands ends = absurd (cc ((fits-now g s caller (Large p o) sound has stands).inside))

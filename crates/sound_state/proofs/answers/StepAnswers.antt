@@ -79,16 +79,16 @@ module _
       (at : Site) (i : ℕ) (o : Continuation) → (s.errand caller).point ≡ Block (block.StorePrefix at i) o
       → IsMeant g s caller (reply.Given (block_place at.frame at.seat.class i) (Small at.seat.class)) after
   unfolding plan_point_of event_of holds_of
-  given-meant site i o at =
+  given-meant site i o stands =
       let p = Block (block.StorePrefix site i) o in
-      let fits = fits-now g s caller p sound has at in
+      let fits = fits-now g s caller p sound has stands in
       let alloc = the-alloc o fits.goes in
       let place = block_place site.frame site.seat.class i in
       let mine : IsOwned s caller place (Small site.seat.class) =
-      hands-at g s sound.parts.0 caller p sound.parts.1 has at 0 (record { place = place; need = Small site.seat.class }) (omega arith) in
-      let same = past-stays g s caller after sound has step p at refl in (
+      hands-at g s sound.parts.0 caller p sound.parts.1 has stands 0 (record { place = place; need = Small site.seat.class }) (omega arith) in
+      let same = past-stays g s caller after sound has step p stands refl in (
         asked o,
-        ap continuation_at at ∙ alloc,
+        ap continuation_at stands ∙ alloc,
         subst (FitsContinuation g caller site.seat) alloc fits.continuation,
         owned-after g s caller after sound has step same place (Small site.seat.class) mine,
       )
@@ -99,8 +99,8 @@ module _
   unfolding next_of
   block-meant (block.StorePrefix at i) o r is ends =
       answered g s caller after sound has step (reply.Given (block_place at.frame at.seat.class i) (Small at.seat.class)) r ends (given-meant at i o is)
-  block-meant p o r at ends =
-      let fits = fits-now g s caller (Block p o) sound has at in
+  block-meant p o r stands ends =
+      let fits = fits-now g s caller (Block p o) sound has stands in
       freed-answers r (block-ends (s.errand caller) p o (found_from s (Block p o)) r fits.inside ends)
 
   -- a small need is refused
@@ -109,33 +109,33 @@ module _
       → EndsBy (s.errand caller) (next_of (Stack (stack.ConfirmEmpty seat pile h) o) (found_from s (Stack (stack.ConfirmEmpty seat pile h) o))) r
       → IsMeant g s caller r after
   unfolding plan_point_of next_of event_of recalls_of
-  confirm-meant seat Frames h (continuation.TakeFrame words d) r at ends =
+  confirm-meant seat Frames h (continuation.TakeFrame words d) r stands ends =
       let p = Stack (stack.ConfirmEmpty seat Frames h) (continuation.TakeFrame words d) in
-      let fits = fits-now g s caller p sound has at in
+      let fits = fits-now g s caller p sound has stands in
       let won = stack-ends (s.errand caller) (stack.ConfirmEmpty seat Frames h) (continuation.TakeFrame words d) (found_from s p) r refl ends in
-      let told = event-told g s caller after sound has step p (Some (Refuse caller words)) at (rw (won.0) refl) in
+      let told = event-told g s caller after sound has step p (Some (Refuse caller words)) stands (rw (won.0) refl) in
       let grown : after.history ≡ s.history ++ Refuse caller words ∷ [] = step.history ∙ ap (with_event s.history) told in
       let ended =
       refused-ends caller s.history words seat.class fits.continuation.0
-      (so-at g s sound.parts.0 caller p sound.parts.1 has at 0 (looked seat.class) (omega arith)) in
+      (so-at g s sound.parts.0 caller p sound.parts.1 has stands 0 (looked seat.class) (omega arith)) in
       answered g s caller after sound has step reply.Refused r won.1 (inl (seat.class, subst (λ past. EndsRefused (own caller past) caller seat.class) (sym grown) ended))
-  confirm-meant seat Partials h (continuation.Alloc words) r at ends =
+  confirm-meant seat Partials h (continuation.Alloc words) r stands ends =
       let p = stack.ConfirmEmpty seat Partials h in
       absurd (stack-ends (s.errand caller) p (continuation.Alloc words) (found_from s (Stack p (continuation.Alloc words))) r refl ends)
-  confirm-meant seat pile h o r at ends =
-      let bad : ⊥ = cc ((fits-now g s caller (Stack (stack.ConfirmEmpty seat pile h) o) sound has at).goes) in absurd bad
+  confirm-meant seat pile h o r stands ends =
+      let bad : ⊥ = cc ((fits-now g s caller (Stack (stack.ConfirmEmpty seat pile h) o) sound has stands).goes) in absurd bad
 
   stack-meant :
       (p : StackPoint) (o : Continuation) (r : Reply) → (s.errand caller).point ≡ Stack p o
       → EndsBy (s.errand caller) (next_of (Stack p o) (found_from s (Stack p o))) r → IsMeant g s caller r after
   unfolding plan_point_of next_of
-  stack-meant (stack.ConfirmEmpty seat pile h) o r at ends = confirm-meant seat pile h o r at ends
-  stack-meant (stack.PushTop seat pile i h) (continuation.Discard words d) r at ends =
+  stack-meant (stack.ConfirmEmpty seat pile h) o r stands ends = confirm-meant seat pile h o r stands ends
+  stack-meant (stack.PushTop seat pile i h) (continuation.Discard words d) r stands ends =
       let p = stack.PushTop seat pile i h in
       let spent = stack-ends (s.errand caller) p (continuation.Discard words d) (found_from s (Stack p (continuation.Discard words d))) r refl ends in
       answered g s caller after sound has step reply.Spent r spent.1 (spent-meant spent.0)
-  stack-meant p o r at ends =
-      let fits = fits-now g s caller (Stack p o) sound has at in
+  stack-meant p o r stands ends =
+      let fits = fits-now g s caller (Stack p o) sound has stands in
       freed-answers r (stack-ends (s.errand caller) p o (found_from s (Stack p o)) r fits.inside ends)
 
   -- behind the push of a retired descriptor
@@ -143,40 +143,40 @@ module _
       (seat : SeatFields) (d top : ℕ) (o : Continuation) (r : Reply) → (s.errand caller).point ≡ Desc (desc.PushDesc seat d top) o
       → (s.word name.DescHead == top) ≡ true → IsResumed (s.errand caller) o r → IsMeant g s caller r after
   unfolding plan_point_of event_of recalls_of
-  push-meant seat d top o r at won is =
+  push-meant seat d top o r stands won is =
       let p = Desc (desc.PushDesc seat d top) o in
-      let same = past-stays g s caller after sound has step p at (rw won refl) in
+      let same = past-stays g s caller after sound has step p stands (rw won refl) in
       resumed-meant o r is
       (λ refuses.
       let q = Desc (desc.PushDesc seat d top) continuation.Refuse in
       let so : EndsRefused (own caller s.history) caller seat.class =
-      so-at g s sound.parts.0 caller q sound.parts.1 has (at ∙ ap (λ z. Desc (desc.PushDesc seat d top) z) refuses) 1 (refused seat.class) (omega arith) in
+      so-at g s sound.parts.0 caller q sound.parts.1 has (stands ∙ ap (λ z. Desc (desc.PushDesc seat d top) z) refuses) 1 (refused seat.class) (omega arith) in
       inl (seat.class, subst (λ past. EndsRefused (own caller past) caller seat.class) (sym same) so))
 
   desc-meant :
       (p : DescPoint) (o : Continuation) (r : Reply) → (s.errand caller).point ≡ Desc p o
       → EndsBy (s.errand caller) (next_of (Desc p o) (found_from s (Desc p o))) r → IsMeant g s caller r after
   unfolding plan_point_of next_of
-  desc-meant (desc.PushDesc seat d top) o r at ends =
+  desc-meant (desc.PushDesc seat d top) o r stands ends =
       let p = desc.PushDesc seat d top in
       let pushed = desc-ends (s.errand caller) p o (found_from s (Desc p o)) r refl ends in
-      push-meant seat d top o r at pushed.0 pushed.1
-  desc-meant p o r at ends =
-      let fits = fits-now g s caller (Desc p o) sound has at in
+      push-meant seat d top o r stands pushed.0 pushed.1
+  desc-meant p o r stands ends =
+      let fits = fits-now g s caller (Desc p o) sound has stands in
       freed-answers r (desc-ends (s.errand caller) p o (found_from s (Desc p o)) r fits.inside ends)
 
   point-meant :
       (p : Point) (r : Reply) → (s.errand caller).point ≡ p → EndsBy (s.errand caller) (next_of p (found_from s p)) r
       → IsMeant g s caller r after
   unfolding next_of
-  point-meant Idle r at ends = absurd ends
-  point-meant (Block p o) r at ends = block-meant p o r at ends
-  point-meant (Stack p o) r at ends = stack-meant p o r at ends
-  point-meant (Desc p o) r at ends = desc-meant p o r at ends
-  point-meant (Partial p o) r at ends =
-      let fits = fits-now g s caller (Partial p o) sound has at in
+  point-meant Idle r stands ends = absurd ends
+  point-meant (Block p o) r stands ends = block-meant p o r stands ends
+  point-meant (Stack p o) r stands ends = stack-meant p o r stands ends
+  point-meant (Desc p o) r stands ends = desc-meant p o r stands ends
+  point-meant (Partial p o) r stands ends =
+      let fits = fits-now g s caller (Partial p o) sound has stands in
       freed-answers r (partial-ends (s.errand caller) p o (found_from s (Partial p o)) r fits.inside fits.goes ends)
-  point-meant (Large p o) r at ends = large-meant g s caller after sound has step p o r at ends
+  point-meant (Large p o) r stands ends = large-meant g s caller after sound has step p o r stands ends
 
 pub answers-meant :
     (g : Geometry) (s : State) (caller : ℕ) (r : Reply) (after : State) → IsSoundWithoutCounts g s → caller < g.callers → Step s caller after

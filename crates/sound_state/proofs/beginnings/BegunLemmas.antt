@@ -101,15 +101,15 @@ begun-may :
     → IsSoundWith g s l → caller < g.callers → s.errand caller ≡ a → IsIdle a → BeginsAt g s l caller p blocks
     → IsErrand (record a { point = p; turns = turns }) → TakesTurns p t a.turns turns → MayGoOn g s l caller a (record a { point = p; turns = turns })
 unfolding holds_of
-begun-may g s l caller a p t turns blocks sound has at idle b rule takes =
+begun-may g s l caller a p t turns blocks sound has stands idle b rule takes =
     let was = idle-is a.point idle in
-    let own = subst (IsOwnErrand g caller) at (sound.errands caller has) in
+    let own = subst (IsOwnErrand g caller) stands (sound.errands caller has) in
     let turned : count_by (gives_small caller) s.history + turn_open a ≤ a.turns =
-    subst (λ e. count_by (gives_small caller) s.history + turn_open e ≤ e.turns) at (sound.turned.own_turns caller has) in
+    subst (λ e. count_by (gives_small caller) s.history + turn_open e ≤ e.turns) stands (sound.turned.own_turns caller has) in
     let idle_takes : TakesTurns a.point 0 0 0 = subst (λ q. TakesTurns q 0 0 0) (sym was) idle-takes in
     record {
       rule = record { number = own.number; geometry = own.geometry; rule = rule; lost = own.lost };
-      retired = subst (λ e. All (IsWithout s) e.retired) at (sound.kept.retired caller has);
+      retired = subst (λ e. All (IsWithout s) e.retired) stands (sound.kept.retired caller has);
       kept = subst (λ h. All (λ k. IsKeptAs s k.status k.desc k.class) h.kept) (sym b.fresh.holds)
           (All-nil (λ k. IsKeptAs s k.status k.desc k.class));
       so = b.so;
@@ -122,7 +122,7 @@ begun-may g s l caller a p t turns blocks sound has at idle b rule takes =
           let lost : a.turns + errand_discards a ≤ count_by (gives_small caller) s.history + count_by (refuses_small caller) s.history + a.lost + turn_unanswered a =
           subst
           (λ e. e.turns + errand_discards e
-          ≤ count_by (gives_small caller) s.history + count_by (refuses_small caller) s.history + e.lost + turn_unanswered e) at
+          ≤ count_by (gives_small caller) s.history + count_by (refuses_small caller) s.history + e.lost + turn_unanswered e) stands
           (sound.turned.own_lost caller has) in
           omega (arith, lost, takes.turns, takes.discards, takes.unanswered, idle_takes.unanswered);
       frame_turns = omega (arith, takes.turns, takes.unframed);
@@ -273,8 +273,8 @@ owned-block g s caller place n sound owned =
     let live = owned.block.1 in
     let formed =
     every-each (IsWellFormed g) (pool_of s.history) (sound-of g s.history sound.legal).each place b live in
-    let at : b.place ≡ place = place-found place (pool_of s.history) b live in
-    subst (λ m. IsHeapBlock g place m) owned.block.3 (subst (λ p. IsHeapBlock g p b.need) at (formed.need, formed.place))
+    let stands : b.place ≡ place = place-found place (pool_of s.history) b live in
+    subst (λ m. IsHeapBlock g place m) owned.block.3 (subst (λ p. IsHeapBlock g p b.need) stands (formed.need, formed.place))
 
 -- so it is one of the heap that the caller's errand is in
 pub errand-block :
@@ -292,7 +292,7 @@ unfolding free_begun holds_of recalls_of
 free-sound g s caller place (Small class) errands' sound has idle owned moves =
     let block = owned-block g s caller place (Small class) sound owned in
     let own = sound.parts.1.errands caller has in
-    let at : block_place (frame_of place) class (index_of class place) ≡ place =
+    let stands : block_place (frame_of place) class (index_of class place) ≡ place =
     block_place-split class place
     (block.1.0, block.1.1, omega (arith, block.1.2, sound.checked.frames.1), block.1.3, block.1.4) in
     let freed : Freed = record { place = block_place (frame_of place) class (index_of class place); need = Small class; overwritten = false } in
@@ -300,7 +300,7 @@ free-sound g s caller place (Small class) errands' sound has idle owned moves =
     (λ l. record {
       fresh = grind (arith);
       frees =
-          All-cons (λ x. IsOwned s caller x.place x.need) freed [] (subst (λ p. IsOwned s caller p (Small class)) (sym at) owned)
+          All-cons (λ x. IsOwned s caller x.place x.need) freed [] (subst (λ p. IsOwned s caller p (Small class)) (sym stands) owned)
           (All-nil (λ x. IsOwned s caller x.place x.need));
       so = All-nil (IsSo g s l caller);
     })

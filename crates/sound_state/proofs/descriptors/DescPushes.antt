@@ -159,14 +159,14 @@ pub push-weighs :
     (l : Lists) (seat : SeatFields) (d top : ℕ) (o : Continuation) (e : ErrandFields) (x : Found) → e.point ≡ Desc (desc.PushDesc seat d top) o
     → Contains e.retired d → IsBarePoint (resumed_point e seat o) → ListWeighs l (d ∷ l.available) e (pushed_errand e x seat d o)
 unfolding holds_of
-push-weighs l seat d top o e x at listed bare = record {
-  reserves = λ k. rw (at, bare.holds) refl;
-  waits = λ k. rw (at, bare.holds) refl;
-  ways = λ k off. rw (at, bare.holds) refl;
-  away = λ k. rw (at, bare.holds) (omega (arith, occurs-without d k e.retired listed));
-  places = λ k. rw (at, bare.holds) (omega (arith, occurs-without d k e.retired listed));
-  frames = λ f. rw (at, bare.holds) refl;
-  stock = λ class. rw (at, bare.holds, bare.waits class) refl;
+push-weighs l seat d top o e x stands listed bare = record {
+  reserves = λ k. rw (stands, bare.holds) refl;
+  waits = λ k. rw (stands, bare.holds) refl;
+  ways = λ k off. rw (stands, bare.holds) refl;
+  away = λ k. rw (stands, bare.holds) (omega (arith, occurs-without d k e.retired listed));
+  places = λ k. rw (stands, bare.holds) (omega (arith, occurs-without d k e.retired listed));
+  frames = λ f. rw (stands, bare.holds) refl;
+  stock = λ class. rw (stands, bare.holds, bare.waits class) refl;
 }
 
 -- a caller's turns are few
@@ -212,8 +212,8 @@ push-excepts :
     (seat : SeatFields) (d top : ℕ) (o : Continuation) (e : ErrandFields) → e.point ≡ Desc (desc.PushDesc seat d top) o → (place : ℕ)
     → Excepts e place → ⊥
 unfolding holds_of
-push-excepts seat d top o e at place x =
-    let none : holds_of e.point ≡ nothing = ap holds_of at in
+push-excepts seat d top o e stands place x =
+    let none : holds_of e.point ≡ nothing = ap holds_of stands in
     elim x [
       | inl a ↦
           let bad : Any (λ b. b.place ≡ place) nothing.hands = subst (λ h. Any (λ b. b.place ≡ place) h.hands) none a in
@@ -229,26 +229,26 @@ pub push_desc_won-sound :
     (g : Geometry) (s : State) (caller : ℕ) (s' : State) (seat : SeatFields) (d top : ℕ) (o : Continuation) → IsSoundWithoutCounts g s → caller < g.callers
     → (s.errand caller).point ≡ Desc (desc.PushDesc seat d top) o → s.word name.DescHead ≡ top → Step s caller s' → IsSoundWithoutCounts g s'
 unfolding plan_point_of next_of event_of holds_of recalls_of
-push_desc_won-sound g s caller s' seat d top o sound has at won step =
+push_desc_won-sound g s caller s' seat d top o sound has stands won step =
     let p = Desc (desc.PushDesc seat d top) o in
     let l = sound.parts.0 in
     let old = sound.parts.1 in
     let x = found_at s caller in
     let is_won : (s.word name.DescHead == top) ≡ true = eq-eqb (s.word name.DescHead) top won in
     let own = old.errands caller has in
-    let fits = fits-at g s l caller p old has at in
+    let fits = fits-at g s l caller p old has stands in
     let next : next_of p (found_from s p) ≡ Unlist seat d o = rw is_won refl in
     let after : settle_of (s.errand caller) x ≡ pushed_errand (s.errand caller) x seat d o =
-    settle-pushed (s.errand caller) x seat d o (subst (λ r. next_of r (found_from s r) ≡ Unlist seat d o) (sym at) next) in
+    settle-pushed (s.errand caller) x seat d o (subst (λ r. next_of r (found_from s r) ≡ Unlist seat d o) (sym stands) next) in
     let e = pushed_errand (s.errand caller) x seat d o in
     let writes : Writes s.word name.DescHead (d + 1) s'.word =
     subst (λ v. Writes s.word name.DescHead v s'.word) (rw is_won refl)
-    (subst (λ r. Writes s.word (name_of (plan_point_of r)) (after_action (plan_point_of r) (s.word (name_of (plan_point_of r)))) s'.word) at step.word) in
+    (subst (λ r. Writes s.word (name_of (plan_point_of r)) (after_action (plan_point_of r) (s.word (name_of (plan_point_of r)))) s'.word) stands step.word) in
     let event : event_of caller p (found_from s p) ≡ None = rw is_won refl in
     let past : s'.history ≡ s.history =
-    step.history ∙ ap (with_event s.history) (subst (λ r. event_of caller r (found_from s r) ≡ None) (sym at) event) in
-    let link : s.word (name.Next d) ≡ top = (All-head (IsSo g s l caller) (says (name.Next d) top) (resumed_recalls seat o) (so-at g s l caller p old has at)).1 in
-    let pushes : pushed_by (s.errand caller).point ≡ Some d = ap pushed_by at in
+    step.history ∙ ap (with_event s.history) (subst (λ r. event_of caller r (found_from s r) ≡ None) (sym stands) event) in
+    let link : s.word (name.Next d) ≡ top = (All-head (IsSo g s l caller) (says (name.Next d) top) (resumed_recalls seat o) (so-at g s l caller p old has stands)).1 in
+    let pushes : pushed_by (s.errand caller).point ≡ Some d = ap pushed_by stands in
     let listed : Contains (s.errand caller).retired d =
     subst (λ k. IfSome k (λ j. Contains (s.errand caller).retired j)) pushes own.rule.pushed in
     let exists : d < descriptor_count g = fits.point.desc.desc in
@@ -256,11 +256,11 @@ push_desc_won-sound g s caller s' seat d top o sound has at won step =
     let small : (s.errand caller).turns + 1 < 2 ^ 64 =
     own-turns-below g (s.errand caller) own.geometry own.rule in
     let turn =
-    subst (λ r. TurnResumes r (resumed_point (s.errand caller) seat o) (s.errand caller).turns (resumed_turns (s.errand caller) seat o)) (sym at)
+    subst (λ r. TurnResumes r (resumed_point (s.errand caller) seat o) (s.errand caller).turns (resumed_turns (s.errand caller) seat o)) (sym stands)
     (resumed-turns (s.errand caller) seat d top o fits.goes small) in
-    let cleared : counts_cleared (s.errand caller).point x ≡ false = subst (λ r. counts_cleared r x ≡ false) (sym at) refl in
-    let may = push-may g s l caller seat d o x old has (old.words (name_at s caller)) after cleared bare turn (push-excepts seat d top o (s.errand caller) at) in
-    let clear : s.word (name.Hazard caller) ≡ 0 = hazard-at g s l caller p old has at in
+    let cleared : counts_cleared (s.errand caller).point x ≡ false = subst (λ r. counts_cleared r x ≡ false) (sym stands) refl in
+    let may = push-may g s l caller seat d o x old has (old.words (name_at s caller)) after cleared bare turn (push-excepts seat d top o (s.errand caller) stands) in
+    let clear : s.word (name.Hazard caller) ≡ 0 = hazard-at g s l caller p old has stands in
     let guards =
     plain-guards g s caller e.point e.retired (s.word (name.Hazard caller))
     (subst (λ h. IsHazard h.hazard (s.word (name.Hazard caller))) (sym bare.holds) clear)
@@ -268,12 +268,12 @@ push_desc_won-sound g s caller s' seat d top o sound has at won step =
     let stack : Stacked (next_in s.word Partials) (d + 1) (d ∷ l.available) =
     (refl, subst (λ t. Stacked (next_in s.word Partials) t l.available) (won ∙ sym link) old.listed.available) in
     let restocks =
-    restocks-by g s l caller e s' (d ∷ l.available) (d + 1) old has (exists-at g s caller p sound has at) writes
+    restocks-by g s l caller e s' (d ∷ l.available) (d + 1) old has (exists-at g s caller p sound has stands) writes
     (subst (λ f. Moves s.errand caller f s'.errand) after step.errand) past (name-below g d sound.checked exists)
     (ap (λ b. raised b (s.errand caller).cleared) cleared) may guards stack
     (All-cons (λ k. k < descriptor_count g) d l.available exists old.listed.available_exist)
     (All-cons (IsWithout s) d l.available (All-at (IsWithout s) d (s.errand caller).retired (old.kept.retired caller has) listed) old.kept.available)
-    (push-weighs l seat d top o (s.errand caller) x at listed bare) (recalls-pushed g s l caller d old has exists listed pushes)
+    (push-weighs l seat d top o (s.errand caller) x stands listed bare) (recalls-pushed g s l caller d old has exists listed pushes)
     (subst (All (IsOfListed l (d ∷ l.available))) (sym bare.recalls) (All-nil (IsOfListed l (d ∷ l.available)))) in
     record {
       checked = sound.checked;
@@ -285,8 +285,8 @@ push_desc_won-sound g s caller s' seat d top o sound has at won step =
 pub push_desc-sound :
     (g : Geometry) (s : State) (caller : ℕ) (s' : State) (seat : SeatFields) (d top : ℕ) (o : Continuation) → IsSoundWithoutCounts g s → caller < g.callers
     → (s.errand caller).point ≡ Desc (desc.PushDesc seat d top) o → Step s caller s' → IsSoundWithoutCounts g s'
-push_desc-sound g s caller s' seat d top o sound has at step =
+push_desc-sound g s caller s' seat d top o sound has stands step =
     elim (cases_eq (s.word name.DescHead) top) [
-      | inl won ↦ push_desc_won-sound g s caller s' seat d top o sound has at won step
-      | inr lost ↦ push_desc_lost-sound g s caller s' seat d top o sound has at lost step
+      | inl won ↦ push_desc_won-sound g s caller s' seat d top o sound has stands won step
+      | inr lost ↦ push_desc_lost-sound g s caller s' seat d top o sound has stands lost step
     ]

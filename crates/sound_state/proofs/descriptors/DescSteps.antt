@@ -58,16 +58,16 @@ pop-weighs :
     → e.point ≡ Desc (desc.PopDesc seat d next) o → l.available ≡ d ∷ ys
     → ListWeighs l ys e (at_point e x (Desc (desc.ClearAfterPop seat d) o))
 unfolding holds_of
-pop-weighs l seat d next o ys e x at is = record {
-  reserves = λ k. rw at refl;
-  waits = λ k. rw at (waits-none k d seat.class);
+pop-weighs l seat d next o ys e x stands is = record {
+  reserves = λ k. rw stands refl;
+  waits = λ k. rw stands (waits-none k d seat.class);
   ways = λ k off.
       let none : occurs k (d ∷ ys) ≡ 0 = subst (λ zs. occurs k zs ≡ 0) is off in
-      rw at (omega (arith, none, ways-one k d seat.class));
-  away = λ k. rw (at, is) (omega (arith, ways-one k d seat.class));
-  places = λ k. rw (at, is) (omega (arith, ways-places k d seat.class));
-  frames = λ f. rw at refl;
-  stock = λ class. rw at (omega arith);
+      rw stands (omega (arith, none, ways-one k d seat.class));
+  away = λ k. rw (stands, is) (omega (arith, ways-one k d seat.class));
+  places = λ k. rw (stands, is) (omega (arith, ways-places k d seat.class));
+  frames = λ f. rw stands refl;
+  stock = λ class. rw stands (omega arith);
 }
 
 pub pop-turns : (seat : SeatFields) (d next : ℕ) (o : Continuation) → TurnGoes (Desc (desc.PopDesc seat d next) o) (Desc (desc.ClearAfterPop seat d) o)
@@ -145,8 +145,8 @@ pop_desc_won-sound g s caller s' seat d next o sound has at won step =
 pub pop_desc-sound :
     (g : Geometry) (s : State) (caller : ℕ) (s' : State) (seat : SeatFields) (d next : ℕ) (o : Continuation) → IsSoundWithoutCounts g s → caller < g.callers
     → (s.errand caller).point ≡ Desc (desc.PopDesc seat d next) o → Step s caller s' → IsSoundWithoutCounts g s'
-pop_desc-sound g s caller s' seat d next o sound has at step =
+pop_desc-sound g s caller s' seat d next o sound has stands step =
     elim (cases_eq (s.word name.DescHead) (d + 1)) [
-      | inl won ↦ pop_desc_won-sound g s caller s' seat d next o sound has at won step
-      | inr lost ↦ pop_desc_lost-sound g s caller s' seat d next o sound has at lost step
+      | inl won ↦ pop_desc_won-sound g s caller s' seat d next o sound has stands won step
+      | inr lost ↦ pop_desc_lost-sound g s caller s' seat d next o sound has stands lost step
     ]

@@ -75,9 +75,9 @@ pub prefix-finds :
     → caller < g.callers → (s.errand caller).point ≡ Block (block.LoadPrefix seat frame i) o
     → (d : ℕ) × (d < descriptor_count g) × (prefix_of (s.word (name.Arena (block_place frame seat.class i))) ≡ Some (Small d))
 unfolding prefix_word
-prefix-finds g s l caller seat frame i o checked old has at =
+prefix-finds g s l caller seat frame i o checked old has stands =
     let place : ℕ = block_place frame seat.class i in
-    let (d, of, says) = prefix-ties g s l caller seat frame i o old has at in (
+    let (d, of, says) = prefix-ties g s l caller seat frame i o old has stands in (
       d,
       of.exists,
       back prefix-exact (s.word (name.Arena place)) (Small d) (omega (arith, of.exists, descriptor_count_within g checked)) (omega (arith, says)),

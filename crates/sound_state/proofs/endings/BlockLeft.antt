@@ -97,80 +97,80 @@ pub block-leaves :
     (g : Geometry) (s : State) (caller : ℕ) (p : BlockPoint) (o : Continuation) → IsSoundWithoutCounts g s → caller < g.callers
     → (s.errand caller).point ≡ Block p o → LeavesLess g s (Block p o)
 unfolding plan_point_of next_of steps_left recalls_of
-block-leaves g s caller (block.LoadActive seat) o sound has at =
-    let fit = (fits-now g s caller (Block (block.LoadActive seat) o) sound has at).point in
+block-leaves g s caller (block.LoadActive seat) o sound has stands =
+    let fit = (fits-now g s caller (Block (block.LoadActive seat) o) sound has stands).point in
     inr
     (inr
     (active-below g seat o (active_of (s.word (active_name seat))) fit.geometry
     (active-finds g s sound.parts.0 caller seat sound.checked sound.parts.1 fit)))
-block-leaves g s caller (block.TakeCredit seat d credits) o sound has at =
+block-leaves g s caller (block.TakeCredit seat d credits) o sound has stands =
     exchanged g (λ q. enter_block q o) 7 (s.word (active_name seat) == active_word (Held d credits))
     (block.LoadInfo seat d (if credits == 0 then LastCredit else Credit)) (block.LoadActive seat) (omega arith)
-block-leaves g s caller (block.LoadInfo seat d share) o sound has at =
-    let fit = (fits-now g s caller (Block (block.LoadInfo seat d share) o) sound has at).point in
+block-leaves g s caller (block.LoadInfo seat d share) o sound has stands =
+    let fit = (fits-now g s caller (Block (block.LoadInfo seat d share) o) sound has stands).point in
     inr
     (inr
     (some-leads (λ x. LeadsBelow g o 6 (after_info seat d share x)) (info_in seat.geometry (s.word (name.Info d)))
     (info-finds g s sound.parts.0 caller seat d sound.parts.1 fit.0.seat fit.0.desc) (λ x. omega arith)))
-block-leaves g s caller (block.LoadAnchor site share) o sound has at =
+block-leaves g s caller (block.LoadAnchor site share) o sound has stands =
     let p : Point = Block (block.LoadAnchor site share) o in
-    let fit = (fits-now g s caller p sound has at).point in
+    let fit = (fits-now g s caller p sound has stands).point in
     inr
     (inr
     (some-leads (λ x. LeadsBelow g o 5 (after_anchor site share x)) (anchor_in site.seat.class (s.word (name.Anchor site.desc)))
-    (here-finds g s caller p site sound has at fit.0 refl) (λ x. omega arith)))
-block-leaves g s caller (block.LoadLink site share a) o sound has at = inr (inr (omega arith))
-block-leaves g s caller (block.PopBlock site share a prefix) o sound has at =
+    (here-finds g s caller p site sound has stands fit.0 refl) (λ x. omega arith)))
+block-leaves g s caller (block.LoadLink site share a) o sound has stands = inr (inr (omega arith))
+block-leaves g s caller (block.PopBlock site share a prefix) o sound has stands =
     exchanged g (λ q. enter_block q o) 3 (s.word (name.Anchor site.desc) == anchor_word a) (after_pop site a.avail (more_of share a))
     (block.LoadAnchor site share)
     (pop-below g site a.avail (more_of share a) o)
-block-leaves g s caller (block.StorePrefix site i) o sound has at = inr (inr (omega arith))
-block-leaves g s caller (block.InstallCredits site i more) o sound has at =
+block-leaves g s caller (block.StorePrefix site i) o sound has stands = inr (inr (omega arith))
+block-leaves g s caller (block.InstallCredits site i more) o sound has stands =
     exchanged g (λ q. enter_block q o) 2 (s.word (active_name site.seat) == active_word Null) (block.StorePrefix site i)
     (block.LoadReturn site i more)
     (omega arith)
-block-leaves g s caller (block.InstallSuperblock site) o sound has at =
+block-leaves g s caller (block.InstallSuperblock site) o sound has stands =
     exchanged g (λ q. enter_block q o) 2 (s.word (active_name site.seat) == active_word Null) (block.StorePrefix site 0) (block.Discarded site)
     (omega arith)
-block-leaves g s caller (block.LoadReturn site i more) o sound has at =
+block-leaves g s caller (block.LoadReturn site i more) o sound has stands =
     let p : Point = Block (block.LoadReturn site i more) o in
-    let fit = (fits-now g s caller p sound has at).point in
+    let fit = (fits-now g s caller p sound has stands).point in
     inr
     (inr
     (some-leads (λ x. LeadsBelow g o 7 (after_return_anchor site i more x)) (anchor_in site.seat.class (s.word (name.Anchor site.desc)))
-    (here-finds g s caller p site sound has at fit.0.site refl) (λ x. omega arith)))
-block-leaves g s caller (block.ReturnCredits site i more a) o sound has at =
+    (here-finds g s caller p site sound has stands fit.0.site refl) (λ x. omega arith)))
+block-leaves g s caller (block.ReturnCredits site i more a) o sound has stands =
     exchanged g (λ q. enter_block q o) 6 (s.word (name.Anchor site.desc) == anchor_word a) (block.Returned site i) (block.LoadReturn site i more)
     (omega arith)
-block-leaves g s caller (block.LoadPrefix seat frame i) o sound has at =
-    let fit = (fits-now g s caller (Block (block.LoadPrefix seat frame i) o) sound has at).point in
-    let finds = prefix-finds g s sound.parts.0 caller seat frame i o sound.checked sound.parts.1 has at in
+block-leaves g s caller (block.LoadPrefix seat frame i) o sound has stands =
+    let fit = (fits-now g s caller (Block (block.LoadPrefix seat frame i) o) sound has stands).point in
+    let finds = prefix-finds g s sound.parts.0 caller seat frame i o sound.checked sound.parts.1 has stands in
     inr
     (inr
     (subst (λ w. LeadsBelow g o (held_left g + 9) (after_prefix seat frame i w)) (sym finds.2)
     (prefix-below g seat frame i finds.0 o fit.0.geometry finds.1)))
-block-leaves g s caller (block.LoadPushAnchor site i stored) o sound has at =
+block-leaves g s caller (block.LoadPushAnchor site i stored) o sound has stands =
     let p : Point = Block (block.LoadPushAnchor site i stored) o in
-    let fit = (fits-now g s caller p sound has at).point in
+    let fit = (fits-now g s caller p sound has stands).point in
     inr
     (inr
     (some-leads (λ x. LeadsBelow g o (held_left g + 8) (after_push_anchor site i stored x))
     (anchor_in site.seat.class (s.word (name.Anchor site.desc)))
-    (here-finds g s caller p site sound has at fit.site refl) (λ x. grind arith)))
-block-leaves g s caller (block.StoreGuard site i a) o sound has at = inr (inr (omega arith))
-block-leaves g s caller (block.LoadOwner site i a) o sound has at =
-    let fit = (fits-now g s caller (Block (block.LoadOwner site i a) o) sound has at).point in
+    (here-finds g s caller p site sound has stands fit.site refl) (λ x. grind arith)))
+block-leaves g s caller (block.StoreGuard site i a) o sound has stands = inr (inr (omega arith))
+block-leaves g s caller (block.LoadOwner site i a) o sound has stands =
+    let fit = (fits-now g s caller (Block (block.LoadOwner site i a) o) sound has stands).point in
     inr
     (inr
     (some-leads (λ x. LeadsBelow g o (held_left g + 6) (after_owner site i a x)) (info_in site.seat.geometry (s.word (name.Info site.desc)))
     (info-finds g s sound.parts.0 caller site.seat site.desc sound.parts.1 fit.block.site.seat fit.block.site.desc) (λ x. omega arith)))
-block-leaves g s caller (block.StoreLink site i a stored heap) o sound has at = inr (inr (omega arith))
-block-leaves g s caller (block.PushBlock site i a stored heap) o sound has at =
+block-leaves g s caller (block.StoreLink site i a stored heap) o sound has stands = inr (inr (omega arith))
+block-leaves g s caller (block.PushBlock site i a stored heap) o sound has stands =
     exchanged g (λ q. enter_block q o) (held_left g + 4) (s.word (name.Anchor site.desc) == anchor_word a) (after_push site a stored heap)
     (block.LoadPushAnchor site i stored) (push-below g site a stored heap o)
-block-leaves g s caller (block.LinkBlock site i) o sound has at =
-    let fit = (fits-now g s caller (Block (block.LinkBlock site i) o) sound has at).point in
+block-leaves g s caller (block.LinkBlock site i) o sound has stands =
+    let fit = (fits-now g s caller (Block (block.LinkBlock site i) o) sound has stands).point in
     inr (inr (link-below g site i o fit.index))
-block-leaves g s caller (block.StoreInfo site) o sound has at = inr (inr (omega arith))
-block-leaves g s caller (block.StoreAnchor site) o sound has at = inr (inr (omega arith))
-block-leaves g s caller p o sound has at = absurd (true≢false (fits-now g s caller (Block p o) sound has at).inside)
+block-leaves g s caller (block.StoreInfo site) o sound has stands = inr (inr (omega arith))
+block-leaves g s caller (block.StoreAnchor site) o sound has stands = inr (inr (omega arith))
+block-leaves g s caller p o sound has stands = absurd (true≢false (fits-now g s caller (Block p o) sound has stands).inside)

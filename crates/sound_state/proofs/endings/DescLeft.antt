@@ -73,34 +73,34 @@ pub desc-leaves :
     (g : Geometry) (s : State) (caller : ℕ) (p : DescPoint) (o : Continuation) → IsSoundWithoutCounts g s → caller < g.callers
     → (s.errand caller).point ≡ Desc p o → LeavesLess g s (Desc p o)
 unfolding plan_point_of next_of steps_left
-desc-leaves g s caller (desc.LoadDescHead seat) o sound has at =
-    let fits = fits-now g s caller (Desc (desc.LoadDescHead seat) o) sound has at in
-    let (d, within, is) = looking-has g s sound caller seat o has at in
+desc-leaves g s caller (desc.LoadDescHead seat) o sound has stands =
+    let fits = fits-now g s caller (Desc (desc.LoadDescHead seat) o) sound has stands in
+    let (d, within, is) = looking-has g s sound caller seat o has stands in
     inr (inr (head-less g seat (s.word name.DescHead) d o (subst (λ k. d < descriptor_count k) (sym fits.point.geometry) within) is))
-desc-leaves g s caller (desc.StoreHazard seat d) o sound has at = inr (inr (omega arith))
-desc-leaves g s caller (desc.ReloadDescHead seat d) o sound has at =
+desc-leaves g s caller (desc.StoreHazard seat d) o sound has stands = inr (inr (omega arith))
+desc-leaves g s caller (desc.ReloadDescHead seat d) o sound has stands =
     exchanged g (λ q. enter_desc q o) (frame_left g seat + 4) (s.word name.DescHead == d + 1) (desc.LoadNextDesc seat d) (desc.LoadDescHead seat)
     (omega arith)
-desc-leaves g s caller (desc.LoadNextDesc seat d) o sound has at =
-    let fits = fits-now g s caller (Desc (desc.LoadNextDesc seat d) o) sound has at in
+desc-leaves g s caller (desc.LoadNextDesc seat d) o sound has stands =
+    let fits = fits-now g s caller (Desc (desc.LoadNextDesc seat d) o) sound has stands in
     inr (inr (next-less g seat d (s.word (name.Next d)) o
     (seat-most g seat.geometry (s.word (name.Next d)) fits.point.seat.geometry (sound.parts.1.listed.nexts d fits.point.desc))))
-desc-leaves g s caller (desc.PopDesc seat d next) o sound has at =
+desc-leaves g s caller (desc.PopDesc seat d next) o sound has stands =
     exchanged g (λ q. enter_desc q o) (frame_left g seat + 2) (s.word name.DescHead == d + 1) (desc.ClearAfterPop seat d) (desc.LoadDescHead seat)
     (omega arith)
-desc-leaves g s caller (desc.ClearAfterPop seat d) o sound has at = inr (inr (omega arith))
-desc-leaves g s caller (desc.ClearHazard seat) o sound has at =
-    let fits = fits-now g s caller (Desc (desc.ClearHazard seat) o) sound has at in
+desc-leaves g s caller (desc.ClearAfterPop seat d) o sound has stands = inr (inr (omega arith))
+desc-leaves g s caller (desc.ClearHazard seat) o sound has stands =
+    let fits = fits-now g s caller (Desc (desc.ClearHazard seat) o) sound has stands in
     inr (inr (cleared-less g seat o fits.goes))
-desc-leaves g s caller (desc.ReadHazard seat held i) o sound has at =
-    let fits = fits-now g s caller (Desc (desc.ReadHazard seat held i) o) sound has at in
+desc-leaves g s caller (desc.ReadHazard seat held i) o sound has stands =
+    let fits = fits-now g s caller (Desc (desc.ReadHazard seat held i) o) sound has stands in
     inr (inr (hazard-less g seat held i (s.word (name.Hazard i)) o fits.point.0.seat.geometry fits.point.1))
-desc-leaves g s caller (desc.LoadHeadToPush seat d) o sound has at =
-    let fits = fits-now g s caller (Desc (desc.LoadHeadToPush seat d) o) sound has at in
+desc-leaves g s caller (desc.LoadHeadToPush seat d) o sound has stands =
+    let fits = fits-now g s caller (Desc (desc.LoadHeadToPush seat d) o) sound has stands in
     inr (inr (link-less g seat d (s.word name.DescHead) o
     (seat-most g seat.geometry (s.word name.DescHead) fits.point.seat.geometry (head-most g s sound))))
-desc-leaves g s caller (desc.StoreNextDesc seat d top) o sound has at = inr (inr (omega arith))
-desc-leaves g s caller (desc.PushDesc seat d top) o sound has at =
+desc-leaves g s caller (desc.StoreNextDesc seat d top) o sound has stands = inr (inr (omega arith))
+desc-leaves g s caller (desc.PushDesc seat d top) o sound has stands =
     exchanged g (λ q. enter_desc q o) (resumed_left g seat o + 1) (s.word name.DescHead == top) (desc.Pushed seat d) (desc.LoadHeadToPush seat d)
     (omega arith)
-desc-leaves g s caller p o sound has at = absurd (true≢false (fits-now g s caller (Desc p o) sound has at).inside)
+desc-leaves g s caller p o sound has stands = absurd (true≢false (fits-now g s caller (Desc p o) sound has stands).inside)

@@ -97,18 +97,18 @@ run-said :
     (g : Geometry) (s : State) (l : Lists) (caller place : ℕ) (run : RunFields) (o : Continuation) → IsSoundWith g s l → caller < g.callers
     → (s.errand caller).point ≡ Large (large.LoadRunPrefix place run) o → prefix_of (s.word (name.Arena place)) ≡ Some (prefix.Large run.units)
 unfolding holds_of
-run-said g s l caller place run o old has at =
+run-said g s l caller place run o old has stands =
     let p : Point = Large (large.LoadRunPrefix place run) o in
-    let fit = fits-at g s l caller p old has at in
+    let fit = fits-at g s l caller p old has stands in
     let within : IsWithin 1 MAX_UNITS run.units = (fit.point.run.some, omega (arith, fit.point.run.within)) in
     let owned : IsOwned s caller place (need.Large run.units) =
     All-head (λ x. IsOwned s caller x.place x.need) (record { place = place; need = need.Large run.units; overwritten = false }) []
-    (frees-at g s l caller p old has at) in
+    (frees-at g s l caller p old has stands) in
     elim (old.tied.large place run.units owned.block.0 owned.block.1 owned.block.3) [
       | inl x ↦
           absurd
           (run-excepts place run o place
-          (subst (λ q. HoldsException (holds_of q) place) at (only-owner g s l caller place (need.Large run.units) old owned x)))
+          (subst (λ q. HoldsException (holds_of q) place) stands (only-owner g s l caller place (need.Large run.units) old owned x)))
       | inr is ↦ run-word (s.word (name.Arena place)) run.units within is
     ]
 
@@ -137,19 +137,19 @@ pub large-leaves :
     (g : Geometry) (s : State) (caller : ℕ) (p : LargePoint) (o : Continuation) → IsSoundWithoutCounts g s → caller < g.callers
     → (s.errand caller).point ≡ Large p o → LeavesLess g s (Large p o)
 unfolding plan_point_of next_of steps_left
-large-leaves g s caller (large.LoadUnits w) o sound has at = inr (inr (omega arith))
-large-leaves g s caller (large.TakeRun w bits) o sound has at = take_run-less g w bits o (s.word name.Units)
-large-leaves g s caller (large.StoreRunPrefix place run) o sound has at = inr (inr (omega arith))
-large-leaves g s caller (large.LoadRunPrefix place run) o sound has at =
-    prefix-less g place run o (s.word (name.Arena place)) run.units (run-said g s sound.parts.0 caller place run o sound.parts.1 has at)
-large-leaves g s caller (large.FreeRun place run) o sound has at = inr (inr (omega arith))
-large-leaves g s caller (large.StoreWord place i value) o sound has at = inr (inr (omega arith))
-large-leaves g s caller (large.LoadWord place i) o sound has at = inr (inr (omega arith))
-large-leaves g s caller (large.PutBlock k place n) o sound has at = put_shelf-less g k place n o (s.word (name.Shelf k))
-large-leaves g s caller (large.LoadShelf k) o sound has at =
-    let fit = fits-now g s caller (Large (large.LoadShelf k) o) sound has at in
+large-leaves g s caller (large.LoadUnits w) o sound has stands = inr (inr (omega arith))
+large-leaves g s caller (large.TakeRun w bits) o sound has stands = take_run-less g w bits o (s.word name.Units)
+large-leaves g s caller (large.StoreRunPrefix place run) o sound has stands = inr (inr (omega arith))
+large-leaves g s caller (large.LoadRunPrefix place run) o sound has stands =
+    prefix-less g place run o (s.word (name.Arena place)) run.units (run-said g s sound.parts.0 caller place run o sound.parts.1 has stands)
+large-leaves g s caller (large.FreeRun place run) o sound has stands = inr (inr (omega arith))
+large-leaves g s caller (large.StoreWord place i value) o sound has stands = inr (inr (omega arith))
+large-leaves g s caller (large.LoadWord place i) o sound has stands = inr (inr (omega arith))
+large-leaves g s caller (large.PutBlock k place n) o sound has stands = put_shelf-less g k place n o (s.word (name.Shelf k))
+large-leaves g s caller (large.LoadShelf k) o sound has stands =
+    let fit = fits-now g s caller (Large (large.LoadShelf k) o) sound has stands in
     shelf-less g k o (s.word (name.Shelf k)) (shelf-said g s sound.parts.0 k sound sound.parts.1 fit.point)
-large-leaves g s caller (large.TakeBlock k place n) o sound has at = got-less g k place n o (s.word (name.Shelf k))
-large-leaves g s caller (large.ConfirmNothing k) o sound has at = nothing-less g k o (s.word (name.Shelf k))
-large-leaves g s caller p o sound has at =
-    let fit = fits-now g s caller (Large p o) sound has at in absurd (true≢false fit.inside)
+large-leaves g s caller (large.TakeBlock k place n) o sound has stands = got-less g k place n o (s.word (name.Shelf k))
+large-leaves g s caller (large.ConfirmNothing k) o sound has stands = nothing-less g k o (s.word (name.Shelf k))
+large-leaves g s caller p o sound has stands =
+    let fit = fits-now g s caller (Large p o) sound has stands in absurd (true≢false fit.inside)

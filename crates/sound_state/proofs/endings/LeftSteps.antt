@@ -21,12 +21,12 @@ use Rattle.sound_state.proofs.endings.StackLeft.{stack-leaves}
 point-leaves :
     (g : Geometry) (s : State) (caller : ℕ) (p : Point) → IsSoundWithoutCounts g s → caller < g.callers → (s.errand caller).point ≡ p
     → is_idle p ≡ false → LeavesLess g s p
-point-leaves g s caller Idle sound has at busy = absurd (true≢false busy)
-point-leaves g s caller (Block p o) sound has at busy = block-leaves g s caller p o sound has at
-point-leaves g s caller (Stack p o) sound has at busy = stack-leaves g s caller p o sound has at
-point-leaves g s caller (Desc p o) sound has at busy = desc-leaves g s caller p o sound has at
-point-leaves g s caller (Partial p o) sound has at busy = partial-leaves g s caller p o sound has at
-point-leaves g s caller (Large p o) sound has at busy = large-leaves g s caller p o sound has at
+point-leaves g s caller Idle sound has stands busy = absurd (true≢false busy)
+point-leaves g s caller (Block p o) sound has stands busy = block-leaves g s caller p o sound has stands
+point-leaves g s caller (Stack p o) sound has stands busy = stack-leaves g s caller p o sound has stands
+point-leaves g s caller (Desc p o) sound has stands busy = desc-leaves g s caller p o sound has stands
+point-leaves g s caller (Partial p o) sound has stands busy = partial-leaves g s caller p o sound has stands
+point-leaves g s caller (Large p o) sound has stands busy = large-leaves g s caller p o sound has stands
 
 pub steps-go_on :
     (g : Geometry) (s : State) (caller : ℕ) (s' : State) → IsSoundWithoutCounts g s → caller < g.callers → Step s caller s' → GoesOn g s caller s'

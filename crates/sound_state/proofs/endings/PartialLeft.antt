@@ -101,14 +101,14 @@ taken-within :
     → (s.errand caller).point ≡ Partial (partial.LoadGrantAnchor site) o → is_empty (anchor_for s site.desc).state ≡ false
     → (anchor_for s site.desc).avail < block_count_of site.seat.class
 unfolding holds_of recalls_of
-taken-within g s l caller site o old has at used =
+taken-within g s l caller site o old has stands used =
     let p : Point = Partial (partial.LoadGrantAnchor site) o in
     let d : ℕ = site.desc in
-    let fit = fits-at g s l caller p old has at in
+    let fit = fits-at g s l caller p old has stands in
     let lies : IsLocated s d site.frame site.seat.class =
-    All-head (IsSo g s l caller) (located d site.frame site.seat.class) [] (so-at g s l caller p old has at) in
+    All-head (IsSo g s l caller) (located d site.frame site.seat.class) [] (so-at g s l caller p old has stands) in
     let keeps : 1 ≤ errand_keeps partly_used d (s.errand caller) =
-    subst (λ q. 1 ≤ kept_among partly_used d (holds_of q).kept) (sym at) (kept-itself partly_used d site.seat.class) in
+    subst (λ q. 1 ≤ kept_among partly_used d (holds_of q).kept) (sym stands) (kept-itself partly_used d site.seat.class) in
     let away : away_of g s l d ≡ 0 = keeps-near g s l caller d old has fit.point.desc keeps in
     let bound : IsTrue (is_bound g s l d) = rw (eq-eqb (away_of g s l d) 0 away, used) refl in
     let chained : IsChained (superblock_of g s d) = old.chained.chained d fit.point.desc bound in
@@ -119,31 +119,31 @@ pub partial-leaves :
     (g : Geometry) (s : State) (caller : ℕ) (p : PartialPoint) (o : Continuation) → IsSoundWithoutCounts g s → caller < g.callers
     → (s.errand caller).point ≡ Partial p o → LeavesLess g s (Partial p o)
 unfolding plan_point_of next_of steps_left
-partial-leaves g s caller (partial.LoadSlot seat) o sound has at =
-    let fit = fits-now g s caller (Partial (partial.LoadSlot seat) o) sound has at in
-    let exists : (heap_of seat < g.heaps) × (seat.class < CLASSES) = exists-at g s caller (Partial (partial.LoadSlot seat) o) sound has at in
+partial-leaves g s caller (partial.LoadSlot seat) o sound has stands =
+    let fit = fits-now g s caller (Partial (partial.LoadSlot seat) o) sound has stands in
+    let exists : (heap_of seat < g.heaps) × (seat.class < CLASSES) = exists-at g s caller (Partial (partial.LoadSlot seat) o) sound has stands in
     slot-less g seat o (s.word (slot_name seat)) fit.point.geometry
     (sound.parts.1.kept.slot_words (heap_of seat) seat.class exists.0 exists.1) fit.goes
-partial-leaves g s caller (partial.TakeSlot seat d) o sound has at = take_slot-less g seat d o (s.word (slot_name seat))
-partial-leaves g s caller (partial.LoadTakenInfo seat d) o sound has at =
-    let fit = fits-now g s caller (Partial (partial.LoadTakenInfo seat d) o) sound has at in
+partial-leaves g s caller (partial.TakeSlot seat d) o sound has stands = take_slot-less g seat d o (s.word (slot_name seat))
+partial-leaves g s caller (partial.LoadTakenInfo seat d) o sound has stands =
+    let fit = fits-now g s caller (Partial (partial.LoadTakenInfo seat d) o) sound has stands in
     info-less g seat d o (s.word (name.Info d)) fit.point.seat.geometry (sound.parts.1.chained.infos d fit.point.desc)
-partial-leaves g s caller (partial.StoreOwner site) o sound has at = inr (inr (omega arith))
-partial-leaves g s caller (partial.LoadGrantAnchor site) o sound has at =
+partial-leaves g s caller (partial.StoreOwner site) o sound has stands = inr (inr (omega arith))
+partial-leaves g s caller (partial.LoadGrantAnchor site) o sound has stands =
     anchor-less g site o (s.word (name.Anchor site.desc))
-    (taken-within g s sound.parts.0 caller site o sound.parts.1 has at)
-partial-leaves g s caller (partial.Grant site a) o sound has at = grant-less g site a o (s.word (name.Anchor site.desc))
-partial-leaves g s caller (partial.LoadOwner seat d) o sound has at =
-    let fit = fits-now g s caller (Partial (partial.LoadOwner seat d) o) sound has at in
+    (taken-within g s sound.parts.0 caller site o sound.parts.1 has stands)
+partial-leaves g s caller (partial.Grant site a) o sound has stands = grant-less g site a o (s.word (name.Anchor site.desc))
+partial-leaves g s caller (partial.LoadOwner seat d) o sound has stands =
+    let fit = fits-now g s caller (Partial (partial.LoadOwner seat d) o) sound has stands in
     owner-less g seat d o (s.word (name.Info d)) fit.point.seat.geometry (sound.parts.1.chained.infos d fit.point.desc)
-partial-leaves g s caller (partial.PutSlot seat d heap) o sound has at =
-    let fit = fits-now g s caller (Partial (partial.PutSlot seat d heap) o) sound has at in
+partial-leaves g s caller (partial.PutSlot seat d heap) o sound has stands =
+    let fit = fits-now g s caller (Partial (partial.PutSlot seat d heap) o) sound has stands in
     put_slot-less g seat d heap o (s.word (slot_of seat heap)) fit.point.seat.geometry
     (sound.parts.1.kept.slot_words heap seat.class fit.point.owner fit.point.seat.class) fit.goes
-partial-leaves g s caller (partial.LoadHeldSlot seat d heap) o sound has at = held-less g seat d heap o (s.word (slot_of seat heap))
-partial-leaves g s caller (partial.RemoveFromSlot seat d heap) o sound has at = remove-less g seat d heap o (s.word (slot_of seat heap))
-partial-leaves g s caller (partial.LoadListedAnchor seat d) o sound has at =
-    let fit = fits-now g s caller (Partial (partial.LoadListedAnchor seat d) o) sound has at in
+partial-leaves g s caller (partial.LoadHeldSlot seat d heap) o sound has stands = held-less g seat d heap o (s.word (slot_of seat heap))
+partial-leaves g s caller (partial.RemoveFromSlot seat d heap) o sound has stands = remove-less g seat d heap o (s.word (slot_of seat heap))
+partial-leaves g s caller (partial.LoadListedAnchor seat d) o sound has stands =
+    let fit = fits-now g s caller (Partial (partial.LoadListedAnchor seat d) o) sound has stands in
     listed-less g seat d o (s.word (name.Anchor d)) fit.goes
-partial-leaves g s caller p o sound has at =
-    let fit = fits-now g s caller (Partial p o) sound has at in absurd (true≢false fit.inside)
+partial-leaves g s caller p o sound has stands =
+    let fit = fits-now g s caller (Partial p o) sound has stands in absurd (true≢false fit.inside)

@@ -94,11 +94,11 @@ picks-some :
     (g : Geometry) (s : State) (caller : ℕ) (seat : SeatFields) (held : List ℕ) (i : ℕ) (o : Continuation) → IsSoundWithoutCounts g s → caller < g.callers
     → (s.errand caller).point ≡ point.Desc (desc.ReadHazard seat held i) o
     → IsSome (first_unheld (slice_set held i (s.word (name.Hazard i))) (s.errand caller).retired)
-picks-some g s caller seat held i o sound has at =
-    let fits = (fits-now g s caller (point.Desc (desc.ReadHazard seat held i) o) sound has at).point in
+picks-some g s caller seat held i o sound has stands =
+    let fits = (fits-now g s caller (point.Desc (desc.ReadHazard seat held i) o) sound has stands).point in
     let words = slice_set held i (s.word (name.Hazard i)) in
-    let few = few-used words (i + 1) (noted-unread g s sound.parts.0 caller seat held i o sound.parts.1 has at) in
-    let full = sound.parts.1.guarded.full caller has (ap spare_of at) in
+    let few = few-used words (i + 1) (noted-unread g s sound.parts.0 caller seat held i o sound.parts.1 has stands) in
+    let full = sound.parts.1.guarded.full caller has (ap spare_of stands) in
     some-picked words (s.errand caller).retired (retired-apart g s caller sound has) (omega (arith, few, full, fits.1))
 
 -- a call that goes on after a retirement
@@ -171,11 +171,11 @@ desc-settles :
     (g : Geometry) (s : State) (caller : ℕ) (p : DescPoint) (o : Continuation) → IsSoundWithoutCounts g s → caller < g.callers
     → (s.errand caller).point ≡ point.Desc p o → Settles g s (s.errand caller) (point.Desc p o)
 unfolding plan_point_of next_of
-desc-settles g s caller (desc.ReadHazard seat held i) o sound has at =
-    hazard-left g (s.errand caller) seat held i (s.word (name.Hazard i)) o (picks-some g s caller seat held i o sound has at)
-desc-settles g s caller (desc.Scanned seat held) o sound has at =
-    absurd (true≢false (fits-now g s caller (point.Desc (desc.Scanned seat held) o) sound has at).inside)
-desc-settles g s caller p o sound has at =
+desc-settles g s caller (desc.ReadHazard seat held i) o sound has stands =
+    hazard-left g (s.errand caller) seat held i (s.word (name.Hazard i)) o (picks-some g s caller seat held i o sound has stands)
+desc-settles g s caller (desc.Scanned seat held) o sound has stands =
+    absurd (true≢false (fits-now g s caller (point.Desc (desc.Scanned seat held) o) sound has stands).inside)
+desc-settles g s caller p o sound has stands =
     let x = found_in (point.Desc p o) (word_under s (point.Desc p o)) in
     listed-left g (s.errand caller) (enter_desc (settle_desc_of p x) o) (no-pick-desc p x o refl)
 
@@ -184,18 +184,18 @@ settles-at :
     (g : Geometry) (s : State) (caller : ℕ) (p : Point) → IsSoundWithoutCounts g s → caller < g.callers → (s.errand caller).point ≡ p
     → Settles g s (s.errand caller) p
 unfolding plan_point_of next_of
-settles-at g s caller point.Idle sound has at = listed-left g (s.errand caller) (At point.Idle) refl
-settles-at g s caller (point.Block p o) sound has at =
+settles-at g s caller point.Idle sound has stands = listed-left g (s.errand caller) (At point.Idle) refl
+settles-at g s caller (point.Block p o) sound has stands =
     let q = settle_block_of p (found_in (point.Block p o) (word_under s (point.Block p o))) in
     listed-left g (s.errand caller) (enter_block q o) (no-pick-block q o)
-settles-at g s caller (point.Stack p o) sound has at =
+settles-at g s caller (point.Stack p o) sound has stands =
     let q = settle_stack_of p (found_in (point.Stack p o) (word_under s (point.Stack p o))) in
     listed-left g (s.errand caller) (enter_stack q o) (no-pick-stack q o)
-settles-at g s caller (point.Desc p o) sound has at = desc-settles g s caller p o sound has at
-settles-at g s caller (point.Partial p o) sound has at =
+settles-at g s caller (point.Desc p o) sound has stands = desc-settles g s caller p o sound has stands
+settles-at g s caller (point.Partial p o) sound has stands =
     let q = settle_partial_of p (found_in (point.Partial p o) (word_under s (point.Partial p o))) in
     listed-left g (s.errand caller) (enter_partial q o) (no-pick-partial q o)
-settles-at g s caller (point.Large p o) sound has at =
+settles-at g s caller (point.Large p o) sound has stands =
     let q = settle_large_of p (found_in (point.Large p o) (word_under s (point.Large p o))) in
     listed-left g (s.errand caller) (enter_large q o) (no-pick-large q o)
 

@@ -91,32 +91,32 @@ pub stack-leaves :
     (g : Geometry) (s : State) (caller : ℕ) (p : StackPoint) (o : Continuation) → IsSoundWithoutCounts g s → caller < g.callers
     → (s.errand caller).point ≡ Stack p o → LeavesLess g s (Stack p o)
 unfolding plan_point_of next_of steps_left
-stack-leaves g s caller (stack.LoadTop seat pile) o sound has at =
-    let fits = fits-now g s caller (Stack (stack.LoadTop seat pile) o) sound has at in
+stack-leaves g s caller (stack.LoadTop seat pile) o sound has stands =
+    let fits = fits-now g s caller (Stack (stack.LoadTop seat pile) o) sound has stands in
     inr (inr (top-less g seat pile (head_of (s.word (head_name seat pile))) o fits.goes (top-within g s caller seat pile sound fits.point)))
-stack-leaves g s caller (stack.LoadBelow seat pile h) o sound has at =
-    let fits = fits-now g s caller (Stack (stack.LoadBelow seat pile h) o) sound has at in
+stack-leaves g s caller (stack.LoadBelow seat pile h) o sound has stands =
+    let fits = fits-now g s caller (Stack (stack.LoadBelow seat pile h) o) sound has stands in
     let next = s.word (next_name pile (h.top - 1)) in
     let most : next ≤ pile_limit seat.geometry pile =
     subst (λ k. next ≤ pile_limit k pile) (sym fits.point.seat.geometry)
     (next-most g s pile (h.top - 1) sound (omega (arith, fits.point.top.0, fits.point.top.1)))
     in
     inr (inr (below-less g seat pile h next o fits.goes most))
-stack-leaves g s caller (stack.PopTop seat pile h below) o sound has at =
-    let fits = fits-now g s caller (Stack (stack.PopTop seat pile h below) o) sound has at in
+stack-leaves g s caller (stack.PopTop seat pile h below) o sound has stands =
+    let fits = fits-now g s caller (Stack (stack.PopTop seat pile h below) o) sound has stands in
     exchanged g (λ q. enter_stack q o) (top_left g seat o - 2) (s.word (head_name seat pile) == head_word h) (stack.Popped seat pile (h.top - 1))
     (stack.LoadTop seat pile)
     (popped-less g seat pile (h.top - 1) o fits.goes)
-stack-leaves g s caller (stack.ConfirmEmpty seat pile h) o sound has at =
-    let fits = fits-now g s caller (Stack (stack.ConfirmEmpty seat pile h) o) sound has at in
+stack-leaves g s caller (stack.ConfirmEmpty seat pile h) o sound has stands =
+    let fits = fits-now g s caller (Stack (stack.ConfirmEmpty seat pile h) o) sound has stands in
     exchanged g (λ q. enter_stack q o) (top_left g seat o - 1) (s.word (head_name seat pile) == head_word h) (stack.ConfirmedEmpty seat pile)
     (stack.LoadTop seat pile)
     (confirmed-less g seat pile o fits.goes)
-stack-leaves g s caller (stack.LoadTopToPush seat pile i) o sound has at = inr (inr (omega arith))
-stack-leaves g s caller (stack.StoreBelow seat pile i h) o sound has at = inr (inr (omega arith))
-stack-leaves g s caller (stack.PushTop seat pile i h) o sound has at =
-    let fits = fits-now g s caller (Stack (stack.PushTop seat pile i h) o) sound has at in
+stack-leaves g s caller (stack.LoadTopToPush seat pile i) o sound has stands = inr (inr (omega arith))
+stack-leaves g s caller (stack.StoreBelow seat pile i h) o sound has stands = inr (inr (omega arith))
+stack-leaves g s caller (stack.PushTop seat pile i h) o sound has stands =
+    let fits = fits-now g s caller (Stack (stack.PushTop seat pile i h) o) sound has stands in
     exchanged g (λ q. enter_stack q o) (put_left g seat o + 1) (s.word (head_name seat pile) == head_word h) (stack.Pushed seat pile)
     (stack.LoadTopToPush seat pile i)
     (put-less g seat pile o fits.goes)
-stack-leaves g s caller p o sound has at = absurd (true≢false (fits-now g s caller (Stack p o) sound has at).inside)
+stack-leaves g s caller p o sound has stands = absurd (true≢false (fits-now g s caller (Stack p o) sound has stands).inside)

@@ -59,9 +59,9 @@ stale-apart s caller s' m step expects apart stale =
     let (e, may, word, differs) = stale-after s caller s' m step expects stale in
     elim may [
       | inl carried ↦
-          let (k, x, lt, at, same) = carried.0 in
+          let (k, x, lt, stands, same) = carried.0 in
           stale-by s caller m
-          (k, x, lt, at, (ap (λ y. y.word) same ∙ word, λ is. differs (step.word.elsewhere m apart ∙ is ∙ ap (λ y. y.value) same)))
+          (k, x, lt, stands, (ap (λ y. y.word) same ∙ word, λ is. differs (step.word.elsewhere m apart ∙ is ∙ ap (λ y. y.value) same)))
       | inr seen ↦ absurd (apart (sym word ∙ seen.word))
     ]
 

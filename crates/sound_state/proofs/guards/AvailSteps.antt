@@ -71,10 +71,10 @@ pub noted-below :
     (g : Geometry) (s : State) (caller d next : ℕ) (seat : SeatFields) (o : Continuation) → IsSoundWithoutCounts g s → caller < g.callers
     → (s.errand caller).point ≡ point.Desc (desc.PopDesc seat d next) o → IsAvailable g s d → s.word (name.Next d) ≡ next
 unfolding recalls_of
-noted-below g s caller d next seat o sound has at there =
+noted-below g s caller d next seat o sound has stands there =
     let l = sound.parts.0 in
     let old = sound.parts.1 in
-    let so = so-at g s l caller (point.Desc (desc.PopDesc seat d next) o) old has at in
+    let so = so-at g s l caller (point.Desc (desc.PopDesc seat d next) o) old has stands in
     let same : there.lists.available ≡ l.available =
     stacked-same _ _ there.lists.available l.available there.listed.available old.listed.available in
     All-head (IsSo g s l caller) (noted d next) (looked seat.class ∷ []) so (subst (λ xs. 0 < occurs d xs) same there.here)
@@ -84,8 +84,8 @@ pushed-below :
     (g : Geometry) (s : State) (l : Lists) (caller d top : ℕ) (seat : SeatFields) (o : Continuation) → IsSoundWith g s l → caller < g.callers
     → (s.errand caller).point ≡ point.Desc (desc.PushDesc seat d top) o → s.word (name.Next d) ≡ top
 unfolding recalls_of
-pushed-below g s l caller d top seat o old has at =
-    let so = so-at g s l caller (point.Desc (desc.PushDesc seat d top) o) old has at in
+pushed-below g s l caller d top seat o old has stands =
+    let so = so-at g s l caller (point.Desc (desc.PushDesc seat d top) o) old has stands in
     (All-head (IsSo g s l caller) (says (name.Next d) top) (resumed_recalls seat o) so).1
 
 -- after a pop the list is the rest of the one before it

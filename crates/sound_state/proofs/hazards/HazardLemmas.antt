@@ -92,18 +92,18 @@ pub record GoesHazard (g : Geometry) (s : State) (l : Lists) (caller : ℕ) (p q
 pub leads-at :
     (s : State) (caller : ℕ) (p q : Point) → (s.errand caller).point ≡ p → next_of p (found_from s p) ≡ At q
     → settle_of (s.errand caller) (found_at s caller) ≡ at_point (s.errand caller) (found_at s caller) q
-leads-at s caller p q at next =
+leads-at s caller p q stands next =
     let is : next_of (s.errand caller).point (found_from s (s.errand caller).point) ≡ At q =
-    subst (λ r. next_of r (found_from s r) ≡ At q) (sym at) next in
+    subst (λ r. next_of r (found_from s r) ≡ At q) (sym stands) next in
     settle-at (s.errand caller) (found_at s caller) q is
 
 -- it ends the call
 pub ends-at :
     (s : State) (caller : ℕ) (p : Point) (r : Reply) → (s.errand caller).point ≡ p → next_of p (found_from s p) ≡ End r
     → settle_of (s.errand caller) (found_at s caller) ≡ at_point (s.errand caller) (found_at s caller) Idle
-ends-at s caller p r at next =
+ends-at s caller p r stands next =
     let is : next_of (s.errand caller).point (found_from s (s.errand caller).point) ≡ End r =
-    subst (λ q. next_of q (found_from s q) ≡ End r) (sym at) next in
+    subst (λ q. next_of q (found_from s q) ≡ End r) (sym stands) next in
     settle-end (s.errand caller) (found_at s caller) r is
 
 -- where a scan ends: at the push of what it picked; where it picked nothing the point stays
@@ -122,10 +122,10 @@ pub picks-at :
     (s : State) (caller : ℕ) (p : Point) (seat : SeatFields) (held : List ℕ) (o : Continuation) (r : Option ℕ) → (s.errand caller).point ≡ p
     → next_of p (found_from s p) ≡ Pick seat held o → first_unheld held (s.errand caller).retired ≡ r
     → settle_of (s.errand caller) (found_at s caller) ≡ at_point (s.errand caller) (found_at s caller) (picked_point p seat o r)
-picks-at s caller p seat held o r at next pick =
+picks-at s caller p seat held o r stands next pick =
     let is : next_of (s.errand caller).point (found_from s (s.errand caller).point) ≡ Pick seat held o =
-    subst (λ q. next_of q (found_from s q) ≡ Pick seat held o) (sym at) next in
-    subst (λ q. settle_of (s.errand caller) (found_at s caller) ≡ at_point (s.errand caller) (found_at s caller) (picked_point q seat o r)) at
+    subst (λ q. next_of q (found_from s q) ≡ Pick seat held o) (sym stands) next in
+    subst (λ q. settle_of (s.errand caller) (found_at s caller) ≡ at_point (s.errand caller) (found_at s caller) (picked_point q seat o r)) stands
     (settle-picked (s.errand caller) (found_at s caller) seat held o r is pick)
 
 -- a step that reads a word

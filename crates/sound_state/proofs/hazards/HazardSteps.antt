@@ -50,17 +50,17 @@ pub store_hazard-sound :
     (g : Geometry) (s : State) (caller : ℕ) (s' : State) (seat : SeatFields) (d : ℕ) (o : Continuation) → IsSoundWithoutCounts g s → caller < g.callers
     → (s.errand caller).point ≡ Desc (desc.StoreHazard seat d) o → Step s caller s' → IsSoundWithoutCounts g s'
 unfolding plan_point_of next_of event_of holds_of recalls_of
-store_hazard-sound g s caller s' seat d o sound has at step =
+store_hazard-sound g s caller s' seat d o sound has stands step =
     let p = Desc (desc.StoreHazard seat d) o in
     let q = Desc (desc.ReloadDescHead seat d) o in
-    let fits = (fits-at g s sound.parts.0 caller p sound.parts.1 has at).point in
-    store-hazard g s caller s' p q (d + 1) sound has at (leads-at s caller p q at refl) (ap name.Hazard fits.seat.number) refl
+    let fits = (fits-at g s sound.parts.0 caller p sound.parts.1 has stands).point in
+    store-hazard g s caller s' p q (d + 1) sound has stands (leads-at s caller p q stands refl) (ap name.Hazard fits.seat.number) refl
     (name-below g d sound.checked fits.desc)
     (λ l old. record {
       event = refl;
       cleared = refl;
       holds = grind (arith);
-      so = so-at g s l caller p old has at;
+      so = so-at g s l caller p old has stands;
       guards = plain-guards g s caller q (s.errand caller).retired (d + 1) refl (λ e is guard. absurd guard) refl refl refl;
     })
     step
@@ -76,21 +76,21 @@ pub reload_desc_head_same-sound :
     (g : Geometry) (s : State) (caller : ℕ) (s' : State) (seat : SeatFields) (d : ℕ) (o : Continuation) → IsSoundWithoutCounts g s → caller < g.callers
     → (s.errand caller).point ≡ Desc (desc.ReloadDescHead seat d) o → s.word name.DescHead ≡ d + 1 → Step s caller s' → IsSoundWithoutCounts g s'
 unfolding plan_point_of next_of event_of holds_of recalls_of
-reload_desc_head_same-sound g s caller s' seat d o sound has at same step =
+reload_desc_head_same-sound g s caller s' seat d o sound has stands same step =
     let yes_same = eq-eqb (s.word name.DescHead) (d + 1) same in
     let p = Desc (desc.ReloadDescHead seat d) o in
     let q = Desc (desc.LoadNextDesc seat d) o in
-    read-hazard g s caller s' p q sound has at (leads-at s caller p q at (rw yes_same refl)) refl
+    read-hazard g s caller s' p q sound has stands (leads-at s caller p q stands (rw yes_same refl)) refl
     (λ l old.
-    let named : s.word (name.Hazard caller) ≡ d + 1 = hazard-at g s l caller p old has at in
-    let fits = (fits-at g s l caller p old has at).point in
+    let named : s.word (name.Hazard caller) ≡ d + 1 = hazard-at g s l caller p old has stands in
+    let fits = (fits-at g s l caller p old has stands).point in
     let on : 1 ≤ occurs d l.available = top-occurs (next_in s.word Partials) d l.available (subst (λ w. Stacked (next_in s.word Partials) w l.available) same old.listed.available) in
     let free = available-unretired g s l d old fits.desc on in
     record {
       event = refl;
       cleared = refl;
       holds = grind (arith);
-      so = so-at g s l caller p old has at;
+      so = so-at g s l caller p old has stands;
       guards =
           plain-guards g s caller q (s.errand caller).retired (s.word (name.Hazard caller)) named
           (λ e is guard.
@@ -103,10 +103,10 @@ reload_desc_head_same-sound g s caller s' seat d o sound has at same step =
 pub reload_desc_head-sound :
     (g : Geometry) (s : State) (caller : ℕ) (s' : State) (seat : SeatFields) (d : ℕ) (o : Continuation) → IsSoundWithoutCounts g s → caller < g.callers
     → (s.errand caller).point ≡ Desc (desc.ReloadDescHead seat d) o → Step s caller s' → IsSoundWithoutCounts g s'
-reload_desc_head-sound g s caller s' seat d o sound has at step =
+reload_desc_head-sound g s caller s' seat d o sound has stands step =
     elim (cases_eq (s.word name.DescHead) (d + 1)) [
-      | inl same ↦ reload_desc_head_same-sound g s caller s' seat d o sound has at same step
-      | inr other ↦ reload_desc_head_other-sound g s caller s' seat d o sound has at other step
+      | inl same ↦ reload_desc_head_same-sound g s caller s' seat d o sound has stands same step
+      | inr other ↦ reload_desc_head_other-sound g s caller s' seat d o sound has stands other step
     ]
 
 -- the descriptor is popped: the hazard word is cleared
@@ -114,37 +114,37 @@ pub clear_after_pop-sound :
     (g : Geometry) (s : State) (caller : ℕ) (s' : State) (seat : SeatFields) (d : ℕ) (o : Continuation) → IsSoundWithoutCounts g s → caller < g.callers
     → (s.errand caller).point ≡ Desc (desc.ClearAfterPop seat d) o → Step s caller s' → IsSoundWithoutCounts g s'
 unfolding plan_point_of next_of event_of holds_of recalls_of
-clear_after_pop-sound g s caller s' seat d (continuation.Alloc words) sound has at step =
+clear_after_pop-sound g s caller s' seat d (continuation.Alloc words) sound has stands step =
     let p = Desc (desc.ClearAfterPop seat d) (continuation.Alloc words) in
     let q = Stack (stack.LoadTop seat Frames) (continuation.TakeFrame words d) in
-    let fits = (fits-at g s sound.parts.0 caller p sound.parts.1 has at).point in
-    store-hazard g s caller s' p q 0 sound has at (leads-at s caller p q at refl) (ap name.Hazard fits.seat.number) refl (omega arith)
+    let fits = (fits-at g s sound.parts.0 caller p sound.parts.1 has stands).point in
+    store-hazard g s caller s' p q 0 sound has stands (leads-at s caller p q stands refl) (ap name.Hazard fits.seat.number) refl (omega arith)
     (λ l old. record {
       event = refl;
       cleared = refl;
       holds = grind (arith);
-      so = so-at g s l caller p old has at;
+      so = so-at g s l caller p old has stands;
       guards = plain-guards g s caller q (s.errand caller).retired 0 refl (λ e is guard. absurd guard) refl refl refl;
     })
     step
-clear_after_pop-sound g s caller s' seat d o sound has at step =
-    let bad : ⊥ = cc ((fits-at g s sound.parts.0 caller (Desc (desc.ClearAfterPop seat d) o) sound.parts.1 has at).goes) in absurd bad
+clear_after_pop-sound g s caller s' seat d o sound has stands step =
+    let bad : ⊥ = cc ((fits-at g s sound.parts.0 caller (Desc (desc.ClearAfterPop seat d) o) sound.parts.1 has stands).goes) in absurd bad
 
 -- a free clears its hazard word and looks through the list
 pub clear_hazard_looks-sound :
     (g : Geometry) (s : State) (caller : ℕ) (s' : State) (seat : SeatFields) → IsSoundWithoutCounts g s → caller < g.callers
     → (s.errand caller).point ≡ Desc (desc.ClearHazard seat) continuation.Clear → Step s caller s' → IsSoundWithoutCounts g s'
 unfolding plan_point_of next_of event_of holds_of recalls_of
-clear_hazard_looks-sound g s caller s' seat sound has at step =
+clear_hazard_looks-sound g s caller s' seat sound has stands step =
     let p = Desc (desc.ClearHazard seat) continuation.Clear in
     let q = Stack (stack.LoadTop seat Partials) continuation.Clear in
-    let fits = (fits-at g s sound.parts.0 caller p sound.parts.1 has at).point in
-    store-hazard g s caller s' p q 0 sound has at (leads-at s caller p q at refl) (ap name.Hazard fits.number) refl (omega arith)
+    let fits = (fits-at g s sound.parts.0 caller p sound.parts.1 has stands).point in
+    store-hazard g s caller s' p q 0 sound has stands (leads-at s caller p q stands refl) (ap name.Hazard fits.number) refl (omega arith)
     (λ l old. record {
       event = refl;
       cleared = refl;
       holds = grind (arith);
-      so = so-at g s l caller p old has at;
+      so = so-at g s l caller p old has stands;
       guards = plain-guards g s caller q (s.errand caller).retired 0 refl (λ e is guard. absurd guard) refl refl refl;
     })
     step
@@ -154,10 +154,10 @@ pub clear_hazard_ends-sound :
     (g : Geometry) (s : State) (caller : ℕ) (s' : State) (seat : SeatFields) → IsSoundWithoutCounts g s → caller < g.callers
     → (s.errand caller).point ≡ Desc (desc.ClearHazard seat) continuation.EndFree → Step s caller s' → IsSoundWithoutCounts g s'
 unfolding plan_point_of next_of event_of holds_of recalls_of
-clear_hazard_ends-sound g s caller s' seat sound has at step =
+clear_hazard_ends-sound g s caller s' seat sound has stands step =
     let p = Desc (desc.ClearHazard seat) continuation.EndFree in
-    let fits = (fits-at g s sound.parts.0 caller p sound.parts.1 has at).point in
-    store-hazard g s caller s' p Idle 0 sound has at (ends-at s caller p reply.Freed at refl) (ap name.Hazard fits.number) refl (omega arith)
+    let fits = (fits-at g s sound.parts.0 caller p sound.parts.1 has stands).point in
+    store-hazard g s caller s' p Idle 0 sound has stands (ends-at s caller p reply.Freed stands refl) (ap name.Hazard fits.number) refl (omega arith)
     (λ l old. record {
       event = refl;
       cleared = refl;
@@ -173,15 +173,15 @@ pub store_guard-sound :
     (g : Geometry) (s : State) (caller : ℕ) (s' : State) (site : Site) (i : ℕ) (a : AnchorFields) (o : Continuation) → IsSoundWithoutCounts g s → caller < g.callers
     → (s.errand caller).point ≡ Block (block.StoreGuard site i a) o → Step s caller s' → IsSoundWithoutCounts g s'
 unfolding plan_point_of next_of event_of holds_of recalls_of
-store_guard-sound g s caller s' site i a o sound has at step =
+store_guard-sound g s caller s' site i a o sound has stands step =
     let d = site.desc in
     let p = Block (block.StoreGuard site i a) o in
     let q = Block (block.LoadOwner site i a) o in
-    let fits = (fits-at g s sound.parts.0 caller p sound.parts.1 has at).point in
-    store-hazard g s caller s' p q (d + 1) sound has at (leads-at s caller p q at refl) (ap name.Hazard fits.block.site.seat.number) refl
+    let fits = (fits-at g s sound.parts.0 caller p sound.parts.1 has stands).point in
+    store-hazard g s caller s' p q (d + 1) sound has stands (leads-at s caller p q stands refl) (ap name.Hazard fits.block.site.seat.number) refl
     (name-below g d sound.checked fits.block.site.desc)
     (λ l old.
-    let bound : IsTrue (is_bound g s l d) = (so-at g s l caller p old has at 0 (bound_at d site.frame site.seat.class) (omega arith)).0 in
+    let bound : IsTrue (is_bound g s l d) = (so-at g s l caller p old has stands 0 (bound_at d site.frame site.seat.class) (omega arith)).0 in
     let near : away_of g s l d ≡ 0 = bound-away g s l d bound in
     let none : callers_sum g (errand_away d) s.errand ≡ 0 = omega (arith, near) in
     let free = bound-unretired g s l d old none in
@@ -189,7 +189,7 @@ store_guard-sound g s caller s' site i a o sound has at step =
       event = refl;
       cleared = refl;
       holds = grind (arith);
-      so = so-at g s l caller p old has at;
+      so = so-at g s l caller p old has stands;
       guards =
           plain-guards g s caller q (s.errand caller).retired (d + 1) refl
           (λ e is guard.
@@ -206,8 +206,8 @@ held-room g held i checked words has = omega (arith, checked.callers.1, words, h
 passed-at :
     (g : Geometry) (s : State) (l : Lists) (caller : ℕ) (p : Point) → IsSoundWith g s l → caller < g.callers → (s.errand caller).point ≡ p
     → (k d : ℕ) → k < g.callers → Guards s k d → Contains (s.errand caller).retired d → k < passed_by p → slice_index (held_by p) k ≡ d + 1
-passed-at g s l caller p old has at =
-    subst (λ q. (k d : ℕ) → k < g.callers → Guards s k d → Contains (s.errand caller).retired d → k < passed_by q → slice_index (held_by q) k ≡ d + 1) at
+passed-at g s l caller p old has stands =
+    subst (λ q. (k d : ℕ) → k < g.callers → Guards s k d → Contains (s.errand caller).retired d → k < passed_by q → slice_index (held_by q) k ≡ d + 1) stands
     (λ k d has_k guards listed below. old.guarded.passed k caller d has_k has guards listed below)
 
 -- with the word that it reads it has passed one more caller
@@ -215,14 +215,14 @@ noted-passed :
     (g : Geometry) (s : State) (l : Lists) (caller : ℕ) (seat : SeatFields) (held : List ℕ) (i : ℕ) (o : Continuation) → IsSoundWith g s l
     → caller < g.callers → (s.errand caller).point ≡ Desc (desc.ReadHazard seat held i) o → i < length held → (k d : ℕ) → k < g.callers → Guards s k d
     → Contains (s.errand caller).retired d → k < i + 1 → slice_index (slice_set held i (s.word (name.Hazard i))) k ≡ d + 1
-noted-passed g s l caller seat held i o old has at room k d has_k guards listed below =
+noted-passed g s l caller seat held i o old has stands room k d has_k guards listed below =
     elim (cases_eq k i) [
       | inl same ↦
           get_or-set_at held i k (s.word (name.Hazard i)) 0 same room ∙ ap (λ j. s.word (name.Hazard j)) (sym same) ∙ guards.word
       | inr differ ↦
           let less : k < i = omega (arith, below, differ) in
           get_or-set_other held i k (s.word (name.Hazard i)) 0 differ
-          ∙ passed-at g s l caller (Desc (desc.ReadHazard seat held i) o) old has at k d has_k guards listed less
+          ∙ passed-at g s l caller (Desc (desc.ReadHazard seat held i) o) old has stands k d has_k guards listed less
     ]
 
 -- and goes on to the next one
@@ -230,26 +230,26 @@ pub read_hazard_next-sound :
     (g : Geometry) (s : State) (caller : ℕ) (s' : State) (seat : SeatFields) (held : List ℕ) (i : ℕ) (o : Continuation) → IsSoundWithoutCounts g s
     → caller < g.callers → (s.errand caller).point ≡ Desc (desc.ReadHazard seat held i) o → i + 1 < g.callers → Step s caller s' → IsSoundWithoutCounts g s'
 unfolding plan_point_of next_of event_of holds_of recalls_of
-read_hazard_next-sound g s caller s' seat held i o sound has at more step =
+read_hazard_next-sound g s caller s' seat held i o sound has stands more step =
     let word = s.word (name.Hazard i) in
     let noted = slice_set held i word in
     let p = Desc (desc.ReadHazard seat held i) o in
     let q = Desc (desc.ReadHazard seat noted (i + 1)) o in
-    let fits = (fits-at g s sound.parts.0 caller p sound.parts.1 has at).point in
+    let fits = (fits-at g s sound.parts.0 caller p sound.parts.1 has stands).point in
     let goes_on : nat_lt (i + 1) seat.geometry.callers ≡ true =
     subst (λ h. nat_lt (i + 1) h.callers ≡ true) (sym fits.0.seat.geometry) (lt-ltb (i + 1) g.callers more) in
-    read-hazard g s caller s' p q sound has at (leads-at s caller p q at (rw goes_on refl)) refl
+    read-hazard g s caller s' p q sound has stands (leads-at s caller p q stands (rw goes_on refl)) refl
     (λ l old. record {
       event = refl;
       cleared = refl;
       holds = grind (arith);
-      so = so-at g s l caller p old has at;
+      so = so-at g s l caller p old has stands;
       guards = record {
-        hazard = hazard-at g s l caller p old has at;
+        hazard = hazard-at g s l caller p old has stands;
         guard = λ d is guard. absurd guard;
         pushed = λ k d has_k guards is. absurd (none-some d is);
-        passed = noted-passed g s l caller seat held i o old has at (held-room g held i sound.checked fits.0.words fits.1);
-        unread = noted-unread g s l caller seat held i o old has at;
+        passed = noted-passed g s l caller seat held i o old has stands (held-room g held i sound.checked fits.0.words fits.1);
+        unread = noted-unread g s l caller seat held i o old has stands;
       };
     })
     step
@@ -260,50 +260,50 @@ read-picks :
     → caller < g.callers → (s.errand caller).point ≡ Desc (desc.ReadHazard seat held i) o → g.callers ≤ i + 1
     → first_unheld (slice_set held i (s.word (name.Hazard i))) (s.errand caller).retired ≡ r → Step s caller s' → IsSoundWithoutCounts g s'
 unfolding plan_point_of next_of event_of holds_of recalls_of
-read-picks g s caller s' seat held i o None sound has at last pick step =
+read-picks g s caller s' seat held i o None sound has stands last pick step =
     let p = Desc (desc.ReadHazard seat held i) o in
     let noted = slice_set held i (s.word (name.Hazard i)) in
-    let fits = (fits-at g s sound.parts.0 caller p sound.parts.1 has at).point in
+    let fits = (fits-at g s sound.parts.0 caller p sound.parts.1 has stands).point in
     let ends : nat_lt (i + 1) seat.geometry.callers ≡ false =
     subst (λ h. nat_lt (i + 1) h.callers ≡ false) (sym fits.0.seat.geometry) (le-ltb (i + 1) g.callers last) in
-    read-hazard g s caller s' p p sound has at (picks-at s caller p seat noted o None at (rw ends refl) pick) refl
+    read-hazard g s caller s' p p sound has stands (picks-at s caller p seat noted o None stands (rw ends refl) pick) refl
     (λ l old. record {
       event = refl;
       cleared = refl;
       holds = grind (arith);
-      so = so-at g s l caller p old has at;
+      so = so-at g s l caller p old has stands;
       guards = record {
-        hazard = hazard-at g s l caller p old has at;
+        hazard = hazard-at g s l caller p old has stands;
         guard = λ d is guard. absurd guard;
         pushed = λ k d has_k guards is. absurd (none-some d is);
-        passed = passed-at g s l caller p old has at;
-        unread = unread-at g s l caller p old has at;
+        passed = passed-at g s l caller p old has stands;
+        unread = unread-at g s l caller p old has stands;
       };
     })
     step
-read-picks g s caller s' seat held i o (Some d) sound has at last pick step =
+read-picks g s caller s' seat held i o (Some d) sound has stands last pick step =
     let p = Desc (desc.ReadHazard seat held i) o in
     let q = Desc (desc.LoadHeadToPush seat d) o in
     let noted = slice_set held i (s.word (name.Hazard i)) in
-    let fits = (fits-at g s sound.parts.0 caller p sound.parts.1 has at).point in
+    let fits = (fits-at g s sound.parts.0 caller p sound.parts.1 has stands).point in
     let room = held-room g held i sound.checked fits.0.words fits.1 in
     let ends : nat_lt (i + 1) seat.geometry.callers ≡ false =
     subst (λ h. nat_lt (i + 1) h.callers ≡ false) (sym fits.0.seat.geometry) (le-ltb (i + 1) g.callers last) in
     let listed : Contains (s.errand caller).retired d = some-listed noted (s.errand caller).retired d pick in
-    read-hazard g s caller s' p q sound has at (picks-at s caller p seat noted o (Some d) at (rw ends refl) pick) refl
+    read-hazard g s caller s' p q sound has stands (picks-at s caller p seat noted o (Some d) stands (rw ends refl) pick) refl
     (λ l old. record {
       event = refl;
       cleared = refl;
       holds = grind (arith);
-      so = so-at g s l caller p old has at;
+      so = so-at g s l caller p old has stands;
       guards = record {
-        hazard = hazard-at g s l caller p old has at;
+        hazard = hazard-at g s l caller p old has stands;
         guard = λ e is guard. absurd guard;
         pushed = λ k e has_k guards is.
             let one : e ≡ d = sym (same_Some d e is) in
             let mine : Guards s k d = subst (Guards s k) one guards in
             let named : slice_index noted k ≡ d + 1 =
-            noted-passed g s l caller seat held i o old has at room k d has_k mine listed (omega (arith, has_k, last)) in
+            noted-passed g s l caller seat held i o old has stands room k d has_k mine listed (omega (arith, has_k, last)) in
             let long : k < length noted =
             omega (arith, length-set held i (s.word (name.Hazard i)), held-room g held k sound.checked fits.0.words has_k) in
             some-free noted (s.errand caller).retired d pick (k, long, get_or_default noted k (d + 1) 0 long ∙ named);
@@ -317,10 +317,10 @@ read-picks g s caller s' seat held i o (Some d) sound has at last pick step =
 pub read_hazard-sound :
     (g : Geometry) (s : State) (caller : ℕ) (s' : State) (seat : SeatFields) (held : List ℕ) (i : ℕ) (o : Continuation) → IsSoundWithoutCounts g s
     → caller < g.callers → (s.errand caller).point ≡ Desc (desc.ReadHazard seat held i) o → Step s caller s' → IsSoundWithoutCounts g s'
-read_hazard-sound g s caller s' seat held i o sound has at step =
+read_hazard-sound g s caller s' seat held i o sound has stands step =
     elim (cases_Bool (nat_lt (i + 1) g.callers)) [
-      | inl more ↦ read_hazard_next-sound g s caller s' seat held i o sound has at (ltb-true (i + 1) g.callers more) step
+      | inl more ↦ read_hazard_next-sound g s caller s' seat held i o sound has stands (ltb-true (i + 1) g.callers more) step
       | inr none ↦
-          read-picks g s caller s' seat held i o (first_unheld (slice_set held i (s.word (name.Hazard i))) (s.errand caller).retired) sound has at
+          read-picks g s caller s' seat held i o (first_unheld (slice_set held i (s.word (name.Hazard i))) (s.errand caller).retired) sound has stands
           (ltb-false (i + 1) g.callers none) refl step
     ]

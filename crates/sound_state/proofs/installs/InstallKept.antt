@@ -143,7 +143,7 @@ installed-stocked g s l caller at words e s' h sound = record {
 
 -- the frame goes from the caller's hand to the superblock
 installing-frames : (f : ℕ) (at : Site) → ◌≡◌ {A = ℕ} (occurs f (installing_holds at).frames) (if at.frame == f then 1 else 0)
-installing-frames f at = grind (arith)
+installing-frames f stands = grind (arith)
 
 fills-frame :
     (g : Geometry) (s : State) (l : Lists) (d f frame : ℕ) → IsTrue (is_bound g s l d) → waiting_of g s d ≡ 0 → (info_for s d).frame ≡ frame

@@ -80,11 +80,11 @@ runs-apart g s sound first other units more unit a b at_a at_b of_a of_b ne from
 -- who frees a run excepts nothing
 free-excepts : (e : ErrandFields) (place : ℕ) (run : RunFields) (o : Continuation) (p : ℕ) → e.point ≡ Large (large.FreeRun place run) o → Excepts e p → ⊥
 unfolding holds_of
-free-excepts e place run o p at (inl x) =
-    let none : Any (λ b. b.place ≡ p) [] = subst (λ q. Any (λ b. b.place ≡ p) (holds_of q).hands) at x in omega (arith, none.2)
-free-excepts e place run o p at (inr x) =
+free-excepts e place run o p stands (inl x) =
+    let none : Any (λ b. b.place ≡ p) [] = subst (λ q. Any (λ b. b.place ≡ p) (holds_of q).hands) stands x in omega (arith, none.2)
+free-excepts e place run o p stands (inr x) =
     let one : Any (λ b. (b.place ≡ p) × IsTrue b.overwritten) (freed place (need.Large run.units) false) =
-    subst (λ q. Any (λ b. (b.place ≡ p) × IsTrue b.overwritten) (holds_of q).frees) at x in
+    subst (λ q. Any (λ b. (b.place ≡ p) × IsTrue b.overwritten) (holds_of q).frees) stands x in
     let is = any-one (λ b. (b.place ≡ p) × IsTrue b.overwritten) _ one in
     let bad : IsTrue false = is.1 in absurd (cc)
 
@@ -181,7 +181,7 @@ free-tied :
     → IsSoundWithoutCounts g s → IsSoundWith g s l → (s.errand caller).point ≡ Large (large.FreeRun place run) o → IsRunAt g place run
     → Writes s.word name.Units (without_run (s.word name.Units) run.first run.units) s'.word → IsBareHanded e.point
     → (a : Block) → a.owner ≡ Caller caller → a.need ≡ need.Large run.units → IsGone s s' place a → IsTied g s' l
-free-tied g s l caller place run o s' e h sound old at fit w bare_after a owned of c =
+free-tied g s l caller place run o s' e h sound old stands fit w bare_after a owned of c =
     let tied = old.tied in
     let gone = λ (p : ℕ) (b : Block) (here : p ≡ place) (live : IsLive s' p b).
     not-live s' place p b c.gone here live in
@@ -210,7 +210,7 @@ free-tied g s l caller place run o s' e h sound old at fit w bare_after a owned 
       contents = λ p i v b live written.
           w.elsewhere (name.Arena (p + 1 + i)) (λ same. cc)
           ∙ tied.contents p i v b (sym (c.elsewhere p (λ here. gone p b here live)) ∙ live) written;
-      excepts = λ p ne excepts. absurd (free-excepts (s.errand caller) place run o p at excepts);
+      excepts = λ p ne excepts. absurd (free-excepts (s.errand caller) place run o p stands excepts);
       hands = owns.0;
       frees = owns.1;
     }) tied
@@ -219,17 +219,17 @@ pub free_run-sound :
     (g : Geometry) (s : State) (caller : ℕ) (s' : State) (place : ℕ) (run : RunFields) (o : Continuation) → IsSoundWithoutCounts g s → caller < g.callers
     → (s.errand caller).point ≡ Large (large.FreeRun place run) o → Step s caller s' → IsSoundWithoutCounts g s'
 unfolding holds_of
-free_run-sound g s caller s' place run o sound has at step =
+free_run-sound g s caller s' place run o sound has stands step =
     let l = sound.parts.0 in
     let old = sound.parts.1 in
     let p : Point = Large (large.FreeRun place run) o in
-    let fit = fits-at g s l caller p old has at in
+    let fit = fits-at g s l caller p old has stands in
     let owned : IsOwned s caller place (need.Large run.units) =
-    All-head (λ x. IsOwned s caller x.place x.need) (record { place = place; need = need.Large run.units; overwritten = false }) [] (frees-at g s l caller p old has at) in
+    All-head (λ x. IsOwned s caller x.place x.need) (record { place = place; need = need.Large run.units; overwritten = false }) [] (frees-at g s l caller p old has stands) in
     let a : Block = owned.block.0 in
     let allowed : IsAllowed g s.history (Free caller place) = (a, owned.block.1, owned.block.2) in
     let t =
-    touched-step g s l caller s' p Idle name.Units (without_run (s.word name.Units) run.first run.units) (s.history ++ Free caller place ∷ []) old has at
+    touched-step g s l caller s' p Idle name.Units (without_run (s.word name.Units) run.first run.units) (s.history ++ Free caller place ∷ []) old has stands
     (free-touches g s l caller place run o old fit.point allowed) step in
     let pool : pool_of s'.history ≡ without place (pool_of s.history) = ap pool_of t.history ∙ pool_of-push s.history (Free caller place) in
     let c : IsGone s s' place a = record {
@@ -241,4 +241,4 @@ free_run-sound g s caller s' place run o sound has at step =
       elsewhere = λ q ne. ap (block_at q) pool ∙ block_at-without_other place q (pool_of s.history) ne;
     } in
     touched-sound g s l caller _ _ _ (Free caller place) s' sound old (has, allowed) t
-    (free-tied g s l caller place run o s' _ t.touches sound old at fit.point t.word idle-bare-handed a owned.block.2 owned.block.3 c)
+    (free-tied g s l caller place run o s' _ t.touches sound old stands fit.point t.word idle-bare-handed a owned.block.2 owned.block.3 c)

@@ -108,23 +108,23 @@ prefix-touches g s l caller place run o old fit = record {
   after = idle-aside;
   recalls = idle-recalls;
   prefixes = λ words' w d i has bound lt.
-      let at : Writes s.word (name.Arena (unit_place g.frames run.first)) (prefix_word (prefix.Large run.units)) words' =
+      let stands : Writes s.word (name.Arena (unit_place g.frames run.first)) (prefix_word (prefix.Large run.units)) words' =
       subst (λ p. Writes s.word (name.Arena p) (prefix_word (prefix.Large run.units)) words') fit.place w in
-      (behind-keeps g s l caller run.first (prefix_word (prefix.Large run.units)) words' old at).bound d i has bound lt;
+      (behind-keeps g s l caller run.first (prefix_word (prefix.Large run.units)) words' old stands).bound d i has bound lt;
   stays = λ words' w i has differ.
-      let at : Writes s.word (name.Arena (unit_place g.frames run.first)) (prefix_word (prefix.Large run.units)) words' =
+      let stands : Writes s.word (name.Arena (unit_place g.frames run.first)) (prefix_word (prefix.Large run.units)) words' =
       subst (λ p. Writes s.word (name.Arena p) (prefix_word (prefix.Large run.units)) words') fit.place w in
-      prefixes-stay g s l caller words' (behind-keeps g s l caller run.first (prefix_word (prefix.Large run.units)) words' old at) old i has differ;
+      prefixes-stay g s l caller words' (behind-keeps g s l caller run.first (prefix_word (prefix.Large run.units)) words' old stands) old i has differ;
 }
 
 -- the caller excepts the run alone
 excepts-run : (e : ErrandFields) (place : ℕ) (run : RunFields) (o : Continuation) (p : ℕ) → e.point ≡ Large (large.StoreRunPrefix place run) o → Excepts e p → place ≡ p
 unfolding holds_of
-excepts-run e place run o p at (inl x) =
-    let one : Any (λ b. b.place ≡ p) (run_handed place run.units) = subst (λ q. Any (λ b. b.place ≡ p) (holds_of q).hands) at x in
+excepts-run e place run o p stands (inl x) =
+    let one : Any (λ b. b.place ≡ p) (run_handed place run.units) = subst (λ q. Any (λ b. b.place ≡ p) (holds_of q).hands) stands x in
     any-one (λ b. b.place ≡ p) _ one
-excepts-run e place run o p at (inr x) =
-    let none : Any (λ b. (b.place ≡ p) × IsTrue b.overwritten) [] = subst (λ q. Any (λ b. (b.place ≡ p) × IsTrue b.overwritten) (holds_of q).frees) at x in
+excepts-run e place run o p stands (inr x) =
+    let none : Any (λ b. (b.place ≡ p) × IsTrue b.overwritten) [] = subst (λ q. Any (λ b. (b.place ≡ p) × IsTrue b.overwritten) (holds_of q).frees) stands x in
     omega (arith, none.2)
 
 -- after the store the run's word says it, and all else shows the pool as before
@@ -133,7 +133,7 @@ prefix-tied :
     → IsSoundWithoutCounts g s → IsSoundWith g s l → (s.errand caller).point ≡ Large (large.StoreRunPrefix place run) o
     → IsOwned s caller place (need.Large run.units) → Writes s.word (name.Arena place) (prefix_word (prefix.Large run.units)) s'.word
     → s'.history ≡ s.history → IsBareHanded e.point → IsTied g s' l
-prefix-tied g s l caller place run o s' e h sound old at owned w past bare_after =
+prefix-tied g s l caller place run o s' e h sound old stands owned w past bare_after =
     let tied = old.tied in
     let pool = λ (p : ℕ). ap (λ xs. block_at p (pool_of xs)) past in
     let was = λ (p : ℕ) (b : Block) (live : IsLive s' p b). sym (pool p) ∙ live in
@@ -178,7 +178,7 @@ prefix-tied g s l caller place run o s' e h sound old at owned w past bare_after
                 (omega (arith, written-usable g s sound p i v b old_live written)) (omega arith) (omega (arith, same))
           ] in
           w.elsewhere (name.Arena (p + 1 + i)) (λ same. apart (ap arena_place same)) ∙ tied.contents p i v b old_live written;
-      excepts = λ p ne excepts. absurd (ne (sym (excepts-run (s.errand caller) place run o p at excepts)));
+      excepts = λ p ne excepts. absurd (ne (sym (excepts-run (s.errand caller) place run o p stands excepts)));
       hands = owns.0;
       frees = owns.1;
     }) tied
@@ -187,21 +187,21 @@ pub store_run_prefix-sound :
     (g : Geometry) (s : State) (caller : ℕ) (s' : State) (place : ℕ) (run : RunFields) (o : Continuation) → IsSoundWithoutCounts g s → caller < g.callers
     → (s.errand caller).point ≡ Large (large.StoreRunPrefix place run) o → Step s caller s' → IsSoundWithoutCounts g s'
 unfolding holds_of
-store_run_prefix-sound g s caller s' place run o sound has at step =
+store_run_prefix-sound g s caller s' place run o sound has stands step =
     let l = sound.parts.0 in
     let old = sound.parts.1 in
     let p : Point = Large (large.StoreRunPrefix place run) o in
-    let fit = fits-at g s l caller p old has at in
+    let fit = fits-at g s l caller p old has stands in
     let owned : IsOwned s caller place (need.Large run.units) =
-    All-head (λ x. IsOwned s caller x.place x.need) (record { place = place; need = need.Large run.units }) [] (hands-at g s l caller p old has at) in
+    All-head (λ x. IsOwned s caller x.place x.need) (record { place = place; need = need.Large run.units }) [] (hands-at g s l caller p old has stands) in
     let t =
-    touched-step g s l caller s' p Idle (name.Arena place) (prefix_word (prefix.Large run.units)) s.history old has at
+    touched-step g s l caller s' p Idle (name.Arena place) (prefix_word (prefix.Large run.units)) s.history old has stands
     (prefix-touches g s l caller place run o old fit.point) step in
     record {
       checked = sound.checked;
       legal = subst (IsLegalWithoutCounts g) (sym t.history) sound.legal;
       parts = (
         l,
-        sound-touched g s l caller _ s' t.touches old (prefix-tied g s l caller place run o s' _ t.touches sound old at owned t.word t.history idle-bare-handed),
+        sound-touched g s l caller _ s' t.touches old (prefix-tied g s l caller place run o s' _ t.touches sound old stands owned t.word t.history idle-bare-handed),
       );
     }

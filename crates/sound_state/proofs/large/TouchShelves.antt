@@ -212,22 +212,22 @@ pub put_block-sound :
     (g : Geometry) (s : State) (caller : ℕ) (s' : State) (k place : ℕ) (n : Need) (o : Continuation) → IsSoundWithoutCounts g s → caller < g.callers
     → (s.errand caller).point ≡ Large (large.PutBlock k place n) o → s.word (name.Shelf k) ≡ shelf_word shelf.Nothing → Step s caller s' → IsSoundWithoutCounts g s'
 unfolding recalls_of
-put_block-sound g s caller s' k place n o sound has at word step =
+put_block-sound g s caller s' k place n o sound has stands word step =
     let l = sound.parts.0 in
     let old = sound.parts.1 in
     let p : Point = Large (large.PutBlock k place n) o in
-    let fit = fits-at g s l caller p old has at in
-    let owned : IsOwned s caller place n = All-head (IsSo g s l caller) (owns_all place n) [] (so-at g s l caller p old has at) in
+    let fit = fits-at g s l caller p old has stands in
+    let owned : IsOwned s caller place n = All-head (IsSo g s l caller) (owns_all place n) [] (so-at g s l caller p old has stands) in
     let b : Block = owned.block.0 in
     let empty : IsEmptyShelf (pool_of s.history) k = empty-shelf g s l k old fit.point.shelf word in
     let allowed : IsAllowed g s.history (Put caller place k) = ((b, owned.block.1, owned.block.2), fit.point.shelf, empty) in
     let t =
-    touched-step g s l caller s' p Idle (name.Shelf k) (shelf_word (shelf.Block place n)) (s.history ++ Put caller place k ∷ []) old has at
+    touched-step g s l caller s' p Idle (name.Shelf k) (shelf_word (shelf.Block place n)) (s.history ++ Put caller place k ∷ []) old has stands
     (put-touches g s l caller k place n o old fit.point.shelf fit.point.block word b owned.block.1 allowed) step in
     let c : Changes s s' place b (handed_to (Shelf k) b) =
     changes-from s s' (Put caller place k) place (handed_to (Shelf k)) b t.history refl (λ x. refl) (λ x. refl) owned.block.1 in
     touched-sound g s l caller _ _ _ (Put caller place k) s' sound old (has, allowed) t
-    (put-tied g s l caller k place n s' _ t.touches old fit.point.shelf t.word (subst IsBareHanded (sym at) (put-bare k place n o)) idle-bare-handed empty b
+    (put-tied g s l caller k place n s' _ t.touches old fit.point.shelf t.word (subst IsBareHanded (sym stands) (put-bare k place n o)) idle-bare-handed empty b
     owned.block.2 owned.block.3 c)
 
 -- a block is taken from a shelf
@@ -276,21 +276,21 @@ take-tied g s l caller k place s' e h sound old w bare_before bare_after b owned
 pub take_block-sound :
     (g : Geometry) (s : State) (caller : ℕ) (s' : State) (k place : ℕ) (n : Need) (o : Continuation) → IsSoundWithoutCounts g s → caller < g.callers
     → (s.errand caller).point ≡ Large (large.TakeBlock k place n) o → s.word (name.Shelf k) ≡ shelf_word (shelf.Block place n) → Step s caller s' → IsSoundWithoutCounts g s'
-take_block-sound g s caller s' k place n o sound has at word step =
+take_block-sound g s caller s' k place n o sound has stands word step =
     let l = sound.parts.0 in
     let old = sound.parts.1 in
     let p : Point = Large (large.TakeBlock k place n) o in
-    let fit = fits-at g s l caller p old has at in
+    let fit = fits-at g s l caller p old has stands in
     let there = shelved-block g s l k place n sound old fit.point.shelf fit.point.block word in
     let b : Block = there.0 in
     let allowed : IsAllowed g s.history (Take caller k place) = ((b, there.1, there.2), fit.point.shelf) in
     let t =
-    touched-step g s l caller s' p Idle (name.Shelf k) (shelf_word shelf.Nothing) (s.history ++ Take caller k place ∷ []) old has at
+    touched-step g s l caller s' p Idle (name.Shelf k) (shelf_word shelf.Nothing) (s.history ++ Take caller k place ∷ []) old has stands
     (take-touches g s l caller k place n o old fit.point.shelf word b there.1 allowed) step in
     let c : Changes s s' place b (handed_to (Caller caller) b) =
     changes-from s s' (Take caller k place) place (handed_to (Caller caller)) b t.history refl (λ x. refl) (λ x. refl) there.1 in
     touched-sound g s l caller _ _ _ (Take caller k place) s' sound old (has, allowed) t
-    (take-tied g s l caller k place s' _ t.touches sound old t.word (subst IsBareHanded (sym at) (take_block-bare k place n o)) idle-bare-handed b there.2 c)
+    (take-tied g s l caller k place s' _ t.touches sound old t.word (subst IsBareHanded (sym stands) (take_block-bare k place n o)) idle-bare-handed b there.2 c)
 
 -- a shelf is still empty
 none-bare : (k : ℕ) (o : Continuation) → IsBareHanded (Large (large.ConfirmNothing k) o)
@@ -340,16 +340,16 @@ same-tied g s l caller s' e h old words bare_before bare_after pool =
 pub confirm_nothing-sound :
     (g : Geometry) (s : State) (caller : ℕ) (s' : State) (k : ℕ) (o : Continuation) → IsSoundWithoutCounts g s → caller < g.callers
     → (s.errand caller).point ≡ Large (large.ConfirmNothing k) o → s.word (name.Shelf k) ≡ shelf_word shelf.Nothing → Step s caller s' → IsSoundWithoutCounts g s'
-confirm_nothing-sound g s caller s' k o sound has at word step =
+confirm_nothing-sound g s caller s' k o sound has stands word step =
     let l = sound.parts.0 in
     let old = sound.parts.1 in
     let p : Point = Large (large.ConfirmNothing k) o in
-    let fit = fits-at g s l caller p old has at in
+    let fit = fits-at g s l caller p old has stands in
     let shelf_there : k < SHELVES = fit.point in
     let allowed : IsAllowed g s.history (TakeNone caller k) = (shelf_there, empty-shelf g s l k old shelf_there word) in
     let t =
-    touched-step g s l caller s' p Idle (name.Shelf k) (shelf_word shelf.Nothing) (s.history ++ TakeNone caller k ∷ []) old has at
+    touched-step g s l caller s' p Idle (name.Shelf k) (shelf_word shelf.Nothing) (s.history ++ TakeNone caller k ∷ []) old has stands
     (none-touches g s l caller k o old shelf_there word allowed) step in
     touched-sound g s l caller _ _ _ (TakeNone caller k) s' sound old (has, allowed) t
-    (same-tied g s l caller s' _ t.touches old (words-stay s.word (name.Shelf k) _ s'.word t.word (sym word)) (subst IsBareHanded (sym at) (none-bare k o))
+    (same-tied g s l caller s' _ t.touches old (words-stay s.word (name.Shelf k) _ s'.word t.word (sym word)) (subst IsBareHanded (sym stands) (none-bare k o))
     idle-bare-handed (λ q. ap (block_at q) (ap pool_of t.history ∙ pool_of-push s.history (TakeNone caller k))))

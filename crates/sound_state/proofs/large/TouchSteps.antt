@@ -164,8 +164,8 @@ step-from-here g s l caller s' q n new past old has h step =
 pub touched-step :
     (g : Geometry) (s : State) (l : Lists) (caller : ℕ) (s' : State) (p q : Point) (n : WordName) (new : ℕ) (past : List Event) → IsSoundWith g s l
     → caller < g.callers → (s.errand caller).point ≡ p → TouchesAt g s l caller p q n new past → Step s caller s' → Touched g s l caller q n new past s'
-touched-step g s l caller s' p q n new past old has at h step =
-    step-from-here g s l caller s' q n new past old has (subst (λ r. TouchesAt g s l caller r q n new past) (sym at) h) step
+touched-step g s l caller s' p q n new past old has stands h step =
+    step-from-here g s l caller s' q n new past old has (subst (λ r. TouchesAt g s l caller r q n new past) (sym stands) h) step
 
 pub stays-still :
     (g : Geometry) (s : State) (n : WordName) (new : ℕ) (words' : WordName → ℕ) → Writes s.word n new words' → ((p : ℕ) → name.Arena p ≢ n)

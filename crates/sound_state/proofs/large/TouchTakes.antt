@@ -168,11 +168,11 @@ refuse-touches g s l caller w bits o old word none above allowed =
 refused-sound :
     (g : Geometry) (s : State) (caller : ℕ) (s' : State) (w : WantFields) (bits : ℕ) (o : Continuation) → IsSoundWithoutCounts g s → caller < g.callers
     → (s.errand caller).point ≡ Large (large.TakeRun w bits) o → s.word name.Units ≡ bits → first_wanted w bits ≡ None → Step s caller s' → IsSoundWithoutCounts g s'
-refused-sound g s caller s' w bits o sound has at word none step =
+refused-sound g s caller s' w bits o sound has stands word none step =
     let l = sound.parts.0 in
     let old = sound.parts.1 in
     let p : Point = Large (large.TakeRun w bits) o in
-    let fit = fits-at g s l caller p old has at in
+    let fit = fits-at g s l caller p old has stands in
     let served : need_of (asked o) ≡ need.Large w.units = run-asked w.units o fit.goes in
     let exact : IsFirstRun bits w.geometry.units w.units None = subst (IsFirstRun bits w.geometry.units w.units) none (first_run-exact bits w.geometry.units w.units) in
     let heap : w.geometry.units ≡ g.units = ap (λ (h : Geometry). h.units) fit.point.geometry in
@@ -183,10 +183,10 @@ refused-sound g s caller s' w bits o sound has at word none step =
     subst (λ v. bit_at v i ≡ 0) word (clear-bits g s l free.unit w.units i old free.clear inside (omega (arith, free.in_heap, inside.below)))) in
     let allowed : IsAllowed g s.history (Refuse caller (asked o)) = subst (IsRefusable g s.history caller) (sym served) refusable in
     let t =
-    touched-step g s l caller s' p Idle name.Units bits (s.history ++ Refuse caller (asked o) ∷ []) old has at
+    touched-step g s l caller s' p Idle name.Units bits (s.history ++ Refuse caller (asked o) ∷ []) old has stands
     (refuse-touches g s l caller w bits o old word none (large-served (asked o) w.units served) allowed) step in
     touched-sound g s l caller _ _ _ (Refuse caller (asked o)) s' sound old (has, allowed) t
-    (same-tied g s l caller s' _ t.touches old (words-stay s.word name.Units _ s'.word t.word (sym word)) (subst IsBareHanded (sym at) (take_run-bare w bits o))
+    (same-tied g s l caller s' _ t.touches old (words-stay s.word name.Units _ s'.word t.word (sym word)) (subst IsBareHanded (sym stands) (take_run-bare w bits o))
     idle-bare-handed (λ q. ap (block_at q) (ap pool_of t.history ∙ pool_of-push s.history (Refuse caller (asked o)))))
 
 -- where a run is found, it is the first of these units
@@ -276,15 +276,15 @@ run-given-tied :
     → Comes s s' (unit_place g.frames first) (fresh_block caller words (unit_place g.frames first)) → IsTied g s' l
 run-given-tied g s l caller words first n s' e h old bare hands frees w served within c =
     let tied = old.tied in
-    let at : ℕ = unit_place g.frames first in
-    let a : Block = fresh_block caller words at in
-    let is_fresh = λ (p : ℕ) (b : Block) (here : p ≡ at) (live : IsLive s' p b).
-    one-live s' at p a b c.now here live in
-    let mine : IsOwned s' caller at (need.Large n) = record { block = (a, c.now, refl, served) } in
-    ties-but g s l l caller (λ p. p ≡ at) e s'
+    let stands : ℕ = unit_place g.frames first in
+    let a : Block = fresh_block caller words stands in
+    let is_fresh = λ (p : ℕ) (b : Block) (here : p ≡ stands) (live : IsLive s' p b).
+    one-live s' stands p a b c.now here live in
+    let mine : IsOwned s' caller stands (need.Large n) = record { block = (a, c.now, refl, served) } in
+    ties-but g s l l caller (λ p. p ≡ stands) e s'
     (record {
       moves = h.moves;
-      either = λ p. cases_eq p at;
+      either = λ p. cases_eq p stands;
       there = c.elsewhere;
       before = λ p b here live. absurd (c.unlive p b live here);
       after = λ p b here live. ap (λ (x : Block). x.owner) (sym (is_fresh p b here live));
@@ -293,10 +293,10 @@ run-given-tied g s l caller words first n s' e h old bare hands frees w served w
       small = λ p class b here live is.
           let bad : need.Large n ≡ need.Small class = sym served ∙ ap (λ (x : Block). x.need) (is_fresh p b here live) ∙ is in absurd (cc);
       large = λ p m b here live is.
-          let excepts : Excepts e at = inl (subst (Any (λ x. x.place ≡ at)) (sym hands) (run-excepted at n)) in
+          let excepts : Excepts e stands = inl (subst (Any (λ x. x.place ≡ stands)) (sym hands) (run-excepted stands n)) in
           inl
           (record {
-            caller = (caller, h.in_heap, subst (λ q. Excepts (s'.errand caller) q) (sym here) (subst (λ f. Excepts f at) (sym h.moves.here) excepts));
+            caller = (caller, h.in_heap, subst (λ q. Excepts (s'.errand caller) q) (sym here) (subst (λ f. Excepts f stands) (sym h.moves.here) excepts));
           });
       bound = λ p class b d ne live is its. touched-desc g s l caller e s' h p class d its;
       units = λ unit has. let u = given-units g s s' l first n unit a old w served c has in (u.0, u.1);
@@ -305,7 +305,7 @@ run-given-tied g s l caller words first n s' e h old bare hands frees w served w
           let run : run_bits first n < 2 ^ g.units = omega (arith, run_bits-mask first n, pow_pos first, most) in
           subst (λ x. x < 2 ^ g.units) (sym w.here) (or_lt g.units (s.word name.Units) (run_bits first n) tied.no_more_units run);
       contents = λ p i v b live written.
-          let differs : p ≢ at =
+          let differs : p ≢ stands =
           λ here.
           none-written (usable_words (need_of words)) i v
           (ap (λ (x : Block). slice_index_or x.contents i None) (is_fresh p b here live) ∙ written) in
@@ -313,7 +313,7 @@ run-given-tied g s l caller words first n s' e h old bare hands frees w served w
       excepts = λ p ne excepts. absurd (excepts-none (s.errand caller) p bare excepts);
       hands =
           subst (All (λ x. IsOwned s' caller x.place x.need)) (sym hands)
-          (All-cons (λ x. IsOwned s' caller x.place x.need) (record { place = at; need = need.Large n }) [] mine
+          (All-cons (λ x. IsOwned s' caller x.place x.need) (record { place = stands; need = need.Large n }) [] mine
           (All-nil (λ x. IsOwned s' caller x.place x.need)));
       frees = subst (All (λ x. IsOwned s' caller x.place x.need)) (sym frees) (All-nil (λ x. IsOwned s' caller x.place x.need));
     }) tied
@@ -329,11 +329,11 @@ run-frees place run o = refl
 given-sound :
     (g : Geometry) (s : State) (caller : ℕ) (s' : State) (w : WantFields) (bits : ℕ) (o : Continuation) (first : ℕ) → IsSoundWithoutCounts g s → caller < g.callers
     → (s.errand caller).point ≡ Large (large.TakeRun w bits) o → s.word name.Units ≡ bits → first_wanted w bits ≡ Some first → Step s caller s' → IsSoundWithoutCounts g s'
-given-sound g s caller s' w bits o first sound has at word some step =
+given-sound g s caller s' w bits o first sound has stands word some step =
     let l = sound.parts.0 in
     let old = sound.parts.1 in
     let p : Point = Large (large.TakeRun w bits) o in
-    let fit = fits-at g s l caller p old has at in
+    let fit = fits-at g s l caller p old has stands in
     let n : ℕ = w.units in
     let words : ℕ = asked o in
     let served : need_of words ≡ need.Large n = run-asked n o fit.goes in
@@ -357,7 +357,7 @@ given-sound g s caller s' w bits o first sound has at word some step =
     with_run-below bits first n (omega (arith, within, sound.checked.units.1)) (subst (λ v. v < 2 ^ 64) word (old.words name.Units)) in
     let q : Point = Large (large.StoreRunPrefix place (run_at first w)) o in
     let t =
-    touched-step g s l caller s' p q name.Units (with_run bits first n) (s.history ++ Alloc caller words place ∷ []) old has at
+    touched-step g s l caller s' p q name.Units (with_run bits first n) (s.history ++ Alloc caller words place ∷ []) old has stands
     (given-touches g s l caller w bits o first old word some fit.point.geometry below (large-served words n served) allowed) step in
     let pool = ap pool_of t.history ∙ pool_of-push s.history (Alloc caller words place) in
     let came : Comes s s' place (fresh_block caller words place) = record {
@@ -366,7 +366,7 @@ given-sound g s caller s' w bits o first sound has at word some step =
       elsewhere = λ x ne. ap (block_at x) pool ∙ block_at-past x (fresh_block caller words place) (pool_of s.history) (λ same. ne (sym same));
     } in
     touched-sound g s l caller _ _ _ (Alloc caller words place) s' sound old (has, allowed) t
-    (run-given-tied g s l caller words first n s' _ t.touches old (subst IsBareHanded (sym at) (take_run-bare w bits o))
+    (run-given-tied g s l caller words first n s' _ t.touches old (subst IsBareHanded (sym stands) (take_run-bare w bits o))
     (run-held place (run_at first w) o ∙ ap (λ x. run_handed x n) here) (run-frees place (run_at first w) o)
     (subst (λ v. Writes s.word name.Units (with_run v first n) s'.word) (sym word) t.word) served within
     (subst (λ x. Comes s s' x (fresh_block caller words x)) here came))
@@ -374,10 +374,10 @@ given-sound g s caller s' w bits o first sound has at word some step =
 take-found :
     (g : Geometry) (s : State) (caller : ℕ) (s' : State) (w : WantFields) (bits : ℕ) (o : Continuation) (found : Option ℕ) → IsSoundWithoutCounts g s → caller < g.callers
     → (s.errand caller).point ≡ Large (large.TakeRun w bits) o → s.word name.Units ≡ bits → first_wanted w bits ≡ found → Step s caller s' → IsSoundWithoutCounts g s'
-take-found g s caller s' w bits o None sound has at word is step = refused-sound g s caller s' w bits o sound has at word is step
-take-found g s caller s' w bits o (Some first) sound has at word is step = given-sound g s caller s' w bits o first sound has at word is step
+take-found g s caller s' w bits o None sound has stands word is step = refused-sound g s caller s' w bits o sound has stands word is step
+take-found g s caller s' w bits o (Some first) sound has stands word is step = given-sound g s caller s' w bits o first sound has stands word is step
 
 pub take_run-sound :
     (g : Geometry) (s : State) (caller : ℕ) (s' : State) (w : WantFields) (bits : ℕ) (o : Continuation) → IsSoundWithoutCounts g s → caller < g.callers
     → (s.errand caller).point ≡ Large (large.TakeRun w bits) o → s.word name.Units ≡ bits → Step s caller s' → IsSoundWithoutCounts g s'
-take_run-sound g s caller s' w bits o sound has at word step = take-found g s caller s' w bits o (first_wanted w bits) sound has at word refl step
+take_run-sound g s caller s' w bits o sound has stands word step = take-found g s caller s' w bits o (first_wanted w bits) sound has stands word refl step

@@ -171,8 +171,8 @@ write-tied :
     → IsSoundWith g s l → Writes s.word (name.Arena (place + 1 + i)) value s'.word → IsBareHanded (s.errand caller).point → IsBareHanded e.point
     → (b : Block) → b.owner ≡ Caller caller → i < usable_words b.need → Changes s s' place b (written i value b) → IsTied g s' l
 write-tied g s l caller place i value s' e h sound old w bare_before bare_after b owned usable c =
-    let at : ℕ = place + 1 + i in
-    let arena = λ (p : ℕ) (ne : p ≢ at). w.elsewhere (name.Arena p) (λ same. ne (ap arena_place same)) in
+    let stands : ℕ = place + 1 + i in
+    let arena = λ (p : ℕ) (ne : p ≢ stands). w.elsewhere (name.Arena p) (λ same. ne (ap arena_place same)) in
     let formed : IsWellFormed g b = every-found (IsWellFormed g) place (pool_of s.history) b (sound-of g s.history sound.legal).each c.was in
     let is_changed = λ (p : ℕ) (x : Block) (here : p ≡ place) (live : IsLive s' p x). changed-is s s' place b (written i value b) c p x here live in
     tied-touched g s l caller e s' h old (changes-places s s' place b (written i value b) c) bare_before bare_after
@@ -231,18 +231,18 @@ pub store_word-sound :
     (g : Geometry) (s : State) (caller : ℕ) (s' : State) (place i value : ℕ) (o : Continuation) → IsSoundWithoutCounts g s → caller < g.callers
     → (s.errand caller).point ≡ Large (large.StoreWord place i value) o → Step s caller s' → IsSoundWithoutCounts g s'
 unfolding recalls_of
-store_word-sound g s caller s' place i value o sound has at step =
+store_word-sound g s caller s' place i value o sound has stands step =
     let l = sound.parts.0 in
     let old = sound.parts.1 in
     let p : Point = Large (large.StoreWord place i value) o in
-    let fit = fits-at g s l caller p old has at in
-    let so : IsSo g s l caller (owns place i) = All-head (IsSo g s l caller) (owns place i) [] (so-at g s l caller p old has at) in
+    let fit = fits-at g s l caller p old has stands in
+    let so : IsSo g s l caller (owns place i) = All-head (IsSo g s l caller) (owns place i) [] (so-at g s l caller p old has stands) in
     let owned : IsOwned s caller place so.0 = so.1 in
     let b : Block = owned.block.0 in
     let usable : i < usable_words b.need = subst (λ m. i < usable_words m) (sym owned.block.3) so.2 in
     let allowed : IsAllowed g s.history (Write caller place i value) = (b, owned.block.1, owned.block.2, usable) in
     let t =
-    touched-step g s l caller s' p Idle (name.Arena (place + 1 + i)) value (s.history ++ Write caller place i value ∷ []) old has at
+    touched-step g s l caller s' p Idle (name.Arena (place + 1 + i)) value (s.history ++ Write caller place i value ∷ []) old has stands
     (write-touches g s l caller place i value o sound old fit.point.0 fit.point.1 b owned.block.1 usable allowed) step in
     let c : Changes s s' place b (written i value b) =
     changes-from s s' (Write caller place i value) place (written i value) b t.history refl (λ x. refl) (λ x. refl) owned.block.1 in
@@ -252,7 +252,7 @@ store_word-sound g s caller s' place i value o sound has at step =
       parts = (
         l,
         sound-touched g s l caller _ s' t.touches old
-            (write-tied g s l caller place i value s' _ t.touches sound old t.word (subst IsBareHanded (sym at) (write-bare place i value o)) idle-bare-handed b
+            (write-tied g s l caller place i value s' _ t.touches sound old t.word (subst IsBareHanded (sym stands) (write-bare place i value o)) idle-bare-handed b
             owned.block.2 usable c),
       );
     }

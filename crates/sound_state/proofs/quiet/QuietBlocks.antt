@@ -33,6 +33,6 @@ pub load_active-sound :
     (g : Geometry) (s : State) (caller : ℕ) (s' : State) (seat : SeatFields) (need : ℕ) → IsSoundWithoutCounts g s → caller < g.callers
     → (s.errand caller).point ≡ Block (block.LoadActive seat) (Alloc need) → Step s caller s' → IsSoundWithoutCounts g s'
 unfolding plan_point_of next_of event_of
-load_active-sound g s caller s' seat need sound has at step =
-    quiet-at g s caller s' (Block (block.LoadActive seat) (Alloc need)) sound has at (record { event = refl; cleared = refl; word = refl })
-    (leads-on g s caller _ _ 0 has at (active-leads seat need (active_of (s.word (active_name seat))))) step
+load_active-sound g s caller s' seat need sound has stands step =
+    quiet-at g s caller s' (Block (block.LoadActive seat) (Alloc need)) sound has stands (record { event = refl; cleared = refl; word = refl })
+    (leads-on g s caller _ _ 0 has stands (active-leads seat need (active_of (s.word (active_name seat))))) step

@@ -42,8 +42,8 @@ credit-held :
     → caller < g.callers → (s.errand caller).point ≡ Block (block.TakeCredit seat d credits) o
     → s.word (active_name seat) ≡ active_word (Held d credits)
     → Exists g (active_name seat) × IsActiveWord (Held d credits) × (d < descriptor_count g) × IsActive s d seat.class × IsTrue (is_bound g s l d)
-credit-held g s l caller seat d credits o checked old has at is =
-    let fit = (fits-at g s l caller (Block (block.TakeCredit seat d credits) o) old has at).point in
+credit-held g s l caller seat d credits o checked old has stands is =
+    let fit = (fits-at g s l caller (Block (block.TakeCredit seat d credits) o) old has stands).point in
     let exists : Exists g (active_name seat) = seat-active g caller seat checked fit.0.seat in
     let word : IsActiveWord (Held d credits) = held-fits g d credits checked fit.0.desc fit.1 in
     let says : active_of (s.word (active_name seat)) ≡ Some (Held d credits) = ap active_of is ∙ held-said d credits word in
@@ -62,13 +62,13 @@ take_credit-last :
     → (s.errand caller).point ≡ Block (block.TakeCredit seat d 0) o → s.word (active_name seat) ≡ active_word (Held d 0) → Step s caller s'
     → IsSoundWithoutCounts g s'
 unfolding plan_point_of next_of event_of holds_of recalls_of
-take_credit-last g s caller s' seat d o sound has at is step =
+take_credit-last g s caller s' seat d o sound has stands is step =
     let p : Point = Block (block.TakeCredit seat d 0) o in
-    let fit = credit-held g s sound.parts.0 caller seat d 0 o sound.checked sound.parts.1 has at is in
+    let fit = credit-held g s sound.parts.0 caller seat d 0 o sound.checked sound.parts.1 has stands is in
     let null = null-said in
     let held = held-said d 0 fit.1 in
     let some = held-not-zero d 0 in
-    won-at g s caller s' p (Block (block.LoadInfo seat d LastCredit) o) (active_name seat) (active_word (Held d 0)) (active_word Null) sound has at
+    won-at g s caller s' p (Block (block.LoadInfo seat d LastCredit) o) (active_name seat) (active_word (Held d 0)) (active_word Null) sound has stands
     (record {
       plan = refl;
       next = refl;
@@ -85,8 +85,8 @@ take_credit-last g s caller s' seat d o sound has at is step =
         stock = λ class. rw (null-none, some) (grind (arith));
       };
       goes = λ l old.
-          let old_fit = credit-held g s l caller seat d 0 o sound.checked old has at is in
-          alike-goes g s l caller p _ old has at (grind (arith))
+          let old_fit = credit-held g s l caller seat d 0 o sound.checked old has stands is in
+          alike-goes g s l caller p _ old has stands (grind (arith))
           (All-cons (λ (k : Kept). IsKeptAs s k.status k.desc k.class) (record { desc = d; class = seat.class; status = reserving }) []
           old_fit.3 (All-nil _))
           (All-cons (IsSo g s l caller) (bound_for d seat.class) [] (old_fit.4, old_fit.3.class) (All-nil (IsSo g s l caller)));
@@ -102,19 +102,19 @@ take_credit-more :
     → (s.errand caller).point ≡ Block (block.TakeCredit seat d credits) o → s.word (active_name seat) ≡ active_word (Held d credits)
     → credits ≢ 0 → Step s caller s' → IsSoundWithoutCounts g s'
 unfolding plan_point_of next_of event_of holds_of recalls_of
-take_credit-more g s caller s' seat d credits o sound has at is some_left step =
+take_credit-more g s caller s' seat d credits o sound has stands is some_left step =
     let left : ℕ = credits - 1 in
     let one : credits ≡ left + 1 = omega (arith, some_left) in
     let none : (credits == 0) ≡ false = ne_eqb credits 0 some_left in
     let p : Point = Block (block.TakeCredit seat d credits) o in
-    let fit = credit-held g s sound.parts.0 caller seat d credits o sound.checked sound.parts.1 has at is in
+    let fit = credit-held g s sound.parts.0 caller seat d credits o sound.checked sound.parts.1 has stands is in
     let fit_less : IsActiveWord (Held d left) = (fit.1.0, omega (arith, fit.1.1)) in
     let less = held-said d left fit_less in
     let held = held-said d credits fit.1 in
     let some = held-not-zero d credits in
     let some_less = held-not-zero d left in
     won-at g s caller s' p (Block (block.LoadInfo seat d Credit) o) (active_name seat) (active_word (Held d credits)) (active_word (Held d left))
-    sound has at
+    sound has stands
     (record {
       plan = ap (Cas (active_name seat) (active_word (Held d credits))) (cond-false {A = ℕ} (credits == 0) (active_word Null) (active_word (Held d left)) none);
       next = ap (λ b. At (Block (block.LoadInfo seat d (if b then LastCredit else Credit)) o)) none;
@@ -131,11 +131,11 @@ take_credit-more g s caller s' seat d credits o sound has at is some_left step =
         stock = λ class. rw (some_less, some) (grind (arith));
       };
       goes = λ l old.
-          let old_fit = credit-held g s l caller seat d credits o sound.checked old has at is in
-          alike-goes g s l caller p _ old has at (grind (arith)) (All-nil _)
+          let old_fit = credit-held g s l caller seat d credits o sound.checked old has stands is in
+          alike-goes g s l caller p _ old has stands (grind (arith)) (All-nil _)
           (All-cons (IsSo g s l caller) (bound_for d seat.class) [] (old_fit.4, old_fit.3.class) (All-nil (IsSo g s l caller)));
       actives = λ l old words' w.
-          let old_fit = credit-held g s l caller seat d credits o sound.checked old has at is in
+          let old_fit = credit-held g s l caller seat d credits o sound.checked old has stands is in
           actives-written g s l (heap_of seat) seat.class (active_word (Held d left)) words' old.kept w (rw less refl)
           (λ e others says.
           let same : d ≡ e = held-desc d left e others (sym less ∙ says) in
@@ -148,19 +148,19 @@ take_credit-won :
     (g : Geometry) (s : State) (caller : ℕ) (s' : State) (seat : SeatFields) (d credits : ℕ) (o : Continuation) → IsSoundWithoutCounts g s → caller < g.callers
     → (s.errand caller).point ≡ Block (block.TakeCredit seat d credits) o → s.word (active_name seat) ≡ active_word (Held d credits)
     → Step s caller s' → IsSoundWithoutCounts g s'
-take_credit-won g s caller s' seat d zero o sound has at is step = take_credit-last g s caller s' seat d o sound has at is step
-take_credit-won g s caller s' seat d (suc left) o sound has at is step = take_credit-more g s caller s' seat d (suc left) o sound has at is (omega arith) step
+take_credit-won g s caller s' seat d zero o sound has stands is step = take_credit-last g s caller s' seat d o sound has stands is step
+take_credit-won g s caller s' seat d (suc left) o sound has stands is step = take_credit-more g s caller s' seat d (suc left) o sound has stands is (omega arith) step
 
 pub take_credit-sound :
     (g : Geometry) (s : State) (caller : ℕ) (s' : State) (seat : SeatFields) (d credits : ℕ) (o : Continuation) → IsSoundWithoutCounts g s → caller < g.callers
     → (s.errand caller).point ≡ Block (block.TakeCredit seat d credits) o → Step s caller s' → IsSoundWithoutCounts g s'
 unfolding plan_point_of next_of event_of holds_of recalls_of
-take_credit-sound g s caller s' seat d credits o sound has at step =
+take_credit-sound g s caller s' seat d credits o sound has stands step =
     elim (cases_eq (s.word (active_name seat)) (active_word (Held d credits))) [
-      | inl is ↦ take_credit-won g s caller s' seat d credits o sound has at is step
+      | inl is ↦ take_credit-won g s caller s' seat d credits o sound has stands is step
       | inr other ↦
-          lost-at g s caller s' (Block (block.TakeCredit seat d credits) o) (active_name seat) _ _ sound has at refl refl
-          (leads-on g s caller _ _ 0 has at (grind (arith))) other step
+          lost-at g s caller s' (Block (block.TakeCredit seat d credits) o) (active_name seat) _ _ sound has stands refl refl
+          (leads-on g s caller _ _ 0 has stands (grind (arith))) other step
     ]
 
 -- reserved blocks are offered: they and the descriptor go into the word
@@ -169,16 +169,16 @@ install_credits-won :
     → (s.errand caller).point ≡ Block (block.InstallCredits site i more) o → s.word (active_name site.seat) ≡ active_word Null → Step s caller s'
     → IsSoundWithoutCounts g s'
 unfolding plan_point_of next_of event_of holds_of recalls_of
-install_credits-won g s caller s' site i more o sound has at is step =
+install_credits-won g s caller s' site i more o sound has stands is step =
     let p : Point = Block (block.InstallCredits site i more) o in
     let d : ℕ = site.desc in
-    let fit = (fits-now g s caller p sound has at).point in
+    let fit = (fits-now g s caller p sound has stands).point in
     let word : IsActiveWord (Held d (more - 1)) = held-fits g d (more - 1) sound.checked fit.0.site.desc (omega (arith, fit.1.0, fit.1.1)) in
     let some_more : more ≡ more - 1 + 1 = omega (arith, fit.1.0) in
     let null = null-said in
     let held = held-said d (more - 1) word in
     let some = held-not-zero d (more - 1) in
-    won-at g s caller s' p (Block (block.StorePrefix site i) o) (active_name site.seat) (active_word Null) (active_word (Held d (more - 1))) sound has at
+    won-at g s caller s' p (Block (block.StorePrefix site i) o) (active_name site.seat) (active_word Null) (active_word (Held d (more - 1))) sound has stands
     (record {
       plan = refl;
       next = refl;
@@ -194,11 +194,11 @@ install_credits-won g s caller s' site i more o sound has at is step =
         frames = λ f. refl;
         stock = λ class. rw (null-none, some) (grind (arith));
       };
-      goes = λ l old. alike-goes g s l caller p _ old has at (grind (arith)) (All-nil _) (so-at g s l caller p old has at);
+      goes = λ l old. alike-goes g s l caller p _ old has stands (grind (arith)) (All-nil _) (so-at g s l caller p old has stands);
       actives = λ l old words' w.
           let kept : IsActive s d site.seat.class =
           All-head (λ (k : Kept). IsKeptAs s k.status k.desc k.class) (record { desc = d; class = site.seat.class; status = reserving }) []
-          (subst (λ r. All (λ k. IsKeptAs s k.status k.desc k.class) (holds_of r).kept) at (old.kept.errand caller has)) in
+          (subst (λ r. All (λ k. IsKeptAs s k.status k.desc k.class) (holds_of r).kept) stands (old.kept.errand caller has)) in
           actives-written g s l (heap_of site.seat) site.seat.class (active_word (Held d (more - 1))) words' old.kept w (rw held refl)
           (λ e credits says.
           let same : d ≡ e = held-desc d (more - 1) e credits (sym held ∙ says) in
@@ -210,10 +210,10 @@ pub install_credits-sound :
     (g : Geometry) (s : State) (caller : ℕ) (s' : State) (site : Site) (i more : ℕ) (o : Continuation) → IsSoundWithoutCounts g s → caller < g.callers
     → (s.errand caller).point ≡ Block (block.InstallCredits site i more) o → Step s caller s' → IsSoundWithoutCounts g s'
 unfolding plan_point_of next_of event_of holds_of recalls_of
-install_credits-sound g s caller s' site i more o sound has at step =
+install_credits-sound g s caller s' site i more o sound has stands step =
     elim (cases_eq (s.word (active_name site.seat)) (active_word Null)) [
-      | inl is ↦ install_credits-won g s caller s' site i more o sound has at is step
+      | inl is ↦ install_credits-won g s caller s' site i more o sound has stands is step
       | inr other ↦
-          lost-at g s caller s' (Block (block.InstallCredits site i more) o) (active_name site.seat) _ _ sound has at refl refl
-          (leads-on g s caller _ _ 0 has at (grind (arith))) other step
+          lost-at g s caller s' (Block (block.InstallCredits site i more) o) (active_name site.seat) _ _ sound has stands refl refl
+          (leads-on g s caller _ _ 0 has stands (grind (arith))) other step
     ]

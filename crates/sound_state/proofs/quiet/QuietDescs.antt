@@ -38,9 +38,9 @@ pub load_desc_head-sound :
     (g : Geometry) (s : State) (caller : ℕ) (s' : State) (seat : SeatFields) (o : Continuation) → IsSoundWithoutCounts g s → caller < g.callers
     → (s.errand caller).point ≡ Desc (desc.LoadDescHead seat) o → Step s caller s' → IsSoundWithoutCounts g s'
 unfolding plan_point_of next_of event_of
-load_desc_head-sound g s caller s' seat o sound has at step =
-    quiet-at g s caller s' (Desc (desc.LoadDescHead seat) o) sound has at (record { event = refl; cleared = refl; word = refl })
-    (leads-on g s caller _ _ 0 has at (head-leads seat o (desc_named seat.geometry (s.word name.DescHead)))) step
+load_desc_head-sound g s caller s' seat o sound has stands step =
+    quiet-at g s caller s' (Desc (desc.LoadDescHead seat) o) sound has stands (record { event = refl; cleared = refl; word = refl })
+    (leads-on g s caller _ _ 0 has stands (head-leads seat o (desc_named seat.geometry (s.word name.DescHead)))) step
 
 -- where the name of the descriptor below leads
 next-leads :
@@ -48,13 +48,13 @@ next-leads :
     → (s.errand caller).point ≡ Desc (desc.LoadNextDesc seat d) o → link_in seat.geometry (s.word (name.Next d)) ≡ next
     → LeadsQuietly g s caller (Desc (desc.LoadNextDesc seat d) o) (enter_desc (after_next seat d next) o)
 unfolding holds_of recalls_of
-next-leads g s caller seat d o None has at is = leads-on g s caller _ _ 0 has at (grind (arith))
-next-leads g s caller seat d o (Some next) has at is = record {
+next-leads g s caller seat d o None has stands is = leads-on g s caller _ _ 0 has stands (grind (arith))
+next-leads g s caller seat d o (Some next) has stands is = record {
   plain = tt;
   holds = grind (arith);
   so = λ l old.
       All-cons (IsSo g s l caller) (noted d next) (looked seat.class ∷ []) (λ on. link-some seat.geometry (s.word (name.Next d)) next is)
-      (so-at g s l caller (Desc (desc.LoadNextDesc seat d) o) old has at);
+      (so-at g s l caller (Desc (desc.LoadNextDesc seat d) o) old has stands);
 }
 
 -- the load of that name
@@ -62,9 +62,9 @@ pub load_next_desc-sound :
     (g : Geometry) (s : State) (caller : ℕ) (s' : State) (seat : SeatFields) (d : ℕ) (o : Continuation) → IsSoundWithoutCounts g s → caller < g.callers
     → (s.errand caller).point ≡ Desc (desc.LoadNextDesc seat d) o → Step s caller s' → IsSoundWithoutCounts g s'
 unfolding plan_point_of next_of event_of
-load_next_desc-sound g s caller s' seat d o sound has at step =
-    quiet-at g s caller s' (Desc (desc.LoadNextDesc seat d) o) sound has at (record { event = refl; cleared = refl; word = refl })
-    (next-leads g s caller seat d o (link_in seat.geometry (s.word (name.Next d))) has at refl) step
+load_next_desc-sound g s caller s' seat d o sound has stands step =
+    quiet-at g s caller s' (Desc (desc.LoadNextDesc seat d) o) sound has stands (record { event = refl; cleared = refl; word = refl })
+    (next-leads g s caller seat d o (link_in seat.geometry (s.word (name.Next d))) has stands refl) step
 
 -- a caller whose descriptor isn't on top any more reads the head again: its hazard word is as a lost pop leaves it
 reads-again :
@@ -74,11 +74,11 @@ reads-again :
     → ((l : Lists) → IsSoundWith g s l → All (IsSo g s l caller) (looked seat.class ∷ []))
     → StepsSteadily g s caller (Desc p o) (At (Desc (desc.LoadDescHead seat) o))
 unfolding holds_of recalls_of
-reads-again g s caller p seat o has at blocks credits kept frames waits so = record {
+reads-again g s caller p seat o has stands blocks credits kept frames waits so = record {
   plain = tt;
   weighs = λ w. weigh-stays _ w (Desc p o) (Desc (desc.LoadDescHead seat) o) (sym credits) (sym kept) (sym frames) waits;
   goes = λ l old.
-      blocks-go g s l caller (Desc p o) (Desc (desc.LoadDescHead seat) o) old has at blocks tt (λ d word guard. absurd guard) (none-kept-as s) (so l old);
+      blocks-go g s l caller (Desc p o) (Desc (desc.LoadDescHead seat) o) old has stands blocks tt (λ d word guard. absurd guard) (none-kept-as s) (so l old);
 }
 
 -- another descriptor is on top: the hazard word still names the one that was
@@ -86,11 +86,11 @@ pub pop_desc_lost-sound :
     (g : Geometry) (s : State) (caller : ℕ) (s' : State) (seat : SeatFields) (d next : ℕ) (o : Continuation) → IsSoundWithoutCounts g s → caller < g.callers
     → (s.errand caller).point ≡ Desc (desc.PopDesc seat d next) o → s.word name.DescHead ≢ d + 1 → Step s caller s' → IsSoundWithoutCounts g s'
 unfolding plan_point_of next_of event_of holds_of recalls_of
-pop_desc_lost-sound g s caller s' seat d next o sound has at lost step =
+pop_desc_lost-sound g s caller s' seat d next o sound has stands lost step =
     let p = desc.PopDesc seat d next in
-    lost-steady g s caller s' (Desc p o) name.DescHead _ _ sound has at refl refl
-    (reads-again g s caller p seat o has at (grind (arith)) refl refl refl (λ class. refl)
-    (λ l old. All-tail (IsSo g s l caller) (noted d next) (looked seat.class ∷ []) (so-at g s l caller (Desc p o) old has at))) lost step
+    lost-steady g s caller s' (Desc p o) name.DescHead _ _ sound has stands refl refl
+    (reads-again g s caller p seat o has stands (grind (arith)) refl refl refl (λ class. refl)
+    (λ l old. All-tail (IsSo g s l caller) (noted d next) (looked seat.class ∷ []) (so-at g s l caller (Desc p o) old has stands))) lost step
 
 -- where the head leads that is loaded for a push
 head-to-push-leads :
@@ -105,26 +105,26 @@ pub load_head_to_push-sound :
     (g : Geometry) (s : State) (caller : ℕ) (s' : State) (seat : SeatFields) (d : ℕ) (o : Continuation) → IsSoundWithoutCounts g s → caller < g.callers
     → (s.errand caller).point ≡ Desc (desc.LoadHeadToPush seat d) o → Step s caller s' → IsSoundWithoutCounts g s'
 unfolding plan_point_of next_of event_of
-load_head_to_push-sound g s caller s' seat d o sound has at step =
-    quiet-at g s caller s' (Desc (desc.LoadHeadToPush seat d) o) sound has at (record { event = refl; cleared = refl; word = refl })
-    (leads-on g s caller _ _ 0 has at (head-to-push-leads seat d o (link_in seat.geometry (s.word name.DescHead)))) step
+load_head_to_push-sound g s caller s' seat d o sound has stands step =
+    quiet-at g s caller s' (Desc (desc.LoadHeadToPush seat d) o) sound has stands (record { event = refl; cleared = refl; word = refl })
+    (leads-on g s caller _ _ 0 has stands (head-to-push-leads seat d o (link_in seat.geometry (s.word name.DescHead)))) step
 
 -- the head isn't what it was
 pub push_desc_lost-sound :
     (g : Geometry) (s : State) (caller : ℕ) (s' : State) (seat : SeatFields) (d top : ℕ) (o : Continuation) → IsSoundWithoutCounts g s → caller < g.callers
     → (s.errand caller).point ≡ Desc (desc.PushDesc seat d top) o → s.word name.DescHead ≢ top → Step s caller s' → IsSoundWithoutCounts g s'
 unfolding plan_point_of next_of event_of holds_of recalls_of
-push_desc_lost-sound g s caller s' seat d top o sound has at lost step =
-    lost-at g s caller s' (Desc (desc.PushDesc seat d top) o) name.DescHead _ _ sound has at refl refl
-    (leads-on g s caller _ _ 1 has at (grind (arith))) lost step
+push_desc_lost-sound g s caller s' seat d top o sound has stands lost step =
+    lost-at g s caller s' (Desc (desc.PushDesc seat d top) o) name.DescHead _ _ sound has stands refl refl
+    (leads-on g s caller _ _ 1 has stands (grind (arith))) lost step
 
 -- the descriptor that the hazard word names isn't the top one any more
 pub reload_desc_head_other-sound :
     (g : Geometry) (s : State) (caller : ℕ) (s' : State) (seat : SeatFields) (d : ℕ) (o : Continuation) → IsSoundWithoutCounts g s → caller < g.callers
     → (s.errand caller).point ≡ Desc (desc.ReloadDescHead seat d) o → s.word name.DescHead ≢ d + 1 → Step s caller s' → IsSoundWithoutCounts g s'
 unfolding plan_point_of next_of event_of holds_of recalls_of
-reload_desc_head_other-sound g s caller s' seat d o sound has at other step =
+reload_desc_head_other-sound g s caller s' seat d o sound has stands other step =
     let no = ne_eqb (s.word name.DescHead) (d + 1) other in
-    steady-at g s caller s' (Desc (desc.ReloadDescHead seat d) o) sound has at (record { event = refl; cleared = refl; word = refl })
-    (rw no (reads-again g s caller (desc.ReloadDescHead seat d) seat o has at (grind (arith)) refl refl refl (λ class. refl)
-    (λ l old. so-at g s l caller (Desc (desc.ReloadDescHead seat d) o) old has at))) step
+    steady-at g s caller s' (Desc (desc.ReloadDescHead seat d) o) sound has stands (record { event = refl; cleared = refl; word = refl })
+    (rw no (reads-again g s caller (desc.ReloadDescHead seat d) seat o has stands (grind (arith)) refl refl refl (λ class. refl)
+    (λ l old. so-at g s l caller (Desc (desc.ReloadDescHead seat d) o) old has stands))) step

@@ -31,8 +31,8 @@ pub load_word-sound :
     (g : Geometry) (s : State) (caller : ℕ) (s' : State) (place i : ℕ) (o : Continuation) → IsSoundWithoutCounts g s → caller < g.callers
     → (s.errand caller).point ≡ Large (large.LoadWord place i) o → Step s caller s' → IsSoundWithoutCounts g s'
 unfolding plan_point_of next_of event_of holds_of
-load_word-sound g s caller s' place i o sound has at step =
-    quiet-at g s caller s' (Large (large.LoadWord place i) o) sound has at (record { event = refl; cleared = refl; word = refl })
+load_word-sound g s caller s' place i o sound has stands step =
+    quiet-at g s caller s' (Large (large.LoadWord place i) o) sound has stands (record { event = refl; cleared = refl; word = refl })
     (ends-quietly g s caller _ _ (grind (arith))) step
 
 -- a put that finds a block
@@ -40,8 +40,8 @@ pub put_block_lost-sound :
     (g : Geometry) (s : State) (caller : ℕ) (s' : State) (k place : ℕ) (n : Need) (o : Continuation) → IsSoundWithoutCounts g s → caller < g.callers
     → (s.errand caller).point ≡ Large (large.PutBlock k place n) o → s.word (name.Shelf k) ≢ shelf_word Nothing → Step s caller s' → IsSoundWithoutCounts g s'
 unfolding plan_point_of next_of event_of holds_of
-put_block_lost-sound g s caller s' k place n o sound has at lost step =
-    lost-at g s caller s' (Large (large.PutBlock k place n) o) (name.Shelf k) _ _ sound has at refl refl
+put_block_lost-sound g s caller s' k place n o sound has stands lost step =
+    lost-at g s caller s' (Large (large.PutBlock k place n) o) (name.Shelf k) _ _ sound has stands refl refl
     (ends-quietly g s caller _ _ (grind (arith))) lost step
 
 -- a take whose block is gone
@@ -50,8 +50,8 @@ pub take_block_lost-sound :
     → (s.errand caller).point ≡ Large (large.TakeBlock k place n) o → s.word (name.Shelf k) ≢ shelf_word (Block place n) → Step s caller s'
     → IsSoundWithoutCounts g s'
 unfolding plan_point_of next_of event_of holds_of
-take_block_lost-sound g s caller s' k place n o sound has at lost step =
-    lost-at g s caller s' (Large (large.TakeBlock k place n) o) (name.Shelf k) _ _ sound has at refl refl
+take_block_lost-sound g s caller s' k place n o sound has stands lost step =
+    lost-at g s caller s' (Large (large.TakeBlock k place n) o) (name.Shelf k) _ _ sound has stands refl refl
     (ends-quietly g s caller _ _ (grind (arith))) lost step
 
 -- a take that found nothing, where a block lies now
@@ -59,8 +59,8 @@ pub confirm_nothing_lost-sound :
     (g : Geometry) (s : State) (caller : ℕ) (s' : State) (k : ℕ) (o : Continuation) → IsSoundWithoutCounts g s → caller < g.callers
     → (s.errand caller).point ≡ Large (large.ConfirmNothing k) o → s.word (name.Shelf k) ≢ shelf_word Nothing → Step s caller s' → IsSoundWithoutCounts g s'
 unfolding plan_point_of next_of event_of holds_of
-confirm_nothing_lost-sound g s caller s' k o sound has at lost step =
-    lost-at g s caller s' (Large (large.ConfirmNothing k) o) (name.Shelf k) _ _ sound has at refl refl
+confirm_nothing_lost-sound g s caller s' k o sound has stands lost step =
+    lost-at g s caller s' (Large (large.ConfirmNothing k) o) (name.Shelf k) _ _ sound has stands refl refl
     (ends-quietly g s caller _ _ (grind (arith))) lost step
 
 clear-ends :
@@ -72,8 +72,8 @@ pub clear_ends-sound :
     → (s.errand caller).point ≡ Stack (stack.LoadTop seat pile) continuation.Clear → (head_of (s.word (head_name seat pile))).top ≡ 0 → Step s caller s'
     → IsSoundWithoutCounts g s'
 unfolding plan_point_of next_of event_of holds_of
-clear_ends-sound g s caller s' seat pile sound has at empty step =
+clear_ends-sound g s caller s' seat pile sound has stands empty step =
     let h = head_of (s.word (head_name seat pile)) in
-    quiet-at g s caller s' (Stack (stack.LoadTop seat pile) continuation.Clear) sound has at (record { event = refl; cleared = refl; word = refl })
+    quiet-at g s caller s' (Stack (stack.LoadTop seat pile) continuation.Clear) sound has stands (record { event = refl; cleared = refl; word = refl })
     (subst (LeadsQuietly g s caller (Stack (stack.LoadTop seat pile) continuation.Clear)) (sym (clear-ends seat pile h empty))
     (ends-quietly g s caller _ reply.Freed (grind (arith)))) step

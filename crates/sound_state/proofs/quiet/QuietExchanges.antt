@@ -32,11 +32,11 @@ pub lost-steady :
     → (s.errand caller).point ≡ p → plan_point_of p ≡ Cas n expected new → counts_cleared p (lost_with (s.word n)) ≡ false
     → StepsSteadily g s caller p (next_of p (lost_with (s.word n))) → s.word n ≢ expected → Step s caller s' → IsSoundWithoutCounts g s'
 unfolding event_of
-lost-steady g s caller s' p n expected new sound has at plan cleared steady other step =
+lost-steady g s caller s' p n expected new sound has stands plan cleared steady other step =
     let lost : (s.word n == expected) ≡ false = ne_eqb (s.word n) expected other in
     let found : found_from s p ≡ lost_with (s.word n) =
     ap (λ a. found_by a (s.word (name_of a))) plan ∙ ap (λ b. record { value = s.word n; won = b }) lost in
-    steady-at g s caller s' p sound has at
+    steady-at g s caller s' p sound has stands
     (record {
       event = ap (event_of caller p) found;
       cleared = ap (counts_cleared p) found ∙ cleared;
@@ -49,8 +49,8 @@ pub lost-at :
     (g : Geometry) (s : State) (caller : ℕ) (s' : State) (p : Point) (n : WordName) (expected new : ℕ) → IsSoundWithoutCounts g s → caller < g.callers
     → (s.errand caller).point ≡ p → plan_point_of p ≡ Cas n expected new → counts_cleared p (lost_with (s.word n)) ≡ false
     → LeadsQuietly g s caller p (next_of p (lost_with (s.word n))) → s.word n ≢ expected → Step s caller s' → IsSoundWithoutCounts g s'
-lost-at g s caller s' p n expected new sound has at plan cleared leads other step =
-    lost-steady g s caller s' p n expected new sound has at plan cleared (quiet-steady g s caller p _ has at leads) other step
+lost-at g s caller s' p n expected new sound has stands plan cleared leads other step =
+    lost-steady g s caller s' p n expected new sound has stands plan cleared (quiet-steady g s caller p _ has stands leads) other step
 
 -- a block is not popped
 pub pop_block-lost :
@@ -58,9 +58,9 @@ pub pop_block-lost :
     → IsSoundWithoutCounts g s → caller < g.callers → (s.errand caller).point ≡ Block (block.PopBlock site share a prefix) o
     → s.word (name.Anchor site.desc) ≢ anchor_word a → Step s caller s' → IsSoundWithoutCounts g s'
 unfolding plan_point_of next_of holds_of recalls_of
-pop_block-lost g s caller s' site share a prefix o sound has at other step =
-    lost-at g s caller s' (Block (block.PopBlock site share a prefix) o) (name.Anchor site.desc) _ _ sound has at refl refl
-    (leads-on g s caller _ _ 2 has at (grind (arith))) other step
+pop_block-lost g s caller s' site share a prefix o sound has stands other step =
+    lost-at g s caller s' (Block (block.PopBlock site share a prefix) o) (name.Anchor site.desc) _ _ sound has stands refl refl
+    (leads-on g s caller _ _ 2 has stands (grind (arith))) other step
 
 -- reserved blocks are not given back
 pub return_credits-lost :
@@ -68,9 +68,9 @@ pub return_credits-lost :
     → caller < g.callers → (s.errand caller).point ≡ Block (block.ReturnCredits site i more a) o
     → s.word (name.Anchor site.desc) ≢ anchor_word a → Step s caller s' → IsSoundWithoutCounts g s'
 unfolding plan_point_of next_of holds_of recalls_of
-return_credits-lost g s caller s' site i more a o sound has at other step =
-    lost-at g s caller s' (Block (block.ReturnCredits site i more a) o) (name.Anchor site.desc) _ _ sound has at refl refl
-    (leads-on g s caller _ _ 0 has at (grind (arith))) other step
+return_credits-lost g s caller s' site i more a o sound has stands other step =
+    lost-at g s caller s' (Block (block.ReturnCredits site i more a) o) (name.Anchor site.desc) _ _ sound has stands refl refl
+    (leads-on g s caller _ _ 0 has stands (grind (arith))) other step
 
 -- a block is not pushed
 pub push_block-lost :
@@ -78,6 +78,6 @@ pub push_block-lost :
     → IsSoundWithoutCounts g s → caller < g.callers → (s.errand caller).point ≡ Block (block.PushBlock site i a stored heap) o
     → s.word (name.Anchor site.desc) ≢ anchor_word a → Step s caller s' → IsSoundWithoutCounts g s'
 unfolding plan_point_of next_of holds_of recalls_of
-push_block-lost g s caller s' site i a stored heap o sound has at other step =
-    lost-at g s caller s' (Block (block.PushBlock site i a stored heap) o) (name.Anchor site.desc) _ _ sound has at refl refl
-    (leads-on g s caller _ _ 1 has at (grind (arith))) other step
+push_block-lost g s caller s' site i a stored heap o sound has stands other step =
+    lost-at g s caller s' (Block (block.PushBlock site i a stored heap) o) (name.Anchor site.desc) _ _ sound has stands refl refl
+    (leads-on g s caller _ _ 1 has stands (grind (arith))) other step

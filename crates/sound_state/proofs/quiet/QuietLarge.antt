@@ -28,18 +28,18 @@ pub load_units-sound :
     (g : Geometry) (s : State) (caller : ℕ) (s' : State) (w : WantFields) (o : Continuation) → IsSoundWithoutCounts g s → caller < g.callers
     → (s.errand caller).point ≡ Large (large.LoadUnits w) o → Step s caller s' → IsSoundWithoutCounts g s'
 unfolding plan_point_of next_of event_of holds_of recalls_of
-load_units-sound g s caller s' w o sound has at step =
-    quiet-at g s caller s' (Large (large.LoadUnits w) o) sound has at (record { event = refl; cleared = refl; word = refl })
-    (leads-on g s caller _ _ 0 has at (grind (arith))) step
+load_units-sound g s caller s' w o sound has stands step =
+    quiet-at g s caller s' (Large (large.LoadUnits w) o) sound has stands (record { event = refl; cleared = refl; word = refl })
+    (leads-on g s caller _ _ 0 has stands (grind (arith))) step
 
 -- a run that isn't free any more: the units are read again
 pub take_run_lost-sound :
     (g : Geometry) (s : State) (caller : ℕ) (s' : State) (w : WantFields) (bits : ℕ) (o : Continuation) → IsSoundWithoutCounts g s → caller < g.callers
     → (s.errand caller).point ≡ Large (large.TakeRun w bits) o → s.word name.Units ≢ bits → Step s caller s' → IsSoundWithoutCounts g s'
 unfolding plan_point_of next_of event_of holds_of recalls_of
-take_run_lost-sound g s caller s' w bits o sound has at lost step =
-    lost-at g s caller s' (Large (large.TakeRun w bits) o) name.Units bits _ sound has at refl refl
-    (leads-on g s caller _ _ 0 has at (grind (arith))) lost step
+take_run_lost-sound g s caller s' w bits o sound has stands lost step =
+    lost-at g s caller s' (Large (large.TakeRun w bits) o) name.Units bits _ sound has stands refl refl
+    (leads-on g s caller _ _ 0 has stands (grind (arith))) lost step
 
 -- the prefix word of a freed run is read
 run-prefix-leads :
@@ -54,9 +54,9 @@ pub load_run_prefix-sound :
     (g : Geometry) (s : State) (caller : ℕ) (s' : State) (place : ℕ) (run : RunFields) (o : Continuation) → IsSoundWithoutCounts g s → caller < g.callers
     → (s.errand caller).point ≡ Large (large.LoadRunPrefix place run) o → Step s caller s' → IsSoundWithoutCounts g s'
 unfolding plan_point_of next_of event_of
-load_run_prefix-sound g s caller s' place run o sound has at step =
-    quiet-at g s caller s' (Large (large.LoadRunPrefix place run) o) sound has at (record { event = refl; cleared = refl; word = refl })
-    (leads-on g s caller _ _ 0 has at (run-prefix-leads place run o (prefix_of (s.word (name.Arena place))))) step
+load_run_prefix-sound g s caller s' place run o sound has stands step =
+    quiet-at g s caller s' (Large (large.LoadRunPrefix place run) o) sound has stands (record { event = refl; cleared = refl; word = refl })
+    (leads-on g s caller _ _ 0 has stands (run-prefix-leads place run o (prefix_of (s.word (name.Arena place))))) step
 
 -- a shelf is looked at
 shelf-leads :
@@ -71,6 +71,6 @@ pub load_shelf-sound :
     (g : Geometry) (s : State) (caller : ℕ) (s' : State) (k : ℕ) (o : Continuation) → IsSoundWithoutCounts g s → caller < g.callers
     → (s.errand caller).point ≡ Large (large.LoadShelf k) o → Step s caller s' → IsSoundWithoutCounts g s'
 unfolding plan_point_of next_of event_of
-load_shelf-sound g s caller s' k o sound has at step =
-    quiet-at g s caller s' (Large (large.LoadShelf k) o) sound has at (record { event = refl; cleared = refl; word = refl })
-    (leads-on g s caller _ _ 0 has at (shelf-leads k o (shelf_of (s.word (name.Shelf k))))) step
+load_shelf-sound g s caller s' k o sound has stands step =
+    quiet-at g s caller s' (Large (large.LoadShelf k) o) sound has stands (record { event = refl; cleared = refl; word = refl })
+    (leads-on g s caller _ _ 0 has stands (shelf-leads k o (shelf_of (s.word (name.Shelf k))))) step

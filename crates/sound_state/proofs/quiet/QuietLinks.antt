@@ -93,28 +93,28 @@ frame-alone g s l caller f old has exists mine =
 pushed-has :
     (e : ErrandFields) (p : Point) (seat : SeatFields) (pile : Pile) (i : ℕ) (o : Continuation) → e.point ≡ p → holds_of p ≡ pushed_too pile i seat o
     → 1 ≤ link_weight (next_name pile i) e
-pushed-has e p seat Frames i o at holds =
-    subst (λ h. 1 ≤ occurs i h.frames) (sym (ap holds_of at ∙ holds)) (omega (arith, cond-true {A = ℕ} (i == i) 1 0 (eq-eqb i i refl)))
-pushed-has e p seat Partials i o at holds =
-    has-at e p partly_used i at (subst (λ h. 1 ≤ kept_among partly_used i h.kept) (sym holds) (grind (arith, eq-eqb i i refl)))
+pushed-has e p seat Frames i o stands holds =
+    subst (λ h. 1 ≤ occurs i h.frames) (sym (ap holds_of stands ∙ holds)) (omega (arith, cond-true {A = ℕ} (i == i) 1 0 (eq-eqb i i refl)))
+pushed-has e p seat Partials i o stands holds =
+    has-at e p partly_used i stands (subst (λ h. 1 ≤ kept_among partly_used i h.kept) (sym holds) (grind (arith, eq-eqb i i refl)))
 
 pub retired-has : (e : ErrandFields) (p : Point) (d : ℕ) → IsErrand e → e.point ≡ p → pushed_by p ≡ Some d → 1 ≤ errand_has d e
-retired-has e p d rule at pushes =
-    let has : Contains e.retired d = subst (λ o. IfSome o (λ d. Contains e.retired d)) (ap pushed_by at ∙ pushes) rule.pushed in
+retired-has e p d rule stands pushes =
+    let has : Contains e.retired d = subst (λ o. IfSome o (λ d. Contains e.retired d)) (ap pushed_by stands ∙ pushes) rule.pushed in
     omega (arith, contains-occurs e.retired d has)
 
 -- a caller that hasn't the index doesn't remember what its link word says
 unsaid : (e : ErrandFields) (p : Point) (n : WordName) → IsErrand e → e.point ≡ p → link_weight n e ≡ 0 → IsLinkUnread n p
 unfolding holds_of
-unsaid e (Stack (stack.PushTop seat pile i h) o) n rule at none =
+unsaid e (Stack (stack.PushTop seat pile i h) o) n rule stands none =
     λ is.
     let none_here : link_weight (next_name pile i) e ≡ 0 = subst (λ m. link_weight m e ≡ 0) (sym is) none in
-    omega (arith, none_here, pushed-has e (Stack (stack.PushTop seat pile i h) o) seat pile i o at refl)
-unsaid e (Desc (desc.PushDesc seat d top) o) n rule at none =
+    omega (arith, none_here, pushed-has e (Stack (stack.PushTop seat pile i h) o) seat pile i o stands refl)
+unsaid e (Desc (desc.PushDesc seat d top) o) n rule stands none =
     λ is.
     let none_here : link_weight (name.Next d) e ≡ 0 = subst (λ m. link_weight m e ≡ 0) (sym is) none in
-    omega (arith, none_here, retired-has e (Desc (desc.PushDesc seat d top) o) d rule at refl)
-unsaid e p n rule at none = tt
+    omega (arith, none_here, retired-has e (Desc (desc.PushDesc seat d top) o) d rule stands refl)
+unsaid e p n rule stands none = tt
 
 -- what is on a list is not the unlisted index
 off-frames : (l : Lists) (f : ℕ) (n : WordName) → 0 < occurs f l.frames → IsUnlisted l n → name.FrameNext f ≢ n
@@ -183,34 +183,34 @@ links-kept g s l caller n new words' old alone silent link range below w =
 pub written-at :
     (s : State) (caller : ℕ) (s' : State) (p : Point) → (s.errand caller).point ≡ p → Step s caller s'
     → Writes s.word (name_of (plan_point_of p)) (after_action (plan_point_of p) (s.word (name_of (plan_point_of p)))) s'.word
-written-at s caller s' p at step =
+written-at s caller s' p stands step =
     subst
     (λ r. Writes s.word (name_of (plan_point_of r)) (after_action (plan_point_of r) (s.word (name_of (plan_point_of r)))) s'.word)
-    at step.word
+    stands step.word
 
 -- what is to lie below a descriptor that becomes available
 pub store_next_desc-sound :
     (g : Geometry) (s : State) (caller : ℕ) (s' : State) (seat : SeatFields) (d top : ℕ) (o : Continuation) → IsSoundWithoutCounts g s → caller < g.callers
     → (s.errand caller).point ≡ Desc (desc.StoreNextDesc seat d top) o → Step s caller s' → IsSoundWithoutCounts g s'
 unfolding plan_point_of next_of event_of holds_of recalls_of
-store_next_desc-sound g s caller s' seat d top o sound has at step =
+store_next_desc-sound g s caller s' seat d top o sound has stands step =
     let p = Desc (desc.StoreNextDesc seat d top) o in
     let q = Desc (desc.PushDesc seat d top) o in
-    let w : Writes s.word (name.Next d) top s'.word = written-at s caller s' p at step in
-    store-sound g s caller s' p q (name.Next d) top sound has at
+    let w : Writes s.word (name.Next d) top s'.word = written-at s caller s' p stands step in
+    store-sound g s caller s' p q (name.Next d) top sound has stands
     (record {
       stores = record { plan = refl; next = λ v. refl; event = λ v. refl; lost = λ v. refl; cleared = λ v. refl };
       lone = tt;
       holds = grind (arith);
       kept = λ l old.
-          let fit = (fits-at g s l caller p old has at).point in
+          let fit = (fits-at g s l caller p old has stands).point in
           links-kept g s l caller (name.Next d) top s'.word old
-          (desc-alone g s l caller d old has fit.desc.desc (retired-has (s.errand caller) p d (old.errands caller has).rule at refl))
-          (subst (IsLinkUnread (name.Next d)) (sym at) tt) tt fit.link
+          (desc-alone g s l caller d old has fit.desc.desc (retired-has (s.errand caller) p d (old.errands caller has).rule stands refl))
+          (subst (IsLinkUnread (name.Next d)) (sym stands) tt) tt fit.link
           (omega (arith, fit.link, descriptor_count_within g sound.checked)) w;
       so = λ l old.
           All-cons (IsSo g (between s s'.word) l caller) (says (name.Next d) top) (resumed_recalls seat o) (tt, w.here)
-          (so-at g (between s s'.word) l caller p old has at);
+          (so-at g (between s s'.word) l caller p old has stands);
     })
     step
 
@@ -234,25 +234,25 @@ pub store_below-sound :
     (g : Geometry) (s : State) (caller : ℕ) (s' : State) (seat : SeatFields) (pile : Pile) (i : ℕ) (h : HeadFields) (o : Continuation) → IsSoundWithoutCounts g s
     → caller < g.callers → (s.errand caller).point ≡ Stack (stack.StoreBelow seat pile i h) o → Step s caller s' → IsSoundWithoutCounts g s'
 unfolding plan_point_of next_of event_of holds_of recalls_of
-store_below-sound g s caller s' seat pile i h o sound has at step =
+store_below-sound g s caller s' seat pile i h o sound has stands step =
     let p = Stack (stack.StoreBelow seat pile i h) o in
     let q = Stack (stack.PushTop seat pile i h) o in
     let n = next_name pile i in
-    let w : Writes s.word n h.top s'.word = written-at s caller s' p at step in
+    let w : Writes s.word n h.top s'.word = written-at s caller s' p stands step in
     let lone : IsLone n = (link-alone n (next-is_link pile i)).0 in
-    store-sound g s caller s' p q n h.top sound has at
+    store-sound g s caller s' p q n h.top sound has stands
     (record {
       stores = record { plan = refl; next = λ v. refl; event = λ v. refl; lost = λ v. refl; cleared = λ v. refl };
       lone = lone;
       holds = grind (arith);
       kept = λ l old.
-          let fit = (fits-at g s l caller p old has at).point in
-          let exists : h.top ≤ pile_limit g pile = so-at g s l caller p old has at 0 (tops_exist seat pile h) (omega arith) in
-          links-kept g s l caller n h.top s'.word old (below-alone g s l caller pile i old has fit.0.index (pushed-has (s.errand caller) p seat pile i o at refl))
-          (subst (IsLinkUnread n) (sym at) tt) (next-is_link pile i) (next-range g pile i h.top exists) (omega (arith, fit.1.top)) w;
+          let fit = (fits-at g s l caller p old has stands).point in
+          let exists : h.top ≤ pile_limit g pile = so-at g s l caller p old has stands 0 (tops_exist seat pile h) (omega arith) in
+          links-kept g s l caller n h.top s'.word old (below-alone g s l caller pile i old has fit.0.index (pushed-has (s.errand caller) p seat pile i o stands refl))
+          (subst (IsLinkUnread n) (sym stands) tt) (next-is_link pile i) (next-range g pile i h.top exists) (omega (arith, fit.1.top)) w;
       so = λ l old.
           let t = between s s'.word in
           All-cons (IsSo g t l caller) (says n h.top) (recalls_of p)
-          (next-plain pile i, sym (lone-written s.word n h.top s'.word lone w n) ∙ w.here) (so-at g t l caller p old has at);
+          (next-plain pile i, sym (lone-written s.word n h.top s'.word lone w n) ∙ w.here) (so-at g t l caller p old has stands);
     })
     step

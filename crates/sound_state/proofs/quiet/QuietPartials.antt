@@ -77,22 +77,22 @@ pub load_slot-sound :
     (g : Geometry) (s : State) (caller : ℕ) (s' : State) (seat : SeatFields) (need : ℕ) → IsSoundWithoutCounts g s → caller < g.callers
     → (s.errand caller).point ≡ Partial (partial.LoadSlot seat) (Alloc need) → Step s caller s' → IsSoundWithoutCounts g s'
 unfolding plan_point_of next_of event_of
-load_slot-sound g s caller s' seat need sound has at step =
-    quiet-at g s caller s' (Partial (partial.LoadSlot seat) (Alloc need)) sound has at (record { event = refl; cleared = refl; word = refl })
-    (leads-on g s caller _ _ 0 has at (slot-leads seat need (s.word (slot_name seat)))) step
+load_slot-sound g s caller s' seat need sound has stands step =
+    quiet-at g s caller s' (Partial (partial.LoadSlot seat) (Alloc need)) sound has stands (record { event = refl; cleared = refl; word = refl })
+    (leads-on g s caller _ _ 0 has stands (slot-leads seat need (s.word (slot_name seat)))) step
 
 -- what stands in the slot is taken, and is the caller's then; or it isn't what it was
 pub take_slot-sound :
     (g : Geometry) (s : State) (caller : ℕ) (s' : State) (seat : SeatFields) (d need : ℕ) → IsSoundWithoutCounts g s → caller < g.callers
     → (s.errand caller).point ≡ Partial (partial.TakeSlot seat d) (Alloc need) → Step s caller s' → IsSoundWithoutCounts g s'
 unfolding plan_point_of next_of event_of holds_of recalls_of
-take_slot-sound g s caller s' seat d need sound has at step =
+take_slot-sound g s caller s' seat d need sound has stands step =
     elim (cases_eq (s.word (slot_name seat)) (d + 1)) [
       | inl there ↦
           let p = Partial (partial.TakeSlot seat d) (Alloc need) in
           let q = Partial (partial.LoadTakenInfo seat d) (Alloc need) in
-          let exists : (heap_of seat < g.heaps) × (seat.class < CLASSES) = exists-at g s caller p sound has at in
-          won-at g s caller s' p q (slot_name seat) (d + 1) 0 sound has at
+          let exists : (heap_of seat < g.heaps) × (seat.class < CLASSES) = exists-at g s caller p sound has stands in
+          won-at g s caller s' p q (slot_name seat) (d + 1) 0 sound has stands
           (record {
             plan = refl;
             next = refl;
@@ -101,15 +101,15 @@ take_slot-sound g s caller s' seat d need sound has at step =
             below = omega arith;
             weighs = grind (arith);
             goes = λ l old.
-                alike-goes g s l caller p q old has at (grind (arith))
+                alike-goes g s l caller p q old has stands (grind (arith))
                 (keeps-too s d seat.class [] (old.kept.slot (heap_of seat) seat.class d exists.0 exists.1 there).1 (none-kept-as s))
                 (All-nil (IsSo g s l caller));
             actives = λ l old words' w. slot-emptied g s l (heap_of seat) seat.class 0 words' old w refl;
           })
           there step
       | inr lost ↦
-          lost-at g s caller s' (Partial (partial.TakeSlot seat d) (Alloc need)) (slot_name seat) _ _ sound has at refl refl
-          (leads-on g s caller _ _ 0 has at (grind (arith))) lost step
+          lost-at g s caller s' (Partial (partial.TakeSlot seat d) (Alloc need)) (slot_name seat) _ _ sound has stands refl refl
+          (leads-on g s caller _ _ 0 has stands (grind (arith))) lost step
     ]
 
 -- where the word of a taken descriptor leads
@@ -118,13 +118,13 @@ taken_info-leads :
     → (s.errand caller).point ≡ Partial (partial.LoadTakenInfo seat d) (Alloc need) → info_in seat.geometry (s.word (name.Info d)) ≡ i
     → LeadsQuietly g s caller (Partial (partial.LoadTakenInfo seat d) (Alloc need)) (enter_partial (after_taken_info seat d i) (Alloc need))
 unfolding holds_of recalls_of
-taken_info-leads g s caller seat d need None has at is = leads-on g s caller _ _ 0 has at (grind (arith))
-taken_info-leads g s caller seat d need (Some info) has at is = record {
+taken_info-leads g s caller seat d need None has stands is = leads-on g s caller _ _ 0 has stands (grind (arith))
+taken_info-leads g s caller seat d need (Some info) has stands is = record {
   plain = tt;
   holds = grind (arith);
   so = λ l old.
       let says : info_for s d ≡ info = info-said seat.geometry (info_of (s.word (name.Info d))) info is in
-      let kept = kept-at g s l caller (Partial (partial.LoadTakenInfo seat d) (Alloc need)) old has at in
+      let kept = kept-at g s l caller (Partial (partial.LoadTakenInfo seat d) (Alloc need)) old has stands in
       let class = (kept 0 (record { desc = d; class = seat.class; status = partly_used }) (omega arith)).class in
       let here : IsLocated s d info.frame seat.class = record { frame = ap (λ x. x.frame) says; class = class } in
       All-cons (IsSo g s l caller) _ [] here (All-nil (IsSo g s l caller));
@@ -135,9 +135,9 @@ pub load_taken_info-sound :
     (g : Geometry) (s : State) (caller : ℕ) (s' : State) (seat : SeatFields) (d need : ℕ) → IsSoundWithoutCounts g s → caller < g.callers
     → (s.errand caller).point ≡ Partial (partial.LoadTakenInfo seat d) (Alloc need) → Step s caller s' → IsSoundWithoutCounts g s'
 unfolding plan_point_of next_of event_of
-load_taken_info-sound g s caller s' seat d need sound has at step =
-    quiet-at g s caller s' (Partial (partial.LoadTakenInfo seat d) (Alloc need)) sound has at (record { event = refl; cleared = refl; word = refl })
-    (taken_info-leads g s caller seat d need (info_in seat.geometry (s.word (name.Info d))) has at refl) step
+load_taken_info-sound g s caller s' seat d need sound has stands step =
+    quiet-at g s caller s' (Partial (partial.LoadTakenInfo seat d) (Alloc need)) sound has stands (record { event = refl; cleared = refl; word = refl })
+    (taken_info-leads g s caller seat d need (info_in seat.geometry (s.word (name.Info d))) has stands refl) step
 
 -- where the anchor of a taken superblock leads that isn't EMPTY
 live-leads :
@@ -146,15 +146,15 @@ live-leads :
     → is_empty (anchor_for s site.desc).state ≡ false → LeadsQuietly g s caller (Partial (partial.LoadGrantAnchor site) (Alloc need))
     (enter_partial (after_live site a) (Alloc need))
 unfolding holds_of recalls_of
-live-leads g s caller site need None has at is used = leads-on g s caller _ _ 0 has at (grind (arith))
-live-leads g s caller site need (Some a) has at is used = record {
+live-leads g s caller site need None has stands is used = leads-on g s caller _ _ 0 has stands (grind (arith))
+live-leads g s caller site need (Some a) has stands is used = record {
   plain = tt;
   holds = grind (arith);
   so = λ l old.
       let same : a ≡ anchor_for s site.desc = anchor-said site.seat.class (s.word (name.Anchor site.desc)) a is in
       let in_use_still : is_empty a.state ≡ false = ap (λ x. is_empty x.state) same ∙ used in
       All-cons (IsSo g s l caller) (in_use a) (located site.desc site.frame site.seat.class ∷ []) in_use_still
-      (so-at g s l caller (Partial (partial.LoadGrantAnchor site) (Alloc need)) old has at);
+      (so-at g s l caller (Partial (partial.LoadGrantAnchor site) (Alloc need)) old has stands);
 }
 
 -- the load of the anchor, where it isn't EMPTY
@@ -163,9 +163,9 @@ pub load_grant_anchor-sound :
     → (s.errand caller).point ≡ Partial (partial.LoadGrantAnchor site) (Alloc need) → is_empty (anchor_for s site.desc).state ≡ false
     → Step s caller s' → IsSoundWithoutCounts g s'
 unfolding plan_point_of next_of event_of
-load_grant_anchor-sound g s caller s' site need sound has at used step =
-    quiet-at g s caller s' (Partial (partial.LoadGrantAnchor site) (Alloc need)) sound has at (record { event = refl; cleared = used; word = refl })
-    (rw used (live-leads g s caller site need (anchor_in site.seat.class (s.word (name.Anchor site.desc))) has at refl used)) step
+load_grant_anchor-sound g s caller s' site need sound has stands used step =
+    quiet-at g s caller s' (Partial (partial.LoadGrantAnchor site) (Alloc need)) sound has stands (record { event = refl; cleared = used; word = refl })
+    (rw used (live-leads g s caller site need (anchor_in site.seat.class (s.word (name.Anchor site.desc))) has stands refl used)) step
 
 -- its anchor isn't what it was
 pub grant_lost-sound :
@@ -173,9 +173,9 @@ pub grant_lost-sound :
     → (s.errand caller).point ≡ Partial (partial.Grant site a) (Alloc need) → s.word (name.Anchor site.desc) ≢ anchor_word a → Step s caller s'
     → IsSoundWithoutCounts g s'
 unfolding plan_point_of next_of event_of holds_of recalls_of
-grant_lost-sound g s caller s' site a need sound has at lost step =
-    lost-at g s caller s' (Partial (partial.Grant site a) (Alloc need)) (name.Anchor site.desc) _ _ sound has at refl refl
-    (leads-on g s caller _ _ 1 has at (grind (arith))) lost step
+grant_lost-sound g s caller s' site a need sound has stands lost step =
+    lost-at g s caller s' (Partial (partial.Grant site a) (Alloc need)) (name.Anchor site.desc) _ _ sound has stands refl refl
+    (leads-on g s caller _ _ 1 has stands (grind (arith))) lost step
 
 -- where the word of a descriptor leads whose superblock became partial
 partial-owner-leads :
@@ -190,9 +190,9 @@ pub load_partial_owner-sound :
     (g : Geometry) (s : State) (caller : ℕ) (s' : State) (seat : SeatFields) (d : ℕ) (stored : Bool) → IsSoundWithoutCounts g s → caller < g.callers
     → (s.errand caller).point ≡ Partial (partial.LoadOwner seat d) (Finish stored) → Step s caller s' → IsSoundWithoutCounts g s'
 unfolding plan_point_of next_of event_of
-load_partial_owner-sound g s caller s' seat d stored sound has at step =
-    quiet-at g s caller s' (Partial (partial.LoadOwner seat d) (Finish stored)) sound has at (record { event = refl; cleared = refl; word = refl })
-    (leads-on g s caller _ _ 0 has at (partial-owner-leads seat d stored (info_in seat.geometry (s.word (name.Info d))))) step
+load_partial_owner-sound g s caller s' seat d stored sound has stands step =
+    quiet-at g s caller s' (Partial (partial.LoadOwner seat d) (Finish stored)) sound has stands (record { event = refl; cleared = refl; word = refl })
+    (leads-on g s caller _ _ 0 has stands (partial-owner-leads seat d stored (info_in seat.geometry (s.word (name.Info d))))) step
 
 -- the first superblock from the list isn't EMPTY
 pub load_first_listed-sound :
@@ -200,9 +200,9 @@ pub load_first_listed-sound :
     → (s.errand caller).point ≡ Partial (partial.LoadListedAnchor seat d) Clear → is_empty (anchor_for s d).state ≡ false → Step s caller s'
     → IsSoundWithoutCounts g s'
 unfolding plan_point_of next_of event_of holds_of recalls_of
-load_first_listed-sound g s caller s' seat d sound has at used step =
-    quiet-at g s caller s' (Partial (partial.LoadListedAnchor seat d) Clear) sound has at (record { event = refl; cleared = refl; word = refl })
-    (rw used (leads-on g s caller _ _ 0 has at (grind (arith)))) step
+load_first_listed-sound g s caller s' seat d sound has stands used step =
+    quiet-at g s caller s' (Partial (partial.LoadListedAnchor seat d) Clear) sound has stands (record { event = refl; cleared = refl; word = refl })
+    (rw used (leads-on g s caller _ _ 0 has stands (grind (arith)))) step
 
 -- the superblock that became EMPTY isn't in the slot
 elsewhere-goes :
@@ -212,13 +212,13 @@ elsewhere-goes :
     → ((class : ℕ) → waits_in class (Desc (desc.ClearHazard seat) Clear) ≡ waits_in class (Partial p Free))
     → StepsSteadily g s caller (Partial p Free) (At (Desc (desc.ClearHazard seat) Clear))
 unfolding holds_of recalls_of
-elsewhere-goes g s caller p seat d has at same blocks waits = record {
+elsewhere-goes g s caller p seat d has stands same blocks waits = record {
   plain = tt;
   weighs = λ w.
       weigh-stays _ w (Partial p Free) (Desc (desc.ClearHazard seat) Clear) (ap (λ x. x.credits) (sym same)) (ap (λ x. x.kept) (sym same))
       (ap (λ x. x.frames) (sym same)) waits;
   goes = λ l old.
-      blocks-go g s l caller (Partial p Free) (Desc (desc.ClearHazard seat) Clear) old has at blocks tt (λ d word guard. rw same tt) (none-kept-as s)
+      blocks-go g s l caller (Partial p Free) (Desc (desc.ClearHazard seat) Clear) old has stands blocks tt (λ d word guard. rw same tt) (none-kept-as s)
       (All-nil (IsSo g s l caller));
 }
 
@@ -227,17 +227,17 @@ pub load_held_slot-sound :
     (g : Geometry) (s : State) (caller : ℕ) (s' : State) (seat : SeatFields) (d heap : ℕ) → IsSoundWithoutCounts g s → caller < g.callers
     → (s.errand caller).point ≡ Partial (partial.LoadHeldSlot seat d heap) Free → Step s caller s' → IsSoundWithoutCounts g s'
 unfolding plan_point_of next_of event_of holds_of recalls_of
-load_held_slot-sound g s caller s' seat d heap sound has at step =
+load_held_slot-sound g s caller s' seat d heap sound has stands step =
     elim (cases_eq (s.word (slot_of seat heap)) (d + 1)) [
       | inl there ↦
           let yes = eq-eqb (s.word (slot_of seat heap)) (d + 1) there in
-          quiet-at g s caller s' (Partial (partial.LoadHeldSlot seat d heap) Free) sound has at (record { event = refl; cleared = refl; word = refl })
-          (rw yes (leads-on g s caller _ _ 0 has at (grind (arith)))) step
+          quiet-at g s caller s' (Partial (partial.LoadHeldSlot seat d heap) Free) sound has stands (record { event = refl; cleared = refl; word = refl })
+          (rw yes (leads-on g s caller _ _ 0 has stands (grind (arith)))) step
       | inr other ↦
           let no = ne_eqb (s.word (slot_of seat heap)) (d + 1) other in
           let p = partial.LoadHeldSlot seat d heap in
-          steady-at g s caller s' (Partial p Free) sound has at (record { event = refl; cleared = refl; word = refl })
-          (rw no (elsewhere-goes g s caller p seat d has at refl (grind (arith)) (λ class. refl))) step
+          steady-at g s caller s' (Partial p Free) sound has stands (record { event = refl; cleared = refl; word = refl })
+          (rw no (elsewhere-goes g s caller p seat d has stands refl (grind (arith)) (λ class. refl))) step
     ]
 
 -- it is removed from there, and is the caller's then; or it isn't there any more
@@ -245,13 +245,13 @@ pub remove_from_slot-sound :
     (g : Geometry) (s : State) (caller : ℕ) (s' : State) (seat : SeatFields) (d heap : ℕ) → IsSoundWithoutCounts g s → caller < g.callers
     → (s.errand caller).point ≡ Partial (partial.RemoveFromSlot seat d heap) Free → Step s caller s' → IsSoundWithoutCounts g s'
 unfolding plan_point_of next_of event_of holds_of recalls_of
-remove_from_slot-sound g s caller s' seat d heap sound has at step =
+remove_from_slot-sound g s caller s' seat d heap sound has stands step =
     elim (cases_eq (s.word (slot_of seat heap)) (d + 1)) [
       | inl there ↦
           let p = Partial (partial.RemoveFromSlot seat d heap) Free in
           let q = Desc (desc.ClearHazard seat) (Retire d) in
-          let exists : (heap < g.heaps) × (seat.class < CLASSES) = exists-at g s caller p sound has at in
-          won-at g s caller s' p q (slot_of seat heap) (d + 1) 0 sound has at
+          let exists : (heap < g.heaps) × (seat.class < CLASSES) = exists-at g s caller p sound has stands in
+          won-at g s caller s' p q (slot_of seat heap) (d + 1) 0 sound has stands
           (record {
             plan = refl;
             next = refl;
@@ -260,16 +260,16 @@ remove_from_slot-sound g s caller s' seat d heap sound has at step =
             below = omega arith;
             weighs = grind (arith);
             goes = λ l old.
-                alike-goes g s l caller p q old has at (grind (arith))
+                alike-goes g s l caller p q old has stands (grind (arith))
                 (keeps-too s d seat.class [] (old.kept.slot heap seat.class d exists.0 exists.1 there).1 (none-kept-as s))
-                (so-at g s l caller p old has at);
+                (so-at g s l caller p old has stands);
             actives = λ l old words' w. slot-emptied g s l heap seat.class 0 words' old w refl;
           })
           there step
       | inr lost ↦
           let p = partial.RemoveFromSlot seat d heap in
-          lost-steady g s caller s' (Partial p Free) (slot_of seat heap) _ _ sound has at refl refl
-          (elsewhere-goes g s caller p seat d has at refl (grind (arith)) (λ class. refl)) lost step
+          lost-steady g s caller s' (Partial p Free) (slot_of seat heap) _ _ sound has stands refl refl
+          (elsewhere-goes g s caller p seat d has stands refl (grind (arith)) (λ class. refl)) lost step
     ]
 
 -- the slot into which a superblock is put holds it after the swap
@@ -278,10 +278,10 @@ put-actives :
     → caller < g.callers → (s.errand caller).point ≡ Partial (partial.PutSlot seat d heap) o → Writes s.word (slot_of seat heap) (d + 1) words'
     → ActivesKept g s words'
 unfolding holds_of
-put-actives g s l caller seat d heap o words' old has at w =
+put-actives g s l caller seat d heap o words' old has stands w =
     let p = Partial (partial.PutSlot seat d heap) o in
-    let fits = (fits-at g s l caller p old has at).point in
-    let mine = kept-at g s l caller p old has at 0 (record { desc = d; class = seat.class; status = partly_used }) (omega arith) in
+    let fits = (fits-at g s l caller p old has stands).point in
+    let mine = kept-at g s l caller p old has stands 0 (record { desc = d; class = seat.class; status = partly_used }) (omega arith) in
     slot-written g s l heap seat.class (d + 1) words' old w (omega (arith, fits.desc))
     (λ e is. let same : d ≡ e = omega (arith, is) in subst (λ k. (k < descriptor_count g) × IsPartlyUsed s k seat.class) same (fits.desc, mine))
 
@@ -289,8 +289,8 @@ put-actives g s l caller seat d heap o words' old has at w =
 put-below :
     (g : Geometry) (s : State) (l : Lists) (caller : ℕ) (seat : SeatFields) (d heap : ℕ) (o : Continuation) → IsChecked g → IsSoundWith g s l
     → caller < g.callers → (s.errand caller).point ≡ Partial (partial.PutSlot seat d heap) o → d + 1 < 2 ^ 64
-put-below g s l caller seat d heap o checked old has at =
-    omega (arith, (fits-at g s l caller (Partial (partial.PutSlot seat d heap) o) old has at).point.desc, descriptor_count_within g checked)
+put-below g s l caller seat d heap o checked old has stands =
+    omega (arith, (fits-at g s l caller (Partial (partial.PutSlot seat d heap) o) old has stands).point.desc, descriptor_count_within g checked)
 
 -- where a superblock leads that is put into an empty slot: it stands there, and nothing is kept any more
 record FillsSlot (seat : SeatFields) (d heap : ℕ) (o : Continuation) (n : Next) : Type 0 where
@@ -314,20 +314,20 @@ put_slot_filled-sound :
     (g : Geometry) (s : State) (caller : ℕ) (s' : State) (seat : SeatFields) (d heap : ℕ) (o : Continuation) → IsSoundWithoutCounts g s → caller < g.callers
     → (s.errand caller).point ≡ Partial (partial.PutSlot seat d heap) o → s.word (slot_of seat heap) ≡ 0 → Step s caller s' → IsSoundWithoutCounts g s'
 unfolding plan_point_of next_of event_of
-put_slot_filled-sound g s caller s' seat d heap o sound has at bare step =
+put_slot_filled-sound g s caller s' seat d heap o sound has stands bare step =
     let p = Partial (partial.PutSlot seat d heap) o in
-    let fills = filled-leads seat d heap o (fits-now g s caller p sound has at).goes in
-    step-from g s caller s' p (enter_partial (partial.SlotFilled seat) o) fills.plain sound has at
+    let fills = filled-leads seat d heap o (fits-now g s caller p sound has stands).goes in
+    step-from g s caller s' p (enter_partial (partial.SlotFilled seat) o) fills.plain sound has stands
     (λ l old. record {
       next = rw bare refl;
       event = refl;
       cleared = refl;
       goes =
-          alike-goes g s l caller p _ old has at fills.alike (subst (All (λ k. IsKeptAs s k.status k.desc k.class)) (sym fills.kept) (none-kept-as s))
-          (subst (All (IsSo g s l caller)) (sym fills.recalls) (so-at g s l caller p old has at));
+          alike-goes g s l caller p _ old has stands fills.alike (subst (All (λ k. IsKeptAs s k.status k.desc k.class)) (sym fills.kept) (none-kept-as s))
+          (subst (All (IsSo g s l caller)) (sym fills.recalls) (so-at g s l caller p old has stands));
       weigh = rw bare fills.weighs;
-      below = put-below g s l caller seat d heap o sound.checked old has at;
-      actives = λ words' w. put-actives g s l caller seat d heap o words' old has at w;
+      below = put-below g s l caller seat d heap o sound.checked old has stands;
+      actives = λ words' w. put-actives g s l caller seat d heap o words' old has stands w;
     })
     step
 
@@ -342,26 +342,26 @@ put_slot_displaced-sound :
     → (s.errand caller).point ≡ Partial (partial.PutSlot seat d heap) o → s.word (slot_of seat heap) ≡ other + 1 → Step s caller s'
     → IsSoundWithoutCounts g s'
 unfolding plan_point_of next_of event_of holds_of recalls_of
-put_slot_displaced-sound g s caller s' seat d heap other o sound has at there step =
+put_slot_displaced-sound g s caller s' seat d heap other o sound has stands there step =
     let p = Partial (partial.PutSlot seat d heap) o in
-    let exists : (heap < g.heaps) × (seat.class < CLASSES) = exists-at g s caller p sound has at in
-    step-from g s caller s' p (At (Stack (stack.LoadTopToPush seat Partials other) o)) tt sound has at
+    let exists : (heap < g.heaps) × (seat.class < CLASSES) = exists-at g s caller p sound has stands in
+    step-from g s caller s' p (At (Stack (stack.LoadTopToPush seat Partials other) o)) tt sound has stands
     (λ l old.
-    let fits = fits-at g s l caller p old has at in
+    let fits = fits-at g s l caller p old has stands in
     let kept = old.kept.slot heap seat.class other exists.0 exists.1 there in
     let this : Kept = record { desc = d; class = seat.class; status = partly_used } in
     let rest =
-    All-tail (λ (k : Kept). IsKeptAs s k.status k.desc k.class) this (continuation_holds seat o).kept (kept-at g s l caller p old has at) in
+    All-tail (λ (k : Kept). IsKeptAs s k.status k.desc k.class) this (continuation_holds seat o).kept (kept-at g s l caller p old has stands) in
     record {
       next = rw (there, displaced-next g seat d heap other fits.point.seat.geometry kept.0) refl;
       event = refl;
       cleared = refl;
       goes =
-          alike-goes g s l caller p _ old has at (grind (arith, fits.goes))
-          (keeps-too s other seat.class (continuation_holds seat o).kept kept.1 rest) (so-at g s l caller p old has at);
+          alike-goes g s l caller p _ old has stands (grind (arith, fits.goes))
+          (keeps-too s other seat.class (continuation_holds seat o).kept kept.1 rest) (so-at g s l caller p old has stands);
       weigh = rw there (grind (arith));
-      below = put-below g s l caller seat d heap o sound.checked old has at;
-      actives = λ words' w. put-actives g s l caller seat d heap o words' old has at w;
+      below = put-below g s l caller seat d heap o sound.checked old has stands;
+      actives = λ words' w. put-actives g s l caller seat d heap o words' old has stands w;
     })
     step
 
@@ -369,10 +369,10 @@ put_slot_displaced-sound g s caller s' seat d heap other o sound has at there st
 pub put_slot-sound :
     (g : Geometry) (s : State) (caller : ℕ) (s' : State) (seat : SeatFields) (d heap : ℕ) (o : Continuation) → IsSoundWithoutCounts g s → caller < g.callers
     → (s.errand caller).point ≡ Partial (partial.PutSlot seat d heap) o → Step s caller s' → IsSoundWithoutCounts g s'
-put_slot-sound g s caller s' seat d heap o sound has at step =
+put_slot-sound g s caller s' seat d heap o sound has stands step =
     elim (cases_eq (s.word (slot_of seat heap)) 0) [
-      | inl bare ↦ put_slot_filled-sound g s caller s' seat d heap o sound has at bare step
-      | inr held ↦ put_slot_displaced-sound g s caller s' seat d heap (s.word (slot_of seat heap) - 1) o sound has at (omega (arith, held)) step
+      | inl bare ↦ put_slot_filled-sound g s caller s' seat d heap o sound has stands bare step
+      | inr held ↦ put_slot_displaced-sound g s caller s' seat d heap (s.word (slot_of seat heap) - 1) o sound has stands (omega (arith, held)) step
     ]
 
 -- the second superblock from the list is EMPTY: it is kept until the first one stands on the list again
@@ -396,8 +396,8 @@ keeps-listed :
     (e : ErrandFields) (seat : SeatFields) (d first : ℕ) → e.point ≡ Partial (partial.LoadListedAnchor seat d) (ClearSecond first)
     → 1 ≤ errand_keeps partly_used d e
 unfolding holds_of
-keeps-listed e seat d first at =
-    subst (λ p. 1 ≤ kept_among partly_used d (holds_of p).kept) (sym at)
+keeps-listed e seat d first stands =
+    subst (λ p. 1 ≤ kept_among partly_used d (holds_of p).kept) (sym stands)
     (rw (eq-eqb d d refl) (omega arith))
 
 -- the second superblock from the list is EMPTY and is kept until the first one stands on the list again, or it isn't
@@ -405,28 +405,28 @@ pub load_second-sound :
     (g : Geometry) (s : State) (caller : ℕ) (s' : State) (seat : SeatFields) (d first : ℕ) → IsSoundWithoutCounts g s → caller < g.callers
     → (s.errand caller).point ≡ Partial (partial.LoadListedAnchor seat d) (ClearSecond first) → Step s caller s' → IsSoundWithoutCounts g s'
 unfolding plan_point_of next_of event_of holds_of recalls_of
-load_second-sound g s caller s' seat d first sound has at step =
+load_second-sound g s caller s' seat d first sound has stands step =
     elim (cases_Bool (is_empty (anchor_for s d).state)) [
       | inl bare ↦
           let p = Partial (partial.LoadListedAnchor seat d) (ClearSecond first) in
           let this : Kept = record { desc = d; class = seat.class; status = partly_used } in
           let other : Kept = record { desc = first; class = seat.class; status = partly_used } in
-          steady-at g s caller s' p sound has at (record { event = refl; cleared = refl; word = refl })
+          steady-at g s caller s' p sound has stands (record { event = refl; cleared = refl; word = refl })
           (rw bare (record {
             plain = tt;
             weighs = λ w. listed-weighs w seat d first;
             goes = λ l old.
-                let kept = kept-at g s l caller p old has at in
-                let fits = (fits-at g s l caller p old has at).point in
-                let alone = keeps-alone g s l caller d old has fits.desc (keeps-listed (s.errand caller) seat d first at) in
+                let kept = kept-at g s l caller p old has stands in
+                let fits = (fits-at g s l caller p old has stands).point in
+                let alone = keeps-alone g s l caller d old has fits.desc (keeps-listed (s.errand caller) seat d first stands) in
                 let so : IsEmptied g s l d = record { state = empty-is (anchor_for s d).state bare; unavailable = alone.0; standing = alone.1 } in
-                alike-goes g s l caller p _ old has at (grind (arith))
+                alike-goes g s l caller p _ old has stands (grind (arith))
                 (keeps-too s first seat.class (this ∷ []) (kept 1 other (omega arith))
                 (keeps-too s d seat.class [] (kept 0 this (omega arith)) (none-kept-as s)))
                 (All-cons (IsSo g s l caller) (emptied d) [] so (All-nil (IsSo g s l caller)));
           })) step
       | inr used ↦
-          quiet-at g s caller s' (Partial (partial.LoadListedAnchor seat d) (ClearSecond first)) sound has at
+          quiet-at g s caller s' (Partial (partial.LoadListedAnchor seat d) (ClearSecond first)) sound has stands
           (record { event = refl; cleared = refl; word = refl })
-          (rw used (leads-on g s caller _ _ 0 has at (grind (arith)))) step
+          (rw used (leads-on g s caller _ _ 0 has stands (grind (arith)))) step
     ]

@@ -41,13 +41,13 @@ info-leads :
     → (s.errand caller).point ≡ Block (block.LoadInfo seat d share) o → info_in seat.geometry (s.word (name.Info d)) ≡ said
     → LeadsQuietly g s caller (Block (block.LoadInfo seat d share) o) (enter_block (after_info seat d share said) o)
 unfolding holds_of recalls_of
-info-leads g s caller seat d share o None has at is = leads-on g s caller _ _ 0 has at (grind (arith))
-info-leads g s caller seat d share o (Some info) has at is = record {
+info-leads g s caller seat d share o None has stands is = leads-on g s caller _ _ 0 has stands (grind (arith))
+info-leads g s caller seat d share o (Some info) has stands is = record {
   plain = tt;
   holds = grind (arith);
   so = λ l old.
       let says : info_for s d ≡ info = info-said seat.geometry (info_of (s.word (name.Info d))) info is in
-      let bound = All-head (IsSo g s l caller) (bound_for d seat.class) [] (so-at g s l caller (Block (block.LoadInfo seat d share) o) old has at) in
+      let bound = All-head (IsSo g s l caller) (bound_for d seat.class) [] (so-at g s l caller (Block (block.LoadInfo seat d share) o) old has stands) in
       All-cons (IsSo g s l caller) (bound_at d info.frame seat.class) []
       (bound.0, record { frame = ap (λ (x : InfoFields). x.frame) says; class = bound.1 }) (All-nil (IsSo g s l caller));
 }
@@ -57,9 +57,9 @@ pub load_info-sound :
     (g : Geometry) (s : State) (caller : ℕ) (s' : State) (seat : SeatFields) (d : ℕ) (share : Share) (o : Continuation) → IsSoundWithoutCounts g s
     → caller < g.callers → (s.errand caller).point ≡ Block (block.LoadInfo seat d share) o → Step s caller s' → IsSoundWithoutCounts g s'
 unfolding plan_point_of next_of event_of
-load_info-sound g s caller s' seat d share o sound has at step =
-    quiet-at g s caller s' (Block (block.LoadInfo seat d share) o) sound has at (record { event = refl; cleared = refl; word = refl })
-    (info-leads g s caller seat d share o (info_in seat.geometry (s.word (name.Info d))) has at refl) step
+load_info-sound g s caller s' seat d share o sound has stands step =
+    quiet-at g s caller s' (Block (block.LoadInfo seat d share) o) sound has stands (record { event = refl; cleared = refl; word = refl })
+    (info-leads g s caller seat d share o (info_in seat.geometry (s.word (name.Info d))) has stands refl) step
 
 -- who is about to pop has reserved a block
 before-reserves : (d class : ℕ) (share : Share) → 0 < reserved_among d (holds_before_pop d class share).credits
@@ -72,9 +72,9 @@ caller-reserves :
     (g : Geometry) (s : State) (caller d : ℕ) (p : Point) → caller < g.callers → (s.errand caller).point ≡ p
     → 0 < reserved_among d (holds_of p).credits → 0 < reserved_of g s d
 unfolding callers_sum
-caller-reserves g s caller d p has at some =
+caller-reserves g s caller d p has stands some =
     let own : errand_reserves d (s.errand caller) ≡ reserved_among d (holds_of p).credits =
-    ap (λ q. reserved_among d (holds_of q).credits) at in
+    ap (λ q. reserved_among d (holds_of q).credits) stands in
     omega (arith, some, own, term-sum g.callers (λ i. errand_reserves d (s.errand i)) caller has)
 
 chain-first :
@@ -95,17 +95,17 @@ anchor-leads :
     → (s.errand caller).point ≡ Block (block.LoadAnchor site share) o → anchor_in site.seat.class (s.word (name.Anchor site.desc)) ≡ said
     → LeadsQuietly g s caller (Block (block.LoadAnchor site share) o) (enter_block (after_anchor site share said) o)
 unfolding holds_of recalls_of
-anchor-leads g s caller site share o None has at is = leads-on g s caller _ _ 0 has at (grind (arith))
-anchor-leads g s caller site share o (Some a) has at is = record {
+anchor-leads g s caller site share o None has stands is = leads-on g s caller _ _ 0 has stands (grind (arith))
+anchor-leads g s caller site share o (Some a) has stands is = record {
   plain = tt;
   holds = grind (arith);
   so = λ l old.
       let says : a ≡ anchor_for s site.desc = anchor-said site.seat.class (s.word (name.Anchor site.desc)) a is in
       let some : 0 < reserved_of g s site.desc =
-      caller-reserves g s caller site.desc (Block (block.LoadAnchor site share) o) has at (before-reserves site.desc site.seat.class share) in
+      caller-reserves g s caller site.desc (Block (block.LoadAnchor site share) o) has stands (before-reserves site.desc site.seat.class share) in
       All-cons (IsSo g s l caller) (pops site.desc a) (bound_here site)
       (subst (IsPopped (superblock_of g s site.desc)) (sym says) (record { tag = omega arith; first = λ same. chain-first g s site.desc some }))
-      (so-at g s l caller (Block (block.LoadAnchor site share) o) old has at);
+      (so-at g s l caller (Block (block.LoadAnchor site share) o) old has stands);
 }
 
 -- the load of an anchor for a pop
@@ -113,23 +113,23 @@ pub load_anchor-sound :
     (g : Geometry) (s : State) (caller : ℕ) (s' : State) (site : Site) (share : Share) (o : Continuation) → IsSoundWithoutCounts g s → caller < g.callers
     → (s.errand caller).point ≡ Block (block.LoadAnchor site share) o → Step s caller s' → IsSoundWithoutCounts g s'
 unfolding plan_point_of next_of event_of
-load_anchor-sound g s caller s' site share o sound has at step =
-    quiet-at g s caller s' (Block (block.LoadAnchor site share) o) sound has at (record { event = refl; cleared = refl; word = refl })
-    (anchor-leads g s caller site share o (anchor_in site.seat.class (s.word (name.Anchor site.desc))) has at refl) step
+load_anchor-sound g s caller s' site share o sound has stands step =
+    quiet-at g s caller s' (Block (block.LoadAnchor site share) o) sound has stands (record { event = refl; cleared = refl; word = refl })
+    (anchor-leads g s caller site share o (anchor_in site.seat.class (s.word (name.Anchor site.desc))) has stands refl) step
 
 -- the load of a link
 pub load_link-sound :
     (g : Geometry) (s : State) (caller : ℕ) (s' : State) (site : Site) (share : Share) (a : AnchorFields) (o : Continuation) → IsSoundWithoutCounts g s
     → caller < g.callers → (s.errand caller).point ≡ Block (block.LoadLink site share a) o → Step s caller s' → IsSoundWithoutCounts g s'
 unfolding plan_point_of next_of event_of holds_of recalls_of
-load_link-sound g s caller s' site share a o sound has at step =
+load_link-sound g s caller s' site share a o sound has stands step =
     let prefix : ℕ = s.word (prefix_name site.frame site.seat.class a.avail) in
-    quiet-at g s caller s' (Block (block.LoadLink site share a) o) sound has at (record { event = refl; cleared = refl; word = refl })
+    quiet-at g s caller s' (Block (block.LoadLink site share a) o) sound has stands (record { event = refl; cleared = refl; word = refl })
     (record {
       plain = tt;
       holds = grind (arith);
       so = λ l old.
-          let all = so-at g s l caller (Block (block.LoadLink site share a) o) old has at in
+          let all = so-at g s l caller (Block (block.LoadLink site share a) o) old has stands in
           let located : IsLocated s site.desc site.frame site.seat.class =
           (All-head (IsSo g s l caller) (bound_at site.desc site.frame site.seat.class) [] (All-tail (IsSo g s l caller) (pops site.desc a) (bound_here site) all)).1 in
           All-cons (IsSo g s l caller) (links site.desc a prefix) (pops site.desc a ∷ bound_here site)
@@ -150,6 +150,6 @@ pub load_return-sound :
     (g : Geometry) (s : State) (caller : ℕ) (s' : State) (site : Site) (i more : ℕ) (o : Continuation) → IsSoundWithoutCounts g s → caller < g.callers
     → (s.errand caller).point ≡ Block (block.LoadReturn site i more) o → Step s caller s' → IsSoundWithoutCounts g s'
 unfolding plan_point_of next_of event_of
-load_return-sound g s caller s' site i more o sound has at step =
-    quiet-at g s caller s' (Block (block.LoadReturn site i more) o) sound has at (record { event = refl; cleared = refl; word = refl })
-    (leads-on g s caller _ _ 0 has at (return_anchor-leads site i more o (anchor_in site.seat.class (s.word (name.Anchor site.desc))))) step
+load_return-sound g s caller s' site i more o sound has stands step =
+    quiet-at g s caller s' (Block (block.LoadReturn site i more) o) sound has stands (record { event = refl; cleared = refl; word = refl })
+    (leads-on g s caller _ _ 0 has stands (return_anchor-leads site i more o (anchor_in site.seat.class (s.word (name.Anchor site.desc))))) step

@@ -53,9 +53,9 @@ pub load_guarded_owner-sound :
     (g : Geometry) (s : State) (caller : ℕ) (s' : State) (site : Site) (i : ℕ) (a : AnchorFields) (o : Continuation) → IsSoundWithoutCounts g s
     → caller < g.callers → (s.errand caller).point ≡ Block (block.LoadOwner site i a) o → Step s caller s' → IsSoundWithoutCounts g s'
 unfolding plan_point_of next_of event_of
-load_guarded_owner-sound g s caller s' site i a o sound has at step =
-    quiet-at g s caller s' (Block (block.LoadOwner site i a) o) sound has at (record { event = refl; cleared = refl; word = refl })
-    (leads-on g s caller _ _ 0 has at (guarded-owner-leads site i a o (info_in site.seat.geometry (s.word (name.Info site.desc))))) step
+load_guarded_owner-sound g s caller s' site i a o sound has stands step =
+    quiet-at g s caller s' (Block (block.LoadOwner site i a) o) sound has stands (record { event = refl; cleared = refl; word = refl })
+    (leads-on g s caller _ _ 0 has stands (guarded-owner-leads site i a o (info_in site.seat.geometry (s.word (name.Info site.desc))))) step
 
 -- a small prefix word is twice its descriptor
 small-prefix-word : (word d : ℕ) → word < 2 ^ 64 → prefix_of word ≡ Some (Small d) → word ≡ 2 * d
@@ -70,10 +70,10 @@ prefix-names :
     → caller < g.callers → (s.errand caller).point ≡ Block (block.LoadPrefix seat frame i) o
     → prefix_of (s.word (name.Arena (block_place frame seat.class i))) ≡ Some (Small d)
     → IsTrue (is_bound g s l d) × IsLocated s d frame seat.class
-prefix-names g s l caller seat frame i o d old has at is =
+prefix-names g s l caller seat frame i o d old has stands is =
     let place : ℕ = block_place frame seat.class i in
-    let fit = (fits-at g s l caller (Block (block.LoadPrefix seat frame i) o) old has at).point in
-    let (e, of, says) = prefix-ties g s l caller seat frame i o old has at in
+    let fit = (fits-at g s l caller (Block (block.LoadPrefix seat frame i) o) old has stands).point in
+    let (e, of, says) = prefix-ties g s l caller seat frame i o old has stands in
     let same : e ≡ d = omega (arith, says, small-prefix-word (s.word (name.Arena place)) d (old.words (name.Arena place)) is) in
     let located : IsLocated s d (frame_of place) seat.class = subst (λ e. IsLocated s e (frame_of place) seat.class) same of.located in (
       subst (λ e. IsTrue (is_bound g s l e)) same of.bound,
@@ -88,14 +88,14 @@ small-prefix-leads :
     → StepsSteadily g s caller (Block (block.LoadPrefix seat frame i) o)
     (At (Block (block.LoadPushAnchor (record { seat = seat; desc = d; frame = frame }) i false) o))
 unfolding holds_of recalls_of
-small-prefix-leads g s caller seat frame i o d has at is = record {
+small-prefix-leads g s caller seat frame i o d has stands is = record {
   plain = tt;
   weighs = λ w. weigh-stays _ w _ _ refl refl refl (λ class. refl);
   goes = λ l old. record {
     kept = All-nil _;
-    so = All-cons (IsSo g s l caller) (bound_at d frame seat.class) [] (prefix-names g s l caller seat frame i o d old has at is)
+    so = All-cons (IsSo g s l caller) (bound_at d frame seat.class) [] (prefix-names g s l caller seat frame i o d old has stands is)
         (All-nil (IsSo g s l caller));
-    hazard = hazard-at g s l caller (Block (block.LoadPrefix seat frame i) o) old has at;
+    hazard = hazard-at g s l caller (Block (block.LoadPrefix seat frame i) o) old has stands;
     guard = λ d word guard. guard;
     pushed = refl;
     passed = refl;
@@ -105,7 +105,7 @@ small-prefix-leads g s caller seat frame i o d has at is = record {
     frees =
         All-cons (λ (b : Freed). IsOwned s caller b.place b.need)
         (record { place = block_place frame seat.class i; need = need.Small seat.class; overwritten = true }) []
-        (begins-owned g s l caller seat frame i o old has at) (All-nil _);
+        (begins-owned g s l caller seat frame i o old has stands) (All-nil _);
     excepts = λ place x. absurd (begins-free seat frame i o place x);
     turn = grind (arith);
   };
@@ -117,27 +117,27 @@ prefix-stays :
     (block.LoadPrefix seat frame i) o
     → StepsSteadily g s caller (Block (block.LoadPrefix seat frame i) o) (At (Block (block.LoadPrefix seat frame i) o))
 unfolding holds_of recalls_of
-prefix-stays g s caller seat frame i o has at = quiet-steady g s caller _ _ has at (leads-on g s caller _ _ 0 has at (grind (arith)))
+prefix-stays g s caller seat frame i o has stands = quiet-steady g s caller _ _ has stands (leads-on g s caller _ _ 0 has stands (grind (arith)))
 
 prefix-said :
     (g : Geometry) (s : State) (caller : ℕ) (seat : SeatFields) (frame i : ℕ) (o : Continuation) (said : Option Prefix) → caller < g.callers
     → (s.errand caller).point ≡ Block (block.LoadPrefix seat frame i) o → prefix_of (s.word (name.Arena (block_place frame seat.class i))) ≡ said
     → StepsSteadily g s caller (Block (block.LoadPrefix seat frame i) o) (enter_block (after_prefix seat frame i said) o)
-prefix-said g s caller seat frame i o None has at is = prefix-stays g s caller seat frame i o has at
-prefix-said g s caller seat frame i o (Some (Large units)) has at is = prefix-stays g s caller seat frame i o has at
-prefix-said g s caller seat frame i o (Some (Small d)) has at is =
+prefix-said g s caller seat frame i o None has stands is = prefix-stays g s caller seat frame i o has stands
+prefix-said g s caller seat frame i o (Some (Large units)) has stands is = prefix-stays g s caller seat frame i o has stands
+prefix-said g s caller seat frame i o (Some (Small d)) has stands is =
     cond_both (nat_lt d (descriptor_count seat.geometry)) (block.LoadPushAnchor (record { seat = seat; desc = d; frame = frame }) i false)
     (block.LoadPrefix seat frame i) (λ q. StepsSteadily g s caller (Block (block.LoadPrefix seat frame i) o) (enter_block q o))
-    (λ exists. small-prefix-leads g s caller seat frame i o d has at is) (λ none. prefix-stays g s caller seat frame i o has at)
+    (λ exists. small-prefix-leads g s caller seat frame i o d has stands is) (λ none. prefix-stays g s caller seat frame i o has stands)
 
 -- the load of a prefix word
 pub load_prefix-sound :
     (g : Geometry) (s : State) (caller : ℕ) (s' : State) (seat : SeatFields) (frame i : ℕ) (o : Continuation) → IsSoundWithoutCounts g s → caller < g.callers
     → (s.errand caller).point ≡ Block (block.LoadPrefix seat frame i) o → Step s caller s' → IsSoundWithoutCounts g s'
 unfolding plan_point_of next_of event_of
-load_prefix-sound g s caller s' seat frame i o sound has at step =
-    steady-at g s caller s' (Block (block.LoadPrefix seat frame i) o) sound has at (record { event = refl; cleared = refl; word = refl })
-    (prefix-said g s caller seat frame i o (prefix_of (s.word (name.Arena (block_place frame seat.class i)))) has at refl) step
+load_prefix-sound g s caller s' seat frame i o sound has stands step =
+    steady-at g s caller s' (Block (block.LoadPrefix seat frame i) o) sound has stands (record { event = refl; cleared = refl; word = refl })
+    (prefix-said g s caller seat frame i o (prefix_of (s.word (name.Arena (block_place frame seat.class i)))) has stands refl) step
 
 -- a hazard word that names a descriptor was stored
 stored-guards : (stored : Bool) (e d word : ℕ) → IsHazard (if_stored stored e) word → word ≡ d + 1 → IsGuard (if_stored stored e)
@@ -150,15 +150,15 @@ push_anchor-last :
     → (s.errand caller).point ≡ Block (block.LoadPushAnchor site i stored) o → StepsSteadily g s caller (Block (block.LoadPushAnchor site i stored) o)
     (At (Block (block.StoreGuard site i a) o))
 unfolding holds_of recalls_of
-push_anchor-last g s caller site i stored o a has at =
+push_anchor-last g s caller site i stored o a has stands =
     let p : Point = Block (block.LoadPushAnchor site i stored) o in
     record {
       plain = tt;
       weighs = λ w. weigh-stays _ w _ _ refl refl refl (λ class. refl);
       goes = λ l old.
-          blocks-go g s l caller p (Block (block.StoreGuard site i a) o) old has at (grind (arith)) tt
-          (λ d word guard. stored-guards stored site.desc d (s.word (name.Hazard caller)) (hazard-at g s l caller p old has at) word) (All-nil _)
-          (so-at g s l caller p old has at);
+          blocks-go g s l caller p (Block (block.StoreGuard site i a) o) old has stands (grind (arith)) tt
+          (λ d word guard. stored-guards stored site.desc d (s.word (name.Hazard caller)) (hazard-at g s l caller p old has stands) word) (All-nil _)
+          (so-at g s l caller p old has stands);
     }
 
 -- and of any
@@ -167,18 +167,18 @@ push_anchor-said :
     → (s.errand caller).point ≡ Block (block.LoadPushAnchor site i stored) o → StepsSteadily g s caller (Block (block.LoadPushAnchor site i stored) o)
     (enter_block (after_push_anchor site i stored said) o)
 unfolding holds_of recalls_of
-push_anchor-said g s caller site i stored o None has at = quiet-steady g s caller _ _ has at (leads-on g s caller _ _ 0 has at (grind (arith)))
-push_anchor-said g s caller site i stored o (Some a) has at =
+push_anchor-said g s caller site i stored o None has stands = quiet-steady g s caller _ _ has stands (leads-on g s caller _ _ 0 has stands (grind (arith)))
+push_anchor-said g s caller site i stored o (Some a) has stands =
     cond_both (is_last site.seat.class a) (block.StoreGuard site i a) (block.StoreLink site i a stored 0)
     (λ q. StepsSteadily g s caller (Block (block.LoadPushAnchor site i stored) o) (enter_block q o))
-    (λ last. push_anchor-last g s caller site i stored o a has at)
-    (λ more. quiet-steady g s caller _ _ has at (leads-on g s caller _ _ 0 has at (grind (arith))))
+    (λ last. push_anchor-last g s caller site i stored o a has stands)
+    (λ more. quiet-steady g s caller _ _ has stands (leads-on g s caller _ _ 0 has stands (grind (arith))))
 
 -- the load of an anchor for a push
 pub load_push_anchor-sound :
     (g : Geometry) (s : State) (caller : ℕ) (s' : State) (site : Site) (i : ℕ) (stored : Bool) (o : Continuation) → IsSoundWithoutCounts g s → caller < g.callers
     → (s.errand caller).point ≡ Block (block.LoadPushAnchor site i stored) o → Step s caller s' → IsSoundWithoutCounts g s'
 unfolding plan_point_of next_of event_of
-load_push_anchor-sound g s caller s' site i stored o sound has at step =
-    steady-at g s caller s' (Block (block.LoadPushAnchor site i stored) o) sound has at (record { event = refl; cleared = refl; word = refl })
-    (push_anchor-said g s caller site i stored o (anchor_in site.seat.class (s.word (name.Anchor site.desc))) has at) step
+load_push_anchor-sound g s caller s' site i stored o sound has stands step =
+    steady-at g s caller s' (Block (block.LoadPushAnchor site i stored) o) sound has stands (record { event = refl; cleared = refl; word = refl })
+    (push_anchor-said g s caller site i stored o (anchor_in site.seat.class (s.word (name.Anchor site.desc))) has stands) step

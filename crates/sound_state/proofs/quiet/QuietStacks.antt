@@ -54,19 +54,19 @@ pub load_top_to_push-sound :
     (g : Geometry) (s : State) (caller : ℕ) (s' : State) (seat : SeatFields) (pile : Pile) (i : ℕ) (o : Continuation) → IsSoundWithoutCounts g s
     → caller < g.callers → (s.errand caller).point ≡ Stack (stack.LoadTopToPush seat pile i) o → Step s caller s' → IsSoundWithoutCounts g s'
 unfolding plan_point_of next_of event_of holds_of recalls_of
-load_top_to_push-sound g s caller s' seat pile i o sound has at step =
+load_top_to_push-sound g s caller s' seat pile i o sound has stands step =
     let p = stack.LoadTopToPush seat pile i in
     let h = head_of (s.word (head_name seat pile)) in
-    quiet-at g s caller s' (Stack p o) sound has at (record { event = refl; cleared = refl; word = refl })
+    quiet-at g s caller s' (Stack p o) sound has stands (record { event = refl; cleared = refl; word = refl })
     (record {
       plain = tt;
       holds = pops-same p (stack.StoreBelow seat pile i h) o refl;
       so = λ l old.
-          let class = (fits-at g s l caller (Stack p o) old has at).point.seat.class in
+          let class = (fits-at g s l caller (Stack p o) old has stands).point.seat.class in
           All-cons (IsSo g s l caller) (tops_exist seat pile h) (continuation_recalls seat o)
           (top-exists (next_in s.word pile) h.top (pile_limit g pile) (list_of l seat pile) (pile-stacked g s l seat pile old.listed class)
           (pile-exists g s l seat pile old.listed class))
-          (so-at g s l caller (Stack p o) old has at);
+          (so-at g s l caller (Stack p o) old has stands);
     })
     step
 
@@ -77,7 +77,7 @@ below-leads-quietly :
     → LeadsQuietly g s caller (Stack (stack.LoadBelow seat pile h) o)
     (enter_stack (after_below seat pile h (s.word (next_name pile (h.top - 1)))) o)
 unfolding holds_of recalls_of
-below-leads-quietly g s caller seat pile h o has at =
+below-leads-quietly g s caller seat pile h o has stands =
     let p = stack.LoadBelow seat pile h in
     let below = s.word (next_name pile (h.top - 1)) in
     let q = stack.PopTop seat pile h below in
@@ -87,17 +87,17 @@ below-leads-quietly g s caller seat pile h o has at =
       holds = pops-same p q o refl;
       so = λ l old.
           All-cons (IsSo g s l caller) (nexts seat pile h below) (tops seat pile h ∷ continuation_recalls seat o) (λ same. refl)
-          (so-at g s l caller (Stack p o) old has at);
+          (so-at g s l caller (Stack p o) old has stands);
     })
-    (λ beyond. leads-on g s caller (Stack p o) _ 0 has at (record { plain = tt; holds = pops-same p p o refl; recalls = refl }))
+    (λ beyond. leads-on g s caller (Stack p o) _ 0 has stands (record { plain = tt; holds = pops-same p p o refl; recalls = refl }))
 
 pub load_below-sound :
     (g : Geometry) (s : State) (caller : ℕ) (s' : State) (seat : SeatFields) (pile : Pile) (h : HeadFields) (o : Continuation) → IsSoundWithoutCounts g s
     → caller < g.callers → (s.errand caller).point ≡ Stack (stack.LoadBelow seat pile h) o → Step s caller s' → IsSoundWithoutCounts g s'
 unfolding plan_point_of next_of event_of
-load_below-sound g s caller s' seat pile h o sound has at step =
-    quiet-at g s caller s' (Stack (stack.LoadBelow seat pile h) o) sound has at (record { event = refl; cleared = refl; word = refl })
-    (below-leads-quietly g s caller seat pile h o has at) step
+load_below-sound g s caller s' seat pile h o sound has stands step =
+    quiet-at g s caller s' (Stack (stack.LoadBelow seat pile h) o) sound has stands (record { event = refl; cleared = refl; word = refl })
+    (below-leads-quietly g s caller seat pile h o has stands) step
 
 -- a pop that is lost begins again
 pub pop_top_lost-sound :
@@ -105,10 +105,10 @@ pub pop_top_lost-sound :
     → IsSoundWithoutCounts g s → caller < g.callers → (s.errand caller).point ≡ Stack (stack.PopTop seat pile h below) o
     → s.word (head_name seat pile) ≢ head_word h → Step s caller s' → IsSoundWithoutCounts g s'
 unfolding plan_point_of next_of event_of holds_of recalls_of
-pop_top_lost-sound g s caller s' seat pile h below o sound has at lost step =
+pop_top_lost-sound g s caller s' seat pile h below o sound has stands lost step =
     let p = stack.PopTop seat pile h below in
-    lost-at g s caller s' (Stack p o) (head_name seat pile) (head_word h) _ sound has at refl refl
-    (leads-on g s caller (Stack p o) _ 2 has at (record { plain = tt; holds = pops-same p (stack.LoadTop seat pile) o refl; recalls = refl })) lost step
+    lost-at g s caller s' (Stack p o) (head_name seat pile) (head_word h) _ sound has stands refl refl
+    (leads-on g s caller (Stack p o) _ 2 has stands (record { plain = tt; holds = pops-same p (stack.LoadTop seat pile) o refl; recalls = refl })) lost step
 
 -- so does the look whether the stack is still empty
 pub confirm_empty_lost-sound :
@@ -116,10 +116,10 @@ pub confirm_empty_lost-sound :
     → caller < g.callers → (s.errand caller).point ≡ Stack (stack.ConfirmEmpty seat pile h) o
     → s.word (head_name seat pile) ≢ head_word h → Step s caller s' → IsSoundWithoutCounts g s'
 unfolding plan_point_of next_of event_of holds_of recalls_of
-confirm_empty_lost-sound g s caller s' seat pile h o sound has at lost step =
+confirm_empty_lost-sound g s caller s' seat pile h o sound has stands lost step =
     let p = stack.ConfirmEmpty seat pile h in
-    lost-at g s caller s' (Stack p o) (head_name seat pile) (head_word h) _ sound has at refl refl
-    (leads-on g s caller (Stack p o) _ 0 has at (record { plain = tt; holds = pops-same p (stack.LoadTop seat pile) o refl; recalls = refl })) lost step
+    lost-at g s caller s' (Stack p o) (head_name seat pile) (head_word h) _ sound has stands refl refl
+    (leads-on g s caller (Stack p o) _ 0 has stands (record { plain = tt; holds = pops-same p (stack.LoadTop seat pile) o refl; recalls = refl })) lost step
 
 -- and a push that is lost
 pub push_top_lost-sound :
@@ -127,10 +127,10 @@ pub push_top_lost-sound :
     → IsSoundWithoutCounts g s → caller < g.callers → (s.errand caller).point ≡ Stack (stack.PushTop seat pile i h) o
     → s.word (head_name seat pile) ≢ head_word h → Step s caller s' → IsSoundWithoutCounts g s'
 unfolding plan_point_of next_of event_of holds_of recalls_of
-push_top_lost-sound g s caller s' seat pile i h o sound has at lost step =
+push_top_lost-sound g s caller s' seat pile i h o sound has stands lost step =
     let p = stack.PushTop seat pile i h in
-    lost-at g s caller s' (Stack p o) (head_name seat pile) (head_word h) _ sound has at refl refl
-    (leads-on g s caller (Stack p o) _ 2 has at
+    lost-at g s caller s' (Stack p o) (head_name seat pile) (head_word h) _ sound has stands refl refl
+    (leads-on g s caller (Stack p o) _ 2 has stands
     (record { plain = tt; holds = pops-same p (stack.LoadTopToPush seat pile i) o refl; recalls = refl })) lost step
 
 -- a stack that is read empty: an allocation looks again, and a clearing that has popped one puts it back
@@ -147,20 +147,20 @@ top-leads-quietly :
     → (o ≡ Clear → (head_of (s.word (head_name seat pile))).top ≢ 0)
     → LeadsQuietly g s caller (Stack (stack.LoadTop seat pile) o) (enter_stack (after_top seat pile (head_of (s.word (head_name seat pile)))) o)
 unfolding holds_of recalls_of
-top-leads-quietly g s caller seat pile o has at goes =
+top-leads-quietly g s caller seat pile o has stands goes =
     let p = stack.LoadTop seat pile in
     let h = head_of (s.word (head_name seat pile)) in
     let q = stack.LoadBelow seat pile h in
     cond_both (h.top == 0) (stack.FoundEmpty seat pile h) (if nat_le h.top (pile_limit seat.geometry pile) then q else p)
     (λ r. LeadsQuietly g s caller (Stack p o) (enter_stack r o))
-    (λ empty. leads-on g s caller (Stack p o) _ 0 has at (empty-stack-leads seat pile h o (λ is. goes is (eqb-true h.top 0 empty))))
+    (λ empty. leads-on g s caller (Stack p o) _ 0 has stands (empty-stack-leads seat pile h o (λ is. goes is (eqb-true h.top 0 empty))))
     (λ some.
     cond_both (nat_le h.top (pile_limit seat.geometry pile)) q p (λ r. LeadsQuietly g s caller (Stack p o) (enter_stack r o))
     (λ within. record {
       plain = tt;
       holds = pops-same p q o refl;
       so = λ l old.
-          let class = (fits-at g s l caller (Stack p o) old has at).point.class in
+          let class = (fits-at g s l caller (Stack p o) old has stands).point.class in
           All-cons (IsSo g s l caller) (tops seat pile h) (continuation_recalls seat o)
           (record {
             tag = omega arith;
@@ -168,15 +168,15 @@ top-leads-quietly g s caller seat pile o has at goes =
                 top-listed (next_in s.word pile) h.top (list_of l seat pile) (pile-stacked g s l seat pile old.listed class)
                 (eqb-false h.top 0 some);
           })
-          (so-at g s l caller (Stack p o) old has at);
+          (so-at g s l caller (Stack p o) old has stands);
     })
-    (λ beyond. leads-on g s caller (Stack p o) _ 0 has at (record { plain = tt; holds = pops-same p p o refl; recalls = refl })))
+    (λ beyond. leads-on g s caller (Stack p o) _ 0 has stands (record { plain = tt; holds = pops-same p p o refl; recalls = refl })))
 
 pub load_top-sound :
     (g : Geometry) (s : State) (caller : ℕ) (s' : State) (seat : SeatFields) (pile : Pile) (o : Continuation) → IsSoundWithoutCounts g s
     → caller < g.callers → (s.errand caller).point ≡ Stack (stack.LoadTop seat pile) o
     → (o ≡ Clear → (head_of (s.word (head_name seat pile))).top ≢ 0) → Step s caller s' → IsSoundWithoutCounts g s'
 unfolding plan_point_of next_of event_of
-load_top-sound g s caller s' seat pile o sound has at goes step =
-    quiet-at g s caller s' (Stack (stack.LoadTop seat pile) o) sound has at (record { event = refl; cleared = refl; word = refl })
-    (top-leads-quietly g s caller seat pile o has at goes) step
+load_top-sound g s caller s' seat pile o sound has stands goes step =
+    quiet-at g s caller s' (Stack (stack.LoadTop seat pile) o) sound has stands (record { event = refl; cleared = refl; word = refl })
+    (top-leads-quietly g s caller seat pile o has stands goes) step

@@ -37,9 +37,9 @@ pub record StepsSteadily (g : Geometry) (s : State) (caller : ℕ) (p : Point) (
 pub steady-at :
     (g : Geometry) (s : State) (caller : ℕ) (s' : State) (p : Point) → IsSoundWithoutCounts g s → caller < g.callers → (s.errand caller).point ≡ p
     → IsSilent s caller p → StepsSteadily g s caller p (next_of p (found_from s p)) → Step s caller s' → IsSoundWithoutCounts g s'
-steady-at g s caller s' p sound has at silent h step =
+steady-at g s caller s' p sound has stands silent h step =
     let n = name_of (plan_point_of p) in
-    step-from g s caller s' p (next_of p (found_from s p)) h.plain sound has at
+    step-from g s caller s' p (next_of p (found_from s p)) h.plain sound has stands
     (λ l old. record {
       next = refl;
       event = silent.event;
@@ -61,22 +61,22 @@ pub record LeadsQuietly (g : Geometry) (s : State) (caller : ℕ) (p : Point) (n
 pub quiet-steady :
     (g : Geometry) (s : State) (caller : ℕ) (p : Point) (n : Next) → caller < g.callers → (s.errand caller).point ≡ p → LeadsQuietly g s caller p n
     → StepsSteadily g s caller p n
-quiet-steady g s caller p n has at h =
+quiet-steady g s caller p n has stands h =
     let same = h.holds in
     record {
       plain = h.plain;
       weighs = λ w. same-stays (name_of (plan_point_of p)) w p (point_after n) same;
       goes = λ l old.
-          subst (λ r. PointGoes g s l caller r (point_after n)) at
-          (same-point-goes g s l caller (point_after n) old has (subst (λ r. HoldsSame r (point_after n)) (sym at) same) (h.so l old));
+          subst (λ r. PointGoes g s l caller r (point_after n)) stands
+          (same-point-goes g s l caller (point_after n) old has (subst (λ r. HoldsSame r (point_after n)) (sym stands) same) (h.so l old));
     }
 
 -- keeps the state sound, if it is silent
 pub quiet-at :
     (g : Geometry) (s : State) (caller : ℕ) (s' : State) (p : Point) → IsSoundWithoutCounts g s → caller < g.callers → (s.errand caller).point ≡ p
     → IsSilent s caller p → LeadsQuietly g s caller p (next_of p (found_from s p)) → Step s caller s' → IsSoundWithoutCounts g s'
-quiet-at g s caller s' p sound has at silent h step =
-    steady-at g s caller s' p sound has at silent (quiet-steady g s caller p (next_of p (found_from s p)) has at h) step
+quiet-at g s caller s' p sound has stands silent h step =
+    steady-at g s caller s' p sound has stands silent (quiet-steady g s caller p (next_of p (found_from s p)) has stands h) step
 
 -- a step that leads where the caller holds the same, and remembers the same but for the first few things
 pub record LeadsOn (p : Point) (n : Next) (forgotten : ℕ) : Type 0 where
@@ -88,10 +88,10 @@ pub record LeadsOn (p : Point) (n : Next) (forgotten : ℕ) : Type 0 where
 pub leads-on :
     (g : Geometry) (s : State) (caller : ℕ) (p : Point) (n : Next) (forgotten : ℕ) → caller < g.callers → (s.errand caller).point ≡ p
     → LeadsOn p n forgotten → LeadsQuietly g s caller p n
-leads-on g s caller p n forgotten has at h = record {
+leads-on g s caller p n forgotten has stands h = record {
   plain = h.plain;
   holds = h.holds;
-  so = λ l old. subst (All (IsSo g s l caller)) (sym h.recalls) (All-drop (IsSo g s l caller) forgotten (recalls_of p) (so-at g s l caller p old has at));
+  so = λ l old. subst (All (IsSo g s l caller)) (sym h.recalls) (All-drop (IsSo g s l caller) forgotten (recalls_of p) (so-at g s l caller p old has stands));
 }
 
 -- a step that ends the call of a caller that holds nothing leads quietly

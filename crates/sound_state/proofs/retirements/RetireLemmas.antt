@@ -414,10 +414,10 @@ pub retire-at :
     (g : Geometry) (s : State) (caller : ℕ) (s' : State) (p : Point) (seat : SeatFields) (d : ℕ) (o : Continuation) (q : Point) → IsSoundWithoutCounts g s
     → caller < g.callers → (s.errand caller).point ≡ p → Retires g s caller p seat d clear o q
     → after_action (plan_point_of p) (s.word (name_of (plan_point_of p))) ≡ s.word (name_of (plan_point_of p)) → Step s caller s' → IsSoundWithoutCounts g s'
-retire-at g s caller s' p seat d o q sound has at h same step =
-    let r : Retires g s caller (s.errand caller).point seat d clear o q = subst (λ z. Retires g s caller z seat d clear o q) (sym at) h in
+retire-at g s caller s' p seat d o q sound has stands h same step =
+    let r : Retires g s caller (s.errand caller).point seat d clear o q = subst (λ z. Retires g s caller z seat d clear o q) (sym stands) h in
     let stays : after_action (action_at s caller) (word_at s caller) ≡ word_at s caller =
-    subst (λ z. after_action (plan_point_of z) (s.word (name_of (plan_point_of z))) ≡ s.word (name_of (plan_point_of z))) (sym at) same in
+    subst (λ z. after_action (plan_point_of z) (s.word (name_of (plan_point_of z))) ≡ s.word (name_of (plan_point_of z))) (sym stands) same in
     retires-to g s caller seat d clear o q (IsSoundWithoutCounts g s') r (λ z to. retire-reads g s caller s' d seat.class z sound has to stays step)
 
 -- so it does where it clears the caller's hazard word
@@ -426,9 +426,9 @@ pub retire-clearing :
     → IsSoundWithoutCounts g s → caller < g.callers → (s.errand caller).point ≡ p → Retires g s caller p seat d h o q
     → name_of (plan_point_of p) ≡ name.Hazard caller → after_action (plan_point_of p) (s.word (name_of (plan_point_of p))) ≡ 0
     → Step s caller s' → IsSoundWithoutCounts g s'
-retire-clearing g s caller s' p seat d h o q sound has at k named bare step =
-    let r : Retires g s caller (s.errand caller).point seat d h o q = subst (λ z. Retires g s caller z seat d h o q) (sym at) k in
-    let own : name_at s caller ≡ name.Hazard caller = subst (λ z. name_of (plan_point_of z) ≡ name.Hazard caller) (sym at) named in
+retire-clearing g s caller s' p seat d h o q sound has stands k named bare step =
+    let r : Retires g s caller (s.errand caller).point seat d h o q = subst (λ z. Retires g s caller z seat d h o q) (sym stands) k in
+    let own : name_at s caller ≡ name.Hazard caller = subst (λ z. name_of (plan_point_of z) ≡ name.Hazard caller) (sym stands) named in
     let clears : after_action (action_at s caller) (word_at s caller) ≡ 0 =
-    subst (λ z. after_action (plan_point_of z) (s.word (name_of (plan_point_of z))) ≡ 0) (sym at) bare in
+    subst (λ z. after_action (plan_point_of z) (s.word (name_of (plan_point_of z))) ≡ 0) (sym stands) bare in
     retires-to g s caller seat d h o q (IsSoundWithoutCounts g s') r (λ z to. retire-clears g s caller s' d seat.class h z sound has to own clears step)

@@ -43,11 +43,11 @@ pub load_grant_anchor_empty-sound :
     → (s.errand caller).point ≡ Partial (partial.LoadGrantAnchor site) (Alloc need) → is_empty (anchor_for s site.desc).state ≡ true
     → Step s caller s' → IsSoundWithoutCounts g s'
 unfolding plan_point_of next_of event_of holds_of recalls_of
-load_grant_anchor_empty-sound g s caller s' site need sound has at empty step =
+load_grant_anchor_empty-sound g s caller s' site need sound has stands empty step =
     let p = Partial (partial.LoadGrantAnchor site) (Alloc need) in
-    let fits = fits-at g s sound.parts.0 caller p sound.parts.1 has at in
+    let fits = fits-at g s sound.parts.0 caller p sound.parts.1 has stands in
     let here : IsSiteOf g caller site = fits.point in
-    retire-at g s caller s' p site.seat site.desc (Look need) (Partial (partial.LoadSlot site.seat) (Alloc need)) sound has at
+    retire-at g s caller s' p site.seat site.desc (Look need) (Partial (partial.LoadSlot site.seat) (Alloc need)) sound has stands
     (record {
       next = rw empty refl;
       resumes = inl refl;
@@ -72,11 +72,11 @@ pub load_first_listed_empty-sound :
     → (s.errand caller).point ≡ Partial (partial.LoadListedAnchor seat d) Clear → is_empty (anchor_for s d).state ≡ true → Step s caller s'
     → IsSoundWithoutCounts g s'
 unfolding plan_point_of next_of event_of holds_of recalls_of
-load_first_listed_empty-sound g s caller s' seat d sound has at empty step =
+load_first_listed_empty-sound g s caller s' seat d sound has stands empty step =
     let p = Partial (partial.LoadListedAnchor seat d) Clear in
-    let fits = fits-at g s sound.parts.0 caller p sound.parts.1 has at in
+    let fits = fits-at g s sound.parts.0 caller p sound.parts.1 has stands in
     let here : IsDescOf g caller seat d = fits.point in
-    retire-at g s caller s' p seat d EndFree Idle sound has at
+    retire-at g s caller s' p seat d EndFree Idle sound has stands
     (record {
       next = rw empty refl;
       resumes = inr (refl, (reply.Freed, refl));
@@ -100,24 +100,24 @@ removed-empty :
     (g : Geometry) (s : State) (l : Lists) (caller : ℕ) (seat : SeatFields) (d : ℕ) → IsSoundWith g s l → caller < g.callers
     → (s.errand caller).point ≡ Desc (desc.ClearHazard seat) (Retire d) → (anchor_for s d).state ≡ phase.Empty
 unfolding recalls_of
-removed-empty g s l caller seat d old has at =
-    let so : IsEmptied g s l d = so-at g s l caller (Desc (desc.ClearHazard seat) (Retire d)) old has at 0 (emptied d) (omega arith) in so.state
+removed-empty g s l caller seat d old has stands =
+    let so : IsEmptied g s l d = so-at g s l caller (Desc (desc.ClearHazard seat) (Retire d)) old has stands 0 (emptied d) (omega arith) in so.state
 
 -- the store of 0 to the hazard word
 pub clear_hazard_retires-sound :
     (g : Geometry) (s : State) (caller : ℕ) (s' : State) (seat : SeatFields) (d : ℕ) → IsSoundWithoutCounts g s → caller < g.callers
     → (s.errand caller).point ≡ Desc (desc.ClearHazard seat) (Retire d) → Step s caller s' → IsSoundWithoutCounts g s'
 unfolding plan_point_of next_of event_of holds_of recalls_of
-clear_hazard_retires-sound g s caller s' seat d sound has at step =
+clear_hazard_retires-sound g s caller s' seat d sound has stands step =
     let p = Desc (desc.ClearHazard seat) (Retire d) in
-    let fits = fits-at g s sound.parts.0 caller p sound.parts.1 has at in
-    retire-clearing g s caller s' p seat d (guarded d) EndFree Idle sound has at
+    let fits = fits-at g s sound.parts.0 caller p sound.parts.1 has stands in
+    retire-clearing g s caller s' p seat d (guarded d) EndFree Idle sound has stands
     (record {
       next = refl;
       resumes = inr (refl, (reply.Freed, refl));
       event = refl;
       exists = fits.continuation;
-      empty = removed-empty g s sound.parts.0 caller seat d sound.parts.1 has at;
+      empty = removed-empty g s sound.parts.0 caller seat d sound.parts.1 has stands;
       before = refl;
       waits = λ c. refl;
       spare = refl;

@@ -12,6 +12,6 @@ pub each-other :
     → (i : ℕ) → i < g.callers → P i (errands' i)
 each-other g P errands caller e errands' m here others i has =
     elim (cases_eq i caller) [
-      | inl same ↦ let at : P caller (errands' caller) = subst (P caller) (sym m.here) here in subst (λ j. P j (errands' j)) (sym same) at
+      | inl same ↦ let stands : P caller (errands' caller) = subst (P caller) (sym m.here) here in subst (λ j. P j (errands' j)) (sym same) stands
       | inr differ ↦ subst (P i) (sym (m.elsewhere i differ)) (others i has differ)
     ]

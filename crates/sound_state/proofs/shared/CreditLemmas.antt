@@ -118,12 +118,12 @@ pub record WinsTo (g : Geometry) (s : State) (caller : ℕ) (p q : Point) (n : W
 pub won-at :
     (g : Geometry) (s : State) (caller : ℕ) (s' : State) (p q : Point) (n : WordName) (expected new : ℕ) → IsSoundWithoutCounts g s → caller < g.callers
     → (s.errand caller).point ≡ p → WinsTo g s caller p q n expected new → s.word n ≡ expected → Step s caller s' → IsSoundWithoutCounts g s'
-won-at g s caller s' p q n expected new sound has at h is step =
+won-at g s caller s' p q n expected new sound has stands h is step =
     let won : (s.word n == expected) ≡ true = eq-eqb (s.word n) expected is in
     let found : found_from s p ≡ won_with (s.word n) =
     ap (λ a. found_by a (s.word (name_of a))) h.plan ∙ ap (λ b. record { value = s.word n; won = b }) won in
     let after : after_action (Cas n expected new) (s.word n) ≡ new = cond-true {A = ℕ} (s.word n == expected) new (s.word n) won in
-    step-from g s caller s' p (At q) tt sound has at
+    step-from g s caller s' p (At q) tt sound has stands
     (λ l old. record {
       next = ap (next_of p) found ∙ h.next;
       event = ap (event_of caller p) found ∙ h.event;

@@ -186,11 +186,11 @@ pub held-or-filled :
     (g : Geometry) (s : State) (l : Lists) (f d : ℕ) → IsSoundWith g s l → IsTrue (is_bound g s l d) → (info_for s d).frame ≡ f
     → ((i : ℕ) × (i < g.callers) × (0 < errand_keeps waiting d (s.errand i)) × (0 < errand_frames f (s.errand i)))
     ⊎ (fills_frame g s l f d ≡ 1)
-held-or-filled g s l f d is bound at =
+held-or-filled g s l f d is bound stands =
     elim (cases_eq (waiting_of g s d) 0) [
-      | inl none ↦ inr (bound-fills g s l d f bound none at)
+      | inl none ↦ inr (bound-fills g s l d f bound none stands)
       | inr some ↦
-          let (i, has, waits) = some-installs g s d some in inl (i, has, waits, waiting-framed g s l i d f is has waits at)
+          let (i, has, waits) = some-installs g s d some in inl (i, has, waits, waiting-framed g s l i d f is has waits stands)
     ]
 
 -- a caller in whose hand the frame of a bound superblock is waits with that superblock
@@ -198,10 +198,10 @@ pub in-hand-waits :
     (g : Geometry) (s : State) (l : Lists) (f d i : ℕ) → IsSoundWith g s l → f < g.frames → d < descriptor_count g → IsTrue (is_bound g s l d)
     → (info_for s d).frame ≡ f → i < g.callers → 0 < errand_frames f (s.errand i) → 0 < errand_keeps waiting d (s.errand i)
 unfolding callers_sum
-in-hand-waits g s l f d i is has has_d bound at has_i hand =
+in-hand-waits g s l f d i is has has_d bound stands has_i hand =
     let once = is.framed.once f has in
     let hands = λ (j : ℕ). errand_frames f (s.errand j) in
-    elim (held-or-filled g s l f d is bound at) [
+    elim (held-or-filled g s l f d is bound stands) [
       | inl one ↦
           elim (cases_eq one.0 i) [
             | inl same ↦ subst (λ j. 0 < errand_keeps waiting d (s.errand j)) same one.2

@@ -28,7 +28,7 @@ kept-itself status d class = grind (arith, eq-eqb d d refl)
 -- a caller at the point keeps what is kept there
 pub keeps-at :
     (e : ErrandFields) (p : Point) (status : Status) (d : ℕ) → e.point ≡ p → 1 ≤ kept_among status d (holds_of p).kept → 1 ≤ errand_keeps status d e
-keeps-at e p status d at some = subst (λ q. 1 ≤ kept_among status d (holds_of q).kept) (sym at) some
+keeps-at e p status d stands some = subst (λ q. 1 ≤ kept_among status d (holds_of q).kept) (sym stands) some
 
 -- what it keeps it has
 keeps-has : (e : ErrandFields) (status : Status) (d : ℕ) → 1 ≤ errand_keeps status d e → 1 ≤ errand_has d e
@@ -40,7 +40,7 @@ keeps-has e on_its_way d some = omega (arith, some)
 -- so it has what is kept there
 pub has-at :
     (e : ErrandFields) (p : Point) (status : Status) (d : ℕ) → e.point ≡ p → 1 ≤ kept_among status d (holds_of p).kept → 1 ≤ errand_has d e
-has-at e p status d at some = keeps-has e status d (keeps-at e p status d at some)
+has-at e p status d stands some = keeps-has e status d (keeps-at e p status d stands some)
 
 -- what one caller has, of which all have one, no other has
 pub others-none :

@@ -93,8 +93,8 @@ pub live-unmade :
 live-unmade g s l caller f place b (Small class) sound old has in_heap mine live of =
     small-unmade g s l caller f place class b old has in_heap mine live of
 live-unmade g s l caller f place b (Large units) sound old has in_heap mine live of =
-    λ at.
+    λ stands.
     let behind : g.frames ≤ frame_of b.place = large-frame g b.need units b.place of (formed-at g s place b sound live).place in
-    omega (arith, behind, at, in_heap, ap frame_of (place-found place (pool_of s.history) b live))
+    omega (arith, behind, stands, in_heap, ap frame_of (place-found place (pool_of s.history) b live))
 live-unmade g s l caller f place b TooLarge sound old has in_heap mine live of =
     absurd (subst (λ n. IsPlaceFor g n b.place) of (formed-at g s place b sound live).place)

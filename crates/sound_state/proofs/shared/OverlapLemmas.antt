@@ -58,14 +58,14 @@ live-taken g s sound l is place class b live small =
     let d : ℕ = tied.0 in
     let of : IsBlockOfDesc g s l place class d = tied.1 in
     let formed : IsWellFormed g b = every-found (IsWellFormed g) place (pool_of s.history) b (sound-of g s.history sound.legal).each live in
-    let at : IsPlaceFor g (Small class) b.place = subst (λ (n : Need). IsPlaceFor g n b.place) small formed.place in
+    let stands : IsPlaceFor g (Small class) b.place = subst (λ (n : Need). IsPlaceFor g n b.place) small formed.place in
     let same : b.place ≡ place = place-found place (pool_of s.history) b live in
-    let in_frame : frame_of place ≡ at.0 = ap frame_of (sym same ∙ at.4) ∙ frame_of-block_place at.0 class at.1 at.3 in
-    let frame_is : at.0 ≡ (info_for s d).frame = sym in_frame ∙ sym of.located.frame in
-    let here : place ≡ block_place (info_for s d).frame (info_for s d).class at.1 =
-    sym same ∙ at.4 ∙ ap (λ f. block_place f class at.1) frame_is ∙ ap (λ c. block_place (info_for s d).frame c at.1) (sym of.located.class) in
-    live-taken-at g s l is place at.1 d b live of.exists of.bound
-    (subst (λ c. at.1 < block_count_of c) (sym of.located.class) at.3) here
+    let in_frame : frame_of place ≡ stands.0 = ap frame_of (sym same ∙ stands.4) ∙ frame_of-block_place stands.0 class stands.1 stands.3 in
+    let frame_is : stands.0 ≡ (info_for s d).frame = sym in_frame ∙ sym of.located.frame in
+    let here : place ≡ block_place (info_for s d).frame (info_for s d).class stands.1 =
+    sym same ∙ stands.4 ∙ ap (λ f. block_place f class stands.1) frame_is ∙ ap (λ c. block_place (info_for s d).frame c stands.1) (sym of.located.class) in
+    live-taken-at g s l is place stands.1 d b live of.exists of.bound
+    (subst (λ c. stands.1 < block_count_of c) (sym of.located.class) stands.3) here
 
 -- a live block is well formed and lies at its place
 pub formed-at : (g : Geometry) (s : State) (place : ℕ) (b : Block) → IsSoundWithoutCounts g s → IsLive s place b → IsWellFormed g b

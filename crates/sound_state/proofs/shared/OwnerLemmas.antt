@@ -80,23 +80,23 @@ pub begins-owned :
     → (s.errand caller).point ≡ Block (block.LoadPrefix seat frame i) o
     → IsOwned s caller (block_place frame seat.class i) (need.Small seat.class)
 unfolding holds_of
-begins-owned g s l caller seat frame i o old has at =
+begins-owned g s l caller seat frame i o old has stands =
     All-head (λ (b : Freed). IsOwned s caller b.place b.need)
     (record { place = block_place frame seat.class i; need = need.Small seat.class; overwritten = false }) []
-    (subst (λ p. All (λ b. IsOwned s caller b.place b.need) (holds_of p).frees) at (old.tied.frees caller has))
+    (subst (λ p. All (λ b. IsOwned s caller b.place b.need) (holds_of p).frees) stands (old.tied.frees caller has))
 
 -- the prefix word of a block that is freed says whose superblock's it is
 pub prefix-ties :
     (g : Geometry) (s : State) (l : Lists) (caller : ℕ) (seat : SeatFields) (frame i : ℕ) (o : Continuation) → IsSoundWith g s l → caller < g.callers
     → (s.errand caller).point ≡ Block (block.LoadPrefix seat frame i) o
     → (d : ℕ) × IsBlockOfDesc g s l (block_place frame seat.class i) seat.class d × (s.word (name.Arena (block_place frame seat.class i)) ≡ 2 * d)
-prefix-ties g s l caller seat frame i o old has at =
+prefix-ties g s l caller seat frame i o old has stands =
     let place : ℕ = block_place frame seat.class i in
-    let owned : IsOwned s caller place (need.Small seat.class) = begins-owned g s l caller seat frame i o old has at in
+    let owned : IsOwned s caller place (need.Small seat.class) = begins-owned g s l caller seat frame i o old has stands in
     let (d, of, excepted) = old.tied.small place seat.class owned.block.0 owned.block.1 owned.block.3 in
     elim excepted [
       | inl x ↦
           absurd (begins-free seat frame i o place
-          (subst (λ p. HoldsException (holds_of p) place) at (only-owner g s l caller place (need.Small seat.class) old owned x)))
+          (subst (λ p. HoldsException (holds_of p) place) stands (only-owner g s l caller place (need.Small seat.class) old owned x)))
       | inr says ↦ (d, of, says)
     ]

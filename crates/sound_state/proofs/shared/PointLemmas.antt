@@ -49,40 +49,40 @@ use Rattle.sound_state.proofs.shared.WeighLemmas.{IsStill, WeighAlike, alike-mos
 pub fits-at :
     (g : Geometry) (s : State) (l : Lists) (caller : ℕ) (p : Point) → IsSoundWith g s l → caller < g.callers → (s.errand caller).point ≡ p
     → FitsPoint g caller p
-fits-at g s l caller p old has at =
+fits-at g s l caller p old has stands =
     let own = old.errands caller has in
-    subst (FitsPoint g caller) at
+    subst (FitsPoint g caller) stands
     (subst (λ h. FitsPoint h caller (s.errand caller).point) own.geometry
     (subst (λ i. FitsPoint (s.errand caller).geometry i (s.errand caller).point) own.number own.rule.point))
 
 pub fits-now :
     (g : Geometry) (s : State) (caller : ℕ) (p : Point) → IsSoundWithoutCounts g s → caller < g.callers → (s.errand caller).point ≡ p → FitsPoint g caller p
-fits-now g s caller p sound has at = fits-at g s sound.parts.0 caller p sound.parts.1 has at
+fits-now g s caller p sound has stands = fits-at g s sound.parts.0 caller p sound.parts.1 has stands
 
 pub kept-at :
     (g : Geometry) (s : State) (l : Lists) (caller : ℕ) (p : Point) → IsSoundWith g s l → caller < g.callers → (s.errand caller).point ≡ p
     → All (λ k. IsKeptAs s k.status k.desc k.class) (holds_of p).kept
-kept-at g s l caller p old has at = subst (λ q. All (λ k. IsKeptAs s k.status k.desc k.class) (holds_of q).kept) at (old.kept.errand caller has)
+kept-at g s l caller p old has stands = subst (λ q. All (λ k. IsKeptAs s k.status k.desc k.class) (holds_of q).kept) stands (old.kept.errand caller has)
 
 pub so-at :
     (g : Geometry) (s : State) (l : Lists) (caller : ℕ) (p : Point) → IsSoundWith g s l → caller < g.callers → (s.errand caller).point ≡ p
     → All (IsSo g s l caller) (recalls_of p)
-so-at g s l caller p old has at = subst (λ q. All (IsSo g s l caller) (recalls_of q)) at (old.remembered.so caller has)
+so-at g s l caller p old has stands = subst (λ q. All (IsSo g s l caller) (recalls_of q)) stands (old.remembered.so caller has)
 
 pub hazard-at :
     (g : Geometry) (s : State) (l : Lists) (caller : ℕ) (p : Point) → IsSoundWith g s l → caller < g.callers → (s.errand caller).point ≡ p
     → IsHazard (holds_of p).hazard (s.word (name.Hazard caller))
-hazard-at g s l caller p old has at = subst (λ q. IsHazard (holds_of q).hazard (s.word (name.Hazard caller))) at (old.guarded.words caller has)
+hazard-at g s l caller p old has stands = subst (λ q. IsHazard (holds_of q).hazard (s.word (name.Hazard caller))) stands (old.guarded.words caller has)
 
 pub hands-at :
     (g : Geometry) (s : State) (l : Lists) (caller : ℕ) (p : Point) → IsSoundWith g s l → caller < g.callers → (s.errand caller).point ≡ p
     → All (λ x. IsOwned s caller x.place x.need) (holds_of p).hands
-hands-at g s l caller p old has at = subst (λ q. All (λ x. IsOwned s caller x.place x.need) (holds_of q).hands) at (old.tied.hands caller has)
+hands-at g s l caller p old has stands = subst (λ q. All (λ x. IsOwned s caller x.place x.need) (holds_of q).hands) stands (old.tied.hands caller has)
 
 pub frees-at :
     (g : Geometry) (s : State) (l : Lists) (caller : ℕ) (p : Point) → IsSoundWith g s l → caller < g.callers → (s.errand caller).point ≡ p
     → All (λ x. IsOwned s caller x.place x.need) (holds_of p).frees
-frees-at g s l caller p old has at = subst (λ q. All (λ x. IsOwned s caller x.place x.need) (holds_of q).frees) at (old.tied.frees caller has)
+frees-at g s l caller p old has stands = subst (λ q. All (λ x. IsOwned s caller x.place x.need) (holds_of q).frees) stands (old.tied.frees caller has)
 
 -- the continuation of an allocation at work, and of a free
 pub the-alloc : (o : Continuation) → IsTrue (is_alloc o) → o ≡ continuation.Alloc (asked o)
@@ -99,7 +99,7 @@ All-rest P x xs h = All-tail P x xs h
 pub exists-at :
     (g : Geometry) (s : State) (caller : ℕ) (p : Point) → IsSoundWithoutCounts g s → caller < g.callers → (s.errand caller).point ≡ p
     → Exists g (name_of (plan_point_of p))
-exists-at g s caller p sound has at = plan-exists g caller p sound.checked has (fits-now g s caller p sound has at)
+exists-at g s caller p sound has stands = plan-exists g caller p sound.checked has (fits-now g s caller p sound has stands)
 
 -- at the second point a caller has the blocks and the push that it has at the first, and is no further back in its turn
 pub record HoldsBlocks (p q : Point) : Type 0 where
@@ -117,7 +117,7 @@ pub blocks-go :
     → HoldsBlocks p q → IsHazard (holds_of q).hazard (s.word (name.Hazard caller))
     → ((d : ℕ) → s.word (name.Hazard caller) ≡ d + 1 → IsGuard (holds_of q).hazard → IsGuard (holds_of p).hazard)
     → All (λ k. IsKeptAs s k.status k.desc k.class) (holds_of q).kept → All (IsSo g s l caller) (recalls_of q) → PointGoes g s l caller p q
-blocks-go g s l caller p q old has at h hazard guard kept so = record {
+blocks-go g s l caller p q old has stands h hazard guard kept so = record {
   kept = kept;
   so = so;
   hazard = hazard;
@@ -126,8 +126,8 @@ blocks-go g s l caller p q old has at h hazard guard kept so = record {
   passed = h.passed;
   unread = h.unread;
   spare = h.spare;
-  hands = subst (λ bs. All (λ x. IsOwned s caller x.place x.need) bs) (sym h.hands) (hands-at g s l caller p old has at);
-  frees = subst (λ bs. All (λ x. IsOwned s caller x.place x.need) bs) (sym h.frees) (frees-at g s l caller p old has at);
+  hands = subst (λ bs. All (λ x. IsOwned s caller x.place x.need) bs) (sym h.hands) (hands-at g s l caller p old has stands);
+  frees = subst (λ bs. All (λ x. IsOwned s caller x.place x.need) bs) (sym h.frees) (frees-at g s l caller p old has stands);
   excepts = λ place x.
       elim x [
         | inl a ↦ inl (subst (λ bs. Any (λ b. b.place ≡ place) bs) (sym h.hands) a)
@@ -151,8 +151,8 @@ pub alike-goes :
     (g : Geometry) (s : State) (l : Lists) (caller : ℕ) (p q : Point) → IsSoundWith g s l → caller < g.callers → (s.errand caller).point ≡ p
     → HoldsAlike p q → All (λ k. IsKeptAs s k.status k.desc k.class) (holds_of q).kept → All (IsSo g s l caller) (recalls_of q)
     → PointGoes g s l caller p q
-alike-goes g s l caller p q old has at h kept so =
-    blocks-go g s l caller p q old has at
+alike-goes g s l caller p q old has stands h kept so =
+    blocks-go g s l caller p q old has stands
     (record {
       hands = h.hands;
       frees = h.frees;
@@ -162,7 +162,7 @@ alike-goes g s l caller p q old has at h kept so =
       spare = h.spare;
       turn = h.turn;
     })
-    (subst (λ x. IsHazard x (s.word (name.Hazard caller))) (sym h.hazard) (hazard-at g s l caller p old has at))
+    (subst (λ x. IsHazard x (s.word (name.Hazard caller))) (sym h.hazard) (hazard-at g s l caller p old has stands))
     (λ d word guard. subst IsGuard h.hazard guard) kept so
 
 -- in how many places a caller keeps d
@@ -337,8 +337,8 @@ small-asked g caller at o alloc fit = subst (FitsContinuation g caller at.seat) 
 pub unread-at :
     (g : Geometry) (s : State) (l : Lists) (caller : ℕ) (p : Point) → IsSoundWith g s l → caller < g.callers → (s.errand caller).point ≡ p
     → (k : ℕ) → passed_by p ≤ k → k < length (held_by p) → slice_index (held_by p) k ≡ 0
-unread-at g s l caller p old has at =
-    subst (λ q. (k : ℕ) → passed_by q ≤ k → k < length (held_by q) → slice_index (held_by q) k ≡ 0) at
+unread-at g s l caller p old has stands =
+    subst (λ q. (k : ℕ) → passed_by q ≤ k → k < length (held_by q) → slice_index (held_by q) k ≡ 0) stands
     (λ k from below. old.guarded.unread caller k has from below)
 
 -- also when it has noted the next one
@@ -346,8 +346,8 @@ pub noted-unread :
     (g : Geometry) (s : State) (l : Lists) (caller : ℕ) (seat : SeatFields) (held : List ℕ) (i : ℕ) (o : Continuation) → IsSoundWith g s l
     → caller < g.callers → (s.errand caller).point ≡ Desc (desc.ReadHazard seat held i) o → (k : ℕ) → i + 1 ≤ k
     → k < length (slice_set held i (s.word (name.Hazard i))) → slice_index (slice_set held i (s.word (name.Hazard i))) k ≡ 0
-noted-unread g s l caller seat held i o old has at k from below =
+noted-unread g s l caller seat held i o old has stands k from below =
     let differ : k ≢ i = λ same. let bad : ⊥ = omega (arith, same, from) in bad in
     get_or-set_other held i k (s.word (name.Hazard i)) 0 differ
-    ∙ unread-at g s l caller (Desc (desc.ReadHazard seat held i) o) old has at k (omega (arith, from))
+    ∙ unread-at g s l caller (Desc (desc.ReadHazard seat held i) o) old has stands k (omega (arith, from))
     (omega (arith, below, length-set held i (s.word (name.Hazard i))))

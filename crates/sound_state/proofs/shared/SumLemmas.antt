@@ -142,7 +142,7 @@ pub words-written :
     → words_sum g weight words' + weight name (words name) ≡ words_sum g weight words + weight name new
 unfolding words_sum
 words-written g weight words name new words' exists w =
-    let at : word_name g (word_index g name) ≡ name = word_name-word_index g name exists in
+    let stands : word_name g (word_index g name) ≡ name = word_name-word_index g name exists in
     let changed =
     sum-change (word_count g) (λ k. weight (word_name g k) (words (word_name g k)))
     (λ k. weight (word_name g k) (words' (word_name g k))) (word_index g name) (word_index-within g name exists)
@@ -152,7 +152,7 @@ words-written g weight words name new words' exists w =
     let P : WordName → Type 0 =
     λ m. words_sum g weight words' + weight m (words m) ≡ words_sum g weight words + weight m (words' m) in
     let f : words_sum g weight words' + weight name (words name) ≡ words_sum g weight words + weight name (words' name) =
-    subst P at changed in
+    subst P stands changed in
     omega (arith, f, ap (weight name) w.here)
 
 -- words that are all the same weigh the same
@@ -178,10 +178,10 @@ pub words-one :
     → ((other : WordName) → other ≢ name → weight other (words other) ≡ 0) → words_sum g weight words ≡ weight name (words name)
 unfolding words_sum
 words-one g weight words name exists h =
-    let at : word_name g (word_index g name) ≡ name = word_name-word_index g name exists in
+    let stands : word_name g (word_index g name) ≡ name = word_name-word_index g name exists in
     sum-one (word_count g) (λ k. weight (word_name g k) (words (word_name g k))) (word_index g name) (word_index-within g name exists)
     (λ k lt ne. h (word_name g k) (λ q. ne (sym (word_index-word_name g k lt) ∙ ap (word_index g) q)))
-    ∙ ap (λ m. weight m (words m)) at
+    ∙ ap (λ m. weight m (words m)) stands
 
 -- an errand that goes on changes the callers' sum by what it weighs
 pub callers-moved :

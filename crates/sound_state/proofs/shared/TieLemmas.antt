@@ -143,8 +143,8 @@ others-own :
     (g : Geometry) (s : State) (l l' : Lists) (caller : ℕ) (changes : ℕ → Type 0) (e : ErrandFields) (s' : State)
     → TiesBut g s l l' caller changes e s' → (i place : ℕ) (n : Need) → i ≢ caller → IsOwned s i place n → IsOwned s' i place n
 others-own g s l l' caller changes e s' h i place n differ k =
-    let apart = λ (at : changes place).
-    let both : Caller i ≡ Caller caller = sym k.block.2 ∙ h.before place k.block.0 at k.block.1 in
+    let apart = λ (stands : changes place).
+    let both : Caller i ≡ Caller caller = sym k.block.2 ∙ h.before place k.block.0 stands k.block.1 in
     differ (cc) in
     owned-stays s s' i place n (λ b live. h.there place apart ∙ live) k
 
@@ -159,26 +159,26 @@ ties-but g s l l' caller changes e s' h tied =
     record {
       small = λ place c b live of.
           elim (h.either place) [
-            | inl at ↦ h.small place c b at live of
+            | inl stands ↦ h.small place c b stands live of
             | inr ne ↦
                 let old = tied.small place c b (was place b ne live) of in
                 (old.0, h.bound place c b old.0 ne (was place b ne live) of old.1, stays place (2 * old.0) ne old.2)
           ];
       large = λ place units b live of.
           elim (h.either place) [
-            | inl at ↦ h.large place units b at live of
+            | inl stands ↦ h.large place units b stands live of
             | inr ne ↦ stays place (2 * units + 1) ne (tied.large place units b (was place b ne live) of)
           ];
       units = h.units;
       no_more_units = h.no_more_units;
       shelved = λ k place b has live of.
-          let ne = λ (at : changes place). no-shelf caller k b (h.after place b at live) of in
+          let ne = λ (stands : changes place). no-shelf caller k b (h.after place b stands live) of in
           h.shelf k ∙ tied.shelved k place b has (was place b ne live) of;
       bare_shelf = λ k has none.
           h.shelf k
           ∙ tied.bare_shelf k has
           (λ place b live of.
-          let ne = λ (at : changes place). no-shelf caller k b (h.before place b at live) of in none place b (h.there place ne ∙ live) of);
+          let ne = λ (stands : changes place). no-shelf caller k b (h.before place b stands live) of in none place b (h.there place ne ∙ live) of);
       contents = h.contents;
       hands =
           each-other g (λ i e. All (λ x. IsOwned s' i x.place x.need) (holds_of e.point).hands) s.errand caller e s'.errand h.moves h.hands
@@ -231,28 +231,28 @@ small-but g s l l' caller class changes e s' h tied =
       moves = h.moves;
       either = h.either;
       there = h.there;
-      before = λ place b at live. (h.before place b at live).owner;
-      after = λ place b at live. (h.after place b at live).owner;
+      before = λ place b stands live. (h.before place b stands live).owner;
+      after = λ place b stands live. (h.after place b stands live).owner;
       arena = λ place ne. h.words.arena place;
       shelf = h.words.shelf;
       small = h.small;
-      large = λ place units b at live of. absurd (no-run caller class units b (h.after place b at live) of);
+      large = λ place units b stands live of. absurd (no-run caller class units b (h.after place b stands live) of);
       bound = h.bound;
       units = λ unit has.
           let old = tied.units unit has in (
             λ bit.
                 let c = old.0 (ap (λ w. bit_at w unit) (sym h.words.units) ∙ bit) in
                 let place : ℕ = unit_place g.frames c.1 in
-                let ne = λ (at : changes place). no-run caller class c.2 c.0 (h.before place c.0 at c.3) c.4 in
+                let ne = λ (stands : changes place). no-run caller class c.2 c.0 (h.before place c.0 stands c.3) c.4 in
                 (c.0, c.1, c.2, h.there place ne ∙ c.3, c.4, c.5, c.6),
             λ c.
                 let place : ℕ = unit_place g.frames c.1 in
-                let ne = λ (at : changes place). no-run caller class c.2 c.0 (h.after place c.0 at c.3) c.4 in
+                let ne = λ (stands : changes place). no-run caller class c.2 c.0 (h.after place c.0 stands c.3) c.4 in
                 ap (λ w. bit_at w unit) h.words.units ∙ old.1 (c.0, c.1, c.2, sym (h.there place ne) ∙ c.3, c.4, c.5, c.6),
           );
       no_more_units = subst (λ w. w < 2 ^ g.units) (sym h.words.units) tied.no_more_units;
       contents = λ place i v b live of.
-          let ne = λ (at : changes place). h.fresh place i v b at live of in
+          let ne = λ (stands : changes place). h.fresh place i v b stands live of in
           h.words.arena (place + 1 + i) ∙ tied.contents place i v b (sym (h.there place ne) ∙ live) of;
       excepts = h.excepts;
       hands = h.hands;

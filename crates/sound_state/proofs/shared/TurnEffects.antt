@@ -105,17 +105,17 @@ lacks_partial-most stage = grind (arith)
 pub stage-weighs :
     (stage : TurnStage) (e : ErrandFields) → turn_stage_of e.point ≡ stage → lacks_answer stage ≡ is_turn stage
     → TurnWeighs e (one_if (is_turn stage)) (one_if (lacks_frame stage)) (one_if (is_unneeded stage))
-stage-weighs stage e at unanswered = record {
-  under_way = rw at refl;
-  discards = rw at refl;
-  unanswered = rw (at, unanswered) refl;
-  unframed = rw at refl;
-  unlisted = rw at (lacks_partial-most stage);
+stage-weighs stage e stands unanswered = record {
+  under_way = rw stands refl;
+  discards = rw stands refl;
+  unanswered = rw (stands, unanswered) refl;
+  unframed = rw stands refl;
+  unlisted = rw stands (lacks_partial-most stage);
 }
 
 -- in no turn it weighs nothing
 pub no-turn-weighs : (e : ErrandFields) → turn_stage_of e.point ≡ out_of_turn → TurnWeighs e 0 0 0
-no-turn-weighs e at = stage-weighs out_of_turn e at refl
+no-turn-weighs e stands = stage-weighs out_of_turn e stands refl
 
 -- as many superblocks are EMPTY and out, where each is or isn't as it was
 pub emptied-kept :

@@ -57,7 +57,7 @@ way-unplaced g s l caller d old has exists mine =
     ] in
     record {
       bound = λ bound. not-bound (away_of g s l d) _ (omega (arith, away, mine)) bound;
-      words = λ n at. omega (arith, word-sum g (word_keeps d) s.word n at, once, some, has_it);
+      words = λ n stands. omega (arith, word-sum g (word_keeps d) s.word n stands, once, some, has_it);
       listed = λ class in_heap.
           omega (arith, once, some, has_it, term-sum CLASSES (λ class. occurs d (l.partials class)) class in_heap);
       reserving = λ i has_i. (each i has_i).0;

@@ -43,7 +43,7 @@ pub install-waits :
     (e : ErrandFields) (site : Site) (o : Continuation) → e.point ≡ point.Block (block.InstallSuperblock site) o
     → errand_keeps waiting site.desc e ≡ 1
 unfolding holds_of
-install-waits e site o at = rw at (grind (arith))
+install-waits e site o stands = rw stands (grind (arith))
 
 -- so it has all that is reserved of it, and nothing of it is live
 pub waits-alone :

@@ -35,7 +35,7 @@ LeadsTo n q = (n ≡ At q) ⊎ ((r : Reply) × (n ≡ End r) × (q ≡ Idle))
 pub settle-leads : (e : ErrandFields) (x : Found) (q : Point) → LeadsTo (next_of e.point x) q → settle_of e x ≡ at_point e x q
 settle-leads e x q leads =
     elim leads [
-      | inl at ↦ settle-at e x q at
+      | inl stands ↦ settle-at e x q stands
       | inr end ↦ settle-end e x end.0 end.1 ∙ ap (at_point e x) (sym end.2)
     ]
 

@@ -233,17 +233,17 @@ push-exchanges :
     → RetiresOff seat pile i h o d status → MayRetire s status d → (q : Point) (t : ℕ)
     → RetiresBare g s caller (Stack (stack.PushTop seat pile i h) o) d q t → Retired g s l caller seat pile i h
 unfolding plan_point_of event_of
-push-exchanges g s l caller seat pile i h o d status sound old has at word off may q t r =
+push-exchanges g s l caller seat pile i h o d status sound old has stands word off may q t r =
     let p : Point = Stack (stack.PushTop seat pile i h) o in
     let a : ErrandFields = s.errand caller in
     let x : Found = found_at s caller in
     let e : ErrandFields = retired_in_turn a x d q t in
-    let on = pushes-on g s l caller seat pile i h o sound old has at word in
+    let on = pushes-on g s l caller seat pile i h o sound old has stands word in
     let l' : Lists = with_list l seat pile (i ∷ list_of l seat pile) in
     let b : Balanced l l' (holds_of p) (continuation_holds seat o) =
     balance-back l' l (continuation_holds seat o) (holds_of p)
     (more-balanced seat pile i l' l (continuation_holds seat o) (holds_of p) on.class on.one off.more) in
-    let kept = kept-at g s l caller p old has at in
+    let kept = kept-at g s l caller p old has stands in
     let keeps : IsKeptAs s status d seat.class =
     All-head (λ k. IsKeptAs s k.status k.desc k.class) (record { desc = d; class = seat.class; status = status }) []
     (subst (AreKept s) off.kept (keeps-less s seat pile i (continuation_holds seat o) (holds_of p) off.more kept)) in
@@ -251,7 +251,7 @@ push-exchanges g s l caller seat pile i h o d status sound old has at word off m
     let lost : a.lost ≤ e.lost = raised-least (counts_lost a.point x) a.lost own.lost in
     let list = on.list (in-hand s seat pile i (continuation_holds seat o) (holds_of p) off.more kept) in
     let tag : (head_of (s.word (head_name seat pile))).tag ≡ h.tag = ap (λ (y : HeadFields). y.tag) on.before in
-    let turns : RetireTurns a.point q a.turns t = subst (λ z. RetireTurns z q a.turns t) (sym at) r.turns in
+    let turns : RetireTurns a.point q a.turns t = subst (λ z. RetireTurns z q a.turns t) (sym stands) r.turns in
     let stand : MayStand g s l caller a e = record {
       rule = record {
         number = own.number;
@@ -266,7 +266,7 @@ push-exchanges g s l caller seat pile i h o d status sound old has at word off m
       so = subst (All (IsSo g s l caller)) (sym r.bare.recalls) (All-nil (IsSo g s l caller));
       hazard =
           subst (λ z. IsHazard z (s.word (name.Hazard caller))) (off.hazard ∙ sym r.bare.hazard)
-          (subst (λ z. IsHazard (holds_of z).hazard (s.word (name.Hazard caller))) at (old.guarded.words caller has));
+          (subst (λ z. IsHazard (holds_of z).hazard (s.word (name.Hazard caller))) stands (old.guarded.words caller has));
       guard = λ k guarding guard. let bad : ⊥ = subst IsGuard r.bare.hazard guard in absurd bad;
       pushed = λ k is. absurd (let bad : None ≡ Some k = sym r.bare.pushed ∙ is in cc);
       passed = r.bare.passed;
@@ -278,22 +278,22 @@ push-exchanges g s l caller seat pile i h o d status sound old has at word off m
           elim excepted [
             | inl y ↦
                 inl
-                (subst (λ bs. Any (λ z. z.place ≡ place) bs) (ap (λ z. (holds_of z).hands) at ∙ off.hands ∙ sym r.bare.hands) y)
+                (subst (λ bs. Any (λ z. z.place ≡ place) bs) (ap (λ z. (holds_of z).hands) stands ∙ off.hands ∙ sym r.bare.hands) y)
             | inr y ↦
                 inr
                 (subst (λ bs. Any (λ z. (z.place ≡ place) × IsTrue z.overwritten) bs)
-                (ap (λ z. (holds_of z).frees) at ∙ off.frees ∙ sym r.bare.frees) y)
+                (ap (λ z. (holds_of z).frees) stands ∙ off.frees ∙ sym r.bare.frees) y)
           ];
       own_turns = omega (arith, old.turned.own_turns caller has, turns.under_way);
       own_lost = omega (arith, old.turned.own_lost caller has, turns.discards, lost);
-      cleared = ap (λ z. raised (counts_cleared z x) a.cleared) at;
+      cleared = ap (λ z. raised (counts_cleared z x) a.cleared) stands;
     } in
     let places = λ (y : ℕ). ap (kept_places y) off.kept ∙ retire-places s status d y seat.class may in
     let added = λ (y : ℕ). occurs-push y d a.retired in
-    let old_kept : (holds_of a.point).kept ≡ (holds_of p).kept = ap (λ z. (holds_of z).kept) at in
+    let old_kept : (holds_of a.point).kept ≡ (holds_of p).kept = ap (λ z. (holds_of z).kept) stands in
     let balanced : ErrandsBalanced g s l l' a e = record {
       available = b.available;
-      reserves = λ y. ap (reserved_among y) (r.bare.credits ∙ sym (ap (λ z. (holds_of z).credits) at ∙ off.credits));
+      reserves = λ y. ap (reserved_among y) (r.bare.credits ∙ sym (ap (λ z. (holds_of z).credits) stands ∙ off.credits));
       waits = λ y.
           ap (kept_among waiting y) r.bare.kept
           ∙ sym (ap (kept_among waiting y) old_kept ∙ sym (b.waits y) ∙ ap (kept_among waiting y) off.kept ∙ retire-waits s status d y seat.class may);
@@ -307,17 +307,17 @@ push-exchanges g s l caller seat pile i h o d status sound old has at word off m
             | inr grown ↦ inr (grown.0, omega (arith, grown.1, was, none))
           ];
       frames = λ f.
-          omega (arith, b.frames f, ap (occurs f) off.frames, ap (occurs f) r.bare.frames, ap (λ z. occurs f (holds_of z).frames) at);
+          omega (arith, b.frames f, ap (occurs f) off.frames, ap (occurs f) r.bare.frames, ap (λ z. occurs f (holds_of z).frames) stands);
       places = λ y. omega (arith, b.places y, places y, added y, ap (kept_places y) r.bare.kept, ap (kept_places y) old_kept);
       stock = λ c.
           omega (arith, b.stock c, ap (stock_among c) r.bare.kept, ap (stock_among c) old_kept, r.bare.waits c);
     } in (
       e,
       record {
-        event = subst (λ z. event_of caller z (found_from s z) ≡ None) (sym at) (rw on.won refl);
-        head = ap (λ z. name_of (plan_point_of z)) at;
+        event = subst (λ z. event_of caller z (found_from s z) ≡ None) (sym stands) (rw on.won refl);
+        head = ap (λ z. name_of (plan_point_of z)) stands;
         after =
-            subst (λ z. after_action (plan_point_of z) (s.word (name_of (plan_point_of z))) ≡ head_word (head_pushed i h)) (sym at) (rw on.won (ap head_word on.uncut));
+            subst (λ z. after_action (plan_point_of z) (s.word (name_of (plan_point_of z))) ≡ head_word (head_pushed i h)) (sym stands) (rw on.won (ap head_word on.uncut));
         settles = r.settles;
         may = stand;
         list = list;
@@ -338,10 +338,10 @@ says-either false = inr refl
 full-list :
     (g : Geometry) (s : State) (l : Lists) (caller : ℕ) (p : Point) → IsSoundWith g s l → caller < g.callers → (s.errand caller).point ≡ p
     → spare_of p ≡ 0 → is_full (s.errand caller) ≡ true → length (s.errand caller).retired ≡ g.callers
-full-list g s l caller p old has at spare full =
+full-list g s l caller p old has stands spare full =
     let own = old.errands caller has in
     let callers : (s.errand caller).geometry.callers ≡ g.callers = ap (λ (k : Geometry). k.callers) own.geometry in
-    omega (arith, callers, own.rule.room, ap spare_of at, spare, leb-true (s.errand caller).geometry.callers (length (s.errand caller).retired) full)
+    omega (arith, callers, own.rule.room, ap spare_of stands, spare, leb-true (s.errand caller).geometry.callers (length (s.errand caller).retired) full)
 
 -- a turn that is left can be counted
 one-more-turn :
@@ -358,22 +358,22 @@ discard-exchanges :
     → s.word name.FrameHead ≡ head_word h
     → Retired g s l caller seat Frames i h
 unfolding plan_point_of next_of holds_of
-discard-exchanges g s l caller seat i h words d sound old has at word =
+discard-exchanges g s l caller seat i h words d sound old has stands word =
     let p : Point = Stack (stack.PushTop seat Frames i h) (continuation.Discard words d) in
     let a : ErrandFields = s.errand caller in
     let x : Found = found_at s caller in
     let won : (s.word name.FrameHead == head_word h) ≡ true = eq-eqb (s.word name.FrameHead) (head_word h) word in
     let next : next_of a.point x ≡ Retire seat d (continuation.Turn words) =
-    subst (λ z. next_of z (found_from s z) ≡ Retire seat d (continuation.Turn words)) (sym at) (rw won refl) in
+    subst (λ z. next_of z (found_from s z) ≡ Retire seat d (continuation.Turn words)) (sym stands) (rw won refl) in
     let retires =
-    push-exchanges g s l caller seat Frames i h (continuation.Discard words d) d on_its_way sound old has at word (discard-off seat i h words d) (inl refl) in
+    push-exchanges g s l caller seat Frames i h (continuation.Discard words d) d on_its_way sound old has stands word (discard-off seat i h words d) (inl refl) in
     elim (says-either (is_full a)) [
       | inl full ↦
           retires (Desc (desc.ReadHazard seat no_words 0) (continuation.Turn words)) a.turns
           (record {
             settles = settle-full-in-turn a x seat d (continuation.Turn words) next full;
             bare = scan-bare seat (continuation.Turn words) refl;
-            full = λ spare. full-list g s l caller p old has at refl full;
+            full = λ spare. full-list g s l caller p old has stands refl full;
             turns = grind (arith);
           })
       | inr few ↦
@@ -402,10 +402,10 @@ pub push_discard_won-sound :
     (g : Geometry) (s : State) (caller : ℕ) (s' : State) (seat : SeatFields) (i : ℕ) (h : HeadFields) (words d : ℕ) → IsSoundWithoutCounts g s
     → caller < g.callers → (s.errand caller).point ≡ Stack (stack.PushTop seat Frames i h) (continuation.Discard words d)
     → s.word name.FrameHead ≡ head_word h → Step s caller s' → IsSoundWithoutCounts g s'
-push_discard_won-sound g s caller s' seat i h words d sound has at word step =
+push_discard_won-sound g s caller s' seat i h words d sound has stands word step =
     exchanges-sound g s caller s' seat Frames (head_pushed i h) sound has
     (λ l old.
-    let to = discard-exchanges g s l caller seat i h words d sound old has at word in
+    let to = discard-exchanges g s l caller seat i h words d sound old has stands word in
     (with_list l seat Frames (i ∷ list_of l seat Frames), to.0, to.1)) step
 
 -- a partial superblock goes back, and the one that was EMPTY is retired
@@ -415,23 +415,23 @@ retire-exchanges :
     → s.word (name.ListHead seat.class) ≡ head_word h
     → Retired g s l caller seat Partials i h
 unfolding plan_point_of next_of holds_of recalls_of
-retire-exchanges g s l caller seat i h d sound old has at word =
+retire-exchanges g s l caller seat i h d sound old has stands word =
     let p : Point = Stack (stack.PushTop seat Partials i h) (continuation.Retire d) in
     let a : ErrandFields = s.errand caller in
     let x : Found = found_at s caller in
     let won : (s.word (name.ListHead seat.class) == head_word h) ≡ true = eq-eqb (s.word (name.ListHead seat.class)) (head_word h) word in
     let next : next_of a.point x ≡ Retire seat d continuation.EndFree =
-    subst (λ z. next_of z (found_from s z) ≡ Retire seat d continuation.EndFree) (sym at) (rw won refl) in
-    let is = All-head (IsSo g s l caller) (emptied d) [] (pushes-on g s l caller seat Partials i h (continuation.Retire d) sound old has at word).so in
+    subst (λ z. next_of z (found_from s z) ≡ Retire seat d continuation.EndFree) (sym stands) (rw won refl) in
+    let is = All-head (IsSo g s l caller) (emptied d) [] (pushes-on g s l caller seat Partials i h (continuation.Retire d) sound old has stands word).so in
     let retires =
-    push-exchanges g s l caller seat Partials i h (continuation.Retire d) d partly_used sound old has at word (retire-off seat i h d) (inr (refl, is.state)) in
+    push-exchanges g s l caller seat Partials i h (continuation.Retire d) d partly_used sound old has stands word (retire-off seat i h d) (inr (refl, is.state)) in
     elim (says-either (is_full a)) [
       | inl full ↦
           retires (Desc (desc.ReadHazard seat no_words 0) continuation.EndFree) a.turns
           (record {
             settles = settle-full-in-turn a x seat d continuation.EndFree next full;
             bare = scan-bare seat continuation.EndFree refl;
-            full = λ spare. full-list g s l caller p old has at refl full;
+            full = λ spare. full-list g s l caller p old has stands refl full;
             turns = grind (arith);
           })
       | inr few ↦
@@ -448,10 +448,10 @@ pub push_retire_won-sound :
     (g : Geometry) (s : State) (caller : ℕ) (s' : State) (seat : SeatFields) (i : ℕ) (h : HeadFields) (d : ℕ) → IsSoundWithoutCounts g s
     → caller < g.callers → (s.errand caller).point ≡ Stack (stack.PushTop seat Partials i h) (continuation.Retire d)
     → s.word (name.ListHead seat.class) ≡ head_word h → Step s caller s' → IsSoundWithoutCounts g s'
-push_retire_won-sound g s caller s' seat i h d sound has at word step =
+push_retire_won-sound g s caller s' seat i h d sound has stands word step =
     exchanges-sound g s caller s' seat Partials (head_pushed i h) sound has
     (λ l old.
-    let to = retire-exchanges g s l caller seat i h d sound old has at word in
+    let to = retire-exchanges g s l caller seat i h d sound old has stands word in
     (with_list l seat Partials (i ∷ list_of l seat Partials), to.0, to.1)) step
 
 -- after a push a frame's descriptor is retired, or an EMPTY superblock's, or nothing
@@ -459,31 +459,31 @@ push-top-won :
     (g : Geometry) (s : State) (caller : ℕ) (s' : State) (seat : SeatFields) (pile : Pile) (i : ℕ) (h : HeadFields) (o : Continuation)
     → pushes pile o ≡ true → IsSoundWithoutCounts g s → caller < g.callers → (s.errand caller).point ≡ Stack (stack.PushTop seat pile i h) o
     → s.word (head_name seat pile) ≡ head_word h → Step s caller s' → IsSoundWithoutCounts g s'
-push-top-won g s caller s' seat Frames i h (continuation.Discard words d) is sound has at word step =
-    push_discard_won-sound g s caller s' seat i h words d sound has at word step
-push-top-won g s caller s' seat Partials i h (continuation.Retire d) is sound has at word step =
-    push_retire_won-sound g s caller s' seat i h d sound has at word step
-push-top-won g s caller s' seat Partials i h (continuation.Discard words d) is sound has at word step = absurd (cc)
-push-top-won g s caller s' seat Frames i h (continuation.Retire d) is sound has at word step = absurd (cc)
-push-top-won g s caller s' seat pile i h o is sound has at word step =
-    push_going_on-sound g s caller s' seat pile i h o sound has at refl word step
+push-top-won g s caller s' seat Frames i h (continuation.Discard words d) is sound has stands word step =
+    push_discard_won-sound g s caller s' seat i h words d sound has stands word step
+push-top-won g s caller s' seat Partials i h (continuation.Retire d) is sound has stands word step =
+    push_retire_won-sound g s caller s' seat i h d sound has stands word step
+push-top-won g s caller s' seat Partials i h (continuation.Discard words d) is sound has stands word step = absurd (cc)
+push-top-won g s caller s' seat Frames i h (continuation.Retire d) is sound has stands word step = absurd (cc)
+push-top-won g s caller s' seat pile i h o is sound has stands word step =
+    push_going_on-sound g s caller s' seat pile i h o sound has stands refl word step
 
 -- a won push onto a stack
 pub push_top_won-sound :
     (g : Geometry) (s : State) (caller : ℕ) (s' : State) (seat : SeatFields) (pile : Pile) (i : ℕ) (h : HeadFields) (o : Continuation)
     → IsSoundWithoutCounts g s → caller < g.callers → (s.errand caller).point ≡ Stack (stack.PushTop seat pile i h) o
     → s.word (head_name seat pile) ≡ head_word h → Step s caller s' → IsSoundWithoutCounts g s'
-push_top_won-sound g s caller s' seat pile i h o sound has at word step =
-    let fit = fits-at g s sound.parts.0 caller (Stack (stack.PushTop seat pile i h) o) sound.parts.1 has at in
-    push-top-won g s caller s' seat pile i h o (holds-true (pushes pile o) fit.goes) sound has at word step
+push_top_won-sound g s caller s' seat pile i h o sound has stands word step =
+    let fit = fits-at g s sound.parts.0 caller (Stack (stack.PushTop seat pile i h) o) sound.parts.1 has stands in
+    push-top-won g s caller s' seat pile i h o (holds-true (pushes pile o) fit.goes) sound has stands word step
 
 -- won or lost
 pub push_top-sound :
     (g : Geometry) (s : State) (caller : ℕ) (s' : State) (seat : SeatFields) (pile : Pile) (i : ℕ) (h : HeadFields) (o : Continuation)
     → IsSoundWithoutCounts g s → caller < g.callers → (s.errand caller).point ≡ Stack (stack.PushTop seat pile i h) o → Step s caller s'
     → IsSoundWithoutCounts g s'
-push_top-sound g s caller s' seat pile i h o sound has at step =
+push_top-sound g s caller s' seat pile i h o sound has stands step =
     elim (cases_eq (s.word (head_name seat pile)) (head_word h)) [
-      | inl won ↦ push_top_won-sound g s caller s' seat pile i h o sound has at won step
-      | inr lost ↦ push_top_lost-sound g s caller s' seat pile i h o sound has at lost step
+      | inl won ↦ push_top_won-sound g s caller s' seat pile i h o sound has stands won step
+      | inr lost ↦ push_top_lost-sound g s caller s' seat pile i h o sound has stands lost step
     ]

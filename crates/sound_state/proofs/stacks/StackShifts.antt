@@ -289,10 +289,10 @@ still-listed :
 still-listed s l l' seat seat2 pile pile2 new words' fits writes others still same i =
     elim (cases_name (head_name seat2 pile2) (head_name seat pile)) [
       | inl is ↦
-          let at : (head_of (s.word (head_name seat pile))).tag ≡ (head_of (words' (head_name seat pile))).tag =
+          let stands : (head_of (s.word (head_name seat pile))).tag ≡ (head_of (words' (head_name seat pile))).tag =
           subst (λ n. (head_of (s.word n)).tag ≡ (head_of (words' n)).tag) is same in
           list-named (λ xs ys. occurs i xs ≤ occurs i ys) l l' seat seat2 pile pile2 is
-          (still (at ∙ ap (λ w. (head_of w).tag) writes.here ∙ ap (λ (x : HeadFields). x.tag) (head_of-head_word new fits)) i)
+          (still (stands ∙ ap (λ w. (head_of w).tag) writes.here ∙ ap (λ (x : HeadFields). x.tag) (head_of-head_word new fits)) i)
       | inr differ ↦ omega (arith, ap (occurs i) (others seat2 pile2 differ))
     ]
 
@@ -452,7 +452,7 @@ may-stand g s l caller a b m goes cleared = record {
   so = m.so;
   hazard = goes.hazard;
   guard = goes.guard;
-  pushed = λ d at. sym goes.pushed ∙ at;
+  pushed = λ d stands. sym goes.pushed ∙ stands;
   passed = goes.passed;
   unread = λ k below. let bad : ⊥ = omega (arith, below, goes.unread) in absurd bad;
   full = m.full;
@@ -504,10 +504,10 @@ pub shifts-sound :
     (g : Geometry) (s : State) (caller : ℕ) (s' : State) (p q : Point) (seat : SeatFields) (pile : Pile) (new : HeadFields) → IsSoundWithoutCounts g s
     → caller < g.callers → (s.errand caller).point ≡ p
     → ((l : Lists) → IsSoundWith g s l → (l' : Lists) × ShiftsHead g s l caller p q seat pile new l') → Step s caller s' → IsSoundWithoutCounts g s'
-shifts-sound g s caller s' p q seat pile new sound has at h step =
+shifts-sound g s caller s' p q seat pile new sound has stands h step =
     exchanges-sound g s caller s' seat pile new sound has
     (λ l old.
     let found = h l old in
     let shifts : ShiftsHead g s l caller (s.errand caller).point q seat pile new found.0 =
-    subst (λ r. ShiftsHead g s l caller r q seat pile new found.0) (sym at) found.1 in
+    subst (λ r. ShiftsHead g s l caller r q seat pile new found.0) (sym stands) found.1 in
     (found.0, at_point (s.errand caller) (found_at s caller) q, shifts-exchanges g s l caller q seat pile new found.0 old has shifts)) step

@@ -197,16 +197,16 @@ pop-leads-sound :
     → PopLeads seat pile h below o q → IsSoundWithoutCounts g s → caller < g.callers → (s.errand caller).point ≡ Stack (stack.PopTop seat pile h below) o
     → s.word (head_name seat pile) ≡ head_word h → Step s caller s' → IsSoundWithoutCounts g s'
 unfolding plan_point_of next_of event_of recalls_of
-pop-leads-sound g s caller s' seat pile h below o q to sound has at word step =
+pop-leads-sound g s caller s' seat pile h below o q to sound has stands word step =
     let p : Point = Stack (stack.PopTop seat pile h below) o in
     let new : HeadFields = record { top = below; tag = h.tag + 1 } in
     let won : (s.word (head_name seat pile) == head_word h) ≡ true = eq-eqb (s.word (head_name seat pile)) (head_word h) word in
-    shifts-sound g s caller s' p q seat pile new sound has at
+    shifts-sound g s caller s' p q seat pile new sound has stands
     (λ l old.
-    let fit = fits-at g s l caller p old has at in
+    let fit = fits-at g s l caller p old has stands in
     let class : seat.class < CLASSES = fit.point.0.seat.class in
     let before : head_of (s.word (head_name seat pile)) ≡ h = ap head_of word ∙ head_of-head_word h fit.point.0.head in
-    let so = so-at g s l caller p old has at in
+    let so = so-at g s l caller p old has stands in
     let next = All-head (IsSo g s l caller) (nexts seat pile h below) (tops seat pile h ∷ continuation_recalls seat o) so in
     let below_is : s.word (next_name pile (h.top - 1)) ≡ below = next (sym (ap (λ x. x.tag) before)) in
     let stacked : Stacked (next_in s.word pile) h.top (list_of l seat pile) =
@@ -230,9 +230,9 @@ pop-leads-sound g s caller s' seat pile h below o q to sound has at word step =
         head = refl;
         after = rw won (ap head_word uncut);
         goes =
-            alike-goes g s l caller p q old has at to.holds
+            alike-goes g s l caller p q old has stands to.holds
             (keeps-more s seat pile (h.top - 1) (holds_of p) (holds_of q) to.more
-            (λ is. All-head (λ d. IsPartlyUsed s d seat.class) (h.top - 1) top.rest (partly is)) (kept-at g s l caller p old has at))
+            (λ is. All-head (λ d. IsPartlyUsed s d seat.class) (h.top - 1) top.rest (partly is)) (kept-at g s l caller p old has stands))
             (pop-recalls g s l caller q to.recalls);
         list = record {
           fits = fits;
@@ -289,20 +289,20 @@ pub pop_top_won-sound :
     (g : Geometry) (s : State) (caller : ℕ) (s' : State) (seat : SeatFields) (pile : Pile) (h : HeadFields) (below : ℕ) (o : Continuation)
     → IsSoundWithoutCounts g s → caller < g.callers → (s.errand caller).point ≡ Stack (stack.PopTop seat pile h below) o
     → s.word (head_name seat pile) ≡ head_word h → Step s caller s' → IsSoundWithoutCounts g s'
-pop_top_won-sound g s caller s' seat pile h below o sound has at word step =
-    let fit = fits-at g s sound.parts.0 caller (Stack (stack.PopTop seat pile h below) o) sound.parts.1 has at in
+pop_top_won-sound g s caller s' seat pile h below o sound has stands word step =
+    let fit = fits-at g s sound.parts.0 caller (Stack (stack.PopTop seat pile h below) o) sound.parts.1 has stands in
     pop-leads-sound g s caller s' seat pile h below o (popped_to seat h o) (pop-leads seat pile h below o (holds-true (pops pile o) fit.goes))
-    sound has at word step
+    sound has stands word step
 
 -- won or lost
 pub pop_top-sound :
     (g : Geometry) (s : State) (caller : ℕ) (s' : State) (seat : SeatFields) (pile : Pile) (h : HeadFields) (below : ℕ) (o : Continuation)
     → IsSoundWithoutCounts g s → caller < g.callers → (s.errand caller).point ≡ Stack (stack.PopTop seat pile h below) o → Step s caller s'
     → IsSoundWithoutCounts g s'
-pop_top-sound g s caller s' seat pile h below o sound has at step =
+pop_top-sound g s caller s' seat pile h below o sound has stands step =
     elim (cases_eq (s.word (head_name seat pile)) (head_word h)) [
-      | inl won ↦ pop_top_won-sound g s caller s' seat pile h below o sound has at won step
-      | inr lost ↦ pop_top_lost-sound g s caller s' seat pile h below o sound has at lost step
+      | inl won ↦ pop_top_won-sound g s caller s' seat pile h below o sound has stands won step
+      | inr lost ↦ pop_top_lost-sound g s caller s' seat pile h below o sound has stands lost step
     ]
 
 -- where a won push leads, and what the caller holds and remembers there
@@ -341,13 +341,13 @@ pub pushes-on :
     → IsSoundWithoutCounts g s → IsSoundWith g s l → caller < g.callers → (s.errand caller).point ≡ Stack (stack.PushTop seat pile i h) o
     → s.word (head_name seat pile) ≡ head_word h → PushesOn g s l caller seat pile i h o
 unfolding recalls_of
-pushes-on g s l caller seat pile i h o sound old has at word =
+pushes-on g s l caller seat pile i h o sound old has stands word =
     let p : Point = Stack (stack.PushTop seat pile i h) o in
     let new : HeadFields = head_pushed i h in
-    let fit = fits-at g s l caller p old has at in
+    let fit = fits-at g s l caller p old has stands in
     let class : seat.class < CLASSES = fit.point.0.seat.class in
     let before : head_of (s.word (head_name seat pile)) ≡ h = ap head_of word ∙ head_of-head_word h fit.point.1 in
-    let so = so-at g s l caller p old has at in
+    let so = so-at g s l caller p old has stands in
     let said = All-head (IsSo g s l caller) (says (next_name pile i) h.top) (tops_exist seat pile h ∷ continuation_recalls seat o) so in
     let xs : List ℕ = list_of l seat pile in
     let stacked : Stacked (next_in s.word pile) h.top xs =
@@ -385,13 +385,13 @@ push-leads-sound :
     → PushLeads seat pile i h o q → IsSoundWithoutCounts g s → caller < g.callers → (s.errand caller).point ≡ Stack (stack.PushTop seat pile i h) o
     → s.word (head_name seat pile) ≡ head_word h → Step s caller s' → IsSoundWithoutCounts g s'
 unfolding plan_point_of next_of event_of
-push-leads-sound g s caller s' seat pile i h o q to sound has at word step =
+push-leads-sound g s caller s' seat pile i h o q to sound has stands word step =
     let p : Point = Stack (stack.PushTop seat pile i h) o in
-    shifts-sound g s caller s' p q seat pile (head_pushed i h) sound has at
+    shifts-sound g s caller s' p q seat pile (head_pushed i h) sound has stands
     (λ l old.
-    let on = pushes-on g s l caller seat pile i h o sound old has at word in
+    let on = pushes-on g s l caller seat pile i h o sound old has stands word in
     let l' : Lists = with_list l seat pile (i ∷ list_of l seat pile) in
-    let kept = kept-at g s l caller p old has at in (
+    let kept = kept-at g s l caller p old has stands in (
       l',
       record {
         leads = rw on.won to.next;
@@ -400,7 +400,7 @@ push-leads-sound g s caller s' seat pile i h o q to sound has at word step =
         head = refl;
         after = rw on.won (ap head_word on.uncut);
         goes =
-            alike-goes g s l caller p q old has at to.holds (keeps-less s seat pile i (holds_of q) (holds_of p) to.more kept)
+            alike-goes g s l caller p q old has stands to.holds (keeps-less s seat pile i (holds_of q) (holds_of p) to.more kept)
             (subst (All (IsSo g s l caller)) (sym to.recalls) on.so);
         list = on.list (in-hand s seat pile i (holds_of q) (holds_of p) to.more kept);
         balanced =
@@ -442,7 +442,7 @@ pub push_going_on-sound :
     (g : Geometry) (s : State) (caller : ℕ) (s' : State) (seat : SeatFields) (pile : Pile) (i : ℕ) (h : HeadFields) (o : Continuation)
     → IsSoundWithoutCounts g s → caller < g.callers → (s.errand caller).point ≡ Stack (stack.PushTop seat pile i h) o → keeps_list o ≡ true
     → s.word (head_name seat pile) ≡ head_word h → Step s caller s' → IsSoundWithoutCounts g s'
-push_going_on-sound g s caller s' seat pile i h o sound has at goes word step =
-    let fit = fits-at g s sound.parts.0 caller (Stack (stack.PushTop seat pile i h) o) sound.parts.1 has at in
+push_going_on-sound g s caller s' seat pile i h o sound has stands goes word step =
+    let fit = fits-at g s sound.parts.0 caller (Stack (stack.PushTop seat pile i h) o) sound.parts.1 has stands in
     push-leads-sound g s caller s' seat pile i h o (pushed_to seat o) (push-leads seat pile i h o (holds-true (pushes pile o) fit.goes) goes)
-    sound has at word step
+    sound has stands word step

@@ -96,19 +96,19 @@ unwritten-live g s p place i v b c sound live at of same =
 written-frame :
     (g : Geometry) (s : State) (place i v : ℕ) (b : Block) (n : Need) → IsSoundWithoutCounts g s → IsLive s place b → b.need ≡ n
     → slice_index_or b.contents i None ≡ Some v → frame_of (place + 1 + i) < g.frames → frame_of place ≡ frame_of (place + 1 + i)
-written-frame g s place i v b (Small class) sound live of at below =
+written-frame g s place i v b (Small class) sound live of stands below =
     let formed : IsWellFormed g b = formed-at g s place b sound live in
     let placed : IsPlaceFor g (Small class) b.place = subst (λ n. IsPlaceFor g n b.place) of formed.place in
     let here : b.place ≡ place = place-found place (pool_of s.history) b live in
-    let within : i < length b.contents = written-within b.contents i v at in
+    let within : i < length b.contents = written-within b.contents i v stands in
     let full : length b.contents ≡ usable_words (Small class) = formed.full ∙ ap usable_words of in
     let fits = block-within class placed.1 placed.3 in
     omega (arith, here, placed.4, within, full, class_span class, fits)
-written-frame g s place i v b (Large units) sound live of at below =
+written-frame g s place i v b (Large units) sound live of stands below =
     let behind : g.frames ≤ frame_of b.place = large-frame g b.need units b.place of (formed-at g s place b sound live).place in
     let here : b.place ≡ place = place-found place (pool_of s.history) b live in
     absurd (omega (arith, behind, here, below))
-written-frame g s place i v b TooLarge sound live of at below =
+written-frame g s place i v b TooLarge sound live of stands below =
     absurd (subst (λ n. IsPlaceFor g n b.place) of (formed-at g s place b sound live).place)
 
 -- what a caller does with the frame of a place, and with a block there: it makes no superblock, and owns no block
@@ -196,9 +196,9 @@ making-loose g s l caller f class i sound old has in_heap within mine off =
                 unread-point g s l j p (s.errand j).point old has_j refl (fits-at g s l j (s.errand j).point old has_j refl)
                 (record {
                   owns = λ n theirs. unlive theirs.block.0 theirs.block.1;
-                  makes = λ e making at.
+                  makes = λ e making stands.
                       differ
-                      (making-alone g s l caller j f old has has_j in_heap mine (subst (IsMaking s j) (sym at ∙ frame) making));
+                      (making-alone g s l caller j f old has has_j in_heap mine (subst (IsMaking s j) (sym stands ∙ frame) making));
                 })
           ];
     }

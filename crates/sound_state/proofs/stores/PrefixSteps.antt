@@ -70,32 +70,32 @@ pub store_link-sound :
     (g : Geometry) (s : State) (caller : ℕ) (s' : State) (site : Site) (i : ℕ) (a : AnchorFields) (guarded : Bool) (heap : ℕ) (o : Continuation)
     → IsSoundWithoutCounts g s → caller < g.callers → (s.errand caller).point ≡ Block (block.StoreLink site i a guarded heap) o → Step s caller s' → IsSoundWithoutCounts g s'
 unfolding plan_point_of next_of event_of holds_of recalls_of
-store_link-sound g s caller s' site i a guarded heap o sound has at step =
+store_link-sound g s caller s' site i a guarded heap o sound has stands step =
     let p = Block (block.StoreLink site i a guarded heap) o in
     let q = Block (block.PushBlock site i a guarded heap) o in
     let place = block_place site.frame site.seat.class i in
     let freed : Freed = record { place = place; need = need.Small site.seat.class; overwritten = true } in
-    let w : Writes s.word (name.Arena place) a.avail s'.word = written-at s caller s' p at step in
-    let fit = (fits-at g s sound.parts.0 caller p sound.parts.1 has at).point in
+    let w : Writes s.word (name.Arena place) a.avail s'.word = written-at s caller s' p stands step in
+    let fit = (fits-at g s sound.parts.0 caller p sound.parts.1 has stands).point in
     let below : a.avail < 2 ^ 64 = omega (arith, fit.anchor.avail, block_count_of-most site.seat.class) in
-    store-sound g s caller s' p q (name.Arena place) a.avail sound has at
+    store-sound g s caller s' p q (name.Arena place) a.avail sound has stands
     (record {
       stores = record { plan = refl; next = λ x. refl; event = λ x. refl; lost = λ x. refl; cleared = λ x. refl };
       lone = tt;
       holds = grind (arith);
       kept = λ l old.
           let owned : IsOwned s caller place (need.Small site.seat.class) =
-          All-head (λ x. IsOwned s caller x.place x.need) freed [] (frees-at g s l caller p old has at) in
+          All-head (λ x. IsOwned s caller x.place x.need) freed [] (frees-at g s l caller p old has stands) in
           let mine : HoldsException (holds_of p) place =
           inr (the-one (λ (b : Freed). (b.place ≡ place) × IsTrue b.overwritten) freed (refl, refl)) in
           arena-kept g s l place a.avail s'.word old
           (live-loose g s l caller place site.seat.class sound old has owned
-          (record { caller = (caller, has, subst (λ r. HoldsException (holds_of r) place) (sym at) mine) })
-          (subst (IsBlockUnread (name.Arena place)) (sym at) tt))
+          (record { caller = (caller, has, subst (λ r. HoldsException (holds_of r) place) (sym stands) mine) })
+          (subst (IsBlockUnread (name.Arena place)) (sym stands) tt))
           below w;
       so = λ l old.
           All-cons (IsSo g (between s s'.word) l caller) (says (prefix_name site.frame site.seat.class i) a.avail) (bound_here site) (tt, w.here)
-          (so-at g (between s s'.word) l caller p old has at);
+          (so-at g (between s s'.word) l caller p old has stands);
     })
     step
 
@@ -175,8 +175,8 @@ idle-weighs n w p credits kept frames waits = weigh-stays n w p Idle (sym credit
 last-sound :
     (g : Geometry) (s : State) (caller : ℕ) (s' : State) (place new : ℕ) (p : Point) (r : Reply) → IsSoundWithoutCounts g s → caller < g.callers
     → (s.errand caller).point ≡ p → IsLastStore g s caller place new p r s' → new < 2 ^ 64 → Step s caller s' → IsSoundWithoutCounts g s'
-last-sound g s caller s' place new p r sound has at given below step =
-    let h : IsLastStore g s caller place new (s.errand caller).point r s' = subst (λ q. IsLastStore g s caller place new q r s') (sym at) given in
+last-sound g s caller s' place new p r sound has stands given below step =
+    let h : IsLastStore g s caller place new (s.errand caller).point r s' = subst (λ q. IsLastStore g s caller place new q r s') (sym stands) given in
     let l = sound.parts.0 in
     let old = sound.parts.1 in
     let t = between s s'.word in
@@ -228,36 +228,36 @@ pub store_prefix-sound :
     (g : Geometry) (s : State) (caller : ℕ) (s' : State) (site : Site) (i : ℕ) (o : Continuation) → IsSoundWithoutCounts g s → caller < g.callers
     → (s.errand caller).point ≡ Block (block.StorePrefix site i) o → Step s caller s' → IsSoundWithoutCounts g s'
 unfolding plan_point_of next_of event_of holds_of recalls_of
-store_prefix-sound g s caller s' site i o sound has at step =
+store_prefix-sound g s caller s' site i o sound has stands step =
     let p = Block (block.StorePrefix site i) o in
     let class = site.seat.class in
     let place = block_place site.frame class i in
     let handed : Handed = record { place = place; need = need.Small class } in
-    let w : Writes s.word (name.Arena place) (prefix_word (Small site.desc)) s'.word = written-at s caller s' p at step in
-    let fit = (fits-at g s sound.parts.0 caller p sound.parts.1 has at).point in
+    let w : Writes s.word (name.Arena place) (prefix_word (Small site.desc)) s'.word = written-at s caller s' p stands step in
+    let fit = (fits-at g s sound.parts.0 caller p sound.parts.1 has stands).point in
     let two : prefix_word (Small site.desc) ≡ 2 * site.desc = small-prefix site.desc in
-    last-sound g s caller s' place (prefix_word (Small site.desc)) p (reply.Given place (need.Small class)) sound has at
+    last-sound g s caller s' place (prefix_word (Small site.desc)) p (reply.Given place (need.Small class)) sound has stands
     (record {
       stores = record { plan = refl; next = λ x. refl; event = λ x. refl; lost = λ x. refl; cleared = λ x. refl };
       credits = refl;
       kept = refl;
       frames = refl;
       waits = λ k. refl;
-      hazard = hazard-at g s sound.parts.0 caller p sound.parts.1 has at;
+      hazard = hazard-at g s sound.parts.0 caller p sound.parts.1 has stands;
       turn = grind (arith);
       loose = λ l old.
           let owned : IsOwned s caller place (need.Small class) =
-          All-head (λ x. IsOwned s caller x.place x.need) handed [] (hands-at g s l caller p old has at) in
+          All-head (λ x. IsOwned s caller x.place x.need) handed [] (hands-at g s l caller p old has stands) in
           let mine : HoldsException (holds_of p) place = inl (the-one (λ (b : Handed). b.place ≡ place) handed refl) in
           live-loose g s l caller place class sound old has owned
-          (record { caller = (caller, has, subst (λ r. HoldsException (holds_of r) place) (sym at) mine) })
-          (subst (IsBlockUnread (name.Arena place)) (sym at) tt);
+          (record { caller = (caller, has, subst (λ r. HoldsException (holds_of r) place) (sym stands) mine) })
+          (subst (IsBlockUnread (name.Arena place)) (sym stands) tt);
       said = λ l old q x.
           let t = between s s'.word in
           let owned : IsOwned t caller place (need.Small class) =
-          All-head (λ x. IsOwned t caller x.place x.need) handed [] (hands-at g t l caller p old has at) in
+          All-head (λ x. IsOwned t caller x.place x.need) handed [] (hands-at g t l caller p old has stands) in
           let here : IsSo g t l caller (bound_at site.desc site.frame class) =
-          All-head (IsSo g t l caller) (bound_at site.desc site.frame class) [] (so-at g t l caller p old has at) in
+          All-head (IsSo g t l caller) (bound_at site.desc site.frame class) [] (so-at g t l caller p old has stands) in
           let said : IsSaidAt g t l place =
           small-prefix-says g t l caller site i old fit.site.frame fit.site.desc fit.index here.0 here.1 owned (w.here ∙ two) in
           elim x [
@@ -288,15 +288,15 @@ link_block-to :
     → block_recalls q ≡ made site.frame site.seat.class n ∷ [] → n ≤ i + 1 → HoldsSame (Block (block.LinkBlock site i) o) (Block q o)
     → IsSoundWithoutCounts g s'
 unfolding plan_point_of next_of event_of holds_of recalls_of
-link_block-to g s caller s' site i o q n sound has at step leads enters holds recalls most same =
+link_block-to g s caller s' site i o q n sound has stands step leads enters holds recalls most same =
     let p = Block (block.LinkBlock site i) o in
     let f = site.frame in
     let c = site.seat.class in
     let place = block_place f c i in
-    let w : Writes s.word (name.Arena place) (new_link c i) s'.word = written-at s caller s' p at step in
-    let fit = (fits-at g s sound.parts.0 caller p sound.parts.1 has at).point in
+    let w : Writes s.word (name.Arena place) (new_link c i) s'.word = written-at s caller s' p stands step in
+    let fit = (fits-at g s sound.parts.0 caller p sound.parts.1 has stands).point in
     let leads_on : next_of p (found_from s p) ≡ At (Block q o) = ap (λ r. enter_block r o) leads ∙ enters in
-    store-sound g s caller s' p (Block q o) (name.Arena place) (new_link c i) sound has at
+    store-sound g s caller s' p (Block q o) (name.Arena place) (new_link c i) sound has stands
     (record {
       stores = record { plan = refl; next = λ x. leads_on; event = λ x. refl; lost = λ x. refl; cleared = λ x. refl };
       lone = tt;
@@ -305,11 +305,11 @@ link_block-to g s caller s' site i o q n sound has at step leads enters holds re
           let apart : IsBlockUnread (name.Arena place) p = λ k lt. prefix_name-apart f c k i (omega (arith, lt)) in
           arena-kept g s l place (new_link c i) s'.word old
           (making-loose g s l caller f c i sound old has fit.site.frame fit.index
-          (is-making s caller p site at refl) (subst (IsBlockUnread (name.Arena place)) (sym at) apart))
+          (is-making s caller p site stands refl) (subst (IsBlockUnread (name.Arena place)) (sym stands) apart))
           (new_link-below c i fit.index) w;
       so = λ l old.
           let t = between s s'.word in
-          let so_far : AreMade t f c i = All-head (IsSo g t l caller) (made f c i) [] (so-at g t l caller p old has at) in
+          let so_far : AreMade t f c i = All-head (IsSo g t l caller) (made f c i) [] (so-at g t l caller p old has stands) in
           subst (All (IsSo g t l caller)) (sym recalls)
           (All-cons (IsSo g t l caller) (made f c n) [] (links-made-more t f c i n so_far w.here most) (All-nil (IsSo g t l caller)));
     })
@@ -319,13 +319,13 @@ pub link_block-sound :
     (g : Geometry) (s : State) (caller : ℕ) (s' : State) (site : Site) (i : ℕ) (o : Continuation) → IsSoundWithoutCounts g s
     → caller < g.callers → (s.errand caller).point ≡ Block (block.LinkBlock site i) o → Step s caller s' → IsSoundWithoutCounts g s'
 unfolding holds_of
-link_block-sound g s caller s' site i o sound has at step =
+link_block-sound g s caller s' site i o sound has stands step =
     elim (cases_Bool (nat_lt (i + 1) (block_count_of site.seat.class))) [
       | inl more ↦
-          link_block-to g s caller s' site i o (block.LinkBlock site (i + 1)) (i + 1) sound has at step
+          link_block-to g s caller s' site i o (block.LinkBlock site (i + 1)) (i + 1) sound has stands step
           (ap (λ b. if b then block.LinkBlock site (i + 1) else block.StoreInfo site) more) refl refl refl (omega arith) (grind (arith))
       | inr last ↦
-          link_block-to g s caller s' site i o (block.StoreInfo site) (block_count_of site.seat.class) sound has at step
+          link_block-to g s caller s' site i o (block.StoreInfo site) (block_count_of site.seat.class) sound has stands step
           (ap (λ b. if b then block.LinkBlock site (i + 1) else block.StoreInfo site) last) refl refl refl
           (omega (arith, ltb-false (i + 1) (block_count_of site.seat.class) last)) (grind (arith))
     ]

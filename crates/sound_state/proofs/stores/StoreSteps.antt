@@ -70,14 +70,14 @@ pub record IsStoring (g : Geometry) (s : State) (caller : ℕ) (p q : Point) (n 
 pub store-sound :
     (g : Geometry) (s : State) (caller : ℕ) (s' : State) (p q : Point) (n : WordName) (new : ℕ) → IsSoundWithoutCounts g s → caller < g.callers
     → (s.errand caller).point ≡ p → IsStoring g s caller p q n new s' → Step s caller s' → IsSoundWithoutCounts g s'
-store-sound g s caller s' p q n new sound has at h step =
+store-sound g s caller s' p q n new sound has stands h step =
     let t = between s s'.word in
     let l = sound.parts.0 in
     let old = sound.parts.1 in
-    let here : StoresTo caller (s.errand caller).point n new (At q) = subst (λ r. StoresTo caller r n new (At q)) (sym at) h.stores in
+    let here : StoresTo caller (s.errand caller).point n new (At q) = subst (λ r. StoresTo caller r n new (At q)) (sym stands) h.stores in
     let w = store-written s caller s' n new (At q) here step in
     quiet-at g t caller s' p
-    (record { checked = sound.checked; legal = sound.legal; parts = (l, sound-between g s l s'.word (h.kept l old) old) }) has at
+    (record { checked = sound.checked; legal = sound.legal; parts = (l, sound-between g s l s'.word (h.kept l old) old) }) has stands
     (record {
       event = h.stores.event _;
       cleared = h.stores.cleared _;

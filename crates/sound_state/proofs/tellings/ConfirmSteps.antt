@@ -129,18 +129,18 @@ look-weigh :
     (e : ErrandFields) (x : Found) (seat : SeatFields) (h : HeadFields) (words : ℕ) → e.point ≡ looking seat h words
     → WeighTold e (at_point e x (waiting_one seat words))
 unfolding holds_of
-look-weigh e x seat h words at = record {
-  reserves = λ d. rw at refl;
-  waits = λ d. rw at refl;
-  ways = λ d. rw at (omega arith);
-  away = λ d. rw at refl;
-  places = λ d. rw at refl;
-  frames = λ f. rw at refl;
+look-weigh e x seat h words stands = record {
+  reserves = λ d. rw stands refl;
+  waits = λ d. rw stands refl;
+  ways = λ d. rw stands (omega arith);
+  away = λ d. rw stands refl;
+  places = λ d. rw stands refl;
+  frames = λ f. rw stands refl;
 }
 
 look-kept-none : (c : ℕ) (e : ErrandFields) (seat : SeatFields) (h : HeadFields) (words : ℕ) → e.point ≡ looking seat h words → errand_stock c e ≡ 0
 unfolding holds_of
-look-kept-none c e seat h words at = rw at refl
+look-kept-none c e seat h words stands = rw stands refl
 
 waits-one : (c : ℕ) (e : ErrandFields) (x : Found) (seat : SeatFields) (words : ℕ) → errand_stock c (at_point e x (waiting_one seat words)) ≡ (if seat.class == c then 1 else 0)
 unfolding holds_of
@@ -150,9 +150,9 @@ look-room :
     (g : Geometry) (s : State) (l : Lists) (caller : ℕ) (x : Found) (seat : SeatFields) (h : HeadFields) (words : ℕ) → IsSoundWith g s l
     → caller < g.callers → (s.errand caller).point ≡ looking seat h words → l.partials seat.class ≡ []
     → StockFor g s l (s.errand caller) (at_point (s.errand caller) x (waiting_one seat words))
-look-room g s l caller x seat h words old has at bare class is =
+look-room g s l caller x seat h words old has stands bare class is =
     let one = waits-one class (s.errand caller) x seat words in
-    let none = look-kept-none class (s.errand caller) seat h words at in
+    let none = look-kept-none class (s.errand caller) seat h words stands in
     elim (cases_eq seat.class class) [
       | inl same ↦
           let there : l.partials class ≡ [] = ap l.partials (sym same) ∙ bare in
@@ -188,7 +188,7 @@ pub confirm_no_partial-sound :
     → caller < g.callers → (s.errand caller).point ≡ Stack (stack.ConfirmEmpty seat Partials h) (continuation.Alloc words)
     → s.word (name.ListHead seat.class) ≡ head_word h → Step s caller s' → IsSoundWithoutCounts g s'
 unfolding plan_point_of next_of event_of holds_of recalls_of
-confirm_no_partial-sound g s caller s' seat h words sound has at same step =
+confirm_no_partial-sound g s caller s' seat h words sound has stands same step =
     let p = looking seat h words in
     let q = waiting_one seat words in
     let e = s.errand caller in
@@ -200,27 +200,27 @@ confirm_no_partial-sound g s caller s' seat h words sound has at same step =
     let stays : after_action (plan_point_of p) (s.word (name_of (plan_point_of p))) ≡ s.word (name_of (plan_point_of p)) =
     rw wins (sym same) in
     let after : settle_of e x ≡ at_point e x q =
-    settle-at e x q (subst (λ r. next_of r (found_from s r) ≡ At q) (sym at) next) in
-    let fits : FitsPoint g caller p = fits-at g s sound.parts.0 caller p sound.parts.1 has at in
-    let cleared : counts_cleared e.point x ≡ false = ap (λ r. counts_cleared r x) at in
+    settle-at e x q (subst (λ r. next_of r (found_from s r) ≡ At q) (sym stands) next) in
+    let fits : FitsPoint g caller p = fits-at g s sound.parts.0 caller p sound.parts.1 has stands in
+    let cleared : counts_cleared e.point x ≡ false = ap (λ r. counts_cleared r x) stands in
     step-tells g s caller event (at_point e x q) s' sound has after
-    (subst (λ r. event_of caller r (found_from s r) ≡ Some event) (sym at) said)
-    (subst (λ r. after_action (plan_point_of r) (s.word (name_of (plan_point_of r))) ≡ s.word (name_of (plan_point_of r))) (sym at) stays)
+    (subst (λ r. event_of caller r (found_from s r) ≡ Some event) (sym stands) said)
+    (subst (λ r. after_action (plan_point_of r) (s.word (name_of (plan_point_of r))) ≡ s.word (name_of (plan_point_of r))) (sym stands) stays)
     fits.point.seat.class
     (λ l old.
     let t = told_state s event in
     let but : IsSoundBut g t l caller = told-but g s l caller event (looked-told g caller seat.class) old in
     let whole : IsSoundWith g t l =
-    but-whole g t l caller but (subst (λ r. All (IsSo g t l caller) (recalls_of r)) (sym at) (All-nil (IsSo g t l caller))) in
+    but-whole g t l caller but (subst (λ r. All (IsSo g t l caller) (recalls_of r)) (sym stands) (All-nil (IsSo g t l caller))) in
     record {
       told = looked-told g caller seat.class;
-      weigh = look-weigh e x seat h words at;
+      weigh = look-weigh e x seat h words stands;
       may =
           may-after g t l caller x q whole has (old.words (name_at s caller)) after cleared
-          (subst (λ r. PointStands g t l caller r q) (sym at) (look-stands g s l caller seat h words));
+          (subst (λ r. PointStands g t l caller r q) (sym stands) (look-stands g s l caller seat h words));
       guards = look-guards g t caller seat words e.retired (s.word (name.Hazard caller));
       cleared = ap (λ b. raised b e.cleared) cleared;
-      stock = look-room g s l caller x seat h words old has at (bare-list g s l caller seat h old fits.point same);
+      stock = look-room g s l caller x seat h words old has stands (bare-list g s l caller seat h old fits.point same);
     })
     step
 
@@ -333,7 +333,7 @@ pub confirm_no_frame-sound :
     → caller < g.callers → (s.errand caller).point ≡ Stack (stack.ConfirmEmpty seat Frames h) (continuation.TakeFrame words d)
     → s.word name.FrameHead ≡ head_word h → Step s caller s' → IsSoundWithoutCounts g s'
 unfolding plan_point_of next_of event_of recalls_of
-confirm_no_frame-sound g s caller s' seat h words d sound has at same step =
+confirm_no_frame-sound g s caller s' seat h words d sound has stands same step =
     let p = refusing seat h words d in
     let e = s.errand caller in
     let x = found_at s caller in
@@ -344,27 +344,27 @@ confirm_no_frame-sound g s caller s' seat h words d sound has at same step =
     let keeps : after_action (plan_point_of p) (s.word (name_of (plan_point_of p))) ≡ s.word (name_of (plan_point_of p)) =
     rw wins (sym same) in
     let next : next_of e.point x ≡ Retire seat d continuation.Refuse =
-    subst (λ r. next_of r (found_from s r) ≡ Retire seat d continuation.Refuse) (sym at) leads in
-    let told : event_at s caller ≡ Some event = subst (λ r. event_of caller r (found_from s r) ≡ Some event) (sym at) said in
+    subst (λ r. next_of r (found_from s r) ≡ Retire seat d continuation.Refuse) (sym stands) leads in
+    let told : event_at s caller ≡ Some event = subst (λ r. event_of caller r (found_from s r) ≡ Some event) (sym stands) said in
     let stays : after_action (action_at s caller) (word_at s caller) ≡ word_at s caller =
-    subst (λ r. after_action (plan_point_of r) (s.word (name_of (plan_point_of r))) ≡ s.word (name_of (plan_point_of r))) (sym at) keeps in
-    let fits : FitsPoint g caller p = fits-at g s sound.parts.0 caller p sound.parts.1 has at in
+    subst (λ r. after_action (plan_point_of r) (s.word (name_of (plan_point_of r))) ≡ s.word (name_of (plan_point_of r))) (sym stands) keeps in
+    let fits : FitsPoint g caller p = fits-at g s sound.parts.0 caller p sound.parts.1 has stands in
     let served : need_of words ≡ Small seat.class = fits.continuation.0 in
     let small : nat_le words SMALL_MOST ≡ true = small-served words seat.class served in
-    let cleared : counts_cleared e.point x ≡ false = ap (λ r. counts_cleared r x) at in
+    let cleared : counts_cleared e.point x ≡ false = ap (λ r. counts_cleared r x) stands in
     let allowed : IsRefusable g s.history caller (need_of words) =
-    subst (IsRefusable g s.history caller) (sym served) (so-at g s sound.parts.0 caller p sound.parts.1 has at 0 (looked seat.class) (omega arith)) in
+    subst (IsRefusable g s.history caller) (sym served) (so-at g s sound.parts.0 caller p sound.parts.1 has stands 0 (looked seat.class) (omega arith)) in
     elim (cases_Bool (is_full e)) [
       | inl full ↦
           let after = settle-full e x seat d continuation.Refuse next full in
           step-tells g s caller event (retired_at e x d (scanning seat)) s' sound has after told stays allowed
           (λ l old.
           refused-tells g s l caller x (scanning seat) words d seat.class old has (old.words (name_at s caller)) after cleared small
-          (subst (λ r. Lets r (scanning seat) d seat.class on_its_way clear) (sym at)
+          (subst (λ r. Lets r (scanning seat) d seat.class on_its_way clear) (sym stands)
           (refused-lets seat h words d (scanning seat) (scan-nothing seat continuation.Refuse)))
-          (subst (λ r. TurnRefused r (scanning seat)) (sym at) (refused-scan seat h words d)) (λ spare. full)
+          (subst (λ r. TurnRefused r (scanning seat)) (sym stands) (refused-scan seat h words d)) (λ spare. full)
           (All-cons (IsSo g (told_state s event) l caller) (refused seat.class) []
-          (refused-ends caller s.history words seat.class served (so-at g s l caller p old has at 0 (looked seat.class) (omega arith)))
+          (refused-ends caller s.history words seat.class served (so-at g s l caller p old has stands 0 (looked seat.class) (omega arith)))
           (All-nil (IsSo g (told_state s event) l caller))))
           step
       | inr few ↦
@@ -372,8 +372,8 @@ confirm_no_frame-sound g s caller s' seat h words d sound has at same step =
           step-tells g s caller event (retired_at e x d Idle) s' sound has after told stays allowed
           (λ l old.
           refused-tells g s l caller x Idle words d seat.class old has (old.words (name_at s caller)) after cleared small
-          (subst (λ r. Lets r Idle d seat.class on_its_way clear) (sym at) (refused-lets seat h words d Idle idle-nothing))
-          (subst (λ r. TurnRefused r Idle) (sym at) (refused-idle seat h words d))
+          (subst (λ r. Lets r Idle d seat.class on_its_way clear) (sym stands) (refused-lets seat h words d Idle idle-nothing))
+          (subst (λ r. TurnRefused r Idle) (sym stands) (refused-idle seat h words d))
           (λ spare. let bad : ⊥ = omega (arith, spare) in absurd bad) (All-nil (IsSo g (told_state s event) l caller)))
           step
     ]
@@ -383,28 +383,28 @@ confirm_empty-cases :
     (g : Geometry) (s : State) (caller : ℕ) (s' : State) (seat : SeatFields) (pile : Pile) (h : HeadFields) (o : Continuation) → IsTrue (confirms pile o)
     → IsSoundWithoutCounts g s → caller < g.callers → (s.errand caller).point ≡ Stack (stack.ConfirmEmpty seat pile h) o
     → s.word (head_name seat pile) ≡ head_word h → Step s caller s' → IsSoundWithoutCounts g s'
-confirm_empty-cases g s caller s' seat Partials h (continuation.Alloc words) goes sound has at same step =
-    confirm_no_partial-sound g s caller s' seat h words sound has at same step
-confirm_empty-cases g s caller s' seat Frames h (continuation.TakeFrame words d) goes sound has at same step =
-    confirm_no_frame-sound g s caller s' seat h words d sound has at same step
-confirm_empty-cases g s caller s' seat pile h o goes sound has at same step = absurd (cc)
+confirm_empty-cases g s caller s' seat Partials h (continuation.Alloc words) goes sound has stands same step =
+    confirm_no_partial-sound g s caller s' seat h words sound has stands same step
+confirm_empty-cases g s caller s' seat Frames h (continuation.TakeFrame words d) goes sound has stands same step =
+    confirm_no_frame-sound g s caller s' seat h words d sound has stands same step
+confirm_empty-cases g s caller s' seat pile h o goes sound has stands same step = absurd (cc)
 
 pub confirm_empty_won-sound :
     (g : Geometry) (s : State) (caller : ℕ) (s' : State) (seat : SeatFields) (pile : Pile) (h : HeadFields) (o : Continuation) → IsSoundWithoutCounts g s
     → caller < g.callers → (s.errand caller).point ≡ Stack (stack.ConfirmEmpty seat pile h) o
     → s.word (head_name seat pile) ≡ head_word h → Step s caller s' → IsSoundWithoutCounts g s'
-confirm_empty_won-sound g s caller s' seat pile h o sound has at same step =
+confirm_empty_won-sound g s caller s' seat pile h o sound has stands same step =
     let fits : FitsPoint g caller (Stack (stack.ConfirmEmpty seat pile h) o) =
-    fits-at g s sound.parts.0 caller (Stack (stack.ConfirmEmpty seat pile h) o) sound.parts.1 has at in
-    confirm_empty-cases g s caller s' seat pile h o fits.goes sound has at same step
+    fits-at g s sound.parts.0 caller (Stack (stack.ConfirmEmpty seat pile h) o) sound.parts.1 has stands in
+    confirm_empty-cases g s caller s' seat pile h o fits.goes sound has stands same step
 
 -- won or lost
 pub confirm_empty-sound :
     (g : Geometry) (s : State) (caller : ℕ) (s' : State) (seat : SeatFields) (pile : Pile) (h : HeadFields) (o : Continuation)
     → IsSoundWithoutCounts g s → caller < g.callers → (s.errand caller).point ≡ Stack (stack.ConfirmEmpty seat pile h) o → Step s caller s'
     → IsSoundWithoutCounts g s'
-confirm_empty-sound g s caller s' seat pile h o sound has at step =
+confirm_empty-sound g s caller s' seat pile h o sound has stands step =
     elim (cases_eq (s.word (head_name seat pile)) (head_word h)) [
-      | inl won ↦ confirm_empty_won-sound g s caller s' seat pile h o sound has at won step
-      | inr lost ↦ confirm_empty_lost-sound g s caller s' seat pile h o sound has at lost step
+      | inl won ↦ confirm_empty_won-sound g s caller s' seat pile h o sound has stands won step
+      | inr lost ↦ confirm_empty_lost-sound g s caller s' seat pile h o sound has stands lost step
     ]
