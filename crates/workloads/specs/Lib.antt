@@ -1,0 +1,4 @@
+pub mod Draws
+pub mod Held
+pub mod Lanes
+pub mod Made
