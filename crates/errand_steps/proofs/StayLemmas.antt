@@ -6,10 +6,12 @@ use Rattle.superblock_parts.specs.declared.point.BlockPoint.{BlockPoint}
 use Rattle.stack_parts.specs.declared.point.StackPoint.{StackPoint}
 use Rattle.hazard_parts.specs.declared.point.DescPoint.{DescPoint}
 use Rattle.partial_parts.specs.declared.point.PartialPoint.{PartialPoint}
-use Rattle.errand_steps.specs.declared.next.Next.TheVariants.{At}
+use Rattle.errand_steps.specs.declared.next.Next.TheVariants.{At, End}
 use Rattle.errand_steps.specs.declared.continuation.Continuation.{Continuation}
 use Rattle.errand_steps.specs.declared.point.Point.{Point}
-use Rattle.errand_steps.specs.declared.point.Point.TheVariants.{Block, Stack, Desc, Partial}
+use Rattle.errand_steps.specs.declared.point.Point.TheVariants.{Idle, Block, Stack, Desc, Partial}
+use Rattle.errand_steps.specs.declared.reply.Progress.TheVariants.{Done}
+use Rattle.errand_steps.specs.declared.reply.Reply.{Reply}
 use Rattle.errand_steps.specs.Errands.{ErrandFields, plan_of, settle_of, course_of, answer_of, counts_won, counts_lost, counts_cleared, raised, going_on}
 use Rattle.errand_steps.specs.Nexts.{next_of, enter_block, enter_stack, enter_desc, enter_partial}
 use Rattle.errand_steps.specs.Continuations.{has_left_block, has_left_stack, has_left_desc, has_left_partial}
@@ -42,3 +44,18 @@ pub stayed_answer :
     → answer_of e x ≡ going_on (counts_lost e.point x) (counts_cleared e.point x)
 unfolding answer_of course_of
 stayed_answer e x p at = rw (at) refl
+
+-- the errand after a step that ends its call with this reply, with its counts
+pub ended_errand :
+    (e : ErrandFields) (x : Found) (r : Reply) (action : Action) (won lost cleared : ℕ) → next_of e.point x ≡ End r
+    → action ≡ plan_of e → won ≡ raised (counts_won action x) e.won → lost ≡ raised (counts_lost e.point x) e.lost
+    → cleared ≡ raised (counts_cleared e.point x) e.cleared
+    → record e { point = Idle; won = won; lost = lost; cleared = cleared } ≡ settle_of e x
+unfolding settle_of course_of
+ended_errand e x r action won lost cleared ends planned is_won is_lost is_cleared =
+    rw (ends, is_won, is_lost, is_cleared, planned) refl
+
+-- what such a step answers
+pub ended_answer : (e : ErrandFields) (x : Found) (r : Reply) → next_of e.point x ≡ End r → answer_of e x ≡ Done r
+unfolding answer_of course_of
+ended_answer e x r ends = rw (ends) refl

@@ -6,8 +6,8 @@ pub mod large;
 pub mod partials;
 pub mod stacks;
 
-ghost use Rattle.std.specs.Prelude.{◌≡◌, IsTrue, false};
-ghost use Rattle.errand_steps.specs.declared.next.Next.TheVariants.{At};
+ghost use Rattle.std.specs.Prelude.{◌≡◌, IfSome, IsTrue, false};
+ghost use Rattle.errand_steps.specs.declared.next.Next.TheVariants.{At, End};
 ghost use Rattle.errand_steps.specs.Nexts.{next_of, resumed};
 ghost use Rattle.errand_steps.specs.Points.{plan_point_of};
 
@@ -86,6 +86,16 @@ pub(crate) fn stays(point: &mut Point, found: Found) -> bool
         Point::Desc { at, .. } => stays_desc(at, found),
         Point::Partial { at, .. } => stays_partial(at, found),
         Point::Large { .. } | Point::Idle => false,
+    }
+}
+
+/// The reply with which the call ends in that step, if it does by the point alone.
+pub(crate) fn ending(point: &Point, found: Found) -> Option<Reply>
+    ensures { IfSome result (λ reply. next_of point.now found ≡ End reply) }
+{
+    match next_of(point, found) {
+        Next::End { reply } => Some(reply),
+        _ => None,
     }
 }
 

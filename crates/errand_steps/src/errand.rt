@@ -13,11 +13,13 @@ ghost use Rattle.errand_steps.specs.Begins.{IsBusy, IsHeapBlock};
 ghost use Rattle.errand_steps.specs.Errands.{IsErrand, open_errand, plan_of, course_of, settle_of, answer_of, after_list, after_turn, picked, turned, begins_turn, point_after, list_after, IsListable, is_full, is_spent, told, going_on};
 ghost use Rattle.errand_steps.specs.Events.{event_of};
 ghost use Rattle.errand_steps.specs.Offers.{offered_at};
+ghost use Rattle.errand_steps.specs.declared.next.Next.TheVariants.{End};
+ghost use Rattle.errand_steps.specs.Nexts.{next_of};
 ghost use Rattle.errand_steps.specs.Points.{is_idle};
 
 use crate::continuation::Continuation;
 use crate::count::{counts_cleared, counts_lost, counts_won, raised};
-use crate::enter::{next_of, plan_point, resumed, stays};
+use crate::enter::{ending, next_of, plan_point, resumed, stays};
 use crate::next::Next;
 use crate::point::Point;
 use crate::reply::{Offer, Progress, Reply};
@@ -156,8 +158,38 @@ impl Errand {
     }
 
     /// The same, from any point.
-    #[tactic(auto, using(crate::proofs::ErrandLemmas::listable), unfolding(crate::specs::Errands::settle_of, crate::specs::Errands::course_of, crate::specs::Errands::answer_of))]
     fn leave(&mut self, action: Action, found: Found) -> Progress
+        requires busy { IsBusy self.old }
+        requires planned { action ≡ plan_of self.old }
+        ensures errand { self.new ≡ settle_of self.old found }
+        ensures answer { result ≡ answer_of self.old found }
+    {
+        match ending(&self.point, found) {
+            Some(reply) => self.end(action, found, reply),
+            None => self.lead_on(action, found),
+        }
+    }
+
+    /// The same, where the call ends with this reply.
+    fn end(&mut self, action: Action, found: Found, reply: Reply) -> Progress
+        requires busy { IsBusy self.old }
+        requires planned { action ≡ plan_of self.old }
+        requires ends { next_of self.old.point found ≡ End reply }
+        ensures errand { self.new ≡ settle_of self.old found }
+        ensures answer { result ≡ answer_of self.old found }
+    {
+        let lost = counts_lost(&self.point, action, found);
+        let cleared = counts_cleared(&self.point, found);
+        self.won = raised(counts_won(action, found), self.won);
+        self.lost = raised(lost, self.lost);
+        self.cleared = raised(cleared, self.cleared);
+        self.point = Point::Idle;
+        Progress::Done(reply)
+    }
+
+    /// The same, wherever it leads.
+    #[tactic(auto, using(crate::proofs::ErrandLemmas::listable), unfolding(crate::specs::Errands::settle_of, crate::specs::Errands::course_of, crate::specs::Errands::answer_of))]
+    fn lead_on(&mut self, action: Action, found: Found) -> Progress
         requires busy { IsBusy self.old }
         requires planned { action ≡ plan_of self.old }
         ensures errand { self.new ≡ settle_of self.old found }

@@ -68,7 +68,7 @@ pub fn block_words(class: u8) -> u32
     requires { class < CLASSES }
     ensures { result ≡ block_words_of class }
 {
-    2u32.pow(u32::from(class) + 1)
+    1 << (class + 1)
 }
 
 /// How many blocks of a class fill a frame.
@@ -76,7 +76,7 @@ pub fn block_count(class: u8) -> u32
     requires { class < CLASSES }
     ensures { result ≡ block_count_of class }
 {
-    FRAME_WORDS / block_words(class)
+    FRAME_WORDS >> (class + 1)
 }
 
 #[cfg(test)]

@@ -1,4 +1,5 @@
 pub mod CoreLemmas
+pub mod RepliesLemmas
 pub mod SeenLemmas
 pub mod StepLemmas
 pub mod FirstLemmas

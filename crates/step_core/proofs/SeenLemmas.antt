@@ -1,5 +1,5 @@
 -- What the events tell of the block at a place is so.
-use Rattle.std.proofs.Common.{ℕ, ◌≡◌, ◌≢◌, ◌<◌, ◌≤◌, ◌+◌, ◌-◌, refl, ap, sym, ◌∙◌, subst, arith, Option, Some, None, ⊎_elim, eq-eqb, ne_eqb, List, [], ◌∷◌, ◌++◌, take, drop, length, slice_index_or}
+use Rattle.std.proofs.Common.{ℕ, ◌≡◌, ◌<◌, ◌+◌, ◌-◌, refl, ap, sym, ◌∙◌, subst, arith, Option, Some, None, ⊎_elim, eq-eqb, ne_eqb, List, [], ◌∷◌, take, drop, length, slice_index_or}
 use Rattle.std.specs.Prelude.{IfSome}
 use Rattle.std.proofs.lemmas.Bool.{cases_eq}
 use Rattle.std.proofs.lemmas.List.{take_more, take-append-drop}
@@ -12,7 +12,7 @@ use Rattle.pool_model.specs.declared.owner.Owner.{Owner}
 use Rattle.pool_model.specs.declared.owner.Owner.TheVariants.{Caller, Shelf}
 use Rattle.pool_model.specs.Legal.{IsLegalWithoutCounts, IsLegalEventWithoutCounts}
 use Rattle.pool_model.specs.WellFormed.{IsWellFormed}
-use Rattle.pool_model.specs.Pool.{Block, Pool, block_at, pool_after, pool_of, fresh_block, without, with_changed, written, handed_to}
+use Rattle.pool_model.specs.Pool.{Block, Pool, block_at, pool_after, pool_of, without, with_changed, written, handed_to}
 use Rattle.pool_model.proofs.HistoryLemmas.{pool_of-push, EachAfter-cut}
 use Rattle.pool_model.proofs.PoolLemmas.{Pairs, Differ, every-found, block_at-here, block_at-past, block_at-without_same, block_at-without_other, block_at-changed_other}
 use Rattle.pool_model.proofs.WellFormedLemmas.{sound-of, sound-differ}

@@ -1,6 +1,6 @@
 //! The machine.
 
-ghost use Rattle.std.specs.Prelude.{ℕ, Some, ◌≡◌, ◌<◌, ◌≤◌, ◌+◌, ◌-◌, ◌*◌, ◌^◌, All, Ok, OnOk, OnErr, IfOk, IfSome};
+ghost use Rattle.std.specs.Prelude.{ℕ, Some, ◌≡◌, ◌<◌, ◌≤◌, ◌+◌, ◌-◌, ◌*◌, ◌^◌, ◌++◌, All, Ok, OnOk, OnErr, IfOk, IfSome};
 ghost use Rattle.std.specs.Result.{IfErr};
 ghost use Rattle.heap_geometry.specs.Geometry.{IsChecked};
 ghost use Rattle.heap_geometry.specs.Need.{IsNeed, usable_words};
@@ -18,6 +18,8 @@ ghost use Rattle.step_core.specs.Cores.{errand_at, with_errand, IsCore, OwnsBloc
 ghost use Rattle.errand_steps.specs.Openings.{opening};
 ghost use Rattle.step_core.specs.Openings.{first_words, IsOpened};
 ghost use Rattle.errand_steps.specs.Steps.{with_event, Slot, Run};
+ghost use Rattle.std.specs.Vec.{vec_len, vec_capacity};
+ghost use Rattle.step_core.specs.Replies.{Replies, RepliesPart, replied_in, ended_by};
 ghost use Rattle.step_core.specs.Seen.{seen};
 ghost use Rattle.step_core.specs.Steps.{IsStepped, IsNext, AnswersSo, RunsPart, counted, RunsAlone};
 ghost use Rattle.errand_steps.specs.Errands.{ErrandFields};
@@ -26,7 +28,7 @@ ghost use Rattle.sound_state.specs.Alone.{clearings, stale_words};
 use crate::first::{first_errands, first_table};
 use crate::seen::seen_at;
 use errand_steps::errand::{Errand, event, plan};
-use errand_steps::reply::{Begun, Progress};
+use errand_steps::reply::{Begun, Progress, Reply};
 use heap_geometry::geometry::Geometry;
 use heap_geometry::need::Need;
 use pool_model::event::Event;
@@ -250,6 +252,54 @@ impl Core {
         Ok(steps)
     }
 
+    /// Advances these callers in turn, as `run_schedule` does, and adds to the list the reply of each call
+    /// that ends, with its caller, in their order.
+    pub fn run_replies(
+        &mut self,
+        callers: &[u8],
+        replies: &mut Vec<(u8, Reply)>,
+    ) -> Result<u64, Stopped>
+        requires { All (λ caller. caller < self.old.geometry.callers) callers.now }
+        ensures ok { IfOk result (λ steps. Replies (state_of self.old) callers.now steps replies.old.items replies.new.items (state_of self.new)
+            × (self.new.steps ≡ counted self.old.steps steps)) }
+        ensures err { IfErr result (λ stopped. RepliesPart (state_of self.old) callers.now stopped.steps replies.old.items replies.new.items (state_of self.new)
+            × (self.new.steps ≡ counted self.old.steps stopped.steps)) }
+        ensures geometry { self.new.geometry ≡ self.old.geometry }
+    {
+        let mut steps = 0;
+        for caller in callers.iter() {
+            match self.fill_slot_replied(*caller, replies) {
+                Ok(made) => steps += made,
+                Err(_) => return Err(Stopped { steps }),
+            }
+        }
+        Ok(steps)
+    }
+
+    /// Fills a slot of a schedule, as `fill_slot` does, and adds the reply to the list, where a call ends.
+    /// Room for it is made before the step.
+    fn fill_slot_replied(
+        &mut self,
+        caller: u8,
+        replies: &mut Vec<(u8, Reply)>,
+    ) -> Result<u64, AllocError>
+        requires { caller < self.old.geometry.callers }
+        ensures slot { IfOk result (λ steps. Slot (state_of self.old) caller steps (state_of self.new)) }
+        ensures replied { OnOk result (replies.new.items ≡ replies.old.items ++ replied_in (state_of self.old) caller) }
+        ensures counts { IfOk result (λ steps. self.new.steps ≡ counted self.old.steps steps) }
+        ensures few { IfOk result (λ steps. steps ≤ 1) }
+        ensures geometry { self.new.geometry ≡ self.old.geometry }
+        ensures err { OnErr result ((self.new ≡ self.old) × (replies.new.items ≡ replies.old.items)) }
+    {
+        if self.idle(u32::from(caller)) {
+            return Ok(0);
+        }
+        replies.reserve(1)?;
+        let progress = self.step(u32::from(caller))?;
+        add_reply(replies, caller, progress);
+        Ok(1)
+    }
+
     /// Makes steps of this caller alone until its call has ended, wherever the others stopped, and answers
     /// how many; none where it is in no call. It loses no more exchanges than words are stale for it, so
     /// none in a call that has made no step, and clears no more superblocks than are EMPTY and out for its
@@ -399,6 +449,16 @@ fn name_of(action: &Action) -> WordName
         | Action::Cas(name, _, _)
         | Action::Swap(name, _)
         | Action::And(name, _) => name,
+    }
+}
+
+/// Adds the reply of a step, where it ends its caller's call. There is room for it.
+fn add_reply(replies: &mut Vec<(u8, Reply)>, caller: u8, progress: Progress)
+    requires { vec_len replies.old < vec_capacity replies.old }
+    ensures { replies.new.items ≡ replies.old.items ++ ended_by caller progress }
+{
+    if let Progress::Done(reply) = progress {
+        let _ = replies.push((caller, reply));
     }
 }
 

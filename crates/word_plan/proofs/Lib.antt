@@ -3,5 +3,6 @@ pub mod CountLemmas
 pub mod GroupLemmas
 pub mod NameLemmas
 pub mod SeatLemmas
+pub mod StartLemmas
 pub mod TableLemmas
 pub mod WordLemmas

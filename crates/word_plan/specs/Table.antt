@@ -1,5 +1,5 @@
 -- The names of the shared words, and their order in the table.
-use Rattle.std.specs.Prelude.{ℕ, Bool, true, ◌<◌, ◌+◌, ◌-◌, ◌*◌, ◌/◌, ◌%◌, ◌&&◌, nat_lt, if◌then◌else◌, List, [], ◌∷◌, take}
+use Rattle.std.specs.Prelude.{ℕ, Bool, true, ◌<◌, ◌+◌, ◌-◌, ◌*◌, ◌/◌, ◌%◌, ◌&&◌, nat_lt, if◌then◌else◌, List, [], ◌∷◌, map, take}
 use Rattle.heap_geometry.specs.declared.geometry.Geometry.{Geometry}
 use Rattle.heap_geometry.specs.declared.limits.TheConstants.{CLASSES, SHELVES}
 use Rattle.word_plan.specs.Counts.{arena_words, descriptor_count}
@@ -134,6 +134,10 @@ words_in g (group ∷ rest) = group_words g group + words_in g rest
 -- where a group begins: behind the words of all groups before it
 unfoldable pub start_of : Geometry → Group → ℕ
 start_of g group = words_in g (take (group_number group) groups)
+
+-- where each group begins
+abbrev pub starts_of : Geometry → List ℕ
+starts_of g = map (start_of g) groups
 
 -- the place of a word in the table
 unfoldable pub word_index : Geometry → WordName → ℕ

@@ -4,7 +4,7 @@ ghost use Rattle.std.specs.Prelude.{◌≡◌, ◌<◌, ◌≤◌, ◌*◌, ◌/
 ghost use Rattle.heap_geometry.specs.Geometry.{IsChecked};
 ghost use Rattle.heap_geometry.specs.declared.limits.TheConstants.{CLASSES, MAX_HEAPS};
 ghost use Rattle.word_plan.specs.Counts.{descriptor_count};
-ghost use Rattle.word_plan.specs.Table.{groups, group_number, group_of, offset_of, group_words, start_of, name_at};
+ghost use Rattle.word_plan.specs.Table.{groups, group_number, group_of, offset_of, group_words, start_of, starts_of, name_at};
 ghost use Rattle.word_plan.specs.declared.limits.TheConstants.{MAX_DESCRIPTORS};
 
 use crate::name::WordName;
@@ -29,8 +29,11 @@ pub enum Group {
     Shelves,
 }
 
+/// How many groups there are.
+pub const GROUP_COUNT: usize = 13;
+
 /// The groups in their order, each at its own number.
-pub const GROUPS: [Group; 13] = [
+pub const GROUPS: [Group; GROUP_COUNT] = [
     Group::ArenaWords,
     Group::Anchors,
     Group::Nexts,
@@ -114,7 +117,7 @@ pub fn group_words(geometry: Geometry, group: Group) -> u32
 }
 
 /// How many groups stand before one.
-fn group_number(group: Group) -> usize
+pub fn group_number(group: Group) -> usize
     ensures value { result ≡ group_number group }
     ensures within { result < length groups }
 {
@@ -131,6 +134,28 @@ pub fn start_of(geometry: Geometry, group: Group) -> u32
         start += group_words(geometry, *before);
     }
     start
+}
+
+/// How many words stand before each group, in their order.
+pub fn starts_of(geometry: Geometry) -> [u32; GROUP_COUNT]
+    requires { IsChecked geometry }
+    ensures { result ≡ starts_of geometry }
+{
+    [
+        start_of(geometry, Group::ArenaWords),
+        start_of(geometry, Group::Anchors),
+        start_of(geometry, Group::Nexts),
+        start_of(geometry, Group::Infos),
+        start_of(geometry, Group::Actives),
+        start_of(geometry, Group::Slots),
+        start_of(geometry, Group::ListHeads),
+        start_of(geometry, Group::FrameNexts),
+        start_of(geometry, Group::FrameHeads),
+        start_of(geometry, Group::DescHeads),
+        start_of(geometry, Group::Hazards),
+        start_of(geometry, Group::UnitWords),
+        start_of(geometry, Group::Shelves),
+    ]
 }
 
 /// The word that stands at a place of a group.

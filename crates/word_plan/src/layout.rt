@@ -7,29 +7,36 @@ ghost use Rattle.word_plan.specs.Table.{Exists, word_index, word_name};
 ghost use Rattle.word_plan.specs.declared.limits.TheConstants.{MAX_DESCRIPTORS, MAX_WORDS};
 
 use crate::group::{
-    GROUPS, Group, descriptor_count, group_of, group_words, name_at, offset_of, start_of,
+    GROUP_COUNT, GROUPS, Group, descriptor_count, group_number, group_of, group_words, name_at,
+    offset_of, start_of, starts_of,
 };
 use crate::name::WordName;
 use heap_geometry::geometry::Geometry;
 use std::marker::Model;
 
-/// The order of the shared words of a heap, seen as the heap's numbers.
+/// The order of the shared words of a heap, seen as the heap's numbers. It keeps where each group begins.
 #[derive(Clone, Copy, Debug, PartialEq, Eq)]
 pub struct Layout {
     geometry: Geometry,
+    starts: [u32; GROUP_COUNT],
 }
 
 impl Model for Layout {
     ghost use Rattle.heap_geometry.specs.declared.geometry.Geometry.{Geometry};
+    ghost use Rattle.std.specs.Prelude.{◌≡◌};
     ghost use Rattle.heap_geometry.specs.Geometry.{IsChecked};
+    ghost use Rattle.word_plan.specs.Table.{starts_of};
+    ghost use Rattle.std.proofs.Common.{ap, sym};
 
     ghost Value = { Geometry };
 
     ghost view = { λ l. l.geometry };
 
-    ghost invariant = { λ l. IsChecked l.geometry };
+    ghost invariant = { λ l. IsChecked l.geometry × (l.starts ≡ starts_of l.geometry) };
 
-    ghost inverse = { λ g. record { geometry = g } };
+    ghost inverse = { λ g. record { geometry = g; starts = starts_of g } };
+
+    ghost inverse_ok = { λ l h. ap (λ starts. record { geometry = l.geometry; starts = starts }) (sym h.1) };
 }
 
 impl Layout {
@@ -38,7 +45,10 @@ impl Layout {
         requires { IsChecked geometry }
         ensures { result ≡ geometry }
     {
-        Layout { geometry }
+        Layout {
+            geometry,
+            starts: starts_of(geometry),
+        }
     }
 
     /// The heap's numbers.
@@ -72,7 +82,7 @@ impl Layout {
         ensures within { result < word_count self.now }
         ensures back { word_name self.now result ≡ name }
     {
-        start_of(self.geometry, group_of(name)) + offset_of(name)
+        self.starts[group_number(group_of(name))] + offset_of(name)
     }
 
     /// The word at a place of the table.

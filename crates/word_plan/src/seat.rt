@@ -13,7 +13,7 @@ ghost use Rattle.word_plan.specs.Seats.{SeatFields, IsSeat, heap_of, desc_named,
 ghost use Rattle.word_plan.specs.Sites.{info_at};
 ghost use Rattle.word_plan.specs.declared.limits.TheConstants.{MAX_DESCRIPTORS};
 
-use crate::layout::Layout;
+use crate::group::descriptor_count;
 use heap_geometry::geometry::Geometry;
 use heap_geometry::limits::FRAME_WORDS;
 use heap_geometry::need::{block_count, block_words};
@@ -92,7 +92,7 @@ impl Seat {
         ensures value { result ≡ descriptor_count self.geometry }
         ensures within { result ≤ MAX_DESCRIPTORS }
     {
-        Layout::new(self.geometry).descriptors()
+        descriptor_count(self.geometry)
     }
 
     /// How many blocks a superblock of the class has.

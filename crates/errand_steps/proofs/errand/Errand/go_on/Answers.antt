@@ -1,7 +1,5 @@
-use Rattle.std.proofs.Common.{rules, ap, ◌∙◌, sym, ◌≡◌}
+use Rattle.std.proofs.Common.{rules, ap, ◌∙◌, sym}
 use Rattle.errand_steps.specs.Errands.{ErrandFields, plan_of, settle_of, answer_of, raised, going_on}
-use Rattle.errand_steps.specs.Nexts.{next_of}
-use Rattle.errand_steps.specs.declared.next.Next.TheVariants.{At}
 use Rattle.errand_steps.proofs.ErrandLemmas.{settled_errand}
 use Rattle.errand_steps.proofs.StayLemmas.{stayed_errand, stayed_answer}
 use Rattle.errand_steps.proofs.errand.Errand.go_on.Goals as goal

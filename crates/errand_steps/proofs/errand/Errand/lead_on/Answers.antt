@@ -1,7 +1,7 @@
 use Rattle.std.proofs.Common.{rules}
 use Rattle.errand_steps.specs.Errands.{ErrandFields, settle_of, course_of}
 use Rattle.errand_steps.proofs.ErrandLemmas.{settled_errand}
-use Rattle.errand_steps.proofs.errand.Errand.leave.Goals as goal
+use Rattle.errand_steps.proofs.errand.Errand.lead_on.Goals as goal
 
 pub invariant_of-self : goal.invariant_of-self
 unfolding settle_of course_of

@@ -1,0 +1,8 @@
+use Rattle.std.proofs.Common.{ap}
+use Rattle.step_core.specs.Cores.{CoreFields}
+use Rattle.step_core.specs.Steps.{stepped}
+use Rattle.step_core.proofs.machine.Core.fill_slot_replied.Goals as goal
+
+pub returns-clause-counts : goal.returns-clause-counts
+unfolding stepped
+returns-clause-counts c = ap (λ (v : CoreFields). v.steps) c.in_ok-progress.ensures.ok.exact
