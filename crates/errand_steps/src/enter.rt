@@ -12,9 +12,9 @@ ghost use Rattle.errand_steps.specs.Nexts.{next_of, resumed};
 ghost use Rattle.errand_steps.specs.Points.{plan_point_of};
 
 use crate::continuation::Continuation;
-use crate::enter::blocks::enter_block;
+use crate::enter::blocks::{ending_block, enter_block};
 use crate::enter::descriptors::enter_desc;
-use crate::enter::large::enter_large;
+use crate::enter::large::{ending_large, enter_large};
 use crate::enter::partials::enter_partial;
 use crate::enter::stacks::enter_stack;
 use crate::next::Next;
@@ -89,12 +89,14 @@ pub(crate) fn stays(point: &mut Point, found: Found) -> bool
     }
 }
 
-/// The reply with which the call ends in that step, if it does by the point alone.
+/// The reply with which the call ends in that step, for the ends that come most often.
+#[tactic(auto, unfolding(crate::specs::Nexts::next_of))]
 pub(crate) fn ending(point: &Point, found: Found) -> Option<Reply>
     ensures { IfSome result (λ reply. next_of point.now found ≡ End reply) }
 {
-    match next_of(point, found) {
-        Next::End { reply } => Some(reply),
+    match *point {
+        Point::Block { at, .. } => ending_block(at, found),
+        Point::Large { at, .. } => ending_large(at, found),
         _ => None,
     }
 }

@@ -13,7 +13,7 @@ ghost use Rattle.errand_steps.specs.Begins.{IsBusy, IsHeapBlock};
 ghost use Rattle.errand_steps.specs.Errands.{IsErrand, open_errand, plan_of, course_of, settle_of, answer_of, after_list, after_turn, picked, turned, begins_turn, point_after, list_after, IsListable, is_full, is_spent, told, going_on};
 ghost use Rattle.errand_steps.specs.Events.{event_of};
 ghost use Rattle.errand_steps.specs.Offers.{offered_at};
-ghost use Rattle.errand_steps.specs.declared.next.Next.TheVariants.{End};
+ghost use Rattle.errand_steps.specs.declared.next.Next.TheVariants.{At, End};
 ghost use Rattle.errand_steps.specs.Nexts.{next_of};
 ghost use Rattle.errand_steps.specs.Points.{is_idle};
 
@@ -164,10 +164,31 @@ impl Errand {
         ensures errand { self.new ≡ settle_of self.old found }
         ensures answer { result ≡ answer_of self.old found }
     {
-        match ending(&self.point, found) {
-            Some(reply) => self.end(action, found, reply),
-            None => self.lead_on(action, found),
+        if let Some(reply) = ending(&self.point, found) {
+            return self.end(action, found, reply);
         }
+        match next_of(&self.point, found) {
+            Next::At { point } => self.stand(action, found, point),
+            Next::End { reply } => self.end(action, found, reply),
+            next => self.lead_on(action, found, next),
+        }
+    }
+
+    /// The same, where the caller stands at this point then.
+    fn stand(&mut self, action: Action, found: Found, point: Point) -> Progress
+        requires busy { IsBusy self.old }
+        requires planned { action ≡ plan_of self.old }
+        requires stands { next_of self.old.point found ≡ At point }
+        ensures errand { self.new ≡ settle_of self.old found }
+        ensures answer { result ≡ answer_of self.old found }
+    {
+        let lost = counts_lost(&self.point, action, found);
+        let cleared = counts_cleared(&self.point, found);
+        self.won = raised(counts_won(action, found), self.won);
+        self.lost = raised(lost, self.lost);
+        self.cleared = raised(cleared, self.cleared);
+        self.point = point;
+        going_on(lost, cleared)
     }
 
     /// The same, where the call ends with this reply.
@@ -189,15 +210,15 @@ impl Errand {
 
     /// The same, wherever it leads.
     #[tactic(auto, using(crate::proofs::ErrandLemmas::listable), unfolding(crate::specs::Errands::settle_of, crate::specs::Errands::course_of, crate::specs::Errands::answer_of))]
-    fn lead_on(&mut self, action: Action, found: Found) -> Progress
+    fn lead_on(&mut self, action: Action, found: Found, next: Next) -> Progress
         requires busy { IsBusy self.old }
         requires planned { action ≡ plan_of self.old }
+        requires leads { next ≡ next_of self.old.point found }
         ensures errand { self.new ≡ settle_of self.old found }
         ensures answer { result ≡ answer_of self.old found }
     {
         let lost = counts_lost(&self.point, action, found);
         let cleared = counts_cleared(&self.point, found);
-        let next = next_of(&self.point, found);
         let listed = self.after_list(&next);
         let begins = self.begins_turn(&listed);
         let course = self.after_turn(listed);

@@ -22,10 +22,15 @@ use packed_words::info::Info;
 use packed_words::widths::{CLASS_AT, HEAP_AT};
 use std::marker::Model;
 
-/// A caller of a heap, at work on blocks of one size class.
+/// A caller of a heap, at work on blocks of one size class. The heap's numbers are kept in few bytes,
+/// since every point has a seat.
 #[derive(Clone, Copy)]
 pub struct Seat {
-    geometry: Geometry,
+    turn_limit: u64,
+    frames: u16,
+    heaps: u8,
+    units: u8,
+    callers: u8,
     caller: u8,
     class: u8,
 }
@@ -35,11 +40,11 @@ impl Model for Seat {
 
     ghost Value = { SeatFields };
 
-    ghost view = { λ s. record { geometry = s.geometry; caller = s.caller; class = s.class } };
+    ghost view = { λ s. record { geometry = record { frames = s.frames; heaps = s.heaps; units = s.units; callers = s.callers; turn_limit = s.turn_limit }; caller = s.caller; class = s.class } };
 
-    ghost invariant = { λ s. IsSeat (record { geometry = s.geometry; caller = s.caller; class = s.class }) };
+    ghost invariant = { λ s. IsSeat (record { geometry = record { frames = s.frames; heaps = s.heaps; units = s.units; callers = s.callers; turn_limit = s.turn_limit }; caller = s.caller; class = s.class }) };
 
-    ghost inverse = { λ s. record { geometry = s.geometry; caller = s.caller; class = s.class } };
+    ghost inverse = { λ s. record { turn_limit = s.geometry.turn_limit; frames = s.geometry.frames; heaps = s.geometry.heaps; units = s.geometry.units; callers = s.geometry.callers; caller = s.caller; class = s.class } };
 }
 
 impl Seat {
@@ -49,7 +54,11 @@ impl Seat {
         ensures { result ≡ record { geometry = geometry; caller = caller; class = class } }
     {
         Seat {
-            geometry,
+            turn_limit: geometry.turn_limit,
+            frames: geometry.frames as u16,
+            heaps: geometry.heaps as u8,
+            units: geometry.units as u8,
+            callers: geometry.callers as u8,
             caller,
             class,
         }
@@ -60,7 +69,13 @@ impl Seat {
         ensures value { result ≡ self.geometry }
         ensures checked { IsChecked result }
     {
-        self.geometry
+        Geometry {
+            frames: u32::from(self.frames),
+            heaps: u32::from(self.heaps),
+            units: u32::from(self.units),
+            callers: u32::from(self.callers),
+            turn_limit: self.turn_limit,
+        }
     }
 
     /// The caller's number.
@@ -84,7 +99,7 @@ impl Seat {
         ensures value { result ≡ heap_of self }
         ensures within { result < self.geometry.heaps }
     {
-        (u32::from(self.caller) % self.geometry.heaps) as u8
+        self.caller % self.heaps
     }
 
     /// How many descriptors the heap has.
@@ -92,7 +107,7 @@ impl Seat {
         ensures value { result ≡ descriptor_count self.geometry }
         ensures within { result ≤ MAX_DESCRIPTORS }
     {
-        descriptor_count(self.geometry)
+        descriptor_count(self.geometry())
     }
 
     /// How many blocks a superblock of the class has.
@@ -129,9 +144,7 @@ impl Seat {
         ensures { result ≡ info_in self.geometry word }
     {
         let info = Info::unpack(word)?;
-        if u32::from(info.frame()) < self.geometry.frames
-            && u32::from(info.heap()) < self.geometry.heaps
-        {
+        if info.frame() < self.frames && info.heap() < self.heaps {
             Some(info)
         } else {
             None

@@ -1,9 +1,13 @@
 //! From a superblock.
 
-ghost use Rattle.std.specs.Prelude.{◌≡◌};
+ghost use Rattle.std.specs.Prelude.{◌≡◌, IfSome};
+ghost use Rattle.heap_geometry.specs.Place.{block_place};
 ghost use Rattle.stack_parts.specs.declared.point.Pile.{Pile};
 ghost use Rattle.stack_parts.specs.declared.point.StackPoint.{StackPoint};
 ghost use Rattle.superblock_parts.specs.declared.point.BlockPoint.{BlockPoint};
+ghost use Rattle.superblock_parts.specs.Points.{settle_block_of};
+ghost use Rattle.errand_steps.specs.declared.continuation.Continuation.{Continuation};
+ghost use Rattle.errand_steps.specs.declared.next.Next.TheVariants.{End};
 ghost use Rattle.errand_steps.specs.Nexts.{enter_block, finish};
 
 use crate::continuation::{Continuation, asked};
@@ -14,6 +18,8 @@ use heap_geometry::need::Need;
 use partial_parts::point::PartialPoint;
 use stack_parts::point::{Pile, StackPoint};
 use superblock_parts::point::BlockPoint;
+use superblock_parts::settle::settle_block;
+use word_plan::action::Found;
 use word_plan::seat::{Seat, Site};
 
 /// What follows where this point of a superblock is reached.
@@ -33,10 +39,7 @@ pub fn enter_block(at: BlockPoint, continuation: Continuation) -> Next
                 desc: site.desc,
             },
         ),
-        BlockPoint::Given { site, index } => Next::end(Reply::Given {
-            place: site.place(index),
-            need: Need::Small(site.seat.class()),
-        }),
+        BlockPoint::Given { site, index } => Next::end(given(&site, index)),
         BlockPoint::BecameEmpty { site, heap } => Next::stack(
             push_frame(&site),
             Continuation::Remove {
@@ -53,6 +56,28 @@ pub fn enter_block(at: BlockPoint, continuation: Continuation) -> Next
         ),
         BlockPoint::Pushed { seat, stored } => finish(seat, stored),
         _ => Next::block(at, continuation),
+    }
+}
+
+/// The reply with which the call ends in this step, where a block is handed out, or is freed and no hazard
+/// word was stored.
+pub(crate) fn ending_block(at: BlockPoint, found: Found) -> Option<Reply>
+    ensures { IfSome result (λ reply. (o : Continuation) → enter_block (settle_block_of at found) o ≡ End reply) }
+{
+    match settle_block(at, found) {
+        BlockPoint::Given { site, index } => Some(given(&site, index)),
+        BlockPoint::Pushed { stored: false, .. } => Some(Reply::Freed),
+        _ => None,
+    }
+}
+
+/// The answer of an allocation that is given this block.
+fn given(site: &Site, index: u16) -> Reply
+    ensures { result ≡ Reply.Given (block_place site.now.frame site.now.seat.class index) (Need.Small site.now.seat.class) }
+{
+    Reply::Given {
+        place: site.place(index),
+        need: Need::Small(site.seat.class()),
     }
 }
 
