@@ -6,3 +6,4 @@ pub mod FirstLemmas
 pub mod AdvanceLemmas
 pub mod AloneLemmas
 pub mod MeantLemmas
+pub mod MomentLemmas

@@ -71,7 +71,11 @@ pub record IsCore (c : CoreFields) : Type 0 where
   pub errands : length c.errands ≡ c.geometry.callers
   pub run : IsReached c.geometry (state_of c) c.steps
 
--- the caller owns the live block at the place, and that serves this need
+-- after these events the caller owns the live block at the place, and that serves this need
+abbrev pub OwnsAfter : List Event → ℕ → ℕ → Need → Type 0
+OwnsAfter events caller place need =
+    (block : Block) × (block_at place (pool_of events) ≡ Some block) × (block.owner ≡ Caller caller) × (block.need ≡ need)
+
+-- so it is in a machine
 abbrev pub OwnsBlock : CoreFields → ℕ → ℕ → Need → Type 0
-OwnsBlock c caller place need =
-    (block : Block) × (block_at place (pool_of c.events) ≡ Some block) × (block.owner ≡ Caller caller) × (block.need ≡ need)
+OwnsBlock c caller place need = OwnsAfter c.events caller place need

@@ -1,12 +1,13 @@
 //! Laws of the machine: theorems about the definitions, on functions that do nothing; and a machine
 //! to begin with whose first superblock is in use.
 
-ghost use Rattle.std.specs.Prelude.{ℕ, List, ◌≡◌, ◌<◌, ◌≤◌, ◌+◌, ◌-◌, ◌*◌, ◌^◌, ◌++◌, ◌↔◌, IfOk, length, count_by};
+ghost use Rattle.std.specs.Prelude.{ℕ, List, ◌≡◌, ◌≢◌, ◌<◌, ◌≤◌, ◌+◌, ◌-◌, ◌*◌, ◌^◌, ◌++◌, ◌↔◌, IfOk, length, count_by};
 ghost use Rattle.heap_geometry.specs.declared.geometry.Geometry.{Geometry};
 ghost use Rattle.heap_geometry.specs.Geometry.{IsChecked};
 ghost use Rattle.heap_geometry.specs.declared.limits.TheConstants.{CLASSES};
 ghost use Rattle.word_plan.specs.Actions.{name_of};
 ghost use Rattle.word_plan.specs.Table.{Exists};
+ghost use Rattle.errand_steps.specs.declared.reply.Progress.{Progress};
 ghost use Rattle.errand_steps.specs.Begins.{IsBusy};
 ghost use Rattle.errand_steps.specs.Errands.{plan_of};
 ghost use Rattle.sound_state.specs.Contention.{dirty_pairs, lost_of, won_of};
@@ -19,7 +20,8 @@ ghost use Rattle.step_core.specs.Cores.{CoreFields, IsCore, IsLonger, IsReached,
 ghost use Rattle.errand_steps.specs.Openings.{installed};
 ghost use Rattle.step_core.specs.Openings.{IsOpened};
 ghost use Rattle.errand_steps.specs.Steps.{State, Step, Run, IsSame};
-ghost use Rattle.step_core.specs.Steps.{stepped};
+ghost use Rattle.step_core.specs.Moments.{HasSeenMore, IsMoment, IsServed};
+ghost use Rattle.step_core.specs.Steps.{stepped, IsStepped};
 
 use crate::machine::Core;
 use heap_geometry::geometry::Geometry;
@@ -96,4 +98,17 @@ pub fn runs_follow_one_another()
     ensures { (s t : State) (first rest : List ℕ) (n : ℕ)
         → Run s (first ++ rest) n t
         ↔ ((m : State) × (a : ℕ) × (b : ℕ) × Run s first a m × Run m rest b t × (n ≡ a + b)) }
+{}
+
+/// A step of a machine as its caller sees it: it is one step of a sound state. The other callers have
+/// their errands, and see more events at most, none of them their own. And what is so of each caller
+/// between two steps: its errand is its own, the events are legal, and they bound its turns.
+pub fn steps_are_moments()
+    ensures moment { (c after : CoreFields) (caller : ℕ) (answer : Progress) → IsCore c → caller < c.geometry.callers
+        → IsStepped c caller answer after
+        → IsMoment (errand_at c.errands caller) (errand_at after.errands caller) c.events after.events answer }
+    ensures others { (c after : CoreFields) (caller other : ℕ) (answer : Progress) → IsStepped c caller answer after → other ≢ caller
+        → (errand_at after.errands other ≡ errand_at c.errands other) × HasSeenMore other c.events after.events }
+    ensures served { (c : CoreFields) (caller : ℕ) → IsCore c → caller < c.geometry.callers
+        → IsServed c.geometry caller (errand_at c.errands caller) c.events }
 {}

@@ -13,6 +13,7 @@ ghost use Rattle.word_plan.specs.Table.{Exists};
 ghost use Rattle.word_plan.specs.Words.{word_in};
 ghost use Rattle.errand_steps.specs.Begins.{IsIdle, IsBusy, alloc_begun, alloc_answer, free_begun, write_begun, read_begun, put_begun, take_begun};
 ghost use Rattle.errand_steps.specs.Calls.{Call, begun_by};
+ghost use Rattle.errand_steps.specs.Offers.{offered_at};
 ghost use Rattle.errand_steps.specs.Points.{is_idle};
 ghost use Rattle.step_core.specs.Cores.{errand_at, with_errand, IsCore, OwnsBlock, state_of};
 ghost use Rattle.errand_steps.specs.Openings.{opening};
@@ -28,7 +29,7 @@ ghost use Rattle.sound_state.specs.Alone.{clearings, stale_words};
 use crate::first::{first_errands, first_table};
 use crate::seen::seen_at;
 use errand_steps::errand::{Errand, event, plan};
-use errand_steps::reply::{Begun, Progress, Reply};
+use errand_steps::reply::{Begun, Offer, Progress, Reply};
 use heap_geometry::geometry::Geometry;
 use heap_geometry::need::Need;
 use pool_model::event::Event;
@@ -396,6 +397,14 @@ impl Core {
         ensures owned { (caller : ℕ) (need : Need) → result ≡ Some (need, Caller caller) → OwnsBlock self.now caller place need }
     {
         seen_at(self.events.as_slice(), place)
+    }
+
+    /// The block of a put of the caller's that is under way; `None` in any other call, and in none.
+    pub fn offered(&self, caller: u32) -> Option<Offer>
+        requires { caller < self.now.geometry.callers }
+        ensures { result ≡ offered_at (errand_at self.now.errands caller).point }
+    {
+        self.errands[caller as usize].offered()
     }
 
     /// How many turns the caller has begun, at most the turn limit.
