@@ -254,7 +254,72 @@ def draw_descriptor():
     picture.save("descriptor.svg")
 
 
+def draw_words(name, title, moments, rows):
+    """Words at some moments of a schedule: a row a word, a column a moment; what changed is marked."""
+    first, wide, high = 150, 178, 34
+    picture = Picture(first + wide * len(moments) + 40, 74 + high * len(rows), title)
+    for column, moment in enumerate(moments):
+        x = 20 + first + column * wide
+        for number, line in enumerate(moment.split("\n")):
+            picture.text(x + wide / 2, 24 + number * 16, line, 12, bold=number == 0)
+    for row, (word, *values) in enumerate(rows):
+        y = 52 + row * high
+        picture.text(20 + first - 10, y + high / 2 + 2, word, 12, "end", mono=True)
+        for column, value in enumerate(values):
+            changed = column > 0 and value != values[column - 1]
+            picture.labelled(20 + first + column * wide, y, wide - 8, high - 8, value, HELD if changed else "#ffffff", size=11)
+    picture.save(name)
+
+
+def draw_tour():
+    draw_words(
+        "tour_tag.svg", "The tag tells a reused block apart",
+        ["lane 0 has read", "lane 1 has popped 64", "lane 1 has freed them", "lane 0 has popped"],
+        [
+            ("Anchor(0) avail", "1", "65", "1", "64"),
+            ("count", "959", "895", "959", "959"),
+            ("tag", "0", "64", "64", "65"),
+            ("link of block 1", "2", "live", "64", "live"),
+            ("lane 0 recalls", "avail 1, tag 0, link 2", "avail 1, tag 0, link 2", "avail 1, tag 0, link 2", "nothing"),
+        ],
+    )
+    draw_words(
+        "tour_credit.svg", "Two want the last credit",
+        ["both have read", "lane 1 has taken it", "lane 0 has a new one", "both are given"],
+        [
+            ("Active(0, 9)", "0, 0 credits", "null", "1, 0 credits", "1, 0 credits"),
+            ("Anchor(0)", "avail 1, tag 0", "avail 1, tag 0", "avail 1, tag 0", "FULL, tag 1"),
+            ("Anchor(1)", "none", "none", "ACTIVE, tag 0", "ACTIVE, tag 0"),
+            ("FrameHead", "frame 1", "frame 1", "empty", "empty"),
+            ("lane 1 has reserved", "nothing", "a block of 0", "a block of 0", "nothing"),
+        ],
+    )
+    draw_words(
+        "tour_free.svg", "A slow free",
+        ["lane 0 made EMPTY", "lane 1 was refused", "refused twice", "lane 0 has ended"],
+        [
+            ("Anchor(0)", "EMPTY", "EMPTY", "EMPTY", "EMPTY"),
+            ("Slot(0, 9)", "0", "null", "null", "null"),
+            ("FrameHead", "empty", "empty", "empty", "frame 0"),
+            ("Hazard(0)", "0", "0", "0", "null"),
+            ("lane 1 has retired", "nothing", "0, 1", "0, 2", "0, 1"),
+            ("DescHead", "1", "2", "1", "2"),
+        ],
+    )
+    draw_words(
+        "tour_install.svg", "Two installs",
+        ["lane 0 is ready", "lane 1 has installed", "lane 0 gave back", "lane 0 is given"],
+        [
+            ("Active(0, 9)", "null", "1, 0 credits", "1, 0 credits", "null"),
+            ("Anchor(0)", "ACTIVE, new", "ACTIVE, new", "retired", "retired"),
+            ("Anchor(1)", "none", "ACTIVE, tag 0", "ACTIVE, tag 0", "FULL, tag 1"),
+            ("FrameHead", "frame 1", "empty", "frame 0", "frame 0"),
+        ],
+    )
+
+
 if __name__ == "__main__":
+    draw_tour()
     draw_crates()
     draw_pop()
     draw_states()

@@ -1,3 +1,6 @@
 mod EdgeLemmas
 mod WordLemmas
 mod ParserLemmas
+mod CommandLemmas
+mod DrivenLemmas
+mod RunLemmas

@@ -1,6 +1,6 @@
 -- What the parser makes of words that are no options.
 use Rattle.std.specs.Option.{option_map_or}
-use Rattle.std.proofs.Common.{◌≡◌, ◌∙◌, ◌≤◌, ◌&&◌, ◌||◌, Bool, true, false, refl, sym, ap, List, [], ◌∷◌, ◌++◌, Option, Some, None, is_some, unwrap_or, Result, Err, IfOk, IfSome, subst, map, true≢false, append_assoc, append-nil, codes, length, if◌then◌else◌, arith}
+use Rattle.std.proofs.Common.{ℕ, ◌<◌, ◌^◌, ◌≡◌, ◌∙◌, ◌≤◌, ◌&&◌, ◌||◌, Bool, true, false, refl, sym, ap, List, [], ◌∷◌, ◌++◌, Option, Some, None, is_some, unwrap_or, Result, Err, IfOk, IfSome, subst, map, true≢false, append_assoc, append-nil, codes, length, if◌then◌else◌, arith}
 use Rattle.std.specs.List.{All, fold, list_all, list_any}
 use Rattle.std.specs.Str.{bytes_eq}
 use Rattle.std.proofs.lemmas.List.Elements.{All-cons, All-head, All-nil, All-tail}
@@ -9,11 +9,19 @@ use Rattle.clap.specs.Walk.{Held, Rule, Text, Waiting, Walk, all_of, is_empty, a
 use Rattle.clap.specs.Simple.{built, entered, matches_of}
 use Rattle.clap.specs.Simple.{Shape}
 use Rattle.clap.specs.Takes.{bundle_passes, default_passes, entered_passes, flag_word_passes, is_valid, settle_passes, step_passes, takes, turn_passes, walk_passes, word_passes}
-use Rattle.balloc.specs.Command.{IsCommand, IsCommandLine, begins_with_hyphen, parser_app}
+use Rattle.balloc.specs.Command.{HasRanges, IsCommand, IsCommandLine, IsWorkload, begins_with_hyphen, kind_name, parser_app, words_of, workload_words}
 use Rattle.balloc.specs.declared.command.Command.{Command}
-use Rattle.balloc.specs.declared.command.Command.TheVariants.{Replay}
-use Rattle.balloc.specs.declared.command.NoCommand.{NoCommand}
-use Rattle.balloc.specs.declared.command.NoCommand.TheVariants.{Usage}
+use Rattle.balloc.specs.declared.command.Command.TheVariants.{Replay, Schedule, Make, Print}
+use Rattle.balloc.specs.declared.command.Workload.{Workload}
+use Rattle.balloc.specs.declared.parsing.NoCommand.{NoCommand}
+use Rattle.balloc.specs.declared.parsing.NoCommand.TheVariants.{Usage}
+use Rattle.trace_text.proofs.NumberLemmas.{decimal_digits}
+use Rattle.workloads.specs.declared.kind.Kind.{Kind}
+use Rattle.workloads.specs.declared.kind.Kind.TheVariants as kinds
+use Rattle.std.specs.Fmt.{decimal}
+use Rattle.std.specs.Str.Parse.{AllDigits}
+use Rattle.std.proofs.lemmas.Str.Parse.{tells_digits}
+use Rattle.std.proofs.lemmas.Bool.{ne_eqb}
 use Rattle.std.specs.Option.{ok_or, option_map}
 use Rattle.std.specs.Borrow.{Bor}
 use Rattle.clap.specs.Words.{HasMatchesOf, found_of, matched_of, raw_values}
@@ -146,6 +154,9 @@ all_pass word more plain =
     ∙ ap (λ w. walk_passes shape [] w more) (first_word word (All-head IsPlain word more plain))
     ∙ more_pass (word ∷ []) more (All-tail IsPlain word more plain)
 
+abbrev Taken : List Text → Type 0
+Taken words = takes parser_app words ≡ true
+
 -- the parser takes words that lead to this walk, if each of them passes
 abbrev passes_at : Walk → Bool → Bool
 passes_at w each =
@@ -171,7 +182,12 @@ words_pass word more plain few =
 
 -- a command has one to four words
 takes_command : (command : Command) (words : List Text) → IsCommandLine command words → NoOptions words → takes parser_app words ≡ true
-takes_command Replay words line plain = subst (λ ws. NoOptions ws → takes parser_app ws ≡ true) (sym line) (λ p. words_pass (codes "replay") [] p (omega arith)) plain
+takes_command Replay words line plain = subst Taken (sym line.1) (words_pass (codes "replay") [] (subst NoOptions line.1 plain) (omega arith))
+takes_command Schedule words line plain = subst Taken (sym line.1) (words_pass (codes "schedule") [] (subst NoOptions line.1 plain) (omega arith))
+takes_command (Make workload) words line plain =
+    subst Taken (sym line.1) (words_pass (codes "make") (workload_words workload) (subst NoOptions line.1 plain) (omega arith))
+takes_command (Print workload) words line plain =
+    subst Taken (sym line.1) (words_pass (codes "print") (workload_words workload) (subst NoOptions line.1 plain) (omega arith))
 
 -- what the parser refuses is no command
 pub refused : (words : List Text) → NoOptions words → ¬ (takes parser_app words ≡ true) → ¬ IsCommand words
@@ -187,19 +203,47 @@ pub found_some : (words values : List Text) → NoOptions words → all_of (code
 found_some [] values plain some = absurd (true≢false (ap is_some (sym some)))
 found_some (word ∷ more) values plain some = ap (λ found. unwrap_or found []) (sym (values_are word more plain) ∙ some)
 
+has_words : (command : Command) → is_empty (words_of command) ≡ false
+has_words Replay = refl
+has_words Schedule = refl
+has_words (Make workload) = refl
+has_words (Print workload) = refl
+
 -- a command has words
 pub some_words : (words : List Text) → words ≡ [] → ¬ IsCommand words
-some_words words none (command, line) = no_line command words none line
-  where
-    no_line : (command : Command) (words : List Text) → words ≡ [] → ¬ IsCommandLine command words
-    no_line Replay words none line = true≢false (ap is_empty (sym none ∙ line))
+some_words words none (command, line) = true≢false (ap is_empty (sym none ∙ line.1) ∙ has_words command)
+
+-- neither the name of a kind nor a number begins with a hyphen
+plain_kind : (kind : Kind) → begins_with_hyphen (kind_name kind) ≡ false
+plain_kind kinds.Scalability = refl
+plain_kind kinds.Threadtest = refl
+plain_kind kinds.Larson = refl
+plain_kind kinds.Pipeline = refl
+
+plain_digits : (digits : Text) → AllDigits 10 digits → begins_with_hyphen digits ≡ false
+plain_digits [] all = refl
+plain_digits (digit ∷ digits) all =
+    let range = (tells_digits.parts digit digits all).0 in
+    ne_eqb digit 45 (λ e. absurd (omega (arith, e, range.0)))
+
+plain_number : (n : ℕ) → n < 2 ^ 64 → begins_with_hyphen (decimal n) ≡ false
+plain_number n small = plain_digits (decimal n) (decimal_digits n small)
+
+plain_workload : (name : Text) (workload : Workload) → begins_with_hyphen name ≡ false → IsWorkload workload
+    → list_any begins_with_hyphen (name ∷ workload_words workload) ≡ false
+plain_workload name workload plain ranges =
+    rw (plain, plain_kind workload.kind, plain_number workload.size (omega (arith, ranges.0)), plain_number workload.start ranges.1) refl
+
+plain_command : (command : Command) → HasRanges command → list_any begins_with_hyphen (words_of command) ≡ false
+plain_command Replay ranges = refl
+plain_command Schedule ranges = refl
+plain_command (Make workload) ranges = plain_workload (codes "make") workload refl ranges
+plain_command (Print workload) ranges = plain_workload (codes "print") workload refl ranges
 
 -- a command has no option
 pub no_command : (words : List Text) → list_any begins_with_hyphen words ≡ true → ¬ IsCommand words
-no_command words option (command, line) = plain_line command words line option
-  where
-    plain_line : (command : Command) (words : List Text) → IsCommandLine command words → ¬ (list_any begins_with_hyphen words ≡ true)
-    plain_line Replay words line option = let bad : false ≡ true = ap (list_any begins_with_hyphen) (sym line) ∙ option in true≢false (sym bad)
+no_command words option (command, line) =
+    true≢false (sym option ∙ ap (list_any begins_with_hyphen) line.1 ∙ plain_command command line.0)
 
 -- ---- what is answered
 
@@ -208,9 +252,21 @@ pub some_answer : (found : Option Command) (answer : Result Command NoCommand) (
 some_answer (Some command) answer words values is same line = rw (is, same) line
 some_answer None answer words values is same line = rw is tt
 
-pub no_answer : (found : Option Command) (answer : Result Command NoCommand) → answer ≡ ok_or found Usage → answer ≡ Err Usage → found ≡ None
-no_answer (Some command) answer is usage = absurd (true≢false (ap is_ok (sym is ∙ usage)))
-no_answer None answer is usage = refl
+-- no other command is written so
+pub only_answer :
+    (found : Option Command) (answer : Result Command NoCommand) (words values : List Text) → answer ≡ ok_or found Usage → words ≡ values
+    → ((command : Command) → IsCommandLine command values → found ≡ Some command)
+    → IfOk answer (λ command. (other : Command) → IsCommandLine other words → other ≡ command)
+only_answer (Some command) answer words values is same only =
+    rw is (λ other line. ap (λ o. unwrap_or o command) (sym (only other (rw same at line))))
+only_answer None answer words values is same only = rw is tt
+
+pub no_answer :
+    (found : Option Command) (answer : Result Command NoCommand) (words values : List Text) → answer ≡ ok_or found Usage → words ≡ values
+    → ((command : Command) → IsCommandLine command values → found ≡ Some command) → answer ≡ Err Usage → ¬ IsCommand words
+no_answer (Some command) answer words values is same only usage = absurd (true≢false (ap is_ok (sym is ∙ usage)))
+no_answer None answer words values is same only usage =
+    λ (command, line). true≢false (sym (ap is_some (only command (rw same at line))))
 
 -- the values that a parse gives
 abbrev pub values : Option (Bor (List (Bor Text))) → Option (List Text)

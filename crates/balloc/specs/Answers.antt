@@ -1,67 +1,78 @@
--- What the program answers to an input.
-use Rattle.std.specs.Prelude.{ℕ, ◌≡◌, ◌⊎◌, ◌∷◌, List, [], Option, None, Some, codes, length}
+-- What the program answers to a command and its input.
+use Rattle.std.specs.Prelude.{ℕ, ◌≡◌, ◌⊎◌, ◌∷◌, ◌++◌, List, [], Option, None, Some, true, codes}
 use Rattle.std.specs.Fmt.{decimal}
-use Rattle.heap_geometry.specs.declared.geometry.Geometry.{Geometry}
-use Rattle.pool_model.specs.declared.event.Event.{Event}
 use Rattle.pool_model.specs.Legal.{IsLegal}
-use Rattle.trace_text.specs.declared.trace.Op.{Op}
+use Rattle.trace_text.specs.declared.trace.OrderRun.{OrderRun}
 use Rattle.trace_text.specs.declared.trace.Trace.{Trace}
 use Rattle.trace_text.specs.Reading.{IsRefused, Read, reading_of}
-use Rattle.trace_text.specs.Text.{line}
-use Rattle.lane_runner.specs.declared.outcome.Outcome.{Outcome}
-use Rattle.lane_runner.specs.Fits.{OutcomesFit}
-use Rattle.lane_runner.specs.Replays.{AllPassed, HaveTurns, IsInTurn}
-use Rattle.lane_runner.specs.Report.{report_of}
+use Rattle.trace_text.specs.Text.{canonical_of, line}
+use Rattle.lane_outcomes.specs.declared.outcome.Outcome.{Outcome}
+use Rattle.lane_outcomes.specs.Fits.{OutcomesFit}
+use Rattle.lane_outcomes.specs.Passed.{AllPassed}
+use Rattle.lane_outcomes.specs.Report.{report_of}
+use Rattle.balloc.specs.Closings.{IsDrivenOn, geometry_of, history_of, lost_of, steps_of}
+use Rattle.balloc.specs.Command.{has_input}
+use Rattle.balloc.specs.Summaries.{summary_of, trace_of}
 use Rattle.balloc.specs.declared.closing.Closing.{Closing}
-use Rattle.balloc.specs.declared.closing.Closing.TheVariants.{Plain}
+use Rattle.balloc.specs.declared.command.Command.{Command}
+use Rattle.balloc.specs.declared.command.Command.TheVariants.{Replay, Schedule, Make, Print}
+use Rattle.balloc.specs.declared.command.Workload.{Workload}
 use Rattle.balloc.specs.declared.status.TheConstants.{REPORTED, REFUSED}
 
--- the heap of a closing: the numbers that it was opened with, its history, and its lost exchanges
-abbrev pub geometry_of : Closing → Geometry
-geometry_of (Plain pool) = pool.geometry
-
-abbrev pub history_of : Closing → List Event
-history_of (Plain pool) = pool.events
-
-abbrev pub lost_of : Closing → ℕ
-lost_of (Plain pool) = 0
-
--- a plain pool serves one lane after the other, lane 0 first, and no lane runs out of turns
-abbrev pub IsServed : Closing → List (List Op) → List (List Outcome) → Type 0
-IsServed (Plain pool) lanes outcomes = IsInTurn (length lanes) pool.events × HaveTurns outcomes
-
--- the trace ran to its end on this heap, and this is its report: each lane's outcomes fit its operations and the
--- one history, which is legal and is that of the heap that the trace asks for; each operation passed the gate
-pub record IsReplayed (passed : ℕ → ℕ → Type 0) (trace : Trace) (closing : Closing) (text : List ℕ) : Type 0 where
-  pub outcomes : List (List Outcome)
-  pub text_is : text ≡ report_of trace outcomes (history_of closing)
+-- the lanes of a trace ran to their ends on this heap, which is the one that the trace asks for: each lane's outcomes
+-- fit its operations and the one history of the heap, which is legal; each operation passed the gate; and a machine
+-- made the steps in this order
+pub record IsRun (passed : ℕ → ℕ → Type 0) (trace : Trace) (orders : List OrderRun) (closing : Closing) (outcomes : List (List Outcome)) : Type 0 where
+  pub heap : geometry_of closing ≡ trace.heap
   pub fit : OutcomesFit trace.heap (history_of closing) (lost_of closing) trace.lanes outcomes
   pub legal : IsLegal trace.heap (history_of closing)
-  pub heap : geometry_of closing ≡ trace.heap
-  pub served : IsServed closing trace.lanes outcomes
   pub all_passed : AllPassed passed trace.lanes
+  pub driven : IsDrivenOn closing trace orders outcomes
 
--- the bytes are read as a trace, and the trace was replayed
-pub record IsReport (passed : ℕ → ℕ → Type 0) (bytes : List ℕ) (closed : Option Closing) (text : List ℕ) : Type 0 where
-  pub trace : Trace
+-- a trace was run, and the text tells this of its outcomes and of the heap that it left
+pub record IsTold (passed : ℕ → ℕ → Type 0) (trace : Trace) (orders : List OrderRun) (told : List (List Outcome) → Closing → List ℕ) (closed : Option Closing) (text : List ℕ) : Type 0 where
+  pub outcomes : List (List Outcome)
   pub closing : Closing
-  pub read : reading_of bytes ≡ Read trace
   pub closed_is : closed ≡ Some closing
-  pub replayed : IsReplayed passed trace closing text
+  pub run : IsRun passed trace orders closing outcomes
+  pub text_is : text ≡ told outcomes closing
+
+-- what `replay` tells of a run, what `schedule` does, and what `make` does
+abbrev pub replay_text : Trace → List (List Outcome) → Closing → List ℕ
+replay_text trace outcomes closing = report_of trace outcomes (history_of closing)
+
+abbrev pub schedule_text : Trace → List (List Outcome) → Closing → List ℕ
+schedule_text trace outcomes closing = report_of trace outcomes (history_of closing) ++ steps_of closing
+
+abbrev pub make_text : Workload → List (List Outcome) → Closing → List ℕ
+make_text workload outcomes closing = summary_of workload outcomes (history_of closing)
+
+-- what each command writes where nothing is refused: `replay` runs the trace that the bytes are read as, without its
+-- order runs, `schedule` with them, and `make` the trace of its workload, which has none; `print` runs none
+abbrev pub IsReport : (ℕ → ℕ → Type 0) → Command → List ℕ → Option Closing → List ℕ → Type 0
+IsReport passed Replay bytes closed text =
+    (trace : Trace) × (reading_of bytes ≡ Read trace) × IsTold passed trace [] (replay_text trace) closed text
+IsReport passed Schedule bytes closed text =
+    (trace : Trace) × (reading_of bytes ≡ Read trace) × IsTold passed trace trace.orders (schedule_text trace) closed text
+IsReport passed (Make workload) bytes closed text =
+    IsTold passed (trace_of workload) [] (make_text workload) closed text
+IsReport passed (Print workload) bytes closed text = (closed ≡ None) × (text ≡ canonical_of (trace_of workload))
 
 -- the line that tells where a text is refused, and for which cause
 abbrev pub refusal_line : ℕ → ℕ → List ℕ
 refusal_line number cause = line (codes "line" ∷ decimal number ∷ codes "cause" ∷ decimal cause ∷ [])
 
--- the bytes are refused at a line for a cause, no heap was run, and the text tells so
-pub record IsRefusal (bytes : List ℕ) (closed : Option Closing) (text : List ℕ) : Type 0 where
+-- the bytes that a command took are refused at a line for a cause, no heap was run, and the text tells so
+pub record IsRefusal (command : Command) (bytes : List ℕ) (closed : Option Closing) (text : List ℕ) : Type 0 where
+  pub takes : has_input command ≡ true
   pub number : ℕ
   pub cause : ℕ
   pub refused : IsRefused number cause (reading_of bytes)
   pub closed_is : closed ≡ None
   pub text_is : text ≡ refusal_line number cause
 
--- the answer to these bytes: their report, or their refusal
-abbrev pub IsAnswerTo : (ℕ → ℕ → Type 0) → List ℕ → ℕ → Option Closing → List ℕ → Type 0
-IsAnswerTo passed bytes status closed text =
-    ((status ≡ REPORTED) × IsReport passed bytes closed text) ⊎ ((status ≡ REFUSED) × IsRefusal bytes closed text)
+-- the answer to a command and these bytes: what it writes, or their refusal
+abbrev pub IsAnswerTo : (ℕ → ℕ → Type 0) → Command → List ℕ → ℕ → Option Closing → List ℕ → Type 0
+IsAnswerTo passed command bytes status closed text =
+    ((status ≡ REPORTED) × IsReport passed command bytes closed text)
+    ⊎ ((status ≡ REFUSED) × IsRefusal command bytes closed text)

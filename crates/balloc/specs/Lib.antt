@@ -1,5 +1,9 @@
 pub mod Command
+pub mod Closings
 pub mod Input
 pub mod Output
+pub mod Tallies
+pub mod Summaries
 pub mod Answers
 pub mod Runs
+pub mod Statuses

@@ -1,9 +1,11 @@
 -- How a run of the program ends, and what it read and wrote.
-use Rattle.std.specs.Prelude.{ℕ, ◌⊎◌, ◌∷◌, List, [], Option, Result, Ok, Contains}
+use Rattle.std.specs.Prelude.{ℕ, ◌≡◌, ◌⊎◌, ◌∷◌, Bool, true, false, List, [], Option, Result, Ok, Contains}
 use Rattle.edge_io.specs.declared.faults.Failed.{Failed}
 use Rattle.trace_text.specs.declared.limits.TheConstants.{MAX_INPUT}
 use Rattle.balloc.specs.declared.closing.Closing.{Closing}
+use Rattle.balloc.specs.declared.command.Command.{Command}
 use Rattle.balloc.specs.declared.status.TheConstants.{REPORTED, USAGE, REFUSED, READ_FAULT, WRITE_FAULT, OUT_OF_MEMORY, TOO_MANY}
+use Rattle.balloc.specs.Command.{IsCommandLine, has_input}
 use Rattle.balloc.specs.Input.{TakesAll, TakesFirst, TakesUntil}
 use Rattle.balloc.specs.Output.{WritesAll, WritesSome}
 
@@ -11,9 +13,15 @@ use Rattle.balloc.specs.Output.{WritesAll, WritesSome}
 abbrev pub IsStatus : ℕ → Type 0
 IsStatus status = Contains (REPORTED ∷ USAGE ∷ REFUSED ∷ READ_FAULT ∷ WRITE_FAULT ∷ OUT_OF_MEMORY ∷ TOO_MANY ∷ []) status
 
--- it gave its answer: the report or the refusal was written, the input is too long, or memory was not found
-abbrev pub IsAnswer : ℕ → Type 0
-IsAnswer status = Contains (REPORTED ∷ REFUSED ∷ TOO_MANY ∷ OUT_OF_MEMORY ∷ []) status
+-- a command with an input gave its answer: its text or the refusal was written, the input is too long, or memory was
+-- not found; one without an input: its text was written, or memory was not found
+abbrev pub IsAnswer : Bool → ℕ → Type 0
+IsAnswer true status = Contains (REPORTED ∷ REFUSED ∷ TOO_MANY ∷ OUT_OF_MEMORY ∷ []) status
+IsAnswer false status = Contains (REPORTED ∷ OUT_OF_MEMORY ∷ []) status
+
+-- the words are of a command that has an input
+abbrev pub AsksInput : List (List ℕ) → Type 0
+AsksInput words = (command : Command) × IsCommandLine command words × (has_input command ≡ true)
 
 module _ {S : Type 0} (left : S → Option (List ℕ)) (gave : S → ℕ → Result ℕ Failed → S → Type 0) (source_before source_after : S) where
   -- where memory was not found, the source was not read, or not to its end, or to its end
@@ -22,19 +30,33 @@ module _ {S : Type 0} (left : S → Option (List ℕ)) (gave : S → ℕ → Res
       ((counts : List ℕ) × TakesFirst gave MAX_INPUT source_before counts source_after)
       ⊎ ((bytes : List ℕ) × TakesUntil left gave MAX_INPUT (Ok 0) source_before source_after bytes)
 
+  -- what is taken for a command: all that the source had where the command has an input, and else nothing
+  abbrev pub TakesFor : Bool → List ℕ → Type 0
+  TakesFor true bytes = TakesAll left gave MAX_INPUT source_before source_after bytes
+  TakesFor false bytes = (source_after ≡ source_before) × (bytes ≡ [])
+
 module _
+    (words : List (List ℕ))
     {S : Type 0} (left : S → Option (List ℕ)) (gave : S → ℕ → Result ℕ Failed → S → Type 0) (source_before source_after : S)
     {K : Type 0} (holds : K → Option (List ℕ)) (wrote : K → List ℕ → Result ℕ Failed → K → Type 0) (sink_before sink_after : K)
-    (IsText : List ℕ → Option Closing → List ℕ → Type 0) (closed : Option Closing)
+    (IsText : Command → List ℕ → Option Closing → List ℕ → Type 0) (closed : Option Closing)
   where
-    -- all that the source had was taken, and such a text of it was written whole
-    abbrev pub Writes : Type 0
-    Writes =
-        (bytes text : List ℕ) × TakesAll left gave MAX_INPUT source_before source_after bytes × IsText bytes closed text
-        × WritesAll holds wrote sink_before sink_after text
+    -- the words are a command, what it takes was taken, and such a text of that was written whole
+    pub record Writes : Type 0 where
+      pub command : Command
+      pub asked : IsCommandLine command words
+      pub bytes : List ℕ
+      pub taken : TakesFor left gave source_before source_after (has_input command) bytes
+      pub text : List ℕ
+      pub answers : IsText command bytes closed text
+      pub written : WritesAll holds wrote sink_before sink_after text
 
-    -- less than such a text was written
-    abbrev pub WritesPart : Type 0
-    WritesPart =
-        (bytes text : List ℕ) × TakesAll left gave MAX_INPUT source_before source_after bytes × IsText bytes closed text
-        × WritesSome holds wrote sink_before sink_after text
+    -- the same, but less than the text was written
+    pub record WritesPart : Type 0 where
+      pub command : Command
+      pub asked : IsCommandLine command words
+      pub bytes : List ℕ
+      pub taken : TakesFor left gave source_before source_after (has_input command) bytes
+      pub text : List ℕ
+      pub answers : IsText command bytes closed text
+      pub written : WritesSome holds wrote sink_before sink_after text

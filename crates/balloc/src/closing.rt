@@ -1,10 +1,13 @@
 //! What a run of the program leaves of its heap.
 
 use pool_model::plain::PlainPool;
+use step_core::machine::Core;
 
 /// The heap at the end of a run, by what kept it.
 #[derive(Drop)]
 pub enum Closing {
-    /// A plain pool, with the events that it stored.
+    /// A plain pool, with the events that it stored. No command keeps its heap so today.
     Plain(PlainPool),
+    /// A machine on one thread, with the events of its steps.
+    Stepped(Core),
 }

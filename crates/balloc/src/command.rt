@@ -1,114 +1,125 @@
-//! Which command the words behind the program's name are.
+//! The commands of the program, and how they are written.
 
-ghost use Rattle.std.specs.Prelude.{◌≡◌, ◌≢◌, ◌↔◌, None, true, IsTrue, codes, IfErr, IfOk, IfSome, IsErrOf, map, string_bytes};
-ghost use Rattle.std.specs.List.{list_any};
-ghost use Rattle.clap.specs.Words.{HasMatchesOf, app_of, kind_of, takes};
-ghost use Rattle.clap.specs.declared.error.kind.ErrorKind.TheVariants as kind;
+ghost use Rattle.std.specs.Prelude.{ℕ, ◌≡◌, ◌≤◌, ◌∷◌, [], Some, IfSome, decimal};
 ghost use Rattle.clap.specs.Walk.{texts};
-ghost use Rattle.balloc.specs.Command.{IsCommandLine, IsCommand, begins_with_hyphen, parser_app};
+ghost use Rattle.workloads.specs.declared.kind.Kind.{Kind};
+ghost use Rattle.workloads.specs.declared.making.TheConstants.{MAX_SIZE};
+ghost use Rattle.balloc.specs.Command.{IsCommandLine, IsWorkload, kind_name, workload_words};
+ghost use Rattle.balloc.specs.declared.command.Command.{Command};
+ghost use Rattle.balloc.specs.declared.command.Workload.{Workload};
 
-use clap::error::ErrorKind;
-use clap::{Arg, ArgMatches, Error};
-use std::alloc::Global;
+use trace_text::numbers::number;
+use workloads::kind::Kind;
+use workloads::making::MAX_SIZE;
 
-/// What the one argument is called that takes all the words.
-const WORDS: &str = "words";
-
-/// The most words that a command has.
-const WORDS_MOST: usize = 4;
+/// A workload that a command names. `size` is at most `MAX_SIZE`.
+#[derive(Clone, Copy, Debug, PartialEq, Eq)]
+pub struct Workload {
+    pub kind: Kind,
+    /// The rounds of all lanes together.
+    pub size: u32,
+    /// What the draws begin with.
+    pub start: u64,
+}
 
 /// A command of the program.
 #[derive(Clone, Copy, Debug, PartialEq, Eq)]
 pub enum Command {
-    /// Replay the trace that stands on standard input.
+    /// Run the trace that stands on standard input, one lane after another, and report it.
     Replay,
+    /// Run it in the order that it gives, and report it with the steps that were made.
+    Schedule,
+    /// Make the trace of a workload, run it, and sum up its outcomes.
+    Make(Workload),
+    /// Make the trace of a workload, and print it.
+    Print(Workload),
 }
 
-/// Why there is no command.
-#[derive(Clone, Copy, Debug, PartialEq, Eq)]
-pub enum NoCommand {
-    /// The words are none of the program's commands.
-    Usage,
-    OutOfMemory,
-}
-
-fn is_option(word: &String) -> bool
-    ensures { result ≡ begins_with_hyphen (string_bytes word.now) }
+/// The name of a kind of workload.
+pub fn name_of(kind: Kind) -> &'static str
+    ensures { result.now ≡ kind_name kind }
 {
-    match word.as_bytes() {
-        [first, ..] => *first == b'-',
-        [] => false,
+    match kind {
+        Kind::Scalability => "scalability",
+        Kind::Threadtest => "threadtest",
+        Kind::Larson => "larson",
+        Kind::Pipeline => "pipeline",
     }
 }
 
-fn has_option(words: &[String]) -> bool
-    ensures { result ≡ list_any (λ word. begins_with_hyphen (string_bytes word)) words.now }
+/// The kind of workload that has this name.
+fn kind_of(word: &str) -> Option<Kind>
+    ensures some { IfSome result (λ kind. word.now ≡ kind_name kind) }
+    ensures only { (kind : Kind) → word.now ≡ kind_name kind → result ≡ Some kind }
 {
-    words.iter().any(|word| is_option(word))
-}
-
-/// Parses one to four words, none of which is an option.
-fn parse<'a>(alloc: Global, words: &'a [String]) -> Result<ArgMatches<'a>, NoCommand>
-    ensures matches { IfOk result (HasMatchesOf parser_app (map string_bytes words.now)) }
-    ensures usage { IsErrOf result NoCommand.Usage → ¬ (takes parser_app (map string_bytes words.now) ≡ true) }
-{
-    match parser(alloc)?.try_get_matches_from(words) {
-        Ok(matches) => Ok(matches),
-        Err(error) => Err(no_command(&error)),
-    }
-}
-
-fn no_command(error: &Error) -> NoCommand
-    ensures { result ≡ NoCommand.Usage → kind_of error.now ≢ kind.OutOfMemory }
-{
-    match error.kind() {
-        ErrorKind::OutOfMemory => NoCommand::OutOfMemory,
-        _ => NoCommand::Usage,
-    }
-}
-
-fn parser<'a>(alloc: Global) -> Result<clap::Command<'a>, NoCommand>
-    ensures app { IfOk result (λ command. app_of command ≡ parser_app) }
-    ensures memory { IfErr result (λ cause. cause ≡ NoCommand.OutOfMemory) }
-{
-    let values = Arg::new(alloc, WORDS)
-        .required(true)
-        .num_args(1..=WORDS_MOST);
-    let command = clap::Command::new(alloc, "balloc")
-        .no_binary_name(true)
-        .disable_help_flag(true)
-        .arg(values);
-    command.map_err(|_| NoCommand::OutOfMemory)
-}
-
-/// The command that is written so.
-fn command_of(words: &[&str]) -> Option<Command>
-    ensures some { IfSome result (λ command. IsCommandLine command (texts words.now)) }
-    ensures none { result ≡ None → ¬ IsCommand (texts words.now) }
-{
-    match words {
-        [word] if is_replay(word) => Some(Command::Replay),
+    match word {
+        "scalability" => Some(Kind::Scalability),
+        "threadtest" => Some(Kind::Threadtest),
+        "larson" => Some(Kind::Larson),
+        "pipeline" => Some(Kind::Pipeline),
         _ => None,
     }
 }
 
-fn is_replay(word: &str) -> bool
-    ensures { IsTrue result ↔ (word.now ≡ codes "replay") }
+/// The size that a word is.
+fn size_of(word: &str) -> Option<u32>
+    ensures some { IfSome result (λ size. (size ≤ MAX_SIZE) × (word.now ≡ decimal size)) }
+    ensures only { (size : ℕ) → size ≤ MAX_SIZE → word.now ≡ decimal size → result ≡ Some size }
 {
-    word == "replay"
+    let size = number(word.as_bytes())?;
+    if size <= u64::from(MAX_SIZE) {
+        Some(size as u32)
+    } else {
+        None
+    }
 }
 
-/// The command that the words behind the program's name are.
-pub fn read_words(alloc: Global, words: &[String]) -> Result<Command, NoCommand>
-    ensures ok { IfOk result (λ command. IsCommandLine command (map string_bytes words.now)) }
-    ensures usage { IsErrOf result NoCommand.Usage → ¬ IsCommand (map string_bytes words.now) }
+/// The workload that these words name.
+fn workload_of(kind: &str, size: &str, start: &str) -> Option<Workload>
+    ensures some { IfSome result (λ workload.
+        IsWorkload workload × (kind.now ∷ size.now ∷ start.now ∷ [] ≡ workload_words workload)) }
+    ensures only { (workload : Workload) → IsWorkload workload
+        → kind.now ∷ size.now ∷ start.now ∷ [] ≡ workload_words workload → result ≡ Some workload }
 {
-    if has_option(words) {
-        return Err(NoCommand::Usage);
+    let kind = kind_of(kind)?;
+    let size = size_of(size)?;
+    let start = number(start.as_bytes())?;
+    Some(Workload { kind, size, start })
+}
+
+/// The command that is this one word.
+fn short_command(word: &str) -> Option<Command>
+    ensures some { IfSome result (λ command. IsCommandLine command (word.now ∷ [])) }
+    ensures only { (command : Command) → IsCommandLine command (word.now ∷ []) → result ≡ Some command }
+{
+    match word {
+        "replay" => Some(Command::Replay),
+        "schedule" => Some(Command::Schedule),
+        _ => None,
     }
-    let matches = parse(alloc, words)?;
-    let Some(values) = matches.get_strs(WORDS) else {
-        return Err(NoCommand::Usage);
-    };
-    command_of(values).ok_or(NoCommand::Usage)
+}
+
+/// The command on a workload that has this name.
+fn workload_command(word: &str, workload: Workload) -> Option<Command>
+    requires { IsWorkload workload }
+    ensures some { IfSome result (λ command. IsCommandLine command (word.now ∷ workload_words workload)) }
+    ensures only { (command : Command) → IsCommandLine command (word.now ∷ workload_words workload) → result ≡ Some command }
+{
+    match word {
+        "make" => Some(Command::Make(workload)),
+        "print" => Some(Command::Print(workload)),
+        _ => None,
+    }
+}
+
+/// The command that is written so.
+pub fn command_of(words: &[&str]) -> Option<Command>
+    ensures some { IfSome result (λ command. IsCommandLine command (texts words.now)) }
+    ensures only { (command : Command) → IsCommandLine command (texts words.now) → result ≡ Some command }
+{
+    match words {
+        [word] => short_command(word),
+        [word, kind, size, start] => workload_command(word, workload_of(kind, size, start)?),
+        _ => None,
+    }
 }

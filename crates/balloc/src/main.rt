@@ -1,4 +1,4 @@
-//! Replays allocation traces, and reports what became of each operation.
+//! Runs allocation traces, which are read or made, and reports what became of their operations.
 #![tactic(auto)]
 
 use edge_io::gate::NoGate;
@@ -13,12 +13,21 @@ use std::{env, io};
 mod answer;
 mod closing;
 mod command;
+mod driven;
 mod input;
+mod made;
 mod output;
+mod parsing;
 mod run;
 mod status;
+mod steps;
+mod stop;
+mod summary;
+mod tally;
 #[cfg(test)]
 mod tests;
+mod told;
+mod wide;
 
 /// The words behind the program's name.
 fn words<R: Env + AllocGlobal>(rt: &R, alloc: Global) -> io::Result<Vec<String>> {

@@ -1,19 +1,19 @@
 //! The top call: from the words and the input to the answer and the status.
 
-ghost use Rattle.std.specs.Prelude.{◌≡◌, ◌≢◌, ◌⊎◌, None, map, string_bytes};
+ghost use Rattle.std.specs.Prelude.{◌≡◌, ◌≢◌, ◌⊎◌, None, false, map, string_bytes};
 ghost use Rattle.edge_io.specs.Faults.{FaultsRose};
 ghost use Rattle.balloc.specs.Answers.{IsRefusal, IsReport};
-ghost use Rattle.balloc.specs.Command.{IsCommand};
+ghost use Rattle.balloc.specs.Command.{IsCommand, IsCommandLine, has_input};
 ghost use Rattle.balloc.specs.Input.{TakesMore, TakesSome};
-ghost use Rattle.balloc.specs.declared.status.TheConstants.{REPORTED, REFUSED};
-ghost use Rattle.balloc.specs.Runs.{IsAnswer, IsStatus, ReadsInVain, Writes, WritesPart};
+ghost use Rattle.balloc.specs.declared.command.Command.{Command};
+ghost use Rattle.balloc.specs.declared.status.TheConstants.{REPORTED, REFUSED, READ_FAULT, TOO_MANY};
+ghost use Rattle.balloc.specs.Runs.{AsksInput, IsAnswer, IsStatus, ReadsInVain, Writes, WritesPart};
 
 use crate::answer::{Answer, answer_to};
 use crate::closing::Closing;
-use crate::command::{Command, NoCommand, read_words};
-use crate::input::{ReadStop, read_input};
 use crate::output::write_text;
-use crate::status::{OUT_OF_MEMORY, READ_FAULT, TOO_MANY, USAGE, WRITE_FAULT};
+use crate::parsing::{NoCommand, read_words};
+use crate::status::{OUT_OF_MEMORY, USAGE, WRITE_FAULT};
 use edge_io::gate::Gate;
 use edge_io::sink::Sink;
 use edge_io::source::Source;
@@ -52,52 +52,52 @@ pub fn run<R: Threads + Wait + Sync, S: Source, K: Sink, G: Gate + Sync>(
 ) -> Ended
     ensures known { IsStatus result.status }
 
-    // Where the words are no command, neither edge is called.
+    // Where the words are no command, neither edge is called; a command without an input doesn't call the source.
     ensures usage { result.status ≡ USAGE → (¬ IsCommand (map string_bytes words.now)) × (source.new ≡ source.old) }
     ensures unknown { (¬ IsCommand (map string_bytes words.now))
         → (result.status ≡ USAGE) ⊎ (result.status ≡ OUT_OF_MEMORY) }
+    ensures unread { (command : Command) → IsCommandLine command (map string_bytes words.now) → has_input command ≡ false
+        → source.new ≡ source.old }
 
-    // But for a report and a refusal, of which a part may be written, the sink is not called and no heap is left.
+    // But for the text of a command and a refusal, of which a part may be written, the sink is not called and no heap is left.
     ensures silent { result.status ≢ REPORTED → result.status ≢ REFUSED → result.status ≢ WRITE_FAULT
         → (sink.new ≡ sink.old) × (result.closed ≡ None) }
 
     // Each read is offered 4,096 bytes, at most `MAX_INPUT + 1` reads are made, and none after the last one that is told.
-    ensures read_fault { result.status ≡ READ_FAULT → FaultsRose (S.faults source.old) (S.faults source.new)
-        × TakesSome S.left S.gave MAX_INPUT source.old source.new }
-    ensures too_many { result.status ≡ TOO_MANY → TakesMore S.left S.gave MAX_INPUT source.old source.new }
+    ensures read_fault { result.status ≡ READ_FAULT → AsksInput (map string_bytes words.now)
+        × FaultsRose (S.faults source.old) (S.faults source.new) × TakesSome S.left S.gave MAX_INPUT source.old source.new }
+    ensures too_many { result.status ≡ TOO_MANY → AsksInput (map string_bytes words.now)
+        × TakesMore S.left S.gave MAX_INPUT source.old source.new }
     ensures in_vain { result.status ≡ OUT_OF_MEMORY → ReadsInVain S.left S.gave source.old source.new }
 
     // Each write is offered all that is left of the text, and a write that fails is the last one.
     ensures refused { result.status ≡ REFUSED
-        → Writes S.left S.gave source.old source.new K.holds K.wrote sink.old sink.new IsRefusal result.closed }
+        → Writes (map string_bytes words.now) S.left S.gave source.old source.new K.holds K.wrote sink.old sink.new IsRefusal result.closed }
     ensures write_fault { result.status ≡ WRITE_FAULT → FaultsRose (K.faults sink.old) (K.faults sink.new)
-        × (WritesPart S.left S.gave source.old source.new K.holds K.wrote sink.old sink.new (IsReport (G.passed gate.now)) result.closed
-        ⊎ WritesPart S.left S.gave source.old source.new K.holds K.wrote sink.old sink.new IsRefusal result.closed) }
+        × (WritesPart (map string_bytes words.now) S.left S.gave source.old source.new K.holds K.wrote sink.old sink.new
+        (IsReport (G.passed gate.now)) result.closed
+        ⊎ WritesPart (map string_bytes words.now) S.left S.gave source.old source.new K.holds K.wrote sink.old sink.new
+        IsRefusal result.closed) }
 
-    // The headline: the report is the defined text of the trace and the closed heap's history, and each operation
-    // of the trace passed the gate.
+    // The headline: the text is the one that is defined of the trace, which is read or made, and of the closed heap's history.
     ensures reported { result.status ≡ REPORTED
-        → Writes S.left S.gave source.old source.new K.holds K.wrote sink.old sink.new (IsReport (G.passed gate.now)) result.closed }
+        → Writes (map string_bytes words.now) S.left S.gave source.old source.new K.holds K.wrote sink.old sink.new
+        (IsReport (G.passed gate.now)) result.closed }
 
     // Where the words are a command and no edge failed, the run gives its answer.
-    ensures complete { IsCommand (map string_bytes words.now)
+    ensures complete { (command : Command) → IsCommandLine command (map string_bytes words.now)
         → (¬ FaultsRose (S.faults source.old) (S.faults source.new)) → (¬ FaultsRose (K.faults sink.old) (K.faults sink.new))
-        → IsAnswer result.status }
+        → IsAnswer (has_input command) result.status }
 {
     let _ = rt;
-    match read_words(alloc, words) {
-        Ok(Command::Replay) => {}
+    let command = match read_words(alloc, words) {
+        Ok(command) => command,
         Err(NoCommand::Usage) => return ended_early(USAGE),
         Err(NoCommand::OutOfMemory) => return ended_early(OUT_OF_MEMORY),
-    }
-    let bytes = match read_input(alloc, source, MAX_INPUT) {
-        Ok(bytes) => bytes,
-        Err(ReadStop::Fault) => return ended_early(READ_FAULT),
-        Err(ReadStop::TooMany) => return ended_early(TOO_MANY),
-        Err(ReadStop::OutOfMemory) => return ended_early(OUT_OF_MEMORY),
     };
-    let Ok(answer) = answer_to(alloc, gate, bytes.as_slice()) else {
-        return ended_early(OUT_OF_MEMORY);
+    let answer = match answer_to(alloc, command, source, gate) {
+        Ok(answer) => answer,
+        Err(stop) => return ended_early(stop.status()),
     };
     let Answer {
         status,

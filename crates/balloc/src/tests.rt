@@ -1,9 +1,13 @@
 //! Runs of the program over edges in memory.
 
+mod gates;
+mod generated;
 mod refusals;
-mod reports;
+mod replays;
+mod schedules;
 mod statuses;
 
+use crate::closing::Closing;
 use crate::run::{Ended, run};
 use edge_io::gate::NoGate;
 use edge_io::memory::MemorySink;
@@ -14,7 +18,7 @@ use std::sync::Wait;
 use std::thread::Threads;
 
 /// More bytes than any answer here has.
-const ROOM: usize = 4096;
+const ROOM: usize = 32_768;
 
 /// The words of a command line.
 fn words_of(alloc: Global, line: &str) -> Result<Vec<String>, AllocError> {
@@ -42,14 +46,20 @@ fn run_between<R: Threads + Wait + Sync, S: Source>(
     Ok(run(rt, alloc, words.as_slice(), source, sink, &NoGate))
 }
 
-/// How `replay` ends on this input, and what it writes.
-fn replay_of<R: Threads + Wait + Sync>(
+/// How the program ends on this command line and input, and what it writes.
+fn run_on<R: Threads + Wait + Sync>(
     rt: &R,
     alloc: Global,
+    line: &str,
     input: &str,
 ) -> Result<(Ended, MemorySink), AllocError> {
     let mut source = SteadySource::new(input.as_bytes().to_vec(alloc)?);
     let mut sink = wide_sink(alloc)?;
-    let ended = run_between(rt, alloc, "replay", &mut source, &mut sink)?;
+    let ended = run_between(rt, alloc, line, &mut source, &mut sink)?;
     Ok((ended, sink))
+}
+
+/// Whether a run left a machine.
+fn is_stepped(ended: &Ended) -> bool {
+    matches!(&ended.closed, Some(Closing::Stepped(_)))
 }

@@ -1,15 +1,29 @@
-mod TallyLemmas
-mod MeasureLemmas
-mod FillLemmas
-mod SumLemmas
-mod HoldLemmas
-mod LaneLemmas
-mod FollowLemmas
-mod CountingLemmas
-mod WalkLemmas
-mod LiveLemmas
-mod RunLemmas
-mod FitLemmas
-mod ReportLemmas
-mod LanesLemmas
-mod ReplayLemmas
+pub mod AdvanceLemmas
+pub mod AnswerLemmas
+pub mod BeginLemmas
+pub mod BesideLemmas
+pub mod CheckLemmas
+pub mod CheckPutTake
+pub mod DrivenLemmas
+pub mod EndedLemmas
+pub mod EndsLemmas
+pub mod LaneAnswers
+pub mod LaneBegun
+pub mod LaneCode
+pub mod LaneGoes
+pub mod LaneKeeps
+pub mod LaneNext
+pub mod LaneParts
+pub mod LaneReads
+pub mod LaneRest
+pub mod LaneSpares
+pub mod LaneTold
+pub mod LaneWords
+pub mod OrderLemmas
+pub mod OutcomeLemmas
+pub mod PartAdvances
+pub mod RunLanes
+pub mod RunLemmas
+pub mod RunMeasures
+pub mod ScriptLemmas
+pub mod TurnLemmas

@@ -1,87 +1,228 @@
--- A lane runs, operation after operation.
-use Rattle.std.proofs.Common.{ℕ, ◌≡◌, ◌+◌, ◌<◌, ◌∷◌, ◌++◌, List, [], Option, None, replicate, length, take, get_or, refl, sym, ap, ◌∙◌, subst, append-nil, append_assoc}
-use Rattle.std.proofs.Math.ListN.{length-replicate}
-use Rattle.std.proofs.lemmas.List.{take_more}
+-- Advances of one lane on a machine, one after another.
+use Rattle.std.proofs.Common.{drop, ℕ, ◌≡◌, ◌≢◌, ◌<◌, ◌+◌, ◌==◌, Bool, true, false, cond, if◌then◌else◌, List, [], ◌∷◌, ◌++◌, length, refl, sym, ap, ◌∙◌, subst, inl, inr, arith, append_assoc}
+use Rattle.std.specs.Prelude.{All, count_by}
+use Rattle.std.proofs.lemmas.List.{append-nil}
+use Rattle.std.proofs.lemmas.List.Elements.{All-nil, All-append}
+use Rattle.std.proofs.lemmas.Bool.{true≢false}
+use Rattle.heap_geometry.specs.declared.geometry.Geometry.{Geometry}
 use Rattle.pool_model.specs.declared.event.Event.{Event}
-use Rattle.pool_model.specs.Histories.{own, Begins}
-use Rattle.pool_model.specs.Legal.{IsLegal}
-use Rattle.pool_model.specs.Plain.{PlainState}
-use Rattle.pool_model.proofs.HistoryLemmas.{own-append}
-use Rattle.trace_text.specs.declared.limits.TheConstants.{REGISTERS}
+use Rattle.pool_model.specs.Histories.{own}
 use Rattle.trace_text.specs.declared.trace.Op.{Op}
-use Rattle.lane_runner.specs.declared.registers.Held.{Held}
-use Rattle.lane_runner.specs.declared.outcome.Outcome.{Outcome}
-use Rattle.lane_runner.specs.Lane.{State, start, state_after}
-use Rattle.lane_runner.specs.Rows.{Setting, FitsRow}
-use Rattle.lane_runner.specs.Fits.{Walks}
-use Rattle.pool_model.specs.Pool.{pool_of}
-use Rattle.lane_runner.proofs.HoldLemmas.{holds-nothing}
-use Rattle.lane_runner.specs.Standing.{HoldsOwn, IsStanding, Operates, RunsTo, setting_in}
+use Rattle.errand_steps.specs.Begins.{IsIdle}
+use Rattle.errand_steps.specs.Calls.{Call, take as take_call}
+use Rattle.pool_model.proofs.HistoryLemmas.{own-append as own-both}
+use Rattle.sound_state.proofs.wins.CountLemmas.{count-append}
+use Rattle.sound_state.specs.Moves.{is_step}
+use Rattle.sound_state.specs.Runs.{Move, begins, steps}
+use Rattle.step_core.specs.Cores.{CoreFields, IsCore, errand_at}
+use Rattle.step_core.specs.Moments.{HasSeenMore}
+use Rattle.lane_engine.specs.Machines.{MovesCore}
+use Rattle.lane_engine.specs.declared.over_core.Grip.{Grip}
+use Rattle.lane_runner.specs.declared.lane.LaneState.{LaneState}
+use Rattle.lane_runner.specs.declared.stage.Stage.TheVariants as stage
+use Rattle.lane_runner.specs.Driven.{calls_of, steppers_of}
+use Rattle.lane_runner.specs.Lanes.{IsAt}
+use Rattle.lane_runner.specs.Paths.{IsBy, Leads, FirstPassed, HasAdvanced, begun_count}
+use Rattle.lane_runner.specs.Running.{HasEnded, HasPassed, HasRun, IsOnScriptOf, StandsOn}
+use Rattle.lane_runner.specs.Scripts.{script_left}
+use Rattle.lane_runner.specs.States.{IsLaneOf, progress_of}
 
--- a walk goes on by one row
-pub walks-more :
-    (setting : Setting) (from to : State) (operations : List Op) (results : List Outcome) (operation : Op) (result : Outcome) (piece : List Event)
-    → Walks setting from operations results to → FitsRow setting to operation result piece
-    → Walks setting from (operations ++ operation ∷ []) (results ++ result ∷ []) (state_after to operation result piece)
-walks-more setting from to [] [] operation result piece walks row =
-    subst (λ (s : State). Walks setting s (operation ∷ []) (result ∷ []) (state_after to operation result piece)) walks (piece, row, refl)
-walks-more setting from to [] (first ∷ results) operation result piece walks row = absurd walks
-walks-more setting from to (first ∷ operations) [] operation result piece walks row = absurd walks
-walks-more setting from to (first ∷ operations) (second ∷ results) operation result piece walks row =
-    (walks.0, walks.1, walks-more setting (state_after from first second walks.0) to operations results operation result piece walks.2 row)
+-- moves one after the other
+pub leads-append :
+    {S : Type 0} (moved : S → Move → S → Type 0) (a b c : S) (first second : List Move) → Leads moved a first b → Leads moved b second c
+    → Leads moved a (first ++ second) c
+leads-append moved a b c [] second l r = subst (λ x. Leads moved x second c) l r
+leads-append moved a b c (move ∷ first) second l r = (l.0, l.1, leads-append moved l.0 b c first second l.2 r)
 
--- before its first operation a lane stands at the start
-pub runs-none :
-    (plain : PlainState) (caller : ℕ) (registers : List (Option Held)) → own caller plain.events ≡ [] → IsLegal plain.geometry plain.events
-    → registers ≡ replicate REGISTERS None → RunsTo plain plain caller registers [] []
-runs-none plain caller registers none legal empty =
+cond-append : (b : Bool) (call : Call) (xs ys zs : List Call) → xs ≡ ys ++ zs → cond b (call ∷ xs) xs ≡ cond b (call ∷ ys) ys ++ zs
+cond-append true call xs ys zs is = ap (λ cs. call ∷ cs) is
+cond-append false call xs ys zs is = is
+
+pub calls-append : (caller : ℕ) (first second : List Move) → calls_of caller (first ++ second) ≡ calls_of caller first ++ calls_of caller second
+calls-append caller [] second = refl
+calls-append caller (begins other call ∷ first) second =
+    cond-append (other == caller) call (calls_of caller (first ++ second)) (calls_of caller first) (calls_of caller second) (calls-append caller first second)
+calls-append caller (steps other ∷ first) second = calls-append caller first second
+
+pub steppers-append : (first second : List Move) → steppers_of (first ++ second) ≡ steppers_of first ++ steppers_of second
+steppers-append [] second = refl
+steppers-append (begins other call ∷ first) second = steppers-append first second
+steppers-append (steps other ∷ first) second = ap (λ xs. other ∷ xs) (steppers-append first second)
+
+pub steps-append : (first second : List Move) → count_by is_step (first ++ second) ≡ count_by is_step first + count_by is_step second
+steps-append first second = count-append is_step first second
+
+-- more and more events are seen
+pub seen-none : (caller : ℕ) (events : List Event) → HasSeenMore caller events events
+seen-none caller events = record { more = []; seen = sym (append-nil events); not_own = refl }
+
+own-append : (caller : ℕ) (xs ys : List Event) → own caller xs ≡ [] → own caller ys ≡ [] → own caller (xs ++ ys) ≡ []
+own-append caller xs ys none also = own-both caller xs ys ∙ ap (λ zs. zs ++ own caller ys) none ∙ also
+
+pub seen-more : (caller : ℕ) (a b c : List Event) → HasSeenMore caller a b → HasSeenMore caller b c → HasSeenMore caller a c
+seen-more caller a b c h k = record {
+  more = h.more ++ k.more;
+  seen = k.seen ∙ ap (λ xs. xs ++ k.more) h.seen ∙ append_assoc a h.more k.more;
+  not_own = own-append caller h.more k.more h.not_own k.not_own;
+}
+
+-- a lane that has made no step yet
+pub ran-none :
+    (passed : ℕ → ℕ → Type 0) (c : CoreFields) (operations : List Op) (lane : LaneState Grip) → StandsOn c operations lane
+    → HasRun passed c c operations lane lane 0
+ran-none passed c operations lane stands = record {
+  heap = refl;
+  caller = refl;
+  moves = [];
+  leads = refl;
+  by_caller = All-nil (IsBy lane.caller);
+  counts = refl;
+  script = λ calls on. subst (IsOnScriptOf operations lane) (sym (append-nil calls)) on;
+  stands = stands;
+  others = λ other has apart. (refl, seen-none other c.events);
+  still = λ ended. (refl, ended);
+  gate = λ gone. gone;
+}
+
+-- it goes on
+pub ran-more :
+    (passed : ℕ → ℕ → Type 0) (a b c : CoreFields) (operations : List Op) (old mid new : LaneState Grip) (m n : ℕ)
+    → HasRun passed a b operations old mid m → HasRun passed b c operations mid new n → HasRun passed a c operations old new (m + n)
+ran-more passed a b c operations old mid new m n h k =
+    let by : All (IsBy old.caller) k.moves = subst (λ caller. All (IsBy caller) k.moves) h.caller k.by_caller in
     record {
-      state = start;
-      piece = [];
-      added = let e : plain.events ≡ plain.events ++ [] = sym (append-nil plain.events) in ap (λ events. record plain { events = events }) e;
-      own_piece = refl;
-      walks = λ turn_limit lost history begins. refl;
-      standing = record {
-        registers_are = sym empty;
-        size = ap length empty ∙ length-replicate {A = Option Held} REGISTERS None;
-        done = none;
-        unspent = refl;
-        legal = legal;
-        holds = subst (HoldsOwn (pool_of plain.events) caller) (sym empty) (holds-nothing (pool_of plain.events) caller REGISTERS);
-      };
+      heap = k.heap ∙ h.heap;
+      caller = k.caller ∙ h.caller;
+      moves = h.moves ++ k.moves;
+      leads = leads-append MovesCore a b c h.moves k.moves h.leads k.leads;
+      by_caller = All-append (IsBy old.caller) h.moves k.moves h.by_caller by;
+      counts = steps-append h.moves k.moves ∙ (let e = h.counts in let f = k.counts in cc);
+      script = λ calls on.
+          let next = k.script (calls ++ calls_of old.caller h.moves) (h.script calls on) in
+          let same : (calls ++ calls_of old.caller h.moves) ++ calls_of mid.caller k.moves ≡ calls ++ calls_of old.caller (h.moves ++ k.moves) =
+          ap (λ caller. (calls ++ calls_of old.caller h.moves) ++ calls_of caller k.moves) h.caller
+          ∙ append_assoc calls (calls_of old.caller h.moves) (calls_of old.caller k.moves)
+          ∙ ap (λ xs. calls ++ xs) (sym (calls-append old.caller h.moves k.moves)) in
+          subst (IsOnScriptOf operations new) same next;
+      stands = k.stands;
+      others = λ other has apart.
+          let first = h.others other has apart in
+          let second =
+          k.others other (subst (λ (g : Geometry). other < g.callers) (sym h.heap) has) (λ is. apart (is ∙ h.caller)) in
+          (second.0 ∙ first.0, seen-more other a.events b.events c.events first.1 second.1);
+      still = λ ended.
+          let first = h.still ended in
+          let second = k.still first.1 in
+          (omega (arith, first.0, second.0), second.1);
+      gate = λ gone. k.gate (h.gate gone);
     }
 
--- a lane that ran so far goes on by one operation
-pub runs-more :
-    (old middle new : PlainState) (caller : ℕ) (before after : List (Option Held)) (operations : List Op) (results : List Outcome)
-    (operation : Op) (result : Outcome) (run : RunsTo old middle caller before operations results)
-    → Operates middle new caller after run.state operation result
-    → RunsTo old new caller after (operations ++ operation ∷ []) (results ++ result ∷ [])
-runs-more old middle new caller before after operations results operation result run step =
-    record {
-      state = state_after run.state operation result step.piece;
-      piece = run.piece ++ step.piece;
-      added =
-          step.added ∙ ap (λ (s : PlainState). record s { events = s.events ++ step.piece }) run.added
-          ∙ ap (λ events. record old { events = events }) (append_assoc old.events run.piece step.piece);
-      own_piece = own-append caller run.piece step.piece ∙ (ap (λ xs. xs ++ own caller step.piece) run.own_piece ∙ ap (λ xs. run.piece ++ xs) step.own_piece);
-      walks = λ turn_limit lost history begins.
-          let before : Begins middle.events history = (
-            step.piece ++ begins.0,
-            begins.1 ∙ ap (λ (s : PlainState). s.events ++ begins.0) step.added ∙ append_assoc middle.events step.piece begins.0,
-          ) in
-          walks-more (setting_in history caller turn_limit lost) start run.state operations results operation result step.piece
-          (run.walks turn_limit lost history before) (step.row turn_limit lost history begins);
-      standing = step.standing;
-    }
+-- the errand of a lane between two operations is idle
+pub between-idle :
+    (c : CoreFields) (operations : List Op) (lane : LaneState Grip) → StandsOn c operations lane → lane.stage ≡ stage.Between
+    → IsIdle (errand_at c.errands lane.caller)
+between-idle c operations lane stands is =
+    let l = stands.stands.stands in
+    let at = subst (λ at. IsAt lane.caller c.events (errand_at c.errands lane.caller) l.state (progress_of (λ grip. grip.place) (λ grip. grip.need) lane).registers (drop (length lane.outcomes.items) operations) at l.added) is l.stands in
+    at.0
 
--- so does the loop over the operations
-pub runs-step :
-    (old middle new : PlainState) (caller : ℕ) (before after : List (Option Held)) (operations : List Op) (results all : List Outcome)
-    (k : ℕ) (nothing : Op) (result : Outcome) → k < length operations → all ≡ results ++ result ∷ []
-    → RunsTo old middle caller before (take k operations) results
-    → ((state : State) → IsStanding middle caller before state → Operates middle new caller after state (get_or operations k nothing) result)
-    → RunsTo old new caller after (take (k + 1) operations) all
-runs-step old middle new caller before after operations results all k nothing result within is run step =
-    rw (take_more operations k nothing within, is)
-    (runs-more old middle new caller before after (take k operations) results (get_or operations k nothing) result run (step run.state run.standing))
+-- a step is made by a caller in a call
+first-idle :
+    (c after : CoreFields) (caller : ℕ) (moves : List Move) → Leads MovesCore c (steps caller ∷ moves) after
+    → IsIdle (errand_at c.errands caller) → ⊥
+first-idle c after caller moves leads idle = true≢false (sym idle ∙ leads.1.moved.1.busy)
+
+zero≢one : ◌≡◌ {A = ℕ} 0 1 → ⊥
+zero≢one is = omega (arith, is)
+
+-- nothing of its script is left
+ended-left : (operations : List Op) (lane : LaneState Grip) → HasEnded operations lane → script_left operations lane.outcomes.items lane.stage ≡ 0
+ended-left operations lane ended = omega (arith, ended.all)
+
+-- a lane that has ended makes no step
+ended-makes_none :
+    (c after : CoreFields) (operations : List Op) (old new : LaneState Grip) (made : Bool) → StandsOn c operations old
+    → HasAdvanced MovesCore (λ c. c.events) c after old.caller operations (progress_of (λ grip. grip.place) (λ grip. grip.need) old)
+    (progress_of (λ grip. grip.place) (λ grip. grip.need) new) made
+    → HasEnded operations old → made ≡ false
+ended-makes_none c after operations old new false stands advanced ended = refl
+ended-makes_none c after operations old new true stands advanced ended =
+    let idle = between-idle c operations old stands ended.between in
+    elim advanced.goes_on [
+      | inl lt ↦ absurd (
+          let none : script_left operations old.outcomes.items old.stage ≡ 0 = ended-left operations old ended in
+          omega (arith, lt, none)
+          )
+      | inr same ↦ elim same.2 [
+        | inl stays ↦ elim stays [
+          | inl is ↦ absurd (first-idle c after old.caller [] (subst (λ moves. Leads MovesCore c moves after) is advanced.leads) idle)
+          | inr again ↦ absurd (
+              first-idle c after old.caller (begins old.caller (take_call again.0) ∷ [])
+              (subst (λ moves. Leads MovesCore c moves after) again.1 advanced.leads) idle
+              )
+        ]
+        | inr is ↦ absurd (let e = advanced.one_step in let f = ap (count_by is_step) is in zero≢one (sym f ∙ e))
+      ]
+    ]
+
+-- the lane after an advance
+stands-after :
+    (after : CoreFields) (operations : List Op) (old new : LaneState Grip) → new.caller ≡ old.caller
+    → IsCore after × (old.caller < after.geometry.callers)
+    → IsLaneOf (λ grip. grip.place) (λ grip. grip.need) after.geometry after.events (errand_at after.errands old.caller) operations new
+    → StandsOn after operations new
+stands-after after operations old new same serves lane = record {
+  core = serves.0;
+  has = subst (λ caller. caller < after.geometry.callers) (sym same) serves.1;
+  stands =
+      subst (λ caller. IsLaneOf (λ grip. grip.place) (λ grip. grip.need) after.geometry after.events (errand_at after.errands caller) operations new)
+      (sym same) lane;
+}
+
+-- an advance is a run of one step, or of none
+pub advanced-ran :
+    (passed : ℕ → ℕ → Type 0) (c after : CoreFields) (operations : List Op) (old new : LaneState Grip) (made : Bool) → StandsOn c operations old
+    → StandsOn after operations new → after.geometry ≡ c.geometry → new.caller ≡ old.caller
+    → ((other : ℕ) → other < c.geometry.callers → other ≢ old.caller
+    → (errand_at after.errands other ≡ errand_at c.errands other) × HasSeenMore other c.events after.events)
+    → HasAdvanced MovesCore (λ c. c.events) c after old.caller operations (progress_of (λ grip. grip.place) (λ grip. grip.need) old)
+    (progress_of (λ grip. grip.place) (λ grip. grip.need) new) made
+    → (made ≡ false → HasEnded operations new) → (HasPassed passed old → HasPassed passed new)
+    → HasRun passed c after operations old new (if made then 1 else 0)
+advanced-ran passed c after operations old new made stands now heap caller others advanced ends gate = record {
+  heap = heap;
+  caller = caller;
+  moves = advanced.moves;
+  leads = advanced.leads;
+  by_caller = advanced.by_caller;
+  counts = advanced.one_step;
+  script = advanced.script;
+  stands = now;
+  others = others;
+  still = λ ended.
+      let none = ended-makes_none c after operations old new made stands advanced ended in
+      (ap (λ b. if b then 1 else 0) none, ends none);
+  gate = gate;
+}
+
+-- so is one that comes after others: these are the parts of what an advance says
+pub next-ran :
+    (passed : ℕ → ℕ → Type 0) (first c after : CoreFields) (operations : List Op) (start old new : LaneState Grip) (made : ℕ) (one : Bool)
+    → HasRun passed first c operations start old made → IsCore after × (old.caller < after.geometry.callers) → after.geometry ≡ c.geometry
+    → new.caller ≡ old.caller
+    → IsLaneOf (λ grip. grip.place) (λ grip. grip.need) after.geometry after.events (errand_at after.errands old.caller) operations new
+    → ((other : ℕ) → IsCore c × (other < c.geometry.callers) → other ≢ old.caller
+    → (errand_at after.errands other ≡ errand_at c.errands other) × HasSeenMore other c.events after.events)
+    → HasAdvanced MovesCore (λ c. c.events) c after old.caller operations (progress_of (λ grip. grip.place) (λ grip. grip.need) old)
+    (progress_of (λ grip. grip.place) (λ grip. grip.need) new) one
+    → (one ≡ false → (new.stage ≡ stage.Between) × (length new.outcomes.items ≡ length operations))
+    → (FirstPassed passed old.caller (begun_count old.outcomes.items old.stage)
+    → FirstPassed passed old.caller (begun_count new.outcomes.items new.stage))
+    → HasRun passed first after operations start new (made + (if one then 1 else 0))
+next-ran passed first c after operations start old new made one before serves heap caller lane others advanced ends gate =
+    let stands = stands-after after operations old new caller serves lane in
+    let ran =
+    advanced-ran passed c after operations old new one before.stands stands heap caller (λ other has. others other (before.stands.core, has))
+    advanced (λ is. let e = ends is in record { between = e.0; all = e.1 })
+    (λ gone. subst (λ caller. FirstPassed passed caller (begun_count new.outcomes.items new.stage)) (sym caller) (gate gone)) in
+    ran-more passed first c after operations start old new made (if one then 1 else 0) before ran

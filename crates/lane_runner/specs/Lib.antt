@@ -1,7 +1,9 @@
-pub mod Lane
-pub mod Rows
-pub mod Fits
-pub mod Report
-pub mod LaneCounts
-pub mod Standing
-pub mod Replays
+pub mod Advances
+pub mod Driven
+pub mod Lanes
+pub mod Operations
+pub mod Orders
+pub mod Paths
+pub mod Running
+pub mod Scripts
+pub mod States

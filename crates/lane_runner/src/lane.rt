@@ -1,206 +1,49 @@
-//! One lane of a trace, operation by operation, over a plain pool.
+//! One lane of a trace over any engine, one atomic step after another.
 
-ghost use Rattle.std.specs.Prelude.{ℕ, ◌≡◌, ◌<◌, ◌≤◌, ◌++◌, ◌-◌, ◌^◌, ◌%◌, [], IfOk, OnOk, map, min, sum};
-ghost use Rattle.std.specs.List.{All, range_with_len};
-ghost use Rattle.pool_model.specs.Histories.{own};
-ghost use Rattle.pool_model.specs.Pool.{pool_of, block_at};
-ghost use Rattle.pool_model.specs.Plain.{word_in};
-ghost use Rattle.pool_model.specs.Legal.{IsLegal};
-ghost use Rattle.heap_geometry.specs.declared.limits.TheConstants.{LARGE_MOST, SHELVES};
+ghost use Rattle.std.specs.Prelude.{ℕ, ◌≡◌, ◌≢◌, ◌<◌, ◌≤◌, ◌+◌, ◌-◌, ◌^◌, ◌↔◌, ◌++◌, ◌∷◌, [], None, Ok, IfOk, OnErr, All, length, min, true, false, replicate, IsTrue, List};
+ghost use Rattle.std.specs.Vec.{vec_len, vec_capacity};
+ghost use Rattle.trace_text.specs.declared.limits.TheConstants.{REGISTERS};
 ghost use Rattle.trace_text.specs.declared.trace.Op.{Op};
-ghost use Rattle.trace_text.specs.declared.trace.Op.TheVariants as op;
 ghost use Rattle.trace_text.specs.Traces.{IsOp};
-ghost use Rattle.lane_runner.specs.Lane.{State, filling};
-ghost use Rattle.lane_runner.specs.Replays.{LanePassed};
-ghost use Rattle.lane_runner.specs.Standing.{OwnsWords, HoldsOwn, IsStanding, Operates, Runs};
+ghost use Rattle.errand_steps.specs.Begins.{IsBusy};
+ghost use Rattle.lane_engine.specs.Engines.{HasStepped};
+ghost use Rattle.lane_runner.specs.declared.stage.Stage.TheVariants as stage;
+ghost use Rattle.lane_runner.specs.Paths.{HasAdvanced, FirstPassed, begun_count};
+ghost use Rattle.lane_runner.specs.States.{IsLaneOf, IsNew, progress_of};
+ghost use Rattle.step_core.specs.Moments.{HasSeenMore};
 
-use crate::outcome::Outcome;
-use crate::registers::{Held, Registers};
+mod answers;
+mod begins;
+mod registers;
+
+use crate::stage::Stage;
 use edge_io::gate::Gate;
-use pool_model::plain::PlainPool;
-use pool_model::plain::answers::{PlainAlloc, PlainPut, PlainTake};
+use lane_engine::engine::{Engine, Token};
+use lane_engine::stepped::Stepped;
+use lane_outcomes::outcome::Outcome;
 use std::alloc::{AllocError, Global};
+use trace_text::limits::REGISTERS;
 use trace_text::trace::Op;
 
-/// Writes every usable word of the caller's block: word `i` with `v + i`, modulo 2^64.
-fn fill(pool: &mut PlainPool, caller: u32, held: Held, v: u64) -> Result<(), AllocError>
-    requires owned { OwnsWords (pool_of pool.old.events) caller held.place held.words }
-    requires legal { IsLegal pool.old.geometry pool.old.events }
-    ensures filled { OnOk result
-        (pool.new ≡ record pool.old { events = pool.old.events ++ filling caller held.place held.words v }) }
-    ensures legal { IsLegal pool.new.geometry pool.new.events }
-{
-    for i in 0..held.words {
-        pool.write(caller, held.place, i, v.wrapping_add(u64::from(i)))?;
-    }
-    Ok(())
-}
-
-/// The sum of the words of the caller's block, modulo 2^64. A word that wasn't written counts as 0.
-fn sum_words(pool: &PlainPool, caller: u32, held: Held) -> u64
-    requires { OwnsWords (pool_of pool.now.events) caller held.place held.words }
-    ensures { result
-        ≡ sum (map (word_in (block_at held.place (pool_of pool.now.events))) (range_with_len 0 held.words)) % 2 ^ 64 }
-{
-    let mut total: u64 = 0;
-    for i in 0..held.words {
-        total = total.wrapping_add(pool.read(caller, held.place, i));
-    }
-    total
-}
-
-/// Allocates into an empty register, and fills the block.
-fn allocate(
-    pool: &mut PlainPool,
+/// A lane: what its registers hold, the outcomes of its operations so far, and how far the next one
+/// is. `B` is a block that its caller holds.
+#[derive(Drop)]
+pub struct LaneState<B> {
     caller: u32,
-    registers: &mut Registers,
-    r: u16,
-    need: u32,
-    v: u64,
-) -> Result<Outcome, AllocError>
-    requires caller { caller < pool.old.geometry.callers }
-    requires need { need ≤ LARGE_MOST }
-    ensures operates { IfOk result (λ outcome. (state : State) → IsStanding pool.old caller registers.old state
-        → Operates pool.old pool.new caller registers.new state (op.Alloc r need v) outcome) }
-{
-    if registers.get(r).is_some() {
-        return Ok(Outcome::Skipped);
-    }
-    match pool.alloc(caller, need)? {
-        PlainAlloc::Given { place, words } => {
-            let held = Held { place, words };
-            fill(pool, caller, held, v)?;
-            registers.set(r, Some(held));
-            Ok(Outcome::Given { words, place })
-        }
-        PlainAlloc::Refused => Ok(Outcome::Refused),
-        PlainAlloc::TooLarge => unreachable!(),
-    }
+    registers: Vec<Option<B>>,
+    outcomes: Vec<Outcome>,
+    stage: Stage,
 }
 
-/// Frees the block of a full register.
-fn free(
-    pool: &mut PlainPool,
-    caller: u32,
-    registers: &mut Registers,
-    r: u16,
-) -> Result<Outcome, AllocError>
-    requires { HoldsOwn (pool_of pool.old.events) caller registers.old }
-    ensures operates { IfOk result (λ outcome. (state : State) → IsStanding pool.old caller registers.old state
-        → Operates pool.old pool.new caller registers.new state (op.Free r) outcome) }
+/// Registers that hold nothing.
+fn empty_registers<B: Token + Drop>(alloc: Global) -> Result<Vec<Option<B>>, AllocError>
+    ensures { IfOk result (λ registers. registers.items ≡ replicate REGISTERS None) }
 {
-    let Some(held) = registers.get(r) else {
-        return Ok(Outcome::Skipped);
-    };
-    pool.free(caller, held.place)?;
-    registers.set(r, None);
-    Ok(Outcome::Freed)
-}
-
-/// Fills the block of a full register.
-fn refill(
-    pool: &mut PlainPool,
-    caller: u32,
-    registers: &Registers,
-    r: u16,
-    v: u64,
-) -> Result<Outcome, AllocError>
-    requires holds { HoldsOwn (pool_of pool.old.events) caller registers.now }
-    requires legal { IsLegal pool.old.geometry pool.old.events }
-    ensures operates { IfOk result (λ outcome. (state : State) → IsStanding pool.old caller registers.now state
-        → Operates pool.old pool.new caller registers.now state (op.Fill r v) outcome) }
-{
-    let Some(held) = registers.get(r) else {
-        return Ok(Outcome::Skipped);
-    };
-    fill(pool, caller, held, v)?;
-    Ok(Outcome::Filled)
-}
-
-/// Sums the words of a full register's block.
-fn check(pool: &PlainPool, caller: u32, registers: &Registers, r: u16) -> Outcome
-    requires { HoldsOwn (pool_of pool.now.events) caller registers.now }
-    ensures { (state : State) → IsStanding pool.now caller registers.now state
-        → Operates pool.now pool.now caller registers.now state (op.Check r) result }
-{
-    match registers.get(r) {
-        Some(held) => Outcome::Sum(sum_words(pool, caller, held)),
-        None => Outcome::Skipped,
+    let mut registers = Vec::with_capacity(alloc, usize::from(REGISTERS))?;
+    for _ in 0..REGISTERS {
+        registers.push(None)?;
     }
-}
-
-/// Puts the block of a full register on a shelf where no block lies.
-fn put(
-    pool: &mut PlainPool,
-    caller: u32,
-    registers: &mut Registers,
-    r: u16,
-    shelf: u8,
-) -> Result<Outcome, AllocError>
-    requires shelf { shelf < SHELVES }
-    requires holds { HoldsOwn (pool_of pool.old.events) caller registers.old }
-    ensures operates { IfOk result (λ outcome. (state : State) → IsStanding pool.old caller registers.old state
-        → Operates pool.old pool.new caller registers.new state (op.Put r shelf) outcome) }
-{
-    let Some(held) = registers.get(r) else {
-        return Ok(Outcome::Skipped);
-    };
-    match pool.put(caller, held.place, shelf)? {
-        PlainPut::Put => {
-            registers.set(r, None);
-            Ok(Outcome::Put)
-        }
-        PlainPut::Full => Ok(Outcome::ShelfFull),
-    }
-}
-
-/// Takes the block that lies on a shelf into an empty register.
-fn take(
-    pool: &mut PlainPool,
-    caller: u32,
-    registers: &mut Registers,
-    r: u16,
-    shelf: u8,
-) -> Result<Outcome, AllocError>
-    requires caller { caller < pool.old.geometry.callers }
-    requires shelf { shelf < SHELVES }
-    ensures operates { IfOk result (λ outcome. (state : State) → IsStanding pool.old caller registers.old state
-        → Operates pool.old pool.new caller registers.new state (op.Take r shelf) outcome) }
-{
-    if registers.get(r).is_some() {
-        return Ok(Outcome::Skipped);
-    }
-    match pool.take(caller, shelf)? {
-        PlainTake::Got { place, words } => {
-            registers.set(r, Some(Held { place, words }));
-            Ok(Outcome::Took { words, place })
-        }
-        PlainTake::Empty => Ok(Outcome::ShelfEmpty),
-    }
-}
-
-/// Makes one operation of the lane.
-fn operate(
-    pool: &mut PlainPool,
-    caller: u32,
-    registers: &mut Registers,
-    operation: &Op,
-) -> Result<Outcome, AllocError>
-    requires caller { caller < pool.old.geometry.callers }
-    requires operation { IsOp operation.now }
-    requires holds { HoldsOwn (pool_of pool.old.events) caller registers.old }
-    requires legal { IsLegal pool.old.geometry pool.old.events }
-    ensures operates { IfOk result (λ outcome. (state : State) → IsStanding pool.old caller registers.old state
-        → Operates pool.old pool.new caller registers.new state operation.now outcome) }
-{
-    match *operation {
-        Op::Alloc { r, need, v } => allocate(pool, caller, registers, r, need, v),
-        Op::Free { r } => free(pool, caller, registers, r),
-        Op::Fill { r, v } => refill(pool, caller, registers, r, v),
-        Op::Check { r } => Ok(check(pool, caller, registers, r)),
-        Op::Put { r, shelf } => put(pool, caller, registers, r, shelf),
-        Op::Take { r, shelf } => take(pool, caller, registers, r, shelf),
-    }
+    Ok(registers)
 }
 
 /// The number by which a gate is told of an operation.
@@ -214,27 +57,138 @@ fn number_of(op: usize) -> u32
     }
 }
 
-/// Runs a lane that has no events yet to its end. Each operation passes the gate before it begins.
-pub fn run_lane<G: Gate>(
-    alloc: Global,
-    gate: &G,
-    pool: &mut PlainPool,
-    caller: u32,
-    operations: &[Op],
-) -> Result<Vec<Outcome>, AllocError>
-    requires caller { caller < pool.old.geometry.callers }
-    requires no_events { own caller pool.old.events ≡ [] }
-    requires legal { IsLegal pool.old.geometry pool.old.events }
-    requires operations { All IsOp operations.now }
-    ensures ran { IfOk result (λ outcomes. Runs pool.old pool.new caller operations.now outcomes.items) }
-    ensures passed { OnOk result (LanePassed (G.passed gate.now) caller operations.now) }
-{
-    let mut registers = Registers::new();
-    let mut outcomes = Vec::with_capacity(alloc, operations.len())?;
-    for (op, operation) in operations.iter().enumerate() {
-        gate.pass(caller, number_of(op));
-        let outcome = operate(pool, caller, &mut registers, operation)?;
-        outcomes.push(outcome)?;
+impl<B: Token + Drop> LaneState<B> {
+    /// The lane before its first operation: its registers are empty, and there is room for the outcome
+    /// of each operation.
+    pub fn open(alloc: Global, lane: u32, operations: &[Op]) -> Result<LaneState<B>, AllocError>
+        requires { All IsOp operations.now }
+        ensures { IfOk result (IsNew lane (length operations.now)) }
+    {
+        let registers = empty_registers(alloc)?;
+        let outcomes = Vec::with_capacity(alloc, operations.len())?;
+        Ok(LaneState {
+            caller: lane,
+            registers,
+            outcomes,
+            stage: Stage::Between,
+        })
     }
-    Ok(outcomes)
+
+    /// The outcomes of its operations so far.
+    pub fn outcomes(&self) -> &[Outcome]
+        ensures { result.now ≡ self.now.outcomes.items }
+    {
+        self.outcomes.as_slice()
+    }
+
+    /// The outcomes of its operations, at its end.
+    pub fn into_outcomes(self) -> Vec<Outcome>
+        ensures { result ≡ self.outcomes }
+    {
+        let LaneState { outcomes, .. } = self;
+        outcomes
+    }
+
+    /// Whether no operation is under way.
+    fn is_between(&self) -> bool
+        ensures { IsTrue result ↔ self.now.stage ≡ stage.Between }
+    {
+        matches!(self.stage, Stage::Between)
+    }
+
+    /// Ends the operation at hand with its outcome, for which there is room.
+    fn finish(&mut self, outcome: Outcome)
+        requires { length self.old.outcomes.items < vec_capacity self.old.outcomes }
+        ensures caller { self.new.caller ≡ self.old.caller }
+        ensures registers { self.new.registers ≡ self.old.registers }
+        ensures outcomes { self.new.outcomes.items ≡ self.old.outcomes.items ++ outcome ∷ [] }
+        ensures room { vec_capacity self.new.outcomes ≡ vec_capacity self.old.outcomes }
+        ensures stage { self.new.stage ≡ stage.Between }
+    {
+        self.outcomes.push_reserved(outcome);
+        self.stage = Stage::Between;
+    }
+
+    /// Begins the operations that are next, up to the first one that takes a step; where an operation is
+    /// under way nothing begins.
+    fn begin_next<E: Engine<Held = B>, G: Gate>(
+        &mut self,
+        engine: &mut E,
+        operations: &[Op],
+        gate: &G,
+    )
+        requires serves { E.serves engine.old self.old.caller }
+        requires operations { All IsOp operations.now }
+        requires lane { IsLaneOf B.place_of B.need_of (E.geometry_of engine.old) (E.events engine.old)
+            (E.errand_of engine.old self.old.caller) operations.now self.old }
+        ensures serves { (other : ℕ) → E.serves engine.old other → E.serves engine.new other }
+        ensures base { E.runs_on engine.new ≡ E.runs_on engine.old }
+        ensures geometry { E.geometry_of engine.new ≡ E.geometry_of engine.old }
+        ensures events { E.events engine.new ≡ E.events engine.old }
+        ensures caller { self.new.caller ≡ self.old.caller }
+        ensures lane { IsLaneOf B.place_of B.need_of (E.geometry_of engine.new) (E.events engine.new)
+            (E.errand_of engine.new self.old.caller) operations.now self.new }
+        ensures others { (other : ℕ) → E.serves engine.old other → other ≢ self.old.caller
+            → E.errand_of engine.new other ≡ E.errand_of engine.old other }
+        ensures advanced { HasAdvanced E.moved E.events engine.old engine.new self.old.caller operations.now
+            (progress_of B.place_of B.need_of self.old) (progress_of B.place_of B.need_of self.new) false }
+        ensures ended { self.new.stage ≡ stage.Between → length self.new.outcomes.items ≡ length operations.now }
+        ensures passed { FirstPassed (G.passed gate.now) self.old.caller (begun_count self.old.outcomes.items self.old.stage)
+            → FirstPassed (G.passed gate.now) self.old.caller (begun_count self.new.outcomes.items self.new.stage) }
+    {
+        if !self.is_between() {
+            return;
+        }
+        for op in self.outcomes.len()..operations.len() {
+            gate.pass(self.caller, number_of(op));
+            self.begin(engine, operations[op]);
+            if !self.is_between() {
+                return;
+            }
+        }
+    }
+
+    /// Makes one atomic step of the lane, and answers true; or answers false where no operation is under
+    /// way and none is left that takes a step. Before the step it begins the next operation where none is
+    /// under way. Each operation passes the gate before it begins, also one that takes no step, which has
+    /// its outcome here. A take that missed the shelf's block is tried again. No memory is taken but what
+    /// the engine takes: where it finds none no step is made, an operation that began stays under way,
+    /// and the next call makes its step.
+    pub fn advance<E: Engine<Held = B>, G: Gate>(
+        &mut self,
+        engine: &mut E,
+        operations: &[Op],
+        gate: &G,
+    ) -> Result<bool, AllocError>
+        requires serves { E.serves engine.old self.old.caller }
+        requires operations { All IsOp operations.now }
+        requires lane { IsLaneOf B.place_of B.need_of (E.geometry_of engine.old) (E.events engine.old)
+            (E.errand_of engine.old self.old.caller) operations.now self.old }
+        ensures serves { (other : ℕ) → E.serves engine.old other → E.serves engine.new other }
+        ensures base { E.runs_on engine.new ≡ E.runs_on engine.old }
+        ensures geometry { E.geometry_of engine.new ≡ E.geometry_of engine.old }
+        ensures caller { self.new.caller ≡ self.old.caller }
+        ensures lane { IsLaneOf B.place_of B.need_of (E.geometry_of engine.new) (E.events engine.new)
+            (E.errand_of engine.new self.old.caller) operations.now self.new }
+        ensures others { (other : ℕ) → E.serves engine.old other → other ≢ self.old.caller
+            → (E.errand_of engine.new other ≡ E.errand_of engine.old other)
+            × HasSeenMore other (E.events engine.old) (E.events engine.new) }
+        ensures advanced { IfOk result (λ made. HasAdvanced E.moved E.events engine.old engine.new self.old.caller operations.now
+            (progress_of B.place_of B.need_of self.old) (progress_of B.place_of B.need_of self.new) made) }
+        ensures failed { OnErr result (HasAdvanced E.moved E.events engine.old engine.new self.old.caller operations.now
+            (progress_of B.place_of B.need_of self.old) (progress_of B.place_of B.need_of self.new) false) }
+        ensures ended { result ≡ Ok false → (self.new.stage ≡ stage.Between) × (length self.new.outcomes.items ≡ length operations.now) }
+        ensures passed { FirstPassed (G.passed gate.now) self.old.caller (begun_count self.old.outcomes.items self.old.stage)
+            → FirstPassed (G.passed gate.now) self.old.caller (begun_count self.new.outcomes.items self.new.stage) }
+        ensures fails { OnErr result E.may_fail }
+    {
+        self.begin_next(engine, operations, gate);
+        if self.is_between() {
+            return Ok(false);
+        }
+        let told = engine.step(self.caller)?;
+        let op = self.outcomes.len();
+        self.answer(engine, operations[op], told);
+        Ok(true)
+    }
 }

@@ -1,29 +1,67 @@
-//! Laws of fitting outcomes, on functions that do nothing.
+//! Laws of lanes, on functions that do nothing.
 
-ghost use Rattle.std.specs.Prelude.{ℕ, ◌≡◌, ◌≤◌, ◌++◌, List, []};
+ghost use Rattle.std.specs.Prelude.{ℕ, ◌≡◌, ◌≤◌, [], List, None, Option, length, replicate};
 ghost use Rattle.heap_geometry.specs.declared.geometry.Geometry.{Geometry};
 ghost use Rattle.pool_model.specs.declared.event.Event.{Event};
 ghost use Rattle.pool_model.specs.Histories.{own};
-ghost use Rattle.pool_model.specs.Pool.{pool_of};
-ghost use Rattle.pool_model.specs.Legal.{IsLegalWithoutCounts};
+ghost use Rattle.pool_model.specs.Legal.{IsLegal};
+ghost use Rattle.errand_steps.specs.Begins.{IsIdle};
+ghost use Rattle.errand_steps.specs.Calls.{Call};
+ghost use Rattle.errand_steps.specs.Errands.{ErrandFields};
+ghost use Rattle.trace_text.specs.declared.limits.TheConstants.{REGISTERS};
 ghost use Rattle.trace_text.specs.declared.trace.Op.{Op};
-ghost use Rattle.lane_runner.specs.declared.outcome.Outcome.{Outcome};
-ghost use Rattle.lane_runner.specs.Lane.{State, start};
-ghost use Rattle.lane_runner.specs.Rows.{Setting, Moment};
-ghost use Rattle.lane_runner.specs.Fits.{Fits, Walks};
-ghost use Rattle.lane_runner.specs.Standing.{HoldsOwn};
+ghost use Rattle.lane_outcomes.specs.declared.outcome.Outcome.{Outcome};
+ghost use Rattle.lane_outcomes.specs.declared.registers.Held.{Held};
+ghost use Rattle.lane_outcomes.specs.Fits.{Fits};
+ghost use Rattle.lane_outcomes.specs.Standing.{setting_in};
+ghost use Rattle.step_core.specs.Moments.{HasSeenMore};
+ghost use Rattle.lane_runner.specs.Lanes.{IsLane};
+ghost use Rattle.lane_runner.specs.Paths.{held_blocks};
+ghost use Rattle.lane_runner.specs.Scripts.{IsOnScript, Scripts};
+ghost use Rattle.lane_runner.specs.States.{IsLaneOf, IsNew};
+ghost use Rattle.lane_runner.specs.declared.lane.LaneState.{LaneState};
+ghost use Rattle.lane_runner.specs.declared.stage.Stage.{Stage};
+ghost use Rattle.lane_runner.specs.declared.stage.Stage.TheVariants.{Between};
 
-/// A lane's outcomes still fit when a history goes on with events of other callers.
-pub fn outcomes_fit_on()
-    ensures { (setting : Setting) (rest : List Event) (lost : ℕ) (operations : List Op) (outcomes : List Outcome)
-        → setting.lost ≤ lost → own setting.caller rest ≡ [] → Fits setting operations outcomes
-        → Fits (record setting { history = setting.history ++ rest; lost = lost }) operations outcomes }
+use crate::lane::LaneState;
+use lane_engine::engine::Token;
+
+/// A new lane stands where its caller is in no call and has no event, and it has begun no call.
+pub fn new_lanes_stand<B: Token>()
+    ensures stands { (g : Geometry) (caller : ℕ) (events : List Event) (e : ErrandFields) (operations : List Op) (lane : LaneState B)
+        → IsNew caller (length operations) lane → own caller events ≡ [] → IsIdle e
+        → IsLaneOf B.place_of B.need_of g events e operations lane }
+    ensures script { (caller count : ℕ) (operations : List Op) (lane : LaneState B) → IsNew caller count lane
+        → IsOnScript operations (held_blocks B.place_of B.need_of lane.registers.items) lane.outcomes.items lane.stage [] }
 {}
 
-/// Whatever other callers did in between: at each moment at which a lane has made exactly its events so
-/// far, its full registers hold blocks that it owns, each with its words, and no two the same block.
-pub fn registers_hold_own_blocks()
-    ensures { (g : Geometry) (setting : Setting) (operations : List Op) (outcomes : List Outcome) (state : State)
-        → IsLegalWithoutCounts g setting.history → Walks setting start operations outcomes state
-        → (moment : Moment setting state.done) → HoldsOwn (pool_of moment.before) setting.caller state.registers }
+/// A lane stands as it stood, whatever others did in the meantime.
+pub fn lanes_stand_beside()
+    ensures { (g : Geometry) (caller : ℕ) (before after : List Event) (e : ErrandFields) (operations : List Op)
+        (registers : List (Option Held)) (results : List Outcome) (at : Stage)
+        → IsLane g caller before e operations registers results at → HasSeenMore caller before after → IsLegal g after
+        → IsLane g caller after e operations registers results at }
+{}
+
+/// So does one with its blocks in hand.
+pub fn lanes_keep_their_blocks<B: Token>()
+    ensures { (g : Geometry) (before after : List Event) (e : ErrandFields) (operations : List Op) (lane : LaneState B)
+        → IsLaneOf B.place_of B.need_of g before e operations lane → HasSeenMore lane.caller before after → IsLegal g after
+        → IsLaneOf B.place_of B.need_of g after e operations lane }
+{}
+
+/// A lane that has the outcomes of all its operations: its caller is in no call, the outcomes fit the
+/// events that are seen, however many exchanges were lost beside those of its caller, and the calls that
+/// it began are those of its operations with these outcomes.
+pub fn ended_lanes_fit()
+    ensures idle { (g : Geometry) (caller : ℕ) (events : List Event) (e : ErrandFields) (operations : List Op)
+        (registers : List (Option Held)) (results : List Outcome)
+        → IsLane g caller events e operations registers results Between → IsIdle e }
+    ensures fits { (g : Geometry) (caller : ℕ) (events : List Event) (e : ErrandFields) (operations : List Op)
+        (registers : List (Option Held)) (results : List Outcome) (lost : ℕ)
+        → IsLane g caller events e operations registers results Between → length results ≡ length operations → e.lost ≤ lost
+        → Fits (setting_in events caller g.turn_limit lost) operations results }
+    ensures script { (operations : List Op) (registers : List (Option Held)) (results : List Outcome) (calls : List Call)
+        → length results ≡ length operations → IsOnScript operations registers results Between calls
+        → Scripts (replicate REGISTERS None) operations results calls }
 {}

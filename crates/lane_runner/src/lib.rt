@@ -1,13 +1,7 @@
-//! The lanes of a trace over a heap: their outcomes, what it means that outcomes fit a history, and the
-//! text of the report.
+//! The lanes of a trace over an engine: each operation as its calls, each call as its atomic steps.
 #![tactic(auto)]
 
-mod lane;
+pub mod lane;
 pub mod laws;
-pub mod live;
-pub mod outcome;
-mod registers;
-pub mod replay;
-pub mod report;
-#[cfg(test)]
-mod tests;
+pub mod run_core;
+mod stage;

@@ -6,7 +6,7 @@ mod fields;
 pub mod laws;
 pub mod limits;
 mod lines;
-mod numbers;
+pub mod numbers;
 pub mod printing;
 pub mod reading;
 mod stage;

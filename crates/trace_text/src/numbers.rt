@@ -33,7 +33,7 @@ fn are_digits(field: &[u8]) -> bool
 }
 
 /// The number that a field is, below 2^64.
-pub(crate) fn number(field: &[u8]) -> Option<u64>
+pub fn number(field: &[u8]) -> Option<u64>
     ensures value { result ≡ number_in field.now }
 
     // The field is the decimal digits of the number, and each number is read from its digits.

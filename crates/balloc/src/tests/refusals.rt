@@ -1,6 +1,6 @@
 //! Where a text is refused, and for which cause.
 
-use super::replay_of;
+use super::run_on;
 use crate::status::REFUSED;
 use std::test::Fail;
 
@@ -26,10 +26,12 @@ fn refused_texts_are_told(rt: HostRuntime) -> Result<(), Fail> {
         ("heap 4 1 2\nlane\norder 1 5\nend\n", "line 3 cause 7\n"),
     ];
     for (input, refusal) in cases {
-        let (ended, sink) = replay_of(&rt, rt.alloc(), input)?;
-        assert_eq!(rt; ended.status, REFUSED, "{input}");
-        assert!(rt; ended.closed.is_none(), "{input}");
-        assert_eq!(rt; sink.bytes(), refusal.as_bytes(), "{input}");
+        for line in ["replay", "schedule"] {
+            let (ended, sink) = run_on(&rt, rt.alloc(), line, input)?;
+            assert_eq!(rt; ended.status, REFUSED, "{line}: {input}");
+            assert!(rt; ended.closed.is_none(), "{line}: {input}");
+            assert_eq!(rt; sink.bytes(), refusal.as_bytes(), "{line}: {input}");
+        }
     }
     Ok(())
 }

@@ -1,0 +1,56 @@
+-- The heap that a run leaves.
+use Rattle.std.specs.Prelude.{ℕ, ◌∷◌, List, [], codes}
+use Rattle.std.specs.Fmt.{decimal}
+use Rattle.heap_geometry.specs.declared.geometry.Geometry.{Geometry}
+use Rattle.pool_model.specs.declared.event.Event.{Event}
+use Rattle.errand_steps.specs.Errands.{ErrandFields}
+use Rattle.sound_state.specs.Sums.{callers_sum}
+use Rattle.step_core.specs.Cores.{CoreFields, errand_at}
+use Rattle.trace_text.specs.Text.{line}
+use Rattle.trace_text.specs.declared.trace.OrderRun.{OrderRun}
+use Rattle.trace_text.specs.declared.trace.Trace.{Trace}
+use Rattle.lane_outcomes.specs.declared.outcome.Outcome.{Outcome}
+use Rattle.lane_runner.specs.Driven.{IsDriven, lost_by_all}
+use Rattle.balloc.specs.declared.closing.Closing.{Closing}
+use Rattle.balloc.specs.declared.closing.Closing.TheVariants.{Plain, Stepped}
+
+-- the numbers that the heap was opened with
+abbrev pub geometry_of : Closing → Geometry
+geometry_of (Plain pool) = pool.geometry
+geometry_of (Stepped core) = core.geometry
+
+-- its history
+abbrev pub history_of : Closing → List Event
+history_of (Plain pool) = pool.events
+history_of (Stepped core) = core.events
+
+-- the exchanges that its callers lost, as a whole number
+abbrev pub lost_of : Closing → ℕ
+lost_of (Plain pool) = 0
+lost_of (Stepped core) = lost_by_all core
+
+-- a machine kept the heap: the lanes of the trace ran on it from its opening on, in the order of these order runs
+-- and then one lane after another, and had these outcomes
+abbrev pub IsDrivenOn : Closing → Trace → List OrderRun → List (List Outcome) → Type 0
+IsDrivenOn (Plain pool) trace orders outcomes = ⊥
+IsDrivenOn (Stepped core) trace orders outcomes = IsDriven trace orders core outcomes
+
+-- what all callers of a machine cleared, as a whole number
+abbrev pub cleared_of : ErrandFields → ℕ
+cleared_of errand = errand.cleared
+
+abbrev pub cleared_by_all : CoreFields → ℕ
+cleared_by_all core = callers_sum core.geometry cleared_of (errand_at core.errands)
+
+-- the line of the steps that a machine made, and of what its callers lost and cleared
+abbrev pub steps_line : CoreFields → List ℕ
+steps_line core =
+    line (
+    codes "steps" ∷ decimal core.steps ∷ codes "lost" ∷ decimal (lost_by_all core) ∷ codes "cleared"
+    ∷ decimal (cleared_by_all core) ∷ []
+    )
+
+-- a pool makes no steps
+abbrev pub steps_of : Closing → List ℕ
+steps_of (Plain pool) = []
+steps_of (Stepped core) = steps_line core

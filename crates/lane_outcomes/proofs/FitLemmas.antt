@@ -1,0 +1,114 @@
+-- Outcomes that fit a history still fit it when other callers' events are added.
+use Rattle.std.proofs.Common.{ℕ, ◌≡◌, ◌≤◌, ◌∷◌, ◌++◌, List, [], Bool, true, false, Option, Some, None, ap, ◌∙◌, append_assoc, append-nil, arith}
+use Rattle.pool_model.specs.declared.event.Event.{Event}
+use Rattle.pool_model.specs.Histories.{own, Begins}
+use Rattle.pool_model.proofs.HistoryLemmas.{own-append}
+use Rattle.trace_text.specs.declared.trace.Op.{Op}
+use Rattle.trace_text.specs.declared.trace.Op.TheVariants as op
+use Rattle.lane_outcomes.specs.declared.registers.Held.{Held}
+use Rattle.lane_outcomes.specs.declared.outcome.Outcome.{Outcome}
+use Rattle.lane_outcomes.specs.declared.outcome.Outcome.TheVariants as outcome
+use Rattle.lane_outcomes.specs.Lane.{State, state_after, held_in}
+use Rattle.lane_outcomes.specs.Rows.{Setting, Moment, AllocRow, FreeRow, FillRow, CheckRow, PutRow, TakeRow, FitsRow, IsSpent}
+use Rattle.lane_outcomes.specs.Fits.{Walks, Fits}
+
+-- the setting with a longer history, and more exchanges lost
+abbrev pub later : Setting → List Event → ℕ → Setting
+later setting rest lost = record setting { history = setting.history ++ rest; lost = lost }
+
+-- a beginning of a history is one of a longer history
+pub begins-longer : (before history rest : List Event) → Begins before history → Begins before (history ++ rest)
+begins-longer before history rest (more, is) =
+    (more ++ rest, ap (λ xs. xs ++ rest) is ∙ append_assoc before more rest)
+
+-- and a moment in a history is one in a longer history
+abbrev pub moment-later : (setting : Setting) (rest : List Event) (lost : ℕ) (done : List Event) → Moment setting done → Moment (later setting rest lost) done
+moment-later setting rest lost done moment =
+    record {
+      before = moment.before;
+      begins = begins-longer moment.before setting.history rest moment.begins;
+      own_done = moment.own_done;
+    }
+
+spent-later :
+    (setting : Setting) (rest : List Event) (lost : ℕ) → setting.lost ≤ lost → (state : State) (need : ℕ) (piece : List Event) (spent : Bool)
+    → IsSpent setting state need piece spent → IsSpent (later setting rest lost) state need piece spent
+spent-later setting rest lost more state need piece true row = row
+spent-later setting rest lost more state need piece false row = (row.0, omega (arith, row.1))
+
+alloc-later :
+    (setting : Setting) (rest : List Event) (lost : ℕ) → setting.lost ≤ lost
+    → (state : State) (need v : ℕ) (held : Option Held) (result : Outcome) (piece : List Event)
+    → AllocRow setting state need v held result piece → AllocRow (later setting rest lost) state need v held result piece
+alloc-later setting rest lost more state need v None outcome.Spent piece row = spent-later setting rest lost more state need piece state.spent row
+alloc-later setting rest lost more state need v held result piece row = row
+
+free-later :
+    (setting : Setting) (rest : List Event) (lost : ℕ) (held : Option Held) (result : Outcome) (piece : List Event)
+    → FreeRow setting held result piece → FreeRow (later setting rest lost) held result piece
+free-later setting rest lost held result piece row = row
+
+fill-later :
+    (setting : Setting) (rest : List Event) (lost v : ℕ) (held : Option Held) (result : Outcome) (piece : List Event)
+    → FillRow setting v held result piece → FillRow (later setting rest lost) v held result piece
+fill-later setting rest lost v held result piece row = row
+
+check-later :
+    (setting : Setting) (rest : List Event) (lost : ℕ) (state : State) (held : Option Held) (result : Outcome) (piece : List Event)
+    → CheckRow setting state held result piece → CheckRow (later setting rest lost) state held result piece
+check-later setting rest lost state (Some held) (outcome.Sum total) piece row =
+    (row.0, moment-later setting rest lost state.done row.1, row.2, row.3, row.4)
+check-later setting rest lost state held result piece row = row
+
+put-later :
+    (setting : Setting) (rest : List Event) (lost : ℕ) (state : State) (shelf : ℕ) (held : Option Held) (result : Outcome) (piece : List Event)
+    → PutRow setting state shelf held result piece → PutRow (later setting rest lost) state shelf held result piece
+put-later setting rest lost state shelf (Some held) outcome.ShelfFull piece row =
+    (row.0, moment-later setting rest lost state.done row.1, row.2)
+put-later setting rest lost state shelf held result piece row = row
+
+take-later :
+    (setting : Setting) (rest : List Event) (lost : ℕ) (state : State) (shelf : ℕ) (held : Option Held) (result : Outcome) (piece : List Event)
+    → TakeRow setting state shelf held result piece → TakeRow (later setting rest lost) state shelf held result piece
+take-later setting rest lost state shelf None (outcome.Took words place) piece row =
+    (row.0, moment-later setting rest lost state.done row.1, row.2, begins-longer (row.1.before ++ piece) setting.history rest row.3, row.4, row.5)
+take-later setting rest lost state shelf held result piece row = row
+
+-- a row that fits still fits
+pub row-later :
+    (setting : Setting) (rest : List Event) (lost : ℕ) → setting.lost ≤ lost
+    → (state : State) (operation : Op) (result : Outcome) (piece : List Event)
+    → FitsRow setting state operation result piece → FitsRow (later setting rest lost) state operation result piece
+row-later setting rest lost more state (op.Alloc r need v) result piece row = alloc-later setting rest lost more state need v (held_in state.registers r) result piece row
+row-later setting rest lost more state (op.Free r) result piece row = free-later setting rest lost (held_in state.registers r) result piece row
+row-later setting rest lost more state (op.Fill r v) result piece row = fill-later setting rest lost v (held_in state.registers r) result piece row
+row-later setting rest lost more state (op.Check r) result piece row = check-later setting rest lost state (held_in state.registers r) result piece row
+row-later setting rest lost more state (op.Put r shelf) result piece row = put-later setting rest lost state shelf (held_in state.registers r) result piece row
+row-later setting rest lost more state (op.Take r shelf) result piece row = take-later setting rest lost state shelf (held_in state.registers r) result piece row
+
+-- and so does a walk
+pub walks-later :
+    (setting : Setting) (rest : List Event) (lost : ℕ) → setting.lost ≤ lost
+    → (from to : State) (operations : List Op) (results : List Outcome)
+    → Walks setting from operations results to → Walks (later setting rest lost) from operations results to
+walks-later setting rest lost more from to [] [] walks = walks
+walks-later setting rest lost more from to [] (result ∷ results) walks = walks
+walks-later setting rest lost more from to (operation ∷ operations) [] walks = walks
+walks-later setting rest lost more from to (operation ∷ operations) (result ∷ results) walks = (
+  walks.0,
+  row-later setting rest lost more from operation result walks.0 walks.1,
+  walks-later setting rest lost more (state_after from operation result walks.0) to operations results walks.2,
+)
+
+-- the outcomes of a lane fit a history that other callers went on with
+pub fits-later :
+    (setting : Setting) (rest : List Event) (lost : ℕ) (operations : List Op) (results : List Outcome)
+    → setting.lost ≤ lost → own setting.caller rest ≡ [] → Fits setting operations results → Fits (later setting rest lost) operations results
+fits-later setting rest lost operations results more none fits =
+    record {
+      end = fits.end;
+      walks = walks-later setting rest lost more _ fits.end operations results fits.walks;
+      all_used =
+          own-append setting.caller setting.history rest ∙ (ap (λ xs. own setting.caller setting.history ++ xs) none
+          ∙ (append-nil (own setting.caller setting.history) ∙ fits.all_used));
+    }

@@ -1,0 +1,13 @@
+pub mod TallyLemmas
+pub mod MeasureLemmas
+pub mod FillLemmas
+pub mod HoldLemmas
+pub mod NeedLemmas
+pub mod FollowLemmas
+pub mod CountingLemmas
+pub mod WalkLemmas
+pub mod LiveLemmas
+pub mod RunLemmas
+pub mod FitLemmas
+pub mod ReportLemmas
+pub mod LanesLemmas

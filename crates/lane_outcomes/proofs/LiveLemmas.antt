@@ -1,0 +1,186 @@
+-- What lanes were given less what they freed is what is live.
+use Rattle.std.proofs.Common.{ℕ, suc, ◌≡◌, ◌+◌, ◌-◌, ◌*◌, ◌^◌, ◌<◌, ◌≤◌, List, [], ◌∷◌, Option, Some, None, Vec, Global, map, min, length, replicate, refl, sym, ◌∙◌, subst, arith, append-nil}
+use Rattle.std.specs.List.{AllByRecursion}
+use Rattle.std.proofs.Math.Pow.{pow_mono}
+use Rattle.heap_geometry.specs.declared.geometry.Geometry.{Geometry}
+use Rattle.heap_geometry.specs.declared.need.Need.{Need}
+use Rattle.heap_geometry.specs.declared.need.Need.TheVariants.{Small, Large, TooLarge}
+use Rattle.heap_geometry.specs.declared.limits.TheConstants.{CLASSES}
+use Rattle.heap_geometry.specs.Geometry.{IsChecked}
+use Rattle.heap_geometry.specs.Need.{IsNeed, need_of, usable_words}
+use Rattle.pool_model.specs.declared.event.Event.{Event}
+use Rattle.pool_model.specs.Pool.{pool_of, live_words}
+use Rattle.pool_model.specs.Legal.{IsLegalWithoutCounts}
+use Rattle.pool_model.proofs.CapacityLemmas.{live-fits}
+use Rattle.pool_model.proofs.NeedOfLemmas.{need_of-within}
+use Rattle.trace_text.specs.declared.limits.TheConstants.{REGISTERS, MAX_LANES}
+use Rattle.trace_text.specs.declared.trace.Op.{Op}
+use Rattle.trace_text.specs.declared.trace.Op.TheVariants as op
+use Rattle.lane_outcomes.specs.declared.registers.Held.{Held}
+use Rattle.lane_outcomes.specs.declared.outcome.Outcome.{Outcome}
+use Rattle.lane_outcomes.specs.declared.outcome.Outcome.TheVariants as outcome
+use Rattle.lane_outcomes.specs.declared.live.Amount.{Amount}
+use Rattle.lane_outcomes.specs.declared.live.TheConstants.{NOTHING}
+use Rattle.lane_outcomes.specs.Lane.{State, start, held_in, state_after}
+use Rattle.lane_outcomes.specs.Rows.{Setting, Moment, AllocRow, FitsRow}
+use Rattle.lane_outcomes.specs.Fits.{Walks, Fits, LanesFit, OutcomesFit}
+use Rattle.lane_outcomes.specs.LaneCounts.{words_given, count_with, as_one, as_words, lane_given, lane_freed, lanes_given, lanes_freed, GrowsBy}
+use Rattle.lane_outcomes.specs.Standing.{HoldsOwn}
+use Rattle.lane_outcomes.proofs.HoldLemmas.{holds-nothing}
+use Rattle.lane_outcomes.proofs.FollowLemmas.{FollowsAt}
+use Rattle.lane_outcomes.proofs.WalkLemmas.{walk-after}
+use Rattle.lane_outcomes.proofs.TallyLemmas.{tally, of_caller, tally-none, sum_from, partition}
+use Rattle.lane_outcomes.proofs.MeasureLemmas.{give_at, free_at, measure, measured, measure-blocks, measure-words}
+
+-- what a lane's events gave and freed in the whole history
+record IsLaneTally (f : ℕ → ℕ) (setting : Setting) (operations : List Op) (results : List Outcome) : Type 0 where
+  pub given : tally (of_caller setting.caller (give_at f)) [] setting.history ≡ lane_given f operations results
+  pub freed : tally (of_caller setting.caller (free_at f)) [] setting.history ≡ lane_freed f (replicate REGISTERS None) operations results
+
+-- a lane before its first event
+at-start : (f : ℕ → ℕ) (setting : Setting) → FollowsAt f setting.history setting.caller [] (replicate REGISTERS None) 0 0
+at-start f setting =
+    λ before begins own_is. record {
+      holds = holds-nothing (pool_of before) setting.caller REGISTERS;
+      given_is = tally-none (give_at f) setting.caller [] before own_is;
+      freed_is = tally-none (free_at f) setting.caller [] before own_is;
+    }
+
+lane-tally :
+    (f : ℕ → ℕ) (g : Geometry) (setting : Setting) (operations : List Op) (results : List Outcome) → IsLegalWithoutCounts g setting.history
+    → Fits setting operations results → IsLaneTally f setting operations results
+lane-tally f g setting operations results legal fits =
+    let ended = walk-after f g setting start fits.end operations results 0 0 legal fits.walks (at-start f setting) setting.history
+    ([], sym (append-nil setting.history)) fits.all_used in
+    record { given = omega (arith, ended.given_is); freed = omega (arith, ended.freed_is) }
+
+-- the registers of a lane hold its blocks
+pub registers-hold :
+    (g : Geometry) (setting : Setting) (operations : List Op) (results : List Outcome) (state : State) → IsLegalWithoutCounts g setting.history
+    → Walks setting start operations results state → (moment : Moment setting state.done)
+    → HoldsOwn (pool_of moment.before) setting.caller state.registers
+registers-hold g setting operations results state legal walks moment =
+    (walk-after as_one g setting start state operations results 0 0 legal walks (at-start as_one setting) moment.before moment.begins moment.own_done).holds
+
+-- what all lanes gave and freed
+record AreLaneTallies (f : ℕ → ℕ) (history : List Event) (lane : ℕ) (lanes : List (List Op)) (outcomes : List (List Outcome)) : Type 0 where
+  pub given : sum_from (λ caller. tally (of_caller caller (give_at f)) [] history) lane (length lanes) ≡ lanes_given f lanes outcomes
+  pub freed : sum_from (λ caller. tally (of_caller caller (free_at f)) [] history) lane (length lanes) ≡ lanes_freed f lanes outcomes
+
+lane-tallies :
+    (f : ℕ → ℕ) (g : Geometry) (history : List Event) (lost lane : ℕ) (lanes : List (List Op)) (outcomes : List (List Outcome))
+    → IsLegalWithoutCounts g history → LanesFit g history lost lane lanes outcomes → AreLaneTallies f history lane lanes outcomes
+lane-tallies f g history lost lane [] [] legal fit = record { given = refl; freed = refl }
+lane-tallies f g history lost lane [] (results ∷ outcomes) legal fit = absurd fit
+lane-tallies f g history lost lane (operations ∷ lanes) [] legal fit = absurd fit
+lane-tallies f g history lost lane (operations ∷ lanes) (results ∷ outcomes) legal fit =
+    let first = lane-tally f g (record { caller = lane; turn_limit = g.turn_limit; history = history; lost = lost }) operations results legal fit.0 in
+    let others = lane-tallies f g history lost (suc lane) lanes outcomes legal fit.1 in
+    record { given = omega (arith, first.given, others.given); freed = omega (arith, first.freed, others.freed) }
+
+-- what is live and what the lanes freed are together what they were given
+pub live-total :
+    (f : ℕ → ℕ) (g : Geometry) (history : List Event) (lost : ℕ) (lanes : List (List Op)) (outcomes : List (List Outcome))
+    → IsLegalWithoutCounts g history → OutcomesFit g history lost lanes outcomes
+    → measure f (pool_of history) + lanes_freed f lanes outcomes ≡ lanes_given f lanes outcomes
+live-total f g history lost lanes outcomes legal fit =
+    let tallies = lane-tallies f g history lost 0 lanes outcomes legal fit.lanes_fit in
+    let gives = partition (give_at f) (length lanes) [] history fit.callers in
+    let frees = partition (free_at f) (length lanes) [] history fit.callers in
+    let all = measured f g history legal in
+    omega (arith, tallies.given, tallies.freed, gives, frees, all)
+
+-- no block has more words than a large one may have
+words-bound : (n : Need) → IsNeed n → usable_words n ≤ 2 ^ 18
+words-bound (Small class) within =
+    let below : class + 1 ≤ CLASSES = omega arith in
+    let power : 2 ^ (class + 1) ≤ 2 ^ CLASSES = pow_mono below in
+    omega arith
+words-bound (Large units) within = omega (arith, within.1)
+words-bound TooLarge within = omega arith
+
+-- a count that no block passes
+abbrev IsFew : (ℕ → ℕ) → Type 0
+IsFew f = (need : ℕ) → f (usable_words (need_of need)) ≤ 2 ^ 18
+
+few-alloc :
+    (f : ℕ → ℕ) (setting : Setting) (state : State) (r need v : ℕ) (held : Option Held) (result : Outcome) (piece : List Event) → IsFew f
+    → AllocRow setting state need v held result piece → count_with f (words_given (op.Alloc r need v) result) ≤ 2 ^ 18
+few-alloc f setting state r need v None (outcome.Given words place) piece few row =
+    subst (λ n. f n ≤ 2 ^ 18) (sym row.1) (few need)
+few-alloc f setting state r need v (Some held) (outcome.Given words place) piece few row = absurd row
+few-alloc f setting state r need v held result piece few row = omega arith
+
+few-row :
+    (f : ℕ → ℕ) (setting : Setting) (state : State) (operation : Op) (result : Outcome) (piece : List Event) → IsFew f
+    → FitsRow setting state operation result piece → count_with f (words_given operation result) ≤ 2 ^ 18
+few-row f setting state (op.Alloc r need v) result piece few row = few-alloc f setting state r need v (held_in state.registers r) result piece few row
+few-row f setting state operation result piece few row = omega arith
+
+few-lane :
+    (f : ℕ → ℕ) (setting : Setting) (from to : State) (operations : List Op) (results : List Outcome) → IsFew f
+    → Walks setting from operations results to → lane_given f operations results ≤ 2 ^ 18 * length results
+few-lane f setting from to [] [] few walks = omega arith
+few-lane f setting from to [] (result ∷ results) few walks = absurd walks
+few-lane f setting from to (operation ∷ operations) [] few walks = absurd walks
+few-lane f setting from to (operation ∷ operations) (result ∷ results) few walks =
+    omega (
+      arith,
+      few-row f setting from operation result walks.0 few walks.1,
+      few-lane f setting (state_after from operation result walks.0) to operations results few walks.2,
+    )
+
+-- the outcomes of each lane are as many as memory can hold
+abbrev pub AreHeld : List (List Outcome) → Type 0
+AreHeld outcomes = AllByRecursion (λ results. length results < 2 ^ 64) outcomes
+
+few-lanes :
+    (f : ℕ → ℕ) (g : Geometry) (history : List Event) (lost lane : ℕ) (lanes : List (List Op)) (outcomes : List (List Outcome)) → IsFew f
+    → AreHeld outcomes → LanesFit g history lost lane lanes outcomes → lanes_given f lanes outcomes ≤ 2 ^ 82 * length lanes
+few-lanes f g history lost lane [] [] few held fit = omega arith
+few-lanes f g history lost lane [] (results ∷ outcomes) few held fit = absurd fit
+few-lanes f g history lost lane (operations ∷ lanes) [] few held fit = absurd fit
+few-lanes f g history lost lane (operations ∷ lanes) (results ∷ outcomes) few held fit =
+    omega (
+      arith,
+      held.0,
+      few-lane f _ start fit.0.end operations results few fit.0.walks,
+      few-lanes f g history lost (suc lane) lanes outcomes few held.1 fit.1,
+    )
+
+-- lists of outcomes in memory are not longer
+pub held-lists : (vecs : List (Vec Outcome Global)) → AreHeld (map (λ lane. lane.items) vecs)
+held-lists [] = tt
+held-lists (vec ∷ vecs) = (omega (arith, vec.ok, vec.small), held-lists vecs)
+
+-- what was counted is what is live, where it fits
+counted-live :
+    (live given freed counted_given counted_freed left result most : ℕ) → live + freed ≡ given → given < 2 ^ 128 - 1
+    → min counted_given (2 ^ 128 - 1) ≡ min (0 + given) (2 ^ 128 - 1) → min counted_freed (2 ^ 128 - 1) ≡ min (0 + freed) (2 ^ 128 - 1)
+    → left ≡ counted_given - counted_freed → result ≡ min left most → live ≤ most → result ≡ live
+counted-live live given freed counted_given counted_freed left result most total small gives frees left_is result_is fits = omega arith
+
+pub live-counted :
+    (g : Geometry) (history : List Event) (lost : ℕ) (lanes : List (List Op)) (outcomes : List (List Outcome)) (given freed : Amount)
+    (blocks_left words_left blocks words : ℕ) → IsChecked g → length lanes ≤ MAX_LANES → AreHeld outcomes → IsLegalWithoutCounts g history
+    → OutcomesFit g history lost lanes outcomes
+    → GrowsBy NOTHING given (lanes_given as_one lanes outcomes) (lanes_given as_words lanes outcomes)
+    → GrowsBy NOTHING freed (lanes_freed as_one lanes outcomes) (lanes_freed as_words lanes outcomes)
+    → blocks_left ≡ given.blocks - freed.blocks → words_left ≡ given.words - freed.words
+    → blocks ≡ min blocks_left (2 ^ 32 - 1) → words ≡ min words_left (2 ^ 64 - 1)
+    → (blocks ≡ length (pool_of history)) × (words ≡ live_words (pool_of history))
+live-counted g history lost lanes outcomes given freed blocks_left words_left blocks words checked few held legal fit gives frees blocks_left_is words_left_is blocks_are words_are =
+    let fits = live-fits g history legal in
+    let few_blocks = few-lanes as_one g history lost 0 lanes outcomes (λ need. omega arith) held fit.lanes_fit in
+    let few_words = few-lanes as_words g history lost 0 lanes outcomes (λ need. words-bound (need_of need) (need_of-within need)) held fit.lanes_fit in
+    let blocks_total = live-total as_one g history lost lanes outcomes legal fit in
+    let words_total = live-total as_words g history lost lanes outcomes legal fit in
+    let is_blocks = measure-blocks (pool_of history) in
+    let is_words = measure-words (pool_of history) in (
+      counted-live (measure as_one (pool_of history)) (lanes_given as_one lanes outcomes) (lanes_freed as_one lanes outcomes) given.blocks freed.blocks
+          blocks_left blocks (2 ^ 32 - 1) blocks_total (omega (arith, few_blocks)) gives.blocks_grow frees.blocks_grow blocks_left_is blocks_are
+          (omega (arith, is_blocks, fits, checked.frames.1, checked.units.1)) ∙ is_blocks,
+      counted-live (measure as_words (pool_of history)) (lanes_given as_words lanes outcomes) (lanes_freed as_words lanes outcomes) given.words freed.words
+          words_left words (2 ^ 64 - 1) words_total (omega (arith, few_words)) gives.words_grow frees.words_grow words_left_is words_are
+          (omega (arith, is_words, fits, checked.frames.1, checked.units.1)) ∙ is_words,
+    )

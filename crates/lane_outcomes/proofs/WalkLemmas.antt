@@ -1,0 +1,261 @@
+-- Along a lane's operations its registers hold its blocks, at each moment of the history.
+use Rattle.std.proofs.Common.{ℕ, zero, suc, false, true, Bool, ◌≡◌, ◌+◌, List, [], ◌∷◌, ◌++◌, Option, Some, None, refl, sym, ◌∙◌, ap, subst, arith, append_assoc}
+use Rattle.std.specs.Prelude.{slice_set}
+use Rattle.std.specs.List.{AllByRecursion}
+use Rattle.heap_geometry.specs.declared.geometry.Geometry.{Geometry}
+use Rattle.heap_geometry.specs.declared.need.Need.{Need}
+use Rattle.heap_geometry.specs.declared.need.Need.TheVariants.{Small, Large, TooLarge}
+use Rattle.heap_geometry.specs.Need.{need_of, usable_words}
+use Rattle.pool_model.specs.declared.event.Event.{Event}
+use Rattle.pool_model.specs.declared.event.Event.TheVariants.{Alloc, Free, Put, Take}
+use Rattle.pool_model.specs.Calls.{IsGiving, IsRefusing, IsSpending, looks}
+use Rattle.pool_model.specs.Pool.{pool_of}
+use Rattle.pool_model.specs.Plain.{HasWords}
+use Rattle.pool_model.specs.Legal.{IsLegalWithoutCounts}
+use Rattle.pool_model.proofs.HistoryLemmas.{push-append}
+use Rattle.trace_text.specs.declared.trace.Op.{Op}
+use Rattle.trace_text.specs.declared.trace.Op.TheVariants as op
+use Rattle.lane_outcomes.specs.declared.registers.Held.{Held}
+use Rattle.lane_outcomes.specs.declared.outcome.Outcome.{Outcome}
+use Rattle.lane_outcomes.specs.declared.outcome.Outcome.TheVariants as outcome
+use Rattle.lane_outcomes.specs.Lane.{State, held_in, registers_after, state_after, filling}
+use Rattle.lane_outcomes.specs.Rows.{Setting, IsSpent, AllocRow, FreeRow, FillRow, CheckRow, PutRow, TakeRow, FitsRow}
+use Rattle.lane_outcomes.specs.Fits.{Walks}
+use Rattle.lane_outcomes.specs.LaneCounts.{words_given, words_freed, count_with, lane_given, lane_freed}
+use Rattle.lane_outcomes.specs.Standing.{OwnsWords}
+use Rattle.lane_outcomes.proofs.FillLemmas.{writes}
+use Rattle.lane_outcomes.proofs.HoldLemmas.{holds-fresh, holds-freed, holds-put, holds-taken}
+use Rattle.lane_outcomes.proofs.FollowLemmas.{FollowsAt, IsStill, at-step, at-stills, at-as, same-moment}
+use Rattle.lane_outcomes.proofs.MeasureLemmas.{block_with}
+
+-- looks, fills and refusals give and free nothing
+stills-looks : (caller class count : ℕ) → AllByRecursion (IsStill caller) (looks caller class count)
+stills-looks caller class zero = tt
+stills-looks caller class (suc count) = (refl, stills-looks caller class count)
+
+stills-writes : (count first caller place v : ℕ) → AllByRecursion (IsStill caller) (writes caller place v first count)
+stills-writes zero first caller place v = tt
+stills-writes (suc count) first caller place v = (refl, stills-writes count (first + 1) caller place v)
+
+stills-filling : (caller place words v : ℕ) → AllByRecursion (IsStill caller) (filling caller place words v)
+stills-filling caller place words v = stills-writes words 0 caller place v
+
+stills-append :
+    (caller : ℕ) (events more : List Event) → AllByRecursion (IsStill caller) events → AllByRecursion (IsStill caller) more
+    → AllByRecursion (IsStill caller) (events ++ more)
+stills-append caller [] more first rest = rest
+stills-append caller (event ∷ events) more first rest = (first.0, stills-append caller events more first.1 rest)
+
+stills-refusing : (caller need : ℕ) (n : Need) (events : List Event) → IsRefusing caller need n events → AllByRecursion (IsStill caller) events
+stills-refusing caller need (Small class) events refusing =
+    rw refusing.1 (refl, stills-append caller (looks caller class refusing.0) _ (stills-looks caller class refusing.0) (refl, tt))
+stills-refusing caller need (Large units) events refusing = rw refusing (refl, tt)
+stills-refusing caller need TooLarge events refusing = absurd refusing
+
+stills-spending : (caller : ℕ) (n : Need) (events : List Event) → IsSpending caller n events → AllByRecursion (IsStill caller) events
+stills-spending caller (Small class) events spending = rw spending.1 (stills-looks caller class spending.0)
+stills-spending caller (Large units) events spending = absurd spending
+stills-spending caller TooLarge events spending = absurd spending
+
+stills-spent : (setting : Setting) (state : State) (need : ℕ) (piece : List Event) (spent : Bool) → IsSpent setting state need piece spent → AllByRecursion (IsStill setting.caller) piece
+stills-spent setting state need piece true row = rw row.1 tt
+stills-spent setting state need piece false row = stills-spending setting.caller (need_of need) piece row.0
+
+-- an allocation that was given a block: some looks, and then the allocation
+record IsGiven (caller need place : ℕ) (events : List Event) : Type 0 where
+  pub looked : List Event
+  pub stills : AllByRecursion (IsStill caller) looked
+  pub whole : events ≡ looked ++ Alloc caller need place ∷ []
+
+given-of : (caller need place : ℕ) (n : Need) (events : List Event) → IsGiving caller need place n events → IsGiven caller need place events
+given-of caller need place (Small class) events giving =
+    record { looked = looks caller class giving.0; stills = stills-looks caller class giving.0; whole = giving.1 }
+given-of caller need place (Large units) events giving = record { looked = []; stills = tt; whole = giving }
+given-of caller need place TooLarge events giving = absurd giving
+
+-- where the lane stands after an operation
+abbrev pub After : (ℕ → ℕ) → Setting → State → Op → Outcome → List Event → ℕ → ℕ → Type 0
+After f setting state operation result piece given freed =
+    FollowsAt f setting.history setting.caller (state.done ++ piece) (registers_after state.registers operation result)
+    (given + count_with f (words_given operation result)) (freed + count_with f (words_freed state.registers operation result))
+
+abbrev pub Before : (ℕ → ℕ) → Setting → State → ℕ → ℕ → Type 0
+Before f setting state given freed = FollowsAt f setting.history setting.caller state.done state.registers given freed
+
+-- a piece that gives and frees nothing, and leaves the registers
+quiet :
+    (f : ℕ → ℕ) (g : Geometry) (setting : Setting) (state : State) (piece : List Event) (given freed : ℕ)
+    → IsLegalWithoutCounts g setting.history → AllByRecursion (IsStill setting.caller) piece → Before f setting state given freed
+    → FollowsAt f setting.history setting.caller (state.done ++ piece) state.registers (given + 0) (freed + 0)
+quiet f g setting state piece given freed legal stills at =
+    at-as f setting.history setting.caller (state.done ++ piece) (state.done ++ piece) state.registers given freed (given + 0) (freed + 0)
+    refl (omega arith) (omega arith)
+    (at-stills f g setting.history setting.caller state.done piece state.registers given freed legal stills at)
+
+-- no events
+abbrev none-still : (caller : ℕ) (piece : List Event) → piece ≡ [] → AllByRecursion (IsStill caller) piece
+none-still caller piece none = rw none tt
+
+given-after :
+    (f : ℕ → ℕ) (g : Geometry) (setting : Setting) (state : State) (r need v words place : ℕ) (calls piece : List Event) (given freed : ℕ)
+    → IsLegalWithoutCounts g setting.history → words ≡ usable_words (need_of need) → IsGiven setting.caller need place calls
+    → piece ≡ calls ++ filling setting.caller place words v → Before f setting state given freed
+    → FollowsAt f setting.history setting.caller (state.done ++ piece) (slice_set state.registers r (Some (record { place = place; words = words }))) (given + f words) (freed + 0)
+given-after f g setting state r need v words place calls piece given freed legal words_are is piece_is at =
+    let caller = setting.caller in
+    let looked : List Event = state.done ++ is.looked in
+    let set : List (Option Held) = slice_set state.registers r (Some (record { place = place; words = words })) in
+    let at_looked = at-stills f g setting.history caller state.done is.looked state.registers given freed legal is.stills at in
+    let at_alloc : FollowsAt f setting.history caller (looked ++ Alloc caller need place ∷ []) set (given + f words) (freed + 0) =
+    at-step f g setting.history caller looked (Alloc caller need place) state.registers set given freed (given + f words) (freed + 0) legal refl
+    (λ before legal_here begins own_is holds. record {
+      holds = holds-fresh g before caller need place words r state.registers legal_here words_are holds;
+      given_is = ap (λ n. given + f n) words_are;
+      freed_is = refl;
+    }) at_looked in
+    let at_filled = at-stills f g setting.history caller (looked ++ Alloc caller need place ∷ []) (filling caller place words v) set (given + f words)
+    (freed + 0) legal (stills-filling caller place words v) at_alloc in
+    at-as f setting.history caller _ (state.done ++ piece) set (given + f words) (freed + 0) (given + f words) (freed + 0)
+    (append_assoc looked (Alloc caller need place ∷ []) (filling caller place words v)
+    ∙ append_assoc state.done is.looked (Alloc caller need place ∷ filling caller place words v)
+    ∙ ap (λ xs. state.done ++ xs)
+    (sym (append_assoc is.looked (Alloc caller need place ∷ []) (filling caller place words v))
+    ∙ ap (λ xs. xs ++ filling caller place words v) (sym is.whole) ∙ sym piece_is))
+    refl refl at_filled
+
+alloc-after :
+    (f : ℕ → ℕ) (g : Geometry) (setting : Setting) (state : State) (r need v : ℕ) (held : Option Held) (result : Outcome) (piece : List Event)
+    (given freed : ℕ) → IsLegalWithoutCounts g setting.history → AllocRow setting state need v held result piece → Before f setting state given freed
+    → After f setting state (op.Alloc r need v) result piece given freed
+alloc-after f g setting state r need v (Some held) outcome.Skipped piece given freed legal row at =
+    quiet f g setting state piece given freed legal (none-still setting.caller piece row) at
+alloc-after f g setting state r need v None (outcome.Given words place) piece given freed legal row at =
+    given-after f g setting state r need v words place row.2 piece given freed legal row.1 (given-of setting.caller need place (need_of need) row.2 row.3)
+    row.4 at
+alloc-after f g setting state r need v None outcome.Refused piece given freed legal row at =
+    quiet f g setting state piece given freed legal (stills-refusing setting.caller need (need_of need) piece row.1) at
+alloc-after f g setting state r need v None outcome.Spent piece given freed legal row at =
+    quiet f g setting state piece given freed legal (stills-spent setting state need piece state.spent row) at
+alloc-after f g setting state r need v held result piece given freed legal row at = absurd row
+
+free-after :
+    (f : ℕ → ℕ) (g : Geometry) (setting : Setting) (state : State) (r : ℕ) (held : Option Held) (result : Outcome) (piece : List Event)
+    (given freed : ℕ) → IsLegalWithoutCounts g setting.history → held_in state.registers r ≡ held → FreeRow setting held result piece
+    → Before f setting state given freed → After f setting state (op.Free r) result piece given freed
+free-after f g setting state r None outcome.Skipped piece given freed legal full row at =
+    quiet f g setting state piece given freed legal (none-still setting.caller piece row) at
+free-after f g setting state r (Some held) outcome.Freed piece given freed legal full row at =
+    let caller = setting.caller in
+    rw (row, full)
+    (at-step f g setting.history caller state.done (Free caller held.place) state.registers (slice_set state.registers r None) given freed (given + 0)
+    (freed + f held.words) legal refl
+    (λ before legal_here begins own_is holds.
+    let owns : OwnsWords (pool_of before) caller held.place held.words = holds.owned r held full in
+    record {
+      holds = holds-freed before caller r held state.registers full holds;
+      given_is = refl;
+      freed_is = ap (λ n. freed + f n) owns.words_are ∙ ap (λ found. freed + block_with f found) (sym owns.live);
+    }) at)
+free-after f g setting state r held result piece given freed legal full row at = absurd row
+
+fill-after :
+    (f : ℕ → ℕ) (g : Geometry) (setting : Setting) (state : State) (r v : ℕ) (held : Option Held) (result : Outcome) (piece : List Event)
+    (given freed : ℕ) → IsLegalWithoutCounts g setting.history → FillRow setting v held result piece → Before f setting state given freed
+    → After f setting state (op.Fill r v) result piece given freed
+fill-after f g setting state r v None outcome.Skipped piece given freed legal row at =
+    quiet f g setting state piece given freed legal (none-still setting.caller piece row) at
+fill-after f g setting state r v (Some held) outcome.Filled piece given freed legal row at =
+    quiet f g setting state piece given freed legal (rw row (stills-filling setting.caller held.place held.words v)) at
+fill-after f g setting state r v held result piece given freed legal row at = absurd row
+
+check-after :
+    (f : ℕ → ℕ) (g : Geometry) (setting : Setting) (state : State) (r : ℕ) (held : Option Held) (result : Outcome) (piece : List Event)
+    (given freed : ℕ) → IsLegalWithoutCounts g setting.history → CheckRow setting state held result piece → Before f setting state given freed
+    → After f setting state (op.Check r) result piece given freed
+check-after f g setting state r None outcome.Skipped piece given freed legal row at =
+    quiet f g setting state piece given freed legal (none-still setting.caller piece row) at
+check-after f g setting state r (Some held) (outcome.Sum total) piece given freed legal row at =
+    quiet f g setting state piece given freed legal (none-still setting.caller piece row.0) at
+check-after f g setting state r held result piece given freed legal row at = absurd row
+
+put-after :
+    (f : ℕ → ℕ) (g : Geometry) (setting : Setting) (state : State) (r shelf : ℕ) (held : Option Held) (result : Outcome) (piece : List Event)
+    (given freed : ℕ) → IsLegalWithoutCounts g setting.history → held_in state.registers r ≡ held → PutRow setting state shelf held result piece
+    → Before f setting state given freed → After f setting state (op.Put r shelf) result piece given freed
+put-after f g setting state r shelf None outcome.Skipped piece given freed legal full row at =
+    quiet f g setting state piece given freed legal (none-still setting.caller piece row) at
+put-after f g setting state r shelf (Some held) outcome.Put piece given freed legal full row at =
+    rw row
+    (at-step f g setting.history setting.caller state.done (Put setting.caller held.place shelf) state.registers (slice_set state.registers r None) given
+    freed (given + 0) (freed + 0) legal refl
+    (λ before legal_here begins own_is holds. record {
+      holds = holds-put before setting.caller r shelf held state.registers full holds;
+      given_is = refl;
+      freed_is = refl;
+    }) at)
+put-after f g setting state r shelf (Some held) outcome.ShelfFull piece given freed legal full row at =
+    quiet f g setting state piece given freed legal (none-still setting.caller piece row.0) at
+put-after f g setting state r shelf held result piece given freed legal full row at = absurd row
+
+take-after :
+    (f : ℕ → ℕ) (g : Geometry) (setting : Setting) (state : State) (r shelf : ℕ) (held : Option Held) (result : Outcome) (piece : List Event)
+    (given freed : ℕ) → IsLegalWithoutCounts g setting.history → TakeRow setting state shelf held result piece
+    → Before f setting state given freed → After f setting state (op.Take r shelf) result piece given freed
+take-after f g setting state r shelf (Some held) outcome.Skipped piece given freed legal row at =
+    quiet f g setting state piece given freed legal (none-still setting.caller piece row) at
+take-after f g setting state r shelf None outcome.ShelfEmpty piece given freed legal row at =
+    quiet f g setting state piece given freed legal (rw row (refl, tt)) at
+take-after f g setting state r shelf None (outcome.Took words place) piece given freed legal row at =
+    let event : Event = Take setting.caller shelf place in
+    rw row.0
+    (at-step f g setting.history setting.caller state.done event state.registers
+    (slice_set state.registers r (Some (record { place = place; words = words }))) given freed (given + 0) (freed + 0) legal refl
+    (λ before legal_here begins own_is holds.
+    let there : setting.history ≡ row.1.before ++ event ∷ row.3.0 =
+    row.3.1 ∙ ap (λ xs. (row.1.before ++ xs) ++ row.3.0) row.0 ∙ push-append row.1.before row.3.0 event in
+    let here : setting.history ≡ before ++ event ∷ begins.0 = begins.1 ∙ push-append before begins.0 event in
+    let same : row.1.before ≡ before =
+    same-moment setting.caller event row.1.before before row.3.0 begins.0 refl (sym there ∙ here) (row.1.own_done ∙ sym own_is) in
+    let has : HasWords (pool_of before) place words =
+    subst (λ (h : List Event). HasWords (pool_of h) place words) same (row.2, row.4, row.5) in
+    let allowed = (legal_here before [] event refl).1 in
+    record {
+      holds = holds-taken before setting.caller r shelf place words state.registers allowed.0 has holds;
+      given_is = refl;
+      freed_is = refl;
+    }) at)
+take-after f g setting state r shelf held result piece given freed legal row at = absurd row
+
+row-after :
+    (f : ℕ → ℕ) (g : Geometry) (setting : Setting) (state : State) (operation : Op) (result : Outcome) (piece : List Event) (given freed : ℕ)
+    → IsLegalWithoutCounts g setting.history → FitsRow setting state operation result piece → Before f setting state given freed
+    → After f setting state operation result piece given freed
+row-after f g setting state (op.Alloc r need v) result piece given freed legal row at =
+    alloc-after f g setting state r need v (held_in state.registers r) result piece given freed legal row at
+row-after f g setting state (op.Free r) result piece given freed legal row at =
+    free-after f g setting state r (held_in state.registers r) result piece given freed legal refl row at
+row-after f g setting state (op.Fill r v) result piece given freed legal row at =
+    fill-after f g setting state r v (held_in state.registers r) result piece given freed legal row at
+row-after f g setting state (op.Check r) result piece given freed legal row at =
+    check-after f g setting state r (held_in state.registers r) result piece given freed legal row at
+row-after f g setting state (op.Put r shelf) result piece given freed legal row at =
+    put-after f g setting state r shelf (held_in state.registers r) result piece given freed legal refl row at
+row-after f g setting state (op.Take r shelf) result piece given freed legal row at =
+    take-after f g setting state r shelf (held_in state.registers r) result piece given freed legal row at
+
+-- and so to the end of a walk
+pub walk-after :
+    (f : ℕ → ℕ) (g : Geometry) (setting : Setting) (from to : State) (operations : List Op) (results : List Outcome) (given freed : ℕ)
+    → IsLegalWithoutCounts g setting.history → Walks setting from operations results to → Before f setting from given freed
+    → Before f setting to (given + lane_given f operations results) (freed + lane_freed f from.registers operations results)
+walk-after f g setting from to [] [] given freed legal walks at =
+    subst (λ (s : State). Before f setting s (given + 0) (freed + 0)) (sym walks)
+    (at-as f setting.history setting.caller from.done from.done from.registers given freed (given + 0) (freed + 0) refl (omega arith) (omega arith) at)
+walk-after f g setting from to [] (result ∷ results) given freed legal walks at = absurd walks
+walk-after f g setting from to (operation ∷ operations) [] given freed legal walks at = absurd walks
+walk-after f g setting from to (operation ∷ operations) (result ∷ results) given freed legal walks at =
+    let next : State = state_after from operation result walks.0 in
+    at-as f setting.history setting.caller to.done to.done to.registers _ _ _ _ refl (omega arith) (omega arith)
+    (walk-after f g setting next to operations results (given + count_with f (words_given operation result))
+    (freed + count_with f (words_freed from.registers operation result)) legal walks.2
+    (row-after f g setting from operation result walks.0 given freed legal walks.1 at))

@@ -1,0 +1,69 @@
+-- Where a lane stands between two of its operations, and what an operation does to it.
+use Rattle.std.specs.Prelude.{ℕ, suc, ◌+◌, ◌%◌, ◌^◌, ◌++◌, List, [], Bool, true, false, Option, Some, None, map, replicate, slice_set, if◌then◌else◌}
+use Rattle.std.specs.List.{range_with_len, slice_index_or}
+use Rattle.heap_geometry.specs.declared.need.Need.{Need}
+use Rattle.heap_geometry.specs.declared.need.Need.TheVariants.{Small, Large, TooLarge}
+use Rattle.heap_geometry.specs.Need.{need_of}
+use Rattle.pool_model.specs.declared.event.Event.{Event}
+use Rattle.pool_model.specs.declared.event.Event.TheVariants.{Write}
+use Rattle.trace_text.specs.declared.limits.TheConstants.{REGISTERS}
+use Rattle.trace_text.specs.declared.trace.Op.{Op}
+use Rattle.trace_text.specs.declared.trace.Op.TheVariants as op
+use Rattle.lane_outcomes.specs.declared.registers.Held.{Held}
+use Rattle.lane_outcomes.specs.declared.outcome.Outcome.{Outcome}
+use Rattle.lane_outcomes.specs.declared.outcome.Outcome.TheVariants as outcome
+
+-- a lane between two operations: what each of its registers holds, its own events so far, how many of its small
+-- allocations were given a block or refused, and whether it has no turn left
+pub record State : Type 0 where
+  pub registers : List (Option Held)
+  pub done : List Event
+  pub answered : ℕ
+  pub spent : Bool
+
+-- before the first operation
+abbrev pub start : State
+start = record { registers = replicate REGISTERS None; done = []; answered = 0; spent = false }
+
+-- what a register holds
+abbrev pub held_in : List (Option Held) → ℕ → Option Held
+held_in registers r = slice_index_or registers r None
+
+-- the registers after an operation with its outcome
+abbrev pub registers_after : List (Option Held) → Op → Outcome → List (Option Held)
+registers_after registers (op.Alloc r need v) (outcome.Given words place) = slice_set registers r (Some (record { place = place; words = words }))
+registers_after registers (op.Take r shelf) (outcome.Took words place) = slice_set registers r (Some (record { place = place; words = words }))
+registers_after registers (op.Free r) outcome.Freed = slice_set registers r None
+registers_after registers (op.Put r shelf) outcome.Put = slice_set registers r None
+registers_after registers operation result = registers
+
+-- whether small blocks serve a need
+abbrev pub is_small : Need → Bool
+is_small (Small class) = true
+is_small (Large units) = false
+is_small TooLarge = false
+
+-- how many small allocations were given a block or refused, after one operation more
+abbrev pub answered_after : ℕ → Op → Outcome → ℕ
+answered_after answered (op.Alloc r need v) (outcome.Given words place) = if is_small (need_of need) then suc answered else answered
+answered_after answered (op.Alloc r need v) outcome.Refused = if is_small (need_of need) then suc answered else answered
+answered_after answered operation result = answered
+
+-- whether the lane has no turn left, after one operation more
+abbrev pub spent_after : Bool → Outcome → Bool
+spent_after spent outcome.Spent = true
+spent_after spent result = spent
+
+-- the lane after an operation with its outcome and the events that it added
+abbrev pub state_after : State → Op → Outcome → List Event → State
+state_after state operation result piece =
+    record {
+      registers = registers_after state.registers operation result;
+      done = state.done ++ piece;
+      answered = answered_after state.answered operation result;
+      spent = spent_after state.spent result;
+    }
+
+-- the writes that fill a block of so many usable words: word i with v + i
+abbrev pub filling : ℕ → ℕ → ℕ → ℕ → List Event
+filling caller place words v = map (λ i. Write caller place i ((v + i) % 2 ^ 64)) (range_with_len 0 words)

@@ -1,0 +1,115 @@
+-- Which outcome an operation may have, and which events of its lane it then adds.
+use Rattle.std.specs.Prelude.{ℕ, ◌+◌, ◌%◌, ◌^◌, ◌≤◌, ◌≡◌, ◌∷◌, ◌++◌, List, [], Bool, true, false, Option, Some, None, sum, ◌&&◌}
+use Rattle.std.specs.List.{AllZip}
+use Rattle.heap_geometry.specs.Need.{need_of, usable_words}
+use Rattle.pool_model.specs.declared.event.Event.{Event}
+use Rattle.pool_model.specs.declared.event.Event.TheVariants.{Free, Put, Take, TakeNone}
+use Rattle.pool_model.specs.declared.owner.Owner.TheVariants.{Shelf}
+use Rattle.pool_model.specs.Histories.{own, Begins}
+use Rattle.pool_model.specs.Pool.{Block, Pool, block_at, pool_of}
+use Rattle.pool_model.specs.Calls.{EventsOf, alloc_given, alloc_refused, alloc_spent}
+use Rattle.trace_text.specs.declared.trace.Op.{Op}
+use Rattle.trace_text.specs.declared.trace.Op.TheVariants as op
+use Rattle.lane_outcomes.specs.declared.registers.Held.{Held}
+use Rattle.lane_outcomes.specs.declared.outcome.Outcome.{Outcome}
+use Rattle.lane_outcomes.specs.declared.outcome.Outcome.TheVariants as outcome
+use Rattle.lane_outcomes.specs.Lane.{State, held_in, is_small, filling}
+
+-- what a lane's outcomes are held against: its number, the most turns of a caller, and the history and the lost exchanges of the closed heap
+pub record Setting : Type 0 where
+  pub caller : ℕ
+  pub turn_limit : ℕ
+  pub history : List Event
+  pub lost : ℕ
+
+-- the history up to a moment at which these are the lane's own events
+pub record Moment (setting : Setting) (done : List Event) : Type 0 where
+  pub before : List Event
+  pub begins : Begins before setting.history
+  pub own_done : own setting.caller before ≡ done
+
+-- a number for a word: what the word holds, where it was written
+abbrev pub IsWord : Option ℕ → ℕ → Type 0
+IsWord None n = Unit {0}
+IsWord (Some v) n = n ≡ v
+
+-- the sum of a block's contents, an unwritten word standing for some number
+pub record IsSumOf (contents : List (Option ℕ)) (total : ℕ) : Type 0 where
+  pub words : List ℕ
+  pub each : AllZip IsWord contents words
+  pub total_is : total ≡ sum words % 2 ^ 64
+
+-- a block lies on the shelf
+pub record IsFullShelf (pool : Pool) (shelf : ℕ) : Type 0 where
+  pub block : Block
+  pub live : block_at block.place pool ≡ Some block
+  pub shelved : block.owner ≡ Shelf shelf
+
+-- an allocation on an empty register may still ask the heap: it is large, or the lane has turns left
+abbrev pub MayAsk : State → ℕ → Type 0
+MayAsk state need = (is_small (need_of need) && state.spent) ≡ false
+
+-- a small allocation finds no turn left: an earlier one found that, or as many turns as the limit are accounted for by answers and lost exchanges
+abbrev pub IsSpent : Setting → State → ℕ → List Event → Bool → Type 0
+IsSpent setting state need piece true = (is_small (need_of need) ≡ true) × (piece ≡ [])
+IsSpent setting state need piece false =
+    EventsOf setting.caller (alloc_spent need) piece × (setting.turn_limit ≤ state.answered + setting.lost)
+
+-- an allocation: a block that is given is filled with rising numbers
+abbrev pub AllocRow : Setting → State → ℕ → ℕ → Option Held → Outcome → List Event → Type 0
+AllocRow setting state need v (Some held) outcome.Skipped piece = piece ≡ []
+AllocRow setting state need v None (outcome.Given words place) piece =
+    MayAsk state need × (words ≡ usable_words (need_of need))
+    × (calls : List Event) × EventsOf setting.caller (alloc_given need place) calls
+    × (piece ≡ calls ++ filling setting.caller place words v)
+AllocRow setting state need v None outcome.Refused piece =
+    MayAsk state need × EventsOf setting.caller (alloc_refused need) piece
+AllocRow setting state need v None outcome.Spent piece = IsSpent setting state need piece state.spent
+AllocRow setting state need v held result piece = ⊥
+
+-- a free gives the held block back
+abbrev pub FreeRow : Setting → Option Held → Outcome → List Event → Type 0
+FreeRow setting None outcome.Skipped piece = piece ≡ []
+FreeRow setting (Some held) outcome.Freed piece = piece ≡ Free setting.caller held.place ∷ []
+FreeRow setting held result piece = ⊥
+
+-- a fill writes every usable word of the held block
+abbrev pub FillRow : Setting → ℕ → Option Held → Outcome → List Event → Type 0
+FillRow setting v None outcome.Skipped piece = piece ≡ []
+FillRow setting v (Some held) outcome.Filled piece = piece ≡ filling setting.caller held.place held.words v
+FillRow setting v held result piece = ⊥
+
+-- a check sums what the held block contains after the lane's events so far
+abbrev pub CheckRow : Setting → State → Option Held → Outcome → List Event → Type 0
+CheckRow setting state None outcome.Skipped piece = piece ≡ []
+CheckRow setting state (Some held) (outcome.Sum total) piece =
+    (piece ≡ []) × (moment : Moment setting state.done) × (block : Block)
+    × (block_at held.place (pool_of moment.before) ≡ Some block) × IsSumOf block.contents total
+CheckRow setting state held result piece = ⊥
+
+-- a put lays the held block on the shelf, or finds a block there
+abbrev pub PutRow : Setting → State → ℕ → Option Held → Outcome → List Event → Type 0
+PutRow setting state shelf None outcome.Skipped piece = piece ≡ []
+PutRow setting state shelf (Some held) outcome.Put piece = piece ≡ Put setting.caller held.place shelf ∷ []
+PutRow setting state shelf (Some held) outcome.ShelfFull piece =
+    (piece ≡ []) × (moment : Moment setting state.done) × IsFullShelf (pool_of moment.before) shelf
+PutRow setting state shelf held result piece = ⊥
+
+-- a take gets the block that lies on the shelf at that moment, or finds none
+abbrev pub TakeRow : Setting → State → ℕ → Option Held → Outcome → List Event → Type 0
+TakeRow setting state shelf (Some held) outcome.Skipped piece = piece ≡ []
+TakeRow setting state shelf None (outcome.Took words place) piece =
+    (piece ≡ Take setting.caller shelf place ∷ []) × (moment : Moment setting state.done) × (block : Block)
+    × Begins (moment.before ++ piece) setting.history
+    × (block_at place (pool_of moment.before) ≡ Some block) × (words ≡ usable_words block.need)
+TakeRow setting state shelf None outcome.ShelfEmpty piece = piece ≡ TakeNone setting.caller shelf ∷ []
+TakeRow setting state shelf held result piece = ⊥
+
+-- the operation may have this outcome, and then adds this piece to its lane's own events
+abbrev pub FitsRow : Setting → State → Op → Outcome → List Event → Type 0
+FitsRow setting state (op.Alloc r need v) result piece = AllocRow setting state need v (held_in state.registers r) result piece
+FitsRow setting state (op.Free r) result piece = FreeRow setting (held_in state.registers r) result piece
+FitsRow setting state (op.Fill r v) result piece = FillRow setting v (held_in state.registers r) result piece
+FitsRow setting state (op.Check r) result piece = CheckRow setting state (held_in state.registers r) result piece
+FitsRow setting state (op.Put r shelf) result piece = PutRow setting state shelf (held_in state.registers r) result piece
+FitsRow setting state (op.Take r shelf) result piece = TakeRow setting state shelf (held_in state.registers r) result piece

@@ -1,0 +1,27 @@
+-- What the registers of a lane hold.
+use Rattle.std.specs.Prelude.{ℕ, ◌≡◌, ◌≢◌, List, Option, Some}
+use Rattle.heap_geometry.specs.Need.{usable_words}
+use Rattle.pool_model.specs.declared.event.Event.{Event}
+use Rattle.pool_model.specs.declared.owner.Owner.TheVariants.{Caller}
+use Rattle.pool_model.specs.Pool.{Block, Pool, block_at}
+use Rattle.lane_outcomes.specs.declared.registers.Held.{Held}
+use Rattle.lane_outcomes.specs.Lane.{held_in}
+use Rattle.lane_outcomes.specs.Rows.{Setting}
+
+-- the caller owns a live block with so many usable words at the place
+pub record OwnsWords (pool : Pool) (caller place words : ℕ) : Type 0 where
+  pub block : Block
+  pub live : block_at place pool ≡ Some block
+  pub owned : block.owner ≡ Caller caller
+  pub words_are : words ≡ usable_words block.need
+
+-- each full register holds a block of the caller's, and no two hold the same one
+pub record HoldsOwn (pool : Pool) (caller : ℕ) (registers : List (Option Held)) : Type 0 where
+  pub owned : (r : ℕ) (held : Held) → held_in registers r ≡ Some held → OwnsWords pool caller held.place held.words
+  pub once :
+      (r q : ℕ) (held other : Held) → held_in registers r ≡ Some held → held_in registers q ≡ Some other → r ≢ q
+      → held.place ≢ other.place
+
+-- what a lane's outcomes are held against, by the history in which it ran
+abbrev pub setting_in : List Event → ℕ → ℕ → ℕ → Setting
+setting_in history caller turn_limit lost = record { caller = caller; turn_limit = turn_limit; history = history; lost = lost }

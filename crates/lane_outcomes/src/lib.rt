@@ -1,0 +1,9 @@
+//! The lanes of a trace over a heap: their outcomes, what it means that outcomes fit a history, and the
+//! text of the report.
+#![tactic(auto)]
+
+pub mod laws;
+pub mod live;
+pub mod outcome;
+mod registers;
+pub mod report;

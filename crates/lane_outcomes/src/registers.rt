@@ -1,0 +1,65 @@
+//! The registers of a lane.
+
+ghost use Rattle.std.specs.Prelude.{◌≡◌, None, replicate, slice_set};
+ghost use Rattle.trace_text.specs.declared.limits.TheConstants.{REGISTERS};
+ghost use Rattle.lane_outcomes.specs.Lane.{held_in};
+
+use std::marker::Model;
+use trace_text::limits::REGISTERS;
+
+/// A block in a register.
+#[derive(Clone, Copy, Debug, PartialEq, Eq)]
+pub struct Held {
+    /// The arena word of the block's prefix.
+    pub place: u32,
+    /// The block's usable words.
+    pub words: u32,
+}
+
+/// What each register of a lane holds.
+#[derive(Debug, Drop)]
+pub struct Registers {
+    held: [Option<Held>; REGISTERS as usize],
+}
+
+impl Model for Registers {
+    ghost use Rattle.std.specs.Prelude.{◌≡◌, List, Option, length};
+    ghost use Rattle.trace_text.specs.declared.limits.TheConstants.{REGISTERS};
+    ghost use Rattle.lane_outcomes.specs.declared.registers.Held.{Held};
+
+    ghost Value = { List (Option Held) };
+
+    ghost view = { λ r. r.held };
+
+    ghost invariant = { λ r. length r.held ≡ REGISTERS };
+}
+
+impl Registers {
+    /// Empty registers.
+    pub fn new() -> Registers
+        ensures { result ≡ replicate REGISTERS None }
+    {
+        Registers {
+            held: [None; REGISTERS as usize],
+        }
+    }
+
+    /// What the register holds, and nothing where there is no such register.
+    pub fn get(&self, r: u16) -> Option<Held>
+        ensures { result ≡ held_in self.now r }
+    {
+        match self.held.get(usize::from(r)) {
+            Some(held) => *held,
+            None => None,
+        }
+    }
+
+    /// Changes what the register holds, if there is such a register.
+    pub fn set(&mut self, r: u16, held: Option<Held>)
+        ensures { self.new ≡ slice_set self.old r held }
+    {
+        if r < REGISTERS {
+            self.held[usize::from(r)] = held;
+        }
+    }
+}

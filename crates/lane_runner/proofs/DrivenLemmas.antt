@@ -1,0 +1,367 @@
+-- The whole run of a trace, from the lanes' runs.
+use Rattle.std.proofs.Common.{ℕ, suc, ◌≡◌, ◌<◌, ◌≤◌, ◌+◌, ◌-◌, ◌^◌, if◌then◌else◌, Option, Some, None, List, [], ◌∷◌, ◌++◌, length, map, min, max, get_or, take, Result, Ok, Err, Vec, Global, IfOk, OnOk, refl, sym, ap, ◌∙◌, subst, inl, inr, arith, zero-add}
+use Rattle.std.specs.Prelude.{All, count_by, replicate}
+use Rattle.std.specs.declared.alloc.AllocError.{AllocError}
+use Rattle.std.specs.List.{AllByRecursion}
+use Rattle.std.proofs.lemmas.List.{append-nil, get_or-map, get_or-take, get_or_append_left, get_or_push, length-append, length-map, length-take-le, take_all}
+use Rattle.std.proofs.Math.ListN.{get_or-eq_default}
+use Rattle.std.proofs.lemmas.List.Elements.{All-head, All-tail}
+use Rattle.std.proofs.lemmas.Bool.{cases_Bool, cases_eq, cases_lt}
+use Rattle.heap_geometry.specs.declared.geometry.Geometry.{Geometry}
+use Rattle.word_plan.specs.declared.name.WordName.{WordName}
+use Rattle.word_plan.specs.Table.{exists}
+use Rattle.word_plan.specs.Words.{word_in}
+use Rattle.word_plan.proofs.NameLemmas.{true-Exists}
+use Rattle.pool_model.specs.declared.event.Event.{Event}
+use Rattle.pool_model.specs.Histories.{caller_of, own}
+use Rattle.trace_text.specs.declared.limits.TheConstants.{REGISTERS}
+use Rattle.trace_text.specs.declared.trace.Op.{Op}
+use Rattle.trace_text.specs.declared.trace.Trace.{Trace}
+use Rattle.trace_text.specs.Traces.{IsTrace}
+use Rattle.errand_steps.specs.Begins.{IsIdle}
+use Rattle.errand_steps.specs.Openings.{opening, IsOpening}
+use Rattle.errand_steps.specs.Steps.{State, event_at, found_at, with_event}
+use Rattle.errand_steps.proofs.EventLemmas.{event_own}
+use Rattle.sound_state.specs.Moves.{is_step}
+use Rattle.sound_state.specs.Runs.{Move, begins, steps}
+use Rattle.sound_state.specs.Contention.{lost_of}
+use Rattle.sound_state.specs.Sums.{callers_sum}
+use Rattle.sound_state.proofs.shared.SumLemmas.{term-sum}
+use Rattle.sound_state.proofs.wins.CountLemmas.{count-append}
+use Rattle.step_core.specs.Cores.{CoreFields, IsCore, errand_at, state_of}
+use Rattle.step_core.specs.Openings.{IsOpened}
+use Rattle.lane_engine.specs.Machines.{MovesCore}
+use Rattle.lane_engine.specs.declared.over_core.Grip.{Grip}
+use Rattle.lane_outcomes.specs.declared.outcome.Outcome.{Outcome}
+use Rattle.lane_outcomes.specs.Fits.{Fits, LanesFit}
+use Rattle.lane_outcomes.specs.Passed.{AllPassed}
+use Rattle.lane_outcomes.specs.Standing.{setting_in}
+use Rattle.lane_runner.specs.declared.lane.LaneState.{LaneState}
+use Rattle.lane_runner.specs.declared.stage.Stage.TheVariants as stage
+use Rattle.lane_runner.specs.Driven.{IsDriven, calls_of, lost_by_all, steppers_of}
+use Rattle.lane_runner.specs.Orders.{InOrder, InTurn}
+use Rattle.lane_runner.specs.Paths.{Leads, begun_count}
+use Rattle.lane_runner.specs.Running.{AreNew, HasEnded, HasPassed, HaveFinished, HaveFollowed, IsBelow, IsOnScriptOf, LanesRan, LanesStand, StandsOn, operations_in}
+use Rattle.lane_runner.specs.Scripts.{IsOnScript, Scripts}
+use Rattle.lane_runner.specs.States.{IsNew, progress_of}
+use Rattle.lane_runner.proofs.EndedLemmas.{lane-between, lane-fits, lane-new, script-new}
+use Rattle.lane_runner.proofs.OrderLemmas.{lanes-more}
+use Rattle.lane_runner.proofs.RunLanes.{contains-none, element_at}
+use Rattle.lane_runner.proofs.RunLemmas.{steppers-append}
+use Rattle.lane_runner.proofs.ScriptLemmas.{script-whole}
+
+-- moves of one machine after the other count their steps
+pub leads-counted :
+    (c after : CoreFields) (moves : List Move) (n : ℕ) → c.steps ≡ min n (2 ^ 64 - 1) → Leads MovesCore c moves after
+    → after.steps ≡ min (n + count_by is_step moves) (2 ^ 64 - 1)
+leads-counted c after [] n is leads = ap (λ (d : CoreFields). d.steps) leads ∙ is ∙ ap (λ m. min m (2 ^ 64 - 1)) (omega arith)
+leads-counted c after (begins caller call ∷ moves) n is leads = leads-counted leads.0 after moves n (leads.1.counted ∙ is) leads.2
+leads-counted c after (steps caller ∷ moves) n is leads =
+    let next : leads.0.steps ≡ min (n + 1) (2 ^ 64 - 1) = omega (arith, leads.1.counted, is) in
+    leads-counted leads.0 after moves (n + 1) next leads.2
+    ∙ ap (λ m. min m (2 ^ 64 - 1)) (omega (arith, count-append is_step (steps caller ∷ []) moves))
+
+-- an event is its mover's
+all-with :
+    (count : ℕ) (events : List Event) (event : Event) → caller_of event < count → AllByRecursion (λ event. caller_of event < count) events
+    → AllByRecursion (λ event. caller_of event < count) (events ++ event ∷ [])
+all-with count [] event lt all = (lt, tt)
+all-with count (first ∷ events) event lt all = (all.0, all-with count events event lt all.1)
+
+all-told :
+    (count caller : ℕ) (events : List Event) (o : Option Event) → caller < count → ((e : Event) → o ≡ Some e → caller_of e ≡ caller)
+    → AllByRecursion (λ event. caller_of event < count) events → AllByRecursion (λ event. caller_of event < count) (with_event events o)
+all-told count caller events None lt mine all = all
+all-told count caller events (Some e) lt mine all = all-with count events e (subst (λ k. k < count) (sym (mine e refl)) lt) all
+
+pub leads-callers :
+    (count : ℕ) (c after : CoreFields) (moves : List Move) → All (IsBelow count) moves → Leads MovesCore c moves after
+    → AllByRecursion (λ event. caller_of event < count) c.events → AllByRecursion (λ event. caller_of event < count) after.events
+leads-callers count c after [] below leads all =
+    subst (λ (d : CoreFields). AllByRecursion (λ event. caller_of event < count) d.events) (sym leads) all
+leads-callers count c after (begins caller call ∷ moves) below leads all =
+    leads-callers count leads.0 after moves (All-tail (IsBelow count) (begins caller call) moves below) leads.2
+    (subst (λ (s : State). AllByRecursion (λ event. caller_of event < count) s.history) (sym leads.1.moved.1.after) all)
+leads-callers count c after (steps caller ∷ moves) below leads all =
+    leads-callers count leads.0 after moves (All-tail (IsBelow count) (steps caller) moves below) leads.2
+    (subst (AllByRecursion (λ event. caller_of event < count)) (sym leads.1.moved.1.history)
+    (all-told count caller c.events (event_at (state_of c) caller) (All-head (IsBelow count) (steps caller) moves below)
+    (event_own caller (errand_at c.errands caller).point (found_at (state_of c) caller)) all))
+
+-- the machine before its first step
+opened-word : (g : Geometry) (c : CoreFields) (name : WordName) → IsOpened g (opening g) c → word_in g c.words name ≡ (if exists g name then opening g name else 0)
+unfolding word_in
+opened-word g c name opened =
+    elim (cases_Bool (exists g name)) [
+      | inl is ↦ opened.words name (true-Exists g name is) ∙ ap (λ b. if b then opening g name else 0) (sym is)
+      | inr isnt ↦ rw isnt refl
+    ]
+
+pub opened-opens : (g : Geometry) (c : CoreFields) → IsOpened g (opening g) c → IsOpening g (opening g) (state_of c)
+opened-opens g c opened = record {
+  word = λ name. ap (λ h. word_in h c.words name) opened.geometry ∙ opened-word g c name opened;
+  errand = opened.errands;
+  history = opened.events;
+}
+
+le-max : (n : ℕ) → n ≤ max 1 n
+le-max n = omega arith
+
+-- new lanes stand on it
+pub opened-stand :
+    (trace : Trace) (c : CoreFields) (lanes : List (LaneState Grip)) → IsTrace trace → IsOpened trace.heap (opening trace.heap) c → IsCore c
+    → AreNew trace.lanes lanes → LanesStand trace c lanes
+opened-stand trace c lanes is opened core new =
+    let below : (lane : ℕ) → lane < length lanes → lane < c.geometry.callers =
+    λ lane lt. omega (arith, lt, new.all, is.callers, ap (λ (g : Geometry). g.callers) opened.geometry, le-max (length trace.lanes)) in
+    let idle : (lane : ℕ) → lane < c.geometry.callers → IsIdle (errand_at c.errands lane) =
+    λ lane has.
+    subst IsIdle (sym (opened.errands lane (subst (λ (g : Geometry). lane < g.callers) opened.geometry has))) refl in
+    record {
+      core = core;
+      heap = opened.geometry;
+      all = new.all;
+      numbered = λ lane state lt there. (new.each lane state lt there).caller_is;
+      each = λ lane state lt there.
+          let one = new.each lane state lt there in
+          let has = subst (λ k. k < c.geometry.callers) (sym one.caller_is) (below lane lt) in
+          record {
+            core = core;
+            has = has;
+            stands =
+                lane-new (λ grip. grip.place) (λ grip. grip.need) c.geometry lane c.events (errand_at c.errands state.caller) (operations_in trace lane)
+                state one (ap (own lane) opened.events) (idle state.caller has);
+          };
+      rest = λ caller least has. idle caller has;
+    }
+
+-- fits of each lane are fits of all
+fits-all :
+    (g : Geometry) (history : List Event) (lost base : ℕ) (lanes : List (List Op)) (outcomes : List (List Outcome)) → length outcomes ≡ length lanes
+    → ((k : ℕ) → k < length lanes → Fits (setting_in history (base + k) g.turn_limit lost) (get_or lanes k []) (get_or outcomes k []))
+    → LanesFit g history lost base lanes outcomes
+fits-all g history lost base [] [] same each = tt
+fits-all g history lost base (operations ∷ lanes) [] same each = absurd (omega (arith, same))
+fits-all g history lost base [] (results ∷ outcomes) same each = absurd (omega (arith, same))
+fits-all g history lost base (operations ∷ lanes) (results ∷ outcomes) same each = (
+  subst (λ k. Fits (setting_in history k g.turn_limit lost) operations results) (omega arith) (each 0 (omega arith)),
+  fits-all g history lost (suc base) lanes outcomes (omega (arith, same))
+      (λ k lt.
+      subst (λ n. Fits (setting_in history n g.turn_limit lost) (get_or lanes k []) (get_or outcomes k [])) (omega arith)
+      (each (suc k) (omega (arith, lt)))),
+)
+
+-- a new lane has begun nothing
+new-passed :
+    (passed : ℕ → ℕ → Type 0) (lane : LaneState Grip) → lane.outcomes.items ≡ [] → lane.stage ≡ stage.Between → HasPassed passed lane
+new-passed passed lane none between op lt =
+    let zero_begun : begun_count lane.outcomes.items lane.stage ≡ 0 =
+    ap (λ (results : List Outcome). begun_count results lane.stage) none ∙ ap (λ at. begun_count [] at) between in
+    absurd (omega (arith, lt, zero_begun))
+
+-- a lane at its end
+module _ (passed : ℕ → ℕ → Type 0) (trace : Trace) (first mid last : CoreFields) (start middle lanes : List (LaneState Grip)) (is : IsTrace trace) (opened : IsOpened trace.heap (opening trace.heap) first) (core : IsCore first) (new : AreNew trace.lanes start) (follow : HaveFollowed passed trace trace.orders first mid start middle) (finish : HaveFinished passed trace (length trace.lanes) mid last middle lanes) where
+  ran : LanesRan passed trace first last start lanes
+  ran = lanes-more passed trace first mid last start middle lanes (follow.stand.all ∙ sym new.all) follow.ran finish.ran
+
+  -- a lane at its end stands so
+  record AtEnd (lane : ℕ) : Type 0 where
+    state : LaneState Grip
+    there : state ≡ get_or lanes lane state
+    number : state.caller ≡ lane
+    stands : StandsOn last (operations_in trace lane) state
+    ended : HasEnded (operations_in trace lane) state
+    script : IsOnScriptOf (operations_in trace lane) state (calls_of lane ran.moves)
+    gone : HasPassed passed state
+
+  at-end : (lane : ℕ) → lane < length trace.lanes → AtEnd lane
+  at-end lane lt =
+      let below : lane < length lanes = omega (arith, lt, finish.stand.all) in
+      let before : lane < length start = omega (arith, lt, new.all) in
+      let now = element_at lanes lane below in
+      let was = element_at start lane before in
+      let one = new.each lane was.0 before was.1 in
+      record {
+        state = now.0;
+        there = now.1;
+        number = finish.stand.numbered lane now.0 below now.1;
+        stands = finish.stand.each lane now.0 below now.1;
+        ended = (finish.ended lane lt).1 now.0 now.1;
+        script =
+            ran.scripts lane was.0 now.0 [] before was.1 now.1
+            (script-new (λ grip. grip.place) (λ grip. grip.need) lane (length (operations_in trace lane)) (operations_in trace lane) was.0 one);
+        gone = ran.gates lane was.0 now.0 before was.1 now.1 (new-passed passed was.0 one.none one.between);
+      }
+
+  results : List (List Outcome)
+  results = map (λ (lane : LaneState Grip). lane.outcomes.items) lanes
+
+  result-at : (lane : ℕ) (lt : lane < length trace.lanes) → (at-end lane lt).state.outcomes.items ≡ get_or results lane []
+  unfolding results
+  result-at lane lt =
+      let e = at-end lane lt in
+      let below : lane < length lanes = omega (arith, lt, finish.stand.all) in
+      ap (λ (s : LaneState Grip). s.outcomes.items) e.there
+      ∙ sym (get_or-map (λ (lane : LaneState Grip). lane.outcomes.items) lanes lane e.state [] below)
+
+  order : InOrder trace.orders (length trace.lanes) (steppers_of ran.moves)
+  unfolding ran lanes-more
+  order =
+      let left = steppers_of finish.ran.moves in
+      let turns : InTurn 0 (length trace.lanes) left =
+      subst (λ n. InTurn 0 n left) (omega arith)
+      (subst (InTurn 0 (length trace.lanes + 0)) (append-nil left) (finish.order 0 [] (λ lane ended. contains-none lane) refl)) in
+      let whole = follow.order.goes_on [] (length trace.lanes) left (λ lane ended. (finish.ran.still lane ended).0) turns in
+      subst (InOrder trace.orders (length trace.lanes)) (sym (steppers-append follow.ran.moves finish.ran.moves))
+      (subst (λ runs. InOrder runs (length trace.lanes) (steppers_of follow.ran.moves ++ left)) (append-nil trace.orders) whole)
+
+  scripts :
+      (lane : ℕ) → lane < length trace.lanes
+      → Scripts (replicate REGISTERS None) (get_or trace.lanes lane []) (get_or results lane []) (calls_of lane ran.moves)
+  scripts lane lt =
+      let e = at-end lane lt in
+      let p = progress_of (λ grip. grip.place) (λ grip. grip.need) e.state in
+      let on : IsOnScript (operations_in trace lane) p.registers p.results stage.Between (calls_of lane ran.moves) =
+      subst (λ at. IsOnScript (operations_in trace lane) p.registers p.results at (calls_of lane ran.moves)) e.ended.between e.script in
+      subst (λ results. Scripts (replicate REGISTERS None) (operations_in trace lane) results (calls_of lane ran.moves)) (result-at lane lt)
+      (script-whole (operations_in trace lane) p.registers p.results (calls_of lane ran.moves) e.ended.all on)
+
+  idle : (caller : ℕ) → caller < trace.heap.callers → IsIdle (errand_at last.errands caller)
+  idle caller has =
+      elim (cases_lt caller (length trace.lanes)) [
+        | inl lt ↦
+            let e = at-end caller lt in
+            let p = progress_of (λ grip. grip.place) (λ grip. grip.need) e.state in
+            let quiet =
+            (lane-between last.geometry e.state.caller last.events (errand_at last.errands e.state.caller) (operations_in trace caller) p.registers
+            p.results e.state.stage e.stands.stands.stands e.ended.between).0 in
+            subst (λ k. IsIdle (errand_at last.errands k)) e.number quiet
+        | inr least ↦
+            finish.stand.rest caller (omega (arith, least, finish.stand.all))
+            (subst (λ (g : Geometry). caller < g.callers) (sym finish.stand.heap) has)
+      ]
+
+  lost-most : (caller : ℕ) → caller < last.geometry.callers → (errand_at last.errands caller).lost ≤ lost_by_all last
+  unfolding callers_sum
+  lost-most caller has = term-sum last.geometry.callers (λ caller. lost_of (errand_at last.errands caller)) caller has
+
+  fits-at :
+      (lane : ℕ) → lane < length trace.lanes
+      → Fits (setting_in last.events (0 + lane) trace.heap.turn_limit (lost_by_all last)) (get_or trace.lanes lane []) (get_or results lane [])
+  fits-at lane lt =
+      let e = at-end lane lt in
+      let p = progress_of (λ grip. grip.place) (λ grip. grip.need) e.state in
+      let fit =
+      lane-fits last.geometry e.state.caller last.events (errand_at last.errands e.state.caller) (operations_in trace lane) p.registers p.results
+      e.state.stage (lost_by_all last) e.stands.stands.stands e.ended.between e.ended.all (lost-most e.state.caller e.stands.has) in
+      subst (λ results. Fits (setting_in last.events (0 + lane) trace.heap.turn_limit (lost_by_all last)) (operations_in trace lane) results)
+      (result-at lane lt)
+      (subst (λ k. Fits (setting_in last.events k trace.heap.turn_limit (lost_by_all last)) (operations_in trace lane) p.results)
+      (e.number ∙ sym (zero-add lane))
+      (subst (λ (g : Geometry). Fits (setting_in last.events e.state.caller g.turn_limit (lost_by_all last)) (operations_in trace lane) p.results)
+      finish.stand.heap fit))
+
+  pub driven : IsDriven trace trace.orders last (map (λ (lane : LaneState Grip). lane.outcomes.items) lanes)
+  unfolding results
+  driven = record {
+    geometry = finish.stand.heap;
+    opened = state_of first;
+    opens = opened-opens trace.heap first opened;
+    moves = ran.moves;
+    drives =
+        ran.drives [] (λ lane state lt there.
+        script-new (λ grip. grip.place) (λ grip. grip.need) lane (length (operations_in trace lane)) (operations_in trace lane) state
+        (new.each lane state lt there));
+    counted =
+        leads-counted first last ran.moves 0 opened.steps ran.leads ∙ ap (λ n. min n (2 ^ 64 - 1)) (zero-add (count_by is_step ran.moves));
+    order = order;
+    scripts = scripts;
+    idle = idle;
+    fit = record {
+      lanes_fit =
+          fits-all trace.heap last.events (lost_by_all last) 0 trace.lanes results
+          (length-map lanes (λ (lane : LaneState Grip). lane.outcomes.items) ∙ finish.stand.all) fits-at;
+      callers =
+          subst (λ n. AllByRecursion (λ event. caller_of event < n) last.events) new.all
+          (leads-callers (length start) first last ran.moves ran.by_lanes ran.leads
+          (subst (AllByRecursion (λ event. caller_of event < length start)) (sym opened.events) tt));
+    };
+  }
+
+  pub all-passed : AllPassed passed trace.lanes
+  all-passed lane op lt =
+      elim (cases_lt lane (length trace.lanes)) [
+        | inl below ↦
+            let e = at-end lane below in
+            let begun : begun_count e.state.outcomes.items e.state.stage ≡ length e.state.outcomes.items =
+            ap (begun_count e.state.outcomes.items) e.ended.between ∙ omega arith in
+            let through : op < begun_count e.state.outcomes.items e.state.stage = omega (arith, lt, begun, e.ended.all) in
+            subst (λ k. passed k (min op (2 ^ 32 - 1))) e.number (e.gone op through)
+        | inr least ↦
+            let none : get_or trace.lanes lane [] ≡ [] = get_or-eq_default trace.lanes [] least in
+            absurd (let zero_long : length (get_or trace.lanes lane []) ≡ 0 = ap length none in omega (arith, lt, zero_long))
+      ]
+
+-- what is told of them
+map-twice : {A B C : Type 0} (f : B → C) (g : A → B) (xs : List A) → map f (map g xs) ≡ map (λ x. f (g x)) xs
+map-twice f g [] = refl
+map-twice f g (x ∷ xs) = ap (λ ys. f (g x) ∷ ys) (map-twice f g xs)
+
+pub told-driven :
+    (trace : Trace) (last : CoreFields) (lanes : List (LaneState Grip)) (result : Result (Vec (Vec Outcome Global) Global) AllocError)
+    → IsDriven trace trace.orders last (map (λ (lane : LaneState Grip). lane.outcomes.items) lanes)
+    → IfOk result (λ outcomes. outcomes.items ≡ map (λ (lane : LaneState Grip). lane.outcomes) lanes)
+    → IfOk result (λ outcomes. IsDriven trace trace.orders last (map (λ lane. lane.items) outcomes.items))
+told-driven trace last lanes (Ok outcomes) is same =
+    subst (IsDriven trace trace.orders last)
+    (sym (ap (map (λ (lane : Vec Outcome Global). lane.items)) same
+    ∙ map-twice (λ (lane : Vec Outcome Global). lane.items) (λ (lane : LaneState Grip). lane.outcomes) lanes)) is
+told-driven trace last lanes (Err e) is same = tt
+
+pub told-passed : {T : Type 0} (P : Type 0) (result : Result T AllocError) → P → OnOk result P
+told-passed P (Ok value) p = p
+told-passed P (Err e) p = tt
+
+-- new lanes, one after the other
+pub new-none : (lanes : List (LaneState Grip)) → lanes ≡ [] → AreNew [] lanes
+new-none lanes none = record {
+  all = ap length none;
+  each = λ lane state lt there. absurd (let zero_long : length lanes ≡ 0 = ap length none in omega (arith, lt, zero_long));
+}
+
+pub new-more :
+    (lanes : List (List Op)) (k : ℕ) (states more : List (LaneState Grip)) (state : LaneState Grip) → k < length lanes
+    → AreNew (take k lanes) states → IsNew k (length (get_or lanes k [])) state → more ≡ states ++ state ∷ []
+    → AreNew (take (k + 1) lanes) more
+new-more lanes k states more state lt new one is =
+    let before : length states ≡ k = new.all ∙ length-take-le k lanes (omega (arith, lt)) in
+    let long : length more ≡ k + 1 = ap length is ∙ omega (arith, length-append states (state ∷ []), before) in
+    record {
+      all = long ∙ sym (length-take-le (k + 1) lanes (omega (arith, lt)));
+      each = λ lane now below there.
+          let here : now ≡ get_or (states ++ state ∷ []) lane now = there ∙ ap (λ xs. get_or xs lane now) is in
+          elim (cases_eq lane k) [
+            | inl same ↦
+                let last : get_or (states ++ state ∷ []) lane now ≡ state = get_or_push states state now lane (before ∙ sym same) in
+                let mine : get_or (take (k + 1) lanes) lane [] ≡ get_or lanes k [] =
+                get_or-take (k + 1) lanes lane [] (omega (arith, same)) ∙ ap (λ n. get_or lanes n []) same in
+                subst (λ operations. IsNew lane (length operations) now) (sym mine)
+                (subst (IsNew lane (length (get_or lanes k []))) (sym (here ∙ last))
+                (subst (λ n. IsNew n (length (get_or lanes k [])) state) (sym same) one))
+            | inr ne ↦
+                let early : lane < k = omega (arith, ne, below, long) in
+                let was : now ≡ get_or states lane now = here ∙ get_or_append_left states (state ∷ []) now lane (omega (arith, early, before)) in
+                let mine : get_or (take (k + 1) lanes) lane [] ≡ get_or (take k lanes) lane [] =
+                get_or-take (k + 1) lanes lane [] (omega (arith, early)) ∙ sym (get_or-take k lanes lane [] early) in
+                subst (λ operations. IsNew lane (length operations) now) (sym mine) (new.each lane now (omega (arith, early, before)) was)
+          ];
+    }
+
+pub new-all : (lanes : List (List Op)) (k : ℕ) (states : List (LaneState Grip)) → length lanes ≤ k → AreNew (take k lanes) states → AreNew lanes states
+new-all lanes k states least new = subst (λ ls. AreNew ls states) (take_all k lanes least) new
+
+pub lane-is :
+    {X : Type 0} (f : X → List Op) (lanes : List X) (all : List (List Op)) (k : ℕ) (lane : X) → map f lanes ≡ all → k < length lanes
+    → lane ≡ get_or lanes k lane → get_or all k [] ≡ f lane
+lane-is f lanes all k lane is lt there =
+    ap (λ xs. get_or xs k []) (sym is) ∙ get_or-map f lanes k lane [] lt ∙ ap f (sym there)

@@ -1,0 +1,311 @@
+-- A lane that runs alone ends: each of its advances leaves less of its script, or fewer steps of its call.
+use Rattle.std.proofs.Common.{ℕ, ◌≡◌, ◌<◌, ◌≤◌, ◌+◌, ◌*◌, ◌^◌, ◌⊎◌, Bool, true, false, not, if◌then◌else◌, Option, Some, None, List, [], ◌∷◌, ◌++◌, length, length-append, drop, refl, sym, ap, ◌∙◌, subst, inl, inr, arith}
+use Rattle.std.proofs.lemmas.Bool.{true≢false}
+use Rattle.heap_geometry.specs.declared.geometry.Geometry.{Geometry}
+use Rattle.heap_geometry.specs.declared.limits.TheConstants.{CALL_STEPS}
+use Rattle.word_plan.specs.declared.action.Found.{Found}
+use Rattle.packed_words.specs.declared.shelf.ShelfWord.{ShelfWord}
+use Rattle.packed_words.specs.declared.shelf.ShelfWord.TheVariants as word
+use Rattle.packed_words.specs.Shelf.{shelf_of}
+use Rattle.pool_model.specs.declared.event.Event.{Event}
+use Rattle.pool_model.specs.Histories.{caller_of, own}
+use Rattle.pool_model.specs.Pool.{Pool, pool_of}
+use Rattle.pool_model.proofs.HistoryLemmas.{own-append}
+use Rattle.pool_model.proofs.OwnerLemmas.{own-none}
+use Rattle.trace_text.specs.declared.trace.Op.{Op}
+use Rattle.trace_text.specs.declared.trace.Op.TheVariants as op
+use Rattle.large_parts.specs.declared.point.LargePoint.TheVariants as large
+use Rattle.superblock_parts.specs.declared.point.BlockPoint.{BlockPoint}
+use Rattle.superblock_parts.specs.declared.point.BlockPoint.TheVariants as block
+use Rattle.large_parts.specs.Points.{after_shelf}
+use Rattle.word_plan.specs.Seats.{SeatFields}
+use Rattle.stack_parts.specs.Points.{seat_of_stack}
+use Rattle.hazard_parts.specs.Points.{seat_of_desc}
+use Rattle.partial_parts.specs.Points.{seat_of_partial}
+use Rattle.pool_model.specs.declared.event.Event.TheVariants.{Take, TakeNone}
+use Rattle.errand_steps.specs.declared.continuation.Continuation.{Continuation}
+use Rattle.errand_steps.specs.declared.continuation.Continuation.TheVariants as continuation
+use Rattle.errand_steps.specs.declared.point.Point.{Point}
+use Rattle.errand_steps.specs.declared.point.Point.TheVariants as point
+use Rattle.errand_steps.specs.Begins.{take_begun}
+use Rattle.errand_steps.specs.Calls.{take}
+use Rattle.errand_steps.specs.Errands.{ErrandFields, after_list, after_turn, counts_lost, course_of, point_after, settle_of}
+use Rattle.errand_steps.specs.Events.{event_of}
+use Rattle.errand_steps.specs.Nexts.{enter_large, next_of}
+use Rattle.errand_steps.specs.Points.{plan_point_of, is_idle}
+use Rattle.errand_steps.specs.Steps.{State, Step, event_at, found_at, with_event}
+use Rattle.errand_steps.proofs.EventLemmas.{event_own}
+use Rattle.call_events.specs.Stages.{block_stage, continuation_stage}
+use Rattle.call_events.specs.UnderWay.{IsUnderWay, SoFar}
+use Rattle.sound_state.specs.Alone.{alone_left, class_at, clearings, emptied_for, stale_words}
+use Rattle.sound_state.specs.Expectations.{expects_of}
+use Rattle.sound_state.specs.TurnStages.{in_turn}
+use Rattle.sound_state.proofs.wins.BegunWins.{begun-expects}
+use Rattle.std.specs.Prelude.{count_by}
+use Rattle.sound_state.specs.Moves.{is_step}
+use Rattle.sound_state.specs.Runs.{Begins, Move, begins, steps}
+use Rattle.sound_state.specs.Sound.{IsSound}
+use Rattle.sound_state.specs.StepsLeft.{steps_left}
+use Rattle.sound_state.specs.Turns.{one_if}
+use Rattle.sound_state.proofs.endings.AloneLemmas.{alone-falls, alone-stale}
+use Rattle.sound_state.proofs.endings.RunsAlone.{alone-below}
+use Rattle.sound_state.proofs.endings.StaleLemmas.{none-stale}
+use Rattle.step_core.specs.Cores.{CoreFields, IsCore, errand_at, state_of}
+use Rattle.step_core.proofs.CoreLemmas.{core-sound}
+use Rattle.lane_engine.specs.Machines.{MovesCore}
+use Rattle.lane_engine.specs.declared.over_core.Grip.{Grip}
+use Rattle.lane_outcomes.specs.declared.outcome.Outcome.{Outcome}
+use Rattle.lane_outcomes.specs.declared.registers.Held.{Held}
+use Rattle.lane_outcomes.specs.Lane.{State as Standing}
+use Rattle.lane_runner.specs.declared.lane.LaneState.{LaneState}
+use Rattle.lane_runner.specs.declared.stage.Stage.{Stage}
+use Rattle.lane_runner.specs.declared.stage.Stage.TheVariants as stage
+use Rattle.lane_runner.specs.Lanes.{IsAt}
+use Rattle.lane_runner.specs.Operations.{IsDoing}
+use Rattle.lane_runner.specs.Paths.{Leads, HasAdvanced, StaysInCall}
+use Rattle.lane_runner.specs.Running.{StandsOn}
+use Rattle.lane_runner.specs.Scripts.{script_left}
+use Rattle.lane_runner.specs.States.{progress_of}
+
+-- a take isn't under way in a superblock, nor at a stack, at the descriptors or at a partial superblock
+block-none : (caller k : ℕ) (p : BlockPoint) (o : Continuation) (added : List Event) → SoFar caller (take k) (block_stage p o) added → ⊥
+block-none caller k (block.StorePrefix at i) o added way = way
+block-none caller k p o added way = way
+
+other-none :
+    (caller k : ℕ) (looked : Bool) (s : SeatFields) (o : Continuation) (added : List Event)
+    → SoFar caller (take k) (continuation_stage looked s o) added → ⊥
+other-none caller k looked s (continuation.Alloc words) added way = way
+other-none caller k looked s o added way = way
+
+-- a shelf's word leads on
+shelf-at :
+    (e : ErrandFields) (shelf : ℕ) (o : Continuation) (w : Option ShelfWord)
+    → is_idle (point_after (after_turn e (after_list e (enter_large (after_shelf shelf w) o)))) ≡ true → ⊥
+shelf-at e shelf o None idle = true≢false (sym idle)
+shelf-at e shelf o (Some word.Nothing) idle = true≢false (sym idle)
+shelf-at e shelf o (Some (word.Block place need)) idle = true≢false (sym idle)
+
+shelf-busy :
+    (e : ErrandFields) (shelf : ℕ) (o : Continuation) (x : Found)
+    → is_idle (settle_of (record e { point = point.Large (large.LoadShelf shelf) o }) x).point ≡ true → ⊥
+unfolding settle_of course_of next_of
+shelf-busy e shelf o x idle = shelf-at (record e { point = point.Large (large.LoadShelf shelf) o }) shelf o (shelf_of x.value) idle
+
+-- an event that isn't told
+won-none : (won : Bool) (event : Event) → (if won then Some event else None) ≡ None → not won ≡ true
+won-none true event is = cc
+won-none false event is = refl
+
+-- a take that ends and tells nothing has lost
+missed-lost :
+    (caller k : ℕ) (e : ErrandFields) (p : Point) (x : Found) (added : List Event) → IsUnderWay caller (take k) p added
+    → is_idle (settle_of (record e { point = p }) x).point ≡ true → event_of caller p x ≡ None → counts_lost p x ≡ true
+unfolding event_of plan_point_of
+missed-lost caller k e point.Idle x added way idle none = absurd way
+missed-lost caller k e (point.Block p o) x added way idle none = absurd (block-none caller k p o added way)
+missed-lost caller k e (point.Stack p o) x added way idle none = absurd (other-none caller k false (seat_of_stack p) o added way)
+missed-lost caller k e (point.Desc p o) x added way idle none = absurd (other-none caller k true (seat_of_desc p) o added way)
+missed-lost caller k e (point.Partial p o) x added way idle none = absurd (other-none caller k false (seat_of_partial p) o added way)
+missed-lost caller k e (point.Large (large.LoadShelf shelf) o) x added way idle none = absurd (shelf-busy e shelf o x idle)
+missed-lost caller k e (point.Large (large.TakeBlock shelf place need) o) x added way idle none =
+    won-none x.won (Take caller shelf place) none
+missed-lost caller k e (point.Large (large.ConfirmNothing shelf) o) x added way idle none =
+    won-none x.won (TakeNone caller shelf) none
+missed-lost caller k e (point.Large p o) x added way idle none = absurd way
+
+-- where a take has begun again and the stage is the same, a take was under way before
+doing-take :
+    (caller shelf : ℕ) (pool pool' : Pool) (p : Point) (state state' : Standing) (registers registers' : List (Option Held)) (operation : Op)
+    (at : Stage) (added added' : List Event) → IsDoing caller pool p state registers operation at added
+    → IsDoing caller pool' (point.Large (large.LoadShelf shelf) continuation.Nothing) state' registers' operation at added'
+    → (k : ℕ) × IsUnderWay caller (take k) p added
+doing-take caller shelf pool pool' p state state' registers registers' (op.Alloc r need v) stage.Calling added added' d d' = absurd d'.3
+doing-take caller shelf pool pool' p state state' registers registers' (op.Alloc r need v) (stage.Filling next) added added' d d' =
+    absurd d'.4.writing.under_way
+doing-take caller shelf pool pool' p state state' registers registers' (op.Free r) stage.Calling added added' d d' = absurd d'.under_way
+doing-take caller shelf pool pool' p state state' registers registers' (op.Fill r v) (stage.Filling next) added added' d d' =
+    absurd d'.3.under_way
+doing-take caller shelf pool pool' p state state' registers registers' (op.Check r) (stage.Summing next total) added added' d d' =
+    absurd d'.3.under_way
+doing-take caller shelf pool pool' p state state' registers registers' (op.Put r k) stage.Calling added added' d d' = absurd d'.under_way
+doing-take caller shelf pool pool' p state state' registers registers' (op.Take r k) stage.Calling added added' d d' = (k, d.2)
+doing-take caller shelf pool pool' p state state' registers registers' operation at added added' d d' = absurd d
+
+under-take :
+    (caller shelf : ℕ) (pool pool' : Pool) (p : Point) (state state' : Standing) (registers registers' : List (Option Held)) (operations : List Op)
+    (at : Stage) (added added' : List Event)
+    → (operation : Op) × (rest : List Op) × (operations ≡ operation ∷ rest) × IsDoing caller pool p state registers operation at added
+    → (operation : Op) × (rest : List Op) × (operations ≡ operation ∷ rest)
+    × IsDoing caller pool' (point.Large (large.LoadShelf shelf) continuation.Nothing) state' registers' operation at added'
+    → (k : ℕ) × IsUnderWay caller (take k) p added
+under-take caller shelf pool pool' p state state' registers registers' operations at added added' d d' =
+    let same : d'.0 ≡ d.0 = (let e = d.2 in let f = d'.2 in cc) in
+    doing-take caller shelf pool pool' p state state' registers registers' d.0 at added added' d.3
+    (subst (λ operation. IsDoing caller pool' (point.Large (large.LoadShelf shelf) continuation.Nothing) state' registers' operation at added') same d'.3)
+
+at-take :
+    (caller shelf : ℕ) (events events' : List Event) (e e' : ErrandFields) (state state' : Standing) (registers registers' : List (Option Held))
+    (operations : List Op) (at : Stage) (added added' : List Event) → IsAt caller events e state registers operations at added
+    → IsAt caller events' e' state' registers' operations at added' → e'.point ≡ point.Large (large.LoadShelf shelf) continuation.Nothing
+    → (k : ℕ) × IsUnderWay caller (take k) e.point added
+at-take caller shelf events events' e e' state state' registers registers' operations stage.Between added added' d d' is =
+    absurd (true≢false (sym d'.0 ∙ ap is_idle is))
+at-take caller shelf events events' e e' state state' registers registers' operations stage.Calling added added' d d' is =
+    under-take caller shelf (pool_of events) (pool_of events') e.point state state' registers registers' operations stage.Calling added added' d
+    (d'.0, d'.1, d'.2, subst (λ p. IsDoing caller (pool_of events') p state' registers' d'.0 stage.Calling added') is d'.3)
+at-take caller shelf events events' e e' state state' registers registers' operations (stage.Filling next) added added' d d' is =
+    under-take caller shelf (pool_of events) (pool_of events') e.point state state' registers registers' operations (stage.Filling next) added added' d
+    (d'.0, d'.1, d'.2, subst (λ p. IsDoing caller (pool_of events') p state' registers' d'.0 (stage.Filling next) added') is d'.3)
+at-take caller shelf events events' e e' state state' registers registers' operations (stage.Summing next total) added added' d d' is =
+    under-take caller shelf (pool_of events) (pool_of events') e.point state state' registers registers' operations (stage.Summing next total) added added' d
+    (d'.0, d'.1, d'.2, subst (λ p. IsDoing caller (pool_of events') p state' registers' d'.0 (stage.Summing next total) added') is d'.3)
+
+-- an event of the caller's would be seen
+append-none : (xs ys : List Event) → xs ++ ys ≡ xs → ys ≡ []
+append-none xs [] is = refl
+append-none xs (y ∷ ys) is = absurd (omega (arith, length-append xs (y ∷ ys), ap length is))
+
+none-with :
+    (caller : ℕ) (events : List Event) (o : Option Event) → ((e : Event) → o ≡ Some e → caller_of e ≡ caller)
+    → own caller (with_event events o) ≡ own caller events → o ≡ None
+none-with caller events None mine same = refl
+none-with caller events (Some e) mine same =
+    let alone = append-none (own caller events) (own caller (e ∷ [])) (sym (own-append caller events (e ∷ [])) ∙ same) in
+    absurd ((own-none caller e [] alone).0 (mine e refl))
+
+none-told :
+    (caller : ℕ) (events : List Event) (p : Point) (x : Found) → own caller (with_event events (event_of caller p x)) ≡ own caller events
+    → event_of caller p x ≡ None
+none-told caller events p x same = none-with caller events (event_of caller p x) (event_own caller p x) same
+
+-- what is left of a lane: of its script, and of the call under way
+abbrev pub lane_left : CoreFields → List Op → LaneState Grip → ℕ
+lane_left c operations lane =
+    script_left operations lane.outcomes.items lane.stage * 2 ^ 64 + alone_left c.geometry (state_of c) lane.caller
+
+-- in numbers
+below-again :
+    (stale clear left stale' clear' left' : ℕ) → stale ≡ 0 → clear ≡ 0 → left ≡ 2 → 1 ≤ stale'
+    → (stale + clear) * CALL_STEPS + left < (stale' + clear') * CALL_STEPS + left'
+below-again stale clear left stale' clear' left' a b c d = omega (arith, a, b, c, d)
+
+below-left : (script script' alone alone' : ℕ) → script' < script → alone' < 2 ^ 64 → script' * 2 ^ 64 + alone' < script * 2 ^ 64 + alone
+below-left script script' alone alone' a b = omega (arith, a, b)
+
+below-alone : (script script' alone alone' : ℕ) → script' ≡ script → alone' < alone → script' * 2 ^ 64 + alone' < script * 2 ^ 64 + alone
+below-alone script script' alone alone' a b = omega (arith, a, b)
+
+-- a take that begins again has less left than before its step
+again-falls :
+    (g : Geometry) (s mid after : State) (caller shelf : ℕ) → IsSound g s → caller < g.callers → Step s caller mid
+    → Begins mid caller (take shelf) after → counts_lost (s.errand caller).point (found_at s caller) ≡ true
+    → alone_left g after caller < alone_left g s caller
+unfolding take_begun steps_left
+again-falls g s mid after caller shelf sound has step begun lost =
+    let here : after.errand caller ≡ take_begun (mid.errand caller) shelf =
+    ap (λ (t : State). t.errand caller) begun.after ∙ begun.moves.here in
+    let there : (after.errand caller).point ≡ point.Large (large.LoadShelf shelf) continuation.Nothing = ap (λ (e : ErrandFields). e.point) here in
+    let fresh : stale_words g after caller ≡ 0 =
+    none-stale g after caller
+    (ap (λ (e : ErrandFields). expects_of e.point) here ∙ begun-expects (mid.errand caller) (take shelf) begun.idle) in
+    let turn : in_turn (after.errand caller).point ≡ false = ap in_turn there in
+    let clear : clearings g after caller ≡ 0 =
+    ap (λ (b : Bool). if b then emptied_for g after (class_at (after.errand caller).point) else 0) turn in
+    let left : steps_left g (after.errand caller).point ≡ 2 = ap (steps_left g) there in
+    let met = alone-stale g s caller mid sound has step in
+    below-again (stale_words g after caller) (clearings g after caller) (steps_left g (after.errand caller).point) (stale_words g s caller)
+    (clearings g s caller) (steps_left g (s.errand caller).point) fresh clear left
+    (let one : one_if (counts_lost (s.errand caller).point (found_at s caller)) ≡ 1 = ap one_if lost in omega (arith, met, one))
+
+-- the call under way is nearer to its end
+step-falls :
+    (c after : CoreFields) (caller : ℕ) → IsCore c → caller < c.geometry.callers → Leads MovesCore c (steps caller ∷ []) after
+    → alone_left after.geometry (state_of after) caller < alone_left c.geometry (state_of c) caller
+step-falls c after caller core has leads =
+    let P = λ (d : CoreFields). alone_left d.geometry (state_of d) caller < alone_left c.geometry (state_of c) caller in
+    let mid = leads.0 in
+    let falls = alone-falls c.geometry (state_of c) caller (state_of mid) (core-sound c core) has leads.1.moved.1 in
+    subst P (sym leads.2)
+    (subst (λ g. alone_left g (state_of mid) caller < alone_left c.geometry (state_of c) caller) (sym leads.1.heap) falls)
+
+tried-falls :
+    (c after : CoreFields) (caller shelf k : ℕ) (added : List Event) → IsCore c → caller < c.geometry.callers
+    → Leads MovesCore c (steps caller ∷ begins caller (take shelf) ∷ []) after → own caller after.events ≡ own caller c.events
+    → IsUnderWay caller (take k) (errand_at c.errands caller).point added
+    → alone_left after.geometry (state_of after) caller < alone_left c.geometry (state_of c) caller
+tried-falls c after caller shelf k added core has leads same way =
+    let mid = leads.0 in
+    let end = leads.2.0 in
+    let step = leads.1.moved.1 in
+    let begun = leads.2.1.moved.1 in
+    let seen : after.events ≡ with_event c.events (event_at (state_of c) caller) =
+    ap (λ (d : CoreFields). d.events) leads.2.2 ∙ ap (λ (s : State). s.history) begun.after ∙ step.history in
+    let none = none-told caller c.events (errand_at c.errands caller).point (found_at (state_of c) caller) (ap (own caller) (sym seen) ∙ same) in
+    let idle : is_idle (settle_of (errand_at c.errands caller) (found_at (state_of c) caller)).point ≡ true =
+    ap (λ (e : ErrandFields). is_idle e.point) (sym step.errand.here) ∙ begun.idle in
+    let lost =
+    missed-lost caller k (errand_at c.errands caller) (errand_at c.errands caller).point (found_at (state_of c) caller) added way idle none in
+    let falls =
+    again-falls c.geometry (state_of c) (state_of mid) (state_of end) caller shelf (core-sound c core) has step begun lost in
+    let P = λ (d : CoreFields). alone_left d.geometry (state_of d) caller < alone_left c.geometry (state_of c) caller in
+    subst P (sym leads.2.2)
+    (subst (λ g. alone_left g (state_of end) caller < alone_left c.geometry (state_of c) caller) (sym (leads.2.1.heap ∙ leads.1.heap)) falls)
+
+-- the point at which a take has begun
+begun-point :
+    (c after : CoreFields) (caller shelf : ℕ) → Leads MovesCore c (steps caller ∷ begins caller (take shelf) ∷ []) after
+    → (errand_at after.errands caller).point ≡ point.Large (large.LoadShelf shelf) continuation.Nothing
+unfolding take_begun
+begun-point c after caller shelf leads =
+    ap (λ (d : CoreFields). (errand_at d.errands caller).point) leads.2.2
+    ∙ ap (λ (t : State). (t.errand caller).point) leads.2.1.moved.1.after
+    ∙ ap (λ (e : ErrandFields). e.point) leads.2.1.moved.1.moves.here
+
+alone-left-falls :
+    (c after : CoreFields) (operations : List Op) (old new : LaneState Grip) (moves : List Move) → StandsOn c operations old
+    → StandsOn after operations new → new.caller ≡ old.caller → Leads MovesCore c moves after → count_by is_step moves ≡ 1
+    → new.outcomes.items ≡ old.outcomes.items → new.stage ≡ old.stage
+    → StaysInCall old.caller c.events after.events moves ⊎ (moves ≡ [])
+    → alone_left after.geometry (state_of after) old.caller < alone_left c.geometry (state_of c) old.caller
+alone-left-falls c after operations old new moves stands now caller leads one results same stays =
+    elim stays [
+      | inl goes ↦ elim goes [
+        | inl is ↦ step-falls c after old.caller stands.core stands.has (subst (λ moves. Leads MovesCore c moves after) is leads)
+        | inr again ↦
+            let lead = subst (λ moves. Leads MovesCore c moves after) again.1 leads in
+            let l = stands.stands.stands in
+            let l' = now.stands.stands in
+            let registers' = (progress_of (λ grip. grip.place) (λ grip. grip.need) new).registers in
+            let first =
+            subst (λ caller. IsAt caller after.events (errand_at after.errands caller) l'.state registers'
+            (drop (length new.outcomes.items) operations) new.stage l'.added) caller l'.stands in
+            let second =
+            subst (λ (results : List Outcome). IsAt old.caller after.events (errand_at after.errands old.caller) l'.state registers'
+            (drop (length results) operations) new.stage l'.added) results first in
+            let third =
+            subst (λ at. IsAt old.caller after.events (errand_at after.errands old.caller) l'.state registers'
+            (drop (length old.outcomes.items) operations) at l'.added) same second in
+            let way =
+            at-take old.caller again.0 c.events after.events (errand_at c.errands old.caller) (errand_at after.errands old.caller) l.state l'.state
+            (progress_of (λ grip. grip.place) (λ grip. grip.need) old).registers registers' (drop (length old.outcomes.items) operations)
+            old.stage l.added l'.added l.stands third (begun-point c after old.caller again.0 lead) in
+            tried-falls c after old.caller again.0 way.0 l.added stands.core stands.has lead again.2 way.1
+      ]
+      | inr is ↦ absurd (let e : count_by is_step moves ≡ 0 = ap (count_by is_step) is in omega (arith, one, e))
+    ]
+
+pub advance-falls :
+    (c after : CoreFields) (operations : List Op) (old new : LaneState Grip) → StandsOn c operations old → StandsOn after operations new
+    → after.geometry ≡ c.geometry → new.caller ≡ old.caller
+    → HasAdvanced MovesCore (λ c. c.events) c after old.caller operations (progress_of (λ grip. grip.place) (λ grip. grip.need) old)
+    (progress_of (λ grip. grip.place) (λ grip. grip.need) new) true
+    → lane_left after operations new < lane_left c operations old
+advance-falls c after operations old new stands now heap caller advanced =
+    elim advanced.goes_on [
+      | inl lt ↦ below-left _ _ _ _ lt (alone-below after.geometry (state_of after) new.caller (core-sound after now.core) now.has)
+      | inr same ↦ below-alone _ _ _ _
+          (let e = same.0 in let f = same.1 in cc)
+          (subst (λ k. alone_left after.geometry (state_of after) k < alone_left c.geometry (state_of c) old.caller) (sym caller)
+          (alone-left-falls c after operations old new advanced.moves stands now caller advanced.leads advanced.one_step same.0 same.1 same.2))
+    ]

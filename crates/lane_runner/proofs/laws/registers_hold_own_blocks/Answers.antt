@@ -1,5 +1,0 @@
-use Rattle.lane_runner.proofs.LiveLemmas.{registers-hold}
-use Rattle.lane_runner.proofs.laws.registers_hold_own_blocks.Goals as goal
-
-pub returns : goal.returns
-returns c = registers-hold

@@ -1,0 +1,25 @@
+use Rattle.std.proofs.Common.{ℕ, ◌≡◌, length, sym, ◌∙◌, subst, arith}
+use Rattle.lane_runner.specs.Running.{HaveFinished}
+use Rattle.lane_runner.proofs.OrderLemmas.{finished-none, finished-more}
+use Rattle.lane_runner.proofs.run_core.finish_lanes.Goals as goal
+
+pub loop-lane-init : goal.loop-lane-init
+loop-lane-init g c = finished-none (g.G.Gate.passed c.args.gate.now) c.args.trace.now c.args.core.now c.args.lanes.now.items c.requires.stand
+
+pub finish_lane-requires-clause-stand : goal.finish_lane-requires-clause-stand
+finish_lane-requires-clause-stand g c = c.loop-lane.invariant.stand
+
+pub loop-lane-preserved : goal.loop-lane-preserved
+loop-lane-preserved g c =
+    let before = c.loop-lane.invariant in
+    let same : length c.loop-lane.lanes.items ≡ length c.args.lanes.now.items = before.stand.all ∙ sym c.requires.stand.all in
+    finished-more (g.G.Gate.passed c.args.gate.now) c.args.trace.now c.loop-lane.lane c.args.core.now c.loop-lane.core c.finish_lane.new.core
+    c.args.lanes.now.items c.loop-lane.lanes.items c.finish_lane.new.lanes.items same before c.in_ok-finish_lane.ensures.ran
+
+pub returns-clause-ran : goal.returns-clause-ran
+returns-clause-ran g c =
+    let all : c.loop-lane.lane ≡ length c.args.trace.now.lanes =
+    omega (arith, c.loop-lane-test.false, c.loop-lane.auto.lane-end, c.len-lane-end.ensures) in
+    let P = λ (n : ℕ).
+    HaveFinished (g.G.Gate.passed c.args.gate.now) c.args.trace.now n c.args.core.now c.loop-lane.core c.args.lanes.now.items c.loop-lane.lanes.items in
+    subst P all c.loop-lane.invariant

@@ -1,0 +1,15 @@
+use Rattle.std.proofs.Common.{sym, ◌<◌, arith}
+use Rattle.std.proofs.lemmas.Result.{on_ok_weaker}
+use Rattle.std.proofs.Common.{length}
+use Rattle.lane_runner.proofs.OrderLemmas.{followed-one}
+use Rattle.lane_runner.proofs.run_core.follow_run.Goals as goal
+
+pub returns-clause-ran : goal.returns-clause-ran
+returns-clause-ran g c =
+    let lane = c.from-lane.result in
+    let lt : lane < length c.args.lanes.now.items = omega (arith, c.from-lane.ensures, c.requires.order.0, c.requires.stand.all) in
+    on_ok_weaker c.run_some.result
+    (followed-one (g.G.Gate.passed c.args.gate.now) c.args.trace.now c.args.core.now c.run_some.new.core c.args.lanes.now.items c.args.run lane
+    c.lane_of.result.now c.index_mut.result.now c.run_some.new.lane c.requires.stand lt (sym c.from-lane.ensures) c.lane_of.ensures
+    c.index_mut.ensures.value)
+    c.run_some.ensures.ran

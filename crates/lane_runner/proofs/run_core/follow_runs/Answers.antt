@@ -1,0 +1,37 @@
+use Rattle.std.proofs.Common.{◌≡◌, List, [], ◌∷◌, length, get_or, take, sym, ◌∙◌, subst}
+use Rattle.std.proofs.lemmas.Grind.{take_at_read}
+use Rattle.std.proofs.lemmas.List.{take_all}
+use Rattle.trace_text.specs.declared.trace.OrderRun.{OrderRun}
+use Rattle.lane_runner.specs.Running.{HaveFollowed}
+use Rattle.lane_runner.proofs.OrderLemmas.{followed-none, followed-more}
+use Rattle.lane_runner.proofs.run_core.follow_runs.Goals as goal
+
+pub loop-run-init : goal.loop-run-init
+loop-run-init g c = followed-none (g.G.Gate.passed c.args.gate.now) c.args.trace.now c.args.core.now c.args.lanes.now.items c.requires.stand
+
+pub follow_run-requires-clause-stand : goal.follow_run-requires-clause-stand
+follow_run-requires-clause-stand g c = c.loop-run.invariant.stand
+
+pub loop-run-preserved : goal.loop-run-preserved
+loop-run-preserved g c =
+    let passed = g.G.Gate.passed c.args.gate.now in
+    let runs = c.as_slice-run-items.result.now in
+    let i = c.loop-run.run-index in
+    let before = c.loop-run.invariant in
+    let same : length c.loop-run.lanes.items ≡ length c.args.lanes.now.items =
+    before.stand.all ∙ sym c.requires.stand.all in
+    let run : OrderRun = get_or runs i (record { lane = 0; steps = 0 }) in
+    let next =
+    followed-more passed c.args.trace.now (take i runs) (run ∷ []) c.args.core.now c.loop-run.core c.follow_run.new.core c.args.lanes.now.items
+    c.loop-run.lanes.items c.follow_run.new.lanes.items same before c.in_ok-follow_run.ensures.ran in
+    let P = λ (done : List OrderRun).
+    HaveFollowed passed c.args.trace.now done c.args.core.now c.follow_run.new.core c.args.lanes.now.items c.follow_run.new.lanes.items in
+    subst P (sym (take_at_read runs i (record { lane = 0; steps = 0 }) c.loop-run-test.true).1) next
+
+pub returns-clause-ran : goal.returns-clause-ran
+returns-clause-ran g c =
+    let passed = g.G.Gate.passed c.args.gate.now in
+    let runs = c.as_slice-run-items.result.now in
+    let P = λ (done : List OrderRun).
+    HaveFollowed passed c.args.trace.now done c.args.core.now c.loop-run.core c.args.lanes.now.items c.loop-run.lanes.items in
+    subst P (take_all c.loop-run.run-index runs c.loop-run-test.false ∙ c.as_slice-run-items.ensures) c.loop-run.invariant

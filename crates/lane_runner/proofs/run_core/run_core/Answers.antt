@@ -1,0 +1,23 @@
+use Rattle.lane_outcomes.specs.Passed.{AllPassed}
+use Rattle.lane_runner.proofs.DrivenLemmas.{all-passed, driven, opened-stand, told-driven, told-passed}
+use Rattle.lane_runner.proofs.run_core.run_core.Goals as goal
+
+pub follow_runs-requires-clause-stand : goal.follow_runs-requires-clause-stand
+follow_runs-requires-clause-stand g c =
+    opened-stand c.args.trace.now c.args.core.now c.in_ok-lanes.lanes.items c.requires.trace c.requires.opened c.steps.ensures.rule
+    c.in_ok-lanes.ensures
+
+pub returns-clause-driven : goal.returns-clause-driven
+returns-clause-driven g c =
+    told-driven c.args.trace.now c.finish_lanes.new.core c.finish_lanes.new.lanes.items c.outcomes_of.result
+    (driven (g.G.Gate.passed c.args.gate.now) c.args.trace.now c.args.core.now c.follow_runs.new.core c.finish_lanes.new.core
+    c.in_ok-lanes.lanes.items c.follow_runs.new.lanes.items c.finish_lanes.new.lanes.items c.requires.trace c.requires.opened c.steps.ensures.rule
+    c.in_ok-lanes.ensures c.in_ok-follow_runs.ensures.ran c.in_ok-finish_lanes.ensures.ran)
+    c.outcomes_of.ensures
+
+pub returns-clause-passed : goal.returns-clause-passed
+returns-clause-passed g c =
+    told-passed (AllPassed (g.G.Gate.passed c.args.gate.now) c.args.trace.now.lanes) c.outcomes_of.result
+    (all-passed (g.G.Gate.passed c.args.gate.now) c.args.trace.now c.args.core.now c.follow_runs.new.core c.finish_lanes.new.core
+    c.in_ok-lanes.lanes.items c.follow_runs.new.lanes.items c.finish_lanes.new.lanes.items c.requires.trace c.requires.opened c.steps.ensures.rule
+    c.in_ok-lanes.ensures c.in_ok-follow_runs.ensures.ran c.in_ok-finish_lanes.ensures.ran)

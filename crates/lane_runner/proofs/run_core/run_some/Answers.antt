@@ -1,0 +1,54 @@
+use Rattle.std.proofs.Common.{◌≡◌, ◌+◌, if◌then◌else◌, Bool, Ok, ap, ◌∙◌, subst, arith}
+use Rattle.lane_runner.specs.Running.{HasRun}
+use Rattle.lane_runner.proofs.RunLemmas.{ran-none, next-ran}
+use Rattle.lane_runner.proofs.run_core.run_some.Goals as goal
+
+pub loop-step-init : goal.loop-step-init
+loop-step-init g c = ran-none (g.G.Gate.passed c.args.gate.now) c.args.core.now c.args.operations.now c.args.lane.now c.requires.stands
+
+pub advance-requires-clause-serves : goal.advance-requires-clause-serves
+advance-requires-clause-serves g c = (c.loop-step.invariant.stands.core, c.loop-step.invariant.stands.has)
+
+pub advance-requires-clause-lane : goal.advance-requires-clause-lane
+advance-requires-clause-lane g c = c.loop-step.invariant.stands.stands
+
+pub returns-then-not-branch-clause-ran : goal.returns-then-not-branch-clause-ran
+returns-then-not-branch-clause-ran g c =
+    let now = c.in_ok-advance.ensures in
+    let made = c.in_ok-advance.field-0 in
+    let before = c.loop-step.invariant in
+    let ran =
+    next-ran (g.G.Gate.passed c.args.gate.now) c.args.core.now c.loop-step.core c.advance.new.engine c.args.operations.now c.args.lane.now
+    c.loop-step.lane c.advance.new.self c.loop-step._step made before (now.serves c.loop-step.lane.caller (before.stands.core, before.stands.has))
+    now.geometry now.caller now.lane now.others now.advanced (λ is. now.ended (ap Ok is)) now.passed in
+    let same : c.loop-step._step + (if made then 1 else 0) ≡ c.loop-step._step =
+    ap (λ (b : Bool). c.loop-step._step + (if b then 1 else 0)) c.if-not-branch.true ∙ omega arith in
+    let end = now.ended (ap Ok c.if-not-branch.true) in
+    record {
+      made = c.loop-step._step + (if made then 1 else 0);
+      ran = ran;
+      most = omega (arith, same, c.loop-step-test.true);
+      ended = λ lt. record { between = end.0; all = end.1 };
+    }
+
+pub loop-step-preserved : goal.loop-step-preserved
+loop-step-preserved g c =
+    let now = c.in_ok-advance.ensures in
+    let made = c.in_ok-advance.field-0 in
+    let before = c.loop-step.invariant in
+    let ran =
+    next-ran (g.G.Gate.passed c.args.gate.now) c.args.core.now c.loop-step.core c.advance.new.engine c.args.operations.now c.args.lane.now
+    c.loop-step.lane c.advance.new.self c.loop-step._step made before (now.serves c.loop-step.lane.caller (before.stands.core, before.stands.has))
+    now.geometry now.caller now.lane now.others now.advanced (λ is. now.ended (ap Ok is)) now.passed in
+    let P = λ (b : Bool).
+    HasRun (g.G.Gate.passed c.args.gate.now) c.args.core.now c.advance.new.engine c.args.operations.now c.args.lane.now c.advance.new.self
+    (c.loop-step._step + (if b then 1 else 0)) in
+    subst P c.if-not-branch.false ran
+
+pub returns-clause-ran : goal.returns-clause-ran
+returns-clause-ran g c = record {
+  made = c.loop-step._step;
+  ran = c.loop-step.invariant;
+  most = omega arith;
+  ended = λ lt. absurd (omega (arith, lt, c.loop-step-test.false));
+}

@@ -1,0 +1,78 @@
+-- The run of a trace on a machine, lane by lane as its order runs say.
+use Rattle.std.specs.Prelude.{ℕ, ◌≡◌, ◌≢◌, ◌<◌, ◌-◌, ◌^◌, ◌==◌, List, [], ◌∷◌, ◌++◌, Option, min, count_by, length, replicate, None, if◌then◌else◌}
+use Rattle.std.specs.List.{slice_index_or}
+use Rattle.trace_text.specs.declared.limits.TheConstants.{REGISTERS}
+use Rattle.trace_text.specs.declared.trace.Op.{Op}
+use Rattle.trace_text.specs.declared.trace.OrderRun.{OrderRun}
+use Rattle.trace_text.specs.declared.trace.Trace.{Trace}
+use Rattle.errand_steps.specs.Begins.{IsIdle}
+use Rattle.errand_steps.specs.Calls.{Call}
+use Rattle.errand_steps.specs.Openings.{opening, IsOpening}
+use Rattle.errand_steps.specs.Steps.{State}
+use Rattle.sound_state.specs.Contention.{lost_of}
+use Rattle.sound_state.specs.Moves.{is_step}
+use Rattle.sound_state.specs.Runs.{Move, Moved, begins, steps}
+use Rattle.sound_state.specs.Sums.{callers_sum}
+use Rattle.step_core.specs.Cores.{CoreFields, errand_at, state_of}
+use Rattle.heap_geometry.specs.declared.geometry.Geometry.{Geometry}
+use Rattle.lane_outcomes.specs.declared.outcome.Outcome.{Outcome}
+use Rattle.lane_outcomes.specs.declared.registers.Held.{Held}
+use Rattle.lane_outcomes.specs.Fits.{OutcomesFit}
+use Rattle.lane_runner.specs.Orders.{InOrder}
+use Rattle.lane_runner.specs.declared.stage.Stage.{Stage}
+use Rattle.lane_runner.specs.Lanes.{IsLane}
+use Rattle.lane_runner.specs.Scripts.{IsOnScript, Scripts}
+
+-- the calls that a caller begins among moves, and who makes each of their steps
+abbrev pub calls_of : ℕ → List Move → List Call
+calls_of caller [] = []
+calls_of caller (begins other call ∷ moves) = if other == caller then call ∷ calls_of caller moves else calls_of caller moves
+calls_of caller (steps other ∷ moves) = calls_of caller moves
+
+abbrev pub steppers_of : List Move → List ℕ
+steppers_of [] = []
+steppers_of (begins caller call ∷ moves) = steppers_of moves
+steppers_of (steps caller ∷ moves) = caller ∷ steppers_of moves
+
+-- a lane of these operations that has begun these calls is on its script, and stands by its rule in this state: its outcomes so far fit its events so far
+pub record IsOnItsWay (g : Geometry) (operations : List Op) (lane : ℕ) (s : State) (calls : List Call) : Type 0 where
+  pub registers : List (Option Held)
+  pub results : List Outcome
+  pub at : Stage
+  pub script : IsOnScript operations registers results at calls
+  pub rule : IsLane g lane s.history (s.errand lane) operations registers results at
+
+-- whose move it is
+abbrev pub mover_of : Move → ℕ
+mover_of (begins caller call) = caller
+mover_of (steps caller) = caller
+
+-- after these moves each lane but the one that moves next is on its way
+abbrev pub OthersAreOnTheirWay : Geometry → List (List Op) → List Move → State → Move → Type 0
+OthersAreOnTheirWay g lanes earlier s move =
+    (lane : ℕ) → lane < length lanes → lane ≢ mover_of move → IsOnItsWay g (slice_index_or lanes lane []) lane s (calls_of lane earlier)
+
+-- after these moves, more moves lead from one state to the other; and at each of them, every lane but the one that moves is on its way
+abbrev pub Drives : Geometry → List (List Op) → List Move → State → List Move → State → Type 0
+Drives g lanes earlier s [] s' = s' ≡ s
+Drives g lanes earlier s (move ∷ rest) s' =
+    (next : State) × Moved g s move next × OthersAreOnTheirWay g lanes earlier s move × Drives g lanes (earlier ++ move ∷ []) next rest s'
+
+-- what all callers of a machine lost, as a whole number
+abbrev pub lost_by_all : CoreFields → ℕ
+lost_by_all c = callers_sum c.geometry lost_of (errand_at c.errands)
+
+-- the machine is one on which the lanes ran from its opening on, in this order: its callers' moves led to it; each lane began the calls of its script and has made its last step; and the outcomes fit
+pub record IsDriven (trace : Trace) (orders : List OrderRun) (c : CoreFields) (outcomes : List (List Outcome)) : Type 0 where
+  pub geometry : c.geometry ≡ trace.heap
+  pub opened : State
+  pub opens : IsOpening trace.heap (opening trace.heap) opened
+  pub moves : List Move
+  pub drives : Drives trace.heap trace.lanes [] opened moves (state_of c)
+  pub counted : c.steps ≡ min (count_by is_step moves) (2 ^ 64 - 1)
+  pub order : InOrder orders (length trace.lanes) (steppers_of moves)
+  pub scripts :
+      (lane : ℕ) → lane < length trace.lanes
+      → Scripts (replicate REGISTERS None) (slice_index_or trace.lanes lane []) (slice_index_or outcomes lane []) (calls_of lane moves)
+  pub idle : (caller : ℕ) → caller < trace.heap.callers → IsIdle (errand_at c.errands caller)
+  pub fit : OutcomesFit trace.heap c.events (lost_by_all c) trace.lanes outcomes

@@ -1,0 +1,29 @@
+//! The registers of a lane over an engine.
+
+ghost use Rattle.std.specs.Prelude.{◌≡◌, ◌<◌, ◌↔◌, length, Some, None, slice_set, IsTrue, IsSome};
+ghost use Rattle.std.specs.List.{slice_index_or};
+
+/// Whether the register holds a block.
+pub(super) fn is_full<B>(registers: &Vec<Option<B>>, r: u16) -> bool
+    requires { r < length registers.now.items }
+    ensures { IsTrue result ↔ IsSome (slice_index_or registers.now.items r None) }
+{
+    registers[usize::from(r)].is_some()
+}
+
+/// Empties the register, and hands back what it held.
+pub(super) fn take_out<B: Drop>(registers: &mut Vec<Option<B>>, r: u16) -> Option<B>
+    requires { r < length registers.old.items }
+    ensures found { result ≡ slice_index_or registers.old.items r None }
+    ensures emptied { registers.new.items ≡ slice_set registers.old.items r None }
+{
+    registers[usize::from(r)].take()
+}
+
+/// Puts a block into the register.
+pub(super) fn put_in<B: Drop>(registers: &mut Vec<Option<B>>, r: u16, block: B)
+    requires { r < length registers.old.items }
+    ensures { registers.new.items ≡ slice_set registers.old.items r (Some block) }
+{
+    registers[usize::from(r)] = Some(block);
+}

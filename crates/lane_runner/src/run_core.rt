@@ -1,0 +1,194 @@
+//! The lanes of a trace on one machine, in the order that the trace gives.
+
+ghost use Rattle.std.specs.Prelude.{ℕ, ◌≡◌, ◌<◌, ◌∷◌, [], IfOk, OnOk, map, length};
+ghost use Rattle.std.specs.List.{All};
+ghost use Rattle.trace_text.specs.Traces.{IsTrace, IsOp, IsOrder};
+ghost use Rattle.errand_steps.specs.Openings.{opening};
+ghost use Rattle.step_core.specs.Openings.{IsOpened};
+ghost use Rattle.lane_outcomes.specs.Passed.{AllPassed};
+ghost use Rattle.lane_runner.specs.Driven.{IsDriven};
+ghost use Rattle.lane_runner.specs.Running.{AreNew, HasRunOut, HasRunSome, HaveFinished, HaveFollowed, LanesStand, OneRanOut, StandsOn, operations_in};
+
+use crate::lane::LaneState;
+use edge_io::gate::Gate;
+use lane_engine::over_core::Grip;
+use lane_outcomes::outcome::Outcome;
+use std::alloc::{AllocError, Global};
+use step_core::machine::Core;
+use trace_text::trace::{Op, OrderRun, Trace};
+
+#[cfg(test)]
+mod tests;
+
+/// Advances a lane so many times, or to its end.
+fn run_some<G: Gate>(
+    gate: &G,
+    operations: &[Op],
+    lane: &mut LaneState<Grip>,
+    core: &mut Core,
+    steps: u32,
+) -> Result<(), AllocError>
+    requires operations { All IsOp operations.now }
+    requires stands { StandsOn core.old operations.now lane.old }
+    ensures ran { OnOk result (HasRunSome (G.passed gate.now) core.old core.new operations.now lane.old lane.new steps) }
+    ensures geometry { core.new.geometry ≡ core.old.geometry }
+{
+    for _step in 0..steps {
+        if !lane.advance(core, operations, gate)? {
+            return Ok(());
+        }
+    }
+    Ok(())
+}
+
+/// Advances a lane to its end.
+fn run_to_end<G: Gate>(
+    gate: &G,
+    operations: &[Op],
+    lane: &mut LaneState<Grip>,
+    core: &mut Core,
+) -> Result<(), AllocError>
+    requires operations { All IsOp operations.now }
+    requires stands { StandsOn core.old operations.now lane.old }
+    ensures ran { OnOk result (HasRunOut (G.passed gate.now) core.old core.new operations.now lane.old lane.new) }
+    ensures geometry { core.new.geometry ≡ core.old.geometry }
+{
+    loop {
+        if !lane.advance(core, operations, gate)? {
+            return Ok(());
+        }
+    }
+}
+
+/// The operations of a lane.
+fn lane_of(trace: &Trace, lane: usize) -> &[Op]
+    requires { lane < length trace.now.lanes }
+    ensures { result.now ≡ operations_in trace.now lane }
+{
+    trace.lanes.as_slice()[lane].as_slice()
+}
+
+/// Makes one order run.
+fn follow_run<G: Gate>(
+    gate: &G,
+    trace: &Trace,
+    lanes: &mut Vec<LaneState<Grip>>,
+    core: &mut Core,
+    run: OrderRun,
+) -> Result<(), AllocError>
+    requires trace { IsTrace trace.now }
+    requires order { IsOrder trace.now.lanes run }
+    requires stand { LanesStand trace.now core.old lanes.old.items }
+    ensures ran { OnOk result (HaveFollowed (G.passed gate.now) trace.now (run ∷ []) core.old core.new lanes.old.items lanes.new.items) }
+    ensures geometry { core.new.geometry ≡ core.old.geometry }
+{
+    let lane = usize::from(run.lane);
+    run_some(
+        gate,
+        lane_of(trace, lane),
+        &mut lanes[lane],
+        core,
+        run.steps,
+    )
+}
+
+/// Makes the order runs of a trace.
+fn follow_runs<G: Gate>(
+    gate: &G,
+    trace: &Trace,
+    lanes: &mut Vec<LaneState<Grip>>,
+    core: &mut Core,
+) -> Result<(), AllocError>
+    requires trace { IsTrace trace.now }
+    requires stand { LanesStand trace.now core.old lanes.old.items }
+    ensures ran { OnOk result (HaveFollowed (G.passed gate.now) trace.now trace.now.orders core.old core.new lanes.old.items lanes.new.items) }
+    ensures geometry { core.new.geometry ≡ core.old.geometry }
+{
+    for run in trace.orders.as_slice() {
+        follow_run(gate, trace, lanes, core, *run)?;
+    }
+    Ok(())
+}
+
+/// Runs one lane to its end.
+fn finish_lane<G: Gate>(
+    gate: &G,
+    trace: &Trace,
+    lanes: &mut Vec<LaneState<Grip>>,
+    core: &mut Core,
+    lane: usize,
+) -> Result<(), AllocError>
+    requires trace { IsTrace trace.now }
+    requires lane { lane < length trace.now.lanes }
+    requires stand { LanesStand trace.now core.old lanes.old.items }
+    ensures ran { OnOk result (OneRanOut (G.passed gate.now) trace.now core.old core.new lanes.old.items lanes.new.items lane) }
+    ensures geometry { core.new.geometry ≡ core.old.geometry }
+{
+    run_to_end(gate, lane_of(trace, lane), &mut lanes[lane], core)
+}
+
+/// Runs each lane to its end, lane 0 first.
+fn finish_lanes<G: Gate>(
+    gate: &G,
+    trace: &Trace,
+    lanes: &mut Vec<LaneState<Grip>>,
+    core: &mut Core,
+) -> Result<(), AllocError>
+    requires trace { IsTrace trace.now }
+    requires stand { LanesStand trace.now core.old lanes.old.items }
+    ensures ran { OnOk result
+        (HaveFinished (G.passed gate.now) trace.now (length trace.now.lanes) core.old core.new lanes.old.items lanes.new.items) }
+    ensures geometry { core.new.geometry ≡ core.old.geometry }
+{
+    for lane in 0..trace.lanes.len() {
+        finish_lane(gate, trace, lanes, core, lane)?;
+    }
+    Ok(())
+}
+
+/// A lane for each of a trace's, before its first operation.
+fn open_lanes(alloc: Global, trace: &Trace) -> Result<Vec<LaneState<Grip>>, AllocError>
+    requires { IsTrace trace.now }
+    ensures { IfOk result (λ lanes. AreNew trace.now.lanes lanes.items) }
+{
+    let mut lanes = Vec::with_capacity(alloc, trace.lanes.len())?;
+    for (lane, operations) in trace.lanes.as_slice().iter().enumerate() {
+        let opened = LaneState::open(alloc, lane as u32, operations.as_slice())?;
+        lanes.push(opened)?;
+    }
+    Ok(lanes)
+}
+
+/// The outcomes of each lane.
+fn outcomes_of(alloc: Global, lanes: Vec<LaneState<Grip>>) -> Result<Vec<Vec<Outcome>>, AllocError>
+    ensures { IfOk result (λ outcomes. outcomes.items ≡ map (λ lane. lane.outcomes) lanes.items) }
+{
+    lanes
+        .into_iter()
+        .map(|lane| lane.into_outcomes())
+        .collect(alloc)
+}
+
+/// Runs the lanes of a trace to their ends on a machine that has made no step. The order runs come
+/// first: each advances its lane that many steps, or to the lane's end. Then each lane goes on to its
+/// end, lane 0 first. Each operation passes the gate before it begins. Takes time by the steps that are
+/// made, whatever numbers the order runs name.
+pub fn run_core<G: Gate>(
+    alloc: Global,
+    gate: &G,
+    trace: &Trace,
+    core: &mut Core,
+) -> Result<Vec<Vec<Outcome>>, AllocError>
+    requires trace { IsTrace trace.now }
+    requires opened { IsOpened trace.now.heap (opening trace.now.heap) core.old }
+    ensures driven { IfOk result (λ outcomes. IsDriven trace.now trace.now.orders core.new (map (λ lane. lane.items) outcomes.items)) }
+    ensures passed { OnOk result (AllPassed (G.passed gate.now) trace.now.lanes) }
+    ensures geometry { core.new.geometry ≡ core.old.geometry }
+{
+    let mut lanes = open_lanes(alloc, trace)?;
+    // Lanes stand on what the machine's type keeps.
+    let _ = core.steps();
+    follow_runs(gate, trace, &mut lanes, core)?;
+    finish_lanes(gate, trace, &mut lanes, core)?;
+    outcomes_of(alloc, lanes)
+}

@@ -1,0 +1,15 @@
+//! How far a lane's operation is.
+
+/// How far the operation at hand is.
+#[derive(Clone, Copy, Debug, PartialEq, Eq)]
+pub enum Stage {
+    /// No operation is under way.
+    Between,
+    /// The first call of the operation is under way.
+    Calling,
+    /// The block's words before `next` are filled, and the write of that one is under way.
+    Filling { next: u32 },
+    /// The block's words before `next` add up to `total`, modulo 2^64, and the read of that one is
+    /// under way.
+    Summing { next: u32, total: u64 },
+}
