@@ -1,3 +1,2 @@
 pub mod Engines
-pub mod Grips
 pub mod Machines

@@ -3,7 +3,7 @@
 ghost use Rattle.std.specs.Prelude.{◌≡◌, IsSomeAnd};
 ghost use Rattle.heap_geometry.specs.Need.{IsNeed};
 ghost use Rattle.lane_engine.specs.Engines.{IsTellable, Tells};
-ghost use Rattle.lane_engine.specs.Grips.{IsNeed-prop};
+ghost use Rattle.step_core.specs.Needs.{IsNeed-prop};
 
 use crate::engine::{Engine, Token};
 use crate::stepped::Stepped;

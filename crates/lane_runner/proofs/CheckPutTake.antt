@@ -31,8 +31,10 @@ use Rattle.lane_runner.specs.Paths.{held_by}
 use Rattle.lane_runner.proofs.AnswerLemmas.{Ends, EndsRead, HasBegun, HasMovedOn, ToldOfPut, ToldOfRead, ToldOfTake, told-of_put, told-of_read, told-of_take}
 use Rattle.lane_runner.proofs.EndsLemmas.{check-ends_lane, check-on_lane, missed-own, put-ends_lane, put-full_lane, take-again_lane, take-empty_lane, take-got_lane}
 use Rattle.lane_runner.proofs.LaneGoes.{IsOn}
-use Rattle.lane_runner.proofs.LaneSpares.{LeavesAtEnd, SparesAll, events-spare}
-use Rattle.lane_runner.proofs.LaneKeeps.{spare-append}
+use Rattle.step_core.specs.Keeping.{LeavesAtEnd}
+use Rattle.step_core.proofs.SpareLemmas.{events-spare}
+use Rattle.lane_runner.proofs.LaneSpares.{SparesAll}
+use Rattle.step_core.proofs.KeepLemmas.{spare-append}
 
 -- the answers that each of these calls may have
 module _ {B : Type 0} (place_of : B → ℕ) (need_of : B → Need) (e f : ErrandFields) (before events added : List Event) where

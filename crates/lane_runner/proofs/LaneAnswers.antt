@@ -41,8 +41,10 @@ use Rattle.lane_runner.proofs.AnswerLemmas.{HasMovedOn, HasBegun, Ends, EndsGive
 use Rattle.lane_runner.proofs.BeginLemmas.{owned-words}
 use Rattle.lane_runner.proofs.BesideLemmas.{walks-on}
 use Rattle.lane_runner.proofs.LaneGoes.{moved-begun, lane-stays}
-use Rattle.lane_runner.proofs.LaneKeeps.{spare-append}
-use Rattle.lane_runner.proofs.LaneSpares.{LeavesAtEnd, SparesAll, events-spare, holds-rest}
+use Rattle.step_core.proofs.KeepLemmas.{spare-append}
+use Rattle.step_core.specs.Keeping.{LeavesAtEnd}
+use Rattle.step_core.proofs.SpareLemmas.{events-spare}
+use Rattle.lane_runner.proofs.LaneSpares.{SparesAll, holds-rest}
 use Rattle.lane_runner.proofs.OutcomeLemmas.{later-moved, lane-ends, given-holds}
 use Rattle.lane_runner.proofs.ScriptLemmas.{lane-here, serves-one, few-begun, alloc-refused, alloc-spent, alloc-fills, alloc-fills_on, alloc-given, free-ends, fill-goes_on, fill-ends}
 use Rattle.lane_runner.proofs.TurnLemmas.{spent-row, asked-unspent}

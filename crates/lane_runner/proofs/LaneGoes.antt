@@ -29,8 +29,10 @@ use Rattle.lane_runner.specs.Lanes.{IsAt, IsLane}
 use Rattle.lane_runner.specs.Operations.{IsDoing}
 use Rattle.lane_runner.proofs.AnswerLemmas.{HasMovedOn, GoesOn, HasBegun, told-of_alloc, told-of_free, told-of_write, told-of_read, told-of_put, told-of_take}
 use Rattle.lane_runner.proofs.BesideLemmas.{walks-on}
-use Rattle.lane_runner.proofs.LaneKeeps.{spare-append}
-use Rattle.lane_runner.proofs.LaneSpares.{Leaves, SparesAll, so_far-spares, holds-rest, write-none, read-none}
+use Rattle.step_core.proofs.KeepLemmas.{spare-append}
+use Rattle.step_core.specs.Keeping.{Leaves}
+use Rattle.step_core.proofs.SpareLemmas.{so_far-spares, write-none, read-none}
+use Rattle.lane_runner.proofs.LaneSpares.{SparesAll, holds-rest}
 
 -- a call that begins directly behind a step
 pub moved-begun :

@@ -24,7 +24,8 @@ use Rattle.lane_runner.specs.declared.stage.Stage.TheVariants as stage
 use Rattle.lane_runner.specs.Lanes.{IsLane}
 use Rattle.lane_runner.specs.Paths.{held_by, held_blocks, begun_count}
 use Rattle.lane_runner.specs.Scripts.{IsOnScript, script_left}
-use Rattle.lane_runner.proofs.LaneKeeps.{AllSpare, owns-rest}
+use Rattle.step_core.specs.Keeping.{AllSpare}
+use Rattle.step_core.proofs.KeepLemmas.{owns-rest}
 use Rattle.lane_runner.proofs.LaneSpares.{SparesAll}
 
 -- what the code has made of a lane

@@ -1,8 +1,10 @@
 pub mod CoreLemmas
 pub mod RepliesLemmas
 pub mod SeenLemmas
+pub mod SpareLemmas
 pub mod StepLemmas
 pub mod FirstLemmas
+pub mod KeepLemmas
 pub mod AdvanceLemmas
 pub mod AloneLemmas
 pub mod MeantLemmas

@@ -1,33 +1,39 @@
 -- A step of a machine as its caller sees it, and as the others do.
 use Rattle.std.proofs.Common.{ℕ, ◌≡◌, ◌≢◌, ◌<◌, List, [], ◌∷◌, Option, Some, None, ne_eqb, refl, arith, sym, ap, ◌∙◌, subst}
 use Rattle.std.proofs.lemmas.List.{append-nil}
+use Rattle.heap_geometry.specs.declared.geometry.Geometry.{Geometry}
 use Rattle.pool_model.specs.declared.event.Event.{Event}
 use Rattle.pool_model.specs.Histories.{caller_of, own}
 use Rattle.errand_steps.specs.declared.reply.Progress.{Progress}
 use Rattle.errand_steps.specs.Errands.{ErrandFields, answer_of}
-use Rattle.errand_steps.specs.Steps.{Step, event_at, found_at, with_event}
+use Rattle.errand_steps.specs.Steps.{State, Step, event_at, found_at, with_event}
 use Rattle.errand_steps.proofs.EventLemmas.{event_own}
 use Rattle.sound_state.specs.Sound.{IsSound, IsOwnErrand}
 use Rattle.sound_state.proofs.wins.TurnBounds.{turns-bounded}
-use Rattle.step_core.specs.Cores.{CoreFields, IsCore, errand_at, state_of}
+use Rattle.step_core.specs.Cores.{CoreFields, IsCore, IsReached, errand_at, state_of}
 use Rattle.step_core.specs.Moments.{IsMoment, HasSeenMore, IsServed}
 use Rattle.step_core.specs.Steps.{IsStepped}
-use Rattle.step_core.proofs.CoreLemmas.{core-sound, run-won}
+use Rattle.step_core.proofs.CoreLemmas.{core-sound, run-sound, run-won}
 
--- what is so of each caller
-pub core-served :
-    (c : CoreFields) (caller : ℕ) → IsCore c → caller < c.geometry.callers
-    → IsServed c.geometry caller (errand_at c.errands caller) c.events
-core-served c caller core has =
-    let sound : IsSound c.geometry (state_of c) = core-sound c core in
+-- what is so of each caller in a state that is reached
+pub reached-served :
+    (g : Geometry) (s : State) (made caller : ℕ) → IsReached g s made → caller < g.callers → IsServed g caller (s.errand caller) s.history
+reached-served g s made caller run has =
+    let sound : IsSound g s = run-sound g s made run in
     record {
       checked = sound.checked;
       has = has;
       own_errand = sound.parts.1.errands caller has;
       legal = sound.legal;
       by_lost = omega (arith, sound.parts.1.turned.own_lost caller has);
-      by_given = turns-bounded c.geometry (state_of c) core.run.wins caller (run-won c.geometry (state_of c) c.steps core.run) has;
+      by_given = turns-bounded g s run.wins caller (run-won g s made run) has;
     }
+
+-- so of each caller of a machine
+pub core-served :
+    (c : CoreFields) (caller : ℕ) → IsCore c → caller < c.geometry.callers
+    → IsServed c.geometry caller (errand_at c.errands caller) c.events
+core-served c caller core has = reached-served c.geometry (state_of c) c.steps caller core.run has
 
 -- its caller's step, before which nobody else made an event
 pub core-moment :

@@ -1,6 +1,8 @@
 pub mod Cores
 pub mod Firsts
+pub mod Keeping
 pub mod Moments
+pub mod Needs
 pub mod Openings
 pub mod Replies
 pub mod Seen

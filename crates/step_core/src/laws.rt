@@ -5,18 +5,27 @@ ghost use Rattle.std.specs.Prelude.{ℕ, List, ◌≡◌, ◌≢◌, ◌<◌, �
 ghost use Rattle.heap_geometry.specs.declared.geometry.Geometry.{Geometry};
 ghost use Rattle.heap_geometry.specs.Geometry.{IsChecked};
 ghost use Rattle.heap_geometry.specs.declared.limits.TheConstants.{CLASSES};
+ghost use Rattle.heap_geometry.specs.declared.need.Need.{Need};
 ghost use Rattle.word_plan.specs.Actions.{name_of};
 ghost use Rattle.word_plan.specs.Table.{Exists};
+ghost use Rattle.pool_model.specs.Calls.{Ended, EventsOf};
+ghost use Rattle.pool_model.specs.declared.event.Event.{Event};
+ghost use Rattle.pool_model.specs.Histories.{own};
+ghost use Rattle.pool_model.specs.Legal.{IsLegalWithoutCounts};
+ghost use Rattle.errand_steps.specs.declared.point.Point.{Point};
 ghost use Rattle.errand_steps.specs.declared.reply.Progress.{Progress};
 ghost use Rattle.errand_steps.specs.Begins.{IsBusy};
+ghost use Rattle.errand_steps.specs.Calls.{Call};
 ghost use Rattle.errand_steps.specs.Errands.{plan_of};
+ghost use Rattle.call_events.specs.UnderWay.{IsUnderWay};
 ghost use Rattle.sound_state.specs.Contention.{dirty_pairs, lost_of, won_of};
 ghost use Rattle.sound_state.specs.Installs.{installs_by, installs_against, errand_offers};
 ghost use Rattle.sound_state.specs.Runs.{Move, Moved};
 ghost use Rattle.sound_state.specs.Sound.{IsSound};
 ghost use Rattle.sound_state.specs.Sums.{callers_sum};
 ghost use Rattle.sound_state.specs.Turns.{gives_small, refuses_small, is_small_alloc, errand_discards, turn_unanswered};
-ghost use Rattle.step_core.specs.Cores.{CoreFields, IsCore, IsLonger, IsReached, errand_at, made_with, state_of};
+ghost use Rattle.step_core.specs.Cores.{CoreFields, IsCore, IsLonger, IsReached, OwnsAfter, errand_at, made_with, state_of};
+ghost use Rattle.step_core.specs.Keeping.{AllSpare, Leaves, LeavesAtEnd};
 ghost use Rattle.errand_steps.specs.Openings.{installed};
 ghost use Rattle.step_core.specs.Openings.{IsOpened};
 ghost use Rattle.errand_steps.specs.Steps.{State, Step, Run, IsSame};
@@ -111,4 +120,16 @@ pub fn steps_are_moments()
         → (errand_at after.errands other ≡ errand_at c.errands other) × HasSeenMore other c.events after.events }
     ensures served { (c : CoreFields) (caller : ℕ) → IsCore c → caller < c.geometry.callers
         → IsServed c.geometry caller (errand_at c.errands caller) c.events }
+{}
+
+/// A caller's block stays its own through a legal history, of which its own events give no block away
+/// that lies there: another caller never takes it. The events of a call, so far or at its end, give away
+/// no block but the one that a free or a put is about.
+pub fn owners_keep_their_blocks()
+    ensures owns { (g : Geometry) (before rest : List Event) (caller place : ℕ) (need : Need) → IsLegalWithoutCounts g (before ++ rest)
+        → AllSpare place (own caller rest) → OwnsAfter before caller place need → OwnsAfter (before ++ rest) caller place need }
+    ensures so_far { (caller place : ℕ) (call : Call) (point : Point) (events : List Event) → Leaves call place
+        → IsUnderWay caller call point events → AllSpare place events }
+    ensures ended { (caller place : ℕ) (end : Ended) (events : List Event) → LeavesAtEnd end place → EventsOf caller end events
+        → AllSpare place events }
 {}

@@ -6,7 +6,7 @@
 //! threads is a run of it.
 #![tactic(auto)]
 
-mod first;
+pub mod first;
 pub mod laws;
 pub mod machine;
 mod seen;

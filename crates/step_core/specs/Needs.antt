@@ -1,4 +1,4 @@
--- A block in a caller's hand.
+-- What a block in a caller's hand may keep of its need.
 use Rattle.std.specs.Coded.{×_prop, Unit-prop, le_prop}
 use Rattle.heap_geometry.specs.declared.need.Need.{Need}
 use Rattle.heap_geometry.specs.declared.need.Need.TheVariants.{Small, Large, TooLarge}
