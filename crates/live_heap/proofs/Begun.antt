@@ -1,0 +1,77 @@
+-- What a call that begins makes of a pass.
+use Rattle.std.proofs.Common.{◌≡◌, inl, inr, List, sym, ap, ◌∙◌, subst, arith}
+use Rattle.pool_model.specs.declared.event.Event.{Event}
+use Rattle.pool_model.specs.Pool.{pool_of}
+use Rattle.pool_model.specs.WellFormed.{IsWellFormed}
+use Rattle.pool_model.proofs.HistoryLemmas.{legal-weaker}
+use Rattle.pool_model.proofs.PoolLemmas.{every-each, place-found}
+use Rattle.pool_model.proofs.WellFormedLemmas.{sound-of}
+use Rattle.errand_steps.specs.Begins.{IsIdle, IsHeapBlock, alloc_begun, free_begun, write_begun, read_begun, put_begun, take_begun}
+use Rattle.errand_steps.specs.Calls.{Call, begun_by}
+use Rattle.errand_steps.specs.Errands.{ErrandFields}
+use Rattle.sound_state.specs.Runs.{MayBegin}
+use Rattle.live_heap.specs.declared.block.Block.{Block}
+use Rattle.live_heap.specs.declared.heap.Heap.{Heap}
+use Rattle.live_heap.specs.declared.pass.Pass.{Pass}
+use Rattle.live_heap.specs.Passes.{IsOf, Owns, seen}
+use Rattle.live_heap.specs.Sights.{IsBegun, after_events}
+use Rattle.live_heap.proofs.Moves.{begun-geometry, is_begun-caller}
+
+-- a call that has begun nothing left the errand
+pub begun-idle : (e : ErrandFields) (call : Call) → IsIdle e → IsIdle (begun_by e call) → begun_by e call ≡ e
+unfolding alloc_begun free_begun write_begun read_begun put_begun take_begun
+begun-idle e call idle still = grind (arith)
+
+-- a call begins on what the last step left
+begins-on :
+    (log : List Event) (before e f : ErrandFields) (call : Call) → IsBegun log before e → IsIdle e → MayBegin (after_events log) e.caller call
+    → f ≡ begun_by e call → IsBegun log before f
+begins-on log before e f call (inl same) idle may is =
+    let M : ErrandFields → Type 0 = λ x. IsIdle x × MayBegin (after_events log) x.caller call in
+    let m : M before = subst M same (idle, may) in
+    inr (call, m.0, m.1, is ∙ ap (λ x. begun_by x call) same)
+begins-on log before e f call (inr (first, was, had, begun)) idle may is =
+    let same : e ≡ before = begun ∙ begun-idle before first was (subst IsIdle begun idle) in
+    let M : ErrandFields → Type 0 = λ x. IsIdle x × MayBegin (after_events log) x.caller call in
+    let m : M before = subst M same (idle, may) in
+    inr (call, m.0, m.1, is ∙ ap (λ x. begun_by x call) same)
+
+-- the pass's errand is of its heap
+pub is_begun-geometry : (log : List Event) (before e : ErrandFields) → IsBegun log before e → e.geometry ≡ before.geometry
+is_begun-geometry log before e (inl same) = ap (λ (x : ErrandFields). x.geometry) same
+is_begun-geometry log before e (inr (call, idle, may, begun)) = ap (λ (x : ErrandFields). x.geometry) begun ∙ begun-geometry before call
+
+pub of-laid : (h : Heap) (p : Pass) → IsOf h p → p.errand.geometry ≡ h.layout
+of-laid h p of = is_begun-geometry (seen p) of.before.errand p.errand of.begun ∙ of.served.own_errand.geometry
+
+pub of-caller : (h : Heap) (p : Pass) (of : IsOf h p) → p.errand.caller ≡ of.before.errand.caller
+of-caller h p of = is_begun-caller (seen p) of.before.errand p.errand of.begun
+
+-- a pass that begins a call stays one of its heap
+pub begins-of :
+    (h : Heap) (p q : Pass) (call : Call) → IsOf h p → IsIdle p.errand → MayBegin (after_events (seen p)) p.errand.caller call
+    → q.seat ≡ p.seat → q.errand ≡ begun_by p.errand call → IsOf h q
+begins-of h p q call of idle may seat is =
+    rw seat
+    (record {
+      table = of.table;
+      empty = of.empty;
+      before = of.before;
+      one = of.one;
+      sight = of.sight;
+      served = of.served;
+      alone = of.alone;
+      begun = begins-on (seen p) of.before.errand p.errand q.errand call of.begun idle may is;
+    })
+
+-- a block that a pass owns is one of its heap
+pub heap-block : (h : Heap) (p : Pass) (block : Block) → IsOf h p → Owns p block → IsHeapBlock p.errand.geometry block.place block.need
+heap-block h p block of owned =
+    let b = owned.0 in
+    let live = owned.1 in
+    let legal = legal-weaker h.layout (seen p) of.served.legal in
+    let formed = every-each (IsWellFormed h.layout) (pool_of (seen p)) (sound-of h.layout (seen p) legal).each block.place b live in
+    let at : b.place ≡ block.place = place-found block.place (pool_of (seen p)) b live in
+    subst (λ g. IsHeapBlock g block.place block.need) (sym (of-laid h p of))
+    (subst (λ m. IsHeapBlock h.layout block.place m) owned.3
+    (subst (λ q. IsHeapBlock h.layout q b.need) at (formed.need, formed.place)))

@@ -1,0 +1,303 @@
+-- How the steps of a call are counted against its tries.
+use Rattle.std.proofs.Common.{ℕ, suc, Bool, true, false, ◌≡◌, ◌≢◌, ◌<◌, ◌≤◌, ◌+◌, ◌*◌, ◌-◌, ◌^◌, inl, inr, List, refl, sym, ◌∙◌, subst, arith}
+use Rattle.std.proofs.lemmas.Bool.{cases_Bool, true≢false}
+use Rattle.heap_geometry.specs.declared.geometry.Geometry.{Geometry}
+use Rattle.heap_geometry.specs.declared.limits.TheConstants.{CALL_STEPS}
+use Rattle.heap_geometry.specs.declared.need.Need.{Need}
+use Rattle.heap_geometry.specs.declared.need.Need.TheVariants.{Small, Large, TooLarge}
+use Rattle.heap_geometry.specs.Geometry.{IsChecked}
+use Rattle.heap_geometry.specs.Need.{need_of}
+use Rattle.word_plan.specs.declared.action.Found.{Found as Find}
+use Rattle.word_plan.proofs.SeatLemmas.{block_count_of-most}
+use Rattle.pool_model.specs.declared.event.Event.{Event}
+use Rattle.errand_steps.specs.declared.next.Next.{Next}
+use Rattle.errand_steps.specs.declared.point.Point.{Point}
+use Rattle.errand_steps.specs.declared.reply.Progress.{Progress}
+use Rattle.errand_steps.specs.declared.reply.Progress.TheVariants.{Idle, More, Lost, Cleared, Done}
+use Rattle.errand_steps.specs.declared.reply.Reply.{Reply}
+use Rattle.errand_steps.specs.Begins.{IsBusy, IsIdle, begins_alloc, alloc_begun, free_begun, write_begun, read_begun, put_begun, take_begun}
+use Rattle.errand_steps.specs.Calls.{Call, alloc, free, write, read, put, take, begun_by}
+use Rattle.errand_steps.specs.Errands.{ErrandFields, settle_of, answer_of, counts_lost, counts_cleared, course_of, is_spent, raised, told}
+use Rattle.errand_steps.specs.Points.{is_idle}
+use Rattle.errand_steps.proofs.AnswerLemmas.{lost-told, cleared-told}
+use Rattle.sound_state.specs.StepsLeft.{steps_left}
+use Rattle.sound_state.proofs.beginnings.BegunErrands.{idle-is}
+use Rattle.sound_state.proofs.endings.LeftMost.{left-most}
+use Rattle.step_core.specs.Moments.{IsMoment}
+use Rattle.live_heap.specs.declared.heap.Heap.{Heap}
+use Rattle.live_heap.specs.declared.pass.Pass.{Pass}
+use Rattle.live_heap.specs.Calls.{EndsInTime, IsCalling, IsInterrupted, tries_of}
+use Rattle.live_heap.specs.Passes.{IsOf, seen}
+use Rattle.live_heap.specs.Sights.{IsBegun}
+use Rattle.live_heap.proofs.Begun.{of-laid}
+use Rattle.live_heap.proofs.CallsGrow.{settled-of, busy-after, calls-go_on, calls-end}
+
+-- a count of lost ones and one of cleared ones, before and after a step that adds so many to both together
+pub record HasCounted (a b c d u : ℕ) : Type 0 where
+  pub most : c + d ≤ a + b + u
+  pub all : c < 2 ^ 64 - 1 → (a < 2 ^ 64 - 1) × (c + d ≡ a + b + u)
+
+counted-none : (l c : Bool) (a b : ℕ) → l ≡ false → c ≡ false → HasCounted a b (raised l a) (raised c b) 0
+counted-none l c a b x y = rw (x, y) (record { most = omega arith; all = λ below. (below, omega arith) })
+
+counted-lost : (l c : Bool) (a b : ℕ) → l ≡ true → c ≡ false → HasCounted a b (raised l a) (raised c b) 1
+counted-lost l c a b x y = rw (x, y) (record { most = omega arith; all = λ below. (omega (arith, below), omega (arith, below)) })
+
+counted-cleared : (l c : Bool) (a b : ℕ) → b < 2 ^ 42 → l ≡ false → c ≡ true → HasCounted a b (raised l a) (raised c b) 1
+counted-cleared l c a b few x y =
+    rw (x, y) (record { most = omega arith; all = λ below. (below, omega (arith, few)) })
+
+-- a step counts as so many tries
+abbrev pub Counts : ErrandFields → ErrandFields → ℕ → Type 0
+Counts e f u = HasCounted e.lost e.cleared f.lost f.cleared u
+
+settled-none :
+    (e : ErrandFields) (x : Find) → counts_lost e.point x ≡ false → counts_cleared e.point x ≡ false → Counts e (settle_of e x) 0
+unfolding settle_of
+settled-none e x l c = counted-none (counts_lost e.point x) (counts_cleared e.point x) e.lost e.cleared l c
+
+settled-lost :
+    (e : ErrandFields) (x : Find) → counts_lost e.point x ≡ true → counts_cleared e.point x ≡ false → Counts e (settle_of e x) 1
+unfolding settle_of
+settled-lost e x l c = counted-lost (counts_lost e.point x) (counts_cleared e.point x) e.lost e.cleared l c
+
+settled-cleared :
+    (e : ErrandFields) (x : Find) → e.cleared < 2 ^ 42 → counts_lost e.point x ≡ false → counts_cleared e.point x ≡ true
+    → Counts e (settle_of e x) 1
+unfolding settle_of
+settled-cleared e x few l c = counted-cleared (counts_lost e.point x) (counts_cleared e.point x) e.lost e.cleared few l c
+
+-- a busy caller's step answers something else than that there was none
+told-not_idle : (n : Next) (lost cleared : Bool) → told n lost cleared ≢ Idle
+told-not_idle n lost cleared is = grind (arith)
+
+pub answer-not_idle : (e : ErrandFields) (x : Find) → answer_of e x ≢ Idle
+unfolding answer_of
+answer-not_idle e x is = told-not_idle (course_of e x) (counts_lost e.point x) (counts_cleared e.point x) is
+
+pub never-idle : (e f : ErrandFields) (before after : List Event) → IsMoment e f before after Idle → ⊥
+never-idle e f before after m = let s = settled-of e f before after Idle m in answer-not_idle e s.x (sym s.answers)
+
+-- a step that goes on with nothing lost and nothing cleared, and one that lost or cleared
+pub record GoesFurther (e f : ErrandFields) : Type 0 where
+  pub busy : IsBusy f
+  pub counts : Counts e f 0
+  pub fewer : steps_left e.geometry f.point < steps_left e.geometry e.point
+
+pub record GoesAgain (e f : ErrandFields) : Type 0 where
+  pub busy : IsBusy f
+  pub counts : Counts e f 1
+  pub short : steps_left e.geometry f.point < CALL_STEPS
+
+-- an answer of a step that goes on
+not-done : (a b : Progress) → a ≡ b → ((r : Reply) → b ≢ Done r) → (r : Reply) → a ≢ Done r
+not-done a b is un r done = un r (sym is ∙ done)
+
+pub more-undone : (r : Reply) → More ≢ Done r
+more-undone r is = cc
+
+pub lost-undone : (r : Reply) → Lost ≢ Done r
+lost-undone r is = cc
+
+pub cleared-undone : (r : Reply) → Cleared ≢ Done r
+cleared-undone r is = cc
+
+module _ (e f : ErrandFields) (before after : List Event) where
+  pub goes-further : IsMoment e f before after More → GoesFurther e f
+  goes-further m =
+      let s = settled-of e f before after More m in
+      let busy = busy-after e f before after More s more-undone in
+      let kept : counts_lost e.point s.x ≡ false =
+      elim (cases_Bool (counts_lost e.point s.x)) [
+        | inl lost ↦ let l : More ≡ Lost = s.answers ∙ (lost-told e s.x s.busy).1 (lost, busy) in absurd (cc)
+        | inr other ↦ other
+      ] in
+      let left : counts_cleared e.point s.x ≡ false =
+      elim (cases_Bool (counts_cleared e.point s.x)) [
+        | inl cleared ↦ let l : More ≡ Cleared = s.answers ∙ (cleared-told e s.x s.busy).1 (cleared, busy) in absurd (cc)
+        | inr other ↦ other
+      ] in
+      record {
+        busy = subst IsBusy (sym s.settled) busy;
+        counts = subst (λ d. Counts e d 0) (sym s.settled) (settled-none e s.x kept left);
+        fewer =
+            elim s.shorter [
+              | inl lost ↦ absurd (true≢false (sym lost ∙ kept))
+              | inr rest ↦ elim rest [ inl cleared ↦ absurd (true≢false (sym cleared ∙ left)) | inr less ↦ less ]
+            ];
+      }
+
+  pub goes-lost : IsMoment e f before after Lost → GoesAgain e f
+  goes-lost m =
+      let s = settled-of e f before after Lost m in
+      let l = (lost-told e s.x s.busy).0 (sym s.answers) in
+      let left : counts_cleared e.point s.x ≡ false =
+      elim (cases_Bool (counts_cleared e.point s.x)) [
+        | inl cleared ↦ let c : Lost ≡ Cleared = s.answers ∙ (cleared-told e s.x s.busy).1 (cleared, l.1) in absurd (cc)
+        | inr other ↦ other
+      ] in
+      record {
+        busy = subst IsBusy (sym s.settled) l.1;
+        counts = subst (λ d. Counts e d 1) (sym s.settled) (settled-lost e s.x l.0 left);
+        short = s.short;
+      }
+
+  pub goes-cleared : IsMoment e f before after Cleared → GoesAgain e f
+  goes-cleared m =
+      let s = settled-of e f before after Cleared m in
+      let c = (cleared-told e s.x s.busy).0 (sym s.answers) in
+      let kept : counts_lost e.point s.x ≡ false =
+      elim (cases_Bool (counts_lost e.point s.x)) [
+        | inl lost ↦ let l : Cleared ≡ Lost = s.answers ∙ (lost-told e s.x s.busy).1 (lost, c.1) in absurd (cc)
+        | inr other ↦ other
+      ] in
+      record {
+        busy = subst IsBusy (sym s.settled) c.1;
+        counts = subst (λ d. Counts e d 1) (sym s.settled) (settled-cleared e s.x s.cleared kept c.0);
+        short = s.short;
+      }
+
+-- an idle caller has no step left
+idle-short : (g : Geometry) (p : Point) → is_idle p ≡ true → steps_left g p < CALL_STEPS
+unfolding steps_left
+idle-short g p idle = let P : Point → Type 0 = λ q. steps_left g q < CALL_STEPS in subst P (sym (idle-is p idle)) (omega arith)
+
+-- a call that begins is short
+alloc-short :
+    (e : ErrandFields) (words : ℕ) (n : Need) → IsChecked e.geometry → IsIdle e
+    → steps_left e.geometry (begins_alloc e words n).point < CALL_STEPS
+unfolding steps_left
+alloc-short e words (Small class) checked idle =
+    elim (cases_Bool (is_spent e)) [
+      | inl spent ↦ rw spent (idle-short e.geometry e.point idle)
+      | inr left ↦ rw left (omega (arith, checked.callers, block_count_of-most class))
+    ]
+alloc-short e words (Large units) checked idle = omega arith
+alloc-short e words TooLarge checked idle = idle-short e.geometry e.point idle
+
+free-short :
+    (e : ErrandFields) (place : ℕ) (n : Need) → IsChecked e.geometry → IsIdle e
+    → steps_left e.geometry (free_begun e place n).point < CALL_STEPS
+unfolding steps_left free_begun
+free-short e place (Small class) checked idle = omega (arith, checked.callers)
+free-short e place (Large units) checked idle = omega arith
+free-short e place TooLarge checked idle = idle-short e.geometry e.point idle
+
+begun-short :
+    (e : ErrandFields) (call : Call) → IsChecked e.geometry → IsIdle e → steps_left e.geometry (begun_by e call).point < CALL_STEPS
+unfolding steps_left alloc_begun write_begun read_begun put_begun take_begun
+begun-short e (alloc words) checked idle = alloc-short e words (need_of words) checked idle
+begun-short e (free place need) checked idle = free-short e place need checked idle
+begun-short e (write place need i value) checked idle = omega arith
+begun-short e (read place need i) checked idle = omega arith
+begun-short e (put place need shelf) checked idle = omega arith
+begun-short e (take shelf) checked idle = omega arith
+
+-- so is a pass of a heap
+is_begun-short :
+    (log : List Event) (before e : ErrandFields) (g : Geometry) → before.geometry ≡ g → IsChecked g → steps_left g before.point < CALL_STEPS
+    → IsBegun log before e → steps_left g e.point < CALL_STEPS
+is_begun-short log before e g laid checked short (inl same) = subst (λ (d : ErrandFields). steps_left g d.point < CALL_STEPS) (sym same) short
+is_begun-short log before e g laid checked short (inr (call, idle, may, begun)) =
+    subst (λ (d : ErrandFields). steps_left g d.point < CALL_STEPS) (sym begun)
+    (subst (λ k. steps_left k (begun_by before call).point < CALL_STEPS) laid
+    (begun-short before call (subst IsChecked (sym laid) checked) idle))
+
+pub of-short : (h : Heap) (p : Pass) → IsOf h p → steps_left h.layout p.errand.point < CALL_STEPS
+of-short h p of =
+    let o = of.served.own_errand in
+    let was : steps_left of.before.errand.geometry of.before.errand.point < CALL_STEPS =
+    left-most of.before.errand.geometry of.before.errand.caller of.before.errand.point o.rule.geometry o.rule.point in
+    is_begun-short (seen p) of.before.errand p.errand h.layout o.geometry of.served.checked
+    (subst (λ g. steps_left g of.before.errand.point < CALL_STEPS) o.geometry was) of.begun
+
+-- a call that is given so many tries has gone on from p to q, and has so many of them left
+pub record IsGoing (h : Heap) (p : Pass) (tries left : ℕ) (q : Pass) : Type 0 where
+  pub busy : IsBusy q.errand
+  pub calls :
+      (first : Pass) (call : Call) (made : ℕ) → IsCalling first call made p
+      → (steps : ℕ) × IsCalling first call steps q
+      × (steps + steps_left h.layout q.errand.point + CALL_STEPS * left < made + CALL_STEPS * tries + CALL_STEPS)
+      × (left ≡ 0 → steps ≤ made + CALL_STEPS * tries)
+  pub most : tries_of q.errand + left ≤ tries_of p.errand + tries
+  pub spent : q.errand.lost < 2 ^ 64 - 1 → tries_of q.errand + left ≡ tries_of p.errand + tries
+
+pub going-first : (h : Heap) (p : Pass) (tries : ℕ) → IsOf h p → IsBusy p.errand → 0 < tries → IsGoing h p tries tries p
+going-first h p tries of busy some =
+    record {
+      busy = busy;
+      calls = λ first call made c. (made, c, omega (arith, of-short h p of), λ none. absurd (omega (arith, none, some)));
+      most = omega arith;
+      spent = λ below. refl;
+    }
+
+module _ (h : Heap) (p : Pass) (tries left : ℕ) (q r : Pass) (of : IsOf h q) (some : 0 < left) (i : IsGoing h p tries left q) where
+  heap : q.errand.geometry ≡ h.layout
+  heap = of-laid h q of
+
+  -- a step with nothing lost and nothing cleared
+  pub further-less : IsMoment q.errand r.errand (seen q) (seen r) More → steps_left h.layout r.errand.point < steps_left h.layout q.errand.point
+  further-less m =
+      subst (λ g. steps_left g r.errand.point < steps_left g q.errand.point) heap (goes-further q.errand r.errand (seen q) (seen r) m).fewer
+
+  pub going-further : IsMoment q.errand r.errand (seen q) (seen r) More → IsGoing h p tries left r
+  going-further m =
+      let goes = goes-further q.errand r.errand (seen q) (seen r) m in
+      let less = further-less m in
+      record {
+        busy = goes.busy;
+        calls = λ first call made c.
+            let g = i.calls first call made c in (
+              suc g.0,
+              calls-go_on first call g.0 q r More m g.1 more-undone,
+              omega (arith, g.2, less),
+              λ none. absurd (omega (arith, none, some)),
+            );
+        most = omega (arith, i.most, goes.counts.most);
+        spent = λ below. let n = goes.counts.all below in omega (arith, n.1, i.spent n.0);
+      }
+
+  -- a step that lost or cleared
+  pub again-short : GoesAgain q.errand r.errand → steps_left h.layout r.errand.point < CALL_STEPS
+  again-short goes = subst (λ g. steps_left g r.errand.point < CALL_STEPS) heap goes.short
+
+  pub going-again :
+      (answer : Progress) (rest : ℕ) → rest + 1 ≡ left → IsMoment q.errand r.errand (seen q) (seen r) answer
+      → ((a : Reply) → answer ≢ Done a) → GoesAgain q.errand r.errand → IsGoing h p tries rest r
+  going-again answer rest one m undone goes =
+      let short = again-short goes in
+      record {
+        busy = goes.busy;
+        calls = λ first call made c.
+            let g = i.calls first call made c in (
+              suc g.0,
+              calls-go_on first call g.0 q r answer m g.1 undone,
+              omega (arith, g.2, short, one),
+              λ none. omega (arith, g.2, one, none),
+            );
+        most = omega (arith, i.most, goes.counts.most, one);
+        spent = λ below. let n = goes.counts.all below in omega (arith, n.1, i.spent n.0, one);
+      }
+
+  -- the step that ends the call
+  pub going-ends :
+      (a : Reply) → IsMoment q.errand r.errand (seen q) (seen r) (Done a) → (first : Pass) (call : Call) (made : ℕ)
+      → IsCalling first call made p → EndsInTime first call made p tries a r
+  going-ends a m first call made c =
+      let g = i.calls first call made c in
+      let ends = calls-end first call g.0 q r (Done a) m g.1 a refl in
+      let before : tries_of q.errand < tries_of p.errand + tries = omega (arith, i.most, some) in
+      record {
+        steps = g.0;
+        called = ends.0;
+        few = omega (arith, g.2, some);
+        in_time = subst (λ (e : ErrandFields). tries_of e < tries_of p.errand + tries) (sym ends.1) before;
+      }
+
+-- no tries are left
+pub going-over :
+    (h : Heap) (p : Pass) (tries left : ℕ) (q : Pass) → left ≡ 0 → IsGoing h p tries left q → (first : Pass) (call : Call) (made : ℕ)
+    → IsCalling first call made p → IsInterrupted first call made p tries q
+going-over h p tries left q none i first call made c =
+    let g = i.calls first call made c in
+    record { steps = g.0; calling = g.1; few = g.3 none; spent = λ below. omega (arith, none, i.spent below) }

@@ -1,0 +1,34 @@
+-- A closed heap is a sound state, and bounds what its callers lost.
+use Rattle.std.proofs.Common.{ℕ, ◌<◌, ◌≤◌, ◌*◌, length, arith, subst}
+use Rattle.std.specs.Prelude.{◌-◌, ◌^◌}
+use Rattle.pool_model.specs.Legal.{IsLegal}
+use Rattle.sound_state.specs.Contention.{lost_of, won_of}
+use Rattle.sound_state.specs.Sound.{IsSound}
+use Rattle.sound_state.specs.Sums.{callers_sum}
+use Rattle.sound_state.proofs.wins.LossLemmas.{losses-bounded}
+use Rattle.step_core.specs.Cores.{errand_at, state_of}
+use Rattle.step_core.proofs.CoreLemmas.{core-sound, run-won}
+use Rattle.live_heap.specs.Endings.{ClosedFields, IsResting, machine_of}
+
+-- its state is sound, and so its history is legal
+pub closed-sound : (c : ClosedFields) (rests : IsResting c) → IsSound c.geometry (state_of (machine_of c rests.steps))
+closed-sound c rests = core-sound (machine_of c rests.steps) rests.core
+
+pub closed-legal : (c : ClosedFields) → IsResting c → IsLegal c.geometry c.events
+closed-legal c rests = (closed-sound c rests).legal
+
+-- the lost exchanges are at most the wins, times the other callers
+pub closed-losses :
+    (c : ClosedFields) → IsResting c → callers_sum c.geometry lost_of (errand_at c.errands) ≤ (c.geometry.callers - 1) * length c.wins
+closed-losses c rests =
+    let most = (run-won c.geometry (state_of (machine_of c rests.steps)) rests.steps rests.core.run).contended.most in
+    subst (λ l. callers_sum c.geometry lost_of (errand_at c.errands) ≤ (c.geometry.callers - 1) * length l) rests.wins (omega (arith, most))
+
+-- and the won ones, where no count stands at its end
+pub closed-contended :
+    (c : ClosedFields) → IsResting c
+    → ((caller : ℕ) → caller < c.geometry.callers → (errand_at c.errands caller).won < 2 ^ 64 - 1)
+    → callers_sum c.geometry lost_of (errand_at c.errands) ≤ (c.geometry.callers - 1) * callers_sum c.geometry won_of (errand_at c.errands)
+closed-contended c rests below =
+    losses-bounded c.geometry (state_of (machine_of c rests.steps)) rests.core.run.wins
+    (run-won c.geometry (state_of (machine_of c rests.steps)) rests.steps rests.core.run) below

@@ -1,0 +1,134 @@
+-- What is so of every pass, also where it has begun a call.
+use Rattle.std.proofs.Common.{ℕ, ◌≡◌, ◌<◌, ◌≤◌, ◌+◌, ◌^◌, inl, inr, List, sym, ap, ◌∙◌, subst, arith}
+use Rattle.std.proofs.lemmas.Bool.{cond_both}
+use Rattle.heap_geometry.specs.declared.geometry.Geometry.{Geometry}
+use Rattle.heap_geometry.specs.declared.need.Need.{Need}
+use Rattle.heap_geometry.specs.declared.need.Need.TheVariants.{Small, Large, TooLarge}
+use Rattle.heap_geometry.specs.Need.{need_of}
+use Rattle.pool_model.specs.declared.event.Event.{Event}
+use Rattle.pool_model.specs.Legal.{IsLegal}
+use Rattle.pool_model.specs.Pool.{pool_of}
+use Rattle.pool_model.specs.WellFormed.{IsWellFormed}
+use Rattle.pool_model.proofs.HistoryLemmas.{legal-weaker}
+use Rattle.pool_model.proofs.PoolLemmas.{every-each, place-found}
+use Rattle.pool_model.proofs.WellFormedLemmas.{sound-of}
+use Rattle.errand_steps.specs.declared.point.Point.{Point}
+use Rattle.errand_steps.specs.Begins.{IsIdle, IsHeapBlock, begins_alloc, alloc_begun, free_begun, write_begun, read_begun, put_begun, take_begun}
+use Rattle.errand_steps.specs.Calls.{Call, alloc, free, write, read, put, take, begun_by}
+use Rattle.errand_steps.specs.Errands.{ErrandFields, IsErrand, is_spent}
+use Rattle.sound_state.specs.Recalls.{IsOwned}
+use Rattle.sound_state.specs.Runs.{MayBegin}
+use Rattle.sound_state.specs.TurnStages.{turn_stage_of, lacks_answer}
+use Rattle.sound_state.specs.Turns.{one_if, turn_unanswered}
+use Rattle.sound_state.proofs.beginnings.BegunErrands.{idle-is, alloc-errand, free-errand, write-errand, read-errand, put-errand, take-errand}
+use Rattle.step_core.specs.Moments.{IsServed}
+use Rattle.live_heap.specs.declared.heap.Heap.{Heap}
+use Rattle.live_heap.specs.declared.pass.Pass.{Pass}
+use Rattle.live_heap.specs.Passes.{IsOf, seen}
+use Rattle.live_heap.specs.Sights.{IsBegun, after_events}
+use Rattle.live_heap.proofs.Moves.{begun-caller, begun-geometry}
+
+-- a call that begins leaves what its caller has lost
+begun-lost : (e : ErrandFields) (call : Call) → (begun_by e call).lost ≡ e.lost
+unfolding alloc_begun free_begun write_begun read_begun put_begun take_begun
+begun-lost e call = grind (arith)
+
+-- it takes one turn at most, which has no answer yet
+alloc-turns : (e : ErrandFields) (words : ℕ) (n : Need) → (begins_alloc e words n).turns ≤ e.turns + turn_unanswered (begins_alloc e words n)
+alloc-turns e words (Small class) =
+    cond_both (is_spent e) e _ (λ (x : ErrandFields). x.turns ≤ e.turns + turn_unanswered x) (λ spent. omega arith) (λ left. omega arith)
+alloc-turns e words (Large units) = omega arith
+alloc-turns e words TooLarge = omega arith
+
+begun-turns : (e : ErrandFields) (call : Call) → (begun_by e call).turns ≤ e.turns + turn_unanswered (begun_by e call)
+unfolding alloc_begun free_begun write_begun read_begun put_begun take_begun
+begun-turns e (alloc words) = alloc-turns e words (need_of words)
+begun-turns e (free place need) = omega arith
+begun-turns e (write place need i value) = omega arith
+begun-turns e (read place need i) = omega arith
+begun-turns e (put place need shelf) = omega arith
+begun-turns e (take shelf) = omega arith
+
+-- who is in no call has no turn without an answer
+idle-unanswered : (e : ErrandFields) → IsIdle e → turn_unanswered e ≡ 0
+idle-unanswered e idle = ap (λ (p : Point). one_if (lacks_answer (turn_stage_of p))) (idle-is e.point idle)
+
+-- a block that a caller owns is one of the heap's
+owned-here :
+    (g : Geometry) (events : List Event) (caller place : ℕ) (need : Need) → IsLegal g events → IsOwned (after_events events) caller place need
+    → IsHeapBlock g place need
+owned-here g events caller place need legal owned =
+    let b = owned.block.0 in
+    let live = owned.block.1 in
+    let formed =
+    every-each (IsWellFormed g) (pool_of events) (sound-of g events (legal-weaker g events legal)).each place b live in
+    let at : b.place ≡ place = place-found place (pool_of events) b live in
+    subst (λ m. IsHeapBlock g place m) owned.block.3 (subst (λ q. IsHeapBlock g q b.need) at (formed.need, formed.place))
+
+-- so an errand that begins a call on it keeps its rule
+begun-errand :
+    (g : Geometry) (events : List Event) (e : ErrandFields) (call : Call) → IsLegal g events → e.geometry ≡ g → IsErrand e → IsIdle e
+    → MayBegin (after_events events) e.caller call → IsErrand (begun_by e call)
+begun-errand g events e (alloc words) legal laid rule idle may = alloc-errand e words rule idle
+begun-errand g events e (free place need) legal laid rule idle may =
+    free-errand e place need (subst (λ h. IsHeapBlock h place need) (sym laid) (owned-here g events e.caller place need legal may)) rule idle
+begun-errand g events e (write place need i value) legal laid rule idle may =
+    write-errand e place need i value (subst (λ h. IsHeapBlock h place need) (sym laid) (owned-here g events e.caller place need legal may.0))
+    may.1 may.2 rule idle
+begun-errand g events e (read place need i) legal laid rule idle may =
+    read-errand e place need i (subst (λ h. IsHeapBlock h place need) (sym laid) (owned-here g events e.caller place need legal may.0)) may.1 rule
+    idle
+begun-errand g events e (put place need shelf) legal laid rule idle may =
+    put-errand e place need shelf (subst (λ h. IsHeapBlock h place need) (sym laid) (owned-here g events e.caller place need legal may.0)) may.1
+    rule idle
+begun-errand g events e (take shelf) legal laid rule idle may = take-errand e shelf may rule idle
+
+-- what is so of a caller in no call is so of it with a call that it has begun
+call-served :
+    (g : Geometry) (before : ErrandFields) (events : List Event) (call : Call) → IsServed g before.caller before events → IsIdle before
+    → MayBegin (after_events events) before.caller call → IsServed g (begun_by before call).caller (begun_by before call) events
+call-served g before events call served idle may =
+    let f = begun_by before call in
+    let same : f.caller ≡ before.caller = begun-caller before call in
+    let turns = begun-turns before call in
+    let lost = begun-lost before call in
+    let none = idle-unanswered before idle in
+    let by_lost = served.by_lost in
+    let by_given = served.by_given in
+    subst (λ k. IsServed g k f events) (sym same)
+    (record {
+      checked = served.checked;
+      has = served.has;
+      own_errand = record {
+        number = same;
+        geometry = begun-geometry before call ∙ served.own_errand.geometry;
+        rule = begun-errand g events before call served.legal served.own_errand.geometry served.own_errand.rule idle may;
+        lost = subst (λ n. n < 2 ^ 64) (sym lost) served.own_errand.lost;
+      };
+      legal = served.legal;
+      by_lost = omega (arith, by_lost, turns, lost, none);
+      by_given = omega (arith, by_given, turns, none);
+    })
+
+begun-served :
+    (g : Geometry) (before e : ErrandFields) (events : List Event) → IsServed g before.caller before events → IsBegun events before e
+    → IsServed g e.caller e events
+begun-served g before e events served (inl same) = subst (λ (x : ErrandFields). IsServed g x.caller x events) (sym same) served
+begun-served g before e events served (inr (call, idle, may, is)) =
+    subst (λ (x : ErrandFields). IsServed g x.caller x events) (sym is) (call-served g before events call served idle may)
+
+is_begun-lost : (events : List Event) (before e : ErrandFields) → IsBegun events before e → e.lost ≡ before.lost
+is_begun-lost events before e (inl same) = ap (λ (x : ErrandFields). x.lost) same
+is_begun-lost events before e (inr (call, idle, may, is)) = ap (λ (x : ErrandFields). x.lost) is ∙ begun-lost before call
+
+-- so it is of every pass
+pub pass-served : (h : Heap) (p : Pass) → IsOf h p → IsServed h.layout p.errand.caller p.errand (seen p)
+pass-served h p of = begun-served h.layout of.before.errand p.errand (seen p) of.served of.begun
+
+-- and with one caller nothing is ever lost
+pub pass-alone : (h : Heap) (p : Pass) → IsOf h p → h.layout.callers ≡ 1 → p.errand.lost ≡ 0
+pass-alone h p of one = is_begun-lost (seen p) of.before.errand p.errand of.begun ∙ of.alone one
+
+-- named by its caller's number
+pub caller-served : (h : Heap) (p : Pass) (caller : ℕ) → IsOf h p → caller ≡ p.errand.caller → IsServed h.layout caller p.errand (seen p)
+caller-served h p caller of is = subst (λ c. IsServed h.layout c p.errand (seen p)) (sym is) (pass-served h p of)

@@ -1,0 +1,55 @@
+-- A pass after a step.
+use Rattle.std.proofs.Common.{ℕ, ◌≡◌, inl, sym, ap, ◌∙◌, subst}
+use Rattle.heap_geometry.specs.declared.geometry.Geometry.{Geometry}
+use Rattle.errand_steps.specs.declared.reply.Progress.{Progress}
+use Rattle.errand_steps.specs.Errands.{ErrandFields, settle_of, answer_of}
+use Rattle.errand_steps.specs.Offers.{offered_at}
+use Rattle.step_core.specs.Moments.{IsMoment, IsServed}
+use Rattle.live_heap.specs.declared.answers.Step.{Step}
+use Rattle.live_heap.specs.declared.heap.Heap.{Heap}
+use Rattle.live_heap.specs.declared.pass.Pass.{Pass}
+use Rattle.live_heap.specs.Answers.{GivesBack, HasStepped, progress_of}
+use Rattle.live_heap.specs.Passes.{IsOf, seen, view}
+use Rattle.live_heap.specs.Sights.{IsSightOf, TakesStep, found_in}
+use Rattle.live_heap.proofs.Begun.{of-laid}
+use Rattle.live_heap.proofs.Moves.{settle-caller}
+
+-- the pass may make a step of its errand
+pub of-sight : (h : Heap) (p : Pass) → IsOf h p → IsSightOf h.layout (view p) p.errand
+of-sight h p of = record { before = of.before; one = of.one; begun = of.begun; laid = of-laid h p of }
+
+-- it stays one of its heap after it
+pub still-of :
+    (h : Heap) (p q : Pass) (n : ℕ) → IsOf h p → q.seat.table_id ≡ p.seat.table_id → q.seat.me.1 ≡ p.seat.me.1
+    → q.errand ≡ settle_of p.errand (found_in p.errand n) → TakesStep p.errand n (view p) (view q) → IsOf h q
+still-of h p q n of table empty is s =
+    let x = found_in p.errand n in
+    let laid = of-laid h p of in
+    let number : settle_of p.errand x ≡ s.after.errand = sym s.errand in
+    let S : ErrandFields → Type 0 = λ f. IsServed h.layout f.caller f (seen q) in
+    let served : IsServed h.layout p.errand.caller (settle_of p.errand x) (seen q) =
+    subst (λ g. IsServed g p.errand.caller (settle_of p.errand x) (seen q)) laid s.served in
+    record {
+      table = table ∙ of.table;
+      empty = empty ∙ of.empty;
+      before = s.after;
+      one = s.now;
+      sight = s.seen;
+      served = subst S number (subst (λ c. IsServed h.layout c (settle_of p.errand x) (seen q)) (sym (settle-caller p.errand x)) served);
+      alone = λ one. subst (λ (f : ErrandFields). f.lost ≡ 0) number (s.alone (ap (λ (g : Geometry). g.callers) laid ∙ one));
+      begun = inl (is ∙ number);
+    }
+
+-- the moment of the step, as the code made it
+pub took-step :
+    (p q : Pass) (n : ℕ) (answer : Progress) → q.errand ≡ settle_of p.errand (found_in p.errand n) → answer ≡ answer_of p.errand (found_in p.errand n)
+    → TakesStep p.errand n (view p) (view q) → IsMoment p.errand q.errand (seen p) (seen q) answer
+took-step p q n answer is told s =
+    subst (λ f. IsMoment p.errand f (seen p) (seen q) answer) (sym is)
+    (subst (IsMoment p.errand (settle_of p.errand (found_in p.errand n)) (seen p) (seen q)) (sym told) s.moment)
+
+pub has-stepped :
+    (p q : Pass) (answer : Progress) (told : Step) → IsMoment p.errand q.errand (seen p) (seen q) answer → progress_of told ≡ answer
+    → GivesBack (offered_at p.errand.point) told → HasStepped p q told
+has-stepped p q answer told moment is back =
+    record { moment = subst (IsMoment p.errand q.errand (seen p) (seen q)) (sym is) moment; back = back }

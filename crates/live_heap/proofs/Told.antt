@@ -1,0 +1,83 @@
+-- What the moment of a step tells.
+use Rattle.std.proofs.Common.{ℕ, ◌≡◌, List, IsSomeAnd, refl, sym, ap, ◌∙◌, subst}
+use Rattle.heap_geometry.specs.declared.need.Need.{Need}
+use Rattle.heap_geometry.specs.Need.{IsNeed}
+use Rattle.word_plan.specs.declared.action.Found.{Found as Find}
+use Rattle.pool_model.specs.declared.event.Event.{Event}
+use Rattle.errand_steps.specs.declared.point.Point.{Point}
+use Rattle.errand_steps.specs.declared.reply.Offer.{Offer}
+use Rattle.errand_steps.specs.declared.reply.Progress.{Progress}
+use Rattle.errand_steps.specs.declared.reply.Progress.TheVariants as progress
+use Rattle.errand_steps.specs.declared.reply.Reply.{Reply}
+use Rattle.errand_steps.specs.declared.reply.Reply.TheVariants as reply
+use Rattle.errand_steps.specs.Begins.{IsBusy}
+use Rattle.errand_steps.specs.Errands.{ErrandFields, settle_of, answer_of}
+use Rattle.errand_steps.specs.Offers.{offered_at}
+use Rattle.errand_steps.specs.Steps.{found_at}
+use Rattle.sound_state.specs.Answers.{IsMeant}
+use Rattle.sound_state.specs.Recalls.{IsOwned}
+use Rattle.sound_state.specs.Sound.{IsSound, IsOwnErrand}
+use Rattle.sound_state.proofs.CountedLemmas.{without-counts, steps-counted}
+use Rattle.sound_state.proofs.answers.StepAnswers.{answers-meant}
+use Rattle.sound_state.proofs.beginnings.BegunLemmas.{owned-block}
+use Rattle.step_core.specs.Moments.{IsMoment}
+use Rattle.live_heap.specs.Answers.{IsAnswerable}
+
+module _ (e f : ErrandFields) (before after : List Event) (answer : Progress) (m : IsMoment e f before after answer) where
+  -- what the step found
+  abbrev pub found : Find
+  found = found_at m.state e.caller
+
+  -- the errand goes on by that
+  pub moment-settles : f ≡ settle_of e found
+  moment-settles = sym m.there ∙ (m.step.errand.here ∙ ap (λ x. settle_of x found) m.here)
+
+  pub moment-busy : IsBusy e
+  moment-busy = subst IsBusy m.here m.step.busy
+
+  pub moment-sound : IsSound e.geometry m.next
+  moment-sound = steps-counted e.geometry m.state e.caller m.next m.sound m.has m.step
+
+  pub moment-own : IsOwnErrand e.geometry e.caller e
+  moment-own = subst (IsOwnErrand e.geometry e.caller) m.here (m.sound.parts.1.errands e.caller m.has)
+
+  pub moment-own_after : IsOwnErrand e.geometry e.caller f
+  moment-own_after = subst (IsOwnErrand e.geometry e.caller) m.there (moment-sound.parts.1.errands e.caller m.has)
+
+  -- what it answers is so
+  pub moment-meant : (r : Reply) → answer ≡ progress.Done r → IsMeant e.geometry m.state e.caller r m.next
+  moment-meant r is =
+      answers-meant e.geometry m.state e.caller r m.next (without-counts e.geometry m.state m.sound) m.has m.step
+      (ap (λ x. answer_of x found) m.here ∙ (sym m.answers ∙ is))
+
+  -- a block that the caller owns then serves some need
+  owned-need : (place : ℕ) (need : Need) → IsOwned m.next e.caller place need → IsNeed need
+  owned-need place need owned =
+      (owned-block e.geometry m.next e.caller place need (without-counts e.geometry m.next moment-sound) owned).0
+
+  reply-answerable : (r : Reply) → IsMeant e.geometry m.state e.caller r m.next → IsAnswerable (offered_at e.point) (progress.Done r)
+  reply-answerable (reply.Given place need) (words, allocates, serves, owned) = owned-need place need owned
+  reply-answerable reply.Refused meant = tt
+  reply-answerable reply.Spent meant = tt
+  reply-answerable reply.Freed meant = tt
+  reply-answerable reply.Wrote meant = tt
+  reply-answerable (reply.Word word) meant = tt
+  reply-answerable reply.Put meant = tt
+  reply-answerable (reply.Full word) (shelf, place, need, stands, owned, holds) =
+      let P : Point → Type 0 = λ p. IsSomeAnd (offered_at p) (λ (own : Offer). IsNeed own.need) in
+      let here : (m.state.errand e.caller).point ≡ e.point = ap (λ (x : ErrandFields). x.point) m.here in
+      subst P (sym stands.1 ∙ here) (owned-need place need owned)
+  reply-answerable (reply.Got place need) (shelf, tells, owned) = owned-need place need owned
+  reply-answerable reply.Empty meant = tt
+  reply-answerable (reply.Missed expected found) meant = tt
+
+  -- so an answer can be told
+  answerable : (a : Progress) → answer ≡ a → IsAnswerable (offered_at e.point) a
+  answerable progress.Idle is = tt
+  answerable progress.More is = tt
+  answerable progress.Lost is = tt
+  answerable progress.Cleared is = tt
+  answerable (progress.Done r) is = reply-answerable r (moment-meant r is)
+
+  pub moment-answerable : IsAnswerable (offered_at e.point) answer
+  moment-answerable = answerable answer refl

@@ -1,0 +1,12 @@
+use Rattle.std.proofs.Common.{refl}
+use Rattle.errand_steps.specs.Calls.{put}
+use Rattle.live_heap.proofs.Begun.{begins-of, heap-block}
+use Rattle.live_heap.proofs.heap.Heap.begin_put.Goals as goal
+
+pub begin_put-requires-clause-block : goal.begin_put-requires-clause-block
+begin_put-requires-clause-block c = heap-block c.args.self.now c.args.pass.now c.args.block c.requires.of c.requires.owned
+
+pub returns-clause-of : goal.returns-clause-of
+returns-clause-of c =
+    begins-of c.args.self.now c.args.pass.now (record { seat = c.args.pass.now.seat; errand = c.begin_put.new.self })
+    (put c.args.block.place c.args.block.need c.args.shelf) c.requires.of c.requires.idle (record { block = c.requires.owned }, c.requires.shelf) refl c.begin_put.ensures

@@ -1,0 +1,12 @@
+use Rattle.std.proofs.Common.{refl}
+use Rattle.errand_steps.specs.Calls.{read}
+use Rattle.live_heap.proofs.Begun.{begins-of, heap-block}
+use Rattle.live_heap.proofs.heap.Heap.begin_read.Goals as goal
+
+pub begin_read-requires-clause-block : goal.begin_read-requires-clause-block
+begin_read-requires-clause-block c = heap-block c.args.self.now c.args.pass.now c.args.block.now c.requires.of c.requires.owned
+
+pub returns-clause-of : goal.returns-clause-of
+returns-clause-of c =
+    begins-of c.args.self.now c.args.pass.now (record { seat = c.args.pass.now.seat; errand = c.begin_read.new.self })
+    (read c.args.block.now.place c.args.block.now.need c.args.i) c.requires.of c.requires.idle (record { block = c.requires.owned }, c.requires.word) refl c.begin_read.ensures

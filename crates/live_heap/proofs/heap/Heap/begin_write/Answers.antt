@@ -1,0 +1,12 @@
+use Rattle.std.proofs.Common.{refl, arith}
+use Rattle.errand_steps.specs.Calls.{write}
+use Rattle.live_heap.proofs.Begun.{begins-of, heap-block}
+use Rattle.live_heap.proofs.heap.Heap.begin_write.Goals as goal
+
+pub begin_write-requires-clause-block : goal.begin_write-requires-clause-block
+begin_write-requires-clause-block c = heap-block c.args.self.now c.args.pass.now c.args.block.now c.requires.of c.requires.owned
+
+pub returns-clause-of : goal.returns-clause-of
+returns-clause-of c =
+    begins-of c.args.self.now c.args.pass.now (record { seat = c.args.pass.now.seat; errand = c.begin_write.new.self })
+    (write c.args.block.now.place c.args.block.now.need c.args.i c.args.v) c.requires.of c.requires.idle (record { block = c.requires.owned }, c.requires.word, omega arith) refl c.begin_write.ensures

@@ -1,0 +1,46 @@
+use Rattle.std.proofs.Common.{ap, sym, ◌∙◌, subst}
+use Rattle.word_plan.specs.Actions.{name_of}
+use Rattle.word_plan.specs.Table.{Exists}
+use Rattle.errand_steps.specs.Errands.{ErrandFields}
+use Rattle.live_heap.specs.declared.pass.Pass.{Pass}
+use Rattle.live_heap.specs.Answers.{GivesBack, IsAnswerable}
+use Rattle.live_heap.proofs.Begun.{of-laid}
+use Rattle.live_heap.proofs.Moves.{settle-caller}
+use Rattle.live_heap.proofs.Stepped.{of-sight, still-of, took-step, has-stepped}
+use Rattle.live_heap.proofs.Told.{moment-answerable}
+use Rattle.live_heap.proofs.heap.Heap.step.Goals as goal
+
+pub act-found-requires-clause-sight : goal.act-found-requires-clause-sight
+act-found-requires-clause-sight c = of-sight c.args.self.now c.args.pass.now c.requires
+
+pub act-found-requires-clause-there : goal.act-found-requires-clause-there
+act-found-requires-clause-there c =
+    subst (λ g. Exists g (name_of c.plan-action.result)) (of-laid c.args.self.now c.args.pass.now c.requires) c.plan-action.ensures.exists
+
+pub told-requires : goal.told-requires
+told-requires c =
+    let s = c.act-found.ensures.step in
+    let q : Pass = record { seat = c.act-found.new.seat; errand = c.go_on-progress.new.self } in
+    let m = took-step c.args.pass.now q s.0 c.go_on-progress.result (c.go_on-progress.ensures.errand ∙ s.2) (c.go_on-progress.ensures.answer ∙ s.3) s.1 in
+    subst (λ o. IsAnswerable o c.go_on-progress.result) (sym c.offered-offer.ensures) (moment-answerable _ _ _ _ _ m)
+
+pub returns-clause-of : goal.returns-clause-of
+returns-clause-of c =
+    let d = c.act-found.ensures in
+    let s = d.step in
+    let q : Pass = record { seat = c.act-found.new.seat; errand = c.go_on-progress.new.self } in
+    still-of c.args.self.now c.args.pass.now q s.0 c.requires d.seat.0 d.seat.1 (c.go_on-progress.ensures.errand ∙ s.2) s.1
+
+pub returns-clause-caller : goal.returns-clause-caller
+returns-clause-caller c =
+    let s = c.act-found.ensures.step in
+    ap (λ (e : ErrandFields). e.caller) (c.go_on-progress.ensures.errand ∙ s.2) ∙ settle-caller c.args.pass.now.errand _
+
+pub returns-clause-busy : goal.returns-clause-busy
+returns-clause-busy c =
+    let s = c.act-found.ensures.step in
+    let q : Pass = record { seat = c.act-found.new.seat; errand = c.go_on-progress.new.self } in
+    let m = took-step c.args.pass.now q s.0 c.go_on-progress.result (c.go_on-progress.ensures.errand ∙ s.2) (c.go_on-progress.ensures.answer ∙ s.3) s.1 in
+    λ busy.
+    has-stepped c.args.pass.now q c.go_on-progress.result c.told.result m c.told.ensures.progress
+    (subst (λ o. GivesBack o c.told.result) c.offered-offer.ensures c.told.ensures.back)

@@ -1,0 +1,184 @@
+-- What the calls of a heap answer.
+use Rattle.std.specs.Prelude.{ℕ, ◌≡◌, ◌≢◌, ◌⊎◌, Option, Some, None, IsSomeAnd, slice_index_or}
+use Rattle.heap_geometry.specs.declared.need.Need.TheVariants.{Small}
+use Rattle.heap_geometry.specs.Need.{IsNeed, need_of}
+use Rattle.packed_words.specs.declared.shelf.ShelfWord.TheVariants as lies
+use Rattle.packed_words.specs.Shelf.{shelf_word}
+use Rattle.pool_model.specs.declared.owner.Owner.TheVariants.{Shelf}
+use Rattle.pool_model.specs.Pool.{Block as PoolBlock, block_at, pool_of}
+use Rattle.errand_steps.specs.declared.reply.Offer.{Offer}
+use Rattle.errand_steps.specs.declared.reply.Progress.{Progress}
+use Rattle.errand_steps.specs.declared.reply.Progress.TheVariants as progress
+use Rattle.errand_steps.specs.declared.reply.Reply.{Reply}
+use Rattle.errand_steps.specs.declared.reply.Reply.TheVariants as reply
+use Rattle.errand_steps.specs.Calls.{Call, alloc, free, put, take, begun_by}
+use Rattle.errand_steps.specs.Errands.{ErrandFields, one_more}
+use Rattle.errand_steps.specs.Offers.{offered_at}
+use Rattle.step_core.specs.Moments.{IsMoment}
+use Rattle.live_heap.specs.declared.answers.AllocAnswer.{AllocAnswer}
+use Rattle.live_heap.specs.declared.answers.AllocAnswer.TheVariants as alloc_answer
+use Rattle.live_heap.specs.declared.answers.Ending.{Ending}
+use Rattle.live_heap.specs.declared.answers.Ending.TheVariants as ending
+use Rattle.live_heap.specs.declared.answers.FreeAnswer.{FreeAnswer}
+use Rattle.live_heap.specs.declared.answers.FreeAnswer.TheVariants as free_answer
+use Rattle.live_heap.specs.declared.answers.Full.{Full}
+use Rattle.live_heap.specs.declared.answers.Resumed.{Resumed}
+use Rattle.live_heap.specs.declared.answers.Resumed.TheVariants as resumed
+use Rattle.live_heap.specs.declared.answers.Step.{Step}
+use Rattle.live_heap.specs.declared.answers.Step.TheVariants as step
+use Rattle.live_heap.specs.declared.answers.Taken.{Taken}
+use Rattle.live_heap.specs.declared.answers.Taken.TheVariants as taken
+use Rattle.live_heap.specs.declared.block.Block.{Block}
+use Rattle.live_heap.specs.declared.pass.Pass.{Pass}
+use Rattle.live_heap.specs.Calls.{HasCalled, IsCalling, EndsInTime, IsInterrupted}
+use Rattle.live_heap.specs.Passes.{Owns, seen}
+
+-- the reply of an ending, with a block's place and need for the block
+abbrev pub reply_of : Ending → Reply
+reply_of (ending.Given block) = reply.Given block.place block.need
+reply_of ending.Refused = reply.Refused
+reply_of ending.Spent = reply.Spent
+reply_of ending.Freed = reply.Freed
+reply_of ending.Wrote = reply.Wrote
+reply_of (ending.Word word) = reply.Word word
+reply_of ending.Put = reply.Put
+reply_of (ending.Full block found) = reply.Full found
+reply_of (ending.Got block) = reply.Got block.place block.need
+reply_of ending.Empty = reply.Empty
+reply_of (ending.Missed expected found) = reply.Missed expected found
+
+-- what a step came to
+abbrev pub progress_of : Step → Progress
+progress_of step.Idle = progress.Idle
+progress_of step.More = progress.More
+progress_of step.Lost = progress.Lost
+progress_of step.Cleared = progress.Cleared
+progress_of (step.Done ending) = progress.Done (reply_of ending)
+
+-- it can be told: a block that it names serves some need, and a put that finds a full shelf has offered such a block
+abbrev pub IsAnswerable : Option Offer → Progress → Type 0
+IsAnswerable offer (progress.Done (reply.Given place need)) = IsNeed need
+IsAnswerable offer (progress.Done (reply.Full found)) = IsSomeAnd offer (λ own. IsNeed own.need)
+IsAnswerable offer (progress.Done (reply.Got place need)) = IsNeed need
+IsAnswerable offer answer = Unit {0}
+
+-- where the shelf is full, the block that comes back is the one that was offered
+abbrev pub GivesBack : Option Offer → Step → Type 0
+GivesBack offer (step.Done (ending.Full block found)) = offer ≡ Some (record { place = block.place; need = block.need })
+GivesBack offer told = Unit {0}
+
+-- a step of a pass that is in a call, and what it was told to have come to
+pub record HasStepped (p q : Pass) (told : Step) : Type 0 where
+  pub moment : IsMoment p.errand q.errand (seen p) (seen q) (progress_of told)
+  pub back : GivesBack (offered_at p.errand.point) told
+
+-- the pass has begun a call, and made no step
+pub record HasBegun (p : Pass) (call : Call) (q : Pass) : Type 0 where
+  pub seat : q.seat ≡ p.seat
+  pub errand : q.errand ≡ begun_by p.errand call
+
+-- an allocation that took no turn, since its caller had none left: nothing has happened
+pub record IsSpentAtOnce (p : Pass) (words : ℕ) (q : Pass) : Type 0 where
+  pub same : q ≡ p
+  pub small : (class : ℕ) × (need_of words ≡ Small class)
+  pub over : p.errand.turns ≡ p.errand.geometry.turn_limit
+
+-- how a call that is given so many tries has gone on since the pass stood at p, where it had made so many steps. A block that is given is the pass's; who is spent has taken all its turns
+abbrev pub ResumeTells : Pass → Call → ℕ → Pass → ℕ → Resumed → Pass → Type 0
+ResumeTells first call made p tries (resumed.Given block) q =
+    EndsInTime first call made p tries (reply.Given block.place block.need) q × Owns q block
+ResumeTells first call made p tries resumed.Freed q = EndsInTime first call made p tries reply.Freed q
+ResumeTells first call made p tries resumed.Refused q = EndsInTime first call made p tries reply.Refused q
+ResumeTells first call made p tries resumed.Spent q =
+    EndsInTime first call made p tries reply.Spent q × (q.errand.turns ≡ q.errand.geometry.turn_limit)
+ResumeTells first call made p tries resumed.Busy q = IsInterrupted first call made p tries q
+
+-- so it is of an allocation; and where no block has so many words nothing has happened
+abbrev pub AllocTells : Pass → ℕ → ℕ → AllocAnswer → Pass → Type 0
+AllocTells p words tries (alloc_answer.Given block) q =
+    EndsInTime p (alloc words) 0 p tries (reply.Given block.place block.need) q × Owns q block
+AllocTells p words tries alloc_answer.Refused q = EndsInTime p (alloc words) 0 p tries reply.Refused q
+AllocTells p words tries alloc_answer.TooLarge q = q ≡ p
+AllocTells p words tries alloc_answer.Spent q =
+    IsSpentAtOnce p words q ⊎ (EndsInTime p (alloc words) 0 p tries reply.Spent q × (q.errand.turns ≡ q.errand.geometry.turn_limit))
+AllocTells p words tries alloc_answer.Busy q = IsInterrupted p (alloc words) 0 p tries q
+
+-- and of a free
+abbrev pub FreeTells : Pass → Block → ℕ → FreeAnswer → Pass → Type 0
+FreeTells p block tries free_answer.Freed q = EndsInTime p (free block.place block.need) 0 p tries reply.Freed q
+FreeTells p block tries free_answer.Busy q = IsInterrupted p (free block.place block.need) 0 p tries q
+
+-- an allocation or a free; these alone may be interrupted
+abbrev pub IsTried : Call → Type 0
+IsTried (alloc words) = Unit {0}
+IsTried (free place need) = Unit {0}
+IsTried call = ⊥
+
+-- the pass has an allocation or a free under way
+pub record IsResumable (p : Pass) : Type 0 where
+  pub first : Pass
+  pub call : Call
+  pub steps : ℕ
+  pub calling : IsCalling first call steps p
+  pub tried : IsTried call
+
+-- the word is what the block at the place holds there, where that was written
+abbrev pub IsContents : Pass → ℕ → ℕ → ℕ → Type 0
+IsContents q place i word =
+    (block : PoolBlock) (written : ℕ) → block_at place (pool_of (seen q)) ≡ Some block → slice_index_or block.contents i None ≡ Some written
+    → word ≡ written
+
+-- a live block lies on the shelf, and the word names it
+abbrev pub LiesOn : Pass → ℕ → ℕ → Type 0
+LiesOn q shelf word =
+    (block : PoolBlock) × (block_at block.place (pool_of (seen q)) ≡ Some block) × (block.owner ≡ Shelf shelf)
+    × (word ≡ shelf_word (lies.Block block.place block.need))
+
+-- a put that finds a full shelf: the same block is back, and still the pass's; and another one lies on the shelf
+pub record PutTellsFull (p : Pass) (block : Block) (shelf : ℕ) (full : Full) (q : Pass) : Type 0 where
+  pub called : HasCalled p (put block.place block.need shelf) 0 (reply.Full full.found) q
+  pub same : full.block ≡ block
+  pub owned : Owns q full.block
+  pub lies : LiesOn q shelf full.found
+  pub not_empty : full.found ≢ 0
+
+-- an errand that has lost one exchange more
+abbrev pub with_lost : ErrandFields → ErrandFields
+with_lost e = record e { lost = one_more e.lost }
+
+-- what a take has come to: the block that it got is the pass's; where it missed, nothing has changed but the count of lost exchanges
+abbrev pub TakeTells : Pass → ℕ → Taken → Pass → Type 0
+TakeTells p shelf (taken.Got block) q = HasCalled p (take shelf) 1 (reply.Got block.place block.need) q × Owns q block
+TakeTells p shelf taken.Empty q = HasCalled p (take shelf) 1 reply.Empty q
+TakeTells p shelf (taken.Missed expected found) q =
+    HasCalled p (take shelf) 1 (reply.Missed expected found) q × (expected ≢ found) × (q.errand ≡ with_lost p.errand)
+
+-- the reply of a call that has ended; none where it goes on
+abbrev pub reply_in : Option Ending → Option Reply
+reply_in None = None
+reply_in (Some ending) = Some (reply_of ending)
+
+-- an allocation may end so; an allocation or a free may
+abbrev pub IsAllocEnding : Ending → Type 0
+IsAllocEnding (ending.Given block) = Unit {0}
+IsAllocEnding ending.Refused = Unit {0}
+IsAllocEnding ending.Spent = Unit {0}
+IsAllocEnding told = ⊥
+
+abbrev pub IsTriedEnding : Ending → Type 0
+IsTriedEnding ending.Freed = Unit {0}
+IsTriedEnding told = IsAllocEnding told
+
+-- what it answers then
+abbrev pub alloc_ended : Ending → AllocAnswer
+alloc_ended (ending.Given block) = alloc_answer.Given block
+alloc_ended ending.Refused = alloc_answer.Refused
+alloc_ended ending.Spent = alloc_answer.Spent
+alloc_ended told = alloc_answer.Busy
+
+abbrev pub resumed_ended : Ending → Resumed
+resumed_ended (ending.Given block) = resumed.Given block
+resumed_ended ending.Freed = resumed.Freed
+resumed_ended ending.Refused = resumed.Refused
+resumed_ended ending.Spent = resumed.Spent
+resumed_ended told = resumed.Busy

@@ -1,0 +1,10 @@
+pub mod Answers
+pub mod Calls
+pub mod Endings
+pub mod Hands
+pub mod Holdings
+pub mod Passes
+pub mod Refusals
+pub mod Rule
+pub mod Sights
+pub mod Views

@@ -1,0 +1,45 @@
+-- When a pass is of a heap, and what it owns.
+use Rattle.std.specs.Prelude.{ℕ, suc, ◌≡◌, List, [], ◌∷◌}
+use Rattle.pool_model.specs.declared.event.Event.{Event}
+use Rattle.errand_steps.specs.Errands.{open_errand}
+use Rattle.step_core.specs.Cores.{OwnsAfter}
+use Rattle.step_core.specs.Moments.{IsServed}
+use Rattle.live_heap.specs.declared.block.Block.{Block}
+use Rattle.live_heap.specs.declared.heap.Heap.{Heap}
+use Rattle.live_heap.specs.declared.pass.Pass.{Pass}
+use Rattle.live_heap.specs.declared.view.Standing.{Standing}
+use Rattle.live_heap.specs.declared.view.View.{View}
+use Rattle.live_heap.specs.Sights.{IsBegun}
+
+-- what the pass knows, and the events that it has seen
+abbrev pub view : Pass → View
+view p = p.seat.me.0
+
+abbrev pub seen : Pass → List Event
+seen p = p.seat.me.0.seen
+
+-- the pass is of this heap: it stands for one caller, whose errand is the one that its last step left, or one that a call has begun with since; the events that it has seen are legal, and bound its turns; and with one caller nothing was lost
+pub record IsOf (h : Heap) (p : Pass) : Type 0 where
+  pub table : p.seat.table_id ≡ h.table.shared.table_id
+  pub empty : p.seat.me.1 ≡ []
+  pub before : Standing
+  pub one : (view p).callers ≡ before ∷ []
+  pub sight : before.seen ≡ seen p
+  pub served : IsServed h.layout before.errand.caller before.errand (seen p)
+  pub alone : h.layout.callers ≡ 1 → before.errand.lost ≡ 0
+  pub begun : IsBegun (seen p) before.errand p.errand
+
+-- the pass owns the block, after the events that it has seen
+abbrev pub Owns : Pass → Block → Type 0
+Owns p block = OwnsAfter (seen p) p.errand.caller block.place block.need
+
+-- a pass that has made no step
+pub record IsFresh (h : Heap) (p : Pass) : Type 0 where
+  pub of : IsOf h p
+  pub errand : p.errand ≡ open_errand p.errand.caller h.layout
+  pub nothing_seen : seen p ≡ []
+
+-- the passes of a new heap, in the order of their numbers, from one on
+abbrev pub AreFrom : Heap → ℕ → List Pass → Type 0
+AreFrom h caller [] = Unit {0}
+AreFrom h caller (p ∷ ps) = IsFresh h p × (p.errand.caller ≡ caller) × AreFrom h (suc caller) ps

@@ -1,0 +1,55 @@
+-- What a pass sees of its own step.
+use Rattle.std.specs.Prelude.{ℕ, ◌≡◌, List, [], ◌∷◌, ◌⊎◌}
+use Rattle.atomic_table.specs.Table.{Me}
+use Rattle.heap_geometry.specs.declared.geometry.Geometry.{Geometry}
+use Rattle.word_plan.specs.declared.action.Found.{Found}
+use Rattle.word_plan.specs.Actions.{found_by}
+use Rattle.pool_model.specs.declared.event.Event.{Event}
+use Rattle.errand_steps.specs.Begins.{IsIdle}
+use Rattle.errand_steps.specs.Calls.{Call, begun_by}
+use Rattle.errand_steps.specs.Errands.{ErrandFields, plan_of, settle_of, answer_of}
+use Rattle.errand_steps.specs.Steps.{State}
+use Rattle.sound_state.specs.Runs.{MayBegin}
+use Rattle.step_core.specs.Cores.{no_errand}
+use Rattle.step_core.specs.Moments.{IsMoment, IsServed}
+use Rattle.live_heap.specs.declared.view.Standing.{Standing}
+use Rattle.live_heap.specs.declared.view.View.{View}
+use Rattle.live_heap.specs.Rule.{BeginsWins}
+
+-- a state with these events, where only they matter
+abbrev pub after_events : List Event → State
+after_events events = record { word = λ name. 0; errand = λ caller. no_errand; history = events }
+
+-- the errand is the one that the last step left, or one that a call has begun with since, as these events allow it
+abbrev pub IsBegun : List Event → ErrandFields → ErrandFields → Type 0
+IsBegun events before e =
+    (e ≡ before)
+    ⊎ ((call : Call) × IsIdle before × MayBegin (after_events events) before.caller call × (e ≡ begun_by before call))
+
+-- what an errand finds where its word holds this number
+abbrev pub found_in : ErrandFields → ℕ → Found
+found_in e n = found_by (plan_of e) n
+
+-- a pass that stands for one caller made the step of the errand e, which found n, and saw this view become that one. With one caller nothing is ever lost
+pub record TakesStep (e : ErrandFields) (n : ℕ) (v w : View) : Type 0 where
+  pub before : Standing
+  pub after : Standing
+  pub was : v.callers ≡ before ∷ []
+  pub now : w.callers ≡ after ∷ []
+  pub errand : after.errand ≡ settle_of e (found_in e n)
+  pub seen : after.seen ≡ w.seen
+  pub wins_seen : BeginsWins v.wins w.wins
+  pub moment : IsMoment e (settle_of e (found_in e n)) v.seen w.seen (answer_of e (found_in e n))
+  pub served : IsServed e.geometry e.caller (settle_of e (found_in e n)) w.seen
+  pub alone : e.geometry.callers ≡ 1 → (settle_of e (found_in e n)).lost ≡ 0
+
+-- so it did, and it holds what it held
+abbrev pub Saw : {S : Type 0} → ErrandFields → ℕ → Me S View → Me S View → Type 0
+Saw e n before after = TakesStep e n before.0 after.0 × (after.1 ≡ before.1)
+
+-- a pass of this heap, whose errand is e, may make a step of it where its view is this one
+pub record IsSightOf (g : Geometry) (v : View) (e : ErrandFields) : Type 0 where
+  pub before : Standing
+  pub one : v.callers ≡ before ∷ []
+  pub begun : IsBegun v.seen before.errand e
+  pub laid : e.geometry ≡ g

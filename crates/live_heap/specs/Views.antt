@@ -1,0 +1,51 @@
+-- What passes know, how the first one is cut into one for each caller, and how they are gathered into one.
+use Rattle.std.specs.Prelude.{ℕ, zero, suc, ◌++◌, if◌then◌else◌, nat_lt, List, [], ◌∷◌, length}
+use Rattle.heap_geometry.specs.declared.geometry.Geometry.{Geometry}
+use Rattle.errand_steps.specs.Errands.{open_errand}
+use Rattle.live_heap.specs.declared.view.Standing.{Standing}
+use Rattle.live_heap.specs.declared.view.View.{View}
+
+-- a caller that is in no call and has seen nothing
+abbrev pub idle_standing : Geometry → ℕ → Standing
+idle_standing g caller = record { errand = open_errand caller g; seen = [] }
+
+-- such callers, so many from a number on
+abbrev pub idles_from : Geometry → ℕ → ℕ → List Standing
+idles_from g caller zero = []
+idles_from g caller (suc more) = idle_standing g caller ∷ idles_from g (suc caller) more
+
+-- nothing is seen yet by who stands for so many callers from a number on
+abbrev pub idle_view : Geometry → ℕ → ℕ → View
+idle_view g caller more = record { callers = idles_from g caller more; seen = []; wins = [] }
+
+-- the first pass stands for all callers
+abbrev pub opening_view : Geometry → View
+opening_view g = idle_view g 0 g.callers
+
+-- the first caller of a list, and the others
+abbrev pub first_caller : List Standing → List Standing
+first_caller [] = []
+first_caller (x ∷ xs) = x ∷ []
+
+abbrev pub other_callers : List Standing → List Standing
+other_callers [] = []
+other_callers (x ∷ xs) = xs
+
+-- a pass that is cut in two: its first caller stays, and the others go
+abbrev pub first_part : View → View
+first_part v = record { callers = first_caller v.callers; seen = v.seen; wins = v.wins }
+
+abbrev pub other_part : View → View
+other_part v = record { callers = other_callers v.callers; seen = v.seen; wins = v.wins }
+
+-- the longer of two lists
+abbrev pub longer : {A : Type 0} → List A → List A → List A
+longer xs ys = if nat_lt (length xs) (length ys) then ys else xs
+
+-- a pass that takes another one in stands for the callers of both, and has seen what either saw
+abbrev pub gathered : View → View → View
+gathered v w = record { callers = v.callers ++ w.callers; seen = longer v.seen w.seen; wins = longer v.wins w.wins }
+
+-- what is left of the one that was taken in
+abbrev pub spent_view : View
+spent_view = record { callers = []; seen = []; wins = [] }

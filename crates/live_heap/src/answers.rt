@@ -1,0 +1,108 @@
+//! What the calls of a heap answer.
+
+use crate::block::Block;
+
+/// What a step came to.
+#[derive(Debug, PartialEq, Eq, Drop)]
+pub enum Step {
+    /// The pass was in no call, and made no step.
+    Idle,
+    /// The call goes on.
+    More,
+    /// The call goes on after a lost exchange.
+    Lost,
+    /// The call goes on after it took an empty superblock for a partial one.
+    Cleared,
+    /// The call has ended.
+    Done(Ending),
+}
+
+/// The answer of a call that has ended.
+#[derive(Debug, PartialEq, Eq, Drop)]
+pub enum Ending {
+    /// The allocation is given this block.
+    Given(Block),
+    /// The allocation is refused.
+    Refused,
+    /// The allocation would have begun a turn, and the pass has none left.
+    Spent,
+    /// The block is freed.
+    Freed,
+    /// The word is written.
+    Wrote,
+    /// The word that was read.
+    Word(u64),
+    /// The block lies on the shelf.
+    Put,
+    /// The shelf holds a block already, `found` is its word, and the pass has its own back.
+    Full { block: Block, found: u64 },
+    /// The block that was taken from the shelf.
+    Got(Block),
+    /// The shelf is empty.
+    Empty,
+    /// The shelf's word was another one than the one that was read before.
+    Missed { expected: u64, found: u64 },
+}
+
+/// The answer of `Heap::alloc`.
+#[derive(Debug, PartialEq, Eq, Drop)]
+pub enum AllocAnswer {
+    /// The block, which is the pass's.
+    Given(Block),
+    /// For a small need no frame was left, behind a look in vain for a superblock of its class; for a
+    /// large one no run of units was free.
+    Refused,
+    /// No block has so many words.
+    TooLarge,
+    /// The pass has taken all its turns.
+    Spent,
+    /// As many steps lost an exchange or cleared a superblock as there were tries. The call is still
+    /// under way, and `Heap::resume` goes on with it.
+    Busy,
+}
+
+/// The answer of `Heap::free`.
+#[derive(Debug, PartialEq, Eq, Drop)]
+pub enum FreeAnswer {
+    /// The block is freed.
+    Freed,
+    /// As many steps lost an exchange as there were tries. The call is still under way, and
+    /// `Heap::resume` goes on with it.
+    Busy,
+}
+
+/// The answer of `Heap::resume`.
+#[derive(Debug, PartialEq, Eq, Drop)]
+pub enum Resumed {
+    /// The allocation is given this block, which is the pass's.
+    Given(Block),
+    /// The block is freed.
+    Freed,
+    /// The allocation is refused.
+    Refused,
+    /// The allocation would have begun a turn, and the pass has none left.
+    Spent,
+    /// As many steps lost an exchange or cleared a superblock as there were tries. The call is still
+    /// under way.
+    Busy,
+}
+
+/// A shelf holds a block already. The pass still owns its own.
+#[derive(Debug, PartialEq, Eq, Drop)]
+pub struct Full {
+    /// The block that was to be put there.
+    pub block: Block,
+    /// The word of the shelf, which names the block that lies there.
+    pub found: u64,
+}
+
+/// The answer of `Heap::take`.
+#[derive(Debug, PartialEq, Eq, Drop)]
+pub enum Taken {
+    /// The block that lay on the shelf, which is the pass's now.
+    Got(Block),
+    /// Nothing lay there.
+    Empty,
+    /// Another caller changed the shelf in between: its word was `expected` and is `found`.
+    Missed { expected: u64, found: u64 },
+}

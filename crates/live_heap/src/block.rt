@@ -1,0 +1,32 @@
+//! The token of a live block.
+
+ghost use Rattle.std.specs.Prelude.{◌≡◌};
+ghost use Rattle.heap_geometry.specs.Need.{IsNeed, usable_words};
+ghost use Rattle.step_core.specs.Needs.{IsNeed-prop};
+
+use heap_geometry::need::{Need, usable};
+
+/// A block that a caller of a heap owns, or owned: it can't be copied, cloned or made, and whoever frees
+/// it or puts it on a shelf gives it away.
+#[derive(Debug, PartialEq, Eq, Drop)]
+pub struct Block {
+    pub(crate) place: u32,
+    pub(crate) need: Need,
+    ghost is_need: { IsNeed need } by { IsNeed-prop need },
+}
+
+impl Block {
+    /// Its usable words, at most 131,071.
+    pub fn words(&self) -> u32
+        ensures { result ≡ usable_words self.now.need }
+    {
+        usable(self.need)
+    }
+
+    /// The arena word of its prefix; its usable words follow.
+    pub fn place(&self) -> u32
+        ensures { result ≡ self.now.place }
+    {
+        self.place
+    }
+}

@@ -1,0 +1,153 @@
+//! How a heap closes, and what is left of it.
+
+ghost use Rattle.std.specs.Prelude.{ℕ, ◌≡◌, ◌<◌, ◌≤◌, ◌-◌, ◌*◌, ◌^◌, min, sum_by, length, All, IfOk};
+ghost use Rattle.std.specs.Result.{IfErr};
+ghost use Rattle.word_plan.specs.Table.{Exists};
+ghost use Rattle.word_plan.specs.Words.{word_in};
+ghost use Rattle.errand_steps.specs.Begins.{IsIdle};
+ghost use Rattle.sound_state.specs.Contention.{lost_of, won_of};
+ghost use Rattle.sound_state.specs.Sums.{callers_sum};
+ghost use Rattle.step_core.specs.Cores.{errand_at};
+ghost use Rattle.live_heap.specs.Endings.{AreAllIdle, HasClosed, IsGathered, IsResting};
+
+use crate::heap::Heap;
+use crate::pass::Pass;
+use crate::plays::Gathers;
+use crate::view::View;
+use atomic_table::Seat;
+use heap_geometry::geometry::Geometry;
+use std::alloc::Global;
+use std::marker::Model;
+use std::snapshot::Snapshot;
+use word_plan::layout::Layout;
+use word_plan::name::WordName;
+
+/// A heap that no thread shares any more. It holds the words; contracts see beside them the errand of
+/// each caller, all idle, the whole history and all that callers won from each other, which take no
+/// memory.
+pub struct Closed {
+    table: atomic_table::Closed<u8, Global>,
+    layout: Layout,
+    last: Snapshot<Seat<u8, View>>,
+    won: u64,
+    lost: u64,
+}
+
+impl Model for Closed {
+    ghost use Rattle.std.specs.Prelude.{◌≡◌};
+    ghost use Rattle.std.specs.Slots.{slots_items, slots_len, IsFull};
+    ghost use Rattle.word_plan.specs.Counts.{word_count};
+    ghost use Rattle.live_heap.specs.Endings.{ClosedFields, IsCounted, IsResting, closed_with};
+
+    ghost Value = { ClosedFields };
+
+    ghost view = { λ s. closed_with s.layout (slots_items s.table.words) s.last.value.me.0 };
+
+    ghost invariant = { λ s. record { full : IsFull s.table.words; len : slots_len s.table.words ≡ word_count s.layout; bare : slots_len s.table.slots ≡ 0; rests : IsResting (closed_with s.layout (slots_items s.table.words) s.last.value.me.0); counts : IsCounted (closed_with s.layout (slots_items s.table.words) s.last.value.me.0) s.won s.lost } };
+}
+
+/// What is refused where there is no memory for closing: nothing has changed.
+#[derive(Drop)]
+pub struct CloseRefused {
+    pub heap: Heap,
+    pub passes: Vec<Pass>,
+}
+
+/// A seat that has taken passes in, and what they won and lost together, each at most 2^64 - 1.
+struct Gathered {
+    seat: Seat<u8, View>,
+    won: u64,
+    lost: u64,
+}
+
+impl Heap {
+    /// Takes all passes in, each in no call, and ends the sharing. Blocks that are still held stay live.
+    /// It takes no memory, so it always closes.
+    pub fn close(self, _alloc: Global, passes: Vec<Pass>) -> Result<Closed, CloseRefused>
+        requires { AreAllIdle self passes.items }
+        ensures closed { IfOk result (λ closed. HasClosed self passes.items closed) }
+        ensures rests { IfOk result (λ closed. IsResting closed) }
+        ensures always { IfErr result (λ refused. ⊥) }
+    {
+        let Gathered { seat, won, lost } = self.gather(passes);
+        let last = Snapshot::of(&seat);
+        let Heap { table, layout } = self;
+        Ok(Closed {
+            table: table.close_with(seat),
+            layout,
+            last,
+            won,
+            lost,
+        })
+    }
+
+    /// The seat that takes all passes in, and their counts.
+    fn gather(&self, mut passes: Vec<Pass>) -> Gathered
+        requires { AreAllIdle self.now passes.items }
+        ensures { IsGathered self.now passes.items result.seat result.won result.lost }
+    {
+        let Pass { mut seat, errand } = passes.pop().unwrap();
+        let mut won = errand.won();
+        let mut lost = errand.lost();
+        while let Some(pass) = passes.pop() {
+            let Pass {
+                seat: other,
+                errand,
+            } = pass;
+            won = won.saturating_add(errand.won());
+            lost = lost.saturating_add(errand.lost());
+            self.table.shared.join_seat::<Gathers>(&mut seat, other);
+        }
+        Gathered { seat, won, lost }
+    }
+}
+
+impl Closed {
+    /// The heap's numbers.
+    pub fn geometry(&self) -> Geometry
+        ensures value { result ≡ self.now.geometry }
+        ensures rests { IsResting self.now }
+    {
+        self.layout.geometry()
+    }
+
+    /// The word of this name.
+    pub fn word(&self, name: WordName) -> u64
+        requires { Exists self.now.geometry name }
+        ensures { result ≡ word_in self.now.geometry self.now.words name }
+    {
+        self.table.word(self.layout.index(name) as usize)
+    }
+
+    /// How many exchanges all callers won, at most 2^64 - 1.
+    pub fn won(&self) -> u64
+        ensures { result ≡ min (callers_sum self.now.geometry won_of (errand_at self.now.errands)) (2 ^ 64 - 1) }
+    {
+        self.won
+    }
+
+    /// How many they lost, at most 2^64 - 1: at most those that they won, times the other callers. So
+    /// each lost exchange stands for another caller's success.
+    pub fn lost(&self) -> u64
+        ensures value { result ≡ min (callers_sum self.now.geometry lost_of (errand_at self.now.errands)) (2 ^ 64 - 1) }
+        ensures list { callers_sum self.now.geometry lost_of (errand_at self.now.errands) ≤ (self.now.geometry.callers - 1) * length self.now.wins }
+        ensures won { ((caller : ℕ) → caller < self.now.geometry.callers → (errand_at self.now.errands caller).won < 2 ^ 64 - 1)
+            → callers_sum self.now.geometry lost_of (errand_at self.now.errands)
+            ≤ (self.now.geometry.callers - 1) * callers_sum self.now.geometry won_of (errand_at self.now.errands) }
+    {
+        self.lost
+    }
+}
+
+impl Drop for Closed {
+    fn drop(self) {
+        let Closed {
+            table,
+            layout: _,
+            last: _,
+            won: _,
+            lost: _,
+        } = self;
+        table.free();
+    }
+}

@@ -1,0 +1,88 @@
+//! Laws of the heap: theorems about the definitions, on functions that do nothing.
+
+ghost use Rattle.std.specs.Prelude.{ℕ, ◌≡◌, ◌≢◌, ◌<◌, ◌≤◌, ◌+◌, ◌-◌, ◌*◌, ◌^◌, List, ◌++◌, Some, length};
+ghost use Rattle.heap_geometry.specs.declared.need.Need.{Need};
+ghost use Rattle.heap_geometry.specs.declared.need.Need.TheVariants.{Small, Large};
+ghost use Rattle.heap_geometry.specs.Need.{need_of};
+ghost use Rattle.pool_model.specs.Legal.{IsLegal};
+ghost use Rattle.errand_steps.specs.declared.reply.Reply.{Reply};
+ghost use Rattle.errand_steps.specs.declared.reply.Reply.TheVariants as reply;
+ghost use Rattle.errand_steps.specs.Calls.{Call, alloc, free};
+ghost use Rattle.errand_steps.specs.Errands.{ErrandFields};
+ghost use Rattle.sound_state.specs.Contention.{lost_of, won_of};
+ghost use Rattle.sound_state.specs.Sound.{IsSound};
+ghost use Rattle.sound_state.specs.Sums.{callers_sum};
+ghost use Rattle.step_core.specs.Cores.{OwnsAfter, errand_at, state_of};
+ghost use Rattle.step_core.specs.Keeping.{Leaves};
+ghost use Rattle.step_core.specs.Moments.{IsServed};
+ghost use Rattle.live_heap.specs.declared.answers.FreeAnswer.TheVariants as free_answer;
+ghost use Rattle.live_heap.specs.declared.answers.Resumed.TheVariants as resumed;
+ghost use Rattle.live_heap.specs.declared.answers.Taken.TheVariants as taken;
+ghost use Rattle.live_heap.specs.declared.block.Block.{Block};
+ghost use Rattle.live_heap.specs.declared.heap.Heap.{Heap};
+ghost use Rattle.live_heap.specs.declared.pass.Pass.{Pass};
+ghost use Rattle.live_heap.specs.Answers.{FreeTells, ResumeTells, TakeTells};
+ghost use Rattle.live_heap.specs.Calls.{HasCalled, IsCalling, IsInterrupted};
+ghost use Rattle.live_heap.specs.Endings.{ClosedFields, IsResting, machine_of};
+ghost use Rattle.live_heap.specs.Passes.{IsOf, Owns, seen};
+ghost use Rattle.live_heap.specs.Refusals.{HasFoundNoFrame, HasFoundNoRun};
+
+/// What is so of every pass, whatever calls it has made: the events that it has seen are legal, and
+/// bound its turns, whether its errand is the one that its last step left or a call has begun since. With
+/// one caller nothing is ever lost.
+pub fn passes_are_served()
+    ensures served { (h : Heap) (p : Pass) → IsOf h p → IsServed h.layout p.errand.caller p.errand (seen p) }
+    ensures alone { (h : Heap) (p : Pass) → IsOf h p → h.layout.callers ≡ 1 → p.errand.lost ≡ 0 }
+{}
+
+/// A pass keeps the blocks that it owns through each of its calls, but for the one that a free or a put
+/// is about; and a block that it is given or takes is none of those that it has.
+pub fn passes_keep_their_blocks()
+    ensures called { (h : Heap) (p q : Pass) (call : Call) (steps : ℕ) (answer : Reply) (block : Block) → IsOf h p → IsOf h q
+        → HasCalled p call steps answer q → Leaves call block.place → Owns p block → Owns q block }
+    ensures calling { (h : Heap) (p q : Pass) (call : Call) (steps : ℕ) (block : Block) → IsOf h p → IsOf h q
+        → IsCalling p call steps q → Leaves call block.place → Owns p block → Owns q block }
+    ensures given { (h : Heap) (p q : Pass) (call : Call) (steps place : ℕ) (need : Need) (block : Block) → IsOf h p → IsOf h q
+        → HasCalled p call steps (reply.Given place need) q → Owns p block → block.place ≢ place }
+    ensures got { (h : Heap) (p q : Pass) (call : Call) (steps place : ℕ) (need : Need) (block : Block) → IsOf h p → IsOf h q
+        → HasCalled p call steps (reply.Got place need) q → Owns p block → block.place ≢ place }
+{}
+
+/// Why an allocation is refused. For a small need a step of the call found the class's list empty, a later
+/// one found no frame left, and its event is the refusal; for a large one the step that ended the call
+/// found no run of so many units free.
+pub fn refusals_have_their_cause()
+    ensures small { (first q : Pass) (words class steps : ℕ) → need_of words ≡ Small class
+        → HasCalled first (alloc words) steps reply.Refused q → HasFoundNoFrame first words class q }
+    ensures large { (first q : Pass) (words units steps : ℕ) → need_of words ≡ Large units
+        → HasCalled first (alloc words) steps reply.Refused q → HasFoundNoRun first words units q }
+{}
+
+/// A closed heap is a sound state of the machine, in which all callers are idle: so all that is said of
+/// such states holds of it. The exchanges that its callers lost are at most those that they won, times
+/// the other callers.
+pub fn closed_heaps_are_sound()
+    ensures sound { (c : ClosedFields) (rests : IsResting c) → IsSound c.geometry (state_of (machine_of c rests.steps)) }
+    ensures legal { (c : ClosedFields) → IsResting c → IsLegal c.geometry c.events }
+    ensures losses { (c : ClosedFields) → IsResting c
+        → callers_sum c.geometry lost_of (errand_at c.errands) ≤ (c.geometry.callers - 1) * length c.wins }
+    ensures contended { (c : ClosedFields) → IsResting c
+        → ((caller : ℕ) → caller < c.geometry.callers → (errand_at c.errands caller).won < 2 ^ 64 - 1)
+        → callers_sum c.geometry lost_of (errand_at c.errands)
+        ≤ (c.geometry.callers - 1) * callers_sum c.geometry won_of (errand_at c.errands) }
+{}
+
+/// In a heap of one caller no exchange is ever lost: a free is never interrupted, neither as it begins nor
+/// as it is resumed; a take never misses; and an allocation is interrupted only by the empty superblocks
+/// that it cleared, as many as it had tries.
+pub fn one_caller_loses_nothing()
+    ensures free { (h : Heap) (p q : Pass) (block : Block) (tries : ℕ) → IsOf h q → h.layout.callers ≡ 1 → 0 < tries
+        → ¬ FreeTells p block tries free_answer.Busy q }
+    ensures resumed { (h : Heap) (first p q : Pass) (place : ℕ) (need : Need) (made tries : ℕ) → IsOf h q → h.layout.callers ≡ 1
+        → 0 < tries → IsCalling first (free place need) made p
+        → ¬ ResumeTells first (free place need) made p tries resumed.Busy q }
+    ensures take { (h : Heap) (p q : Pass) (shelf expected found : ℕ) → IsOf h q → h.layout.callers ≡ 1
+        → ¬ TakeTells p shelf (taken.Missed expected found) q }
+    ensures alloc { (h : Heap) (first p q : Pass) (words made tries : ℕ) → IsOf h p → IsOf h q → h.layout.callers ≡ 1
+        → IsInterrupted first (alloc words) made p tries q → q.errand.cleared ≡ p.errand.cleared + tries }
+{}

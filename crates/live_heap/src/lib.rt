@@ -1,0 +1,21 @@
+//! The heap on shared words: threads allocate and free on one table, each with a pass of its own, and
+//! none of them ever waits for another.
+//!
+//! The table's rule is that its words, the errands of all passes and the longest list of events that a
+//! pass has seen are a state of the machine that its callers reach from the opening. So every step of
+//! every thread is a step of that machine, in whatever order the hardware makes them.
+#![tactic(auto)]
+
+pub mod answers;
+mod begins;
+pub mod block;
+mod calls;
+pub mod closed;
+pub mod heap;
+pub mod laws;
+pub mod pass;
+mod plays;
+mod steps;
+#[cfg(test)]
+mod tests;
+pub mod view;

@@ -1,0 +1,146 @@
+//! One atomic step of a pass.
+
+ghost use Rattle.std.specs.Prelude.{ℕ, ◌≡◌, Some, IsSomeAnd};
+ghost use Rattle.heap_geometry.specs.Need.{IsNeed};
+ghost use Rattle.word_plan.specs.Actions.{name_of};
+ghost use Rattle.word_plan.specs.Table.{Exists};
+ghost use Rattle.errand_steps.specs.declared.reply.Progress.{Progress};
+ghost use Rattle.errand_steps.specs.Begins.{IsIdle, IsBusy};
+ghost use Rattle.errand_steps.specs.Errands.{plan_of, settle_of, answer_of};
+ghost use Rattle.live_heap.specs.declared.answers.Step.{Step};
+ghost use Rattle.live_heap.specs.Answers.{HasStepped, GivesBack, IsAnswerable, progress_of, reply_of};
+ghost use Rattle.live_heap.specs.Passes.{IsOf};
+ghost use Rattle.live_heap.specs.Sights.{IsSightOf, TakesStep, found_in};
+
+use crate::answers::{Ending, Step};
+use crate::block::Block;
+use crate::heap::Heap;
+use crate::pass::Pass;
+use crate::plays::{Doing, Finds, Stores};
+use crate::view::View;
+use atomic_table::Seat;
+use errand_steps::errand::{Errand, plan};
+use errand_steps::reply::{Offer, Progress, Reply};
+use std::marker::Brand;
+use word_plan::action::{Action, Found};
+
+impl Heap {
+    /// Makes one step of the pass, and says what it came to; none where the pass is in no call.
+    pub fn step(&self, pass: &mut Pass) -> Step
+        requires { IsOf self.now pass.old }
+        ensures of { IsOf self.now pass.new }
+        ensures caller { pass.new.errand.caller ≡ pass.old.errand.caller }
+        ensures idle { IsIdle pass.old.errand → (result ≡ Step.Idle) × (pass.new ≡ pass.old) }
+        ensures busy { IsBusy pass.old.errand → HasStepped pass.old pass.new result }
+    {
+        if pass.errand.idle() {
+            return Step::Idle;
+        }
+        let offer = pass.errand.offered();
+        let action = plan(&pass.errand);
+        let found = self.act::<Brand>(&mut pass.seat, &pass.errand, action);
+        let progress = pass.errand.go_on(action, found);
+        told(progress, offer)
+    }
+
+    /// Makes the action of an errand, which `E` names for the proof, and answers what it found. A store
+    /// finds nothing that its errand would need.
+    fn act<E: Doing>(&self, seat: &mut Seat<u8, View>, errand: &Errand, action: Action) -> Found
+        requires table { seat.old.table_id ≡ self.now.table.shared.table_id }
+        requires named { errand.now ≡ E.errand }
+        requires busy { IsBusy errand.now }
+        requires planned { action ≡ plan_of errand.now }
+        requires there { Exists self.now.layout (name_of action) }
+        requires sight { IsSightOf self.now.layout seat.old.me.0 errand.now }
+        ensures seat { (seat.new.table_id ≡ seat.old.table_id) × (seat.new.me.1 ≡ seat.old.me.1) }
+        ensures step { (n : ℕ) × TakesStep errand.now n seat.old.me.0 seat.new.me.0
+            × (settle_of errand.now result ≡ settle_of errand.now (found_in errand.now n))
+            × (answer_of errand.now result ≡ answer_of errand.now (found_in errand.now n)) }
+    {
+        let shared = &self.table.shared;
+        match action {
+            Action::Load(name) => {
+                let value = shared.load::<Finds<E>>(seat, self.index(name));
+                Found { value, won: true }
+            }
+            Action::Store(name, new) => {
+                shared.store::<Stores<E>>(seat, self.index(name), new);
+                Found {
+                    value: new,
+                    won: true,
+                }
+            }
+            Action::Cas(name, expected, new) => {
+                let value = shared.compare_exchange::<Finds<E>>(
+                    seat,
+                    self.index(name),
+                    expected,
+                    new,
+                );
+                Found {
+                    value,
+                    won: value == expected,
+                }
+            }
+            Action::Swap(name, new) => {
+                let value = shared.swap::<Finds<E>>(seat, self.index(name), new);
+                Found { value, won: true }
+            }
+            Action::And(name, mask) => {
+                let value = shared.fetch_and::<Finds<E>>(seat, self.index(name), mask);
+                Found { value, won: true }
+            }
+        }
+    }
+}
+
+/// What a step came to, with blocks for their places and needs. A put that was under way offered this
+/// block.
+fn told(progress: Progress, offer: Option<Offer>) -> Step
+    requires { IsAnswerable offer progress }
+    ensures progress { progress_of result ≡ progress }
+    ensures back { GivesBack offer result }
+{
+    match progress {
+        Progress::Idle => Step::Idle,
+        Progress::More => Step::More,
+        Progress::Lost => Step::Lost,
+        Progress::Cleared => Step::Cleared,
+        Progress::Done(reply) => Step::Done(ended(reply, offer)),
+    }
+}
+
+/// The same of the step that ends a call.
+fn ended(reply: Reply, offer: Option<Offer>) -> Ending
+    requires { IsAnswerable offer (Progress.Done reply) }
+    ensures reply { reply_of result ≡ reply }
+    ensures back { GivesBack offer (Step.Done result) }
+{
+    match reply {
+        Reply::Given { place, need } => Ending::Given(Block { place, need }),
+        Reply::Refused => Ending::Refused,
+        Reply::Spent => Ending::Spent,
+        Reply::Freed => Ending::Freed,
+        Reply::Wrote => Ending::Wrote,
+        Reply::Word(word) => Ending::Word(word),
+        Reply::Put => Ending::Put,
+        Reply::Full { found } => Ending::Full {
+            block: given_back(offer),
+            found,
+        },
+        Reply::Got { place, need } => Ending::Got(Block { place, need }),
+        Reply::Empty => Ending::Empty,
+        Reply::Missed { expected, found } => Ending::Missed { expected, found },
+    }
+}
+
+/// The block that a put offered, which its pass has back.
+fn given_back(offer: Option<Offer>) -> Block
+    requires { IsSomeAnd offer (λ own. IsNeed own.need) }
+    ensures { offer ≡ Some (record { place = result.place; need = result.need }) }
+{
+    match offer {
+        Some(Offer { place, need }) => Block { place, need },
+        None => unreachable!(),
+    }
+}

@@ -1,0 +1,36 @@
+//! What a pass knows. Proofs alone speak of it; no value of it is made.
+
+use errand_steps::errand::Errand;
+use pool_model::event::Event;
+use std::collections::LinkedList;
+use std::marker::Model;
+use word_plan::name::WordName;
+
+/// A caller: its errand as its last step left it, and the events that it had seen then, all of its own
+/// among them.
+pub struct Standing {
+    pub errand: Errand,
+    pub seen: LinkedList<Event>,
+}
+
+/// A change that a caller won, and whether it made a superblock the active one.
+pub struct Won {
+    caller: u32,
+    word: WordName,
+    install: bool,
+}
+
+impl Model for Won {
+    ghost use Rattle.sound_state.specs.Wins.{Win};
+
+    ghost Value = { Win };
+
+    ghost view = { λ w. record { caller = w.caller; word = w.word; install = w.install } };
+}
+
+/// The callers that a pass stands for, and the events and the wins that it has seen.
+pub struct View {
+    pub callers: LinkedList<Standing>,
+    pub seen: LinkedList<Event>,
+    pub wins: LinkedList<Won>,
+}
