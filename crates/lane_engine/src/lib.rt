@@ -4,4 +4,5 @@
 
 pub mod engine;
 pub mod over_core;
+pub mod over_heap;
 pub mod stepped;
