@@ -41,9 +41,9 @@ use Rattle.lane_runner.specs.declared.stage.Stage.TheVariants as stage
 use Rattle.lane_runner.specs.Driven.{IsDriven, calls_of, lost_by_all, steppers_of}
 use Rattle.lane_runner.specs.Orders.{InOrder, InTurn}
 use Rattle.lane_runner.specs.Paths.{Leads, begun_count}
-use Rattle.lane_runner.specs.Running.{AreNew, HasEnded, HasPassed, HaveFinished, HaveFollowed, IsBelow, IsOnScriptOf, LanesRan, LanesStand, StandsOn, operations_in}
+use Rattle.lane_runner.specs.Running.{HasEnded, HasPassed, HaveFinished, HaveFollowed, IsBelow, IsOnScriptOf, LanesRan, LanesStand, StandsOn, operations_in}
 use Rattle.lane_runner.specs.Scripts.{IsOnScript, Scripts}
-use Rattle.lane_runner.specs.States.{IsNew, progress_of}
+use Rattle.lane_runner.specs.States.{AreNew, IsNew, progress_of}
 use Rattle.lane_runner.proofs.EndedLemmas.{lane-between, lane-fits, lane-new, script-new}
 use Rattle.lane_runner.proofs.OrderLemmas.{lanes-more}
 use Rattle.lane_runner.proofs.RunLanes.{contains-none, element_at}
@@ -136,7 +136,7 @@ opened-stand trace c lanes is opened core new =
     }
 
 -- fits of each lane are fits of all
-fits-all :
+pub fits-all :
     (g : Geometry) (history : List Event) (lost base : ℕ) (lanes : List (List Op)) (outcomes : List (List Outcome)) → length outcomes ≡ length lanes
     → ((k : ℕ) → k < length lanes → Fits (setting_in history (base + k) g.turn_limit lost) (get_or lanes k []) (get_or outcomes k []))
     → LanesFit g history lost base lanes outcomes
@@ -323,14 +323,14 @@ told-passed P (Ok value) p = p
 told-passed P (Err e) p = tt
 
 -- new lanes, one after the other
-pub new-none : (lanes : List (LaneState Grip)) → lanes ≡ [] → AreNew [] lanes
+pub new-none : {B : Type 0} (lanes : List (LaneState B)) → lanes ≡ [] → AreNew [] lanes
 new-none lanes none = record {
   all = ap length none;
   each = λ lane state lt there. absurd (let zero_long : length lanes ≡ 0 = ap length none in omega (arith, lt, zero_long));
 }
 
 pub new-more :
-    (lanes : List (List Op)) (k : ℕ) (states more : List (LaneState Grip)) (state : LaneState Grip) → k < length lanes
+    {B : Type 0} (lanes : List (List Op)) (k : ℕ) (states more : List (LaneState B)) (state : LaneState B) → k < length lanes
     → AreNew (take k lanes) states → IsNew k (length (get_or lanes k [])) state → more ≡ states ++ state ∷ []
     → AreNew (take (k + 1) lanes) more
 new-more lanes k states more state lt new one is =
@@ -357,7 +357,7 @@ new-more lanes k states more state lt new one is =
           ];
     }
 
-pub new-all : (lanes : List (List Op)) (k : ℕ) (states : List (LaneState Grip)) → length lanes ≤ k → AreNew (take k lanes) states → AreNew lanes states
+pub new-all : {B : Type 0} (lanes : List (List Op)) (k : ℕ) (states : List (LaneState B)) → length lanes ≤ k → AreNew (take k lanes) states → AreNew lanes states
 new-all lanes k states least new = subst (λ ls. AreNew ls states) (take_all k lanes least) new
 
 pub lane-is :

@@ -4,6 +4,7 @@ pub mod BeginLemmas
 pub mod BesideLemmas
 pub mod CheckLemmas
 pub mod CheckPutTake
+pub mod ClosedFits
 pub mod DrivenLemmas
 pub mod EndedLemmas
 pub mod EndsLemmas
@@ -26,4 +27,6 @@ pub mod RunLanes
 pub mod RunLemmas
 pub mod RunMeasures
 pub mod ScriptLemmas
+pub mod SeatLemmas
+pub mod ThreadLemmas
 pub mod TurnLemmas

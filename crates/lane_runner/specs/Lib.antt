@@ -7,3 +7,4 @@ pub mod Paths
 pub mod Running
 pub mod Scripts
 pub mod States
+pub mod Threads

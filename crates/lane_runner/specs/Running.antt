@@ -18,7 +18,7 @@ use Rattle.lane_runner.specs.Driven.{Drives, calls_of, steppers_of}
 use Rattle.lane_runner.specs.Orders.{InOrder, InTurn}
 use Rattle.lane_runner.specs.Paths.{IsBy, Leads, FirstPassed, begun_count}
 use Rattle.lane_runner.specs.Scripts.{IsOnScript}
-use Rattle.lane_runner.specs.States.{IsLaneOf, IsNew, progress_of}
+use Rattle.lane_runner.specs.States.{IsLaneOf, progress_of}
 
 -- no operation of the lane is under way, and none is left
 pub record HasEnded (operations : List Op) (lane : LaneState Grip) : Type 0 where
@@ -89,13 +89,6 @@ pub record LanesStand (trace : Trace) (c : CoreFields) (lanes : List (LaneState 
 abbrev pub HasEndedIn : Trace → List (LaneState Grip) → ℕ → Type 0
 HasEndedIn trace lanes lane =
     (lane < length lanes) × ((state : LaneState Grip) → state ≡ slice_index_or lanes lane state → HasEnded (operations_in trace lane) state)
-
--- a new lane for each list of operations
-pub record AreNew (lanes : List (List Op)) (states : List (LaneState Grip)) : Type 0 where
-  pub all : length states ≡ length lanes
-  pub each :
-      (lane : ℕ) (state : LaneState Grip) → lane < length states → state ≡ slice_index_or states lane state
-      → IsNew lane (length (slice_index_or lanes lane [])) state
 
 -- a move of a caller below this number
 abbrev pub IsBelow : ℕ → Move → Type 0

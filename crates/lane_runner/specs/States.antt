@@ -1,5 +1,5 @@
 -- A lane's state over an engine, and a new one.
-use Rattle.std.specs.Prelude.{ℕ, ◌≡◌, ◌≤◌, [], List, Some, None, length, replicate, vec_capacity}
+use Rattle.std.specs.Prelude.{ℕ, ◌≡◌, ◌<◌, ◌≤◌, [], List, Some, None, length, replicate, vec_capacity}
 use Rattle.std.specs.List.{slice_index_or}
 use Rattle.heap_geometry.specs.declared.geometry.Geometry.{Geometry}
 use Rattle.heap_geometry.specs.declared.need.Need.{Need}
@@ -20,6 +20,13 @@ pub record IsNew {B : Type 0} (caller count : ℕ) (lane : LaneState B) : Type 0
   pub none : lane.outcomes.items ≡ []
   pub between : lane.stage ≡ stage.Between
   pub room : count ≤ vec_capacity lane.outcomes
+
+-- a new lane for each list of operations
+pub record AreNew {B : Type 0} (lanes : List (List Op)) (states : List (LaneState B)) : Type 0 where
+  pub all : length states ≡ length lanes
+  pub each :
+      (lane : ℕ) (state : LaneState B) → lane < length states → state ≡ slice_index_or states lane state
+      → IsNew lane (length (slice_index_or lanes lane [])) state
 
 module _ {B : Type 0} (place_of : B → ℕ) (need_of : B → Need) where
   -- how far a lane is

@@ -74,6 +74,13 @@ impl<B: Token + Drop> LaneState<B> {
         })
     }
 
+    /// The number of its caller.
+    pub fn caller(&self) -> u32
+        ensures { result ≡ self.now.caller }
+    {
+        self.caller
+    }
+
     /// The outcomes of its operations so far.
     pub fn outcomes(&self) -> &[Outcome]
         ensures { result.now ≡ self.now.outcomes.items }

@@ -10,15 +10,24 @@ ghost use Rattle.errand_steps.specs.Calls.{Call};
 ghost use Rattle.errand_steps.specs.Errands.{ErrandFields};
 ghost use Rattle.trace_text.specs.declared.limits.TheConstants.{REGISTERS};
 ghost use Rattle.trace_text.specs.declared.trace.Op.{Op};
+ghost use Rattle.trace_text.specs.declared.trace.Trace.{Trace};
+ghost use Rattle.trace_text.specs.Traces.{IsTrace};
 ghost use Rattle.lane_outcomes.specs.declared.outcome.Outcome.{Outcome};
 ghost use Rattle.lane_outcomes.specs.declared.registers.Held.{Held};
-ghost use Rattle.lane_outcomes.specs.Fits.{Fits};
+ghost use Rattle.lane_outcomes.specs.Fits.{Fits, OutcomesFit};
 ghost use Rattle.lane_outcomes.specs.Standing.{setting_in};
+ghost use Rattle.sound_state.specs.Contention.{lost_of};
+ghost use Rattle.sound_state.specs.Sums.{callers_sum};
+ghost use Rattle.step_core.specs.Cores.{errand_at};
 ghost use Rattle.step_core.specs.Moments.{HasSeenMore};
+ghost use Rattle.live_heap.specs.declared.heap.Heap.{Heap};
+ghost use Rattle.live_heap.specs.declared.pass.Pass.{Pass};
+ghost use Rattle.live_heap.specs.Endings.{ClosedFields, HasClosed, IsResting};
 ghost use Rattle.lane_runner.specs.Lanes.{IsLane};
 ghost use Rattle.lane_runner.specs.Paths.{held_blocks};
 ghost use Rattle.lane_runner.specs.Scripts.{IsOnScript, Scripts};
 ghost use Rattle.lane_runner.specs.States.{IsLaneOf, IsNew};
+ghost use Rattle.lane_runner.specs.Threads.{HaveRun};
 ghost use Rattle.lane_runner.specs.declared.lane.LaneState.{LaneState};
 ghost use Rattle.lane_runner.specs.declared.stage.Stage.{Stage};
 ghost use Rattle.lane_runner.specs.declared.stage.Stage.TheVariants.{Between};
@@ -64,4 +73,12 @@ pub fn ended_lanes_fit()
     ensures script { (operations : List Op) (registers : List (Option Held)) (results : List Outcome) (calls : List Call)
         → length results ≡ length operations → IsOnScript operations registers results Between calls
         → Scripts (replicate REGISTERS None) operations results calls }
+{}
+
+/// The outcomes of lanes that ran on threads fit the one history of their heap, once it is closed, and
+/// however many exchanges all callers lost in it.
+pub fn closed_lanes_fit()
+    ensures { (trace : Trace) (h : Heap) (passes : List Pass) (outcomes : List (List Outcome)) (c : ClosedFields) → IsTrace trace
+        → h.layout ≡ trace.heap → HaveRun trace h passes outcomes → HasClosed h passes c → IsResting c
+        → OutcomesFit trace.heap c.events (callers_sum c.geometry lost_of (errand_at c.errands)) trace.lanes outcomes }
 {}

@@ -2,6 +2,8 @@
 #![tactic(auto)]
 
 pub mod lane;
+mod lanes;
 pub mod laws;
 pub mod run_core;
+pub mod run_lanes;
 mod stage;

@@ -7,9 +7,10 @@ ghost use Rattle.errand_steps.specs.Openings.{opening};
 ghost use Rattle.step_core.specs.Openings.{IsOpened};
 ghost use Rattle.lane_outcomes.specs.Passed.{AllPassed};
 ghost use Rattle.lane_runner.specs.Driven.{IsDriven};
-ghost use Rattle.lane_runner.specs.Running.{AreNew, HasRunOut, HasRunSome, HaveFinished, HaveFollowed, LanesStand, OneRanOut, StandsOn, operations_in};
+ghost use Rattle.lane_runner.specs.Running.{HasRunOut, HasRunSome, HaveFinished, HaveFollowed, LanesStand, OneRanOut, StandsOn};
 
 use crate::lane::LaneState;
+use crate::lanes::{lane_of, open_lanes};
 use edge_io::gate::Gate;
 use lane_engine::over_core::Grip;
 use lane_outcomes::outcome::Outcome;
@@ -58,14 +59,6 @@ fn run_to_end<G: Gate>(
             return Ok(());
         }
     }
-}
-
-/// The operations of a lane.
-fn lane_of(trace: &Trace, lane: usize) -> &[Op]
-    requires { lane < length trace.now.lanes }
-    ensures { result.now ≡ operations_in trace.now lane }
-{
-    trace.lanes.as_slice()[lane].as_slice()
 }
 
 /// Makes one order run.
@@ -144,19 +137,6 @@ fn finish_lanes<G: Gate>(
         finish_lane(gate, trace, lanes, core, lane)?;
     }
     Ok(())
-}
-
-/// A lane for each of a trace's, before its first operation.
-fn open_lanes(alloc: Global, trace: &Trace) -> Result<Vec<LaneState<Grip>>, AllocError>
-    requires { IsTrace trace.now }
-    ensures { IfOk result (λ lanes. AreNew trace.now.lanes lanes.items) }
-{
-    let mut lanes = Vec::with_capacity(alloc, trace.lanes.len())?;
-    for (lane, operations) in trace.lanes.as_slice().iter().enumerate() {
-        let opened = LaneState::open(alloc, lane as u32, operations.as_slice())?;
-        lanes.push(opened)?;
-    }
-    Ok(lanes)
 }
 
 /// The outcomes of each lane.

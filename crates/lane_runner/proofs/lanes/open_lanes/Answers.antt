@@ -5,18 +5,18 @@ use Rattle.trace_text.specs.Traces.{IsOp}
 use Rattle.lane_outcomes.proofs.LanesLemmas.{lane-each}
 use Rattle.lane_runner.specs.States.{IsNew}
 use Rattle.lane_runner.proofs.DrivenLemmas.{lane-is, new-all, new-more, new-none}
-use Rattle.lane_runner.proofs.run_core.open_lanes.Goals as goal
+use Rattle.lane_runner.proofs.lanes.open_lanes.Goals as goal
 
 pub loop-lane-init : goal.loop-lane-init
-loop-lane-init c = new-none c.in_ok-lanes.lanes.items c.in_ok-lanes.ensures.items
+loop-lane-init g c = new-none c.in_ok-lanes.lanes.items c.in_ok-lanes.ensures.items
 
 pub open-requires : goal.open-requires
-open-requires c =
+open-requires g c =
     lane-each IsOp (λ lane. lane.items) c.as_slice-operations-items.result.now c.args.trace.now.lanes c.loop-lane.lane c.operations-item.result
     c.as_slice.result.now c.as_slice-operations-items.ensures c.requires.ops c.loop-lane-test.true c.operations-item.is c.as_slice.ensures.value
 
 pub loop-lane-preserved : goal.loop-lane-preserved
-loop-lane-preserved c =
+loop-lane-preserved g c =
     let lanes = c.args.trace.now.lanes in
     let lane = c.loop-lane.lane in
     let mine : get_or lanes lane [] ≡ c.as_slice.result.now =
@@ -30,7 +30,7 @@ loop-lane-preserved c =
     c.in_ok-push.ensures.items
 
 pub returns : goal.returns
-returns c =
+returns g c =
     new-all c.args.trace.now.lanes c.loop-lane.lane c.loop-lane.lanes.items
     (omega (
       arith,

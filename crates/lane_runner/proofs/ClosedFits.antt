@@ -1,0 +1,121 @@
+-- The outcomes of lanes that ran on threads fit the history of their closed heap.
+use Rattle.std.proofs.Common.{ℕ, ◌≡◌, ◌<◌, ◌≤◌, ◌+◌, List, [], ◌∷◌, ◌++◌, length, length-append, append_assoc, get_or, max, refl, sym, ap, ◌∙◌, subst, inl, inr, arith, zero-add}
+use Rattle.std.specs.List.{AllByRecursion}
+use Rattle.std.proofs.lemmas.Bool.{cases_lt}
+use Rattle.std.proofs.lemmas.List.Elements.{All-get_or}
+use Rattle.heap_geometry.specs.declared.geometry.Geometry.{Geometry}
+use Rattle.pool_model.specs.declared.event.Event.{Event}
+use Rattle.pool_model.specs.Histories.{caller_of, own}
+use Rattle.pool_model.specs.Legal.{IsLegal}
+use Rattle.pool_model.proofs.HistoryLemmas.{own-append}
+use Rattle.pool_model.proofs.OwnerLemmas.{own-none}
+use Rattle.errand_steps.specs.Errands.{ErrandFields}
+use Rattle.sound_state.specs.Contention.{lost_of}
+use Rattle.sound_state.specs.Sums.{callers_sum}
+use Rattle.sound_state.proofs.shared.SumLemmas.{term-sum}
+use Rattle.step_core.specs.Cores.{errand_at}
+use Rattle.step_core.specs.Moments.{HasSeenMore}
+use Rattle.trace_text.specs.declared.trace.Trace.{Trace}
+use Rattle.trace_text.specs.Traces.{IsTrace}
+use Rattle.lane_outcomes.specs.declared.outcome.Outcome.{Outcome}
+use Rattle.lane_outcomes.specs.Fits.{Fits, OutcomesFit}
+use Rattle.lane_outcomes.specs.Standing.{setting_in}
+use Rattle.live_heap.specs.declared.heap.Heap.{Heap}
+use Rattle.live_heap.specs.declared.pass.Pass.{Pass}
+use Rattle.live_heap.specs.Endings.{ClosedFields, HasClosed, HasTakenIn, IsResting}
+use Rattle.live_heap.specs.Passes.{seen}
+use Rattle.live_heap.proofs.LawsClosed.{closed-legal}
+use Rattle.lane_runner.specs.declared.stage.Stage.TheVariants as stage
+use Rattle.lane_runner.specs.Running.{operations_in}
+use Rattle.lane_runner.specs.Threads.{HaveRun}
+use Rattle.lane_runner.proofs.BesideLemmas.{lane-beside}
+use Rattle.lane_runner.proofs.DrivenLemmas.{fits-all}
+use Rattle.lane_runner.proofs.EndedLemmas.{lane-fits}
+use Rattle.lane_runner.proofs.RunLanes.{element_at}
+
+-- what follows a caller's events adds none, if it has no more of them
+nothing-more : (xs ys : List Event) → xs ++ ys ≡ xs → ys ≡ []
+nothing-more xs [] same = refl
+nothing-more xs (y ∷ ys) same = absurd (omega (arith, length-append xs (y ∷ ys), ap length same))
+
+seen-all : (caller : ℕ) (before after : List Event) (more : List Event) → after ≡ before ++ more → own caller after ≡ own caller before
+    → HasSeenMore caller before after
+seen-all caller before after more is same = record {
+  more = more;
+  seen = is;
+  not_own = nothing-more (own caller before) (own caller more) (sym (own-append caller before more) ∙ ap (own caller) (sym is) ∙ same);
+}
+
+-- each event of a legal history has a caller of the heap; and where those from a number on have none, it has one below
+events-below :
+    (g : Geometry) (count : ℕ) (history before events : List Event) → IsLegal g history → history ≡ before ++ events
+    → ((k : ℕ) → count ≤ k → k < g.callers → own k events ≡ []) → AllByRecursion (λ event. caller_of event < count) events
+events-below g count history before [] legal is none = tt
+events-below g count history before (event ∷ events) legal is none = (
+  elim (cases_lt (caller_of event) count) [
+    | inl lt ↦ lt
+    | inr least ↦
+        let has : caller_of event < g.callers = (legal before events event is).0.0 in
+        absurd ((own-none (caller_of event) event events (none (caller_of event) least has)).0 refl)
+  ],
+  events-below g count history (before ++ event ∷ []) events legal (is ∙ sym (append_assoc before (event ∷ []) events))
+      (λ k least has. (own-none k event events (none k least has)).1),
+)
+
+at-least-one : (n m : ℕ) → m ≡ max 1 n → n ≤ m
+at-least-one n m is = omega (arith, is)
+
+module _ (trace : Trace) (h : Heap) (passes : List Pass) (outcomes : List (List Outcome)) (c : ClosedFields) (is : IsTrace trace) (laid : h.layout ≡ trace.heap) (run : HaveRun trace h passes outcomes) (closed : HasClosed h passes c) (rests : IsResting c) where
+  layout : c.geometry ≡ trace.heap
+  layout = closed.heap ∙ laid
+
+  lost_by : ℕ
+  lost_by = callers_sum c.geometry lost_of (errand_at c.errands)
+
+  legal : IsLegal c.geometry c.events
+  legal = closed-legal c rests
+
+  taken : (k : ℕ) (p : Pass) → k < length passes → p ≡ get_or passes k p → HasTakenIn c p
+  taken k p lt there = subst (HasTakenIn c) (sym there) (All-get_or (HasTakenIn c) passes k p lt closed.each)
+
+  fits-at :
+      (lane : ℕ) → lane < length trace.lanes
+      → Fits (setting_in c.events (0 + lane) trace.heap.turn_limit lost_by) (get_or trace.lanes lane []) (get_or outcomes lane [])
+  unfolding lost_by callers_sum
+  fits-at lane lt =
+      let has : lane < trace.heap.callers = omega (arith, lt, at-least-one (length trace.lanes) trace.heap.callers is.callers) in
+      let below : lane < length passes = omega (arith, has, run.all) in
+      let it = element_at passes lane below in
+      let p = it.0 in
+      let e = run.each lane p lt it.1 in
+      let t = taken lane p below it.1 in
+      let own_same : own lane c.events ≡ own lane (seen p) = subst (λ k. own k c.events ≡ own k (seen p)) e.caller t.events in
+      let more = seen-all lane (seen p) c.events t.seen_before.0 t.seen_before.1 own_same in
+      let now =
+      lane-beside h.layout lane (seen p) c.events p.errand (operations_in trace lane) e.registers (get_or outcomes lane []) stage.Between e.rule more
+      (subst (λ g. IsLegal g c.events) closed.heap legal) in
+      let here : errand_at c.errands lane ≡ p.errand = ap (errand_at c.errands) (sym e.caller) ∙ t.errand in
+      let most : (errand_at c.errands lane).lost ≤ lost_by =
+      term-sum c.geometry.callers (λ k. lost_of (errand_at c.errands k)) lane
+      (subst (λ (g : Geometry). lane < g.callers) (sym layout) has) in
+      let fit =
+      lane-fits h.layout lane c.events p.errand (operations_in trace lane) e.registers (get_or outcomes lane []) stage.Between lost_by now refl e.all
+      (subst (λ (e : ErrandFields). e.lost ≤ lost_by) here most) in
+      subst (λ k. Fits (setting_in c.events k trace.heap.turn_limit lost_by) (operations_in trace lane) (get_or outcomes lane [])) (sym (zero-add lane))
+      (subst (λ (g : Geometry). Fits (setting_in c.events lane g.turn_limit lost_by) (operations_in trace lane) (get_or outcomes lane [])) laid fit)
+
+  none-from : (k : ℕ) → length trace.lanes ≤ k → k < c.geometry.callers → own k c.events ≡ []
+  none-from k least has =
+      let below : k < length passes = omega (arith, has, run.all, ap (λ (g : Geometry). g.callers) layout) in
+      let it = element_at passes k below in
+      let p = it.0 in
+      let fresh = run.rest k p least below it.1 in
+      let t = taken k p below it.1 in
+      subst (λ n. own n c.events ≡ own n (seen p)) fresh.1 t.events ∙ ap (own k) fresh.0.nothing_seen
+
+  pub closed-fit : OutcomesFit trace.heap c.events (callers_sum c.geometry lost_of (errand_at c.errands)) trace.lanes outcomes
+  unfolding lost_by
+  closed-fit = record {
+    lanes_fit = fits-all trace.heap c.events lost_by 0 trace.lanes outcomes run.lists fits-at;
+    callers = events-below c.geometry (length trace.lanes) c.events [] c.events legal refl none-from;
+  }

@@ -1,0 +1,105 @@
+-- One step of each loop over lanes on threads.
+use Rattle.std.proofs.Common.{ℕ, suc, ◌≡◌, ◌<◌, ◌≤◌, ◌+◌, List, [], ◌∷◌, ◌++◌, Vec, Global, length, get_or, refl, sym, ap, ◌∙◌, subst, arith}
+use Rattle.std.proofs.lemmas.List.{get_or_append_left, get_or_push, length-append}
+use Rattle.crossbeam_utils.specs.declared.cache_padded.CachePadded.{CachePadded}
+use Rattle.crossbeam_utils.specs.Padded.{padded_value}
+use Rattle.trace_text.specs.declared.trace.Op.{Op}
+use Rattle.trace_text.specs.declared.trace.Trace.{Trace}
+use Rattle.lane_outcomes.specs.declared.outcome.Outcome.{Outcome}
+use Rattle.live_heap.specs.declared.block.Block.{Block}
+use Rattle.live_heap.specs.declared.heap.Heap.{Heap}
+use Rattle.live_heap.specs.declared.pass.Pass.{Pass}
+use Rattle.live_heap.specs.Passes.{AreFrom, IsFresh, IsOf, seen}
+use Rattle.lane_runner.specs.declared.lane.LaneState.{LaneState}
+use Rattle.lane_runner.specs.declared.run_lanes.LaneThread.{LaneThread}
+use Rattle.lane_runner.specs.declared.stage.Stage.TheVariants as stage
+use Rattle.lane_runner.specs.Paths.{FirstPassed, begun_count}
+use Rattle.lane_runner.specs.Running.{operations_in}
+use Rattle.lane_runner.specs.States.{IsLaneOf, IsNew}
+use Rattle.lane_runner.specs.Threads.{AreDone, AreEnded, AreReady, HasEnded, HasRunOver, IsDone, IsReady, StandsOver}
+use Rattle.lane_runner.proofs.ThreadLemmas.{done-ended, down-pop, down-push, ended-push, from-pop, ready}
+
+-- a lane over an engine stands so over the pass
+pub over-after :
+    (h : Heap) (operations : List Op) (here : Heap) (p : Pass) (old new : LaneState Block) → here ≡ h
+    → IsOf here p × (old.caller ≡ p.errand.caller) → new.caller ≡ old.caller
+    → IsLaneOf (λ (block : Block). block.place) (λ (block : Block). block.need) here.layout (seen p) p.errand operations new
+    → StandsOver h operations p new
+over-after h operations here p old new is serves same lane = record {
+  of = subst (λ (k : Heap). IsOf k p) is serves.0;
+  caller = same ∙ serves.1;
+  stands =
+      subst (λ (k : Heap). IsLaneOf (λ (block : Block). block.place) (λ (block : Block). block.need) k.layout (seen p) p.errand operations new) is lane;
+}
+
+-- one that has ended has passed the gate with all its operations
+pub run-over :
+    (passed : ℕ → ℕ → Type 0) (h : Heap) (operations : List Op) (old : LaneState Block) (p : Pass) (lane : LaneState Block)
+    → StandsOver h operations p lane → lane.caller ≡ old.caller → lane.stage ≡ stage.Between → length lane.outcomes.items ≡ length operations
+    → (FirstPassed passed old.caller (begun_count old.outcomes.items old.stage)
+    → FirstPassed passed old.caller (begun_count lane.outcomes.items lane.stage))
+    → HasRunOver passed h operations old p lane
+run-over passed h operations old p lane over same between all gate = record {
+  over = over;
+  same = same;
+  between = between;
+  all = all;
+  gate = λ gone.
+      let count : begun_count lane.outcomes.items lane.stage ≡ length operations =
+      ap (begun_count lane.outcomes.items) between ∙ omega (arith, all) in
+      subst (FirstPassed passed old.caller) count (gate gone);
+}
+
+-- new lanes, each with its number
+abbrev pub AreFresh : Trace → List (LaneState Block) → Type 0
+AreFresh trace lanes =
+    (k : ℕ) (lane : LaneState Block) → k < length lanes → lane ≡ get_or lanes k lane → IsNew k (length (operations_in trace k)) lane
+
+pub push-long : {X : Type 0} (xs ys : List X) (x : X) → xs ≡ ys ++ x ∷ [] → length xs ≡ length ys + 1
+push-long xs ys x is = ap length is ∙ omega (arith, length-append ys (x ∷ []))
+
+-- a lane is given the pass of its caller
+module _ (trace : Trace) (h : Heap) (lanes rest : List (LaneState Block)) (lane : LaneState Block) (passes others : List Pass) (p : Pass) (lane_last : lanes ≡ rest ++ lane ∷ []) (pass_last : passes ≡ others ++ p ∷ []) (as_many : length passes ≡ length lanes) (fresh : AreFrom h 0 passes) (new : AreFresh trace lanes) (few : length lanes ≤ length trace.lanes) where
+  seat-many : length others ≡ length rest
+  seat-many = omega (arith, push-long lanes rest lane lane_last, push-long passes others p pass_last, as_many)
+
+  popped : AreFrom h 0 others × IsFresh h p × (p.errand.caller ≡ 0 + length others)
+  popped = from-pop h 0 others p (subst (AreFrom h 0) pass_last fresh)
+
+  pub seat-passes : AreFrom h 0 others × (length others ≡ length rest)
+  seat-passes = (popped.0, seat-many)
+
+  pub seat-lanes : AreFresh trace rest
+  seat-lanes k one lt there =
+      new k one (omega (arith, lt, push-long lanes rest lane lane_last))
+      (there ∙ sym (get_or_append_left rest (lane ∷ []) one k lt) ∙ ap (λ xs. get_or xs k one) (sym lane_last))
+
+  pub seat-thread :
+      (threads : List (CachePadded LaneThread)) (t : CachePadded LaneThread) → padded_value t ≡ record { pass = p; lane = lane }
+      → AreReady trace h (length lanes) threads → AreReady trace h (length rest) (threads ++ t ∷ [])
+  seat-thread threads t is readies =
+      let k = length rest in
+      let long = push-long lanes rest lane lane_last in
+      let last : lane ≡ get_or lanes k lane =
+      sym (get_or_push rest lane lane k refl) ∙ ap (λ xs. get_or xs k lane) (sym lane_last) in
+      let one =
+      ready trace h k p lane (omega (arith, long, few)) popped.1 (popped.2 ∙ omega (arith, seat-many)) (new k lane (omega (arith, long)) last) in
+      down-push (λ k t. IsReady trace h k (padded_value t)) k threads t (subst (λ n. AreReady trace h n threads) (long ∙ omega arith) readies)
+      (subst (IsReady trace h k) (sym is) one)
+
+-- a lane's pass and its outcomes are taken back
+module _ (trace : Trace) (h : Heap) (threads rest : List (CachePadded LaneThread)) (t : CachePadded LaneThread) (passes : List Pass) (outcomes : List (Vec Outcome Global)) (p : Pass) (o : Vec Outcome Global) (last : threads ≡ rest ++ t ∷ []) (done : AreDone trace h (length passes) threads) (ended : AreEnded trace h 0 passes outcomes) (same_pass : p ≡ (padded_value t).pass) (same_outcomes : o ≡ (padded_value t).lane.outcomes) where
+  popped-done : IsDone trace h (length passes) (padded_value t) × AreDone trace h (suc (length passes)) rest
+  popped-done = down-pop (λ k t. IsDone trace h k (padded_value t)) (length passes) rest t (subst (AreDone trace h (length passes)) last done)
+
+  pub back-ended : AreEnded trace h 0 (passes ++ p ∷ []) (outcomes ++ o ∷ [])
+  back-ended =
+      let k = length passes in
+      let one : HasEnded h (operations_in trace k) k p o.items =
+      subst (λ (q : Pass). HasEnded h (operations_in trace k) k q o.items) (sym same_pass)
+      (subst (λ (r : Vec Outcome Global). HasEnded h (operations_in trace k) k (padded_value t).pass r.items) (sym same_outcomes)
+      (done-ended trace h k (padded_value t) popped-done.0)) in
+      ended-push trace h 0 passes outcomes p o ended (subst (λ n. HasEnded h (operations_in trace n) n p o.items) (omega arith) one)
+
+  pub back-done : AreDone trace h (length (passes ++ p ∷ [])) rest
+  back-done = subst (λ n. AreDone trace h n rest) (omega (arith, length-append passes (p ∷ []))) popped-done.1
