@@ -2,7 +2,6 @@
 use Rattle.std.specs.Prelude.{ℕ, ◌≡◌, ◌⊎◌, ◌∷◌, ◌++◌, List, [], Option, None, Some, true, codes}
 use Rattle.std.specs.Fmt.{decimal}
 use Rattle.pool_model.specs.Legal.{IsLegal}
-use Rattle.trace_text.specs.declared.trace.OrderRun.{OrderRun}
 use Rattle.trace_text.specs.declared.trace.Trace.{Trace}
 use Rattle.trace_text.specs.Reading.{IsRefused, Read, reading_of}
 use Rattle.trace_text.specs.Text.{canonical_of, line}
@@ -10,7 +9,7 @@ use Rattle.lane_outcomes.specs.declared.outcome.Outcome.{Outcome}
 use Rattle.lane_outcomes.specs.Fits.{OutcomesFit}
 use Rattle.lane_outcomes.specs.Passed.{AllPassed}
 use Rattle.lane_outcomes.specs.Report.{report_of}
-use Rattle.balloc.specs.Closings.{IsDrivenOn, geometry_of, history_of, lost_of, steps_of}
+use Rattle.balloc.specs.Closings.{IsDrivenIn, IsShared, geometry_of, history_of, lost_of, steps_of}
 use Rattle.balloc.specs.Command.{has_input}
 use Rattle.balloc.specs.Summaries.{summary_of, trace_of}
 use Rattle.balloc.specs.declared.closing.Closing.{Closing}
@@ -20,21 +19,21 @@ use Rattle.balloc.specs.declared.command.Workload.{Workload}
 use Rattle.balloc.specs.declared.status.TheConstants.{REPORTED, REFUSED}
 
 -- the lanes of a trace ran to their ends on this heap, which is the one that the trace asks for: each lane's outcomes
--- fit its operations and the one history of the heap, which is legal; each operation passed the gate; and a machine
--- made the steps in this order
-pub record IsRun (passed : ℕ → ℕ → Type 0) (trace : Trace) (orders : List OrderRun) (closing : Closing) (outcomes : List (List Outcome)) : Type 0 where
+-- fit its operations and the one history of the heap, which is legal; each operation passed the gate; and the heap was
+-- kept so, by a machine that made the steps in an order, or by threads
+pub record IsRun (passed : ℕ → ℕ → Type 0) (trace : Trace) (kept : Closing → List (List Outcome) → Type 0) (closing : Closing) (outcomes : List (List Outcome)) : Type 0 where
   pub heap : geometry_of closing ≡ trace.heap
   pub fit : OutcomesFit trace.heap (history_of closing) (lost_of closing) trace.lanes outcomes
   pub legal : IsLegal trace.heap (history_of closing)
   pub all_passed : AllPassed passed trace.lanes
-  pub driven : IsDrivenOn closing trace orders outcomes
+  pub kept_so : kept closing outcomes
 
 -- a trace was run, and the text tells this of its outcomes and of the heap that it left
-pub record IsTold (passed : ℕ → ℕ → Type 0) (trace : Trace) (orders : List OrderRun) (told : List (List Outcome) → Closing → List ℕ) (closed : Option Closing) (text : List ℕ) : Type 0 where
+pub record IsTold (passed : ℕ → ℕ → Type 0) (trace : Trace) (kept : Closing → List (List Outcome) → Type 0) (told : List (List Outcome) → Closing → List ℕ) (closed : Option Closing) (text : List ℕ) : Type 0 where
   pub outcomes : List (List Outcome)
   pub closing : Closing
   pub closed_is : closed ≡ Some closing
-  pub run : IsRun passed trace orders closing outcomes
+  pub run : IsRun passed trace kept closing outcomes
   pub text_is : text ≡ told outcomes closing
 
 -- what `replay` tells of a run, what `schedule` does, and what `make` does
@@ -47,15 +46,15 @@ schedule_text trace outcomes closing = report_of trace outcomes (history_of clos
 abbrev pub make_text : Workload → List (List Outcome) → Closing → List ℕ
 make_text workload outcomes closing = summary_of workload outcomes (history_of closing)
 
--- what each command writes where nothing is refused: `replay` runs the trace that the bytes are read as, without its
--- order runs, `schedule` with them, and `make` the trace of its workload, which has none; `print` runs none
+-- what each command writes where nothing is refused: `replay` runs the trace that the bytes are read as on threads,
+-- `schedule` on a machine in the order of its order runs, and `make` the trace of its workload on threads; `print` runs none
 abbrev pub IsReport : (ℕ → ℕ → Type 0) → Command → List ℕ → Option Closing → List ℕ → Type 0
 IsReport passed Replay bytes closed text =
-    (trace : Trace) × (reading_of bytes ≡ Read trace) × IsTold passed trace [] (replay_text trace) closed text
+    (trace : Trace) × (reading_of bytes ≡ Read trace) × IsTold passed trace IsShared (replay_text trace) closed text
 IsReport passed Schedule bytes closed text =
-    (trace : Trace) × (reading_of bytes ≡ Read trace) × IsTold passed trace trace.orders (schedule_text trace) closed text
+    (trace : Trace) × (reading_of bytes ≡ Read trace) × IsTold passed trace (IsDrivenIn trace trace.orders) (schedule_text trace) closed text
 IsReport passed (Make workload) bytes closed text =
-    IsTold passed (trace_of workload) [] (make_text workload) closed text
+    IsTold passed (trace_of workload) IsShared (make_text workload) closed text
 IsReport passed (Print workload) bytes closed text = (closed ≡ None) × (text ≡ canonical_of (trace_of workload))
 
 -- the line that tells where a text is refused, and for which cause

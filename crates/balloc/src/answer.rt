@@ -20,6 +20,8 @@ use crate::told::{Told, replay, schedule};
 use edge_io::gate::Gate;
 use edge_io::source::Source;
 use std::alloc::{AllocError, Global};
+use std::sync::Wait;
+use std::thread::Threads;
 use trace_text::fault::TraceFault;
 use trace_text::limits::MAX_INPUT;
 use trace_text::reading::read_trace;
@@ -61,7 +63,8 @@ fn refusal(alloc: Global, number: u32, cause: u8) -> Result<Vec<u8>, AllocError>
 }
 
 /// Runs the trace of an input as the command says.
-fn told_of<G: Gate>(
+fn told_of<R: Threads + Wait + Sync, G: Gate + Sync>(
+    rt: &R,
     alloc: Global,
     gate: &G,
     command: Command,
@@ -73,14 +76,15 @@ fn told_of<G: Gate>(
         → IsReport (G.passed gate.now) command bytes (Some told.closing) told.text.items) }
 {
     match command {
-        Command::Replay => replay(alloc, gate, trace),
+        Command::Replay => replay(rt, alloc, gate, &trace),
         Command::Schedule => schedule(alloc, gate, &trace),
         Command::Make(_) | Command::Print(_) => unreachable!(),
     }
 }
 
 /// The answer to a command and the bytes of its input.
-fn answer_to_input<G: Gate>(
+fn answer_to_input<R: Threads + Wait + Sync, G: Gate + Sync>(
+    rt: &R,
     alloc: Global,
     gate: &G,
     command: Command,
@@ -93,7 +97,7 @@ fn answer_to_input<G: Gate>(
 {
     match read_trace(alloc, bytes) {
         Ok(trace) => {
-            let Told { text, closing } = told_of(alloc, gate, command, trace)?;
+            let Told { text, closing } = told_of(rt, alloc, gate, command, trace)?;
             Ok(reported(text, Some(closing)))
         }
         Err(TraceFault::Line { number, cause }) => Ok(Answer {
@@ -106,7 +110,12 @@ fn answer_to_input<G: Gate>(
 }
 
 /// The answer to a command without an input.
-fn answer_alone<G: Gate>(alloc: Global, gate: &G, command: Command) -> Result<Answer, AllocError>
+fn answer_alone<R: Threads + Wait + Sync, G: Gate + Sync>(
+    rt: &R,
+    alloc: Global,
+    gate: &G,
+    command: Command,
+) -> Result<Answer, AllocError>
     requires alone { has_input command ≡ false }
     requires ranges { HasRanges command }
     ensures { IfOk result (λ answer.
@@ -114,7 +123,7 @@ fn answer_alone<G: Gate>(alloc: Global, gate: &G, command: Command) -> Result<An
 {
     match command {
         Command::Make(workload) => {
-            let Told { text, closing } = make(alloc, gate, workload)?;
+            let Told { text, closing } = make(rt, alloc, gate, workload)?;
             Ok(reported(text, Some(closing)))
         }
         Command::Print(workload) => Ok(reported(print(alloc, workload)?, None)),
@@ -131,7 +140,8 @@ fn has_input(command: Command) -> bool
 
 /// The answer to a command, whose input is read first. Each operation of a trace that is run passes the
 /// gate before it begins.
-pub fn answer_to<S: Source, G: Gate>(
+pub fn answer_to<R: Threads + Wait + Sync, S: Source, G: Gate + Sync>(
+    rt: &R,
     alloc: Global,
     command: Command,
     source: &mut S,
@@ -148,9 +158,9 @@ pub fn answer_to<S: Source, G: Gate>(
 {
     let made = if has_input(command) {
         let bytes = read_input(alloc, source, MAX_INPUT)?;
-        answer_to_input(alloc, gate, command, bytes.as_slice())
+        answer_to_input(rt, alloc, gate, command, bytes.as_slice())
     } else {
-        answer_alone(alloc, gate, command)
+        answer_alone(rt, alloc, gate, command)
     };
     made.map_err(|_| Stop::OutOfMemory)
 }

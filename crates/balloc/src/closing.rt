@@ -1,5 +1,6 @@
 //! What a run of the program leaves of its heap.
 
+use live_heap::closed::Closed;
 use pool_model::plain::PlainPool;
 use step_core::machine::Core;
 
@@ -10,4 +11,6 @@ pub enum Closing {
     Plain(PlainPool),
     /// A machine on one thread, with the events of its steps.
     Stepped(Core),
+    /// A heap that threads shared, with the events of all their steps.
+    Ran(Closed),
 }

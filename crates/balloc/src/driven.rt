@@ -3,6 +3,7 @@
 ghost use Rattle.std.specs.Prelude.{IfOk, map};
 ghost use Rattle.trace_text.specs.Traces.{IsTrace};
 ghost use Rattle.balloc.specs.Answers.{IsRun};
+ghost use Rattle.balloc.specs.Closings.{IsDrivenIn};
 
 use crate::closing::Closing;
 use edge_io::gate::Gate;
@@ -23,7 +24,7 @@ pub struct DrivenRun {
 /// the gate before it begins.
 pub fn drive<G: Gate>(alloc: Global, gate: &G, trace: &Trace) -> Result<DrivenRun, AllocError>
     requires { IsTrace trace.now }
-    ensures { IfOk result (λ run. IsRun (G.passed gate.now) trace.now trace.now.orders (Closing.Stepped run.core)
+    ensures { IfOk result (λ run. IsRun (G.passed gate.now) trace.now (IsDrivenIn trace.now trace.now.orders) (Closing.Stepped run.core)
         (map (λ lane. lane.items) run.outcomes.items)) }
 {
     let mut core = Core::open(alloc, trace.heap)?;

@@ -1,34 +1,42 @@
 //! What is told of a workload.
 
-ghost use Rattle.std.specs.Prelude.{◌≡◌, [], IfOk, Some};
+ghost use Rattle.std.specs.Prelude.{◌≡◌, IfOk, Some};
 ghost use Rattle.trace_text.specs.Text.{canonical_of};
 ghost use Rattle.balloc.specs.Answers.{IsTold, make_text};
+ghost use Rattle.balloc.specs.Closings.{IsShared};
 ghost use Rattle.balloc.specs.Command.{IsWorkload};
 ghost use Rattle.balloc.specs.Summaries.{trace_of};
 
 use crate::closing::Closing;
 use crate::command::Workload;
-use crate::driven::{DrivenRun, drive};
 use crate::summary::summary;
+use crate::threaded::{ThreadedRun, run_on_threads};
 use crate::told::Told;
 use edge_io::gate::Gate;
 use lane_outcomes::live::live_count;
 use std::alloc::{AllocError, Global};
+use std::sync::Wait;
+use std::thread::Threads;
 use trace_text::printing::print_trace;
 use workloads::making::make_trace;
 
-/// Makes the trace of a workload, runs it, and sums up its outcomes.
-pub fn make<G: Gate>(alloc: Global, gate: &G, workload: Workload) -> Result<Told, AllocError>
+/// Makes the trace of a workload, runs its lanes on threads, and sums up their outcomes.
+pub fn make<R: Threads + Wait + Sync, G: Gate + Sync>(
+    rt: &R,
+    alloc: Global,
+    gate: &G,
+    workload: Workload,
+) -> Result<Told, AllocError>
     requires { IsWorkload workload }
     ensures { IfOk result (λ told.
-        IsTold (G.passed gate.now) (trace_of workload) [] (make_text workload) (Some told.closing) told.text.items) }
+        IsTold (G.passed gate.now) (trace_of workload) IsShared (make_text workload) (Some told.closing) told.text.items) }
 {
     let trace = make_trace(alloc, workload.kind, workload.size, workload.start)?;
-    let DrivenRun { core, outcomes } = drive(alloc, gate, &trace)?;
+    let ThreadedRun { closed, outcomes } = run_on_threads(rt, alloc, gate, &trace)?;
     let outcomes = outcomes.as_slice();
     let (live, words) = live_count(&trace, outcomes);
     let text = summary(alloc, workload, &trace, outcomes, live, words)?;
-    let closing = Closing::Stepped(core);
+    let closing = Closing::Ran(closed);
     Ok(Told { text, closing })
 }
 

@@ -26,6 +26,7 @@ mod summary;
 mod tally;
 #[cfg(test)]
 mod tests;
+mod threaded;
 mod told;
 mod wide;
 

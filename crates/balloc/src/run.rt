@@ -89,13 +89,12 @@ pub fn run<R: Threads + Wait + Sync, S: Source, K: Sink, G: Gate + Sync>(
         → (¬ FaultsRose (S.faults source.old) (S.faults source.new)) → (¬ FaultsRose (K.faults sink.old) (K.faults sink.new))
         → IsAnswer (has_input command) result.status }
 {
-    let _ = rt;
     let command = match read_words(alloc, words) {
         Ok(command) => command,
         Err(NoCommand::Usage) => return ended_early(USAGE),
         Err(NoCommand::OutOfMemory) => return ended_early(OUT_OF_MEMORY),
     };
-    let answer = match answer_to(alloc, command, source, gate) {
+    let answer = match answer_to(rt, alloc, command, source, gate) {
         Ok(answer) => answer,
         Err(stop) => return ended_early(stop.status()),
     };

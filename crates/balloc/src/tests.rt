@@ -2,6 +2,7 @@
 
 mod gates;
 mod generated;
+mod handovers;
 mod refusals;
 mod replays;
 mod schedules;
@@ -57,6 +58,11 @@ fn run_on<R: Threads + Wait + Sync>(
     let mut sink = wide_sink(alloc)?;
     let ended = run_between(rt, alloc, line, &mut source, &mut sink)?;
     Ok((ended, sink))
+}
+
+/// Whether a run left a heap that threads had shared.
+fn is_shared(ended: &Ended) -> bool {
+    matches!(&ended.closed, Some(Closing::Ran(_)))
 }
 
 /// Whether a run left a machine.

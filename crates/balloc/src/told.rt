@@ -1,46 +1,32 @@
 //! What is told of the run of a trace.
 
-ghost use Rattle.std.specs.Prelude.{ℕ, ◌≡◌, [], List, IfOk, Some, map};
+ghost use Rattle.std.specs.Prelude.{ℕ, ◌≡◌, List, IfOk, Some, map};
 ghost use Rattle.pool_model.specs.declared.event.Event.{Event};
 ghost use Rattle.pool_model.specs.Legal.{IsLegal};
 ghost use Rattle.trace_text.specs.Traces.{IsTrace};
 ghost use Rattle.lane_outcomes.specs.Fits.{OutcomesFit};
 ghost use Rattle.lane_outcomes.specs.Report.{report_of};
 ghost use Rattle.balloc.specs.Answers.{IsTold, replay_text, schedule_text};
+ghost use Rattle.balloc.specs.Closings.{IsDrivenIn, IsShared};
 
 use crate::closing::Closing;
 use crate::driven::{DrivenRun, drive};
 use crate::steps::steps_line;
+use crate::threaded::{ThreadedRun, run_on_threads};
 use edge_io::gate::Gate;
 use lane_outcomes::live::live_count;
 use lane_outcomes::outcome::Outcome;
 use lane_outcomes::report::report;
 use std::alloc::{AllocError, Global};
-use trace_text::trace::{Orders, Trace};
+use std::sync::Wait;
+use std::thread::Threads;
+use trace_text::trace::Trace;
 
 /// What is told of a run, and the heap that it left.
 #[derive(Drop)]
 pub struct Told {
     pub text: Vec<u8>,
     pub closing: Closing,
-}
-
-/// The trace with no order runs.
-fn without_orders(alloc: Global, trace: Trace) -> Trace
-    ensures { result ≡ record trace { orders = [] } }
-{
-    let Trace {
-        heap,
-        named_limit,
-        lanes,
-        orders: _,
-    } = trace;
-    Trace {
-        heap,
-        named_limit,
-        lanes,
-        orders: Orders::new(Vec::new(alloc)),
-    }
 }
 
 /// The report of a trace whose lanes had these outcomes.
@@ -54,15 +40,20 @@ fn report_on(alloc: Global, trace: &Trace, outcomes: &[Vec<Outcome>]) -> Result<
     report(alloc, trace, outcomes, live, words)
 }
 
-/// Runs a trace one lane after another, and reports it. Its order runs are not used.
-pub fn replay<G: Gate>(alloc: Global, gate: &G, trace: Trace) -> Result<Told, AllocError>
-    requires { IsTrace trace }
-    ensures { IfOk result (λ told. IsTold (G.passed gate.now) trace [] (replay_text trace) (Some told.closing) told.text.items) }
+/// Runs the lanes of a trace on threads, and reports it. Its order runs are not used.
+pub fn replay<R: Threads + Wait + Sync, G: Gate + Sync>(
+    rt: &R,
+    alloc: Global,
+    gate: &G,
+    trace: &Trace,
+) -> Result<Told, AllocError>
+    requires { IsTrace trace.now }
+    ensures { IfOk result (λ told.
+        IsTold (G.passed gate.now) trace.now IsShared (replay_text trace.now) (Some told.closing) told.text.items) }
 {
-    let trace = without_orders(alloc, trace);
-    let DrivenRun { core, outcomes } = drive(alloc, gate, &trace)?;
-    let text = report_on(alloc, &trace, outcomes.as_slice())?;
-    let closing = Closing::Stepped(core);
+    let ThreadedRun { closed, outcomes } = run_on_threads(rt, alloc, gate, trace)?;
+    let text = report_on(alloc, trace, outcomes.as_slice())?;
+    let closing = Closing::Ran(closed);
     Ok(Told { text, closing })
 }
 
@@ -70,7 +61,7 @@ pub fn replay<G: Gate>(alloc: Global, gate: &G, trace: Trace) -> Result<Told, Al
 pub fn schedule<G: Gate>(alloc: Global, gate: &G, trace: &Trace) -> Result<Told, AllocError>
     requires { IsTrace trace.now }
     ensures { IfOk result (λ told.
-        IsTold (G.passed gate.now) trace.now trace.now.orders (schedule_text trace.now) (Some told.closing) told.text.items) }
+        IsTold (G.passed gate.now) trace.now (IsDrivenIn trace.now trace.now.orders) (schedule_text trace.now) (Some told.closing) told.text.items) }
 {
     let DrivenRun { core, outcomes } = drive(alloc, gate, trace)?;
     let mut text = report_on(alloc, trace, outcomes.as_slice())?;

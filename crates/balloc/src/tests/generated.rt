@@ -1,6 +1,6 @@
 //! Commands on workloads, which read nothing.
 
-use super::{ROOM, is_stepped, run_between, run_on, wide_sink};
+use super::{ROOM, is_shared, run_between, run_on, wide_sink};
 use crate::status::{REPORTED, WRITE_FAULT};
 use edge_io::memory::{MemorySink, MemorySource};
 use edge_io::source::Source;
@@ -20,15 +20,11 @@ fn workloads_are_summed_up(rt: HostRuntime) -> Result<(), Fail> {
             "make scalability 10 3",
             "make scalability 10 3\nlanes 8 operations 20\ngiven 10 words 10\nrefused 0 spent 0\nfreed 10\nchecked 0\nlive 0 words 0\n",
         ),
-        (
-            "make pipeline 8 5",
-            "make pipeline 8 5\nlanes 8 operations 20\ngiven 4 words 12\nrefused 0 spent 0\nfreed 4\nchecked 4\nlive 0 words 0\n",
-        ),
     ];
     for (line, summary) in cases {
         let (ended, sink) = run_on(&rt, rt.alloc(), line, "")?;
         assert_eq!(rt; ended.status, REPORTED, "{line}");
-        assert!(rt; is_stepped(&ended), "{line}");
+        assert!(rt; is_shared(&ended), "{line}");
         assert_eq!(rt; sink.bytes(), summary.as_bytes(), "{line}");
     }
     Ok(())

@@ -1,6 +1,6 @@
-//! Reports of traces whose lanes run one after another.
+//! Reports of traces that have one report, whatever order the threads of their lanes make their steps in.
 
-use super::{is_stepped, run_on};
+use super::{is_shared, run_on};
 use crate::status::REPORTED;
 use std::process::Abort;
 use std::sync::Wait;
@@ -15,7 +15,7 @@ fn all_are_reported<R: Threads + Wait + Abort + AllocGlobal + Sync>(
     for (input, report) in cases {
         let (ended, sink) = run_on(rt, rt.alloc(), "replay", input)?;
         assert_eq!(rt; ended.status, REPORTED, "{input}");
-        assert!(rt; is_stepped(&ended), "{input}");
+        assert!(rt; is_shared(&ended), "{input}");
         assert_eq!(rt; sink.bytes(), report.as_bytes(), "{input}");
     }
     Ok(())
@@ -88,23 +88,6 @@ fn an_arena_is_used_up(rt: HostRuntime) -> Result<(), Fail> {
         (
             "heap 1 1 64\nlane\na 0 131071 1\nend\n",
             "heap 1 1 64 lanes 1\nlane 0\ngiven 131071\nlive 1 words 131071\n",
-        ),
-    ];
-    all_are_reported(&rt, &cases)
-}
-
-#[test]
-fn blocks_go_from_lane_to_lane(rt: HostRuntime) -> Result<(), Fail> {
-    let cases = [
-        // The second lane finds what the first one put, once.
-        (
-            "heap 4 1 0\nlane\na 0 3 10\np 0 5\na 0 3 20\np 0 5\nlane\nt 0 5\nc 0\nt 1 5\nf 0\nend\n",
-            "heap 4 1 0 lanes 2\nlane 0\ngiven 3\nput\ngiven 3\nshelf full\nlane 1\ntook 3\nsum 33\nshelf empty\nfreed\nlive 1 words 3\n",
-        ),
-        // A turn limit that is named is reported; order lines are read, and not used.
-        (
-            "heap 4 2 64 1000000\nlane\na 0 3 10\nw 0 20\np 0 5\nlane\nt 1 5\nc 1\nf 1\norder 1 100\norder 0 100\nend\n",
-            "heap 4 2 64 1000000 lanes 2\nlane 0\ngiven 3\nfilled\nput\nlane 1\ntook 3\nsum 63\nfreed\nlive 0 words 0\n",
         ),
     ];
     all_are_reported(&rt, &cases)

@@ -1,0 +1,59 @@
+//! Runs on a machine, one lane after another, where a lane takes what another one has put on a shelf. On
+//! threads it may come before that.
+
+use crate::command::Workload;
+use crate::driven::{DrivenRun, drive};
+use crate::summary::summary;
+use edge_io::gate::NoGate;
+use lane_outcomes::live::live_count;
+use lane_outcomes::report::report;
+use std::test::Fail;
+use trace_text::limits::MAX_LANES;
+use trace_text::reading::read_trace;
+use workloads::kind::Kind;
+use workloads::making::make_trace;
+
+#[test]
+fn blocks_go_from_lane_to_lane(rt: HostRuntime) -> Result<(), Fail> {
+    let alloc = rt.alloc();
+    let cases = [
+        // The second lane finds what the first one put, once.
+        (
+            "heap 4 1 0\nlane\na 0 3 10\np 0 5\na 0 3 20\np 0 5\nlane\nt 0 5\nc 0\nt 1 5\nf 0\nend\n",
+            "heap 4 1 0 lanes 2\nlane 0\ngiven 3\nput\ngiven 3\nshelf full\nlane 1\ntook 3\nsum 33\nshelf empty\nfreed\nlive 1 words 3\n",
+        ),
+        // A turn limit that is named is reported.
+        (
+            "heap 4 2 64 1000000\nlane\na 0 3 10\nw 0 20\np 0 5\nlane\nt 1 5\nc 1\nf 1\nend\n",
+            "heap 4 2 64 1000000 lanes 2\nlane 0\ngiven 3\nfilled\nput\nlane 1\ntook 3\nsum 63\nfreed\nlive 0 words 0\n",
+        ),
+    ];
+    for (input, text) in cases {
+        let trace = read_trace(alloc, input.as_bytes())?;
+        let DrivenRun { outcomes, .. } = drive(alloc, &NoGate, &trace)?;
+        let (live, words) = live_count(&trace, outcomes.as_slice());
+        let written = report(alloc, &trace, outcomes.as_slice(), live, words)?;
+        assert_eq!(rt; written.as_slice(), text.as_bytes(), "{input}");
+    }
+    Ok(())
+}
+
+#[test]
+fn a_pipeline_hands_blocks_over(rt: HostRuntime) -> Result<(), Fail> {
+    let alloc = rt.alloc();
+    let workload = Workload {
+        kind: Kind::Pipeline,
+        size: 8,
+        start: 5,
+    };
+    let text =
+        "make pipeline 8 5\nlanes 8 operations 20\ngiven 4 words 12\nrefused 0 spent 0\nfreed 4\nchecked 4\nlive 0 words 0\n";
+    let trace = make_trace(alloc, workload.kind, workload.size, workload.start)?;
+    let DrivenRun { outcomes, .. } = drive(alloc, &NoGate, &trace)?;
+    let outcomes = outcomes.as_slice();
+    let (live, words) = live_count(&trace, outcomes);
+    assert!(rt; outcomes.len() <= MAX_LANES as usize);
+    let written = summary(alloc, workload, &trace, outcomes, live, words)?;
+    assert_eq!(rt; written.as_slice(), text.as_bytes());
+    Ok(())
+}
