@@ -1,13 +1,21 @@
 -- The first line of a text, and the first field of a line.
-use Rattle.std.proofs.Common.{◌≡◌, ℕ, zero, suc, ◌+◌, add-zero, append-nil, ◌-◌, ◌<◌, Bool, true, false, not, eqb, ltb, List, [], ◌∷◌, ◌++◌, length, get_or, take, drop, Some, None, refl, sym, ap, ◌∙◌, arith, inl, inr}
+use Rattle.std.proofs.Common.{◌≡◌, ℕ, zero, suc, ◌+◌, add-zero, append-nil, ◌-◌, ◌<◌, Bool, true, false, not, eqb, ltb, List, [], ◌∷◌, ◌++◌, length, get_or, take, drop, Option, Some, None, refl, sym, ap, ◌∙◌, arith, inl, inr}
 use Rattle.std.specs.List.{AllByRecursion, slice_split, position, position_or_len}
-use Rattle.std.proofs.lemmas.Bool.{cases_Bool, false≢true, ne_eqb, ltb-true, ltb-false}
+use Rattle.std.proofs.lemmas.Bool.{cases_Bool, false≢true, ne_eqb, ltb-true, ltb-false, lt-ltb, le-ltb}
 use Rattle.std.proofs.lemmas.List.{take-append-drop, take_all, length-drop, length-take, get_or-take, get_or-drop}
 use Rattle.std.proofs.lemmas.List.Elements.{All-from_get_or, recursion_from_All}
 use Rattle.std.proofs.lemmas.List.Splits.{slice_split_none, slice_split_first}
-use Rattle.std.proofs.lemmas.List.Sums.{fails_before_first, passes_at_first}
+use Rattle.std.proofs.lemmas.List.Sums.{fails_before_first, passes_at_first, position_or_len_is}
 use Rattle.std.proofs.lemmas.Option.{none-some}
+use Rattle.memchr.specs.Find.{IsFirstByte}
 use Rattle.trace_text.specs.Lines.{without_return, lines_in, lines_of, is_blank, has_bytes, fields_of, BeginsField}
+
+not_passed : (p : ℕ → Bool) (bytes : List ℕ) (k : ℕ) → (p (get_or bytes k 0) ≡ true → ⊥) → p (get_or bytes k 0) ≡ false
+not_passed p bytes k fails =
+    elim (cases_Bool (p (get_or bytes k 0))) [
+      | inl passes ↦ absurd (fails passes)
+      | inr is ↦ is
+    ]
 
 -- the place that was found
 pub position_found : (p : ℕ → Bool) (bytes : List ℕ) (i : ℕ) → Some i ≡ position p bytes → (position_or_len p bytes ≡ i) × (i < length bytes)
@@ -19,6 +27,17 @@ position_found p bytes i e =
           (sym is, rw is (ltb-true _ _ within))
       | inr past ↦ absurd (none-some i (sym (rw past at e)))
     ]
+
+-- the first place whose byte passes
+pub position_first : (p : ℕ → Bool) (bytes : List ℕ) (r : Option ℕ) → IsFirstByte p bytes r → r ≡ position p bytes
+position_first p bytes None h =
+    let none = position_or_len_is p bytes (length bytes) 0 (omega arith) (λ k below. not_passed p bytes k (h k (omega arith) below)) (λ more. absurd (omega (arith, more))) in
+    let past : ltb (position_or_len p bytes) (length bytes) ≡ false = le-ltb _ _ (omega (arith, none)) in
+    rw past refl
+position_first p bytes (Some i) h =
+    let is = position_or_len_is p bytes i 0 (omega (arith, h.0.high)) (λ k below. not_passed p bytes k (h.0.before k (omega arith) below)) (λ _. h.1) in
+    let within : ltb (position_or_len p bytes) (length bytes) ≡ true = lt-ltb _ _ (omega (arith, is, h.0.high)) in
+    rw (within, is) refl
 
 -- no byte passes
 pub position_lacks : (p : ℕ → Bool) (bytes : List ℕ) → None ≡ position p bytes → (k : ℕ) (d : ℕ) → k < length bytes → p (get_or bytes k d) ≡ false

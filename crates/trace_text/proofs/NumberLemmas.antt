@@ -1,17 +1,18 @@
 -- A number is read from a field exactly where the field is its decimal digits.
-use Rattle.std.proofs.Common.{Option, ◌∙◌, ◌≡◌, ℕ, ◌^◌, ◌<◌, true, false, eqb, ltb, List, [], ◌∷◌, length, get_or, Some, None, Result, Ok, Err, refl, sym, ap, arith, rules, inl, inr}
-use Rattle.std.specs.Char.{is_ascii_digit}
+use Rattle.std.proofs.Common.{Option, ◌∙◌, ◌≡◌, ℕ, ◌+◌, ◌-◌, ◌*◌, ◌^◌, ◌<◌, ◌≤◌, Bool, true, false, ◌&&◌, if◌then◌else◌, eqb, ltb, leb, List, [], ◌∷◌, length, get_or, take, Some, None, refl, sym, ap, arith, rules, inl, inr}
+use Rattle.std.specs.Char.{is_ascii_digit, digit_value}
 use Rattle.std.specs.List.{list_all}
 use Rattle.std.specs.Fmt.{decimal}
 use Rattle.std.specs.Prelude.{IfSome}
-use Rattle.std.specs.Result.{result_ok}
-use Rattle.std.specs.Str.{IsUtf8}
-use Rattle.std.specs.Str.Parse.{AllDigits, digits_value, ParsesUnsigned}
-use Rattle.std.proofs.lemmas.Bool.{cases_Bool, and_parts, eqb-true, eqb-false, eq-eqb, ne_eqb, lt-ltb, le-ltb, ltb-true, cases_lt, false≢true}
-use Rattle.std.proofs.lemmas.Fmt.{decimal-digits_value, digits_decimal, digits_value-decimal, decimal_nonempty, first_decimal, decimal_digit, IsAscii-from_digits}
+use Rattle.std.specs.Str.Parse.{AllDigits, digits_value}
+use Rattle.std.proofs.lemmas.Bool.{cases_Bool, and_parts, eqb-true, eqb-false, eq-eqb, ne_eqb, lt-ltb, le-ltb, ltb-true, leb-true, cases_lt, false≢true}
+use Rattle.std.proofs.lemmas.Fmt.{decimal-digits_value, digits_decimal, digits_value-decimal, decimal_nonempty, first_decimal, decimal_digit}
+use Rattle.std.proofs.lemmas.Int.Digits.{digits_value_more}
+use Rattle.std.proofs.lemmas.List.{length-take}
+use Rattle.std.proofs.lemmas.List.Folds.{list_all_more, list_all_at}
 use Rattle.std.proofs.lemmas.Option.{cond_some}
-use Rattle.std.proofs.lemmas.Str.{IsUtf8-from_ascii}
-use Rattle.std.proofs.lemmas.Str.Parse.{IsNumeralModel, numerals_by_value, parse_digits}
+use Rattle.std.proofs.lemmas.Str.{digit_value_digit}
+use Rattle.std.proofs.lemmas.Str.Parse.{IsNumeralModel, numerals_by_value, digits_value_short, digits_value-take-le}
 use Rattle.trace_text.specs.Numbers.{is_numeral, number_in}
 
 own : IsNumeralModel (λ ds. list_all is_ascii_digit ds ≡ true) (digits_value 10)
@@ -22,11 +23,6 @@ pub record IsNumeral (ds : List ℕ) : Type 0 where
   pub digits : list_all is_ascii_digit ds ≡ true
   pub some : 0 < length ds
   pub first : get_or ds 0 0 ≡ 48 → length ds ≡ 1
-
-pub is_numeral-digits : (ds : List ℕ) → 0 < length ds → (get_or ds 0 0 ≡ 48 → ⊥) → is_numeral ds ≡ list_all is_ascii_digit ds
-unfolding is_numeral
-is_numeral-digits [] some other = absurd (omega (arith, some))
-is_numeral-digits (d ∷ ds) some other = rw (ne_eqb d 48 other) refl
 
 zero_alone : (ds : List ℕ) → length ds ≡ 0 → list_all is_ascii_digit (48 ∷ ds) ≡ true
 zero_alone [] h = refl
@@ -55,29 +51,84 @@ test-from_IsNumeral (d ∷ ds) h =
       | inr other ↦ rw other h.digits
     ]
 
--- digits are text
-pub numeral_is_text : (field : List ℕ) → is_numeral field ≡ true → IsUtf8 field
-numeral_is_text field e = IsUtf8-from_ascii field (IsAscii-from_digits field (own.to field (IsNumeral-from_test field e).digits))
-
--- what `parse` gives for a numeral
-pub number_in-parse : {E : Type 0} (field : List ℕ) (r : Result ℕ E) → is_numeral field ≡ true → ParsesUnsigned 64 10 field r → result_ok r ≡ number_in field
-unfolding number_in
-number_in-parse {E} field (Ok x) e h =
-    let n = IsNumeral-from_test field e in
-    let p = parse_digits own {E = E} 64 field (Ok x) h n.digits in
-    let small : ltb (digits_value 10 field) (2 ^ 64) ≡ true = lt-ltb (digits_value 10 field) (2 ^ 64) p.0.1 in
-    rw (e, small) (ap Some p.1)
-number_in-parse {E} field (Err d) e h =
-    let n = IsNumeral-from_test field e in
-    let p = parse_digits own {E = E} 64 field (Err d) h n.digits in
-    elim (cases_lt (digits_value 10 field) (2 ^ 64)) [
-      | inl below ↦ absurd (p (n.some, below))
-      | inr above ↦ rw (e, le-ltb (digits_value 10 field) (2 ^ 64) above) refl
+-- digits that don't begin with 0, or just `0`
+is_numeral-digits : (ds : List ℕ) → 0 < length ds → (get_or ds 0 0 ≡ 48 → length ds ≡ 1) → is_numeral ds ≡ list_all is_ascii_digit ds
+unfolding is_numeral
+is_numeral-digits [] some first = absurd (omega (arith, some))
+is_numeral-digits (d ∷ ds) some first =
+    elim (cases_Bool (eqb d 48)) [
+      | inl zero ↦
+          let is : d ≡ 48 = eqb-true d 48 zero in
+          let none : length ds ≡ 0 = omega (arith, first is) in
+          rw zero (eq-eqb (length ds) 0 none ∙ rw is (sym (zero_alone ds none)))
+      | inr other ↦ rw other refl
     ]
 
-pub number_in-none : (field : List ℕ) → is_numeral field ≡ false → number_in field ≡ None
+-- one digit more
+pub digits_more :
+    (ds : List ℕ) (i : ℕ) → i < length ds → list_all is_ascii_digit (take i ds) ≡ true → is_ascii_digit (get_or ds i 0) ≡ true
+    → (list_all is_ascii_digit (take (i + 1) ds) ≡ true) × (digits_value 10 (take (i + 1) ds) ≡ digits_value 10 (take i ds) * 10 + (get_or ds i 0 - 48))
+digits_more ds i below front digit =
+    let range = and_parts (leb 48 (get_or ds i 0)) (leb (get_or ds i 0) 57) digit in
+    let value : digit_value (get_or ds i 0) + 48 ≡ get_or ds i 0 = digit_value_digit (get_or ds i 0) (leb-true _ _ range.0, leb-true _ _ range.1) in
+    let worth : digit_value (get_or ds i 0) ≡ get_or ds i 0 - 48 = omega (arith, value) in (
+      list_all_more is_ascii_digit ds i 0 below ∙ rw (front, digit) refl,
+      digits_value_more 10 ds i below ∙ ap (λ d. digits_value 10 (take i ds) * 10 + d) worth,
+    )
+
+-- few digits write a number below 2^64
+pub few_digits : (ds : List ℕ) (i : ℕ) → length ds ≤ 19 → list_all is_ascii_digit (take i ds) ≡ true → digits_value 10 (take i ds) < 10 ^ 19
+few_digits ds i few front = digits_value_short own (take i ds) 19 front (omega (arith, length-take i ds))
+
+-- a byte that is no digit
+pub lacks_digit : (ds : List ℕ) (i : ℕ) → i < length ds → is_ascii_digit (get_or ds i 0) ≡ false → list_all is_ascii_digit ds ≡ false
+lacks_digit ds i below other = list_all_at is_ascii_digit ds i 0 below other
+
+and_false : (a b : Bool) → b ≡ false → (a && b) ≡ false
+and_false true b e = e
+and_false false b e = refl
+
+-- what the digits write is at least what the first of them write
+pub too_large : (ds : List ℕ) (i : ℕ) → 2 ^ 64 ≤ digits_value 10 (take i ds) → (list_all is_ascii_digit ds && ltb (digits_value 10 ds) (2 ^ 64)) ≡ false
+too_large ds i large =
+    let most = digits_value-take-le 10 ds i (omega arith) in
+    and_false _ _ (le-ltb (digits_value 10 ds) (2 ^ 64) (omega (arith, large, most)))
+
+-- what few digits write is what a field of them is
+pub number_in-few :
+    (ds : List ℕ) → 0 < length ds → (get_or ds 0 0 ≡ 48 → length ds ≡ 1) → length ds ≤ 19
+    → (if list_all is_ascii_digit ds then Some (digits_value 10 ds) else None) ≡ number_in ds
 unfolding number_in
-number_in-none field e = rw e refl
+number_in-few ds some first few =
+    let same = is_numeral-digits ds some first in
+    elim (cases_Bool (list_all is_ascii_digit ds)) [
+      | inl digits ↦
+          let small : digits_value 10 ds < 10 ^ 19 = digits_value_short own ds 19 digits few in
+          let below : ltb (digits_value 10 ds) (2 ^ 64) ≡ true = lt-ltb (digits_value 10 ds) (2 ^ 64) (omega (arith, small)) in
+          rw (same, digits, below) refl
+      | inr other ↦ rw (same, other) refl
+    ]
+
+-- the same of any digits
+pub number_in-many :
+    (ds : List ℕ) → 0 < length ds → (get_or ds 0 0 ≡ 48 → length ds ≡ 1)
+    → (if list_all is_ascii_digit ds && ltb (digits_value 10 ds) (2 ^ 64) then Some (digits_value 10 ds) else None) ≡ number_in ds
+unfolding number_in
+number_in-many ds some first = rw (is_numeral-digits ds some first) refl
+
+pub number_in-empty : (ds : List ℕ) → length ds < 1 → number_in ds ≡ None
+unfolding number_in is_numeral
+number_in-empty [] none = refl
+number_in-empty (d ∷ ds) none = absurd (omega (arith, none))
+
+-- a number doesn't begin with 0
+pub number_in-zero : (ds : List ℕ) → get_or ds 0 0 ≡ 48 → 1 < length ds → number_in ds ≡ None
+unfolding number_in is_numeral
+number_in-zero [] zero more = absurd (omega (arith, more))
+number_in-zero (d ∷ ds) zero more =
+    let first : eqb d 48 ≡ true = eq-eqb d 48 zero in
+    let longer : eqb (length ds) 0 ≡ false = ne_eqb (length ds) 0 (λ is. absurd (omega (arith, more, is))) in
+    rw (first, longer) refl
 
 -- what is read is spelled so
 pub number_found : (field : List ℕ) (n : ℕ) → number_in field ≡ Some n → (n < 2 ^ 64) × (field ≡ decimal n)

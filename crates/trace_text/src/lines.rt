@@ -5,6 +5,7 @@ ghost use Rattle.std.specs.List.{list_all};
 ghost use Rattle.trace_text.specs.Lines.{without_return, lines_of, fields_of, is_blank, is_plain, is_comment, BeginsField};
 
 use crate::limits::{CARRIAGE_RETURN, COMMENT, LAST_PRINTABLE, LINE_FEED, SPACE, TAB};
+use memchr::memchr;
 
 /// A line less the one carriage return at its end, if it has one.
 fn without_return(line: &[u8]) -> &[u8]
@@ -22,7 +23,7 @@ fn line_end(text: &[u8]) -> Option<usize>
     ensures place { result ≡ position (λ b. b == LINE_FEED) text.now }
     ensures within { IfSome result (λ end. end < length text.now) }
 {
-    text.iter().position(|b| *b == LINE_FEED)
+    memchr(LINE_FEED, text)
 }
 
 /// The first line of a text, and what is left behind it.
@@ -49,8 +50,11 @@ fn is_blank(b: u8) -> bool
 pub(crate) fn is_plain(line: &[u8]) -> bool
     ensures { result ≡ list_all is_plain line.now }
 {
-    line.iter()
-        .all(|b| *b == TAB || (SPACE <= *b && *b <= LAST_PRINTABLE))
+    let mut plain = true;
+    for b in line {
+        plain &= *b == TAB || (SPACE <= *b && *b <= LAST_PRINTABLE);
+    }
+    plain
 }
 
 /// Whether a first field begins a comment.

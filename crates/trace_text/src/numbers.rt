@@ -1,38 +1,47 @@
 //! The numbers that fields are.
 
-ghost use Rattle.std.specs.Prelude.{ℕ, ◌≡◌, ◌<◌, ◌^◌, IfSome, Some};
+ghost use Rattle.std.specs.Prelude.{ℕ, ◌≡◌, ◌≤◌, ◌<◌, ◌^◌, ◌&&◌, nat_lt, if◌then◌else◌, length, IfSome, Some, None};
 ghost use Rattle.std.specs.Char.{is_ascii_digit};
 ghost use Rattle.std.specs.Fmt.{decimal};
 ghost use Rattle.std.specs.List.{list_all};
-ghost use Rattle.trace_text.specs.Numbers.{is_numeral, number_in};
+ghost use Rattle.std.specs.Str.Parse.{digits_value};
+ghost use Rattle.trace_text.specs.Numbers.{number_in};
 
 use crate::limits::ZERO;
 
-/// Whether a field is written as a number is: `0`, or digits that don't begin with 0.
-#[tactic(auto, unfolding(crate::specs::Numbers::is_numeral))]
-fn is_numeral(field: &[u8]) -> bool
-    ensures { result ≡ is_numeral field.now }
+/// How many digits a number may have that is below 2^64 whatever they are.
+const SHORT: usize = 19;
+
+/// The number that few digits write, in one pass.
+fn short_number(field: &[u8]) -> Option<u64>
+    requires { length field.now ≤ 19 }
+    ensures { result ≡ (if list_all is_ascii_digit field.now then Some (digits_value 10 field.now) else None) }
 {
-    match field {
-        [] => false,
-        [first, rest @ ..] => {
-            if *first == ZERO {
-                rest.is_empty()
-            } else {
-                are_digits(field)
-            }
+    let mut n: u64 = 0;
+    for b in field {
+        if !b.is_ascii_digit() {
+            return None;
         }
+        n = n * 10 + u64::from(*b - ZERO);
     }
+    Some(n)
 }
 
-/// Whether each byte is a digit.
-fn are_digits(field: &[u8]) -> bool
-    ensures { result ≡ list_all is_ascii_digit field.now }
+/// The number below 2^64 that digits write, in one pass.
+fn long_number(field: &[u8]) -> Option<u64>
+    ensures { result ≡ (if list_all is_ascii_digit field.now && nat_lt (digits_value 10 field.now) (2 ^ 64) then Some (digits_value 10 field.now) else None) }
 {
-    field.iter().all(|b| b.is_ascii_digit())
+    let mut n: u64 = 0;
+    for b in field {
+        if !b.is_ascii_digit() {
+            return None;
+        }
+        n = n.checked_mul(10)?.checked_add(u64::from(*b - ZERO))?;
+    }
+    Some(n)
 }
 
-/// The number that a field is, below 2^64.
+/// The number that a field is, below 2^64: `0`, or digits that don't begin with 0.
 pub fn number(field: &[u8]) -> Option<u64>
     ensures value { result ≡ number_in field.now }
 
@@ -40,11 +49,10 @@ pub fn number(field: &[u8]) -> Option<u64>
     ensures found { IfSome result (λ n. field.now ≡ decimal n) }
     ensures only { (n : ℕ) → n < 2 ^ 64 → field.now ≡ decimal n → result ≡ Some n }
 {
-    if !is_numeral(field) {
-        return None;
-    }
-    match std::str::from_utf8(field) {
-        Ok(digits) => digits.parse().ok(),
-        Err(_) => None,
+    match field {
+        [] => None,
+        [first, ..] if *first == ZERO && field.len() > 1 => None,
+        _ if field.len() <= SHORT => short_number(field),
+        _ => long_number(field),
     }
 }
