@@ -34,7 +34,8 @@ spent-later :
     (setting : Setting) (rest : List Event) (lost : ℕ) → setting.lost ≤ lost → (state : State) (need : ℕ) (piece : List Event) (spent : Bool)
     → IsSpent setting state need piece spent → IsSpent (later setting rest lost) state need piece spent
 spent-later setting rest lost more state need piece true row = row
-spent-later setting rest lost more state need piece false row = (row.0, omega (arith, row.1))
+spent-later setting rest lost more state need piece false row =
+    (row.0, omega (arith, row.1), moment-later setting rest lost (state.done ++ piece) row.2, row.3)
 
 alloc-later :
     (setting : Setting) (rest : List Event) (lost : ℕ) → setting.lost ≤ lost

@@ -1,9 +1,9 @@
 -- Which outcome an operation may have, and which events of its lane it then adds.
-use Rattle.std.specs.Prelude.{ℕ, ◌+◌, ◌%◌, ◌^◌, ◌≤◌, ◌≡◌, ◌∷◌, ◌++◌, List, [], Bool, true, false, Option, Some, None, sum, ◌&&◌}
+use Rattle.std.specs.Prelude.{ℕ, ◌+◌, ◌%◌, ◌^◌, ◌≤◌, ◌≡◌, ◌∷◌, ◌++◌, List, [], Bool, true, false, Option, Some, None, count_by, not, sum, ◌&&◌, ◌==◌}
 use Rattle.std.specs.List.{AllZip}
 use Rattle.heap_geometry.specs.Need.{need_of, usable_words}
 use Rattle.pool_model.specs.declared.event.Event.{Event}
-use Rattle.pool_model.specs.declared.event.Event.TheVariants.{Free, Put, Take, TakeNone}
+use Rattle.pool_model.specs.declared.event.Event.TheVariants.{Alloc, Free, Put, Take, TakeNone}
 use Rattle.pool_model.specs.declared.owner.Owner.TheVariants.{Shelf}
 use Rattle.pool_model.specs.Histories.{own, Begins}
 use Rattle.pool_model.specs.Pool.{Block, Pool, block_at, pool_of}
@@ -49,11 +49,19 @@ pub record IsFullShelf (pool : Pool) (shelf : ℕ) : Type 0 where
 abbrev pub MayAsk : State → ℕ → Type 0
 MayAsk state need = (is_small (need_of need) && state.spent) ≡ false
 
--- a small allocation finds no turn left: an earlier one found that, or as many turns as the limit are accounted for by answers and lost exchanges
+-- a small block is given to another caller
+abbrev pub gives_another_small : ℕ → Event → Bool
+gives_another_small caller (Alloc by words place) = not (by == caller) && is_small (need_of words)
+gives_another_small caller event = false
+
+-- a small allocation finds no turn left: an earlier one found that; or as many turns as the limit are accounted for by the lane's answers and the lost
+-- exchanges, and also by its answers and the small blocks that others were given up to a moment behind its looks
 abbrev pub IsSpent : Setting → State → ℕ → List Event → Bool → Type 0
 IsSpent setting state need piece true = (is_small (need_of need) ≡ true) × (piece ≡ [])
 IsSpent setting state need piece false =
     EventsOf setting.caller (alloc_spent need) piece × (setting.turn_limit ≤ state.answered + setting.lost)
+    × (moment : Moment setting (state.done ++ piece))
+    × (setting.turn_limit ≤ state.answered + count_by (gives_another_small setting.caller) moment.before)
 
 -- an allocation: a block that is given is filled with rising numbers
 abbrev pub AllocRow : Setting → State → ℕ → ℕ → Option Held → Outcome → List Event → Type 0

@@ -1,5 +1,5 @@
 -- How many small allocations of a lane were answered, and where it has no turn left.
-use Rattle.std.proofs.Common.{ℕ, zero, suc, Bool, true, false, eqb, ◌≡◌, ◌≤◌, ◌+◌, ◌%◌, ◌^◌, ◌&&◌, ◌∷◌, ◌++◌, List, [], Option, Some, None, refl, sym, ap, ◌∙◌, subst, inl, inr, arith}
+use Rattle.std.proofs.Common.{ℕ, zero, suc, Bool, true, false, eqb, ◌≡◌, ◌≤◌, ◌+◌, ◌%◌, ◌^◌, ◌&&◌, ◌∷◌, ◌++◌, List, [], Option, Some, None, append-nil, refl, sym, ap, ◌∙◌, subst, inl, inr, arith}
 use Rattle.std.specs.Prelude.{count_by, if◌then◌else◌, nat_le}
 use Rattle.std.proofs.lemmas.Bool.{cases_Bool, true≢false, eq-eqb}
 use Rattle.std.proofs.lemmas.List.Sums.{sum_by-append, sum_by-cons}
@@ -19,7 +19,7 @@ use Rattle.errand_steps.specs.declared.point.Point.{Point}
 use Rattle.errand_steps.specs.declared.point.Point.TheVariants as point
 use Rattle.errand_steps.specs.declared.reply.Begun.TheVariants as begun
 use Rattle.sound_state.specs.TurnStages.{turn_stage_of, lacks_answer}
-use Rattle.sound_state.specs.Turns.{gives_small, refuses_small, one_if}
+use Rattle.sound_state.specs.Turns.{gives_small, refuses_small, is_small_alloc, one_if}
 use Rattle.step_core.specs.Moments.{IsServed}
 use Rattle.trace_text.specs.declared.trace.Op.{Op}
 use Rattle.trace_text.specs.declared.trace.Op.TheVariants as op
@@ -27,7 +27,7 @@ use Rattle.lane_outcomes.specs.declared.registers.Held.{Held}
 use Rattle.lane_outcomes.specs.declared.outcome.Outcome.{Outcome}
 use Rattle.lane_outcomes.specs.declared.outcome.Outcome.TheVariants as outcome
 use Rattle.lane_outcomes.specs.Lane.{State, answered_after, filling, held_in, is_small}
-use Rattle.lane_outcomes.specs.Rows.{AllocRow, CheckRow, FillRow, FitsRow, FreeRow, IsSpent, MayAsk, PutRow, Setting, TakeRow}
+use Rattle.lane_outcomes.specs.Rows.{AllocRow, CheckRow, FillRow, FitsRow, FreeRow, IsSpent, MayAsk, Moment, PutRow, Setting, TakeRow, gives_another_small}
 use Rattle.lane_outcomes.specs.Standing.{setting_in}
 use Rattle.lane_outcomes.proofs.FillLemmas.{writes}
 
@@ -250,13 +250,45 @@ point-answered : (p : Point) → is_idle p ≡ true → one_if (lacks_answer (tu
 point-answered point.Idle idle = refl
 point-answered p idle = absurd (true≢false (sym idle))
 
+-- a small block goes to this caller or to another one
+given-to : (caller : ℕ) (event : Event) → one_if (is_small_alloc event) ≡ one_if (gives_small caller event) + one_if (gives_another_small caller event)
+given-to caller (Alloc by words place) =
+    rw (small-need words) (elim (cases_Bool (eqb by caller)) [
+      | inl hers ↦ rw hers (omega arith)
+      | inr other ↦ rw other (omega arith)
+    ])
+given-to caller (Refuse by need) = refl
+given-to caller (Looked by class) = refl
+given-to caller (Free by place) = refl
+given-to caller (Write by place i v) = refl
+given-to caller (Put by place shelf) = refl
+given-to caller (Take by shelf place) = refl
+given-to caller (TakeNone by shelf) = refl
+
+given-to-all :
+    (caller : ℕ) (events : List Event)
+    → count_by is_small_alloc events ≡ count_by (gives_small caller) events + count_by (gives_another_small caller) events
+given-to-all caller [] = refl
+given-to-all caller (event ∷ events) =
+    let rest = given-to-all caller events in
+    let one = given-to caller event in
+    let all : count_by is_small_alloc (event ∷ events) ≡ one_if (is_small_alloc event) + count_by is_small_alloc events =
+    sum_by-cons (λ x. one_if (is_small_alloc x)) event events in
+    let hers : count_by (gives_small caller) (event ∷ events) ≡ one_if (gives_small caller event) + count_by (gives_small caller) events =
+    sum_by-cons (λ x. one_if (gives_small caller x)) event events in
+    let others : count_by (gives_another_small caller) (event ∷ events) ≡ one_if (gives_another_small caller event) + count_by (gives_another_small caller) events =
+    sum_by-cons (λ x. one_if (gives_another_small caller x)) event events in
+    omega arith
+
 -- an allocation that finds no turn left fits, where its caller has begun as many as it may
 spent-rows :
     (setting : Setting) (state : State) (need : ℕ) (piece : List Event) (spent : Bool) → EventsOf setting.caller (alloc_spent need) piece
     → is_small (need_of need) ≡ true → (spent ≡ true → piece ≡ []) → setting.turn_limit ≤ state.answered + setting.lost
+    → (moment : Moment setting (state.done ++ piece))
+    → setting.turn_limit ≤ state.answered + count_by (gives_another_small setting.caller) moment.before
     → IsSpent setting state need piece spent
-spent-rows setting state need piece true events small none limit = (small, none refl)
-spent-rows setting state need piece false events small none limit = (events, limit)
+spent-rows setting state need piece true events small none limit moment given = (small, none refl)
+spent-rows setting state need piece false events small none limit moment given = (events, limit, moment, given)
 
 spending-small : (caller : ℕ) (n : Need) (piece : List Event) → IsSpending caller n piece → is_small n ≡ true
 spending-small caller (Small class) piece spending = refl
@@ -277,8 +309,13 @@ spent-row g caller after f state r need v piece served idle limit own_is answere
     let nothing = spending-count caller (need_of need) piece events in
     let by_lost = served.by_lost in
     let few : g.turn_limit ≤ state.answered + f.lost = omega arith in
+    let by_given = served.by_given in
+    let parts = given-to-all caller after in
+    let given : g.turn_limit ≤ state.answered + count_by (gives_another_small caller) after = omega arith in
+    let moment : Moment (setting_in after caller g.turn_limit f.lost) (state.done ++ piece) =
+    record { before = after; begins = ([], sym (append-nil after)); own_done = own_is } in
     subst (λ h. AllocRow (setting_in after caller g.turn_limit f.lost) state need v h outcome.Spent piece) (sym empty)
-    (spent-rows (setting_in after caller g.turn_limit f.lost) state need piece state.spent events (spending-small caller (need_of need) piece events) none few)
+    (spent-rows (setting_in after caller g.turn_limit f.lost) state need piece state.spent events (spending-small caller (need_of need) piece events) none few moment given)
 
 -- a lane that is spent is answered so: so an allocation that starts may ask
 started-asks :
