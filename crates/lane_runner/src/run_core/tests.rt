@@ -6,6 +6,8 @@ ghost use Rattle.trace_text.specs.Traces.{IsTrace};
 ghost use Rattle.errand_steps.specs.Openings.{opening};
 ghost use Rattle.step_core.specs.Openings.{IsOpened};
 
+mod tight;
+
 use super::*;
 use edge_io::gate::NoGate;
 use lane_outcomes::live::live_count;
