@@ -1,0 +1,12 @@
+pub mod ActiveLemmas
+pub mod BitLemmas
+pub mod ClassLemmas
+pub mod ExchangeLemmas
+pub mod FrameCounts
+pub mod IdleLemmas
+pub mod LiveLemmas
+pub mod PoolCounts
+pub mod RestLemmas
+pub mod SeenLemmas
+pub mod TallyLemmas
+pub mod WalkLemmas
