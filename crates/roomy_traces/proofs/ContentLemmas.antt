@@ -1,0 +1,204 @@
+-- What a caller's block contains at the moments of a history, through the caller's events.
+use Rattle.std.proofs.Common.{ℕ, zero, suc, replicate, set, sum, ◌≡◌, ◌≢◌, ◌+◌, ◌%◌, ◌^◌, List, [], ◌∷◌, ◌++◌, Option, Some, None, map, length, refl, sym, ◌∙◌, ap, subst, arith, append_assoc, append-nil}
+use Rattle.std.specs.Prelude.{slice_set}
+use Rattle.std.specs.List.{AllByRecursion, AllZip, range_with_len}
+use Rattle.std.proofs.lemmas.List.{set_at, length_push, length-replicate}
+use Rattle.heap_geometry.specs.declared.geometry.Geometry.{Geometry}
+use Rattle.heap_geometry.specs.Need.{need_of, usable_words}
+use Rattle.pool_model.specs.declared.event.Event.{Event}
+use Rattle.pool_model.specs.declared.event.Event.TheVariants.{Alloc, Looked, Refuse, Free, Write, Put, Take, TakeNone}
+use Rattle.pool_model.specs.declared.owner.Owner.TheVariants.{Caller}
+use Rattle.pool_model.specs.Histories.{own, Begins}
+use Rattle.pool_model.specs.Pool.{Block, Pool, block_at, pool_after, pool_of, fresh_block, written}
+use Rattle.pool_model.specs.Legal.{IsLegalWithoutCounts, IsLegalEventWithoutCounts}
+use Rattle.pool_model.proofs.HistoryLemmas.{pool_of-push, push-append, EachAfter-cut}
+use Rattle.pool_model.proofs.OwnerLemmas.{others-keep_all}
+use Rattle.pool_model.proofs.PoolLemmas.{block_at-here, block_at-past, block_at-without_other, block_at-changed_other, block_at-changed_same}
+use Rattle.lane_outcomes.specs.Lane.{filling}
+use Rattle.lane_outcomes.specs.Rows.{IsWord, IsSumOf}
+use Rattle.lane_outcomes.proofs.FillLemmas.{writes}
+use Rattle.lane_outcomes.proofs.FollowLemmas.{cut-last}
+use Rattle.roomy_traces.specs.Serial.{numbers_from}
+use Rattle.roomy_traces.proofs.PieceLemmas.{IsGivenBy}
+
+-- the caller owns a live block at the place, with these contents
+pub record HasContents (caller place : ℕ) (contents : List (Option ℕ)) (pool : Pool) : Type 0 where
+  pub block : Block
+  pub live : block_at place pool ≡ Some block
+  pub owned : block.owner ≡ Caller caller
+  pub contents_are : block.contents ≡ contents
+
+-- so it is at each moment of a history at which these are the caller's events
+abbrev pub AtMoments : List Event → ℕ → List Event → (Pool → Type 0) → Type 0
+AtMoments history caller done P = (before : List Event) → Begins before history → own caller before ≡ done → P (pool_of before)
+
+-- a property that others' events leave is another one after an event of the caller's own
+moments-step :
+    (g : Geometry) (history : List Event) (caller : ℕ) (done : List Event) (event : Event) (P Q : Pool → Type 0) → IsLegalWithoutCounts g history
+    → ((before rest : List Event) → IsLegalWithoutCounts g (before ++ rest) → own caller rest ≡ [] → Q (pool_of before) → Q (pool_of (before ++ rest)))
+    → ((pool : Pool) → P pool → Q (pool_after pool event)) → AtMoments history caller done P → AtMoments history caller (done ++ event ∷ []) Q
+moments-step g history caller done event P Q legal others step at events (more, is) own_is =
+    let cut = cut-last caller done event events own_is in
+    let past : (cut.front ++ event ∷ []) ++ cut.back ≡ events = push-append cut.front cut.back event ∙ sym cut.whole in
+    let before : history ≡ cut.front ++ (event ∷ (cut.back ++ more)) =
+    is ∙ ap (λ xs. xs ++ more) cut.whole ∙ append_assoc cut.front (event ∷ cut.back) more in
+    let legal_past : IsLegalWithoutCounts g ((cut.front ++ event ∷ []) ++ cut.back) =
+    subst (IsLegalWithoutCounts g) (sym past) (EachAfter-cut (IsLegalEventWithoutCounts g) events more (subst (IsLegalWithoutCounts g) is legal)) in
+    let stepped : Q (pool_of (cut.front ++ event ∷ [])) =
+    subst Q (sym (pool_of-push cut.front event)) (step (pool_of cut.front) (at cut.front (event ∷ (cut.back ++ more), before) cut.own_front)) in
+    subst (λ (xs : List Event). Q (pool_of xs)) past (others (cut.front ++ event ∷ []) cut.back legal_past cut.own_back stepped)
+
+-- contents are such a property
+others-contents :
+    (g : Geometry) (caller place : ℕ) (contents : List (Option ℕ)) (before rest : List Event) → IsLegalWithoutCounts g (before ++ rest)
+    → own caller rest ≡ [] → HasContents caller place contents (pool_of before) → HasContents caller place contents (pool_of (before ++ rest))
+others-contents g caller place contents before rest legal none h =
+    record {
+      block = h.block;
+      live = others-keep_all g before rest caller place h.block legal none h.live h.owned;
+      owned = h.owned;
+      contents_are = h.contents_are;
+    }
+
+contents-step :
+    (g : Geometry) (history : List Event) (caller : ℕ) (done : List Event) (event : Event) (place : ℕ) (contents : List (Option ℕ)) (P : Pool → Type 0)
+    → IsLegalWithoutCounts g history → ((pool : Pool) → P pool → HasContents caller place contents (pool_after pool event))
+    → AtMoments history caller done P → AtMoments history caller (done ++ event ∷ []) (HasContents caller place contents)
+contents-step g history caller done event place contents P legal step at =
+    moments-step g history caller done event P (HasContents caller place contents) legal (others-contents g caller place contents) step at
+
+-- an event of other blocks
+abbrev pub IsAway : ℕ → Event → Type 0
+IsAway place (Alloc by need other) = place ≢ other
+IsAway place (Looked by class) = Unit {0}
+IsAway place (Refuse by need) = Unit {0}
+IsAway place (Free by other) = place ≢ other
+IsAway place (Write by other i v) = place ≢ other
+IsAway place (Put by other shelf) = ⊥
+IsAway place (Take by shelf other) = ⊥
+IsAway place (TakeNone by shelf) = Unit {0}
+
+away-live : (place : ℕ) (event : Event) (pool : Pool) → IsAway place event → block_at place (pool_after pool event) ≡ block_at place pool
+away-live place (Alloc by need other) pool away = block_at-past place (fresh_block by need other) pool (λ e. away (sym e))
+away-live place (Looked by class) pool away = refl
+away-live place (Refuse by need) pool away = refl
+away-live place (Free by other) pool away = block_at-without_other other place pool away
+away-live place (Write by other i v) pool away = block_at-changed_other other place (written i v) pool (λ b. refl) away
+away-live place (Put by other shelf) pool away = absurd away
+away-live place (Take by shelf other) pool away = absurd away
+away-live place (TakeNone by shelf) pool away = refl
+
+-- leaves the contents
+pub at-away :
+    (g : Geometry) (history : List Event) (caller : ℕ) (done events : List Event) (place : ℕ) (contents : List (Option ℕ))
+    → IsLegalWithoutCounts g history → AllByRecursion (IsAway place) events → AtMoments history caller done (HasContents caller place contents)
+    → AtMoments history caller (done ++ events) (HasContents caller place contents)
+at-away g history caller done [] place contents legal away at =
+    subst (λ (xs : List Event). AtMoments history caller xs (HasContents caller place contents)) (sym (append-nil done)) at
+at-away g history caller done (event ∷ events) place contents legal away at =
+    subst (λ (xs : List Event). AtMoments history caller xs (HasContents caller place contents)) (push-append done events event)
+    (at-away g history caller (done ++ event ∷ []) events place contents legal away.1
+    (contents-step g history caller done event place contents (HasContents caller place contents) legal
+    (λ pool h. record {
+      block = h.block;
+      live = away-live place event pool away.0 ∙ h.live;
+      owned = h.owned;
+      contents_are = h.contents_are;
+    }) at))
+
+-- the numbers of words from one on
+abbrev somes : ℕ → ℕ → ℕ → List (Option ℕ)
+somes v first count = map (λ i. Some ((v + i) % 2 ^ 64)) (range_with_len first count)
+
+-- writes in a row put their numbers behind what stands before them
+at-writes :
+    (g : Geometry) (history : List Event) (caller place v : ℕ) (count first : ℕ) (done : List Event) (front back : List (Option ℕ))
+    → IsLegalWithoutCounts g history → length front ≡ first → length back ≡ count
+    → AtMoments history caller done (HasContents caller place (front ++ back))
+    → AtMoments history caller (done ++ writes caller place v first count) (HasContents caller place (front ++ somes v first count))
+at-writes g history caller place v zero first done front [] legal at_first many at =
+    subst (λ (xs : List Event). AtMoments history caller xs (HasContents caller place (front ++ []))) (sym (append-nil done)) at
+at-writes g history caller place v zero first done front (x ∷ back) legal at_first many at = absurd (omega (arith, many))
+at-writes g history caller place v (suc count) first done front [] legal at_first many at = absurd (omega (arith, many))
+at-writes g history caller place v (suc count) first done front (x ∷ back) legal at_first many at =
+    let n : ℕ = (v + first) % 2 ^ 64 in
+    let event : Event = Write caller place first n in
+    let longer : List (Option ℕ) = front ++ Some n ∷ [] in
+    let now : set (front ++ x ∷ back) first (Some n) ≡ longer ++ back =
+    set_at front x back (Some n) first at_first ∙ sym (append_assoc front (Some n ∷ []) back) in
+    let stepped : AtMoments history caller (done ++ event ∷ []) (HasContents caller place (longer ++ back)) =
+    contents-step g history caller done event place (longer ++ back) (HasContents caller place (front ++ x ∷ back)) legal
+    (λ pool h. record {
+      block = written first n h.block;
+      live = block_at-changed_same place (written first n) pool h.block (λ b. refl) h.live;
+      owned = h.owned;
+      contents_are = ap (λ cs. slice_set cs first (Some n)) h.contents_are ∙ now;
+    }) at in
+    let later = at-writes g history caller place v count (first + 1) (done ++ event ∷ []) longer back legal
+    (length_push front (Some n) ∙ ap (λ k. k + 1) at_first) (omega (arith, many)) stepped in
+    let events : List Event = writes caller place v (first + 1) count in
+    subst (λ (cs : List (Option ℕ)). AtMoments history caller (done ++ event ∷ events) (HasContents caller place cs))
+    (append_assoc front (Some n ∷ []) (somes v (first + 1) count))
+    (subst (λ (xs : List Event). AtMoments history caller xs (HasContents caller place (longer ++ somes v (first + 1) count)))
+    (push-append done events event) later)
+
+map-map : {X Y Z : Type 0} (f : Y → Z) (h : X → Y) (xs : List X) → map (λ x. f (h x)) xs ≡ map f (map h xs)
+map-map f h [] = refl
+map-map f h (x ∷ xs) = ap (λ ys. f (h x) ∷ ys) (map-map f h xs)
+
+-- the contents of a block of so many words that was filled from a number on
+abbrev pub filled_from : ℕ → ℕ → List (Option ℕ)
+filled_from v words = map (λ n. Some n) (numbers_from v words)
+
+-- a filling puts them there, whatever the block contained
+pub at-filling :
+    (g : Geometry) (history : List Event) (caller place words v : ℕ) (done : List Event) (contents : List (Option ℕ))
+    → IsLegalWithoutCounts g history → length contents ≡ words → AtMoments history caller done (HasContents caller place contents)
+    → AtMoments history caller (done ++ filling caller place words v) (HasContents caller place (filled_from v words))
+at-filling g history caller place words v done contents legal many at =
+    subst (λ (cs : List (Option ℕ)). AtMoments history caller (done ++ filling caller place words v) (HasContents caller place cs))
+    (map-map (λ n. Some n) (λ i. (v + i) % 2 ^ 64) (range_with_len 0 words))
+    (at-writes g history caller place v words 0 done [] contents legal refl many at)
+
+-- and so does an allocation that is given a block and fills it
+pub at-given :
+    (g : Geometry) (history : List Event) (caller need place words v : ℕ) (done calls : List Event) → IsLegalWithoutCounts g history
+    → words ≡ usable_words (need_of need) → IsGivenBy caller need place calls
+    → AtMoments history caller (done ++ (calls ++ filling caller place words v)) (HasContents caller place (filled_from v words))
+at-given g history caller need place words v done calls legal words_are given =
+    let fresh : List (Option ℕ) = replicate (usable_words (need_of need)) None in
+    let alloc : Event = Alloc caller need place in
+    let called : AtMoments history caller ((done ++ given.looked) ++ alloc ∷ []) (HasContents caller place fresh) =
+    contents-step g history caller (done ++ given.looked) alloc place fresh (λ pool. Unit {0}) legal
+    (λ pool h. record {
+      block = fresh_block caller need place;
+      live = block_at-here place (fresh_block caller need place) pool refl;
+      owned = refl;
+      contents_are = refl;
+    })
+    (λ before begins own_is. tt) in
+    let all : List Event = filling caller place words v in
+    let filled : AtMoments history caller (((done ++ given.looked) ++ alloc ∷ []) ++ all) (HasContents caller place (filled_from v words)) =
+    at-filling g history caller place words v ((done ++ given.looked) ++ alloc ∷ []) fresh legal
+    (length-replicate {A = Option ℕ} (usable_words (need_of need)) None ∙ sym words_are) called in
+    let same : ((done ++ given.looked) ++ alloc ∷ []) ++ all ≡ done ++ (calls ++ all) =
+    ap (λ xs. xs ++ all) (append_assoc done given.looked (alloc ∷ []) ∙ ap (λ xs. done ++ xs) (sym given.whole)) ∙ append_assoc done calls all in
+    subst (λ (xs : List Event). AtMoments history caller xs (HasContents caller place (filled_from v words))) same filled
+
+-- a sum of known contents is the sum of their numbers
+known-words : (numbers words : List ℕ) → AllZip IsWord (map (λ n. Some n) numbers) words → words ≡ numbers
+known-words [] [] each = refl
+known-words [] (word ∷ words) each = absurd each
+known-words (n ∷ numbers) [] each = absurd each
+known-words (n ∷ numbers) (word ∷ words) each =
+    ap (λ w. w ∷ words) each.0 ∙ ap (λ ws. n ∷ ws) (known-words numbers words each.1)
+
+pub known-sum :
+    (pool : Pool) (caller place v words total : ℕ) (block : Block) → HasContents caller place (filled_from v words) pool
+    → block_at place pool ≡ Some block → IsSumOf block.contents total → total ≡ sum (numbers_from v words) % 2 ^ 64
+known-sum pool caller place v words total block h found summed =
+    let same : h.block ≡ block = let e : Some h.block ≡ Some block = sym h.live ∙ found in cc in
+    let contents : block.contents ≡ filled_from v words = ap (λ (b : Block). b.contents) (sym same) ∙ h.contents_are in
+    summed.total_is
+    ∙ ap (λ ns. sum ns % 2 ^ 64)
+    (known-words (numbers_from v words) summed.words (subst (λ (cs : List (Option ℕ)). AllZip IsWord cs summed.words) contents summed.each))

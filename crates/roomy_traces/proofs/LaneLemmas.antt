@@ -1,0 +1,208 @@
+-- Lanes by their numbers, sums over them, and a caller's events among those of a history.
+use Rattle.std.proofs.Common.{ℕ, zero, suc, Bool, true, false, eqb, cond, get_or, sum_by, count_by, ◌≡◌, ◌+◌, ◌<◌, ◌≤◌, List, [], ◌∷◌, ◌++◌, length, refl, sym, ◌∙◌, ap, subst, inl, inr, arith, add-zero}
+use Rattle.std.specs.List.{AllByRecursion}
+use Rattle.std.proofs.lemmas.Bool.{cases_Bool}
+use Rattle.std.proofs.lemmas.List.Sums.{sum_by-cons, sum_by-append}
+use Rattle.heap_geometry.specs.declared.geometry.Geometry.{Geometry}
+use Rattle.pool_model.specs.declared.event.Event.{Event}
+use Rattle.pool_model.specs.Histories.{caller_of, own, Begins}
+use Rattle.pool_model.specs.Pool.{Pool, pool_after}
+use Rattle.pool_model.proofs.HistoryLemmas.{own-append}
+use Rattle.trace_text.specs.declared.trace.Op.{Op}
+use Rattle.lane_outcomes.specs.declared.outcome.Outcome.{Outcome}
+use Rattle.lane_outcomes.specs.Fits.{Fits, LanesFit}
+use Rattle.lane_outcomes.specs.Standing.{setting_in}
+use Rattle.lane_outcomes.proofs.TallyLemmas.{tally, of_caller, sum_from, partition}
+
+-- the outcomes of each lane fit, the lanes being numbered from `first` on
+lanes-at :
+    (g : Geometry) (history : List Event) (lost first : ℕ) (lanes : List (List Op)) (outcomes : List (List Outcome))
+    → LanesFit g history lost first lanes outcomes → (k : ℕ) → k < length lanes
+    → Fits (setting_in history (first + k) g.turn_limit lost) (get_or lanes k []) (get_or outcomes k [])
+lanes-at g history lost first [] outcomes fit k below = absurd (omega arith)
+lanes-at g history lost first (operations ∷ lanes) [] fit k below = absurd fit
+lanes-at g history lost first (operations ∷ lanes) (results ∷ outcomes) fit zero below =
+    subst (λ n. Fits (setting_in history n g.turn_limit lost) operations results) (sym (add-zero first)) fit.0
+lanes-at g history lost first (operations ∷ lanes) (results ∷ outcomes) fit (suc k) below =
+    let next : suc first + k ≡ first + suc k = omega arith in
+    subst (λ n. Fits (setting_in history n g.turn_limit lost) (get_or lanes k []) (get_or outcomes k [])) next
+    (lanes-at g history lost (suc first) lanes outcomes fit.1 k (omega arith))
+
+pub lane-fits :
+    (g : Geometry) (history : List Event) (lost : ℕ) (lanes : List (List Op)) (outcomes : List (List Outcome)) → LanesFit g history lost 0 lanes outcomes
+    → (k : ℕ) → k < length lanes → Fits (setting_in history k g.turn_limit lost) (get_or lanes k []) (get_or outcomes k [])
+lane-fits g history lost lanes outcomes fit k below =
+    let same : 0 + k ≡ k = omega arith in
+    subst (λ n. Fits (setting_in history n g.turn_limit lost) (get_or lanes k []) (get_or outcomes k [])) same
+    (lanes-at g history lost 0 lanes outcomes fit k below)
+
+-- there are as many
+pub lanes-many :
+    (g : Geometry) (history : List Event) (lost first : ℕ) (lanes : List (List Op)) (outcomes : List (List Outcome))
+    → LanesFit g history lost first lanes outcomes → length outcomes ≡ length lanes
+lanes-many g history lost first [] [] fit = refl
+lanes-many g history lost first [] (results ∷ outcomes) fit = absurd fit
+lanes-many g history lost first (operations ∷ lanes) [] fit = absurd fit
+lanes-many g history lost first (operations ∷ lanes) (results ∷ outcomes) fit = ap suc (lanes-many g history lost (suc first) lanes outcomes fit.1)
+
+-- a sum over lane numbers is at most one over the lanes, where each term is
+pub sum-lanes :
+    {X : Type 0} (x : ℕ → ℕ) (f : X → ℕ) (d : X) (first : ℕ) (xs : List X) → ((k : ℕ) → k < length xs → x (first + k) ≤ f (get_or xs k d))
+    → sum_from x first (length xs) ≤ sum_by f xs
+sum-lanes x f d first [] each = omega arith
+sum-lanes x f d first (lane ∷ xs) each =
+    let here : x (first + 0) ≤ f lane = each 0 (omega arith) in
+    let at_first : x (first + 0) ≡ x first = ap x (add-zero first) in
+    let rest : sum_from x (suc first) (length xs) ≤ sum_by f xs =
+    sum-lanes x f d (suc first) xs
+    (λ k below.
+    let next : first + suc k ≡ suc first + k = omega arith in
+    subst (λ n. x n ≤ f (get_or xs k d)) next (each (suc k) (omega arith))) in
+    omega (arith, sum_by-cons f lane xs)
+
+-- and leaves room for a lane that has no share in it
+pub sum-lanes_but :
+    {X : Type 0} (x : ℕ → ℕ) (f : X → ℕ) (d : X) (first : ℕ) (xs : List X) → ((k : ℕ) → k < length xs → x (first + k) ≤ f (get_or xs k d))
+    → (s : ℕ) → s < length xs → x (first + s) ≡ 0 → sum_from x first (length xs) + f (get_or xs s d) ≤ sum_by f xs
+sum-lanes_but x f d first [] each s below none = absurd (omega arith)
+sum-lanes_but x f d first (lane ∷ xs) each zero below none =
+    let at_first : x (first + 0) ≡ x first = ap x (add-zero first) in
+    let rest : sum_from x (suc first) (length xs) ≤ sum_by f xs =
+    sum-lanes x f d (suc first) xs
+    (λ k within.
+    let next : first + suc k ≡ suc first + k = omega arith in
+    subst (λ n. x n ≤ f (get_or xs k d)) next (each (suc k) (omega arith))) in
+    omega (arith, sum_by-cons f lane xs)
+sum-lanes_but x f d first (lane ∷ xs) each (suc s) below none =
+    let here : x (first + 0) ≤ f lane = each 0 (omega arith) in
+    let at_first : x (first + 0) ≡ x first = ap x (add-zero first) in
+    let there : first + suc s ≡ suc first + s = omega arith in
+    let rest : sum_from x (suc first) (length xs) + f (get_or xs s d) ≤ sum_by f xs =
+    sum-lanes_but x f d (suc first) xs
+    (λ k within.
+    let next : first + suc k ≡ suc first + k = omega arith in
+    subst (λ n. x n ≤ f (get_or xs k d)) next (each (suc k) (omega arith)))
+    s (omega arith) (subst (λ n. x n ≡ 0) there none) in
+    omega (arith, sum_by-cons f lane xs)
+
+-- sums with the same terms, and sums with terms that are added
+sum_from-same : (x y : ℕ → ℕ) (first count : ℕ) → ((k : ℕ) → x k ≡ y k) → sum_from x first count ≡ sum_from y first count
+sum_from-same x y first zero each = refl
+sum_from-same x y first (suc count) each = omega (arith, each first, sum_from-same x y (suc first) count each)
+
+pub sum_from-both :
+    (x y z : ℕ → ℕ) (first count : ℕ) → ((k : ℕ) → first ≤ k → k < first + count → x k ≤ y k + z k)
+    → sum_from x first count ≤ sum_from y first count + sum_from z first count
+sum_from-both x y z first zero each = omega arith
+sum_from-both x y z first (suc count) each =
+    omega (
+      arith,
+      each first (omega arith) (omega arith),
+      sum_from-both x y z (suc first) count (λ k from below. each k (omega arith) (omega arith)),
+    )
+
+-- the events that pass a test, counted caller by caller
+abbrev weight_of : (Event → Bool) → Pool → Event → ℕ
+weight_of test pool event = cond (test event) 1 0
+
+all-count : (test : Event → Bool) (pool : Pool) (events : List Event) → tally (weight_of test) pool events ≡ count_by test events
+all-count test pool [] = refl
+all-count test pool (event ∷ events) =
+    omega (arith, sum_by-cons (λ e. cond (test e) 1 0) event events, all-count test (pool_after pool event) events)
+
+own-count :
+    (test : Event → Bool) (caller : ℕ) (pool : Pool) (events : List Event)
+    → tally (of_caller caller (weight_of test)) pool events ≡ count_by test (own caller events)
+own-count test caller pool [] = refl
+own-count test caller pool (event ∷ events) =
+    elim (cases_Bool (eqb (caller_of event) caller)) [
+      | inl hers ↦
+          rw hers
+          (omega (arith, sum_by-cons (λ e. cond (test e) 1 0) event (own caller events), own-count test caller (pool_after pool event) events))
+      | inr other ↦ rw other (omega (arith, own-count test caller (pool_after pool event) events))
+    ]
+
+pub by-caller :
+    (test : Event → Bool) (callers : ℕ) (events : List Event) → AllByRecursion (λ event. caller_of event < callers) events
+    → sum_from (λ caller. count_by test (own caller events)) 0 callers ≡ count_by test events
+by-caller test callers events all =
+    sum_from-same _ _ 0 callers (λ caller. sym (own-count test caller [] events))
+    ∙ partition (weight_of test) callers [] events all
+    ∙ all-count test [] events
+
+-- a part counts no more
+pub count-begins : (test : Event → Bool) (part whole : List Event) → Begins part whole → count_by test part ≤ count_by test whole
+count-begins test part whole (rest, is) =
+    let parts : count_by test (part ++ rest) ≡ count_by test part + count_by test rest = sum_by-append (λ e. cond (test e) 1 0) part rest in
+    let same : count_by test whole ≡ count_by test (part ++ rest) = ap (count_by test) is in
+    omega arith
+
+-- what holds of each event of a history holds of those of a beginning
+pub all-begins :
+    (P : Event → Type 0) (part rest : List Event) → AllByRecursion P (part ++ rest) → AllByRecursion P part
+all-begins P [] rest all = tt
+all-begins P (event ∷ part) rest all = (all.0, all-begins P part rest all.1)
+
+pub all-ends :
+    (P : Event → Type 0) (part rest : List Event) → AllByRecursion P (part ++ rest) → AllByRecursion P rest
+all-ends P [] rest all = all
+all-ends P (event ∷ part) rest all = all-ends P part rest all.1
+
+pub all-append :
+    (P : Event → Type 0) (part rest : List Event) → AllByRecursion P part → AllByRecursion P rest → AllByRecursion P (part ++ rest)
+all-append P [] rest first last = last
+all-append P (event ∷ part) rest first last = (first.0, all-append P part rest first.1 last)
+
+pub all-map : (P Q : Event → Type 0) (events : List Event) → ((event : Event) → P event → Q event) → AllByRecursion P events → AllByRecursion Q events
+all-map P Q [] f all = tt
+all-map P Q (event ∷ events) f all = (f event all.0, all-map P Q events f all.1)
+
+-- so of a caller's events
+pub all-own : (P : Event → Type 0) (caller : ℕ) (events : List Event) → AllByRecursion P events → AllByRecursion P (own caller events)
+all-own P caller [] all = tt
+all-own P caller (event ∷ events) all =
+    elim (cases_Bool (eqb (caller_of event) caller)) [
+      | inl hers ↦ rw hers (all.0, all-own P caller events all.1)
+      | inr other ↦ rw other (all-own P caller events all.1)
+    ]
+
+-- a caller's events at a beginning are a beginning of its events
+pub own-begins : (caller : ℕ) (before history : List Event) → Begins before history → Begins (own caller before) (own caller history)
+own-begins caller before history (rest, is) = (own caller rest, ap (own caller) is ∙ own-append caller before rest)
+
+-- and each beginning of its events is that of some moment
+abbrev HasMoment : ℕ → List Event → List Event → Type 0
+HasMoment caller history part = (before : List Event) × Begins before history × (own caller before ≡ part)
+
+moment-hers :
+    (caller : ℕ) (next event : Event) (history part : List Event) → eqb (caller_of next) caller ≡ true → next ≡ event
+    → HasMoment caller history part → HasMoment caller (next ∷ history) (event ∷ part)
+moment-hers caller next event history part hers same (before, (more, is), own_is) = (
+  next ∷ before,
+  (more, ap (λ xs. next ∷ xs) is),
+  rw hers (ap (λ xs. next ∷ xs) own_is ∙ ap (λ x. x ∷ part) same),
+)
+
+moment-past :
+    (caller : ℕ) (next : Event) (history part : List Event) → eqb (caller_of next) caller ≡ false
+    → HasMoment caller history part → HasMoment caller (next ∷ history) part
+moment-past caller next history part other (before, (more, is), own_is) = (
+  next ∷ before,
+  (more, ap (λ xs. next ∷ xs) is),
+  rw other own_is,
+)
+
+pub moment-of : (caller : ℕ) (history part rest : List Event) → own caller history ≡ part ++ rest → HasMoment caller history part
+moment-of caller history [] rest is = ([], (history, refl), refl)
+moment-of caller [] (event ∷ part) rest is = absurd (cc)
+moment-of caller (next ∷ history) (event ∷ part) rest is =
+    elim (cases_Bool (eqb (caller_of next) caller)) [
+      | inl hers ↦
+          let e : next ∷ own caller history ≡ event ∷ (part ++ rest) = rw hers at is in
+          let same : next ≡ event = cc in
+          let tails : own caller history ≡ part ++ rest = cc in
+          moment-hers caller next event history part hers same (moment-of caller history part rest tails)
+      | inr other ↦
+          let e : own caller history ≡ event ∷ (part ++ rest) = rw other at is in
+          moment-past caller next history (event ∷ part) other (moment-of caller history (event ∷ part) rest e)
+    ]

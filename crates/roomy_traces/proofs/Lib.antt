@@ -1,0 +1,12 @@
+pub mod LaneLemmas
+pub mod PieceLemmas
+pub mod RegisterLemmas
+pub mod SpentLemmas
+pub mod BalanceLemmas
+pub mod MostHeldLemmas
+pub mod FrameLemmas
+pub mod RefuseLemmas
+pub mod ContentLemmas
+pub mod FilledLemmas
+pub mod SerialLemmas
+pub mod ReportLemmas

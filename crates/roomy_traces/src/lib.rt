@@ -1,0 +1,5 @@
+//! Traces with frames and turns to spare and without shelves: whatever order their threads make their
+//! steps in, they have one report.
+#![tactic(auto)]
+
+pub mod laws;

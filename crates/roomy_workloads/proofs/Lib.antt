@@ -1,0 +1,3 @@
+pub mod NarrowLemmas
+pub mod LaneLemmas
+pub mod RoomyLemmas
