@@ -6,7 +6,7 @@ use Rattle.workloads.specs.declared.kind.Kind.{Kind}
 use Rattle.workloads.specs.declared.kind.Kind.TheVariants as kinds
 use Rattle.balloc.specs.Command.{IsCommandLine, IsWorkload, kind_name, workload_words}
 use Rattle.balloc.specs.declared.command.Command.{Command}
-use Rattle.balloc.specs.declared.command.Command.TheVariants.{Replay, Schedule, Make, Print}
+use Rattle.balloc.specs.declared.command.Command.TheVariants.{Replay, Schedule, Census, Make, Print}
 use Rattle.balloc.specs.declared.command.Workload.{Workload}
 
 -- a kind by its name
@@ -57,6 +57,7 @@ pub only_make :
 unfolding first_letter
 only_make word workload Replay is ranges line = absurd (omega (arith, ap length line.1))
 only_make word workload Schedule is ranges line = absurd (omega (arith, ap length line.1))
+only_make word workload Census is ranges line = absurd (omega (arith, ap length line.1))
 only_make word workload (Make other) is ranges line =
     ap (λ w. Some (Make w)) (one_workload word (codes "make") workload other ranges line.0 line.1)
 only_make word workload (Print other) is ranges line =
@@ -68,6 +69,7 @@ pub only_print :
 unfolding first_letter
 only_print word workload Replay is ranges line = absurd (omega (arith, ap length line.1))
 only_print word workload Schedule is ranges line = absurd (omega (arith, ap length line.1))
+only_print word workload Census is ranges line = absurd (omega (arith, ap length line.1))
 only_print word workload (Make other) is ranges line =
     absurd (omega (arith, ap (λ w. get_or w 0 0) is, ap first_letter line.1))
 only_print word workload (Print other) is ranges line =

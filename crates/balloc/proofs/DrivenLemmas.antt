@@ -1,5 +1,5 @@
 -- The runs of traces, on a machine and on threads.
-use Rattle.std.proofs.Common.{ℕ, suc, ◌≡◌, ◌≤◌, ◌∷◌, ◌++◌, List, [], Some, length, refl, ap, ◌∙◌, subst, arith, rules}
+use Rattle.std.proofs.Common.{ℕ, suc, ◌≡◌, ◌≤◌, ◌∷◌, ◌++◌, List, [], Some, length, map, refl, ap, ◌∙◌, subst, arith, rules}
 use Rattle.heap_geometry.specs.declared.geometry.Geometry.{Geometry}
 use Rattle.pool_model.specs.declared.event.Event.{Event}
 use Rattle.pool_model.specs.Legal.{IsLegal, IsLegalWithoutCounts}
@@ -22,11 +22,18 @@ use Rattle.live_heap.specs.declared.heap.Heap.{Heap}
 use Rattle.live_heap.specs.declared.pass.Pass.{Pass}
 use Rattle.live_heap.specs.Endings.{ClosedFields, HasClosed, IsResting}
 use Rattle.live_heap.proofs.LawsClosed.{closed-legal}
-use Rattle.balloc.specs.Answers.{IsRun, IsTold, make_text, replay_text, schedule_text}
+use Rattle.lane_outcomes.specs.LaneCounts.{as_one}
+use Rattle.roomy_traces.specs.Serial.{left_by, serial_outcomes, serial_report_of}
+use Rattle.roomy_traces.proofs.ReportLemmas.{live-left, one-report}
+use Rattle.roomy_traces.proofs.SerialLemmas.{outcomes-serial}
+use Rattle.heap_census.specs.declared.census.Census.{Census as Counts}
+use Rattle.balloc.specs.Answers.{IsRun, IsTold, counted_text, make_text, replay_text, schedule_text, serial_counted, serial_make, serial_replay, serial_schedule}
+use Rattle.balloc.specs.Censuses.{census_text}
 use Rattle.balloc.specs.Summaries.{summary_with, trace_of}
 use Rattle.balloc.specs.Closings.{IsDrivenIn, IsShared, lost_by_threads, steps_line}
 use Rattle.balloc.specs.declared.closing.Closing.TheVariants.{Ran, Stepped}
 use Rattle.balloc.specs.declared.command.Workload.{Workload}
+use Rattle.balloc.proofs.SerialLemmas.{summaries-same}
 
 -- what a machine that was driven leaves
 pub run-of :
@@ -59,37 +66,65 @@ shared-run passed trace h passes closed outcomes named laid run has_closed rests
 -- what `replay` tells
 pub replay-told :
     (passed : ℕ → ℕ → Type 0) (trace : Trace) (closed : ClosedFields) (outcomes : List (List Outcome)) (text : List ℕ)
-    → IsRun passed trace IsShared (Ran closed) outcomes
+    → IsTrace trace → IsRun passed trace IsShared (Ran closed) outcomes
     → ((history : List Event) (lost : ℕ) → IsLegal trace.heap history → OutcomesFit trace.heap history lost trace.lanes outcomes
     → text ≡ report_of trace outcomes history)
-    → IsTold passed trace IsShared (replay_text trace) (Some (Ran closed)) text
-replay-told passed trace closed outcomes text run reports =
+    → IsTold passed trace IsShared (replay_text trace) (serial_replay trace) (Some (Ran closed)) text
+replay-told passed trace closed outcomes text named run reports =
+    let told = reports closed.events (lost_by_threads closed) run.legal run.fit in
     record {
       outcomes = outcomes;
       closing = Ran closed;
       closed_is = refl;
       run = run;
-      text_is = reports closed.events (lost_by_threads closed) run.legal run.fit;
+      text_is = told;
+      roomy = λ roomy. told ∙ one-report trace closed.events (lost_by_threads closed) outcomes named roomy run.legal run.fit;
+    }
+
+-- what `census` tells: a report, and behind it what the closed heap holds
+pub counted-told :
+    (passed : ℕ → ℕ → Type 0) (trace : Trace) (closed : ClosedFields) (counts : Counts) (outcomes : List (List Outcome)) (told lines text : List ℕ)
+    → IsTrace trace → IsRun passed trace IsShared (Ran closed) outcomes
+    → ((history : List Event) (lost : ℕ) → IsLegal trace.heap history → OutcomesFit trace.heap history lost trace.lanes outcomes
+    → told ≡ report_of trace outcomes history)
+    → lines ≡ census_text counts → text ≡ told ++ lines
+    → IsTold passed trace IsShared (counted_text trace counts) (serial_counted trace counts) (Some (Ran closed)) text
+counted-told passed trace closed counts outcomes told lines text named run reports lines_are text_is =
+    let is = reports closed.events (lost_by_threads closed) run.legal run.fit in
+    let behind : (report : List ℕ) → told ≡ report → text ≡ report ++ census_text counts =
+    λ report same. text_is ∙ (ap (λ (l : List ℕ). l ++ lines) same ∙ ap (λ (l : List ℕ). report ++ l) lines_are) in
+    record {
+      outcomes = outcomes;
+      closing = Ran closed;
+      closed_is = refl;
+      run = run;
+      text_is = behind (report_of trace outcomes closed.events) is;
+      roomy =
+          λ roomy. behind (serial_report_of trace)
+          (is ∙ one-report trace closed.events (lost_by_threads closed) outcomes named roomy run.legal run.fit);
     }
 
 -- what `schedule` tells: a report, and behind it the line of the steps
 pub schedule-told :
     (passed : ℕ → ℕ → Type 0) (trace : Trace) (core : CoreFields) (outcomes : List (List Outcome)) (told steps text : List ℕ)
-    → IsRun passed trace (IsDrivenIn trace trace.orders) (Stepped core) outcomes
+    → IsTrace trace → IsRun passed trace (IsDrivenIn trace trace.orders) (Stepped core) outcomes
     → ((history : List Event) (lost : ℕ) → IsLegal trace.heap history → OutcomesFit trace.heap history lost trace.lanes outcomes
     → told ≡ report_of trace outcomes history)
     → steps ≡ steps_line core → text ≡ told ++ steps
-    → IsTold passed trace (IsDrivenIn trace trace.orders) (schedule_text trace) (Some (Stepped core)) text
-schedule-told passed trace core outcomes told steps text run reports steps_are text_is =
+    → IsTold passed trace (IsDrivenIn trace trace.orders) (schedule_text trace) (serial_schedule trace) (Some (Stepped core)) text
+schedule-told passed trace core outcomes told steps text named run reports steps_are text_is =
+    let is = reports core.events (lost_by_all core) run.legal run.fit in
+    let behind : (report : List ℕ) → told ≡ report → text ≡ report ++ steps_line core =
+    λ report same. text_is ∙ (ap (λ (l : List ℕ). l ++ steps) same ∙ ap (λ (l : List ℕ). report ++ l) steps_are) in
     record {
       outcomes = outcomes;
       closing = Stepped core;
       closed_is = refl;
       run = run;
-      text_is =
-          text_is
-          ∙ (ap (λ (l : List ℕ). l ++ steps) (reports core.events (lost_by_all core) run.legal run.fit)
-          ∙ ap (λ (l : List ℕ). report_of trace outcomes core.events ++ l) steps_are);
+      text_is = behind (report_of trace outcomes core.events) is;
+      roomy =
+          λ roomy. behind (serial_report_of trace)
+          (is ∙ one-report trace core.events (lost_by_all core) outcomes named roomy run.legal run.fit);
     }
 
 -- lanes have as many lists of outcomes
@@ -115,18 +150,31 @@ pub make-told :
     → OutcomesFit trace.heap history lost trace.lanes outcomes
     → (live ≡ length (pool_of history)) × (words ≡ live_words (pool_of history)))
     → text ≡ summary_with workload trace.lanes outcomes live words
-    → IsTold passed (trace_of workload) IsShared (make_text workload) (Some (Ran closed)) text
+    → IsTold passed (trace_of workload) IsShared (make_text workload) (serial_make workload) (Some (Ran closed)) text
 make-told passed workload trace closed outcomes live words text is named run counts text_is =
     let P : Trace → Type 0 = λ t. IsRun passed t IsShared (Ran closed) outcomes in
+    let made = trace_of workload in
+    let made_run = subst P is run in
+    let made_named = subst IsTrace is named in
     let counted = counts closed.events (lost_by_threads closed) named (legal-weaker trace.heap closed.events run.legal) run.fit in
+    let told : text ≡ make_text workload outcomes (Ran closed) =
+    text_is
+    ∙ ap (λ (t : Trace). summary_with workload t.lanes outcomes live words) is
+    ∙ ap (λ n. summary_with workload made.lanes outcomes n words) counted.0
+    ∙ ap (λ n. summary_with workload made.lanes outcomes (length (pool_of closed.events)) n) counted.1
+    in
     record {
       outcomes = outcomes;
       closing = Ran closed;
       closed_is = refl;
-      run = subst P is run;
-      text_is =
-          text_is
-          ∙ ap (λ (t : Trace). summary_with workload t.lanes outcomes live words) is
-          ∙ ap (λ n. summary_with workload (trace_of workload).lanes outcomes n words) counted.0
-          ∙ ap (λ n. summary_with workload (trace_of workload).lanes outcomes (length (pool_of closed.events)) n) counted.1;
+      run = made_run;
+      text_is = told;
+      roomy =
+          λ roomy. told
+          ∙ (summaries-same workload made.lanes outcomes (map serial_outcomes made.lanes) (length (pool_of closed.events)) (live_words (pool_of closed.events))
+          (outcomes-serial made closed.events (lost_by_threads closed) outcomes made_named roomy made_run.legal made_run.fit)
+          ∙ (ap (λ n. summary_with workload made.lanes (map serial_outcomes made.lanes) n (live_words (pool_of closed.events)))
+          (live-left made closed.events (lost_by_threads closed) outcomes made_named roomy made_run.legal made_run.fit).0
+          ∙ ap (λ n. summary_with workload made.lanes (map serial_outcomes made.lanes) (left_by as_one made.lanes) n)
+          (live-left made closed.events (lost_by_threads closed) outcomes made_named roomy made_run.legal made_run.fit).1));
     }

@@ -4,3 +4,5 @@ mod ParserLemmas
 mod CommandLemmas
 mod DrivenLemmas
 mod RunLemmas
+mod SerialLemmas
+mod CensusLemmas

@@ -11,7 +11,7 @@ use Rattle.clap.specs.Simple.{Shape}
 use Rattle.clap.specs.Takes.{bundle_passes, default_passes, entered_passes, flag_word_passes, is_valid, settle_passes, step_passes, takes, turn_passes, walk_passes, word_passes}
 use Rattle.balloc.specs.Command.{HasRanges, IsCommand, IsCommandLine, IsWorkload, begins_with_hyphen, kind_name, parser_app, words_of, workload_words}
 use Rattle.balloc.specs.declared.command.Command.{Command}
-use Rattle.balloc.specs.declared.command.Command.TheVariants.{Replay, Schedule, Make, Print}
+use Rattle.balloc.specs.declared.command.Command.TheVariants.{Replay, Schedule, Census, Make, Print}
 use Rattle.balloc.specs.declared.command.Workload.{Workload}
 use Rattle.balloc.specs.declared.parsing.NoCommand.{NoCommand}
 use Rattle.balloc.specs.declared.parsing.NoCommand.TheVariants.{Usage}
@@ -184,6 +184,7 @@ words_pass word more plain few =
 takes_command : (command : Command) (words : List Text) → IsCommandLine command words → NoOptions words → takes parser_app words ≡ true
 takes_command Replay words line plain = subst Taken (sym line.1) (words_pass (codes "replay") [] (subst NoOptions line.1 plain) (omega arith))
 takes_command Schedule words line plain = subst Taken (sym line.1) (words_pass (codes "schedule") [] (subst NoOptions line.1 plain) (omega arith))
+takes_command Census words line plain = subst Taken (sym line.1) (words_pass (codes "census") [] (subst NoOptions line.1 plain) (omega arith))
 takes_command (Make workload) words line plain =
     subst Taken (sym line.1) (words_pass (codes "make") (workload_words workload) (subst NoOptions line.1 plain) (omega arith))
 takes_command (Print workload) words line plain =
@@ -206,6 +207,7 @@ found_some (word ∷ more) values plain some = ap (λ found. unwrap_or found [])
 has_words : (command : Command) → is_empty (words_of command) ≡ false
 has_words Replay = refl
 has_words Schedule = refl
+has_words Census = refl
 has_words (Make workload) = refl
 has_words (Print workload) = refl
 
@@ -237,6 +239,7 @@ plain_workload name workload plain ranges =
 plain_command : (command : Command) → HasRanges command → list_any begins_with_hyphen (words_of command) ≡ false
 plain_command Replay ranges = refl
 plain_command Schedule ranges = refl
+plain_command Census ranges = refl
 plain_command (Make workload) ranges = plain_workload (codes "make") workload refl ranges
 plain_command (Print workload) ranges = plain_workload (codes "print") workload refl ranges
 

@@ -6,7 +6,7 @@ use Rattle.workloads.specs.declared.kind.Kind.{Kind}
 use Rattle.workloads.specs.declared.kind.Kind.TheVariants as kinds
 use Rattle.workloads.specs.declared.making.TheConstants.{MAX_SIZE}
 use Rattle.balloc.specs.declared.command.Command.{Command}
-use Rattle.balloc.specs.declared.command.Command.TheVariants.{Replay, Schedule, Make, Print}
+use Rattle.balloc.specs.declared.command.Command.TheVariants.{Replay, Schedule, Census, Make, Print}
 use Rattle.balloc.specs.declared.command.Workload.{Workload}
 
 -- how a kind of workload is named
@@ -24,6 +24,7 @@ workload_words workload = kind_name workload.kind ∷ decimal workload.size ∷ 
 abbrev pub words_of : Command → List (List ℕ)
 words_of Replay = codes "replay" ∷ []
 words_of Schedule = codes "schedule" ∷ []
+words_of Census = codes "census" ∷ []
 words_of (Make workload) = codes "make" ∷ workload_words workload
 words_of (Print workload) = codes "print" ∷ workload_words workload
 
@@ -35,6 +36,7 @@ IsWorkload workload = (workload.size ≤ MAX_SIZE) × (workload.start < 2 ^ 64)
 abbrev pub HasRanges : Command → Type 0
 HasRanges Replay = Unit {0}
 HasRanges Schedule = Unit {0}
+HasRanges Census = Unit {0}
 HasRanges (Make workload) = IsWorkload workload
 HasRanges (Print workload) = IsWorkload workload
 
@@ -50,6 +52,7 @@ IsCommand words = (command : Command) × IsCommandLine command words
 abbrev pub has_input : Command → Bool
 has_input Replay = true
 has_input Schedule = true
+has_input Census = true
 has_input (Make workload) = false
 has_input (Print workload) = false
 

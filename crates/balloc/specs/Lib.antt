@@ -5,5 +5,6 @@ pub mod Output
 pub mod Tallies
 pub mod Summaries
 pub mod Answers
+pub mod Censuses
 pub mod Runs
 pub mod Statuses

@@ -1,5 +1,5 @@
 -- What is told of a workload.
-use Rattle.std.specs.Prelude.{ℕ, ◌∷◌, ◌++◌, List, [], codes, length}
+use Rattle.std.specs.Prelude.{ℕ, ◌∷◌, ◌++◌, List, [], codes, length, map}
 use Rattle.std.specs.Fmt.{decimal}
 use Rattle.pool_model.specs.declared.event.Event.{Event}
 use Rattle.pool_model.specs.Pool.{pool_of, live_words}
@@ -7,6 +7,8 @@ use Rattle.trace_text.specs.Text.{line}
 use Rattle.trace_text.specs.declared.trace.Op.{Op}
 use Rattle.trace_text.specs.declared.trace.Trace.{Trace}
 use Rattle.lane_outcomes.specs.declared.outcome.Outcome.{Outcome}
+use Rattle.lane_outcomes.specs.LaneCounts.{as_one, as_words}
+use Rattle.roomy_traces.specs.Serial.{left_by, serial_outcomes}
 use Rattle.workloads.specs.Made.{made}
 use Rattle.balloc.specs.Command.{workload_words}
 use Rattle.balloc.specs.Tallies.{all_of, tally_of}
@@ -38,3 +40,9 @@ summary_with workload lanes outcomes live words =
 abbrev pub summary_of : Workload → List (List Outcome) → List Event → List ℕ
 summary_of workload outcomes history =
     summary_with workload (trace_of workload).lanes outcomes (length (pool_of history)) (live_words (pool_of history))
+
+-- the summary of a workload whose lanes are computed one after the other, each on its own, every allocation being given
+abbrev pub serial_summary_of : Workload → List ℕ
+serial_summary_of workload =
+    let lanes = (trace_of workload).lanes in
+    summary_with workload lanes (map serial_outcomes lanes) (left_by as_one lanes) (left_by as_words lanes)

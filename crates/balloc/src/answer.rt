@@ -16,7 +16,7 @@ use crate::input::read_input;
 use crate::made::{make, print};
 use crate::status::{REFUSED, REPORTED};
 use crate::stop::Stop;
-use crate::told::{Told, replay, schedule};
+use crate::told::{Told, counted, replay, schedule};
 use edge_io::gate::Gate;
 use edge_io::source::Source;
 use std::alloc::{AllocError, Global};
@@ -78,6 +78,7 @@ fn told_of<R: Threads + Wait + Sync, G: Gate + Sync>(
     match command {
         Command::Replay => replay(rt, alloc, gate, &trace),
         Command::Schedule => schedule(alloc, gate, &trace),
+        Command::Census => counted(rt, alloc, gate, &trace),
         Command::Make(_) | Command::Print(_) => unreachable!(),
     }
 }
@@ -127,7 +128,7 @@ fn answer_alone<R: Threads + Wait + Sync, G: Gate + Sync>(
             Ok(reported(text, Some(closing)))
         }
         Command::Print(workload) => Ok(reported(print(alloc, workload)?, None)),
-        Command::Replay | Command::Schedule => unreachable!(),
+        Command::Replay | Command::Schedule | Command::Census => unreachable!(),
     }
 }
 
@@ -135,7 +136,10 @@ fn answer_alone<R: Threads + Wait + Sync, G: Gate + Sync>(
 fn has_input(command: Command) -> bool
     ensures { result ≡ has_input command }
 {
-    matches!(command, Command::Replay | Command::Schedule)
+    matches!(
+        command,
+        Command::Replay | Command::Schedule | Command::Census
+    )
 }
 
 /// The answer to a command, whose input is read first. Each operation of a trace that is run passes the

@@ -25,10 +25,12 @@ pub struct Workload {
 /// A command of the program.
 #[derive(Clone, Copy, Debug, PartialEq, Eq)]
 pub enum Command {
-    /// Run the trace that stands on standard input, one lane after another, and report it.
+    /// Run the trace that stands on standard input, each lane on a thread of its own, and report it.
     Replay,
     /// Run it in the order that it gives, and report it with the steps that were made.
     Schedule,
+    /// Run it as `Replay` does, report it, and count what the heap holds at its end.
+    Census,
     /// Make the trace of a workload, run it, and sum up its outcomes.
     Make(Workload),
     /// Make the trace of a workload, and print it.
@@ -95,6 +97,7 @@ fn short_command(word: &str) -> Option<Command>
     match word {
         "replay" => Some(Command::Replay),
         "schedule" => Some(Command::Schedule),
+        "census" => Some(Command::Census),
         _ => None,
     }
 }

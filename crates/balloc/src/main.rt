@@ -11,6 +11,7 @@ use std::rt::Env;
 use std::{env, io};
 
 mod answer;
+mod census;
 mod closing;
 mod command;
 mod driven;

@@ -1,10 +1,14 @@
 //! Runs of the program over edges in memory.
 
+mod censuses;
+mod contests;
 mod gates;
 mod generated;
 mod handovers;
+mod meetings;
 mod refusals;
 mod replays;
+mod roomy;
 mod schedules;
 mod statuses;
 

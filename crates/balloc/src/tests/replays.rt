@@ -45,6 +45,16 @@ fn blocks_are_given_filled_and_summed(rt: HostRuntime) -> Result<(), Fail> {
     all_are_reported(&rt, &cases)
 }
 
+/// Two lanes with frames and turns to spare: every allocation is given, whatever the other lane holds.
+#[test]
+fn lanes_with_room_to_spare_have_one_report(rt: HostRuntime) -> Result<(), Fail> {
+    let cases = [(
+        "heap 32 2 0 6\nlane\na 0 1 5\na 1 100 6\nc 1\nf 0\na 0 3 7\nlane\na 0 1023 1\na 1 1 9\nw 1 4\nc 1\nf 1\na 1 2 8\nc 1\nend\n",
+        "heap 32 2 0 6 lanes 2\nlane 0\ngiven 1\ngiven 127\nsum 8763\nfreed\ngiven 3\nlane 1\ngiven 1023\ngiven 1\nfilled\nsum 4\nfreed\ngiven 3\nsum 27\nlive 4 words 1156\n",
+    )];
+    all_are_reported(&rt, &cases)
+}
+
 #[test]
 fn turns_are_used_up(rt: HostRuntime) -> Result<(), Fail> {
     let cases = [
@@ -78,6 +88,11 @@ fn an_arena_is_used_up(rt: HostRuntime) -> Result<(), Fail> {
         (
             "heap 1 1 0\nlane\na 0 1 1\nf 0\na 1 3 1\nend\n",
             "heap 1 1 0 lanes 1\nlane 0\ngiven 1\nfreed\nrefused\nlive 0 words 0\n",
+        ),
+        // Nine frames are bare, each behind the active superblock of a class, and the tenth class finds none.
+        (
+            "heap 9 1 0\nlane\na 0 1 1\nf 0\na 0 3 1\nf 0\na 0 7 1\nf 0\na 0 15 1\nf 0\na 0 31 1\nf 0\na 0 63 1\nf 0\na 0 127 1\nf 0\na 0 255 1\nf 0\na 0 511 1\nf 0\na 0 1023 1\nend\n",
+            "heap 9 1 0 lanes 1\nlane 0\ngiven 1\nfreed\ngiven 3\nfreed\ngiven 7\nfreed\ngiven 15\nfreed\ngiven 31\nfreed\ngiven 63\nfreed\ngiven 127\nfreed\ngiven 255\nfreed\ngiven 511\nfreed\nrefused\nlive 0 words 0\n",
         ),
         // A large block takes one unit of two, and the next wants two.
         (

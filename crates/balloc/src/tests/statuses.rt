@@ -84,6 +84,9 @@ fn a_failed_read_ends_the_run(rt: HostRuntime) -> Result<(), Fail> {
     let cases = [
         (1, READ_FAULT, ""),
         (2, READ_FAULT, ""),
+        (3, READ_FAULT, ""),
+        (4, READ_FAULT, ""),
+        (5, READ_FAULT, ""),
         (6, READ_FAULT, ""),
         (7, REPORTED, report),
     ];
@@ -106,6 +109,8 @@ fn a_failed_write_ends_the_run(rt: HostRuntime) -> Result<(), Fail> {
     let cases = [
         (empty, 1, WRITE_FAULT, true, ""),
         (empty, 2, WRITE_FAULT, true, "heap 4 1"),
+        (empty, 3, WRITE_FAULT, true, "heap 4 1 2 lanes"),
+        (empty, 4, WRITE_FAULT, true, "heap 4 1 2 lanes 0\nlive "),
         (
             empty,
             5,

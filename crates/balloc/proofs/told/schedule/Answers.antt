@@ -6,5 +6,5 @@ pub returns : goal.returns
 returns g c =
     schedule-told (g.G.Gate.passed c.args.gate.now) c.args.trace.now c.in_ok-core.field-0.core
     (map (λ lane. lane.items) c.in_ok-core.field-0.outcomes.items) c.in_ok-text.text.items c.as_slice-2.result.now
-    c.extend_from_slice.new.self.items c.in_ok-core.ensures (rw c.as_slice.ensures.value at c.in_ok-text.ensures)
+    c.extend_from_slice.new.self.items c.requires c.in_ok-core.ensures (rw c.as_slice.ensures.value at c.in_ok-text.ensures)
     (c.as_slice-2.ensures.value ∙ c.in_ok-steps.ensures) c.in_ok-extend_from_slice.ensures.items

@@ -1,0 +1,88 @@
+-- The summary of a workload whose trace is roomy.
+use Rattle.std.proofs.Common.{ℕ, Bool, ◌≡◌, ◌+◌, List, [], ◌∷◌, ◌++◌, map, length, decimal, codes, refl, sym, ap, ◌∙◌, arith}
+use Rattle.std.specs.Prelude.{count_by, if◌then◌else◌}
+use Rattle.std.specs.List.{sum_by}
+use Rattle.std.proofs.lemmas.List.{map-append}
+use Rattle.std.proofs.lemmas.List.Sums.{sum_by-cons}
+use Rattle.lane_outcomes.specs.declared.outcome.Outcome.{Outcome}
+use Rattle.lane_outcomes.specs.declared.outcome.Outcome.TheVariants as outcome
+use Rattle.roomy_traces.specs.Serial.{without_place}
+use Rattle.trace_text.specs.Text.{line}
+use Rattle.trace_text.specs.declared.trace.Op.{Op}
+use Rattle.balloc.specs.Command.{workload_words}
+use Rattle.balloc.specs.Summaries.{counts_text, summary_with}
+use Rattle.balloc.specs.Tallies.{all_of, given_words, is_freed, is_given, is_refused, is_spent, is_sum, tally_of}
+use Rattle.balloc.specs.declared.command.Workload.{Workload}
+use Rattle.balloc.specs.declared.tally.Tally.{Tally}
+
+-- what is counted of outcomes is the same without their places
+sums-same :
+    (f : Outcome → ℕ) → ((o : Outcome) → f (without_place o) ≡ f o) → (results : List Outcome)
+    → sum_by f (map without_place results) ≡ sum_by f results
+sums-same f same [] = refl
+sums-same f same (o ∷ results) =
+    sum_by-cons f (without_place o) (map without_place results)
+    ∙ (ap (λ n. n + sum_by f (map without_place results)) (same o)
+    ∙ (ap (λ n. f o + n) (sums-same f same results) ∙ sym (sum_by-cons f o results)))
+
+count-same :
+    (p : Outcome → Bool) → ((o : Outcome) → p (without_place o) ≡ p o) → (results : List Outcome)
+    → count_by p (map without_place results) ≡ count_by p results
+count-same p same results = sums-same (λ o. if p o then 1 else 0) (λ o. ap (λ (b : Bool). if b then 1 else 0) (same o)) results
+
+given-same : (o : Outcome) → is_given (without_place o) ≡ is_given o
+given-same (outcome.Given words place) = refl
+given-same (outcome.Took words place) = refl
+given-same o = refl
+
+words-same : (o : Outcome) → given_words (without_place o) ≡ given_words o
+words-same (outcome.Given words place) = refl
+words-same (outcome.Took words place) = refl
+words-same o = refl
+
+refused-same : (o : Outcome) → is_refused (without_place o) ≡ is_refused o
+refused-same (outcome.Given words place) = refl
+refused-same (outcome.Took words place) = refl
+refused-same o = refl
+
+spent-same : (o : Outcome) → is_spent (without_place o) ≡ is_spent o
+spent-same (outcome.Given words place) = refl
+spent-same (outcome.Took words place) = refl
+spent-same o = refl
+
+freed-same : (o : Outcome) → is_freed (without_place o) ≡ is_freed o
+freed-same (outcome.Given words place) = refl
+freed-same (outcome.Took words place) = refl
+freed-same o = refl
+
+summed-same : (o : Outcome) → is_sum (without_place o) ≡ is_sum o
+summed-same (outcome.Given words place) = refl
+summed-same (outcome.Took words place) = refl
+summed-same o = refl
+
+tallies-same : (results : List Outcome) → tally_of (map without_place results) ≡ tally_of results
+tallies-same results =
+    rw (count-same is_given given-same results)
+    (rw (sums-same given_words words-same results)
+    (rw (count-same is_refused refused-same results)
+    (rw (count-same is_spent spent-same results)
+    (rw (count-same is_freed freed-same results)
+    (rw (count-same is_sum summed-same results) refl)))))
+
+all-same : (outcomes : List (List Outcome)) → all_of (map (map without_place) outcomes) ≡ map without_place (all_of outcomes)
+all-same [] = refl
+all-same (results ∷ outcomes) =
+    ap (λ (l : List Outcome). map without_place results ++ l) (all-same outcomes) ∙ sym (map-append without_place results (all_of outcomes))
+
+-- a summary tells no place
+pub summaries-same :
+    (workload : Workload) (lanes : List (List Op)) (outcomes others : List (List Outcome)) (live words : ℕ)
+    → map (map without_place) outcomes ≡ others → summary_with workload lanes outcomes live words ≡ summary_with workload lanes others live words
+summaries-same workload lanes outcomes others live words same =
+    let tally : tally_of (all_of outcomes) ≡ tally_of (all_of others) =
+    sym (tallies-same (all_of outcomes)) ∙ (ap tally_of (sym (all-same outcomes)) ∙ ap (λ (o : List (List Outcome)). tally_of (all_of o)) same) in
+    ap (λ (t : Tally).
+    line (codes "make" ∷ workload_words workload)
+    ++ line (codes "lanes" ∷ decimal (length lanes) ∷ codes "operations" ∷ decimal (length (all_of lanes)) ∷ [])
+    ++ counts_text t
+    ++ line (codes "live" ∷ decimal live ∷ codes "words" ∷ decimal words ∷ [])) tally
