@@ -1,5 +1,5 @@
 -- Where a caller stays in its part, the point that follows is the part's own, and the list and the turns stay.
-use Rattle.std.proofs.Common.{ℕ, ◌≡◌, false, arith, refl}
+use Rattle.std.proofs.Common.{ℕ, ◌≡◌, false, ap, arith, refl, sym}
 use Rattle.word_plan.specs.declared.action.Action.{Action}
 use Rattle.word_plan.specs.declared.action.Found.{Found}
 use Rattle.superblock_parts.specs.declared.point.BlockPoint.{BlockPoint}
@@ -12,7 +12,7 @@ use Rattle.errand_steps.specs.declared.point.Point.{Point}
 use Rattle.errand_steps.specs.declared.point.Point.TheVariants.{Idle, Block, Stack, Desc, Partial}
 use Rattle.errand_steps.specs.declared.reply.Progress.TheVariants.{Done}
 use Rattle.errand_steps.specs.declared.reply.Reply.{Reply}
-use Rattle.errand_steps.specs.Errands.{ErrandFields, plan_of, settle_of, course_of, answer_of, counts_won, counts_lost, counts_cleared, raised, going_on}
+use Rattle.errand_steps.specs.Errands.{ErrandFields, plan_of, settle_of, course_of, answer_of, counts_won, counts_lost, counts_cleared, raised, going_on, EndsUncounted}
 use Rattle.errand_steps.specs.Nexts.{next_of, enter_block, enter_stack, enter_desc, enter_partial}
 use Rattle.errand_steps.specs.Continuations.{has_left_block, has_left_stack, has_left_desc, has_left_partial}
 
@@ -59,3 +59,11 @@ ended_errand e x r action won lost cleared ends planned is_won is_lost is_cleare
 pub ended_answer : (e : ErrandFields) (x : Found) (r : Reply) → next_of e.point x ≡ End r → answer_of e x ≡ Done r
 unfolding answer_of course_of
 ended_answer e x r ends = rw (ends) refl
+
+-- the errand after a step that ends its call on a usable word: no count rises
+pub uncounted_errand :
+    (e : ErrandFields) (x : Found) (r : Reply) → EndsUncounted e.point x r → record e { point = Idle } ≡ settle_of e x
+uncounted_errand e x r uncounted =
+    ended_errand e x r (plan_of e) e.won e.lost e.cleared uncounted.ends refl
+    (ap (λ b. raised b e.won) (sym uncounted.won)) (ap (λ b. raised b e.lost) (sym uncounted.lost))
+    (ap (λ b. raised b e.cleared) (sym uncounted.cleared))

@@ -1,5 +1,5 @@
 -- A caller's errand, and the errand after each step.
-use Rattle.std.specs.Prelude.{ℕ, Bool, true, false, ◌<◌, ◌≤◌, ◌+◌, ◌==◌, ◌&&◌, nat_le, not, min, if◌then◌else◌, Option, Some, None, List, [], ◌∷◌, ◌++◌, length, replicate, All, Contains, IfSome}
+use Rattle.std.specs.Prelude.{ℕ, ◌≡◌, Bool, true, false, ◌<◌, ◌≤◌, ◌+◌, ◌==◌, ◌&&◌, nat_le, not, min, if◌then◌else◌, Option, Some, None, List, [], ◌∷◌, ◌++◌, length, replicate, All, Contains, IfSome}
 use Rattle.heap_geometry.specs.declared.geometry.Geometry.{Geometry}
 use Rattle.heap_geometry.specs.Geometry.{IsChecked}
 use Rattle.packed_words.specs.Anchor.{anchor_of}
@@ -21,6 +21,7 @@ use Rattle.errand_steps.specs.declared.point.Point.{Point}
 use Rattle.errand_steps.specs.declared.point.Point.TheVariants.{Idle, Block, Desc, Partial, Large}
 use Rattle.errand_steps.specs.declared.reply.Progress.{Progress}
 use Rattle.errand_steps.specs.declared.reply.Progress.TheVariants as progress
+use Rattle.errand_steps.specs.declared.reply.Reply.{Reply}
 use Rattle.errand_steps.specs.declared.reply.Reply.TheVariants as reply
 use Rattle.errand_steps.specs.declared.next.Next.{Next}
 use Rattle.errand_steps.specs.declared.next.Next.TheVariants.{At, End, Turn, Retire, Pick, Unlist}
@@ -153,6 +154,13 @@ counts_lost p x = is_lost_exchange (plan_point_of p) x
 abbrev pub counts_cleared : Point → Found → Bool
 counts_cleared (Partial (partial.LoadGrantAnchor at) o) x = is_empty (anchor_of x.value).state
 counts_cleared p x = false
+
+-- the step ends the call with this reply, and raises no count
+pub record EndsUncounted (p : Point) (x : Found) (r : Reply) : Type 0 where
+  pub ends : next_of p x ≡ End r
+  pub won : counts_won (plan_point_of p) x ≡ false
+  pub lost : counts_lost p x ≡ false
+  pub cleared : counts_cleared p x ≡ false
 
 -- the errand after the step in which its action found something
 unfoldable pub settle_of : ErrandFields → Found → ErrandFields

@@ -8,6 +8,7 @@ pub mod stacks;
 
 ghost use Rattle.std.specs.Prelude.{◌≡◌, IfSome, IsTrue, false};
 ghost use Rattle.errand_steps.specs.declared.next.Next.TheVariants.{At, End};
+ghost use Rattle.errand_steps.specs.Errands.{EndsUncounted};
 ghost use Rattle.errand_steps.specs.Nexts.{next_of, resumed};
 ghost use Rattle.errand_steps.specs.Points.{plan_point_of};
 
@@ -24,6 +25,7 @@ use hazard_parts::plan::plan_desc;
 use hazard_parts::settle::settle_desc;
 use hazard_parts::stay::stays_desc;
 use large_parts::plan::plan_large;
+use large_parts::point::LargePoint;
 use large_parts::settle::settle_large;
 use partial_parts::plan::plan_partial;
 use partial_parts::point::PartialPoint;
@@ -86,6 +88,25 @@ pub(crate) fn stays(point: &mut Point, found: Found) -> bool
         Point::Desc { at, .. } => stays_desc(at, found),
         Point::Partial { at, .. } => stays_partial(at, found),
         Point::Large { .. } | Point::Idle => false,
+    }
+}
+
+/// The reply with which a call on a usable word ends in that step, its only one, which counts nothing.
+/// Most steps of a busy program are such ones, so they are looked for first.
+#[tactic(auto, unfolding(crate::specs::Points::plan_point_of, crate::specs::Nexts::next_of))]
+pub(crate) fn ending_on_word(point: &Point, found: Found) -> Option<Reply>
+    ensures { IfSome result (EndsUncounted point.now found) }
+{
+    match *point {
+        Point::Large {
+            at: LargePoint::StoreWord { .. },
+            ..
+        } => Some(Reply::Wrote),
+        Point::Large {
+            at: LargePoint::LoadWord { .. },
+            ..
+        } => Some(Reply::Word(found.value)),
+        _ => None,
     }
 }
 

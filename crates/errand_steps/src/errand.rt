@@ -19,7 +19,7 @@ ghost use Rattle.errand_steps.specs.Points.{is_idle};
 
 use crate::continuation::Continuation;
 use crate::count::{counts_cleared, counts_lost, counts_won, raised};
-use crate::enter::{ending, next_of, plan_point, resumed, stays};
+use crate::enter::{ending, ending_on_word, next_of, plan_point, resumed, stays};
 use crate::next::Next;
 use crate::point::Point;
 use crate::reply::{Offer, Progress, Reply};
@@ -145,6 +145,10 @@ impl Errand {
         ensures errand { self.new ≡ settle_of self.old found }
         ensures answer { result ≡ answer_of self.old found }
     {
+        if let Some(reply) = ending_on_word(&self.point, found) {
+            self.point = Point::Idle;
+            return Progress::Done(reply);
+        }
         let lost = counts_lost(&self.point, action, found);
         let cleared = counts_cleared(&self.point, found);
         if stays(&mut self.point, found) {

@@ -203,9 +203,9 @@ fn twenty_two_bare(alloc: Global) -> Result<String, AllocError> {
     Ok(text)
 }
 
-/// A lane is refused that could hold one block, where another lane holds at most one: ten frames are two
-/// too few for that.
-fn two_frames_too_few(alloc: Global) -> Result<String, AllocError> {
+/// A lane is refused its one block in ten frames, where another lane holds at most one: ten frames are too
+/// few for both to be sure of a block.
+fn ten_too_few(alloc: Global) -> Result<String, AllocError> {
     let mut text = String::new(alloc);
     text.push_str("heap 10 1 0\nlane\na 0 1023 1\nlane\n")?;
     one_of_each_class(&mut text)?;
@@ -218,7 +218,7 @@ fn bounds_are_met_or_missed_by_one(rt: HostRuntime) -> Result<(), Fail> {
     let alloc = rt.alloc();
     let eleven = eleven_bare(alloc)?;
     let twenty_two = twenty_two_bare(alloc)?;
-    let two_too_few = two_frames_too_few(alloc)?;
+    let ten = ten_too_few(alloc)?;
     // Refused, spent, part-used and bare frames, exchanges won and lost.
     let rows = [
         (THREE_PART_USED, (1, 0, 3, 0, 19, 0)),
@@ -226,7 +226,7 @@ fn bounds_are_met_or_missed_by_one(rt: HostRuntime) -> Result<(), Fail> {
         (eleven.as_str(), (1, 0, 0, 11, 51, 0)),
         (twenty_two.as_str(), (1, 0, 0, 22, 101, 0)),
         (EACH_WIN_IS_A_LOSS, (1, 0, 0, 0, 4, 4)),
-        (two_too_few.as_str(), (1, 0, 0, 10, 41, 0)),
+        (ten.as_str(), (1, 0, 0, 10, 41, 0)),
         (ONE_TURN_TOO_FEW, (0, 1, 0, 0, 14, 2)),
     ];
     for (text, (refused, spent, part_used, bare, won, lost)) in rows {
