@@ -15,7 +15,7 @@ use Rattle.lane_outcomes.specs.declared.outcome.Outcome.{Outcome}
 use Rattle.lane_outcomes.specs.Fits.{LanesFit, OutcomesFit}
 use Rattle.lane_outcomes.specs.Passed.{AllPassed}
 use Rattle.lane_outcomes.specs.Report.{report_of}
-use Rattle.lane_runner.specs.Driven.{IsDriven, lost_by_all}
+use Rattle.lane_runner.specs.Driven.{IsDriven}
 use Rattle.lane_runner.specs.Threads.{HaveRun}
 use Rattle.lane_runner.proofs.ClosedFits.{closed-fit}
 use Rattle.live_heap.specs.declared.heap.Heap.{Heap}
@@ -26,11 +26,10 @@ use Rattle.lane_outcomes.specs.LaneCounts.{as_one}
 use Rattle.roomy_traces.specs.Serial.{left_by, serial_outcomes, serial_report_of}
 use Rattle.roomy_traces.proofs.ReportLemmas.{live-left, one-report}
 use Rattle.roomy_traces.proofs.SerialLemmas.{outcomes-serial}
-use Rattle.heap_census.specs.declared.census.Census.{Census as Counts}
-use Rattle.balloc.specs.Answers.{IsRun, IsTold, counted_text, make_text, replay_text, schedule_text, serial_counted, serial_make, serial_replay, serial_schedule}
-use Rattle.balloc.specs.Censuses.{census_text}
+use Rattle.balloc.specs.Answers.{IsRun, IsTold, make_text, replay_text, serial_make, serial_replay}
 use Rattle.balloc.specs.Summaries.{summary_with, trace_of}
-use Rattle.balloc.specs.Closings.{IsDrivenIn, IsShared, lost_by_threads, steps_line}
+use Rattle.balloc.specs.Closings.{IsDrivenIn, IsShared, history_of, lost_by_threads, lost_of}
+use Rattle.balloc.specs.declared.closing.Closing.{Closing}
 use Rattle.balloc.specs.declared.closing.Closing.TheVariants.{Ran, Stepped}
 use Rattle.balloc.specs.declared.command.Workload.{Workload}
 use Rattle.balloc.proofs.SerialLemmas.{summaries-same}
@@ -81,50 +80,29 @@ replay-told passed trace closed outcomes text named run reports =
       roomy = λ roomy. told ∙ one-report trace closed.events (lost_by_threads closed) outcomes named roomy run.legal run.fit;
     }
 
--- what `census` tells: a report, and behind it what the closed heap holds
-pub counted-told :
-    (passed : ℕ → ℕ → Type 0) (trace : Trace) (closed : ClosedFields) (counts : Counts) (outcomes : List (List Outcome)) (told lines text : List ℕ)
-    → IsTrace trace → IsRun passed trace IsShared (Ran closed) outcomes
+-- what `schedule` and `census` tell: a report, and more lines behind it
+pub told-behind :
+    (passed : ℕ → ℕ → Type 0) (trace : Trace) (kept : Closing → List (List Outcome) → Type 0) (closing : Closing) (outcomes : List (List Outcome))
+    (more : Closing → List ℕ) (told lines text : List ℕ)
+    → IsTrace trace → IsRun passed trace kept closing outcomes
     → ((history : List Event) (lost : ℕ) → IsLegal trace.heap history → OutcomesFit trace.heap history lost trace.lanes outcomes
     → told ≡ report_of trace outcomes history)
-    → lines ≡ census_text counts → text ≡ told ++ lines
-    → IsTold passed trace IsShared (counted_text trace counts) (serial_counted trace counts) (Some (Ran closed)) text
-counted-told passed trace closed counts outcomes told lines text named run reports lines_are text_is =
-    let is = reports closed.events (lost_by_threads closed) run.legal run.fit in
-    let behind : (report : List ℕ) → told ≡ report → text ≡ report ++ census_text counts =
+    → lines ≡ more closing → text ≡ told ++ lines
+    → IsTold passed trace kept (λ outcomes closing. report_of trace outcomes (history_of closing) ++ more closing)
+    (λ closing. serial_report_of trace ++ more closing) (Some closing) text
+told-behind passed trace kept closing outcomes more told lines text named run reports lines_are text_is =
+    let is = reports (history_of closing) (lost_of closing) run.legal run.fit in
+    let behind : (report : List ℕ) → told ≡ report → text ≡ report ++ more closing =
     λ report same. text_is ∙ (ap (λ (l : List ℕ). l ++ lines) same ∙ ap (λ (l : List ℕ). report ++ l) lines_are) in
     record {
       outcomes = outcomes;
-      closing = Ran closed;
+      closing = closing;
       closed_is = refl;
       run = run;
-      text_is = behind (report_of trace outcomes closed.events) is;
+      text_is = behind (report_of trace outcomes (history_of closing)) is;
       roomy =
           λ roomy. behind (serial_report_of trace)
-          (is ∙ one-report trace closed.events (lost_by_threads closed) outcomes named roomy run.legal run.fit);
-    }
-
--- what `schedule` tells: a report, and behind it the line of the steps
-pub schedule-told :
-    (passed : ℕ → ℕ → Type 0) (trace : Trace) (core : CoreFields) (outcomes : List (List Outcome)) (told steps text : List ℕ)
-    → IsTrace trace → IsRun passed trace (IsDrivenIn trace trace.orders) (Stepped core) outcomes
-    → ((history : List Event) (lost : ℕ) → IsLegal trace.heap history → OutcomesFit trace.heap history lost trace.lanes outcomes
-    → told ≡ report_of trace outcomes history)
-    → steps ≡ steps_line core → text ≡ told ++ steps
-    → IsTold passed trace (IsDrivenIn trace trace.orders) (schedule_text trace) (serial_schedule trace) (Some (Stepped core)) text
-schedule-told passed trace core outcomes told steps text named run reports steps_are text_is =
-    let is = reports core.events (lost_by_all core) run.legal run.fit in
-    let behind : (report : List ℕ) → told ≡ report → text ≡ report ++ steps_line core =
-    λ report same. text_is ∙ (ap (λ (l : List ℕ). l ++ steps) same ∙ ap (λ (l : List ℕ). report ++ l) steps_are) in
-    record {
-      outcomes = outcomes;
-      closing = Stepped core;
-      closed_is = refl;
-      run = run;
-      text_is = behind (report_of trace outcomes core.events) is;
-      roomy =
-          λ roomy. behind (serial_report_of trace)
-          (is ∙ one-report trace core.events (lost_by_all core) outcomes named roomy run.legal run.fit);
+          (is ∙ one-report trace (history_of closing) (lost_of closing) outcomes named roomy run.legal run.fit);
     }
 
 -- lanes have as many lists of outcomes

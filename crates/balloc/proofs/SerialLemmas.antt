@@ -30,44 +30,22 @@ count-same :
     → count_by p (map without_place results) ≡ count_by p results
 count-same p same results = sums-same (λ o. if p o then 1 else 0) (λ o. ap (λ (b : Bool). if b then 1 else 0) (same o)) results
 
-given-same : (o : Outcome) → is_given (without_place o) ≡ is_given o
-given-same (outcome.Given words place) = refl
-given-same (outcome.Took words place) = refl
-given-same o = refl
-
-words-same : (o : Outcome) → given_words (without_place o) ≡ given_words o
-words-same (outcome.Given words place) = refl
-words-same (outcome.Took words place) = refl
-words-same o = refl
-
-refused-same : (o : Outcome) → is_refused (without_place o) ≡ is_refused o
-refused-same (outcome.Given words place) = refl
-refused-same (outcome.Took words place) = refl
-refused-same o = refl
-
-spent-same : (o : Outcome) → is_spent (without_place o) ≡ is_spent o
-spent-same (outcome.Given words place) = refl
-spent-same (outcome.Took words place) = refl
-spent-same o = refl
-
-freed-same : (o : Outcome) → is_freed (without_place o) ≡ is_freed o
-freed-same (outcome.Given words place) = refl
-freed-same (outcome.Took words place) = refl
-freed-same o = refl
-
-summed-same : (o : Outcome) → is_sum (without_place o) ≡ is_sum o
-summed-same (outcome.Given words place) = refl
-summed-same (outcome.Took words place) = refl
-summed-same o = refl
+-- what sees no place of a block that is given or taken is the same without places
+same-without-place :
+    {T : Type 0} (f : Outcome → T) → ((words place : ℕ) → f (outcome.Given words 0) ≡ f (outcome.Given words place))
+    → ((words place : ℕ) → f (outcome.Took words 0) ≡ f (outcome.Took words place)) → (o : Outcome) → f (without_place o) ≡ f o
+same-without-place f given took (outcome.Given words place) = given words place
+same-without-place f given took (outcome.Took words place) = took words place
+same-without-place f given took o = refl
 
 tallies-same : (results : List Outcome) → tally_of (map without_place results) ≡ tally_of results
 tallies-same results =
-    rw (count-same is_given given-same results)
-    (rw (sums-same given_words words-same results)
-    (rw (count-same is_refused refused-same results)
-    (rw (count-same is_spent spent-same results)
-    (rw (count-same is_freed freed-same results)
-    (rw (count-same is_sum summed-same results) refl)))))
+    rw (count-same is_given (same-without-place is_given (λ words place. refl) (λ words place. refl)) results)
+    (rw (sums-same given_words (same-without-place given_words (λ words place. refl) (λ words place. refl)) results)
+    (rw (count-same is_refused (same-without-place is_refused (λ words place. refl) (λ words place. refl)) results)
+    (rw (count-same is_spent (same-without-place is_spent (λ words place. refl) (λ words place. refl)) results)
+    (rw (count-same is_freed (same-without-place is_freed (λ words place. refl) (λ words place. refl)) results)
+    (rw (count-same is_sum (same-without-place is_sum (λ words place. refl) (λ words place. refl)) results) refl)))))
 
 all-same : (outcomes : List (List Outcome)) → all_of (map (map without_place) outcomes) ≡ map without_place (all_of outcomes)
 all-same [] = refl

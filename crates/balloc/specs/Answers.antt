@@ -1,5 +1,5 @@
 -- What the program answers to a command and its input.
-use Rattle.std.specs.Prelude.{ℕ, ◌≡◌, ◌⊎◌, ◌∷◌, ◌++◌, List, [], Option, None, Some, true, codes}
+use Rattle.std.specs.Prelude.{ℕ, ◌≡◌, ◌≢◌, ◌⊎◌, ◌∷◌, ◌++◌, List, [], Option, None, Some, true, codes}
 use Rattle.std.specs.Fmt.{decimal}
 use Rattle.pool_model.specs.Legal.{IsLegal}
 use Rattle.trace_text.specs.declared.trace.Trace.{Trace}
@@ -12,6 +12,7 @@ use Rattle.lane_outcomes.specs.Report.{report_of}
 use Rattle.roomy_traces.specs.Roomy.{IsRoomy}
 use Rattle.roomy_traces.specs.Serial.{serial_report_of}
 use Rattle.heap_census.specs.declared.census.Census.{Census as Counts}
+use Rattle.workloads.specs.declared.kind.Kind.TheVariants.{Pipeline}
 use Rattle.balloc.specs.Censuses.{IsCensusOf, census_text}
 use Rattle.balloc.specs.Closings.{IsDrivenIn, IsShared, geometry_of, history_of, lost_of, steps_of}
 use Rattle.balloc.specs.Command.{has_input}
@@ -68,6 +69,11 @@ serial_counted trace counts closing = serial_report_of trace ++ census_text coun
 abbrev pub serial_make : Workload → Closing → List ℕ
 serial_make workload closing = serial_summary_of workload
 
+-- the summary of a workload is the one that is computed lane by lane, whatever the order of the steps was; but for the
+-- pipeline, whose lanes hand blocks over
+abbrev pub HasOneSummary : Workload → List ℕ → Type 0
+HasOneSummary workload text = workload.kind ≢ Pipeline → text ≡ serial_summary_of workload
+
 -- what each command writes where nothing is refused: `replay` runs the trace that the bytes are read as on threads,
 -- `schedule` on a machine in the order of its order runs, `census` on threads and counts the closed heap, and `make` the trace
 -- of its workload on threads; `print` runs none
@@ -81,7 +87,7 @@ IsReport passed Census bytes closed text =
     (trace : Trace) × (reading_of bytes ≡ Read trace) × (counts : Counts) × IsCensusOf closed counts
     × IsTold passed trace IsShared (counted_text trace counts) (serial_counted trace counts) closed text
 IsReport passed (Make workload) bytes closed text =
-    IsTold passed (trace_of workload) IsShared (make_text workload) (serial_make workload) closed text
+    IsTold passed (trace_of workload) IsShared (make_text workload) (serial_make workload) closed text × HasOneSummary workload text
 IsReport passed (Print workload) bytes closed text = (closed ≡ None) × (text ≡ canonical_of (trace_of workload))
 
 -- the line that tells where a text is refused, and for which cause

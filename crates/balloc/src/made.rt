@@ -2,7 +2,7 @@
 
 ghost use Rattle.std.specs.Prelude.{◌≡◌, IfOk, Some};
 ghost use Rattle.trace_text.specs.Text.{canonical_of};
-ghost use Rattle.balloc.specs.Answers.{IsTold, make_text, serial_make};
+ghost use Rattle.balloc.specs.Answers.{HasOneSummary, IsTold, make_text, serial_make};
 ghost use Rattle.balloc.specs.Closings.{IsShared};
 ghost use Rattle.balloc.specs.Command.{IsWorkload};
 ghost use Rattle.balloc.specs.Summaries.{trace_of};
@@ -29,7 +29,8 @@ pub fn make<R: Threads + Wait + Sync, G: Gate + Sync>(
 ) -> Result<Told, AllocError>
     requires { IsWorkload workload }
     ensures { IfOk result (λ told.
-        IsTold (G.passed gate.now) (trace_of workload) IsShared (make_text workload) (serial_make workload) (Some told.closing) told.text.items) }
+        IsTold (G.passed gate.now) (trace_of workload) IsShared (make_text workload) (serial_make workload) (Some told.closing) told.text.items
+        × HasOneSummary workload told.text.items) }
 {
     let trace = make_trace(alloc, workload.kind, workload.size, workload.start)?;
     let ThreadedRun { closed, outcomes } = run_on_threads(rt, alloc, gate, &trace)?;
