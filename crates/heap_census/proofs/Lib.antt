@@ -1,5 +1,6 @@
 pub mod ActiveLemmas
 pub mod BitLemmas
+pub mod CensusLemmas
 pub mod ClassLemmas
 pub mod ExchangeLemmas
 pub mod FrameCounts

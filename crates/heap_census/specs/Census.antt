@@ -72,13 +72,15 @@ pub record IsClassCount (c : ClosedFields) (l : Lists) (class : ℕ) (n : ClassC
 abbrev pub clear_units : Geometry → State → ℕ
 clear_units g s = sum_below g.units (λ unit. if bit_at (s.word name.Units) unit == 0 then 1 else 0)
 
--- each class with its blocks, the frames on the stack of free frames, and the free units; the lists are those that the heads and next words make, of which there is one each
+-- each class with its blocks, the frames on the stack of free frames, and the free units; there are lists that the heads and next words make, and by whichever these are the numbers
 pub record IsCensus (c : ClosedFields) (census : Census) : Type 0 where
   pub lists : Lists
   pub listed : IsListed c.geometry (closed_state c).word lists
   pub classes : length census.per_class ≡ CLASSES
-  pub each : (class : ℕ) → class < CLASSES → IsClassCount c lists class (slice_index_or census.per_class class no_blocks)
-  pub frames : census.free_frames ≡ length lists.frames
+  pub each :
+      (l : Lists) → IsListed c.geometry (closed_state c).word l → (class : ℕ) → class < CLASSES
+      → IsClassCount c l class (slice_index_or census.per_class class no_blocks)
+  pub frames : (l : Lists) → IsListed c.geometry (closed_state c).word l → census.free_frames ≡ length l.frames
   pub units : census.free_units ≡ clear_units c.geometry (closed_state c)
 
 -- an active word names the descriptor

@@ -10,7 +10,8 @@ ghost use Rattle.sound_state.specs.Sums.{sum_below};
 ghost use Rattle.sound_state.specs.Superblocks.{info_for, is_bound};
 ghost use Rattle.sound_state.specs.Ties.{IsCovered};
 ghost use Rattle.live_heap.specs.Endings.{ClosedFields, IsResting};
-ghost use Rattle.heap_census.specs.Census.{IsActiveOf, IsSeen, closed_state, superblocks_of};
+ghost use Rattle.heap_census.specs.Census.{IsActiveOf, IsCensus, IsSeen, closed_state, superblocks_of};
+ghost use Rattle.heap_census.specs.declared.census.Census.{Census};
 
 /// In a closed heap a descriptor has a superblock exactly where its anchor says FULL or PARTIAL, or an
 /// active word names it. Of such words there is one, of the superblock's class.
@@ -35,4 +36,9 @@ pub fn frames_add_up()
 pub fn clear_units_are_uncovered()
     ensures { (c : ClosedFields) (unit : ℕ) → IsResting c → unit < c.geometry.units
         → (bit_at ((closed_state c).word name.Units) unit ≡ 0) ↔ (¬ IsCovered c.geometry (closed_state c) unit) }
+{}
+
+/// A closed heap has one census.
+pub fn closed_heaps_have_one_census()
+    ensures { (c : ClosedFields) (a b : Census) → IsCensus c a → IsCensus c b → a ≡ b }
 {}

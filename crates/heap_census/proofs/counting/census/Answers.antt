@@ -22,8 +22,8 @@ returns c =
       lists = l;
       listed = rests.parts.listed;
       classes = c.count_classes.ensures.classes;
-      each = c.count_classes.ensures.each l rests.parts.listed;
-      frames = c.count_frames.ensures l rests.parts.listed;
+      each = c.count_classes.ensures.each;
+      frames = c.count_frames.ensures;
       units =
           c.count_clear.ensures ∙ ap (λ word. clear word c.geometry-units.result.units) c.word.ensures
           ∙ ap (λ (g : Geometry). clear ((closed_state c.args.closed.now).word name.Units) g.units) c.geometry-units.ensures.value;
