@@ -3,33 +3,16 @@
 
 use edge_io::gate::NoGate;
 use edge_io::real::{StdSink, StdSource};
-use run::run;
-use status::{code_of, status_without_words};
+use exit::{code_of, status_without_words};
 use std::alloc::Global;
 use std::process::ExitCode;
 use std::rt::Env;
 use std::{env, io};
+use trace_commands::run::run;
 
-mod answer;
-mod census;
-mod closing;
-mod command;
-mod driven;
-mod input;
-mod made;
-mod output;
-mod parsing;
-mod run;
-mod status;
-mod steps;
-mod stop;
-mod summary;
-mod tally;
+mod exit;
 #[cfg(test)]
 mod tests;
-mod threaded;
-mod told;
-mod wide;
 
 /// The words behind the program's name.
 fn words<R: Env + AllocGlobal>(rt: &R, alloc: Global) -> io::Result<Vec<String>> {

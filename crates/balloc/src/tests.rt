@@ -12,8 +12,6 @@ mod roomy;
 mod schedules;
 mod statuses;
 
-use crate::closing::Closing;
-use crate::run::{Ended, run};
 use edge_io::gate::NoGate;
 use edge_io::memory::MemorySink;
 use edge_io::source::Source;
@@ -21,6 +19,8 @@ use edge_io::steady::SteadySource;
 use std::alloc::{AllocError, Global};
 use std::sync::Wait;
 use std::thread::Threads;
+use trace_commands::closing::Closing;
+use trace_commands::run::{Ended, run};
 
 /// More bytes than any answer here has.
 const ROOM: usize = 32_768;

@@ -1,9 +1,9 @@
 //! Reports with what the closed heap holds.
 
 use super::{is_shared, run_on};
-use crate::status::REPORTED;
 use std::alloc::{AllocError, Global};
 use std::test::Fail;
+use trace_commands::status::REPORTED;
 
 /// The plain run: two superblocks are active, with 64 blocks each that are offered.
 #[test]

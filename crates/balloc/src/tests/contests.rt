@@ -1,9 +1,9 @@
 //! Lanes that all want what only one of them can have.
 
 use super::{is_shared, run_on};
-use crate::status::REPORTED;
 use std::alloc::{AllocError, Global};
 use std::test::Fail;
+use trace_commands::status::REPORTED;
 
 /// Sixteen lanes that each ask for all units of the heap.
 fn greedy_lanes(alloc: Global) -> Result<String, AllocError> {

@@ -1,9 +1,9 @@
 //! In which order operations pass a gate.
 
-use crate::told::schedule;
 use edge_io::gate::Gate;
 use std::cell::Cell;
 use std::test::Fail;
+use trace_commands::told::schedule;
 use trace_text::reading::read_trace;
 
 /// A gate that expects these operations of these lanes, in this order.

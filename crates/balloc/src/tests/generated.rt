@@ -1,10 +1,10 @@
 //! Commands on workloads, which read nothing.
 
 use super::{ROOM, is_shared, run_between, run_on, wide_sink};
-use crate::status::{REPORTED, WRITE_FAULT};
 use edge_io::memory::{MemorySink, MemorySource};
 use edge_io::source::Source;
 use std::test::Fail;
+use trace_commands::status::{REPORTED, WRITE_FAULT};
 use trace_text::limits::MAX_INPUT;
 use trace_text::printing::print_trace;
 use trace_text::reading::read_trace;

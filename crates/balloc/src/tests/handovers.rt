@@ -1,13 +1,13 @@
 //! Runs on a machine, one lane after another, where a lane takes what another one has put on a shelf. On
 //! threads it may come before that.
 
-use crate::command::Workload;
-use crate::driven::{DrivenRun, drive};
-use crate::summary::summary;
 use edge_io::gate::NoGate;
 use lane_outcomes::live::live_count;
 use lane_outcomes::report::report;
 use std::test::Fail;
+use trace_commands::command::Workload;
+use trace_commands::driven::{DrivenRun, drive};
+use trace_commands::summary::summary;
 use trace_text::limits::MAX_LANES;
 use trace_text::reading::read_trace;
 use workloads::kind::Kind;

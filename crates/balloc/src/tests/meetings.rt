@@ -2,13 +2,13 @@
 //! there, which lanes that run one after another never do.
 
 use super::{wide_sink, words_of};
-use crate::run::run;
-use crate::status::REPORTED;
 use edge_io::gate::Gate;
 use edge_io::steady::SteadySource;
 use std::alloc::{AllocError, Global};
 use std::sync::OnceLock;
 use std::test::Fail;
+use trace_commands::run::run;
+use trace_commands::status::REPORTED;
 
 /// How often a lane looks for the others before it goes on without them.
 const LOOKS: u32 = 100_000_000;

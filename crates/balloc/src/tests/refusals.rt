@@ -1,8 +1,8 @@
 //! Where a text is refused, and for which cause.
 
 use super::run_on;
-use crate::status::REFUSED;
 use std::test::Fail;
+use trace_commands::status::REFUSED;
 
 #[test]
 fn refused_texts_are_told(rt: HostRuntime) -> Result<(), Fail> {

@@ -1,9 +1,9 @@
 //! A trace with frames and turns to spare has one report, on threads and in any order of steps.
 
 use super::{is_shared, is_stepped, run_on};
-use crate::status::REPORTED;
 use std::alloc::{AllocError, Global};
 use std::test::Fail;
+use trace_commands::status::REPORTED;
 
 /// How many lanes the trace has.
 const LANES: u32 = 8;

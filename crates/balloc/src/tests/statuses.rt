@@ -1,12 +1,12 @@
 //! The statuses of words, of long inputs and of edges that fail.
 
 use super::{ROOM, run_between, wide_sink};
-use crate::status::{READ_FAULT, REFUSED, REPORTED, TOO_MANY, USAGE, WRITE_FAULT};
 use edge_io::memory::{MemorySink, MemorySource};
 use edge_io::sink::Sink;
 use edge_io::source::Source;
 use edge_io::steady::SteadySource;
 use std::test::Fail;
+use trace_commands::status::{READ_FAULT, REFUSED, REPORTED, TOO_MANY, USAGE, WRITE_FAULT};
 use trace_text::limits::MAX_INPUT;
 
 /// Words that are no command. The first call of each edge is the test's own: it is the one that fails,

@@ -1,7 +1,0 @@
-use Rattle.std.proofs.Common.{◌≡◌}
-use Rattle.std.specs.List.{flat_map, range_with_len}
-use Rattle.balloc.specs.Censuses.{line_of}
-use Rattle.balloc.proofs.census.class_lines.Given as goal
-
-abbrev pub invariant-loop-class : goal.invariant-loop-class
-invariant-loop-class l = l.lines.items ≡ flat_map (line_of l.fn.census) (range_with_len 0 l.class)

@@ -1,0 +1,158 @@
+-- The runs of traces, on a machine and on threads.
+use Rattle.std.proofs.Common.{ℕ, suc, ◌≡◌, ◌≤◌, ◌∷◌, ◌++◌, List, [], Some, length, map, refl, ap, ◌∙◌, subst, arith}
+use Rattle.heap_geometry.specs.declared.geometry.Geometry.{Geometry}
+use Rattle.pool_model.specs.declared.event.Event.{Event}
+use Rattle.pool_model.specs.Legal.{IsLegal, IsLegalWithoutCounts}
+use Rattle.pool_model.specs.Pool.{live_words, pool_of}
+use Rattle.pool_model.proofs.HistoryLemmas.{legal-weaker}
+use Rattle.trace_text.specs.declared.limits.TheConstants.{MAX_LANES}
+use Rattle.trace_text.specs.declared.trace.Op.{Op}
+use Rattle.trace_text.specs.declared.trace.Trace.{Trace}
+use Rattle.trace_text.specs.Traces.{IsTrace}
+use Rattle.step_core.specs.Cores.{CoreFields, IsCore}
+use Rattle.step_core.proofs.CoreLemmas.{core-sound}
+use Rattle.lane_outcomes.specs.declared.outcome.Outcome.{Outcome}
+use Rattle.lane_outcomes.specs.Fits.{LanesFit, OutcomesFit}
+use Rattle.lane_outcomes.specs.Passed.{AllPassed}
+use Rattle.lane_outcomes.specs.Report.{report_of}
+use Rattle.lane_runner.specs.Driven.{IsDriven}
+use Rattle.lane_runner.specs.Threads.{HaveRun}
+use Rattle.lane_runner.proofs.ClosedFits.{closed-fit}
+use Rattle.live_heap.specs.declared.heap.Heap.{Heap}
+use Rattle.live_heap.specs.declared.pass.Pass.{Pass}
+use Rattle.live_heap.specs.Endings.{ClosedFields, HasClosed, IsResting}
+use Rattle.live_heap.proofs.LawsClosed.{closed-legal}
+use Rattle.lane_outcomes.specs.LaneCounts.{as_one}
+use Rattle.roomy_traces.specs.Serial.{left_by, serial_outcomes, serial_report_of}
+use Rattle.roomy_traces.proofs.ReportLemmas.{live-left, one-report}
+use Rattle.roomy_traces.proofs.SerialLemmas.{outcomes-serial}
+use Rattle.trace_commands.specs.Answers.{IsRun, IsTold, make_text, replay_text, serial_make, serial_replay}
+use Rattle.trace_commands.specs.Summaries.{summary_with, trace_of}
+use Rattle.trace_commands.specs.Closings.{IsDrivenIn, IsShared, history_of, lost_by_threads, lost_of}
+use Rattle.trace_commands.specs.declared.closing.Closing.{Closing}
+use Rattle.trace_commands.specs.declared.closing.Closing.TheVariants.{Ran, Stepped}
+use Rattle.trace_commands.specs.declared.command.Workload.{Workload}
+use Rattle.trace_commands.proofs.SerialLemmas.{summaries-same}
+
+-- what a machine that was driven leaves
+pub run-of :
+    (passed : ℕ → ℕ → Type 0) (trace : Trace) (core : CoreFields) (outcomes : List (List Outcome))
+    → IsCore core → IsDriven trace trace.orders core outcomes → AllPassed passed trace.lanes
+    → IsRun passed trace (IsDrivenIn trace trace.orders) (Stepped core) outcomes
+run-of passed trace core outcomes is_core driven all_passed =
+    record {
+      heap = driven.geometry;
+      fit = driven.fit;
+      legal = let P : Geometry → Type 0 = λ g. IsLegal g core.events in subst P driven.geometry (core-sound core is_core).legal;
+      all_passed = all_passed;
+      kept_so = driven;
+    }
+
+-- what lanes on threads leave of their heap
+pub shared-run :
+    (passed : ℕ → ℕ → Type 0) (trace : Trace) (h : Heap) (passes : List Pass) (closed : ClosedFields) (outcomes : List (List Outcome))
+    → IsTrace trace → h.layout ≡ trace.heap → HaveRun trace h passes outcomes → HasClosed h passes closed → IsResting closed
+    → AllPassed passed trace.lanes → IsRun passed trace IsShared (Ran closed) outcomes
+shared-run passed trace h passes closed outcomes named laid run has_closed rests all_passed =
+    record {
+      heap = has_closed.heap ∙ laid;
+      fit = closed-fit trace h passes outcomes closed named laid run has_closed rests;
+      legal = let P : Geometry → Type 0 = λ g. IsLegal g closed.events in subst P (has_closed.heap ∙ laid) (closed-legal closed rests);
+      all_passed = all_passed;
+      kept_so = rests;
+    }
+
+-- what `replay` tells
+pub replay-told :
+    (passed : ℕ → ℕ → Type 0) (trace : Trace) (closed : ClosedFields) (outcomes : List (List Outcome)) (text : List ℕ)
+    → IsTrace trace → IsRun passed trace IsShared (Ran closed) outcomes
+    → ((history : List Event) (lost : ℕ) → IsLegal trace.heap history → OutcomesFit trace.heap history lost trace.lanes outcomes
+    → text ≡ report_of trace outcomes history)
+    → IsTold passed trace IsShared (replay_text trace) (serial_replay trace) (Some (Ran closed)) text
+replay-told passed trace closed outcomes text named run reports =
+    let told = reports closed.events (lost_by_threads closed) run.legal run.fit in
+    record {
+      outcomes = outcomes;
+      closing = Ran closed;
+      closed_is = refl;
+      run = run;
+      text_is = told;
+      roomy = λ roomy. told ∙ one-report trace closed.events (lost_by_threads closed) outcomes named roomy run.legal run.fit;
+    }
+
+-- what `schedule` and `census` tell: a report, and more lines behind it
+pub told-behind :
+    (passed : ℕ → ℕ → Type 0) (trace : Trace) (kept : Closing → List (List Outcome) → Type 0) (closing : Closing) (outcomes : List (List Outcome))
+    (more : Closing → List ℕ) (told lines text : List ℕ)
+    → IsTrace trace → IsRun passed trace kept closing outcomes
+    → ((history : List Event) (lost : ℕ) → IsLegal trace.heap history → OutcomesFit trace.heap history lost trace.lanes outcomes
+    → told ≡ report_of trace outcomes history)
+    → lines ≡ more closing → text ≡ told ++ lines
+    → IsTold passed trace kept (λ outcomes closing. report_of trace outcomes (history_of closing) ++ more closing)
+    (λ closing. serial_report_of trace ++ more closing) (Some closing) text
+told-behind passed trace kept closing outcomes more told lines text named run reports lines_are text_is =
+    let is = reports (history_of closing) (lost_of closing) run.legal run.fit in
+    let behind : (report : List ℕ) → told ≡ report → text ≡ report ++ more closing =
+    λ report same. text_is ∙ (ap (λ (l : List ℕ). l ++ lines) same ∙ ap (λ (l : List ℕ). report ++ l) lines_are) in
+    record {
+      outcomes = outcomes;
+      closing = closing;
+      closed_is = refl;
+      run = run;
+      text_is = behind (report_of trace outcomes (history_of closing)) is;
+      roomy =
+          λ roomy. behind (serial_report_of trace)
+          (is ∙ one-report trace (history_of closing) (lost_of closing) outcomes named roomy run.legal run.fit);
+    }
+
+-- lanes have as many lists of outcomes
+fit-lanes :
+    (g : Geometry) (history : List Event) (lost lane : ℕ) (lanes : List (List Op)) (outcomes : List (List Outcome))
+    → LanesFit g history lost lane lanes outcomes → length outcomes ≡ length lanes
+fit-lanes g history lost lane [] [] fit = refl
+fit-lanes g history lost lane [] (results ∷ outcomes) fit = absurd fit
+fit-lanes g history lost lane (operations ∷ lanes) [] fit = absurd fit
+fit-lanes g history lost lane (operations ∷ lanes) (results ∷ outcomes) fit = ap suc (fit-lanes g history lost (suc lane) lanes outcomes fit.1)
+
+pub few-outcomes :
+    (passed : ℕ → ℕ → Type 0) (trace : Trace) (closed : ClosedFields) (outcomes : List (List Outcome))
+    → IsTrace trace → IsRun passed trace IsShared (Ran closed) outcomes → length outcomes ≤ MAX_LANES
+few-outcomes passed trace closed outcomes named run =
+    omega (arith, named.few_lanes, fit-lanes trace.heap closed.events (lost_by_threads closed) 0 trace.lanes outcomes run.fit.lanes_fit)
+
+-- what `make` tells
+pub make-told :
+    (passed : ℕ → ℕ → Type 0) (workload : Workload) (trace : Trace) (closed : ClosedFields) (outcomes : List (List Outcome)) (live words : ℕ)
+    (text : List ℕ) → trace ≡ trace_of workload → IsTrace trace → IsRun passed trace IsShared (Ran closed) outcomes
+    → ((history : List Event) (lost : ℕ) → IsTrace trace → IsLegalWithoutCounts trace.heap history
+    → OutcomesFit trace.heap history lost trace.lanes outcomes
+    → (live ≡ length (pool_of history)) × (words ≡ live_words (pool_of history)))
+    → text ≡ summary_with workload trace.lanes outcomes live words
+    → IsTold passed (trace_of workload) IsShared (make_text workload) (serial_make workload) (Some (Ran closed)) text
+make-told passed workload trace closed outcomes live words text is named run counts text_is =
+    let P : Trace → Type 0 = λ t. IsRun passed t IsShared (Ran closed) outcomes in
+    let made = trace_of workload in
+    let made_run = subst P is run in
+    let made_named = subst IsTrace is named in
+    let counted = counts closed.events (lost_by_threads closed) named (legal-weaker trace.heap closed.events run.legal) run.fit in
+    let told : text ≡ make_text workload outcomes (Ran closed) =
+    text_is
+    ∙ ap (λ (t : Trace). summary_with workload t.lanes outcomes live words) is
+    ∙ ap (λ n. summary_with workload made.lanes outcomes n words) counted.0
+    ∙ ap (λ n. summary_with workload made.lanes outcomes (length (pool_of closed.events)) n) counted.1
+    in
+    record {
+      outcomes = outcomes;
+      closing = Ran closed;
+      closed_is = refl;
+      run = made_run;
+      text_is = told;
+      roomy =
+          λ roomy. told
+          ∙ (summaries-same workload made.lanes outcomes (map serial_outcomes made.lanes) (length (pool_of closed.events)) (live_words (pool_of closed.events))
+          (outcomes-serial made closed.events (lost_by_threads closed) outcomes made_named roomy made_run.legal made_run.fit)
+          ∙ (ap (λ n. summary_with workload made.lanes (map serial_outcomes made.lanes) n (live_words (pool_of closed.events)))
+          (live-left made closed.events (lost_by_threads closed) outcomes made_named roomy made_run.legal made_run.fit).0
+          ∙ ap (λ n. summary_with workload made.lanes (map serial_outcomes made.lanes) (left_by as_one made.lanes) n)
+          (live-left made closed.events (lost_by_threads closed) outcomes made_named roomy made_run.legal made_run.fit).1));
+    }

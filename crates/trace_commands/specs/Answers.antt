@@ -1,0 +1,110 @@
+-- What the program answers to a command and its input.
+use Rattle.std.specs.Prelude.{ℕ, ◌≡◌, ◌≢◌, ◌⊎◌, ◌∷◌, ◌++◌, List, [], Option, None, Some, true, codes}
+use Rattle.std.specs.Fmt.{decimal}
+use Rattle.pool_model.specs.Legal.{IsLegal}
+use Rattle.trace_text.specs.declared.trace.Trace.{Trace}
+use Rattle.trace_text.specs.Reading.{IsRefused, Read, reading_of}
+use Rattle.trace_text.specs.Text.{canonical_of, line}
+use Rattle.lane_outcomes.specs.declared.outcome.Outcome.{Outcome}
+use Rattle.lane_outcomes.specs.Fits.{OutcomesFit}
+use Rattle.lane_outcomes.specs.Passed.{AllPassed}
+use Rattle.lane_outcomes.specs.Report.{report_of}
+use Rattle.roomy_traces.specs.Roomy.{IsRoomy}
+use Rattle.roomy_traces.specs.Serial.{serial_report_of}
+use Rattle.heap_census.specs.declared.census.Census.{Census as Counts}
+use Rattle.workloads.specs.declared.kind.Kind.TheVariants.{Pipeline}
+use Rattle.trace_commands.specs.Censuses.{IsCensusOf, census_text}
+use Rattle.trace_commands.specs.Closings.{IsDrivenIn, IsShared, geometry_of, history_of, lost_of, steps_of}
+use Rattle.trace_commands.specs.Command.{has_input}
+use Rattle.trace_commands.specs.Summaries.{serial_summary_of, summary_of, trace_of}
+use Rattle.trace_commands.specs.declared.closing.Closing.{Closing}
+use Rattle.trace_commands.specs.declared.command.Command.{Command}
+use Rattle.trace_commands.specs.declared.command.Command.TheVariants.{Replay, Schedule, Census, Make, Print}
+use Rattle.trace_commands.specs.declared.command.Workload.{Workload}
+use Rattle.trace_commands.specs.declared.status.TheConstants.{REPORTED, REFUSED}
+
+-- the lanes of a trace ran to their ends on this heap, which is the one that the trace asks for: each lane's outcomes
+-- fit its operations and the one history of the heap, which is legal; each operation passed the gate; and the heap was
+-- kept so, by a machine that made the steps in an order, or by threads
+pub record IsRun (passed : ℕ → ℕ → Type 0) (trace : Trace) (kept : Closing → List (List Outcome) → Type 0) (closing : Closing) (outcomes : List (List Outcome)) : Type 0 where
+  pub heap : geometry_of closing ≡ trace.heap
+  pub fit : OutcomesFit trace.heap (history_of closing) (lost_of closing) trace.lanes outcomes
+  pub legal : IsLegal trace.heap (history_of closing)
+  pub all_passed : AllPassed passed trace.lanes
+  pub kept_so : kept closing outcomes
+
+-- a trace was run, and the text tells this of its outcomes and of the heap that it left; where the trace is roomy, the text is
+-- the one that is computed lane by lane, whatever the order of the steps was
+pub record IsTold (passed : ℕ → ℕ → Type 0) (trace : Trace) (kept : Closing → List (List Outcome) → Type 0) (told : List (List Outcome) → Closing → List ℕ) (serial : Closing → List ℕ) (closed : Option Closing) (text : List ℕ) : Type 0 where
+  pub outcomes : List (List Outcome)
+  pub closing : Closing
+  pub closed_is : closed ≡ Some closing
+  pub run : IsRun passed trace kept closing outcomes
+  pub text_is : text ≡ told outcomes closing
+  pub roomy : IsRoomy trace → text ≡ serial closing
+
+-- what `replay` tells of a run, what `schedule` and `census` add to it, and what `make` tells
+abbrev pub replay_text : Trace → List (List Outcome) → Closing → List ℕ
+replay_text trace outcomes closing = report_of trace outcomes (history_of closing)
+
+abbrev pub schedule_text : Trace → List (List Outcome) → Closing → List ℕ
+schedule_text trace outcomes closing = report_of trace outcomes (history_of closing) ++ steps_of closing
+
+abbrev pub counted_text : Trace → Counts → List (List Outcome) → Closing → List ℕ
+counted_text trace counts outcomes closing = report_of trace outcomes (history_of closing) ++ census_text counts
+
+abbrev pub make_text : Workload → List (List Outcome) → Closing → List ℕ
+make_text workload outcomes closing = summary_of workload outcomes (history_of closing)
+
+-- what they tell of a roomy trace: the machine's steps and the heap's census are still those of the run
+abbrev pub serial_replay : Trace → Closing → List ℕ
+serial_replay trace closing = serial_report_of trace
+
+abbrev pub serial_schedule : Trace → Closing → List ℕ
+serial_schedule trace closing = serial_report_of trace ++ steps_of closing
+
+abbrev pub serial_counted : Trace → Counts → Closing → List ℕ
+serial_counted trace counts closing = serial_report_of trace ++ census_text counts
+
+abbrev pub serial_make : Workload → Closing → List ℕ
+serial_make workload closing = serial_summary_of workload
+
+-- the summary of a workload is the one that is computed lane by lane, whatever the order of the steps was; but for the
+-- pipeline, whose lanes hand blocks over
+abbrev pub HasOneSummary : Workload → List ℕ → Type 0
+HasOneSummary workload text = workload.kind ≢ Pipeline → text ≡ serial_summary_of workload
+
+-- what each command writes where nothing is refused: `replay` runs the trace that the bytes are read as on threads,
+-- `schedule` on a machine in the order of its order runs, `census` on threads and counts the closed heap, and `make` the trace
+-- of its workload on threads; `print` runs none
+abbrev pub IsReport : (ℕ → ℕ → Type 0) → Command → List ℕ → Option Closing → List ℕ → Type 0
+IsReport passed Replay bytes closed text =
+    (trace : Trace) × (reading_of bytes ≡ Read trace) × IsTold passed trace IsShared (replay_text trace) (serial_replay trace) closed text
+IsReport passed Schedule bytes closed text =
+    (trace : Trace) × (reading_of bytes ≡ Read trace)
+    × IsTold passed trace (IsDrivenIn trace trace.orders) (schedule_text trace) (serial_schedule trace) closed text
+IsReport passed Census bytes closed text =
+    (trace : Trace) × (reading_of bytes ≡ Read trace) × (counts : Counts) × IsCensusOf closed counts
+    × IsTold passed trace IsShared (counted_text trace counts) (serial_counted trace counts) closed text
+IsReport passed (Make workload) bytes closed text =
+    IsTold passed (trace_of workload) IsShared (make_text workload) (serial_make workload) closed text × HasOneSummary workload text
+IsReport passed (Print workload) bytes closed text = (closed ≡ None) × (text ≡ canonical_of (trace_of workload))
+
+-- the line that tells where a text is refused, and for which cause
+abbrev pub refusal_line : ℕ → ℕ → List ℕ
+refusal_line number cause = line (codes "line" ∷ decimal number ∷ codes "cause" ∷ decimal cause ∷ [])
+
+-- the bytes that a command took are refused at a line for a cause, no heap was run, and the text tells so
+pub record IsRefusal (command : Command) (bytes : List ℕ) (closed : Option Closing) (text : List ℕ) : Type 0 where
+  pub takes : has_input command ≡ true
+  pub number : ℕ
+  pub cause : ℕ
+  pub refused : IsRefused number cause (reading_of bytes)
+  pub closed_is : closed ≡ None
+  pub text_is : text ≡ refusal_line number cause
+
+-- the answer to a command and these bytes: what it writes, or their refusal
+abbrev pub IsAnswerTo : (ℕ → ℕ → Type 0) → Command → List ℕ → ℕ → Option Closing → List ℕ → Type 0
+IsAnswerTo passed command bytes status closed text =
+    ((status ≡ REPORTED) × IsReport passed command bytes closed text)
+    ⊎ ((status ≡ REFUSED) × IsRefusal command bytes closed text)

@@ -1,0 +1,73 @@
+-- The heap that a run leaves.
+use Rattle.std.specs.Prelude.{ℕ, ◌∷◌, List, [], codes}
+use Rattle.std.specs.Fmt.{decimal}
+use Rattle.heap_geometry.specs.declared.geometry.Geometry.{Geometry}
+use Rattle.pool_model.specs.declared.event.Event.{Event}
+use Rattle.errand_steps.specs.Errands.{ErrandFields}
+use Rattle.sound_state.specs.Contention.{lost_of as lost_by}
+use Rattle.sound_state.specs.Sums.{callers_sum}
+use Rattle.step_core.specs.Cores.{CoreFields, errand_at}
+use Rattle.trace_text.specs.Text.{line}
+use Rattle.trace_text.specs.declared.trace.OrderRun.{OrderRun}
+use Rattle.trace_text.specs.declared.trace.Trace.{Trace}
+use Rattle.lane_outcomes.specs.declared.outcome.Outcome.{Outcome}
+use Rattle.lane_runner.specs.Driven.{IsDriven, lost_by_all}
+use Rattle.trace_commands.specs.declared.closing.Closing.{Closing}
+use Rattle.live_heap.specs.Endings.{ClosedFields, IsResting}
+use Rattle.trace_commands.specs.declared.closing.Closing.TheVariants.{Plain, Stepped, Ran}
+
+-- the numbers that the heap was opened with
+abbrev pub geometry_of : Closing → Geometry
+geometry_of (Plain pool) = pool.geometry
+geometry_of (Stepped core) = core.geometry
+geometry_of (Ran closed) = closed.geometry
+
+-- its history
+abbrev pub history_of : Closing → List Event
+history_of (Plain pool) = pool.events
+history_of (Stepped core) = core.events
+history_of (Ran closed) = closed.events
+
+-- what all callers of a closed heap lost, as a whole number
+abbrev pub lost_by_threads : ClosedFields → ℕ
+lost_by_threads closed = callers_sum closed.geometry lost_by (errand_at closed.errands)
+
+-- the exchanges that its callers lost, as a whole number
+abbrev pub lost_of : Closing → ℕ
+lost_of (Plain pool) = 0
+lost_of (Stepped core) = lost_by_all core
+lost_of (Ran closed) = lost_by_threads closed
+
+-- a machine kept the heap: the lanes of the trace ran on it from its opening on, in the order of these order runs
+-- and then one lane after another, and had these outcomes
+abbrev pub IsDrivenIn : Trace → List OrderRun → Closing → List (List Outcome) → Type 0
+IsDrivenIn trace orders (Plain pool) outcomes = ⊥
+IsDrivenIn trace orders (Stepped core) outcomes = IsDriven trace orders core outcomes
+IsDrivenIn trace orders (Ran closed) outcomes = ⊥
+
+-- threads shared the heap: moves of its callers led to it from its opening on, in the order that the hardware made, and all callers are in no call
+abbrev pub IsShared : Closing → List (List Outcome) → Type 0
+IsShared (Plain pool) outcomes = ⊥
+IsShared (Stepped core) outcomes = ⊥
+IsShared (Ran closed) outcomes = IsResting closed
+
+-- what all callers of a machine cleared, as a whole number
+abbrev pub cleared_of : ErrandFields → ℕ
+cleared_of errand = errand.cleared
+
+abbrev pub cleared_by_all : CoreFields → ℕ
+cleared_by_all core = callers_sum core.geometry cleared_of (errand_at core.errands)
+
+-- the line of the steps that a machine made, and of what its callers lost and cleared
+abbrev pub steps_line : CoreFields → List ℕ
+steps_line core =
+    line (
+    codes "steps" ∷ decimal core.steps ∷ codes "lost" ∷ decimal (lost_by_all core) ∷ codes "cleared"
+    ∷ decimal (cleared_by_all core) ∷ []
+    )
+
+-- a pool makes no steps, and those of threads are not counted
+abbrev pub steps_of : Closing → List ℕ
+steps_of (Plain pool) = []
+steps_of (Stepped core) = steps_line core
+steps_of (Ran closed) = []
