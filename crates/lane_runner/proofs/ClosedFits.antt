@@ -25,12 +25,12 @@ use Rattle.live_heap.specs.declared.pass.Pass.{Pass}
 use Rattle.live_heap.specs.Endings.{ClosedFields, HasClosed, HasTakenIn, IsResting}
 use Rattle.live_heap.specs.Passes.{seen}
 use Rattle.live_heap.proofs.LawsClosed.{closed-legal}
-use Rattle.lane_runner.specs.declared.stage.Stage.TheVariants as stage
+use Rattle.lane_steps.specs.declared.stage.Stage.TheVariants as stage
 use Rattle.lane_runner.specs.Running.{operations_in}
 use Rattle.lane_runner.specs.Threads.{HaveRun}
-use Rattle.lane_runner.proofs.BesideLemmas.{lane-beside}
+use Rattle.lane_steps.proofs.BesideLemmas.{lane-beside}
 use Rattle.lane_runner.proofs.DrivenLemmas.{fits-all}
-use Rattle.lane_runner.proofs.EndedLemmas.{lane-fits}
+use Rattle.lane_steps.proofs.EndedLemmas.{lane-fits}
 use Rattle.lane_runner.proofs.RunLanes.{element_at}
 
 -- what follows a caller's events adds none, if it has no more of them

@@ -36,19 +36,20 @@ use Rattle.lane_outcomes.specs.declared.outcome.Outcome.{Outcome}
 use Rattle.lane_outcomes.specs.Fits.{Fits, LanesFit}
 use Rattle.lane_outcomes.specs.Passed.{AllPassed}
 use Rattle.lane_outcomes.specs.Standing.{setting_in}
-use Rattle.lane_runner.specs.declared.lane.LaneState.{LaneState}
-use Rattle.lane_runner.specs.declared.stage.Stage.TheVariants as stage
-use Rattle.lane_runner.specs.Driven.{IsDriven, calls_of, lost_by_all, steppers_of}
+use Rattle.lane_steps.specs.declared.lane.LaneState.{LaneState}
+use Rattle.lane_steps.specs.declared.stage.Stage.TheVariants as stage
+use Rattle.lane_steps.specs.Begun.{calls_of}
+use Rattle.lane_runner.specs.Driven.{IsDriven, lost_by_all, steppers_of}
 use Rattle.lane_runner.specs.Orders.{InOrder, InTurn}
-use Rattle.lane_runner.specs.Paths.{Leads, begun_count}
+use Rattle.lane_steps.specs.Paths.{Leads, begun_count}
 use Rattle.lane_runner.specs.Running.{HasEnded, HasPassed, HaveFinished, HaveFollowed, IsBelow, IsOnScriptOf, LanesRan, LanesStand, StandsOn, operations_in}
-use Rattle.lane_runner.specs.Scripts.{IsOnScript, Scripts}
-use Rattle.lane_runner.specs.States.{AreNew, IsNew, progress_of}
-use Rattle.lane_runner.proofs.EndedLemmas.{lane-between, lane-fits, lane-new, script-new}
+use Rattle.lane_steps.specs.Scripts.{IsOnScript, Scripts}
+use Rattle.lane_steps.specs.States.{AreNew, IsNew, progress_of}
+use Rattle.lane_steps.proofs.EndedLemmas.{lane-between, lane-fits, lane-new, script-new}
 use Rattle.lane_runner.proofs.OrderLemmas.{lanes-more}
 use Rattle.lane_runner.proofs.RunLanes.{contains-none, element_at}
 use Rattle.lane_runner.proofs.RunLemmas.{steppers-append}
-use Rattle.lane_runner.proofs.ScriptLemmas.{script-whole}
+use Rattle.lane_steps.proofs.ScriptLemmas.{script-whole}
 
 -- moves of one machine after the other count their steps
 pub leads-counted :

@@ -13,8 +13,9 @@ use Rattle.heap_geometry.specs.declared.geometry.Geometry.{Geometry}
 use Rattle.step_core.specs.Cores.{CoreFields, state_of}
 use Rattle.lane_engine.specs.Machines.{MovesCore}
 use Rattle.lane_engine.specs.declared.over_core.Grip.{Grip}
-use Rattle.lane_runner.specs.declared.lane.LaneState.{LaneState}
-use Rattle.lane_runner.specs.Driven.{Drives, calls_of, steppers_of}
+use Rattle.lane_steps.specs.declared.lane.LaneState.{LaneState}
+use Rattle.lane_steps.specs.Begun.{calls_of}
+use Rattle.lane_runner.specs.Driven.{Drives, steppers_of}
 use Rattle.lane_runner.specs.Orders.{InOrder, InTurn}
 use Rattle.lane_runner.specs.Running.{HasEnded, HasEndedIn, HasPassed, HasRun, HasRunOut, HasRunSome, HaveFinished, HaveFollowed, IsBelow, IsOnScriptOf, LanesRan, LanesStand, OneRanOut, operations_in}
 use Rattle.lane_runner.proofs.RunLemmas.{calls-append, leads-append, steppers-append}

@@ -24,14 +24,15 @@ use Rattle.step_core.specs.Cores.{CoreFields, errand_at, state_of}
 use Rattle.step_core.proofs.CoreLemmas.{core-sound}
 use Rattle.step_core.specs.Moments.{HasSeenMore}
 use Rattle.lane_engine.specs.declared.over_core.Grip.{Grip}
-use Rattle.lane_runner.specs.declared.lane.LaneState.{LaneState}
-use Rattle.lane_runner.specs.Driven.{Drives, IsOnItsWay, calls_of, mover_of, steppers_of}
-use Rattle.lane_runner.specs.Paths.{IsBy, Leads}
+use Rattle.lane_steps.specs.declared.lane.LaneState.{LaneState}
+use Rattle.lane_steps.specs.Begun.{calls_of}
+use Rattle.lane_runner.specs.Driven.{Drives, IsOnItsWay, mover_of, steppers_of}
+use Rattle.lane_steps.specs.Paths.{IsBy, Leads}
 use Rattle.lane_runner.specs.Running.{HasEnded, HasEndedIn, HasPassed, HasRun, IsBelow, IsOnScriptOf, LanesStand, OneRan, StandsOn, operations_in}
-use Rattle.lane_runner.specs.Lanes.{IsLane}
-use Rattle.lane_runner.specs.Scripts.{IsOnScript}
-use Rattle.lane_runner.specs.States.{IsLaneOf, progress_of}
-use Rattle.lane_runner.proofs.BesideLemmas.{lane-beside, lane_of-beside}
+use Rattle.lane_steps.specs.Lanes.{IsLane}
+use Rattle.lane_steps.specs.Scripts.{IsOnScript}
+use Rattle.lane_steps.specs.States.{IsLaneOf, progress_of}
+use Rattle.lane_steps.proofs.BesideLemmas.{lane-beside, lane_of-beside}
 use Rattle.lane_runner.proofs.RunLemmas.{calls-append, seen-none}
 
 -- the lane at a place, after one was replaced

@@ -18,14 +18,15 @@ use Rattle.step_core.specs.Cores.{CoreFields, IsCore, errand_at}
 use Rattle.step_core.specs.Moments.{HasSeenMore}
 use Rattle.lane_engine.specs.Machines.{MovesCore}
 use Rattle.lane_engine.specs.declared.over_core.Grip.{Grip}
-use Rattle.lane_runner.specs.declared.lane.LaneState.{LaneState}
-use Rattle.lane_runner.specs.declared.stage.Stage.TheVariants as stage
-use Rattle.lane_runner.specs.Driven.{calls_of, steppers_of}
-use Rattle.lane_runner.specs.Lanes.{IsAt}
-use Rattle.lane_runner.specs.Paths.{IsBy, Leads, FirstPassed, HasAdvanced, begun_count}
+use Rattle.lane_steps.specs.declared.lane.LaneState.{LaneState}
+use Rattle.lane_steps.specs.declared.stage.Stage.TheVariants as stage
+use Rattle.lane_steps.specs.Begun.{calls_of}
+use Rattle.lane_runner.specs.Driven.{steppers_of}
+use Rattle.lane_steps.specs.Lanes.{IsAt}
+use Rattle.lane_steps.specs.Paths.{IsBy, Leads, FirstPassed, HasAdvanced, begun_count}
 use Rattle.lane_runner.specs.Running.{HasEnded, HasPassed, HasRun, IsOnScriptOf, StandsOn}
-use Rattle.lane_runner.specs.Scripts.{script_left}
-use Rattle.lane_runner.specs.States.{IsLaneOf, progress_of}
+use Rattle.lane_steps.specs.Scripts.{script_left}
+use Rattle.lane_steps.specs.States.{IsLaneOf, progress_of}
 
 -- moves one after the other
 pub leads-append :

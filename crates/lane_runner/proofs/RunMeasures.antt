@@ -57,15 +57,15 @@ use Rattle.lane_engine.specs.declared.over_core.Grip.{Grip}
 use Rattle.lane_outcomes.specs.declared.outcome.Outcome.{Outcome}
 use Rattle.lane_outcomes.specs.declared.registers.Held.{Held}
 use Rattle.lane_outcomes.specs.Lane.{State as Standing}
-use Rattle.lane_runner.specs.declared.lane.LaneState.{LaneState}
-use Rattle.lane_runner.specs.declared.stage.Stage.{Stage}
-use Rattle.lane_runner.specs.declared.stage.Stage.TheVariants as stage
-use Rattle.lane_runner.specs.Lanes.{IsAt}
-use Rattle.lane_runner.specs.Operations.{IsDoing}
-use Rattle.lane_runner.specs.Paths.{Leads, HasAdvanced, StaysInCall}
+use Rattle.lane_steps.specs.declared.lane.LaneState.{LaneState}
+use Rattle.lane_steps.specs.declared.stage.Stage.{Stage}
+use Rattle.lane_steps.specs.declared.stage.Stage.TheVariants as stage
+use Rattle.lane_steps.specs.Lanes.{IsAt}
+use Rattle.lane_steps.specs.Operations.{IsDoing}
+use Rattle.lane_steps.specs.Paths.{Leads, HasAdvanced, StaysInCall}
 use Rattle.lane_runner.specs.Running.{StandsOn}
-use Rattle.lane_runner.specs.Scripts.{script_left}
-use Rattle.lane_runner.specs.States.{progress_of}
+use Rattle.lane_steps.specs.Scripts.{script_left}
+use Rattle.lane_steps.specs.States.{progress_of}
 
 -- a take isn't under way in a superblock, nor at a stack, at the descriptors or at a partial superblock
 block-none : (caller k : ℕ) (p : BlockPoint) (o : Continuation) (added : List Event) → SoFar caller (take k) (block_stage p o) added → ⊥

@@ -10,12 +10,12 @@ use Rattle.live_heap.specs.declared.block.Block.{Block}
 use Rattle.live_heap.specs.declared.heap.Heap.{Heap}
 use Rattle.live_heap.specs.declared.pass.Pass.{Pass}
 use Rattle.live_heap.specs.Passes.{AreFrom, IsFresh, IsOf, seen}
-use Rattle.lane_runner.specs.declared.lane.LaneState.{LaneState}
+use Rattle.lane_steps.specs.declared.lane.LaneState.{LaneState}
 use Rattle.lane_runner.specs.declared.run_lanes.LaneThread.{LaneThread}
-use Rattle.lane_runner.specs.declared.stage.Stage.TheVariants as stage
-use Rattle.lane_runner.specs.Paths.{FirstPassed, begun_count}
+use Rattle.lane_steps.specs.declared.stage.Stage.TheVariants as stage
+use Rattle.lane_steps.specs.Paths.{FirstPassed, begun_count}
 use Rattle.lane_runner.specs.Running.{operations_in}
-use Rattle.lane_runner.specs.States.{IsLaneOf, IsNew}
+use Rattle.lane_steps.specs.States.{IsLaneOf, IsNew}
 use Rattle.lane_runner.specs.Threads.{AreDone, AreEnded, AreReady, HasEnded, HasRunOver, IsDone, IsReady, StandsOver}
 use Rattle.lane_runner.proofs.ThreadLemmas.{done-ended, down-pop, down-push, ended-push, from-pop, ready}
 

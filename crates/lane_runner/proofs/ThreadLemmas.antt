@@ -19,16 +19,16 @@ use Rattle.live_heap.specs.declared.block.Block.{Block}
 use Rattle.live_heap.specs.declared.heap.Heap.{Heap}
 use Rattle.live_heap.specs.declared.pass.Pass.{Pass}
 use Rattle.live_heap.specs.Passes.{AreFrom, IsFresh, IsOf, seen}
-use Rattle.lane_runner.specs.declared.lane.LaneState.{LaneState}
+use Rattle.lane_steps.specs.declared.lane.LaneState.{LaneState}
 use Rattle.lane_runner.specs.declared.run_lanes.LaneThread.{LaneThread}
-use Rattle.lane_runner.specs.declared.stage.Stage.{Stage}
-use Rattle.lane_runner.specs.declared.stage.Stage.TheVariants as stage
-use Rattle.lane_runner.specs.Lanes.{IsLane}
-use Rattle.lane_runner.specs.Paths.{FirstPassed, begun_count, held_blocks}
+use Rattle.lane_steps.specs.declared.stage.Stage.{Stage}
+use Rattle.lane_steps.specs.declared.stage.Stage.TheVariants as stage
+use Rattle.lane_steps.specs.Lanes.{IsLane}
+use Rattle.lane_steps.specs.Paths.{FirstPassed, begun_count, held_blocks}
 use Rattle.lane_runner.specs.Running.{operations_in}
-use Rattle.lane_runner.specs.States.{IsNew}
+use Rattle.lane_steps.specs.States.{IsNew}
 use Rattle.lane_runner.specs.Threads.{AreDone, AreDown, AreEnded, AreReady, HasEnded, HasRunThrough, HaveRun, IsDone, IsReady, IsSeated, StandsOver}
-use Rattle.lane_runner.proofs.EndedLemmas.{lane-between, lane-new}
+use Rattle.lane_steps.proofs.EndedLemmas.{lane-between, lane-new}
 
 -- elements with their numbers: one more behind them, and the last one gone
 module _ {X : Type 0} (P : ℕ → X → Type 0) where

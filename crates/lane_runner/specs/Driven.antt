@@ -1,5 +1,5 @@
 -- The run of a trace on a machine, lane by lane as its order runs say.
-use Rattle.std.specs.Prelude.{ℕ, ◌≡◌, ◌≢◌, ◌<◌, ◌-◌, ◌^◌, ◌==◌, List, [], ◌∷◌, ◌++◌, Option, min, count_by, length, replicate, None, if◌then◌else◌}
+use Rattle.std.specs.Prelude.{ℕ, ◌≡◌, ◌≢◌, ◌<◌, ◌-◌, ◌^◌, List, [], ◌∷◌, ◌++◌, Option, min, count_by, length, replicate, None}
 use Rattle.std.specs.List.{slice_index_or}
 use Rattle.trace_text.specs.declared.limits.TheConstants.{REGISTERS}
 use Rattle.trace_text.specs.declared.trace.Op.{Op}
@@ -19,16 +19,12 @@ use Rattle.lane_outcomes.specs.declared.outcome.Outcome.{Outcome}
 use Rattle.lane_outcomes.specs.declared.registers.Held.{Held}
 use Rattle.lane_outcomes.specs.Fits.{OutcomesFit}
 use Rattle.lane_runner.specs.Orders.{InOrder}
-use Rattle.lane_runner.specs.declared.stage.Stage.{Stage}
-use Rattle.lane_runner.specs.Lanes.{IsLane}
-use Rattle.lane_runner.specs.Scripts.{IsOnScript, Scripts}
+use Rattle.lane_steps.specs.Begun.{calls_of}
+use Rattle.lane_steps.specs.declared.stage.Stage.{Stage}
+use Rattle.lane_steps.specs.Lanes.{IsLane}
+use Rattle.lane_steps.specs.Scripts.{IsOnScript, Scripts}
 
--- the calls that a caller begins among moves, and who makes each of their steps
-abbrev pub calls_of : ℕ → List Move → List Call
-calls_of caller [] = []
-calls_of caller (begins other call ∷ moves) = if other == caller then call ∷ calls_of caller moves else calls_of caller moves
-calls_of caller (steps other ∷ moves) = calls_of caller moves
-
+-- who makes each of the steps among moves
 abbrev pub steppers_of : List Move → List ℕ
 steppers_of [] = []
 steppers_of (begins caller call ∷ moves) = steppers_of moves

@@ -1,10 +1,4 @@
-pub mod Advances
 pub mod Driven
-pub mod Lanes
-pub mod Operations
 pub mod Orders
-pub mod Paths
 pub mod Running
-pub mod Scripts
-pub mod States
 pub mod Threads

@@ -12,13 +12,14 @@ use Rattle.step_core.specs.Cores.{CoreFields, IsCore, errand_at, state_of}
 use Rattle.step_core.specs.Moments.{HasSeenMore}
 use Rattle.lane_engine.specs.Machines.{MovesCore}
 use Rattle.lane_engine.specs.declared.over_core.Grip.{Grip}
-use Rattle.lane_runner.specs.declared.lane.LaneState.{LaneState}
-use Rattle.lane_runner.specs.declared.stage.Stage.TheVariants as stage
-use Rattle.lane_runner.specs.Driven.{Drives, calls_of, steppers_of}
+use Rattle.lane_steps.specs.declared.lane.LaneState.{LaneState}
+use Rattle.lane_steps.specs.declared.stage.Stage.TheVariants as stage
+use Rattle.lane_steps.specs.Begun.{calls_of}
+use Rattle.lane_runner.specs.Driven.{Drives, steppers_of}
 use Rattle.lane_runner.specs.Orders.{InOrder, InTurn}
-use Rattle.lane_runner.specs.Paths.{IsBy, Leads, FirstPassed, begun_count}
-use Rattle.lane_runner.specs.Scripts.{IsOnScript}
-use Rattle.lane_runner.specs.States.{IsLaneOf, progress_of}
+use Rattle.lane_steps.specs.Paths.{IsBy, Leads, FirstPassed, begun_count}
+use Rattle.lane_steps.specs.Scripts.{IsOnScript}
+use Rattle.lane_steps.specs.States.{IsLaneOf, progress_of}
 
 -- no operation of the lane is under way, and none is left
 pub record HasEnded (operations : List Op) (lane : LaneState Grip) : Type 0 where

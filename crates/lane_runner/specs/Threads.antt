@@ -12,14 +12,14 @@ use Rattle.live_heap.specs.declared.block.Block.{Block}
 use Rattle.live_heap.specs.declared.heap.Heap.{Heap}
 use Rattle.live_heap.specs.declared.pass.Pass.{Pass}
 use Rattle.live_heap.specs.Passes.{IsFresh, IsOf, seen}
-use Rattle.lane_runner.specs.declared.lane.LaneState.{LaneState}
+use Rattle.lane_steps.specs.declared.lane.LaneState.{LaneState}
 use Rattle.lane_runner.specs.declared.run_lanes.LaneThread.{LaneThread}
 use Rattle.lane_runner.specs.declared.run_lanes.Reserved.{Reserved}
-use Rattle.lane_runner.specs.declared.stage.Stage.TheVariants as stage
-use Rattle.lane_runner.specs.Lanes.{IsLane}
-use Rattle.lane_runner.specs.Paths.{FirstPassed, begun_count}
+use Rattle.lane_steps.specs.declared.stage.Stage.TheVariants as stage
+use Rattle.lane_steps.specs.Lanes.{IsLane}
+use Rattle.lane_steps.specs.Paths.{FirstPassed, begun_count}
 use Rattle.lane_runner.specs.Running.{operations_in}
-use Rattle.lane_runner.specs.States.{AreNew, IsLaneOf}
+use Rattle.lane_steps.specs.States.{AreNew, IsLaneOf}
 
 -- a pass whose lane has ended with these outcomes
 pub record HasEnded (h : Heap) (operations : List Op) (lane : ℕ) (p : Pass) (outcomes : List Outcome) : Type 0 where

@@ -3,10 +3,10 @@
 ghost use Rattle.std.specs.Prelude.{◌≡◌, ◌<◌, IfOk, length};
 ghost use Rattle.trace_text.specs.Traces.{IsTrace};
 ghost use Rattle.lane_runner.specs.Running.{operations_in};
-ghost use Rattle.lane_runner.specs.States.{AreNew};
+ghost use Rattle.lane_steps.specs.States.{AreNew};
 
-use crate::lane::LaneState;
 use lane_engine::engine::Token;
+use lane_steps::lane::LaneState;
 use std::alloc::{AllocError, Global};
 use trace_text::trace::{Op, Trace};
 

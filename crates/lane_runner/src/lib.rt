@@ -1,9 +1,7 @@
-//! The lanes of a trace over an engine: each operation as its calls, each call as its atomic steps.
+//! Whole runs of a trace: its lanes on threads over a heap, or on a machine in the order that the trace gives.
 #![tactic(auto)]
 
-pub mod lane;
 mod lanes;
 pub mod laws;
 pub mod run_core;
 pub mod run_lanes;
-mod stage;

@@ -9,11 +9,11 @@ ghost use Rattle.lane_outcomes.specs.Passed.{AllPassed};
 ghost use Rattle.lane_runner.specs.Driven.{IsDriven};
 ghost use Rattle.lane_runner.specs.Running.{HasRunOut, HasRunSome, HaveFinished, HaveFollowed, LanesStand, OneRanOut, StandsOn};
 
-use crate::lane::LaneState;
 use crate::lanes::{lane_of, open_lanes};
 use edge_io::gate::Gate;
 use lane_engine::over_core::Grip;
 use lane_outcomes::outcome::Outcome;
+use lane_steps::lane::LaneState;
 use std::alloc::{AllocError, Global};
 use step_core::machine::Core;
 use trace_text::trace::{Op, OrderRun, Trace};

@@ -6,16 +6,16 @@ ghost use Rattle.trace_text.specs.Traces.{IsOp, IsTrace};
 ghost use Rattle.lane_outcomes.specs.Passed.{AllPassed};
 ghost use Rattle.live_heap.specs.Endings.{AreAllIdle};
 ghost use Rattle.live_heap.specs.Passes.{AreFrom};
-ghost use Rattle.lane_runner.specs.States.{AreNew};
+ghost use Rattle.lane_steps.specs.States.{AreNew};
 ghost use Rattle.lane_runner.specs.Threads.{AreDone, AreEnded, AreReady, HasRunOver, HasRunThrough, HaveRun, IsReserved, IsSeated, StandsOver};
 ghost use Rattle.lane_runner.specs.declared.run_lanes.LaneThread.{LaneThread};
 
-use crate::lane::LaneState;
 use crate::lanes::{lane_of, open_lanes};
 use crossbeam_utils::CachePadded;
 use edge_io::gate::Gate;
 use lane_engine::over_heap::PassEngine;
 use lane_outcomes::outcome::Outcome;
+use lane_steps::lane::LaneState;
 use live_heap::block::Block;
 use live_heap::heap::Heap;
 use live_heap::pass::Pass;

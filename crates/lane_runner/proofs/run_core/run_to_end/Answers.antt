@@ -1,7 +1,7 @@
 use Rattle.std.proofs.Common.{◌+◌, if◌then◌else◌, Bool, Ok, ap, subst}
 use Rattle.lane_engine.specs.Machines.{MovesCore}
-use Rattle.lane_runner.specs.Paths.{HasAdvanced}
-use Rattle.lane_runner.specs.States.{progress_of}
+use Rattle.lane_steps.specs.Paths.{HasAdvanced}
+use Rattle.lane_steps.specs.States.{progress_of}
 use Rattle.lane_runner.proofs.RunLemmas.{ran-none, next-ran}
 use Rattle.lane_runner.proofs.RunMeasures.{advance-falls}
 use Rattle.lane_runner.proofs.run_core.run_to_end.Goals as goal

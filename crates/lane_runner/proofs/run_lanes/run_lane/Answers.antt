@@ -2,8 +2,8 @@ use Rattle.std.proofs.Common.{◌≡◌, ℕ, Ok, rules, sym, ap, ◌∙◌, sub
 use Rattle.live_heap.specs.declared.block.Block.{Block}
 use Rattle.live_heap.specs.declared.heap.Heap.{Heap}
 use Rattle.live_heap.specs.Passes.{IsOf, seen}
-use Rattle.lane_runner.specs.Paths.{FirstPassed, begun_count}
-use Rattle.lane_runner.specs.States.{IsLaneOf}
+use Rattle.lane_steps.specs.Paths.{FirstPassed, begun_count}
+use Rattle.lane_steps.specs.States.{IsLaneOf}
 use Rattle.lane_runner.proofs.SeatLemmas.{over-after, run-over}
 use Rattle.lane_runner.proofs.run_lanes.run_lane.Goals as goal
 

@@ -1,5 +1,5 @@
 use Rattle.std.proofs.Common.{◌≡◌}
-use Rattle.lane_runner.specs.Paths.{FirstPassed, begun_count}
+use Rattle.lane_steps.specs.Paths.{FirstPassed, begun_count}
 use Rattle.lane_runner.specs.Threads.{StandsOver}
 use Rattle.lane_runner.proofs.run_lanes.run_lane.Given as goal
 

@@ -1,0 +1,165 @@
+-- A lane stands as it stood, whatever others did in the meantime.
+use Rattle.std.proofs.Common.{ℕ, ◌≡◌, ◌++◌, List, [], Option, Some, ◌≤◌, sym, ap, ◌∙◌, subst, append-nil, arith}
+use Rattle.heap_geometry.specs.declared.geometry.Geometry.{Geometry}
+use Rattle.heap_geometry.specs.declared.need.Need.{Need}
+use Rattle.pool_model.specs.declared.event.Event.{Event}
+use Rattle.pool_model.specs.declared.owner.Owner.TheVariants.{Caller}
+use Rattle.pool_model.specs.Histories.{own}
+use Rattle.pool_model.specs.Legal.{IsLegal, IsLegalWithoutCounts}
+use Rattle.pool_model.specs.Pool.{Block, block_at, pool_of}
+use Rattle.pool_model.proofs.HistoryLemmas.{own-append, legal-weaker}
+use Rattle.pool_model.proofs.OwnerLemmas.{others-keep_all}
+use Rattle.errand_steps.specs.Errands.{ErrandFields}
+use Rattle.errand_steps.specs.declared.point.Point.{Point}
+use Rattle.trace_text.specs.declared.trace.Op.{Op}
+use Rattle.trace_text.specs.declared.trace.Op.TheVariants as op
+use Rattle.step_core.specs.Cores.{OwnsAfter}
+use Rattle.step_core.specs.Moments.{HasSeenMore}
+use Rattle.lane_outcomes.specs.declared.registers.Held.{Held}
+use Rattle.lane_outcomes.specs.declared.outcome.Outcome.{Outcome}
+use Rattle.lane_outcomes.specs.Lane.{State, start}
+use Rattle.lane_outcomes.specs.Fits.{Walks}
+use Rattle.lane_outcomes.specs.Standing.{HoldsOwn, OwnsWords, setting_in}
+use Rattle.lane_outcomes.proofs.FitLemmas.{walks-later}
+use Rattle.lane_outcomes.proofs.HoldLemmas.{holds-still}
+use Rattle.lane_steps.specs.declared.lane.LaneState.{LaneState}
+use Rattle.lane_steps.specs.declared.stage.Stage.{Stage}
+use Rattle.lane_steps.specs.declared.stage.Stage.TheVariants as stage
+use Rattle.lane_steps.specs.Lanes.{IsAt, IsLane}
+use Rattle.lane_steps.specs.Operations.{IsDoing, IsSumming}
+use Rattle.lane_steps.specs.States.{IsLaneOf}
+
+-- a caller that has seen more events of others
+record IsBeside (g : Geometry) (caller : ℕ) (before after : List Event) : Type 0 where
+  pub more : List Event
+  pub seen : after ≡ before ++ more
+  pub not_own : own caller more ≡ []
+  pub legal : IsLegalWithoutCounts g (before ++ more)
+
+beside-of :
+    (g : Geometry) (caller : ℕ) (before after : List Event) → HasSeenMore caller before after → IsLegal g after → IsBeside g caller before after
+beside-of g caller before after seen legal =
+    record {
+      more = seen.more;
+      seen = seen.seen;
+      not_own = seen.not_own;
+      legal = legal-weaker g (before ++ seen.more) (subst (IsLegal g) seen.seen legal);
+    }
+
+-- a block of the caller's stays live as it is
+block-beside :
+    (g : Geometry) (caller : ℕ) (before after : List Event) (place : ℕ) (block : Block) → IsBeside g caller before after
+    → block_at place (pool_of before) ≡ Some block → block.owner ≡ Caller caller → block_at place (pool_of after) ≡ Some block
+block-beside g caller before after place block b live owned =
+    subst (λ h. block_at place (pool_of h) ≡ Some block) (sym b.seen)
+    (others-keep_all g before b.more caller place block b.legal b.not_own live owned)
+
+words-beside :
+    (g : Geometry) (caller : ℕ) (before after : List Event) → IsBeside g caller before after → (place words : ℕ)
+    → OwnsWords (pool_of before) caller place words → OwnsWords (pool_of after) caller place words
+words-beside g caller before after b place words owns =
+    record {
+      block = owns.block;
+      live = block-beside g caller before after place owns.block b owns.live owns.owned;
+      owned = owns.owned;
+      words_are = owns.words_are;
+    }
+
+pub live-seen :
+    (g : Geometry) (caller : ℕ) (before after : List Event) (place : ℕ) (block : Block) → HasSeenMore caller before after → IsLegal g after
+    → block_at place (pool_of before) ≡ Some block → block.owner ≡ Caller caller → block_at place (pool_of after) ≡ Some block
+live-seen g caller before after place block seen legal = block-beside g caller before after place block (beside-of g caller before after seen legal)
+
+-- so does the block whose words are read
+summing-beside :
+    (g : Geometry) (caller : ℕ) (before after : List Event) (point : Point) (held : Held) (next total : ℕ) → IsBeside g caller before after
+    → OwnsWords (pool_of before) caller held.place held.words → IsSumming caller point (pool_of before) held next total
+    → IsSumming caller point (pool_of after) held next total
+summing-beside g caller before after point held next total b owns s =
+    let same : owns.block ≡ s.block = let both : Some owns.block ≡ Some s.block = sym owns.live ∙ s.live in cc in
+    record {
+      need = s.need;
+      serves = s.serves;
+      inside = s.inside;
+      under_way = s.under_way;
+      block = s.block;
+      live = block-beside g caller before after held.place s.block b s.live (ap (λ (x : Block). x.owner) (sym same) ∙ owns.owned);
+      words = s.words;
+      all = s.all;
+      each = s.each;
+      total_is = s.total_is;
+    }
+
+doing-beside :
+    (g : Geometry) (caller : ℕ) (before after : List Event) (point : Point) (state : State) (registers : List (Option Held)) (operation : Op)
+    (at : Stage) (added : List Event) → IsBeside g caller before after → HoldsOwn (pool_of before) caller registers
+    → IsDoing caller (pool_of before) point state registers operation at added
+    → IsDoing caller (pool_of after) point state registers operation at added
+doing-beside g caller before after point state registers (op.Check r) (stage.Summing next total) added b holds doing = (
+  doing.0,
+  doing.1,
+  doing.2,
+  summing-beside g caller before after point doing.0 next total b (holds.owned r doing.0 doing.2) doing.3,
+  doing.4,
+)
+doing-beside g caller before after point state registers operation at added b holds doing = doing
+
+at-beside :
+    (g : Geometry) (caller : ℕ) (before after : List Event) (e : ErrandFields) (state : State) (registers : List (Option Held))
+    (operations : List Op) (at : Stage) (added : List Event) → IsBeside g caller before after → HoldsOwn (pool_of before) caller registers
+    → IsAt caller before e state registers operations at added → IsAt caller after e state registers operations at added
+at-beside g caller before after e state registers operations stage.Between added b holds stands = stands
+at-beside g caller before after e state registers operations stage.Calling added b holds stands =
+    (stands.0, stands.1, stands.2, doing-beside g caller before after e.point state registers stands.0 stage.Calling added b holds stands.3)
+at-beside g caller before after e state registers operations (stage.Filling next) added b holds stands =
+    (stands.0, stands.1, stands.2, doing-beside g caller before after e.point state registers stands.0 (stage.Filling next) added b holds stands.3)
+at-beside g caller before after e state registers operations (stage.Summing next total) added b holds stands =
+    (stands.0, stands.1, stands.2, doing-beside g caller before after e.point state registers stands.0 (stage.Summing next total) added b holds stands.3)
+
+-- the outcomes walk on a longer history, and where more was lost
+pub walks-on :
+    (before after more : List Event) (caller limit lost lost_too : ℕ) (from to : State) (operations : List Op) (results : List Outcome)
+    → after ≡ before ++ more → lost ≤ lost_too → Walks (setting_in before caller limit lost) from operations results to
+    → Walks (setting_in after caller limit lost_too) from operations results to
+walks-on before after more caller limit lost lost_too from to operations results seen rises walks =
+    subst (λ h. Walks (setting_in h caller limit lost_too) from operations results to) (sym seen)
+    (walks-later (setting_in before caller limit lost) more lost_too rises from to operations results walks)
+
+pub lane-beside :
+    (g : Geometry) (caller : ℕ) (before after : List Event) (e : ErrandFields) (operations : List Op) (registers : List (Option Held))
+    (results : List Outcome) (at : Stage) → IsLane g caller before e operations registers results at → HasSeenMore caller before after
+    → IsLegal g after → IsLane g caller after e operations registers results at
+lane-beside g caller before after e operations registers results at lane seen legal =
+    let b = beside-of g caller before after seen legal in
+    record {
+      state = lane.state;
+      within = lane.within;
+      walks = walks-on before after seen.more caller g.turn_limit e.lost e.lost start lane.state _ results seen.seen (omega arith) lane.walks;
+      added = lane.added;
+      own_events =
+          ap (own caller) seen.seen ∙ own-append caller before seen.more ∙ ap (λ xs. own caller before ++ xs) seen.not_own
+          ∙ append-nil (own caller before) ∙ lane.own_events;
+      stands = at-beside g caller before after e lane.state registers _ at lane.added b lane.holds lane.stands;
+      size = lane.size;
+      holds = holds-still (pool_of before) (pool_of after) caller registers (words-beside g caller before after b) lane.holds;
+      answered = lane.answered;
+      spent = lane.spent;
+    }
+
+-- a block that the caller owns is still its own
+pub owns-beside :
+    (g : Geometry) (caller : ℕ) (before after : List Event) (place : ℕ) (need : Need) → HasSeenMore caller before after → IsLegal g after
+    → OwnsAfter before caller place need → OwnsAfter after caller place need
+owns-beside g caller before after place need seen legal owned =
+    (owned.0, block-beside g caller before after place owned.0 (beside-of g caller before after seen legal) owned.1 owned.2, owned.2, owned.3)
+
+pub lane_of-beside :
+    {B : Type 0} (place_of : B → ℕ) (need_of : B → Need) (g : Geometry) (before after : List Event) (e : ErrandFields) (operations : List Op)
+    (lane : LaneState B) → IsLaneOf place_of need_of g before e operations lane → HasSeenMore lane.caller before after → IsLegal g after
+    → IsLaneOf place_of need_of g after e operations lane
+lane_of-beside place_of need_of g before after e operations lane is seen legal =
+    record {
+      stands = lane-beside g lane.caller before after e operations _ _ lane.stage is.stands seen legal;
+      owned = λ r block full. owns-beside g lane.caller before after (place_of block) (need_of block) seen legal (is.owned r block full);
+      room = is.room;
+    }

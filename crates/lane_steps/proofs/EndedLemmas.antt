@@ -1,0 +1,107 @@
+-- A lane before its first operation, and one that has all outcomes.
+use Rattle.std.proofs.Common.{ℕ, zero, suc, ◌≡◌, ◌≤◌, ◌∷◌, ◌++◌, List, [], Option, Some, None, length, take, drop, replicate, refl, sym, ap, ◌∙◌, subst, arith, append-nil}
+use Rattle.std.proofs.Math.ListN.{length-replicate}
+use Rattle.std.proofs.lemmas.Bool.{true≢false}
+use Rattle.std.specs.List.{slice_index_or}
+use Rattle.heap_geometry.specs.declared.geometry.Geometry.{Geometry}
+use Rattle.heap_geometry.specs.declared.need.Need.{Need}
+use Rattle.pool_model.specs.declared.event.Event.{Event}
+use Rattle.pool_model.specs.Histories.{own}
+use Rattle.pool_model.specs.Pool.{pool_of}
+use Rattle.errand_steps.specs.Begins.{IsIdle}
+use Rattle.errand_steps.specs.Errands.{ErrandFields}
+use Rattle.trace_text.specs.declared.limits.TheConstants.{REGISTERS}
+use Rattle.trace_text.specs.declared.trace.Op.{Op}
+use Rattle.lane_outcomes.specs.declared.registers.Held.{Held}
+use Rattle.lane_outcomes.specs.declared.outcome.Outcome.{Outcome}
+use Rattle.lane_outcomes.specs.Fits.{Fits, Walks}
+use Rattle.lane_outcomes.specs.Lane.{start}
+use Rattle.lane_outcomes.specs.Standing.{setting_in}
+use Rattle.lane_outcomes.proofs.HoldLemmas.{holds-nothing}
+use Rattle.lane_steps.specs.declared.lane.LaneState.{LaneState}
+use Rattle.lane_steps.specs.declared.stage.Stage.{Stage}
+use Rattle.lane_steps.specs.declared.stage.Stage.TheVariants as stage
+use Rattle.lane_steps.specs.Lanes.{IsAt, IsLane}
+use Rattle.lane_steps.specs.Paths.{held_blocks}
+use Rattle.lane_steps.specs.Scripts.{IsOnScript}
+use Rattle.lane_steps.specs.States.{IsLaneOf, IsNew}
+use Rattle.lane_steps.proofs.BesideLemmas.{walks-on}
+use Rattle.lane_steps.proofs.ScriptLemmas.{empty, script-none, take_all}
+
+-- between two operations its caller is idle, and has added nothing that its outcomes don't tell
+pub lane-between :
+    (g : Geometry) (caller : ℕ) (events : List Event) (e : ErrandFields) (operations : List Op) (registers : List (Option Held))
+    (results : List Outcome) (at : Stage) (lane : IsLane g caller events e operations registers results at) → at ≡ stage.Between
+    → IsIdle e × (registers ≡ lane.state.registers) × (own caller events ≡ lane.state.done)
+lane-between g caller events e operations registers results at lane between =
+    let stands : IsAt caller events e lane.state registers (drop (length results) operations) stage.Between lane.added =
+    subst (λ a. IsAt caller events e lane.state registers (drop (length results) operations) a lane.added) between lane.stands in
+    (stands.0, stands.1, lane.own_events ∙ ap (λ xs. lane.state.done ++ xs) stands.2 ∙ append-nil lane.state.done)
+
+-- with all outcomes they fit the events, however much more was lost
+pub lane-fits :
+    (g : Geometry) (caller : ℕ) (events : List Event) (e : ErrandFields) (operations : List Op) (registers : List (Option Held))
+    (results : List Outcome) (at : Stage) (lost : ℕ) → IsLane g caller events e operations registers results at → at ≡ stage.Between
+    → length results ≡ length operations → e.lost ≤ lost → Fits (setting_in events caller g.turn_limit lost) operations results
+lane-fits g caller events e operations registers results at lost lane between ended rises =
+    let whole : take (length results) operations ≡ operations = ap (λ n. take n operations) ended ∙ take_all operations in
+    record {
+      end = lane.state;
+      walks = walks-on events events [] caller g.turn_limit e.lost lost start lane.state operations results (sym (append-nil events)) rises
+          (subst (λ ops. Walks (setting_in events caller g.turn_limit e.lost) start ops results lane.state) whole lane.walks);
+      all_used = (lane-between g caller events e operations registers results at lane between).2;
+    }
+
+-- registers that hold nothing hold no block
+blocks-none :
+    {B : Type 0} (place_of : B → ℕ) (need_of : B → Need) (n : ℕ) → held_blocks place_of need_of (replicate n None) ≡ replicate n None
+blocks-none place_of need_of zero = refl
+blocks-none place_of need_of (suc n) = ap (λ xs. None ∷ xs) (blocks-none place_of need_of n)
+
+none-at : {B : Type 0} (n r : ℕ) → slice_index_or (replicate {A = Option B} n None) r None ≡ None
+none-at zero r = refl
+none-at (suc n) zero = refl
+none-at (suc n) (suc r) = none-at n r
+
+-- a new lane stands where its caller is idle and has no events
+pub lane-new :
+    {B : Type 0} (place_of : B → ℕ) (need_of : B → Need) (g : Geometry) (caller : ℕ) (events : List Event) (e : ErrandFields)
+    (operations : List Op) (lane : LaneState B) → IsNew caller (length operations) lane → own caller events ≡ [] → IsIdle e
+    → IsLaneOf place_of need_of g events e operations lane
+lane-new {B = B} place_of need_of g caller events e operations lane new none idle =
+    let held : held_blocks place_of need_of lane.registers.items ≡ empty =
+    ap (held_blocks place_of need_of) new.empty ∙ blocks-none place_of need_of REGISTERS in
+    let stands : IsLane g caller events e operations empty [] stage.Between =
+    record {
+      state = start;
+      within = omega arith;
+      walks = refl;
+      added = [];
+      own_events = none;
+      stands = (idle, refl, refl);
+      size = length-replicate {A = Option Held} REGISTERS None;
+      holds = holds-nothing (pool_of events) caller REGISTERS;
+      answered = refl;
+      spent = λ is. absurd (true≢false (sym is));
+    } in
+    record {
+      stands =
+          subst (λ k. IsLane g k events e operations (held_blocks place_of need_of lane.registers.items) lane.outcomes.items lane.stage)
+          (sym new.caller_is)
+          (subst (λ rs. IsLane g caller events e operations rs lane.outcomes.items lane.stage) (sym held)
+          (subst (λ os. IsLane g caller events e operations empty os lane.stage) (sym new.none)
+          (subst (IsLane g caller events e operations empty []) (sym new.between) stands)));
+      owned = λ r block full.
+          absurd (let e : None ≡ Some block = sym (none-at {B = B} REGISTERS r)
+          ∙ ap (λ rs. slice_index_or rs r None) (sym new.empty) ∙ full in cc);
+      room = new.room;
+    }
+
+-- and it is on its script
+pub script-new :
+    {B : Type 0} (place_of : B → ℕ) (need_of : B → Need) (caller count : ℕ) (operations : List Op) (lane : LaneState B) → IsNew caller count lane
+    → IsOnScript operations (held_blocks place_of need_of lane.registers.items) lane.outcomes.items lane.stage []
+script-new place_of need_of caller count operations lane new =
+    subst (λ os. IsOnScript operations (held_blocks place_of need_of lane.registers.items) os lane.stage []) (sym new.none)
+    (subst (λ at. IsOnScript operations (held_blocks place_of need_of lane.registers.items) [] at []) (sym new.between)
+    (script-none operations (held_blocks place_of need_of lane.registers.items)))

@@ -1,0 +1,345 @@
+-- The next operation of a lane has begun, or has its outcome at once.
+use Rattle.std.proofs.Common.{ℕ, Bool, true, false, ◌↔◌, ◌≡◌, ◌<◌, ◌≤◌, ◌+◌, ◌%◌, ◌^◌, ◌∷◌, ◌++◌, List, [], Option, Some, None, refl, sym, ap, ◌∙◌, subst, inl, inr, arith, vec_capacity}
+use Rattle.std.specs.Prelude.{slice_set, IsTrue, IsSome}
+use Rattle.std.specs.List.{slice_index_or}
+use Rattle.heap_geometry.specs.declared.geometry.Geometry.{Geometry}
+use Rattle.heap_geometry.specs.declared.need.Need.{Need}
+use Rattle.heap_geometry.specs.declared.need.Need.TheVariants.{Small, Large, TooLarge}
+use Rattle.heap_geometry.specs.declared.limits.TheConstants.{LARGE_MOST}
+use Rattle.heap_geometry.specs.Need.{need_of, usable_words}
+use Rattle.pool_model.specs.declared.event.Event.{Event}
+use Rattle.errand_steps.specs.Begins.{IsIdle, alloc_answer, begins_with}
+use Rattle.errand_steps.specs.Calls.{Call, alloc, free, write, read, put, take, begun_by}
+use Rattle.errand_steps.specs.Errands.{ErrandFields, is_spent}
+use Rattle.errand_steps.specs.declared.reply.Begun.TheVariants as begun
+use Rattle.sound_state.specs.Runs.{Move}
+use Rattle.step_core.specs.Cores.{OwnsAfter}
+use Rattle.step_core.specs.Moments.{IsServed}
+use Rattle.trace_text.specs.declared.trace.Op.{Op}
+use Rattle.trace_text.specs.declared.trace.Op.TheVariants as op
+use Rattle.lane_outcomes.specs.declared.registers.Held.{Held}
+use Rattle.lane_outcomes.specs.declared.outcome.Outcome.{Outcome}
+use Rattle.lane_outcomes.specs.declared.outcome.Outcome.TheVariants as outcome
+use Rattle.lane_outcomes.specs.Lane.{held_in}
+use Rattle.lane_outcomes.proofs.NeedLemmas.{need-fits}
+use Rattle.std.proofs.lemmas.Bool.{cases_Bool}
+use Rattle.std.proofs.lemmas.List.{set-get_or}
+use Rattle.lane_steps.specs.Advances.{GoesOn, HasCalled, HasGoneOn, IsBefore, calls_in}
+use Rattle.lane_steps.specs.declared.lane.LaneState.{LaneState}
+use Rattle.lane_steps.specs.declared.stage.Stage.{Stage}
+use Rattle.lane_steps.specs.declared.stage.Stage.TheVariants as stage
+use Rattle.lane_steps.specs.Lanes.{IsLane}
+use Rattle.lane_steps.specs.Operations.{Serves}
+use Rattle.lane_steps.specs.Paths.{held_by, held_blocks}
+use Rattle.lane_steps.specs.Scripts.{IsOnScript, script_left, stage_begun}
+use Rattle.lane_steps.proofs.AnswerLemmas.{HasBegun, MayCall, call-begun, alloc-not_begun, owned-need}
+use Rattle.lane_steps.proofs.BeginLemmas.{IsSkipped, begin-skips, begin-spent, begin-alloc, begin-free, begin-put, begin-fill, begin-check, begin-take, owned-words}
+use Rattle.lane_steps.proofs.EndedLemmas.{lane-between}
+use Rattle.lane_steps.proofs.LaneParts.{Became, OwnsBlocks, slot-full, slot-empty, set-held, blocks-emptied, gone-on, count-ends}
+use Rattle.lane_steps.proofs.ScriptLemmas.{IsHere, lane-here, script-skips, alloc-begins, alloc-spent_at_once, free-begins, fill-begins, check-begins, put-begins, take-begins, left-rises, left-ends}
+
+-- over an engine after the call began
+pub called-as :
+    {S Base B : Type 0} (serves : S → ℕ → Type 0) (runs_on : S → Base) (geometry_of : S → Geometry) (errand_of : S → ℕ → ErrandFields)
+    (events : S → List Event) (moved : S → Move → S → Type 0) (place_of : B → ℕ) (need_of : B → Need) (caller : ℕ) (call : Call) (old new : S)
+    → HasCalled serves runs_on geometry_of errand_of events moved caller call old new → (f : ErrandFields) (begun : Option Call)
+    (again : Option Call → Type 0) (operations : List Op) (lane after : LaneState B) → f ≡ begun_by (errand_of old caller) call
+    → HasGoneOn place_of need_of (geometry_of old) (events old) f begun again operations lane after
+    → HasGoneOn place_of need_of (geometry_of new) (events new) (errand_of new caller) begun again operations lane after
+called-as serves runs_on geometry_of errand_of events moved place_of need_of caller call old new called f begun again operations lane after is gone =
+    subst (λ g. HasGoneOn place_of need_of g (events new) (errand_of new caller) begun again operations lane after) (sym called.geometry)
+    (subst (λ h. HasGoneOn place_of need_of (geometry_of old) h (errand_of new caller) begun again operations lane after) (sym called.no_event)
+    (subst (λ e. HasGoneOn place_of need_of (geometry_of old) (events old) e begun again operations lane after) (is ∙ sym called.errand) gone))
+
+module _ {B : Type 0} (place_of : B → ℕ) (need_of : B → Need) (g : Geometry) (events : List Event) (e : ErrandFields) (again : Option Call → Type 0) (operations : List Op) (lane new : LaneState B) where
+  abbrev Before : Op → Type 0
+  Before operation = IsBefore place_of need_of g events e operation operations lane
+
+  -- what the registers hold
+  abbrev held : List (Option Held)
+  held = held_blocks place_of need_of lane.registers.items
+
+  abbrev Gone : ErrandFields → Option Call → Type 0
+  Gone f begun = HasGoneOn place_of need_of g events f begun again operations lane new
+
+  -- the lane between two operations, by the caller of its errand
+  number : (operation : Op) → Before operation → e.caller ≡ lane.caller
+  number operation b = b.served.own_errand.number
+
+  stood : (operation : Op) → Before operation → IsLane g e.caller events e operations held lane.outcomes.items stage.Between
+  stood operation b =
+      subst (λ c. IsLane g c events e operations held lane.outcomes.items stage.Between) (sym (number operation b))
+      (subst (IsLane g lane.caller events e operations held lane.outcomes.items) b.between b.stands.stands)
+
+  served : (operation : Op) → Before operation → IsServed g e.caller e events
+  served operation b = subst (λ c. IsServed g c e events) (sym (number operation b)) b.served
+
+  pub idle-before : (operation : Op) → Before operation → IsIdle e
+  idle-before operation b = (lane-between g e.caller events e operations held lane.outcomes.items stage.Between (stood operation b) refl).0
+
+  same-registers : (operation : Op) (b : Before operation) → held ≡ (stood operation b).state.registers
+  same-registers operation b = (lane-between g e.caller events e operations held lane.outcomes.items stage.Between (stood operation b) refl).1
+
+  here : (operation : Op) (b : Before operation) → IsHere operations lane.outcomes.items operation (stood operation b).state.registers
+  here operation b =
+      lane-here g e.caller events e operations held lane.outcomes.items stage.Between operation b.next.0 (stood operation b) b.next.1
+
+  pub owned-before :
+      (operation : Op) → Before operation → (r : ℕ) (block : B) → slice_index_or lane.registers.items r None ≡ Some block
+      → OwnsAfter events e.caller (place_of block) (need_of block)
+  owned-before operation b r block full =
+      subst (λ c. OwnsAfter events c (place_of block) (need_of block)) (sym (number operation b)) (b.stands.owned r block full)
+
+  -- the errand of the caller that begins a call
+  begun-call : (operation : Op) (b : Before operation) (call : Call) → MayCall e events call → HasBegun e (begun_by e call) call
+  begun-call operation b call may = call-begun g e.caller e events call (served operation b) (idle-before operation b) may
+
+  -- it has its outcome at once
+  ends-part :
+      (operation : Op) (b : Before operation) (f : ErrandFields) (begun : Option Call) (result : Outcome)
+      → Became lane new lane.registers.items (lane.outcomes.items ++ result ∷ []) stage.Between
+      → IsLane g e.caller events f operations held (lane.outcomes.items ++ result ∷ []) stage.Between
+      → ((calls : List Call) → IsOnScript operations held lane.outcomes.items stage.Between calls
+      → IsOnScript operations held (lane.outcomes.items ++ result ∷ []) stage.Between (calls ++ calls_in begun))
+      → Gone f begun
+  ends-part operation b f begun result became stands script =
+      gone-on place_of need_of g events f begun again operations lane new lane.registers.items (lane.outcomes.items ++ result ∷ []) stage.Between became
+      b.stands.room
+      (subst (λ c. IsLane g c events f operations held (lane.outcomes.items ++ result ∷ []) stage.Between) (number operation b) stands)
+      b.stands.owned (λ calls old. script calls (subst (λ t. IsOnScript operations held lane.outcomes.items t calls) b.between old))
+      (inl (subst (λ t. script_left operations (lane.outcomes.items ++ result ∷ []) stage.Between < script_left operations lane.outcomes.items t)
+      (sym b.between) (left-ends operations b.next.0 lane.outcomes.items operation result stage.Between b.next.1 (omega arith))))
+      (count-ends place_of need_of lane.outcomes.items result)
+
+  -- its first call begins
+  begins-part :
+      (operation : Op) (b : Before operation) (f : ErrandFields) (call : Call) (blocks : List (Option B)) (to : Stage)
+      → Became lane new blocks lane.outcomes.items to
+      → IsLane g e.caller events f operations (held_blocks place_of need_of blocks) lane.outcomes.items to
+      → OwnsBlocks place_of need_of lane.caller events blocks
+      → ((calls : List Call) → IsOnScript operations held lane.outcomes.items stage.Between calls
+      → IsOnScript operations (held_blocks place_of need_of blocks) lane.outcomes.items to (calls ++ call ∷ []))
+      → 0 < stage_begun to → Gone f (Some call)
+  begins-part operation b f call blocks to became stands owned script some =
+      gone-on place_of need_of g events f (Some call) again operations lane new blocks lane.outcomes.items to became b.stands.room
+      (subst (λ c. IsLane g c events f operations (held_blocks place_of need_of blocks) lane.outcomes.items to) (number operation b) stands)
+      owned (λ calls old. script calls (subst (λ t. IsOnScript operations held lane.outcomes.items t calls) b.between old))
+      (inl (subst (λ t. script_left operations lane.outcomes.items to < script_left operations lane.outcomes.items t) (sym b.between)
+      (left-rises operations b.next.0 lane.outcomes.items operation stage.Between to b.next.1 some (omega arith))))
+      (omega arith)
+
+  pub part-skips :
+      (operation : Op) → Before operation → IsSkipped held operation
+      → Became lane new lane.registers.items (lane.outcomes.items ++ outcome.Skipped ∷ []) stage.Between → Gone e None
+  part-skips operation b skipped became =
+      ends-part operation b e None outcome.Skipped became
+      (begin-skips g events e operations held lane.outcomes.items operation b.next.0 (stood operation b) b.next.1 (served operation b) skipped)
+      (λ calls script. script-skips operations lane.outcomes.items operation (stood operation b).state.registers held held calls (here operation b) script)
+
+  pub part-spent :
+      (r need v : ℕ) → Before (op.Alloc r need v) → slice_index_or lane.registers.items r None ≡ None → alloc_answer e need ≡ begun.Spent
+      → Became lane new lane.registers.items (lane.outcomes.items ++ outcome.Spent ∷ []) stage.Between
+      → Gone (begun_by e (alloc need)) (Some (alloc need))
+  part-spent r need v b empty answer became =
+      ends-part (op.Alloc r need v) b (begun_by e (alloc need)) (Some (alloc need)) outcome.Spent became
+      (begin-spent g events e (begun_by e (alloc need)) operations held lane.outcomes.items r need v b.next.0 (stood (op.Alloc r need v) b) b.next.1
+      (served (op.Alloc r need v) b) (slot-empty place_of need_of lane.registers.items r empty) (alloc-not_begun e need answer))
+      (λ calls script.
+      alloc-spent_at_once operations lane.outcomes.items (stood (op.Alloc r need v) b).state.registers held held r need v calls
+      (here (op.Alloc r need v) b) script)
+
+  pub part-alloc :
+      (r need v : ℕ) → Before (op.Alloc r need v) → slice_index_or lane.registers.items r None ≡ None → alloc_answer e need ≡ begun.Started
+      → Became lane new lane.registers.items lane.outcomes.items stage.Calling → Gone (begun_by e (alloc need)) (Some (alloc need))
+  part-alloc r need v b empty answer became =
+      begins-part (op.Alloc r need v) b (begun_by e (alloc need)) (alloc need) lane.registers.items stage.Calling became
+      (begin-alloc g events e (begun_by e (alloc need)) operations held lane.outcomes.items b.next.0 (stood (op.Alloc r need v) b)
+      (served (op.Alloc r need v) b) r need v b.next.1 (slot-empty place_of need_of lane.registers.items r empty) answer
+      (begun-call (op.Alloc r need v) b (alloc need) answer)) b.stands.owned
+      (λ calls script.
+      alloc-begins operations lane.outcomes.items (stood (op.Alloc r need v) b).state.registers held held r need v calls (here (op.Alloc r need v) b)
+      script) (omega arith)
+
+  pub part-take :
+      (r shelf : ℕ) → Before (op.Take r shelf) → slice_index_or lane.registers.items r None ≡ None
+      → Became lane new lane.registers.items lane.outcomes.items stage.Calling → Gone (begun_by e (take shelf)) (Some (take shelf))
+  part-take r shelf b empty became =
+      begins-part (op.Take r shelf) b (begun_by e (take shelf)) (take shelf) lane.registers.items stage.Calling became
+      (begin-take g events e (begun_by e (take shelf)) operations held lane.outcomes.items b.next.0 (stood (op.Take r shelf) b)
+      (served (op.Take r shelf) b) r shelf b.next.1 (slot-empty place_of need_of lane.registers.items r empty)
+      (begun-call (op.Take r shelf) b (take shelf) tt)) b.stands.owned
+      (λ calls script.
+      take-begins operations lane.outcomes.items (stood (op.Take r shelf) b).state.registers held held r shelf calls (here (op.Take r shelf) b) script)
+      (omega arith)
+
+  -- the block in hand of a full register
+  serves-block :
+      (operation : Op) (b : Before operation) (r : ℕ) (block : B) → slice_index_or lane.registers.items r None ≡ Some block
+      → Serves (held_by place_of need_of block) (need_of block)
+  serves-block operation b r block full =
+      (owned-need g events e.caller (place_of block) (need_of block) (served operation b).legal (owned-before operation b r block full), refl)
+
+  pub words-before :
+      (operation : Op) → Before operation → (r : ℕ) (block : B) → slice_index_or lane.registers.items r None ≡ Some block
+      → 0 < usable_words (need_of block)
+  words-before operation b r block full =
+      owned-words g events e.caller (place_of block) (need_of block) (served operation b).legal (owned-before operation b r block full)
+
+  was-full :
+      (operation : Op) (b : Before operation) (r : ℕ) (block : B) → slice_index_or lane.registers.items r None ≡ Some block
+      → held_in (stood operation b).state.registers r ≡ Some (held_by place_of need_of block)
+  was-full operation b r block full =
+      ap (λ rs. held_in rs r) (sym (same-registers operation b)) ∙ slot-full place_of need_of lane.registers.items r block full
+
+  -- a free or a put empties the register
+  emptied : (r : ℕ) → slice_set held r None ≡ held_blocks place_of need_of (slice_set lane.registers.items r None)
+  emptied r = sym (set-held place_of need_of lane.registers.items r None)
+
+  pub part-free :
+      (r : ℕ) → Before (op.Free r) → (block : B) → slice_index_or lane.registers.items r None ≡ Some block
+      → Became lane new (slice_set lane.registers.items r None) lane.outcomes.items stage.Calling
+      → Gone (begun_by e (free (place_of block) (need_of block))) (Some (free (place_of block) (need_of block)))
+  part-free r b block full became =
+      let call = free (place_of block) (need_of block) in
+      let serves = serves-block (op.Free r) b r block full in
+      let now = slice_set lane.registers.items r None in
+      begins-part (op.Free r) b (begun_by e call) call now stage.Calling became
+      (subst (λ rs. IsLane g e.caller events (begun_by e call) operations rs lane.outcomes.items stage.Calling) (emptied r)
+      (begin-free g events e (begun_by e call) operations held lane.outcomes.items b.next.0 (stood (op.Free r) b) (served (op.Free r) b) r
+      (held_by place_of need_of block) (need_of block) b.next.1 (slot-full place_of need_of lane.registers.items r block full) serves
+      (begun-call (op.Free r) b call (owned-before (op.Free r) b r block full))))
+      (blocks-emptied place_of need_of events lane.caller r lane.registers.items b.stands.owned)
+      (λ calls script.
+      free-begins operations lane.outcomes.items (stood (op.Free r) b).state.registers held (held_blocks place_of need_of now) r calls (here (op.Free r) b)
+      (held_by place_of need_of block) (need_of block) (was-full (op.Free r) b r block full) serves script)
+      (omega arith)
+
+  pub part-put :
+      (r shelf : ℕ) → Before (op.Put r shelf) → (block : B) → slice_index_or lane.registers.items r None ≡ Some block
+      → Became lane new (slice_set lane.registers.items r None) lane.outcomes.items stage.Calling
+      → Gone (begun_by e (put (place_of block) (need_of block) shelf)) (Some (put (place_of block) (need_of block) shelf))
+  part-put r shelf b block full became =
+      let call = put (place_of block) (need_of block) shelf in
+      let serves = serves-block (op.Put r shelf) b r block full in
+      let now = slice_set lane.registers.items r None in
+      begins-part (op.Put r shelf) b (begun_by e call) call now stage.Calling became
+      (subst (λ rs. IsLane g e.caller events (begun_by e call) operations rs lane.outcomes.items stage.Calling) (emptied r)
+      (begin-put g events e (begun_by e call) operations held lane.outcomes.items b.next.0 (stood (op.Put r shelf) b) (served (op.Put r shelf) b) r shelf
+      (held_by place_of need_of block) (need_of block) b.next.1 (slot-full place_of need_of lane.registers.items r block full) serves
+      (begun-call (op.Put r shelf) b call (owned-before (op.Put r shelf) b r block full))))
+      (blocks-emptied place_of need_of events lane.caller r lane.registers.items b.stands.owned)
+      (λ calls script.
+      put-begins operations lane.outcomes.items (stood (op.Put r shelf) b).state.registers held (held_blocks place_of need_of now) r shelf calls
+      (here (op.Put r shelf) b) (held_by place_of need_of block) (need_of block) (was-full (op.Put r shelf) b r block full) serves script)
+      (omega arith)
+
+  pub part-fill :
+      (r v : ℕ) → Before (op.Fill r v) → (block : B) → slice_index_or lane.registers.items r None ≡ Some block
+      → Became lane new lane.registers.items lane.outcomes.items (stage.Filling 0)
+      → Gone (begun_by e (write (place_of block) (need_of block) 0 ((v + 0) % 2 ^ 64))) (Some (write (place_of block) (need_of block) 0 ((v + 0) % 2 ^ 64)))
+  part-fill r v b block full became =
+      let call = write (place_of block) (need_of block) 0 ((v + 0) % 2 ^ 64) in
+      let serves = serves-block (op.Fill r v) b r block full in
+      begins-part (op.Fill r v) b (begun_by e call) call lane.registers.items (stage.Filling 0) became
+      (begin-fill g events e (begun_by e call) operations held lane.outcomes.items b.next.0 (stood (op.Fill r v) b) (served (op.Fill r v) b) r v
+      (held_by place_of need_of block) (need_of block) b.next.1 (slot-full place_of need_of lane.registers.items r block full) serves
+      (begun-call (op.Fill r v) b call (owned-before (op.Fill r v) b r block full))) b.stands.owned
+      (λ calls script.
+      fill-begins operations lane.outcomes.items (stood (op.Fill r v) b).state.registers held held r v (held_by place_of need_of block) (need_of block) calls
+      (here (op.Fill r v) b) (was-full (op.Fill r v) b r block full) serves (words-before (op.Fill r v) b r block full) script)
+      (omega arith)
+
+  pub part-check :
+      (r : ℕ) → Before (op.Check r) → (block : B) → slice_index_or lane.registers.items r None ≡ Some block
+      → Became lane new lane.registers.items lane.outcomes.items (stage.Summing 0 0)
+      → Gone (begun_by e (read (place_of block) (need_of block) 0)) (Some (read (place_of block) (need_of block) 0))
+  part-check r b block full became =
+      let call = read (place_of block) (need_of block) 0 in
+      let serves = serves-block (op.Check r) b r block full in
+      begins-part (op.Check r) b (begun_by e call) call lane.registers.items (stage.Summing 0 0) became
+      (begin-check g events e (begun_by e call) operations held lane.outcomes.items b.next.0 (stood (op.Check r) b) (served (op.Check r) b) r
+      (held_by place_of need_of block) (need_of block) b.next.1 (slot-full place_of need_of lane.registers.items r block full) serves
+      (begun-call (op.Check r) b call (owned-before (op.Check r) b r block full))) b.stands.owned
+      (λ calls script.
+      check-begins operations lane.outcomes.items (stood (op.Check r) b).state.registers held held r (held_by place_of need_of block) (need_of block) calls
+      (here (op.Check r) b) (was-full (op.Check r) b r block full) serves 0 (words-before (op.Check r) b r block full) script)
+      (omega arith)
+
+-- what the code finds in a register
+pub slot-none : {B : Type 0} (found : Bool) (slot : Option B) → (IsTrue found ↔ IsSome slot) → found ≡ false → slot ≡ None
+slot-none found None h is = refl
+slot-none found (Some block) h is = absurd (let full : found ≡ true = h.1 refl in cc)
+
+pub slot-some : {B : Type 0} (found : Bool) (slot : Option B) → (IsTrue found ↔ IsSome slot) → found ≡ true → (block : B) × (slot ≡ Some block)
+slot-some found None h is = absurd (let e : false ≡ true = h.0 is in cc)
+slot-some found (Some block) h is = (block, refl)
+
+-- the whole clause of a part, where a call began and where none did
+module _ {S Base B : Type 0} (serves : S → ℕ → Type 0) (runs_on : S → Base) (geometry_of : S → Geometry) (errand_of : S → ℕ → ErrandFields) (events : S → List Event) (moved : S → Move → S → Type 0) (place_of : B → ℕ) (need_of : B → Need) (again : List Event → Option Call → Type 0) (ready : List Event → List Op → LaneState B → Type 0) where
+  pub goes-called :
+      (old new : S) (lane after : LaneState B) (call : Call) → HasCalled serves runs_on geometry_of errand_of events moved lane.caller call old new
+      → after.caller ≡ lane.caller
+      → ((seen : List Event) (operations : List Op) → ready seen operations lane
+      → HasGoneOn place_of need_of (geometry_of old) (events old) (begun_by (errand_of old lane.caller) call) (Some call) (again seen) operations lane after)
+      → GoesOn serves runs_on geometry_of errand_of events moved place_of need_of again ready old new lane after
+  goes-called old new lane after call called same gone =
+      record {
+        begun = Some call;
+        called = called;
+        same_caller = same;
+        gone_on = λ seen operations is.
+            called-as serves runs_on geometry_of errand_of events moved place_of need_of lane.caller call old new called _ (Some call) (again seen) operations
+            lane after refl (gone seen operations is);
+      }
+
+  pub goes-quiet :
+      (s : S) (lane after : LaneState B) → after.caller ≡ lane.caller
+      → ((seen : List Event) (operations : List Op) → ready seen operations lane
+      → HasGoneOn place_of need_of (geometry_of s) (events s) (errand_of s lane.caller) None (again seen) operations lane after)
+      → GoesOn serves runs_on geometry_of errand_of events moved place_of need_of again ready s s lane after
+  goes-quiet s lane after same gone =
+      record { begun = None; called = refl; same_caller = same; gone_on = gone }
+
+-- a lane whose operation has its outcome
+pub finished :
+    {B : Type 0} (lane new : LaneState B) (result : Outcome) → new.caller ≡ lane.caller → new.registers ≡ lane.registers
+    → new.outcomes.items ≡ lane.outcomes.items ++ result ∷ [] → vec_capacity new.outcomes ≡ vec_capacity lane.outcomes → new.stage ≡ stage.Between
+    → Became lane new lane.registers.items (lane.outcomes.items ++ result ∷ []) stage.Between
+finished lane new result caller registers results room between =
+    record {
+      caller = caller;
+      blocks_are = ap (λ rs. rs.items) registers;
+      results_are = results;
+      at_is = between;
+      room = omega arith;
+    }
+
+too-large : (e : ErrandFields) (n : Need) → begins_with e n ≡ begun.TooLarge → n ≡ TooLarge
+too-large e (Small class) answer =
+    elim (cases_Bool (is_spent e)) [
+      | inl spent ↦ absurd (let a : begun.Spent ≡ begun.TooLarge = rw spent at answer in cc)
+      | inr turns ↦ absurd (let a : begun.Started ≡ begun.TooLarge = rw turns at answer in cc)
+    ]
+too-large e (Large units) answer = absurd (cc)
+too-large e TooLarge answer = refl
+
+-- no operation of a trace asks for more words than blocks have
+pub large-need : (e : ErrandFields) (need : ℕ) → need ≤ LARGE_MOST → alloc_answer e need ≡ begun.TooLarge → ⊥
+large-need e need most answer = need-fits need most (too-large e (need_of need) answer)
+
+-- a lane at another stage
+pub staged :
+    {B : Type 0} (lane new : LaneState B) (to : Stage) → new ≡ record lane { stage = to }
+    → Became lane new lane.registers.items lane.outcomes.items to
+staged {B = B} lane new to is =
+    record {
+      caller = ap (λ (l : LaneState B). l.caller) is;
+      blocks_are = ap (λ (l : LaneState B). l.registers.items) is;
+      results_are = ap (λ (l : LaneState B). l.outcomes.items) is;
+      at_is = ap (λ (l : LaneState B). l.stage) is;
+      room = let same = ap (λ (l : LaneState B). vec_capacity l.outcomes) is in omega arith;
+    }
+
+-- a register that was empty is as it was
+pub emptied-empty : {B : Type 0} (blocks : List (Option B)) (r : ℕ) → slice_index_or blocks r None ≡ None → slice_set blocks r None ≡ blocks
+emptied-empty blocks r empty = ap (λ slot. slice_set blocks r slot) (sym empty) ∙ set-get_or blocks r None

@@ -1,0 +1,164 @@
+-- A lane goes on by what a step of its call came to.
+use Rattle.std.proofs.Common.{ℕ, true, ◌≡◌, ◌<◌, ◌≤◌, ◌+◌, ◌^◌, ◌∷◌, ◌++◌, List, [], Option, Some, None, length, drop, refl, sym, ap, ◌∙◌, subst, inl, inr, arith}
+use Rattle.std.specs.Prelude.{nat_lt}
+use Rattle.std.proofs.lemmas.Bool.{cases_lt, cases_Bool, ltb-true, lt-ltb}
+use Rattle.heap_geometry.specs.declared.geometry.Geometry.{Geometry}
+use Rattle.heap_geometry.specs.declared.need.Need.{Need}
+use Rattle.pool_model.specs.declared.event.Event.{Event}
+use Rattle.pool_model.specs.Histories.{own}
+use Rattle.pool_model.specs.Pool.{pool_of}
+use Rattle.pool_model.proofs.HistoryLemmas.{legal-weaker}
+use Rattle.errand_steps.specs.Begins.{IsIdle, IsBusy}
+use Rattle.errand_steps.specs.Calls.{Call, begun_by}
+use Rattle.errand_steps.specs.Errands.{ErrandFields}
+use Rattle.step_core.specs.Cores.{OwnsAfter}
+use Rattle.step_core.specs.Moments.{IsServed}
+use Rattle.trace_text.specs.declared.trace.Op.{Op}
+use Rattle.lane_engine.specs.declared.stepped.Stepped.{Stepped}
+use Rattle.lane_outcomes.specs.declared.registers.Held.{Held}
+use Rattle.lane_outcomes.specs.declared.outcome.Outcome.{Outcome}
+use Rattle.lane_outcomes.specs.Lane.{State}
+use Rattle.lane_steps.specs.Advances.{HasGoneOn, IsTold, behind}
+use Rattle.lane_steps.specs.declared.lane.LaneState.{LaneState}
+use Rattle.lane_steps.specs.declared.stage.Stage.{Stage}
+use Rattle.lane_steps.specs.declared.stage.Stage.TheVariants as stage
+use Rattle.lane_steps.specs.Lanes.{IsLane}
+use Rattle.lane_steps.specs.Operations.{IsDoing}
+use Rattle.lane_steps.specs.Paths.{held_blocks}
+use Rattle.lane_steps.specs.Scripts.{IsOnScript, script_left, stage_begun}
+use Rattle.lane_steps.proofs.AnswerLemmas.{HasMovedOn, HasBegun, MayCall, call-begun}
+use Rattle.lane_steps.proofs.LaneAnswers.{EndsSo}
+use Rattle.lane_steps.proofs.LaneGoes.{IsOn, doing-at, no-between, lane-goes_on}
+use Rattle.lane_steps.proofs.LaneParts.{Became, OwnsBlocks, blocks-rest, gone-on, count-ends}
+use Rattle.lane_steps.proofs.LaneSpares.{SparesAll}
+use Rattle.lane_steps.proofs.ScriptLemmas.{left-rises, left-ends, script-stays}
+
+-- an operation that is under way has begun
+pub doing-begun :
+    (caller : ℕ) (events : List Event) (e : ErrandFields) (state : State) (registers : List (Option Held)) (operation : Op) (at : Stage)
+    (added : List Event) → IsDoing caller (pool_of events) e.point state registers operation at added → 0 < stage_begun at
+doing-begun caller events e state registers operation stage.Between added doing =
+    absurd (no-between caller (pool_of events) e.point state registers operation added doing)
+doing-begun caller events e state registers operation stage.Calling added doing = omega arith
+doing-begun caller events e state registers operation (stage.Filling i) added doing = omega arith
+doing-begun caller events e state registers operation (stage.Summing i total) added doing = omega arith
+
+-- the word behind, or none
+pub behind-some : (i words next : ℕ) → Some next ≡ behind i words → (next ≡ i + 1) × (i + 1 < words)
+behind-some i words next is =
+    elim (cases_Bool (nat_lt (i + 1) words)) [
+      | inl below ↦ let e : Some next ≡ Some (i + 1) = rw below at is in let same : next ≡ i + 1 = cc in (same, ltb-true (i + 1) words below)
+      | inr past ↦ absurd (let e : Some next ≡ None = rw past at is in cc)
+    ]
+
+pub behind-none : (i words : ℕ) → None ≡ behind i words → words ≤ i + 1
+behind-none i words is =
+    elim (cases_lt (i + 1) words) [
+      | inl below ↦ absurd (let t : nat_lt (i + 1) words ≡ true = lt-ltb (i + 1) words below in let e : None ≡ Some (i + 1) = rw t at is in cc)
+      | inr past ↦ past
+    ]
+
+module _ {B : Type 0} (place_of : B → ℕ) (need_of : B → Need) (g : Geometry) (events : List Event) (f : ErrandFields) (seen : List Event) (operations : List Op) (lane : LaneState B) (operation : Op) (told : Stepped B) (t : IsTold place_of need_of g events f operation told seen operations lane) where
+  abbrev pub registers : List (Option Held)
+  registers = held_blocks place_of need_of lane.registers.items
+
+  pub number : t.e.caller ≡ lane.caller
+  number = t.served.own_errand.number
+
+  pub heap : t.e.geometry ≡ g
+  heap = t.served.own_errand.geometry
+
+  pub served-now : IsServed g t.e.caller f events
+  served-now = subst (λ c. IsServed g c f events) (sym number) t.still_served
+
+  -- the lane before the step, at this stage
+  pub stood-at : (at : Stage) → lane.stage ≡ at → IsLane g t.e.caller seen t.e operations registers lane.outcomes.items at
+  stood-at at is =
+      subst (λ c. IsLane g c seen t.e operations registers lane.outcomes.items at) (sym number)
+      (subst (IsLane g lane.caller seen t.e operations registers lane.outcomes.items) is t.stood.stands)
+
+  is-busy : IsBusy t.e
+  is-busy = subst (λ (e : ErrandFields). IsBusy e) t.stepped.moment.here t.stepped.moment.step.busy
+
+  pub doing-here :
+      (at : Stage) (is : lane.stage ≡ at)
+      → IsDoing t.e.caller (pool_of seen) t.e.point (stood-at at is).state registers operation at (stood-at at is).added
+  doing-here at is =
+      let stood = stood-at at is in
+      doing-at t.e.caller seen t.e stood.state registers (drop (length lane.outcomes.items) operations) t.next.0 operation at stood.added t.next.1 is-busy
+      stood.stands
+
+  -- the blocks in hand after the step
+  pub owned-now :
+      (more : List Event) → HasMovedOn t.e f seen events more → SparesAll registers more
+      → OwnsBlocks place_of need_of lane.caller events lane.registers.items
+  owned-now more moved spares =
+      blocks-rest place_of need_of g seen events moved.rest more lane.caller lane.registers.items moved.seen
+      (ap (λ c. own c moved.rest) (sym number) ∙ moved.own_rest) (legal-weaker g events t.still_served.legal) spares t.stood.owned
+
+  -- the call that begins behind the step
+  pub begun-behind :
+      (call : Call) → IsIdle f → MayCall f events call → HasBegun f (begun_by f call) call
+  begun-behind call idle may = call-begun g lane.caller f events call t.still_served idle may
+
+  pub owns-by : (place : ℕ) (need : Need) → OwnsAfter events lane.caller place need → OwnsAfter events f.caller place need
+  owns-by place need owns = subst (λ c. OwnsAfter events c place need) (sym t.still_served.own_errand.number) owns
+
+  module _ (again : Option Call → Type 0) (new : LaneState B) where
+    abbrev pub Gone : ErrandFields → Option Call → Type 0
+    Gone h begun = HasGoneOn place_of need_of g events h begun again operations lane new
+
+    -- the call goes on, and nothing changes
+    pub told-on : again None → IsOn told → Became lane new lane.registers.items lane.outcomes.items lane.stage → Gone f None
+    told-on quiet on became =
+        let stays = lane-goes_on place_of need_of g t.e f seen events operations registers lane.outcomes.items heap
+        (legal-weaker g events t.still_served.legal) t.next.0 told on t.stepped operation lane.stage (stood-at lane.stage refl) t.next.1
+        (doing-here lane.stage refl) in
+        let some = doing-begun t.e.caller seen t.e (stood-at lane.stage refl).state registers operation lane.stage (stood-at lane.stage refl).added
+        (doing-here lane.stage refl) in
+        gone-on place_of need_of g events f None again operations lane new lane.registers.items lane.outcomes.items lane.stage became t.stood.room
+        (subst (λ c. IsLane g c events f operations registers lane.outcomes.items lane.stage) number stays.stands)
+        (owned-now stays.more stays.moved_on stays.spares)
+        (λ calls script. script-stays operations lane.outcomes.items registers lane.stage calls script) (inr (refl, refl, quiet)) (omega arith)
+
+    -- the operation has its outcome
+    pub told-ends :
+        (at : Stage) → lane.stage ≡ at → (blocks : List (Option B)) (result : Outcome)
+        → Became lane new blocks (lane.outcomes.items ++ result ∷ []) stage.Between
+        → IsLane g t.e.caller events f operations (held_blocks place_of need_of blocks) (lane.outcomes.items ++ result ∷ []) stage.Between
+        → OwnsBlocks place_of need_of lane.caller events blocks
+        → ((calls : List Call) → IsOnScript operations registers lane.outcomes.items at calls
+        → IsOnScript operations (held_blocks place_of need_of blocks) (lane.outcomes.items ++ result ∷ []) stage.Between (calls ++ []))
+        → stage_begun at < 2 ^ 18 → Gone f None
+    told-ends at is blocks result became stands owned script few =
+        gone-on place_of need_of g events f None again operations lane new blocks (lane.outcomes.items ++ result ∷ []) stage.Between became t.stood.room
+        (subst (λ c. IsLane g c events f operations (held_blocks place_of need_of blocks) (lane.outcomes.items ++ result ∷ []) stage.Between) number stands)
+        owned (λ calls old. script calls (subst (λ s. IsOnScript operations registers lane.outcomes.items s calls) is old))
+        (inl (subst (λ s. script_left operations (lane.outcomes.items ++ result ∷ []) stage.Between < script_left operations lane.outcomes.items s) (sym is)
+        (left-ends operations t.next.0 lane.outcomes.items operation result at t.next.1 few)))
+        (count-ends place_of need_of lane.outcomes.items result)
+
+    -- the registers are as they were
+    pub told-ends_so :
+        (at : Stage) → lane.stage ≡ at → (result : Outcome)
+        → EndsSo g t.e f seen events operations registers registers lane.outcomes.items at result
+        → Became lane new lane.registers.items (lane.outcomes.items ++ result ∷ []) stage.Between → Gone f None
+    told-ends_so at is result ends became =
+        told-ends at is lane.registers.items result became ends.stands (owned-now ends.more ends.moved_on ends.spares) ends.script ends.few
+
+    -- the operation goes on with its next call
+    pub told-goes :
+        (h : ErrandFields) (call : Call) (at to : Stage) → lane.stage ≡ at → (blocks : List (Option B))
+        → Became lane new blocks lane.outcomes.items to
+        → IsLane g t.e.caller events h operations (held_blocks place_of need_of blocks) lane.outcomes.items to
+        → OwnsBlocks place_of need_of lane.caller events blocks
+        → ((calls : List Call) → IsOnScript operations registers lane.outcomes.items at calls
+        → IsOnScript operations (held_blocks place_of need_of blocks) lane.outcomes.items to (calls ++ call ∷ []))
+        → stage_begun at < 2 ^ 18 → stage_begun at < stage_begun to → Gone h (Some call)
+    told-goes h call at to is blocks became stands owned script few rises =
+        gone-on place_of need_of g events h (Some call) again operations lane new blocks lane.outcomes.items to became t.stood.room
+        (subst (λ c. IsLane g c events h operations (held_blocks place_of need_of blocks) lane.outcomes.items to) number stands)
+        owned (λ calls old. script calls (subst (λ s. IsOnScript operations registers lane.outcomes.items s calls) is old))
+        (inl (subst (λ s. script_left operations lane.outcomes.items to < script_left operations lane.outcomes.items s) (sym is)
+        (left-rises operations t.next.0 lane.outcomes.items operation at to t.next.1 rises few)))
+        (omega arith)

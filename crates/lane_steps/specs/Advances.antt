@@ -1,0 +1,117 @@
+-- What each part of an advance does: it begins a call, or answers what a step came to.
+use Rattle.std.specs.Prelude.{ℕ, ◌≡◌, ◌≢◌, ◌<◌, ◌+◌, ◌%◌, ◌^◌, ◌∷◌, ◌++◌, ◌⊎◌, List, [], Option, Some, None, drop, length, nat_lt, if◌then◌else◌}
+use Rattle.heap_geometry.specs.declared.geometry.Geometry.{Geometry}
+use Rattle.heap_geometry.specs.declared.need.Need.{Need}
+use Rattle.pool_model.specs.declared.event.Event.{Event}
+use Rattle.pool_model.specs.Histories.{own}
+use Rattle.errand_steps.specs.Calls.{Call, take, begun_by}
+use Rattle.errand_steps.specs.Errands.{ErrandFields}
+use Rattle.sound_state.specs.Runs.{Move, begins}
+use Rattle.step_core.specs.Moments.{IsServed}
+use Rattle.trace_text.specs.declared.trace.Op.{Op}
+use Rattle.lane_engine.specs.declared.stepped.Stepped.{Stepped}
+use Rattle.lane_engine.specs.Engines.{HasStepped}
+use Rattle.lane_outcomes.specs.declared.outcome.Outcome.{Outcome}
+use Rattle.lane_steps.specs.declared.lane.LaneState.{LaneState}
+use Rattle.lane_steps.specs.declared.stage.Stage.{Stage}
+use Rattle.lane_steps.specs.declared.stage.Stage.TheVariants as stage
+use Rattle.lane_steps.specs.Paths.{begun_count}
+use Rattle.lane_steps.specs.Scripts.{IsOnScript, script_left}
+use Rattle.lane_steps.specs.States.{IsLaneOf, progress_of}
+
+-- the operation at hand, where these have their outcomes, is this one
+abbrev pub IsNext : List Op → List Outcome → Op → Type 0
+IsNext operations results operation = (rest : List Op) × (drop (length results) operations ≡ operation ∷ rest)
+
+module _ {S Base : Type 0} (serves : S → ℕ → Type 0) (runs_on : S → Base) (geometry_of : S → Geometry) (errand_of : S → ℕ → ErrandFields) (events : S → List Event) (moved : S → Move → S → Type 0) where
+  -- a caller began a call over an engine, and nothing else happened
+  pub record HasCalled (caller : ℕ) (call : Call) (old new : S) : Type 0 where
+    pub serves_still : (other : ℕ) → serves old other → serves new other
+    pub base : runs_on new ≡ runs_on old
+    pub geometry : geometry_of new ≡ geometry_of old
+    pub no_event : events new ≡ events old
+    pub others : (other : ℕ) → serves old other → other ≢ caller → errand_of new other ≡ errand_of old other
+    pub errand : errand_of new caller ≡ begun_by (errand_of old caller) call
+    pub moved_by : moved old (begins caller call) new
+
+  -- a caller began this call, or did nothing
+  abbrev pub Calls : ℕ → Option Call → S → S → Type 0
+  Calls caller None old new = new ≡ old
+  Calls caller (Some call) old new = HasCalled caller call old new
+
+-- the word behind the one whose write or read is under way, if the block has so many
+abbrev pub behind : ℕ → ℕ → Option ℕ
+behind next words = if nat_lt (next + 1) words then Some (next + 1) else None
+
+abbrev pub word_behind : Stage → ℕ → Option ℕ
+word_behind (stage.Filling next) words = behind next words
+word_behind (stage.Summing next total) words = behind next words
+word_behind at words = None
+
+-- the sum of the words so far, with one more
+abbrev pub total_with : Stage → ℕ → ℕ
+total_with (stage.Summing next total) word = (total + word) % 2 ^ 64
+total_with at word = word
+
+-- the calls that began
+abbrev pub calls_in : Option Call → List Call
+calls_in None = []
+calls_in (Some call) = call ∷ []
+
+-- nothing began; or a take was tried again, which added no event of the caller
+abbrev pub IsAgain : ℕ → List Event → List Event → Option Call → Type 0
+IsAgain caller seen now begun = (begun ≡ None) ⊎ ((shelf : ℕ) × (begun ≡ Some (take shelf)) × (own caller now ≡ own caller seen))
+
+module _ {B : Type 0} (place_of : B → ℕ) (need_of : B → Need) where
+  -- a lane of these operations is between two of them, and this one is the next
+  pub record IsBefore (g : Geometry) (events : List Event) (e : ErrandFields) (operation : Op) (operations : List Op) (lane : LaneState B) : Type 0 where
+    pub next : IsNext operations lane.outcomes.items operation
+    pub between : lane.stage ≡ stage.Between
+    pub stands : IsLaneOf place_of need_of g events e operations lane
+    pub served : IsServed g lane.caller e events
+
+  -- a step of the call under way, which belongs to this operation, came to what is told, where these events were seen before it; the lane has not gone on by that yet
+  pub record IsTold (g : Geometry) (events : List Event) (f : ErrandFields) (operation : Op) (told : Stepped B) (seen : List Event) (operations : List Op) (lane : LaneState B) : Type 0 where
+    pub next : IsNext operations lane.outcomes.items operation
+    pub e : ErrandFields
+    pub stood : IsLaneOf place_of need_of g seen e operations lane
+    pub stepped : HasStepped place_of need_of e f seen events told
+    pub served : IsServed g lane.caller e seen
+    pub still_served : IsServed g lane.caller f events
+
+  -- what a lane has when it has gone on, and began this call or none: it stands, its script holds one call more, and what is left of it falls, but where the operation stays where it is
+  pub record HasGoneOn (g : Geometry) (events : List Event) (f : ErrandFields) (begun : Option Call) (again : Option Call → Type 0) (operations : List Op) (old new : LaneState B) : Type 0 where
+    pub stands : IsLaneOf place_of need_of g events f operations new
+    pub script :
+        (calls : List Call) → IsOnScript operations (progress_of place_of need_of old).registers old.outcomes.items old.stage calls
+        → IsOnScript operations (progress_of place_of need_of new).registers new.outcomes.items new.stage (calls ++ calls_in begun)
+    pub falls :
+        (script_left operations new.outcomes.items new.stage < script_left operations old.outcomes.items old.stage)
+        ⊎ ((new.outcomes.items ≡ old.outcomes.items) × (new.stage ≡ old.stage) × again begun)
+    pub count : begun_count new.outcomes.items new.stage ≡ length old.outcomes.items + 1
+
+module _ {S Base B : Type 0} (serves : S → ℕ → Type 0) (runs_on : S → Base) (geometry_of : S → Geometry) (errand_of : S → ℕ → ErrandFields) (events : S → List Event) (moved : S → Move → S → Type 0) (place_of : B → ℕ) (need_of : B → Need) where
+  -- a lane went on over an engine without a step, whatever its operations are, if they and the lane were ready for that
+  pub record GoesOn (again : List Event → Option Call → Type 0) (ready : List Event → List Op → LaneState B → Type 0) (old new : S) (lane after : LaneState B) : Type 0 where
+    pub begun : Option Call
+    pub called : Calls serves runs_on geometry_of errand_of events moved lane.caller begun old new
+    pub same_caller : after.caller ≡ lane.caller
+    pub gone_on :
+        (seen : List Event) (operations : List Op) → ready seen operations lane
+        → HasGoneOn place_of need_of (geometry_of new) (events new) (errand_of new lane.caller) begun (again seen) operations lane after
+
+  -- a lane is between two operations, and this one is the next; a step of this one came to what is told
+  abbrev pub MayBegin : Op → S → List Op → LaneState B → Type 0
+  MayBegin operation s operations lane =
+      IsBefore place_of need_of (geometry_of s) (events s) (errand_of s lane.caller) operation operations lane
+
+  abbrev pub MayAnswer : Op → Stepped B → S → List Event → List Op → LaneState B → Type 0
+  MayAnswer operation told s seen operations lane =
+      IsTold place_of need_of (geometry_of s) (events s) (errand_of s lane.caller) operation told seen operations lane
+
+  -- the operation began, or has its outcome; what was told is answered
+  abbrev pub Begins : Op → S → S → LaneState B → LaneState B → Type 0
+  Begins operation old new lane after = GoesOn (λ seen begun. ⊥) (λ seen. MayBegin operation old) old new lane after
+
+  abbrev pub Answers : Op → Stepped B → S → S → LaneState B → LaneState B → Type 0
+  Answers operation told old new lane after = GoesOn (λ seen. IsAgain lane.caller seen (events new)) (MayAnswer operation told old) old new lane after

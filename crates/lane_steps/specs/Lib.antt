@@ -1,0 +1,7 @@
+pub mod Advances
+pub mod Begun
+pub mod Lanes
+pub mod Operations
+pub mod Paths
+pub mod Scripts
+pub mod States

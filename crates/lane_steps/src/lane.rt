@@ -1,0 +1,201 @@
+//! One lane of a trace over any engine, one atomic step after another.
+
+ghost use Rattle.std.specs.Prelude.{ℕ, ◌≡◌, ◌≢◌, ◌<◌, ◌≤◌, ◌+◌, ◌-◌, ◌^◌, ◌↔◌, ◌++◌, ◌∷◌, [], None, Ok, IfOk, OnErr, All, length, min, true, false, replicate, IsTrue, List};
+ghost use Rattle.std.specs.Vec.{vec_len, vec_capacity};
+ghost use Rattle.trace_text.specs.declared.limits.TheConstants.{REGISTERS};
+ghost use Rattle.trace_text.specs.declared.trace.Op.{Op};
+ghost use Rattle.trace_text.specs.Traces.{IsOp};
+ghost use Rattle.errand_steps.specs.Begins.{IsBusy};
+ghost use Rattle.lane_engine.specs.Engines.{HasStepped};
+ghost use Rattle.lane_steps.specs.declared.stage.Stage.TheVariants as stage;
+ghost use Rattle.lane_steps.specs.Paths.{HasAdvanced, FirstPassed, begun_count};
+ghost use Rattle.lane_steps.specs.States.{IsLaneOf, IsNew, progress_of};
+ghost use Rattle.step_core.specs.Moments.{HasSeenMore};
+
+mod answers;
+mod begins;
+mod registers;
+
+use crate::stage::Stage;
+use edge_io::gate::Gate;
+use lane_engine::engine::{Engine, Token};
+use lane_engine::stepped::Stepped;
+use lane_outcomes::outcome::Outcome;
+use std::alloc::{AllocError, Global};
+use trace_text::limits::REGISTERS;
+use trace_text::trace::Op;
+
+/// A lane: what its registers hold, the outcomes of its operations so far, and how far the next one
+/// is. `B` is a block that its caller holds.
+#[derive(Drop)]
+pub struct LaneState<B> {
+    caller: u32,
+    registers: Vec<Option<B>>,
+    outcomes: Vec<Outcome>,
+    stage: Stage,
+}
+
+/// Registers that hold nothing.
+fn empty_registers<B: Token + Drop>(alloc: Global) -> Result<Vec<Option<B>>, AllocError>
+    ensures { IfOk result (λ registers. registers.items ≡ replicate REGISTERS None) }
+{
+    let mut registers = Vec::with_capacity(alloc, usize::from(REGISTERS))?;
+    for _ in 0..REGISTERS {
+        registers.push(None)?;
+    }
+    Ok(registers)
+}
+
+/// The number by which a gate is told of an operation.
+fn number_of(op: usize) -> u32
+    ensures { result ≡ min op (2 ^ 32 - 1) }
+{
+    if op < u32::MAX as usize {
+        op as u32
+    } else {
+        u32::MAX
+    }
+}
+
+impl<B: Token + Drop> LaneState<B> {
+    /// The lane before its first operation: its registers are empty, and there is room for the outcome
+    /// of each operation.
+    pub fn open(alloc: Global, lane: u32, operations: &[Op]) -> Result<LaneState<B>, AllocError>
+        requires { All IsOp operations.now }
+        ensures { IfOk result (IsNew lane (length operations.now)) }
+    {
+        let registers = empty_registers(alloc)?;
+        let outcomes = Vec::with_capacity(alloc, operations.len())?;
+        Ok(LaneState {
+            caller: lane,
+            registers,
+            outcomes,
+            stage: Stage::Between,
+        })
+    }
+
+    /// The number of its caller.
+    pub fn caller(&self) -> u32
+        ensures { result ≡ self.now.caller }
+    {
+        self.caller
+    }
+
+    /// The outcomes of its operations so far.
+    pub fn outcomes(&self) -> &[Outcome]
+        ensures { result.now ≡ self.now.outcomes.items }
+    {
+        self.outcomes.as_slice()
+    }
+
+    /// The outcomes of its operations, at its end.
+    pub fn into_outcomes(self) -> Vec<Outcome>
+        ensures { result ≡ self.outcomes }
+    {
+        let LaneState { outcomes, .. } = self;
+        outcomes
+    }
+
+    /// Whether no operation is under way.
+    fn is_between(&self) -> bool
+        ensures { IsTrue result ↔ self.now.stage ≡ stage.Between }
+    {
+        matches!(self.stage, Stage::Between)
+    }
+
+    /// Ends the operation at hand with its outcome, for which there is room.
+    fn finish(&mut self, outcome: Outcome)
+        requires { length self.old.outcomes.items < vec_capacity self.old.outcomes }
+        ensures caller { self.new.caller ≡ self.old.caller }
+        ensures registers { self.new.registers ≡ self.old.registers }
+        ensures outcomes { self.new.outcomes.items ≡ self.old.outcomes.items ++ outcome ∷ [] }
+        ensures room { vec_capacity self.new.outcomes ≡ vec_capacity self.old.outcomes }
+        ensures stage { self.new.stage ≡ stage.Between }
+    {
+        self.outcomes.push_reserved(outcome);
+        self.stage = Stage::Between;
+    }
+
+    /// Begins the operations that are next, up to the first one that takes a step; where an operation is
+    /// under way nothing begins.
+    fn begin_next<E: Engine<Held = B>, G: Gate>(
+        &mut self,
+        engine: &mut E,
+        operations: &[Op],
+        gate: &G,
+    )
+        requires serves { E.serves engine.old self.old.caller }
+        requires operations { All IsOp operations.now }
+        requires lane { IsLaneOf B.place_of B.need_of (E.geometry_of engine.old) (E.events engine.old)
+            (E.errand_of engine.old self.old.caller) operations.now self.old }
+        ensures serves { (other : ℕ) → E.serves engine.old other → E.serves engine.new other }
+        ensures base { E.runs_on engine.new ≡ E.runs_on engine.old }
+        ensures geometry { E.geometry_of engine.new ≡ E.geometry_of engine.old }
+        ensures events { E.events engine.new ≡ E.events engine.old }
+        ensures caller { self.new.caller ≡ self.old.caller }
+        ensures lane { IsLaneOf B.place_of B.need_of (E.geometry_of engine.new) (E.events engine.new)
+            (E.errand_of engine.new self.old.caller) operations.now self.new }
+        ensures others { (other : ℕ) → E.serves engine.old other → other ≢ self.old.caller
+            → E.errand_of engine.new other ≡ E.errand_of engine.old other }
+        ensures advanced { HasAdvanced E.moved E.events engine.old engine.new self.old.caller operations.now
+            (progress_of B.place_of B.need_of self.old) (progress_of B.place_of B.need_of self.new) false }
+        ensures ended { self.new.stage ≡ stage.Between → length self.new.outcomes.items ≡ length operations.now }
+        ensures passed { FirstPassed (G.passed gate.now) self.old.caller (begun_count self.old.outcomes.items self.old.stage)
+            → FirstPassed (G.passed gate.now) self.old.caller (begun_count self.new.outcomes.items self.new.stage) }
+    {
+        if !self.is_between() {
+            return;
+        }
+        for op in self.outcomes.len()..operations.len() {
+            gate.pass(self.caller, number_of(op));
+            self.begin(engine, operations[op]);
+            if !self.is_between() {
+                return;
+            }
+        }
+    }
+
+    /// Makes one atomic step of the lane, and answers true; or answers false where no operation is under
+    /// way and none is left that takes a step. Before the step it begins the next operation where none is
+    /// under way. Each operation passes the gate before it begins, also one that takes no step, which has
+    /// its outcome here. A take that missed the shelf's block is tried again. No memory is taken but what
+    /// the engine takes: where it finds none no step is made, an operation that began stays under way,
+    /// and the next call makes its step.
+    pub fn advance<E: Engine<Held = B>, G: Gate>(
+        &mut self,
+        engine: &mut E,
+        operations: &[Op],
+        gate: &G,
+    ) -> Result<bool, AllocError>
+        requires serves { E.serves engine.old self.old.caller }
+        requires operations { All IsOp operations.now }
+        requires lane { IsLaneOf B.place_of B.need_of (E.geometry_of engine.old) (E.events engine.old)
+            (E.errand_of engine.old self.old.caller) operations.now self.old }
+        ensures serves { (other : ℕ) → E.serves engine.old other → E.serves engine.new other }
+        ensures base { E.runs_on engine.new ≡ E.runs_on engine.old }
+        ensures geometry { E.geometry_of engine.new ≡ E.geometry_of engine.old }
+        ensures caller { self.new.caller ≡ self.old.caller }
+        ensures lane { IsLaneOf B.place_of B.need_of (E.geometry_of engine.new) (E.events engine.new)
+            (E.errand_of engine.new self.old.caller) operations.now self.new }
+        ensures others { (other : ℕ) → E.serves engine.old other → other ≢ self.old.caller
+            → (E.errand_of engine.new other ≡ E.errand_of engine.old other)
+            × HasSeenMore other (E.events engine.old) (E.events engine.new) }
+        ensures advanced { IfOk result (λ made. HasAdvanced E.moved E.events engine.old engine.new self.old.caller operations.now
+            (progress_of B.place_of B.need_of self.old) (progress_of B.place_of B.need_of self.new) made) }
+        ensures failed { OnErr result (HasAdvanced E.moved E.events engine.old engine.new self.old.caller operations.now
+            (progress_of B.place_of B.need_of self.old) (progress_of B.place_of B.need_of self.new) false) }
+        ensures ended { result ≡ Ok false → (self.new.stage ≡ stage.Between) × (length self.new.outcomes.items ≡ length operations.now) }
+        ensures passed { FirstPassed (G.passed gate.now) self.old.caller (begun_count self.old.outcomes.items self.old.stage)
+            → FirstPassed (G.passed gate.now) self.old.caller (begun_count self.new.outcomes.items self.new.stage) }
+        ensures fails { OnErr result E.may_fail }
+    {
+        self.begin_next(engine, operations, gate);
+        if self.is_between() {
+            return Ok(false);
+        }
+        let told = engine.step(self.caller)?;
+        let op = self.outcomes.len();
+        self.answer(engine, operations[op], told);
+        Ok(true)
+    }
+}

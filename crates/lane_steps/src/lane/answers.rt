@@ -1,0 +1,230 @@
+//! What a lane does by what a step came to.
+
+ghost use Rattle.std.specs.Prelude.{ℕ, ◌≡◌, ◌<◌, ◌≤◌, ◌+◌, ◌%◌, ◌^◌, ◌↔◌, List, Some, None, length, IsTrue};
+ghost use Rattle.std.specs.List.{slice_index_or};
+ghost use Rattle.heap_geometry.specs.Need.{usable_words};
+ghost use Rattle.pool_model.specs.declared.event.Event.{Event};
+ghost use Rattle.trace_text.specs.declared.trace.Op.{Op};
+ghost use Rattle.trace_text.specs.declared.trace.Op.TheVariants as op;
+ghost use Rattle.trace_text.specs.declared.limits.TheConstants.{REGISTERS};
+ghost use Rattle.heap_geometry.specs.declared.limits.TheConstants.{SHELVES};
+ghost use Rattle.trace_text.specs.Traces.{IsOp};
+ghost use Rattle.lane_steps.specs.Advances.{MayAnswer, Answers, word_behind, total_with};
+
+use super::LaneState;
+use super::registers::put_in;
+use crate::stage::Stage;
+use lane_engine::engine::{Engine, Token};
+use lane_engine::stepped::Stepped;
+use lane_outcomes::outcome::Outcome;
+use trace_text::trace::Op;
+
+impl<B: Token + Drop> LaneState<B> {
+    /// The usable words of a full register's block.
+    fn words_in<E: Engine<Held = B>>(&self, r: u16) -> u32
+        requires { r < length self.now.registers.items }
+        ensures { (block : B) → slice_index_or self.now.registers.items r None ≡ Some block
+            → result ≡ usable_words (B.need_of block) }
+    {
+        match &self.registers[usize::from(r)] {
+            Some(block) => E::words(block),
+            None => 0,
+        }
+    }
+
+    /// The place of a full register's block.
+    fn place_in<E: Engine<Held = B>>(&self, r: u16) -> u32
+        requires { r < length self.now.registers.items }
+        ensures { (block : B) → slice_index_or self.now.registers.items r None ≡ Some block
+            → result ≡ B.place_of block }
+    {
+        match &self.registers[usize::from(r)] {
+            Some(block) => E::place(block),
+            None => 0,
+        }
+    }
+
+    /// The word behind the one whose write or read has ended, if the block has so many words.
+    fn next_word(&self, words: u32) -> Option<u32>
+        ensures { result ≡ word_behind self.now.stage words }
+    {
+        let (Stage::Filling { next } | Stage::Summing { next, total: _ }) = self.stage else {
+            return None;
+        };
+        if words > 0 && next < words - 1 {
+            Some(next + 1)
+        } else {
+            None
+        }
+    }
+
+    /// The sum with the word that was read.
+    fn total_with(&self, word: u64) -> u64
+        ensures { result ≡ total_with self.now.stage word }
+    {
+        match self.stage {
+            Stage::Summing { next: _, total } => total.wrapping_add(word),
+            _ => word,
+        }
+    }
+
+    /// Goes on by what a step of the operation at hand came to.
+    pub(super) fn answer<E: Engine<Held = B>>(
+        &mut self,
+        engine: &mut E,
+        operation: Op,
+        told: Stepped<B>,
+    )
+        requires serves { E.serves engine.old self.old.caller }
+        requires operation { IsOp operation }
+        requires ready { (seen : List Event) × (operations : List Op)
+            × MayAnswer E.serves E.runs_on E.geometry_of E.errand_of E.events E.moved B.place_of B.need_of
+            operation told engine.old seen operations self.old }
+        ensures answered { Answers E.serves E.runs_on E.geometry_of E.errand_of E.events E.moved B.place_of B.need_of
+            operation told engine.old engine.new self.old self.new }
+    {
+        match operation {
+            Op::Alloc { r, need: _, v } => self.after_alloc(engine, r, v, told),
+            Op::Free { r: _ } => self.after_free(engine, told),
+            Op::Fill { r, v } => self.after_fill(engine, r, v, told),
+            Op::Check { r } => self.after_check(engine, r, told),
+            Op::Put { r, shelf: _ } => self.after_put(engine, r, told),
+            Op::Take { r, shelf } => self.after_take(engine, r, shelf, told),
+        }
+    }
+
+    /// An allocation: the block that is given goes into the register, and is filled.
+    fn after_alloc<E: Engine<Held = B>>(&mut self, engine: &mut E, r: u16, v: u64, told: Stepped<B>)
+        requires serves { E.serves engine.old self.old.caller }
+        requires register { r < REGISTERS }
+        requires ready { (need : ℕ) × (seen : List Event) × (operations : List Op)
+            × MayAnswer E.serves E.runs_on E.geometry_of E.errand_of E.events E.moved B.place_of B.need_of
+            (op.Alloc r need v) told engine.old seen operations self.old }
+        ensures answered { (need : ℕ) → Answers E.serves E.runs_on E.geometry_of E.errand_of E.events E.moved B.place_of B.need_of
+            (op.Alloc r need v) told engine.old engine.new self.old self.new }
+    {
+        match told {
+            Stepped::Given(block) => {
+                put_in(&mut self.registers, r, block);
+                self.write_word(engine, r, v, 0);
+            }
+            Stepped::Refused => self.finish(Outcome::Refused),
+            Stepped::Spent => self.finish(Outcome::Spent),
+            Stepped::Wrote => {
+                let words = self.words_in::<E>(r);
+                let place = self.place_in::<E>(r);
+                match self.next_word(words) {
+                    Some(next) => self.write_word(engine, r, v, next),
+                    None => self.finish(Outcome::Given { words, place }),
+                }
+            }
+            _ => {}
+        }
+    }
+
+    /// A free.
+    fn after_free<E: Engine<Held = B>>(&mut self, _engine: &mut E, told: Stepped<B>)
+        requires serves { E.serves _engine.old self.old.caller }
+        requires ready { (r : ℕ) × (seen : List Event) × (operations : List Op)
+            × MayAnswer E.serves E.runs_on E.geometry_of E.errand_of E.events E.moved B.place_of B.need_of
+            (op.Free r) told _engine.old seen operations self.old }
+        ensures answered { (r : ℕ) → Answers E.serves E.runs_on E.geometry_of E.errand_of E.events E.moved B.place_of B.need_of
+            (op.Free r) told _engine.old _engine.new self.old self.new }
+    {
+        let Stepped::Freed = told else {
+            return;
+        };
+        self.finish(Outcome::Freed);
+    }
+
+    /// A fill: the write of the next word begins.
+    fn after_fill<E: Engine<Held = B>>(&mut self, engine: &mut E, r: u16, v: u64, told: Stepped<B>)
+        requires serves { E.serves engine.old self.old.caller }
+        requires register { r < REGISTERS }
+        requires ready { (seen : List Event) × (operations : List Op)
+            × MayAnswer E.serves E.runs_on E.geometry_of E.errand_of E.events E.moved B.place_of B.need_of
+            (op.Fill r v) told engine.old seen operations self.old }
+        ensures answered { Answers E.serves E.runs_on E.geometry_of E.errand_of E.events E.moved B.place_of B.need_of
+            (op.Fill r v) told engine.old engine.new self.old self.new }
+    {
+        let Stepped::Wrote = told else {
+            return;
+        };
+        let words = self.words_in::<E>(r);
+        match self.next_word(words) {
+            Some(next) => self.write_word(engine, r, v, next),
+            None => self.finish(Outcome::Filled),
+        }
+    }
+
+    /// A check: the word is added, and the read of the next one begins.
+    fn after_check<E: Engine<Held = B>>(&mut self, engine: &mut E, r: u16, told: Stepped<B>)
+        requires serves { E.serves engine.old self.old.caller }
+        requires register { r < REGISTERS }
+        requires ready { (seen : List Event) × (operations : List Op)
+            × MayAnswer E.serves E.runs_on E.geometry_of E.errand_of E.events E.moved B.place_of B.need_of
+            (op.Check r) told engine.old seen operations self.old }
+        ensures answered { Answers E.serves E.runs_on E.geometry_of E.errand_of E.events E.moved B.place_of B.need_of
+            (op.Check r) told engine.old engine.new self.old self.new }
+    {
+        let Stepped::Word(word) = told else {
+            return;
+        };
+        let total = self.total_with(word);
+        let words = self.words_in::<E>(r);
+        match self.next_word(words) {
+            Some(next) => self.read_word(engine, r, next, total),
+            None => self.finish(Outcome::Sum(total)),
+        }
+    }
+
+    /// A put: where the shelf is full the block goes back into the register.
+    fn after_put<E: Engine<Held = B>>(&mut self, _engine: &mut E, r: u16, told: Stepped<B>)
+        requires serves { E.serves _engine.old self.old.caller }
+        requires register { r < REGISTERS }
+        requires ready { (shelf : ℕ) × (seen : List Event) × (operations : List Op)
+            × MayAnswer E.serves E.runs_on E.geometry_of E.errand_of E.events E.moved B.place_of B.need_of
+            (op.Put r shelf) told _engine.old seen operations self.old }
+        ensures answered { (shelf : ℕ) → Answers E.serves E.runs_on E.geometry_of E.errand_of E.events E.moved B.place_of B.need_of
+            (op.Put r shelf) told _engine.old _engine.new self.old self.new }
+    {
+        match told {
+            Stepped::Put => self.finish(Outcome::Put),
+            Stepped::Full(block) => {
+                put_in(&mut self.registers, r, block);
+                self.finish(Outcome::ShelfFull);
+            }
+            _ => {}
+        }
+    }
+
+    /// A take: one that missed the shelf's block is tried again.
+    fn after_take<E: Engine<Held = B>>(
+        &mut self,
+        engine: &mut E,
+        r: u16,
+        shelf: u8,
+        told: Stepped<B>,
+    )
+        requires serves { E.serves engine.old self.old.caller }
+        requires register { r < REGISTERS }
+        requires shelf { shelf < SHELVES }
+        requires ready { (seen : List Event) × (operations : List Op)
+            × MayAnswer E.serves E.runs_on E.geometry_of E.errand_of E.events E.moved B.place_of B.need_of
+            (op.Take r shelf) told engine.old seen operations self.old }
+        ensures answered { Answers E.serves E.runs_on E.geometry_of E.errand_of E.events E.moved B.place_of B.need_of
+            (op.Take r shelf) told engine.old engine.new self.old self.new }
+    {
+        match told {
+            Stepped::Got(block) => {
+                let words = E::words(&block);
+                let place = E::place(&block);
+                put_in(&mut self.registers, r, block);
+                self.finish(Outcome::Took { words, place });
+            }
+            Stepped::Empty => self.finish(Outcome::ShelfEmpty),
+            Stepped::Missed => engine.begin_take(self.caller, shelf),
+            _ => {}
+        }
+    }
+}
