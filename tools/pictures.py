@@ -124,7 +124,7 @@ def draw_crates():
             (x, y), (a, b) = places[name], places[low]
             picture.path(f"M{x + wide / 2:.0f} {y + high:.0f} L{a + wide / 2:.0f} {b:.0f}", arrow=False, colour=FAINT)
     for name, (x, y) in places.items():
-        picture.labelled(x, y, wide, high, name, STRONG if name in ("sound_state", "balloc") else BOX)
+        picture.labelled(x, y, wide, high, name, STRONG if name in ("sound_state", "trace_commands") else BOX)
     picture.save("crates.svg")
 
 
