@@ -18,23 +18,23 @@ use Rattle.sound_state.specs.Sums.{sum_below, words_sum}
 use Rattle.sound_state.specs.Superblocks.{anchor_for, info_for, offered, word_reserves, is_bound}
 use Rattle.sound_state.proofs.shared.SumLemmas.{sum-none, sum-one, two-terms}
 use Rattle.heap_census.specs.Census.{IsActiveOf, active_in}
-use Rattle.heap_census.specs.Tallies.{is_settled}
+use Rattle.heap_census.specs.Tallies.{is_anchored}
 use Rattle.heap_census.proofs.IdleLemmas.{Rests}
-use Rattle.heap_census.proofs.SeenLemmas.{active-unsettled, settled-bound, named-active, named-bound, keeps-named, keeps-itself, bound-seen}
+use Rattle.heap_census.proofs.SeenLemmas.{active-unanchored, anchored-bound, named-active, named-bound, keeps-named, keeps-itself, bound-seen}
 
 -- no active word names the descriptor
 abbrev pub IsUnnamed : Geometry → State → ℕ → Type 0
 IsUnnamed g s d = (heap class : ℕ) → heap < g.heaps → class < CLASSES → active_keeps d (active_in s heap class) ≡ 0
 
 -- its anchor is FULL or PARTIAL
-pub record IsSettled (g : Geometry) (s : State) (l : Lists) (d : ℕ) : Type 0 where
-  pub settled : is_settled (anchor_for s d).state ≡ true
+pub record IsAnchored (g : Geometry) (s : State) (l : Lists) (d : ℕ) : Type 0 where
+  pub anchored : is_anchored (anchor_for s d).state ≡ true
   pub bound : is_bound g s l d ≡ true
   pub unnamed : IsUnnamed g s d
 
 -- one active word names it, of its class
 pub record IsOffered (g : Geometry) (s : State) (l : Lists) (d : ℕ) : Type 0 where
-  pub settled : is_settled (anchor_for s d).state ≡ false
+  pub anchored : is_anchored (anchor_for s d).state ≡ false
   pub bound : is_bound g s l d ≡ true
   pub by : IsActiveOf g s d
   pub class : (info_for s d).class ≡ by.class
@@ -44,7 +44,7 @@ pub record IsOffered (g : Geometry) (s : State) (l : Lists) (d : ℕ) : Type 0 w
 
 -- it has no superblock
 pub record IsAbsent (g : Geometry) (s : State) (l : Lists) (d : ℕ) : Type 0 where
-  pub settled : is_settled (anchor_for s d).state ≡ false
+  pub anchored : is_anchored (anchor_for s d).state ≡ false
   pub bound : is_bound g s l d ≡ false
   pub unnamed : IsUnnamed g s d
 
@@ -93,31 +93,31 @@ named-once g s l d rests a b =
 -- each descriptor is in one of the three states
 pub stands :
     (g : Geometry) (s : State) (l : Lists) (d : ℕ) → Rests g s l → d < descriptor_count g
-    → IsSettled g s l d ⊎ IsOffered g s l d ⊎ IsAbsent g s l d
+    → IsAnchored g s l d ⊎ IsOffered g s l d ⊎ IsAbsent g s l d
 stands g s l d rests has =
     let unnamed : (IsActiveOf g s d → ⊥) → IsUnnamed g s d =
     λ none heap class has_heap has_class. elim (cases_eq (active_keeps d (active_in s heap class)) 0) [
       | inl unheld ↦ unheld
       | inr some ↦ absurd (none (keeps-named g s d heap class has_heap has_class (omega (arith, some))))
     ] in
-    elim (cases_Bool (is_settled (anchor_for s d).state)) [
-      | inl settled ↦ inl (record {
-        settled = settled;
-        bound = settled-bound g s l d rests settled;
-        unnamed = unnamed (λ a. let bad : false ≡ true = sym (active-unsettled (anchor_for s d).state (named-active g s l d rests a).1.state) ∙ settled in cc);
+    elim (cases_Bool (is_anchored (anchor_for s d).state)) [
+      | inl anchored ↦ inl (record {
+        anchored = anchored;
+        bound = anchored-bound g s l d rests anchored;
+        unnamed = unnamed (λ a. let bad : false ≡ true = sym (active-unanchored (anchor_for s d).state (named-active g s l d rests a).1.state) ∙ anchored in cc);
       })
-      | inr unsettled ↦ elim (cases_Bool (is_bound g s l d)) [
+      | inr unanchored ↦ elim (cases_Bool (is_bound g s l d)) [
         | inl bound ↦
-            let a = bound-seen g s l d rests has bound unsettled in
+            let a = bound-seen g s l d rests has bound unanchored in
             inr (inl (record {
-              settled = unsettled;
+              anchored = unanchored;
               bound = bound;
               by = a;
               class = (named-active g s l d rests a).1.class;
               alone = others-keep g s l d rests a;
             }))
         | inr free ↦ inr (inr (record {
-          settled = unsettled;
+          anchored = unanchored;
           bound = free;
           unnamed = unnamed (λ a. let bad : false ≡ true = sym free ∙ named-bound g s l d rests a in cc);
         }))

@@ -19,7 +19,7 @@ use Rattle.live_heap.specs.Endings.{ClosedFields, IsResting}
 use Rattle.heap_census.specs.declared.census.ClassCount.{ClassCount}
 use Rattle.heap_census.specs.declared.tallies.Tally.{Tally}
 use Rattle.heap_census.specs.Census.{IsClassCount, active_in, closed_state, counted_of, has_class, is_class, no_blocks, offered_of, superblocks_of}
-use Rattle.heap_census.specs.Tallies.{IsSameTally, counted_by, named_by, settled_tally, with_actives}
+use Rattle.heap_census.specs.Tallies.{IsSameTally, counted_by, named_by, anchored_tally, with_actives}
 use Rattle.heap_census.proofs.IdleLemmas.{Rests}
 use Rattle.heap_census.proofs.ExchangeLemmas.{weighed, exchange, class-adds}
 use Rattle.heap_census.proofs.LiveLemmas.{class-live}
@@ -38,9 +38,9 @@ counted-weighed s (Some (Held d credits)) = refl
 
 -- what the words say of a class
 pub record IsTallied (g : Geometry) (s : State) (class : ℕ) (t : Tally) : Type 0 where
-  pub settled : Tally
-  pub counts : IsSameTally settled (settled_tally s (descriptor_count g) class)
-  pub all : IsSameTally t (with_actives s settled class g.heaps)
+  pub anchored : Tally
+  pub counts : IsSameTally anchored (anchored_tally s (descriptor_count g) class)
+  pub all : IsSameTally t (with_actives s anchored class g.heaps)
 
 tally-superblocks :
     (g : Geometry) (s : State) (l : Lists) (class : ℕ) (t : Tally) → Rests g s l → class < CLASSES → IsTallied g s class t

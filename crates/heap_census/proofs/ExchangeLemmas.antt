@@ -17,7 +17,7 @@ use Rattle.sound_state.specs.Superblocks.{anchor_for, info_for, offered, reserve
 use Rattle.sound_state.proofs.shared.SumLemmas.{sum-same, sum-none, sum-one, sum-plus, sum-swap}
 use Rattle.sound_state.proofs.shared.TallyLemmas.{tally}
 use Rattle.heap_census.specs.Census.{active_in, counted_of, has_class, offered_of, offers, superblocks_of}
-use Rattle.heap_census.specs.Tallies.{settled_in}
+use Rattle.heap_census.specs.Tallies.{anchored_in}
 use Rattle.heap_census.proofs.IdleLemmas.{Rests, none-waits, words-reserve}
 use Rattle.heap_census.proofs.ActiveLemmas.{stands, heaps-none, heaps-one, offers-none, offers-itself, none-reserved, one-reserved}
 
@@ -52,7 +52,7 @@ either-none false = refl
 desc-weighs :
     (g : Geometry) (s : State) (l : Lists) (class d w : ℕ) → Rests g s l → class < CLASSES → d < descriptor_count g
     → (if has_class g s l class d then w else 0)
-    ≡ (if settled_in s class d then w else 0) + sum_below g.heaps (λ heap. weighs d w (active_in s heap class))
+    ≡ (if anchored_in s class d then w else 0) + sum_below g.heaps (λ heap. weighs d w (active_in s heap class))
 desc-weighs g s l class d w rests of has =
     let here : Bool = (info_for s d).class == class in
     elim (stands g s l d rests has) [
@@ -60,7 +60,7 @@ desc-weighs g s l class d w rests of has =
           omega (
             arith,
             ap (λ b. if b && here then w else 0) x.bound,
-            ap (λ b. if b && here then w else 0) x.settled,
+            ap (λ b. if b && here then w else 0) x.anchored,
             heaps-none g s d class (weighs d w) (weighs-none d w) (λ heap lt. x.unnamed heap class lt of),
           )
       | inr rest ↦ elim rest [
@@ -69,7 +69,7 @@ desc-weighs g s l class d w rests of has =
               omega (
                 arith,
                 ap (λ b. if b && here then w else 0) x.bound,
-                ap (λ b. if b && here then w else 0) x.settled,
+                ap (λ b. if b && here then w else 0) x.anchored,
                 cond-true {A = ℕ} here w 0 (eq-eqb (info_for s d).class class same),
                 heaps-one g s l d class (weighs d w) (weighs-none d w) x (sym same ∙ x.class),
                 weighs-itself d w x.by.credits,
@@ -78,7 +78,7 @@ desc-weighs g s l class d w rests of has =
               omega (
                 arith,
                 ap (λ b. if b && here then w else 0) x.bound,
-                ap (λ b. if b && here then w else 0) x.settled,
+                ap (λ b. if b && here then w else 0) x.anchored,
                 cond-false {A = ℕ} here w 0 (ne_eqb (info_for s d).class class differ),
                 heaps-none g s d class (weighs d w) (weighs-none d w)
                     (λ heap lt. x.alone heap class lt of (λ at same. differ (x.class ∙ sym same))),
@@ -88,7 +88,7 @@ desc-weighs g s l class d w rests of has =
             omega (
               arith,
               ap (λ b. if b && here then w else 0) x.bound,
-              ap (λ b. if b && here then w else 0) x.settled,
+              ap (λ b. if b && here then w else 0) x.anchored,
               heaps-none g s d class (weighs d w) (weighs-none d w) (λ heap lt. x.unnamed heap class lt of),
             )
       ]
@@ -120,23 +120,23 @@ word-exists :
     → active_in s heap class ≡ Some (Held d credits) → d < descriptor_count g
 word-exists g s l heap class rests has_heap has_class d credits is = (rests.parts.kept.active heap class d credits has_heap has_class is).0
 
--- so the sum over all descriptors with a superblock of the class is that over the settled ones and over the active words
+-- so the sum over all descriptors with a superblock of the class is that over the anchored ones and over the active words
 pub exchange :
     (g : Geometry) (s : State) (l : Lists) (class : ℕ) (w : ℕ → ℕ) → Rests g s l → class < CLASSES
     → sum_below (descriptor_count g) (λ d. if has_class g s l class d then w d else 0)
-    ≡ sum_below (descriptor_count g) (λ d. if settled_in s class d then w d else 0)
+    ≡ sum_below (descriptor_count g) (λ d. if anchored_in s class d then w d else 0)
     + sum_below g.heaps (λ heap. weighed w (active_in s heap class))
 exchange g s l class w rests of =
     let n = descriptor_count g in
-    let settled = λ (d : ℕ). if settled_in s class d then w d else 0 in
+    let anchored = λ (d : ℕ). if anchored_in s class d then w d else 0 in
     let word = λ (d heap : ℕ). weighs d (w d) (active_in s heap class) in
-    let each : sum_below n (λ d. if has_class g s l class d then w d else 0) ≡ sum_below n (λ d. settled d + sum_below g.heaps (word d)) =
-    sum-same n (λ d. settled d + sum_below g.heaps (word d)) (λ d. if has_class g s l class d then w d else 0)
+    let each : sum_below n (λ d. if has_class g s l class d then w d else 0) ≡ sum_below n (λ d. anchored d + sum_below g.heaps (word d)) =
+    sum-same n (λ d. anchored d + sum_below g.heaps (word d)) (λ d. if has_class g s l class d then w d else 0)
     (λ d lt. desc-weighs g s l class d (w d) rests of lt) in
     let words : sum_below g.heaps (λ heap. sum_below n (λ d. word d heap)) ≡ sum_below g.heaps (λ heap. weighed w (active_in s heap class)) =
     sum-same g.heaps (λ heap. weighed w (active_in s heap class)) (λ heap. sum_below n (λ d. word d heap))
     (λ heap lt. word-weighed n w (active_in s heap class) (word-exists g s l heap class rests lt of)) in
-    omega (arith, each, sum-plus n settled (λ d. sum_below g.heaps (word d)), sum-swap n g.heaps word, words)
+    omega (arith, each, sum-plus n anchored (λ d. sum_below g.heaps (word d)), sum-swap n g.heaps word, words)
 
 -- and what is reserved of one is what the active words offer of it
 desc-reserved :

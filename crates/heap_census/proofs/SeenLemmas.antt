@@ -25,38 +25,38 @@ use Rattle.sound_state.proofs.shared.HasLemmas.{bound-away, bound-stands}
 use Rattle.sound_state.proofs.shared.ListFacts.{occurring-all}
 use Rattle.sound_state.proofs.shared.SumLemmas.{some-term}
 use Rattle.heap_census.specs.Census.{IsActiveOf, IsSeen, active_in}
-use Rattle.heap_census.specs.Tallies.{is_settled}
+use Rattle.heap_census.specs.Tallies.{is_anchored}
 use Rattle.heap_census.proofs.IdleLemmas.{Rests, away-retired, callers-away}
 
 -- what a state says of a superblock
-settled-cases : (x : Phase) → is_settled x ≡ true → (x ≡ phase.Full) ⊎ (x ≡ phase.Partial)
-settled-cases phase.Active is = absurd (true≢false (sym is))
-settled-cases phase.Full is = inl refl
-settled-cases phase.Partial is = inr refl
-settled-cases phase.Empty is = absurd (true≢false (sym is))
+anchored-cases : (x : Phase) → is_anchored x ≡ true → (x ≡ phase.Full) ⊎ (x ≡ phase.Partial)
+anchored-cases phase.Active is = absurd (true≢false (sym is))
+anchored-cases phase.Full is = inl refl
+anchored-cases phase.Partial is = inr refl
+anchored-cases phase.Empty is = absurd (true≢false (sym is))
 
-pub active-unsettled : (x : Phase) → x ≡ phase.Active → is_settled x ≡ false
-active-unsettled x is = ap is_settled is
+pub active-unanchored : (x : Phase) → x ≡ phase.Active → is_anchored x ≡ false
+active-unanchored x is = ap is_anchored is
 
-settled-with : (x : Phase) → is_settled x ≡ true → (x ≡ phase.Active) ⊎ (x ≡ phase.Empty) → ⊥
-settled-with phase.Active is without = true≢false (sym is)
-settled-with phase.Full is (inl same) = let bad : phase.Full ≡ phase.Active = same in cc
-settled-with phase.Full is (inr same) = let bad : phase.Full ≡ phase.Empty = same in cc
-settled-with phase.Partial is (inl same) = let bad : phase.Partial ≡ phase.Active = same in cc
-settled-with phase.Partial is (inr same) = let bad : phase.Partial ≡ phase.Empty = same in cc
-settled-with phase.Empty is without = true≢false (sym is)
+anchored-with : (x : Phase) → is_anchored x ≡ true → (x ≡ phase.Active) ⊎ (x ≡ phase.Empty) → ⊥
+anchored-with phase.Active is without = true≢false (sym is)
+anchored-with phase.Full is (inl same) = let bad : phase.Full ≡ phase.Active = same in cc
+anchored-with phase.Full is (inr same) = let bad : phase.Full ≡ phase.Empty = same in cc
+anchored-with phase.Partial is (inl same) = let bad : phase.Partial ≡ phase.Active = same in cc
+anchored-with phase.Partial is (inr same) = let bad : phase.Partial ≡ phase.Empty = same in cc
+anchored-with phase.Empty is without = true≢false (sym is)
 
-settled-some : (x : Phase) → is_settled x ≡ true → not (is_empty x) ≡ true
-settled-some phase.Active is = refl
-settled-some phase.Full is = refl
-settled-some phase.Partial is = refl
-settled-some phase.Empty is = is
+anchored-some : (x : Phase) → is_anchored x ≡ true → not (is_empty x) ≡ true
+anchored-some phase.Active is = refl
+anchored-some phase.Full is = refl
+anchored-some phase.Partial is = refl
+anchored-some phase.Empty is = is
 
-unsettled-active : (x : Phase) → is_settled x ≡ false → is_empty x ≡ false → x ≡ phase.Active
-unsettled-active phase.Active unsettled some = refl
-unsettled-active phase.Full unsettled some = absurd (true≢false unsettled)
-unsettled-active phase.Partial unsettled some = absurd (true≢false unsettled)
-unsettled-active phase.Empty unsettled some = absurd (true≢false some)
+unanchored-active : (x : Phase) → is_anchored x ≡ false → is_empty x ≡ false → x ≡ phase.Active
+unanchored-active phase.Active unanchored some = refl
+unanchored-active phase.Full unanchored some = absurd (true≢false unanchored)
+unanchored-active phase.Partial unanchored some = absurd (true≢false unanchored)
+unanchored-active phase.Empty unanchored some = absurd (true≢false some)
 
 -- a descriptor that is away says that it is without a superblock
 away-without : (g : Geometry) (s : State) (l : Lists) (d : ℕ) → Rests g s l → away_of g s l d ≢ 0 → IsWithout s d
@@ -77,12 +77,12 @@ bound-from g s l d none some =
     and_from (away_of g s l d == 0) (not (is_empty (anchor_for s d).state)) (eq-eqb (away_of g s l d) 0 none) some
 
 -- a FULL or PARTIAL one has a superblock
-pub settled-bound :
-    (g : Geometry) (s : State) (l : Lists) (d : ℕ) → Rests g s l → is_settled (anchor_for s d).state ≡ true → IsTrue (is_bound g s l d)
-settled-bound g s l d rests settled =
+pub anchored-bound :
+    (g : Geometry) (s : State) (l : Lists) (d : ℕ) → Rests g s l → is_anchored (anchor_for s d).state ≡ true → IsTrue (is_bound g s l d)
+anchored-bound g s l d rests anchored =
     elim (cases_eq (away_of g s l d) 0) [
-      | inl none ↦ bound-from g s l d none (settled-some (anchor_for s d).state settled)
-      | inr some ↦ absurd (settled-with (anchor_for s d).state settled (away-without g s l d rests some))
+      | inl none ↦ bound-from g s l d none (anchored-some (anchor_for s d).state anchored)
+      | inr some ↦ absurd (anchored-with (anchor_for s d).state anchored (away-without g s l d rests some))
     ]
 
 -- so has one that an active word names, which is ACTIVE, and of the word's class
@@ -166,22 +166,22 @@ active-named g s l d rests has bound active =
 
 pub bound-seen :
     (g : Geometry) (s : State) (l : Lists) (d : ℕ) → Rests g s l → d < descriptor_count g → IsTrue (is_bound g s l d)
-    → is_settled (anchor_for s d).state ≡ false → IsActiveOf g s d
-bound-seen g s l d rests has bound unsettled =
+    → is_anchored (anchor_for s d).state ≡ false → IsActiveOf g s d
+bound-seen g s l d rests has bound unanchored =
     active-named g s l d rests has bound
-    (unsettled-active (anchor_for s d).state unsettled (bound-stands (away_of g s l d == 0) (is_empty (anchor_for s d).state) bound))
+    (unanchored-active (anchor_for s d).state unanchored (bound-stands (away_of g s l d == 0) (is_empty (anchor_for s d).state) bound))
 
 -- so these are all
 pub seen-is : (g : Geometry) (s : State) (l : Lists) (d : ℕ) → Rests g s l → d < descriptor_count g → IsTrue (is_bound g s l d) ↔ IsSeen g s d
 seen-is g s l d rests has = (
-  λ bound. elim (cases_Bool (is_settled (anchor_for s d).state)) [
-    | inl settled ↦ elim (settled-cases (anchor_for s d).state settled) [ inl full ↦ inl full | inr partial ↦ inr (inl partial) ]
-    | inr unsettled ↦ inr (inr (bound-seen g s l d rests has bound unsettled))
+  λ bound. elim (cases_Bool (is_anchored (anchor_for s d).state)) [
+    | inl anchored ↦ elim (anchored-cases (anchor_for s d).state anchored) [ inl full ↦ inl full | inr partial ↦ inr (inl partial) ]
+    | inr unanchored ↦ inr (inr (bound-seen g s l d rests has bound unanchored))
   ],
   λ seen. elim seen [
-    | inl full ↦ settled-bound g s l d rests (ap is_settled full)
+    | inl full ↦ anchored-bound g s l d rests (ap is_anchored full)
     | inr rest ↦ elim rest [
-      | inl partial ↦ settled-bound g s l d rests (ap is_settled partial)
+      | inl partial ↦ anchored-bound g s l d rests (ap is_anchored partial)
       | inr named ↦ named-bound g s l d rests named
     ]
   ],

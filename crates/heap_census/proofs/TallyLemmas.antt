@@ -8,33 +8,33 @@ use Rattle.sound_state.specs.Superblocks.{anchor_for}
 use Rattle.sound_state.proofs.shared.SumLemmas.{sum-most}
 use Rattle.heap_census.specs.declared.tallies.Tally.{Tally}
 use Rattle.heap_census.specs.Census.{active_in, offers}
-use Rattle.heap_census.specs.Tallies.{AreTallies, AreWithin, IsSameTally, counted_by, named_by, settled_in, settled_tally, with_actives}
+use Rattle.heap_census.specs.Tallies.{AreTallies, AreWithin, IsSameTally, counted_by, named_by, anchored_in, anchored_tally, with_actives}
 
 -- an anchor counts less than 1,024 blocks
 either-most : (b : Bool) (w k : ℕ) → w ≤ k → (if b then w else 0) ≤ k
 either-most true w k most = most
 either-most false w k most = omega arith
 
-pub settled-most :
+pub anchored-most :
     (s : State) (n class : ℕ) → ((d : ℕ) → (anchor_for s d).count ≤ 1024)
-    → ((settled_tally s n class).superblocks ≤ n) × ((settled_tally s n class).free ≤ 1024 * n)
-settled-most s n class most = (
-  omega (arith, sum-most n (λ d. if settled_in s class d then 1 else 0) 1 (λ d lt. either-most (settled_in s class d) 1 1 (omega arith))),
+    → ((anchored_tally s n class).superblocks ≤ n) × ((anchored_tally s n class).free ≤ 1024 * n)
+anchored-most s n class most = (
+  omega (arith, sum-most n (λ d. if anchored_in s class d then 1 else 0) 1 (λ d lt. either-most (anchored_in s class d) 1 1 (omega arith))),
   omega (
     arith,
-    sum-most n (λ d. if settled_in s class d then (anchor_for s d).count else 0) 1024
-        (λ d lt. either-most (settled_in s class d) (anchor_for s d).count 1024 (most d)),
+    sum-most n (λ d. if anchored_in s class d then (anchor_for s d).count else 0) 1024
+        (λ d lt. either-most (anchored_in s class d) (anchor_for s d).count 1024 (most d)),
   ),
 )
 
 -- so few are counted
 pub tallies-within :
-    (s : State) (tallies : List Tally) (d : ℕ) → ((k : ℕ) → (anchor_for s k).count ≤ 1024) → AreTallies tallies (settled_tally s d)
+    (s : State) (tallies : List Tally) (d : ℕ) → ((k : ℕ) → (anchor_for s k).count ≤ 1024) → AreTallies tallies (anchored_tally s d)
     → AreWithin tallies d
 tallies-within s tallies d most are = record {
   classes = are.classes;
-  superblocks = λ class lt. omega (arith, (are.each class lt).superblocks, (settled-most s d class most).0);
-  free = λ class lt. omega (arith, (are.each class lt).free, (settled-most s d class most).1);
+  superblocks = λ class lt. omega (arith, (are.each class lt).superblocks, (anchored-most s d class most).0);
+  free = λ class lt. omega (arith, (are.each class lt).free, (anchored-most s d class most).1);
 }
 
 -- and few are counted
@@ -50,14 +50,14 @@ counted-most s (Some (Held d credits)) most = most d
 
 pub actives-room :
     (s : State) (t u : Tally) (class descs heap : ℕ) → ((d : ℕ) → (anchor_for s d).count ≤ 1024)
-    → ((k : ℕ) → offers (active_in s k class) ≤ 64) → IsSameTally t (settled_tally s descs class) → IsSameTally u (with_actives s t class heap)
+    → ((k : ℕ) → offers (active_in s k class) ≤ 64) → IsSameTally t (anchored_tally s descs class) → IsSameTally u (with_actives s t class heap)
     → (u.superblocks ≤ descs + heap) × (u.free ≤ 1024 * (descs + heap)) × (u.reserved ≤ 64 * heap)
-actives-room s t u class descs heap count offer settled all =
-    let most = settled-most s descs class count in
+actives-room s t u class descs heap count offer anchored all =
+    let most = anchored-most s descs class count in
     let named = sum-most heap (λ k. named_by (active_in s k class)) 1 (λ k lt. named-most (active_in s k class)) in
     let counted = sum-most heap (λ k. counted_by s (active_in s k class)) 1024 (λ k lt. counted-most s (active_in s k class) count) in
     let offered = sum-most heap (λ k. offers (active_in s k class)) 64 (λ k lt. offer k) in (
-      omega (arith, most.0, named, settled.superblocks, all.superblocks),
-      omega (arith, most.1, counted, settled.free, all.free),
-      omega (arith, offered, settled.reserved, all.reserved),
+      omega (arith, most.0, named, anchored.superblocks, all.superblocks),
+      omega (arith, most.1, counted, anchored.free, all.free),
+      omega (arith, offered, anchored.reserved, all.reserved),
     )

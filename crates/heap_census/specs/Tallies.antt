@@ -12,25 +12,25 @@ use Rattle.heap_census.specs.declared.tallies.Tally.{Tally}
 use Rattle.heap_census.specs.Census.{active_in, offers}
 
 -- whether an anchor alone says that there is a superblock
-abbrev pub is_settled : Phase → Bool
-is_settled Active = false
-is_settled Full = true
-is_settled Partial = true
-is_settled Empty = false
+abbrev pub is_anchored : Phase → Bool
+is_anchored Active = false
+is_anchored Full = true
+is_anchored Partial = true
+is_anchored Empty = false
 
 -- whether that of a descriptor does, of the class
-abbrev pub settled_in : State → ℕ → ℕ → Bool
-settled_in s class d = is_settled (anchor_for s d).state && ((info_for s d).class == class)
+abbrev pub anchored_in : State → ℕ → ℕ → Bool
+anchored_in s class d = is_anchored (anchor_for s d).state && ((info_for s d).class == class)
 
 -- nothing is counted yet
 abbrev pub nothing_yet : Tally
 nothing_yet = record { superblocks = 0; free = 0; reserved = 0 }
 
 -- what the first descriptors' anchors say of a class
-abbrev pub settled_tally : State → ℕ → ℕ → Tally
-settled_tally s descs class = record {
-  superblocks = sum_below descs (λ d. if settled_in s class d then 1 else 0);
-  free = sum_below descs (λ d. if settled_in s class d then (anchor_for s d).count else 0);
+abbrev pub anchored_tally : State → ℕ → ℕ → Tally
+anchored_tally s descs class = record {
+  superblocks = sum_below descs (λ d. if anchored_in s class d then 1 else 0);
+  free = sum_below descs (λ d. if anchored_in s class d then (anchor_for s d).count else 0);
   reserved = 0;
 }
 
@@ -85,8 +85,8 @@ with_superblock tallies class free =
     slice_set tallies class (record { superblocks = t.superblocks + 1; free = t.free + free; reserved = t.reserved })
 
 -- the tallies with what a descriptor's anchor says
-abbrev pub with_settled : State → List Tally → ℕ → List Tally
-with_settled s tallies d =
-    if is_settled (anchor_for s d).state
+abbrev pub with_anchored : State → List Tally → ℕ → List Tally
+with_anchored s tallies d =
+    if is_anchored (anchor_for s d).state
     then with_superblock tallies (info_for s d).class (anchor_for s d).count
     else tallies

@@ -8,10 +8,10 @@ ghost use Rattle.sound_state.specs.Lists.{Lists, IsListed};
 ghost use Rattle.sound_state.specs.Sums.{sum_below};
 ghost use Rattle.live_heap.specs.Endings.{IsResting};
 ghost use Rattle.heap_census.specs.Census.{IsCensus, IsClassCount, closed_state, no_blocks};
-ghost use Rattle.heap_census.specs.Tallies.{IsSameTally, settled_tally};
+ghost use Rattle.heap_census.specs.Tallies.{IsSameTally, anchored_tally};
 
 use crate::census::{CLASS_COUNT, Census, ClassCount};
-use crate::tallies::{Tally, add_actives, tally_settled};
+use crate::tallies::{Tally, add_actives, tally_anchored};
 use heap_geometry::limits::CLASSES;
 use heap_geometry::need::block_count;
 use live_heap::closed::Closed;
@@ -45,23 +45,23 @@ fn count_classes(closed: &Closed) -> [ClassCount; CLASS_COUNT]
     ensures each { (l : Lists) → IsListed closed.now.geometry (closed_state closed.now).word l
         → (class : ℕ) → class < CLASSES → IsClassCount closed.now l class (slice_index_or result class no_blocks) }
 {
-    let settled = tally_settled(closed);
+    let anchored = tally_anchored(closed);
     let mut counts = [NO_BLOCKS; CLASS_COUNT];
     for class in 0..CLASSES {
-        counts[usize::from(class)] = count_class(closed, class, settled[usize::from(class)]);
+        counts[usize::from(class)] = count_class(closed, class, anchored[usize::from(class)]);
     }
     counts
 }
 
 /// The blocks of a class, of whose superblocks those that stand in no active word are counted already.
-fn count_class(closed: &Closed, class: u8, settled: Tally) -> ClassCount
+fn count_class(closed: &Closed, class: u8, anchored: Tally) -> ClassCount
     requires rests { IsResting closed.now }
     requires class { class < CLASSES }
-    requires settled { IsSameTally settled (settled_tally (closed_state closed.now) (descriptor_count closed.now.geometry) class) }
+    requires anchored { IsSameTally anchored (anchored_tally (closed_state closed.now) (descriptor_count closed.now.geometry) class) }
     ensures { (l : Lists) → IsListed closed.now.geometry (closed_state closed.now).word l
         → IsClassCount closed.now l class result }
 {
-    let tally = add_actives(closed, class, settled);
+    let tally = add_actives(closed, class, anchored);
     let blocks = u64::from(block_count(class)) * tally.superblocks;
     ClassCount {
         blocks,

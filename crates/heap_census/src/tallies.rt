@@ -8,7 +8,7 @@ ghost use Rattle.word_plan.specs.declared.limits.TheConstants.{MAX_DESCRIPTORS};
 ghost use Rattle.sound_state.specs.Superblocks.{anchor_for, info_for};
 ghost use Rattle.live_heap.specs.Endings.{IsResting};
 ghost use Rattle.heap_census.specs.Census.{active_in, closed_state};
-ghost use Rattle.heap_census.specs.Tallies.{AreTallies, AreWithin, IsSameTally, is_settled, nothing_yet, settled_tally, with_active, with_actives, with_settled, with_superblock};
+ghost use Rattle.heap_census.specs.Tallies.{AreTallies, AreWithin, IsSameTally, is_anchored, nothing_yet, anchored_tally, with_active, with_actives, with_anchored, with_superblock};
 
 use crate::census::CLASS_COUNT;
 use live_heap::closed::Closed;
@@ -37,34 +37,34 @@ const NOTHING_YET: Tally = Tally {
 };
 
 /// The superblocks of each class whose anchors say FULL or PARTIAL.
-pub fn tally_settled(closed: &Closed) -> [Tally; CLASS_COUNT]
+pub fn tally_anchored(closed: &Closed) -> [Tally; CLASS_COUNT]
     requires { IsResting closed.now }
-    ensures { AreTallies result (settled_tally (closed_state closed.now) (descriptor_count closed.now.geometry)) }
+    ensures { AreTallies result (anchored_tally (closed_state closed.now) (descriptor_count closed.now.geometry)) }
 {
     let descriptors = Layout::new(closed.geometry()).descriptors();
     let mut tallies = [NOTHING_YET; CLASS_COUNT];
     for desc in 0..descriptors {
-        add_settled(closed, &mut tallies, desc as u16);
+        add_anchored(closed, &mut tallies, desc as u16);
     }
     tallies
 }
 
 /// Adds the superblock of a descriptor whose anchor says FULL or PARTIAL.
-fn add_settled(closed: &Closed, tallies: &mut [Tally; CLASS_COUNT], desc: u16)
+fn add_anchored(closed: &Closed, tallies: &mut [Tally; CLASS_COUNT], desc: u16)
     requires rests { IsResting closed.now }
     requires desc { desc < descriptor_count closed.now.geometry }
     requires room { AreWithin tallies.old desc }
-    ensures { tallies.new ≡ with_settled (closed_state closed.now) tallies.old desc }
+    ensures { tallies.new ≡ with_anchored (closed_state closed.now) tallies.old desc }
 {
     let anchor = Anchor::unpack(closed.word(WordName::Anchor(desc)));
-    if is_settled(anchor.state()) {
+    if is_anchored(anchor.state()) {
         add_superblock(tallies, class_of(closed, desc), anchor.count());
     }
 }
 
 /// Whether an anchor in this state has a superblock, whatever else the words say.
-fn is_settled(state: State) -> bool
-    ensures { result ≡ is_settled state }
+fn is_anchored(state: State) -> bool
+    ensures { result ≡ is_anchored state }
 {
     match state {
         State::Full | State::Partial => true,
@@ -102,13 +102,13 @@ fn add_superblock(tallies: &mut [Tally; CLASS_COUNT], class: u8, free: u16)
 }
 
 /// Adds the superblocks that the active words of the class name, and what these words offer.
-pub fn add_actives(closed: &Closed, class: u8, settled: Tally) -> Tally
+pub fn add_actives(closed: &Closed, class: u8, anchored: Tally) -> Tally
     requires rests { IsResting closed.now }
     requires class { class < CLASSES }
-    requires settled { IsSameTally settled (settled_tally (closed_state closed.now) (descriptor_count closed.now.geometry) class) }
-    ensures { IsSameTally result (with_actives (closed_state closed.now) settled class closed.now.geometry.heaps) }
+    requires anchored { IsSameTally anchored (anchored_tally (closed_state closed.now) (descriptor_count closed.now.geometry) class) }
+    ensures { IsSameTally result (with_actives (closed_state closed.now) anchored class closed.now.geometry.heaps) }
 {
-    let mut tally = settled;
+    let mut tally = anchored;
     for heap in 0..closed.geometry().heaps {
         tally = add_active(closed, tally, heap as u8, class);
     }

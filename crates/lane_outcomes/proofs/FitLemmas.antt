@@ -8,7 +8,7 @@ use Rattle.trace_text.specs.declared.trace.Op.TheVariants as op
 use Rattle.lane_outcomes.specs.declared.registers.Held.{Held}
 use Rattle.lane_outcomes.specs.declared.outcome.Outcome.{Outcome}
 use Rattle.lane_outcomes.specs.declared.outcome.Outcome.TheVariants as outcome
-use Rattle.lane_outcomes.specs.Lane.{State, state_after, held_in}
+use Rattle.lane_outcomes.specs.Lane.{Position, position_after, held_in}
 use Rattle.lane_outcomes.specs.Rows.{Setting, Moment, AllocRow, FreeRow, FillRow, CheckRow, PutRow, TakeRow, FitsRow, IsSpent}
 use Rattle.lane_outcomes.specs.Fits.{Walks, Fits}
 
@@ -31,18 +31,18 @@ moment-later setting rest lost done moment =
     }
 
 spent-later :
-    (setting : Setting) (rest : List Event) (lost : ℕ) → setting.lost ≤ lost → (state : State) (need : ℕ) (piece : List Event) (spent : Bool)
-    → IsSpent setting state need piece spent → IsSpent (later setting rest lost) state need piece spent
-spent-later setting rest lost more state need piece true row = row
-spent-later setting rest lost more state need piece false row =
-    (row.0, omega (arith, row.1), moment-later setting rest lost (state.done ++ piece) row.2, row.3)
+    (setting : Setting) (rest : List Event) (lost : ℕ) → setting.lost ≤ lost → (position : Position) (need : ℕ) (piece : List Event) (spent : Bool)
+    → IsSpent setting position need piece spent → IsSpent (later setting rest lost) position need piece spent
+spent-later setting rest lost more position need piece true row = row
+spent-later setting rest lost more position need piece false row =
+    (row.0, omega (arith, row.1), moment-later setting rest lost (position.done ++ piece) row.2, row.3)
 
 alloc-later :
     (setting : Setting) (rest : List Event) (lost : ℕ) → setting.lost ≤ lost
-    → (state : State) (need v : ℕ) (held : Option Held) (result : Outcome) (piece : List Event)
-    → AllocRow setting state need v held result piece → AllocRow (later setting rest lost) state need v held result piece
-alloc-later setting rest lost more state need v None outcome.Spent piece row = spent-later setting rest lost more state need piece state.spent row
-alloc-later setting rest lost more state need v held result piece row = row
+    → (position : Position) (need v : ℕ) (held : Option Held) (result : Outcome) (piece : List Event)
+    → AllocRow setting position need v held result piece → AllocRow (later setting rest lost) position need v held result piece
+alloc-later setting rest lost more position need v None outcome.Spent piece row = spent-later setting rest lost more position need piece position.spent row
+alloc-later setting rest lost more position need v held result piece row = row
 
 free-later :
     (setting : Setting) (rest : List Event) (lost : ℕ) (held : Option Held) (result : Outcome) (piece : List Event)
@@ -55,42 +55,42 @@ fill-later :
 fill-later setting rest lost v held result piece row = row
 
 check-later :
-    (setting : Setting) (rest : List Event) (lost : ℕ) (state : State) (held : Option Held) (result : Outcome) (piece : List Event)
-    → CheckRow setting state held result piece → CheckRow (later setting rest lost) state held result piece
-check-later setting rest lost state (Some held) (outcome.Sum total) piece row =
-    (row.0, moment-later setting rest lost state.done row.1, row.2, row.3, row.4)
-check-later setting rest lost state held result piece row = row
+    (setting : Setting) (rest : List Event) (lost : ℕ) (position : Position) (held : Option Held) (result : Outcome) (piece : List Event)
+    → CheckRow setting position held result piece → CheckRow (later setting rest lost) position held result piece
+check-later setting rest lost position (Some held) (outcome.Sum total) piece row =
+    (row.0, moment-later setting rest lost position.done row.1, row.2, row.3, row.4)
+check-later setting rest lost position held result piece row = row
 
 put-later :
-    (setting : Setting) (rest : List Event) (lost : ℕ) (state : State) (shelf : ℕ) (held : Option Held) (result : Outcome) (piece : List Event)
-    → PutRow setting state shelf held result piece → PutRow (later setting rest lost) state shelf held result piece
-put-later setting rest lost state shelf (Some held) outcome.ShelfFull piece row =
-    (row.0, moment-later setting rest lost state.done row.1, row.2)
-put-later setting rest lost state shelf held result piece row = row
+    (setting : Setting) (rest : List Event) (lost : ℕ) (position : Position) (shelf : ℕ) (held : Option Held) (result : Outcome) (piece : List Event)
+    → PutRow setting position shelf held result piece → PutRow (later setting rest lost) position shelf held result piece
+put-later setting rest lost position shelf (Some held) outcome.ShelfFull piece row =
+    (row.0, moment-later setting rest lost position.done row.1, row.2)
+put-later setting rest lost position shelf held result piece row = row
 
 take-later :
-    (setting : Setting) (rest : List Event) (lost : ℕ) (state : State) (shelf : ℕ) (held : Option Held) (result : Outcome) (piece : List Event)
-    → TakeRow setting state shelf held result piece → TakeRow (later setting rest lost) state shelf held result piece
-take-later setting rest lost state shelf None (outcome.Took words place) piece row =
-    (row.0, moment-later setting rest lost state.done row.1, row.2, begins-longer (row.1.before ++ piece) setting.history rest row.3, row.4, row.5)
-take-later setting rest lost state shelf held result piece row = row
+    (setting : Setting) (rest : List Event) (lost : ℕ) (position : Position) (shelf : ℕ) (held : Option Held) (result : Outcome) (piece : List Event)
+    → TakeRow setting position shelf held result piece → TakeRow (later setting rest lost) position shelf held result piece
+take-later setting rest lost position shelf None (outcome.Took words place) piece row =
+    (row.0, moment-later setting rest lost position.done row.1, row.2, begins-longer (row.1.before ++ piece) setting.history rest row.3, row.4, row.5)
+take-later setting rest lost position shelf held result piece row = row
 
 -- a row that fits still fits
 pub row-later :
     (setting : Setting) (rest : List Event) (lost : ℕ) → setting.lost ≤ lost
-    → (state : State) (operation : Op) (result : Outcome) (piece : List Event)
-    → FitsRow setting state operation result piece → FitsRow (later setting rest lost) state operation result piece
-row-later setting rest lost more state (op.Alloc r need v) result piece row = alloc-later setting rest lost more state need v (held_in state.registers r) result piece row
-row-later setting rest lost more state (op.Free r) result piece row = free-later setting rest lost (held_in state.registers r) result piece row
-row-later setting rest lost more state (op.Fill r v) result piece row = fill-later setting rest lost v (held_in state.registers r) result piece row
-row-later setting rest lost more state (op.Check r) result piece row = check-later setting rest lost state (held_in state.registers r) result piece row
-row-later setting rest lost more state (op.Put r shelf) result piece row = put-later setting rest lost state shelf (held_in state.registers r) result piece row
-row-later setting rest lost more state (op.Take r shelf) result piece row = take-later setting rest lost state shelf (held_in state.registers r) result piece row
+    → (position : Position) (operation : Op) (result : Outcome) (piece : List Event)
+    → FitsRow setting position operation result piece → FitsRow (later setting rest lost) position operation result piece
+row-later setting rest lost more position (op.Alloc r need v) result piece row = alloc-later setting rest lost more position need v (held_in position.registers r) result piece row
+row-later setting rest lost more position (op.Free r) result piece row = free-later setting rest lost (held_in position.registers r) result piece row
+row-later setting rest lost more position (op.Fill r v) result piece row = fill-later setting rest lost v (held_in position.registers r) result piece row
+row-later setting rest lost more position (op.Check r) result piece row = check-later setting rest lost position (held_in position.registers r) result piece row
+row-later setting rest lost more position (op.Put r shelf) result piece row = put-later setting rest lost position shelf (held_in position.registers r) result piece row
+row-later setting rest lost more position (op.Take r shelf) result piece row = take-later setting rest lost position shelf (held_in position.registers r) result piece row
 
 -- and so does a walk
 pub walks-later :
     (setting : Setting) (rest : List Event) (lost : ℕ) → setting.lost ≤ lost
-    → (from to : State) (operations : List Op) (results : List Outcome)
+    → (from to : Position) (operations : List Op) (results : List Outcome)
     → Walks setting from operations results to → Walks (later setting rest lost) from operations results to
 walks-later setting rest lost more from to [] [] walks = walks
 walks-later setting rest lost more from to [] (result ∷ results) walks = walks
@@ -98,7 +98,7 @@ walks-later setting rest lost more from to (operation ∷ operations) [] walks =
 walks-later setting rest lost more from to (operation ∷ operations) (result ∷ results) walks = (
   walks.0,
   row-later setting rest lost more from operation result walks.0 walks.1,
-  walks-later setting rest lost more (state_after from operation result walks.0) to operations results walks.2,
+  walks-later setting rest lost more (position_after from operation result walks.0) to operations results walks.2,
 )
 
 -- the outcomes of a lane fit a history that other callers went on with

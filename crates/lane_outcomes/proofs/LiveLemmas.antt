@@ -21,7 +21,7 @@ use Rattle.lane_outcomes.specs.declared.outcome.Outcome.{Outcome}
 use Rattle.lane_outcomes.specs.declared.outcome.Outcome.TheVariants as outcome
 use Rattle.lane_outcomes.specs.declared.live.Amount.{Amount}
 use Rattle.lane_outcomes.specs.declared.live.TheConstants.{NOTHING}
-use Rattle.lane_outcomes.specs.Lane.{State, start, held_in, state_after}
+use Rattle.lane_outcomes.specs.Lane.{Position, start, held_in, position_after}
 use Rattle.lane_outcomes.specs.Rows.{Setting, Moment, AllocRow, FitsRow}
 use Rattle.lane_outcomes.specs.Fits.{Walks, Fits, LanesFit, OutcomesFit}
 use Rattle.lane_outcomes.specs.LaneCounts.{words_given, count_with, as_one, as_words, lane_given, lane_freed, lanes_given, lanes_freed, GrowsBy}
@@ -56,11 +56,11 @@ lane-tally f g setting operations results legal fits =
 
 -- the registers of a lane hold its blocks
 pub registers-hold :
-    (g : Geometry) (setting : Setting) (operations : List Op) (results : List Outcome) (state : State) → IsLegalWithoutCounts g setting.history
-    → Walks setting start operations results state → (moment : Moment setting state.done)
-    → HoldsOwn (pool_of moment.before) setting.caller state.registers
-registers-hold g setting operations results state legal walks moment =
-    (walk-after as_one g setting start state operations results 0 0 legal walks (at-start as_one setting) moment.before moment.begins moment.own_done).holds
+    (g : Geometry) (setting : Setting) (operations : List Op) (results : List Outcome) (position : Position) → IsLegalWithoutCounts g setting.history
+    → Walks setting start operations results position → (moment : Moment setting position.done)
+    → HoldsOwn (pool_of moment.before) setting.caller position.registers
+registers-hold g setting operations results position legal walks moment =
+    (walk-after as_one g setting start position operations results 0 0 legal walks (at-start as_one setting) moment.before moment.begins moment.own_done).holds
 
 -- what all lanes gave and freed
 record AreLaneTallies (f : ℕ → ℕ) (history : List Event) (lane : ℕ) (lanes : List (List Op)) (outcomes : List (List Outcome)) : Type 0 where
@@ -104,21 +104,21 @@ abbrev IsFew : (ℕ → ℕ) → Type 0
 IsFew f = (need : ℕ) → f (usable_words (need_of need)) ≤ 2 ^ 18
 
 few-alloc :
-    (f : ℕ → ℕ) (setting : Setting) (state : State) (r need v : ℕ) (held : Option Held) (result : Outcome) (piece : List Event) → IsFew f
-    → AllocRow setting state need v held result piece → count_with f (words_given (op.Alloc r need v) result) ≤ 2 ^ 18
-few-alloc f setting state r need v None (outcome.Given words place) piece few row =
+    (f : ℕ → ℕ) (setting : Setting) (position : Position) (r need v : ℕ) (held : Option Held) (result : Outcome) (piece : List Event) → IsFew f
+    → AllocRow setting position need v held result piece → count_with f (words_given (op.Alloc r need v) result) ≤ 2 ^ 18
+few-alloc f setting position r need v None (outcome.Given words place) piece few row =
     subst (λ n. f n ≤ 2 ^ 18) (sym row.1) (few need)
-few-alloc f setting state r need v (Some held) (outcome.Given words place) piece few row = absurd row
-few-alloc f setting state r need v held result piece few row = omega arith
+few-alloc f setting position r need v (Some held) (outcome.Given words place) piece few row = absurd row
+few-alloc f setting position r need v held result piece few row = omega arith
 
 few-row :
-    (f : ℕ → ℕ) (setting : Setting) (state : State) (operation : Op) (result : Outcome) (piece : List Event) → IsFew f
-    → FitsRow setting state operation result piece → count_with f (words_given operation result) ≤ 2 ^ 18
-few-row f setting state (op.Alloc r need v) result piece few row = few-alloc f setting state r need v (held_in state.registers r) result piece few row
-few-row f setting state operation result piece few row = omega arith
+    (f : ℕ → ℕ) (setting : Setting) (position : Position) (operation : Op) (result : Outcome) (piece : List Event) → IsFew f
+    → FitsRow setting position operation result piece → count_with f (words_given operation result) ≤ 2 ^ 18
+few-row f setting position (op.Alloc r need v) result piece few row = few-alloc f setting position r need v (held_in position.registers r) result piece few row
+few-row f setting position operation result piece few row = omega arith
 
 few-lane :
-    (f : ℕ → ℕ) (setting : Setting) (from to : State) (operations : List Op) (results : List Outcome) → IsFew f
+    (f : ℕ → ℕ) (setting : Setting) (from to : Position) (operations : List Op) (results : List Outcome) → IsFew f
     → Walks setting from operations results to → lane_given f operations results ≤ 2 ^ 18 * length results
 few-lane f setting from to [] [] few walks = omega arith
 few-lane f setting from to [] (result ∷ results) few walks = absurd walks
@@ -127,7 +127,7 @@ few-lane f setting from to (operation ∷ operations) (result ∷ results) few w
     omega (
       arith,
       few-row f setting from operation result walks.0 few walks.1,
-      few-lane f setting (state_after from operation result walks.0) to operations results few walks.2,
+      few-lane f setting (position_after from operation result walks.0) to operations results few walks.2,
     )
 
 -- the outcomes of each lane are as many as memory can hold

@@ -18,7 +18,7 @@ use Rattle.trace_text.specs.declared.trace.Op.TheVariants as op
 use Rattle.lane_outcomes.specs.declared.registers.Held.{Held}
 use Rattle.lane_outcomes.specs.declared.outcome.Outcome.{Outcome}
 use Rattle.lane_outcomes.specs.declared.outcome.Outcome.TheVariants as outcome
-use Rattle.lane_outcomes.specs.Lane.{State, held_in, registers_after, state_after, filling}
+use Rattle.lane_outcomes.specs.Lane.{Position, held_in, registers_after, position_after, filling}
 use Rattle.lane_outcomes.specs.Rows.{Setting, IsSpent, AllocRow, FreeRow, FillRow, CheckRow, PutRow, TakeRow, FitsRow}
 use Rattle.lane_outcomes.specs.Fits.{Walks}
 use Rattle.lane_outcomes.specs.LaneCounts.{words_given, words_freed, count_with, lane_given, lane_freed}
@@ -57,9 +57,9 @@ stills-spending caller (Small class) events spending = rw spending.1 (stills-loo
 stills-spending caller (Large units) events spending = absurd spending
 stills-spending caller TooLarge events spending = absurd spending
 
-stills-spent : (setting : Setting) (state : State) (need : ℕ) (piece : List Event) (spent : Bool) → IsSpent setting state need piece spent → AllByRecursion (IsStill setting.caller) piece
-stills-spent setting state need piece true row = rw row.1 tt
-stills-spent setting state need piece false row = stills-spending setting.caller (need_of need) piece row.0
+stills-spent : (setting : Setting) (position : Position) (need : ℕ) (piece : List Event) (spent : Bool) → IsSpent setting position need piece spent → AllByRecursion (IsStill setting.caller) piece
+stills-spent setting position need piece true row = rw row.1 tt
+stills-spent setting position need piece false row = stills-spending setting.caller (need_of need) piece row.0
 
 -- an allocation that was given a block: some looks, and then the allocation
 record IsGiven (caller need place : ℕ) (events : List Event) : Type 0 where
@@ -74,142 +74,142 @@ given-of caller need place (Large units) events giving = record { looked = []; s
 given-of caller need place TooLarge events giving = absurd giving
 
 -- where the lane stands after an operation
-abbrev pub After : (ℕ → ℕ) → Setting → State → Op → Outcome → List Event → ℕ → ℕ → Type 0
-After f setting state operation result piece given freed =
-    FollowsAt f setting.history setting.caller (state.done ++ piece) (registers_after state.registers operation result)
-    (given + count_with f (words_given operation result)) (freed + count_with f (words_freed state.registers operation result))
+abbrev pub After : (ℕ → ℕ) → Setting → Position → Op → Outcome → List Event → ℕ → ℕ → Type 0
+After f setting position operation result piece given freed =
+    FollowsAt f setting.history setting.caller (position.done ++ piece) (registers_after position.registers operation result)
+    (given + count_with f (words_given operation result)) (freed + count_with f (words_freed position.registers operation result))
 
-abbrev pub Before : (ℕ → ℕ) → Setting → State → ℕ → ℕ → Type 0
-Before f setting state given freed = FollowsAt f setting.history setting.caller state.done state.registers given freed
+abbrev pub Before : (ℕ → ℕ) → Setting → Position → ℕ → ℕ → Type 0
+Before f setting position given freed = FollowsAt f setting.history setting.caller position.done position.registers given freed
 
 -- a piece that gives and frees nothing, and leaves the registers
 quiet :
-    (f : ℕ → ℕ) (g : Geometry) (setting : Setting) (state : State) (piece : List Event) (given freed : ℕ)
-    → IsLegalWithoutCounts g setting.history → AllByRecursion (IsStill setting.caller) piece → Before f setting state given freed
-    → FollowsAt f setting.history setting.caller (state.done ++ piece) state.registers (given + 0) (freed + 0)
-quiet f g setting state piece given freed legal stills at =
-    at-as f setting.history setting.caller (state.done ++ piece) (state.done ++ piece) state.registers given freed (given + 0) (freed + 0)
+    (f : ℕ → ℕ) (g : Geometry) (setting : Setting) (position : Position) (piece : List Event) (given freed : ℕ)
+    → IsLegalWithoutCounts g setting.history → AllByRecursion (IsStill setting.caller) piece → Before f setting position given freed
+    → FollowsAt f setting.history setting.caller (position.done ++ piece) position.registers (given + 0) (freed + 0)
+quiet f g setting position piece given freed legal stills at =
+    at-as f setting.history setting.caller (position.done ++ piece) (position.done ++ piece) position.registers given freed (given + 0) (freed + 0)
     refl (omega arith) (omega arith)
-    (at-stills f g setting.history setting.caller state.done piece state.registers given freed legal stills at)
+    (at-stills f g setting.history setting.caller position.done piece position.registers given freed legal stills at)
 
 -- no events
 abbrev none-still : (caller : ℕ) (piece : List Event) → piece ≡ [] → AllByRecursion (IsStill caller) piece
 none-still caller piece none = rw none tt
 
 given-after :
-    (f : ℕ → ℕ) (g : Geometry) (setting : Setting) (state : State) (r need v words place : ℕ) (calls piece : List Event) (given freed : ℕ)
+    (f : ℕ → ℕ) (g : Geometry) (setting : Setting) (position : Position) (r need v words place : ℕ) (calls piece : List Event) (given freed : ℕ)
     → IsLegalWithoutCounts g setting.history → words ≡ usable_words (need_of need) → IsGiven setting.caller need place calls
-    → piece ≡ calls ++ filling setting.caller place words v → Before f setting state given freed
-    → FollowsAt f setting.history setting.caller (state.done ++ piece) (slice_set state.registers r (Some (record { place = place; words = words }))) (given + f words) (freed + 0)
-given-after f g setting state r need v words place calls piece given freed legal words_are is piece_is at =
+    → piece ≡ calls ++ filling setting.caller place words v → Before f setting position given freed
+    → FollowsAt f setting.history setting.caller (position.done ++ piece) (slice_set position.registers r (Some (record { place = place; words = words }))) (given + f words) (freed + 0)
+given-after f g setting position r need v words place calls piece given freed legal words_are is piece_is at =
     let caller = setting.caller in
-    let looked : List Event = state.done ++ is.looked in
-    let set : List (Option Held) = slice_set state.registers r (Some (record { place = place; words = words })) in
-    let at_looked = at-stills f g setting.history caller state.done is.looked state.registers given freed legal is.stills at in
+    let looked : List Event = position.done ++ is.looked in
+    let set : List (Option Held) = slice_set position.registers r (Some (record { place = place; words = words })) in
+    let at_looked = at-stills f g setting.history caller position.done is.looked position.registers given freed legal is.stills at in
     let at_alloc : FollowsAt f setting.history caller (looked ++ Alloc caller need place ∷ []) set (given + f words) (freed + 0) =
-    at-step f g setting.history caller looked (Alloc caller need place) state.registers set given freed (given + f words) (freed + 0) legal refl
+    at-step f g setting.history caller looked (Alloc caller need place) position.registers set given freed (given + f words) (freed + 0) legal refl
     (λ before legal_here begins own_is holds. record {
-      holds = holds-fresh g before caller need place words r state.registers legal_here words_are holds;
+      holds = holds-fresh g before caller need place words r position.registers legal_here words_are holds;
       given_is = ap (λ n. given + f n) words_are;
       freed_is = refl;
     }) at_looked in
     let at_filled = at-stills f g setting.history caller (looked ++ Alloc caller need place ∷ []) (filling caller place words v) set (given + f words)
     (freed + 0) legal (stills-filling caller place words v) at_alloc in
-    at-as f setting.history caller _ (state.done ++ piece) set (given + f words) (freed + 0) (given + f words) (freed + 0)
+    at-as f setting.history caller _ (position.done ++ piece) set (given + f words) (freed + 0) (given + f words) (freed + 0)
     (append_assoc looked (Alloc caller need place ∷ []) (filling caller place words v)
-    ∙ append_assoc state.done is.looked (Alloc caller need place ∷ filling caller place words v)
-    ∙ ap (λ xs. state.done ++ xs)
+    ∙ append_assoc position.done is.looked (Alloc caller need place ∷ filling caller place words v)
+    ∙ ap (λ xs. position.done ++ xs)
     (sym (append_assoc is.looked (Alloc caller need place ∷ []) (filling caller place words v))
     ∙ ap (λ xs. xs ++ filling caller place words v) (sym is.whole) ∙ sym piece_is))
     refl refl at_filled
 
 alloc-after :
-    (f : ℕ → ℕ) (g : Geometry) (setting : Setting) (state : State) (r need v : ℕ) (held : Option Held) (result : Outcome) (piece : List Event)
-    (given freed : ℕ) → IsLegalWithoutCounts g setting.history → AllocRow setting state need v held result piece → Before f setting state given freed
-    → After f setting state (op.Alloc r need v) result piece given freed
-alloc-after f g setting state r need v (Some held) outcome.Skipped piece given freed legal row at =
-    quiet f g setting state piece given freed legal (none-still setting.caller piece row) at
-alloc-after f g setting state r need v None (outcome.Given words place) piece given freed legal row at =
-    given-after f g setting state r need v words place row.2 piece given freed legal row.1 (given-of setting.caller need place (need_of need) row.2 row.3)
+    (f : ℕ → ℕ) (g : Geometry) (setting : Setting) (position : Position) (r need v : ℕ) (held : Option Held) (result : Outcome) (piece : List Event)
+    (given freed : ℕ) → IsLegalWithoutCounts g setting.history → AllocRow setting position need v held result piece → Before f setting position given freed
+    → After f setting position (op.Alloc r need v) result piece given freed
+alloc-after f g setting position r need v (Some held) outcome.Skipped piece given freed legal row at =
+    quiet f g setting position piece given freed legal (none-still setting.caller piece row) at
+alloc-after f g setting position r need v None (outcome.Given words place) piece given freed legal row at =
+    given-after f g setting position r need v words place row.2 piece given freed legal row.1 (given-of setting.caller need place (need_of need) row.2 row.3)
     row.4 at
-alloc-after f g setting state r need v None outcome.Refused piece given freed legal row at =
-    quiet f g setting state piece given freed legal (stills-refusing setting.caller need (need_of need) piece row.1) at
-alloc-after f g setting state r need v None outcome.Spent piece given freed legal row at =
-    quiet f g setting state piece given freed legal (stills-spent setting state need piece state.spent row) at
-alloc-after f g setting state r need v held result piece given freed legal row at = absurd row
+alloc-after f g setting position r need v None outcome.Refused piece given freed legal row at =
+    quiet f g setting position piece given freed legal (stills-refusing setting.caller need (need_of need) piece row.1) at
+alloc-after f g setting position r need v None outcome.Spent piece given freed legal row at =
+    quiet f g setting position piece given freed legal (stills-spent setting position need piece position.spent row) at
+alloc-after f g setting position r need v held result piece given freed legal row at = absurd row
 
 free-after :
-    (f : ℕ → ℕ) (g : Geometry) (setting : Setting) (state : State) (r : ℕ) (held : Option Held) (result : Outcome) (piece : List Event)
-    (given freed : ℕ) → IsLegalWithoutCounts g setting.history → held_in state.registers r ≡ held → FreeRow setting held result piece
-    → Before f setting state given freed → After f setting state (op.Free r) result piece given freed
-free-after f g setting state r None outcome.Skipped piece given freed legal full row at =
-    quiet f g setting state piece given freed legal (none-still setting.caller piece row) at
-free-after f g setting state r (Some held) outcome.Freed piece given freed legal full row at =
+    (f : ℕ → ℕ) (g : Geometry) (setting : Setting) (position : Position) (r : ℕ) (held : Option Held) (result : Outcome) (piece : List Event)
+    (given freed : ℕ) → IsLegalWithoutCounts g setting.history → held_in position.registers r ≡ held → FreeRow setting held result piece
+    → Before f setting position given freed → After f setting position (op.Free r) result piece given freed
+free-after f g setting position r None outcome.Skipped piece given freed legal full row at =
+    quiet f g setting position piece given freed legal (none-still setting.caller piece row) at
+free-after f g setting position r (Some held) outcome.Freed piece given freed legal full row at =
     let caller = setting.caller in
     rw (row, full)
-    (at-step f g setting.history caller state.done (Free caller held.place) state.registers (slice_set state.registers r None) given freed (given + 0)
+    (at-step f g setting.history caller position.done (Free caller held.place) position.registers (slice_set position.registers r None) given freed (given + 0)
     (freed + f held.words) legal refl
     (λ before legal_here begins own_is holds.
     let owns : OwnsWords (pool_of before) caller held.place held.words = holds.owned r held full in
     record {
-      holds = holds-freed before caller r held state.registers full holds;
+      holds = holds-freed before caller r held position.registers full holds;
       given_is = refl;
       freed_is = ap (λ n. freed + f n) owns.words_are ∙ ap (λ found. freed + block_with f found) (sym owns.live);
     }) at)
-free-after f g setting state r held result piece given freed legal full row at = absurd row
+free-after f g setting position r held result piece given freed legal full row at = absurd row
 
 fill-after :
-    (f : ℕ → ℕ) (g : Geometry) (setting : Setting) (state : State) (r v : ℕ) (held : Option Held) (result : Outcome) (piece : List Event)
-    (given freed : ℕ) → IsLegalWithoutCounts g setting.history → FillRow setting v held result piece → Before f setting state given freed
-    → After f setting state (op.Fill r v) result piece given freed
-fill-after f g setting state r v None outcome.Skipped piece given freed legal row at =
-    quiet f g setting state piece given freed legal (none-still setting.caller piece row) at
-fill-after f g setting state r v (Some held) outcome.Filled piece given freed legal row at =
-    quiet f g setting state piece given freed legal (rw row (stills-filling setting.caller held.place held.words v)) at
-fill-after f g setting state r v held result piece given freed legal row at = absurd row
+    (f : ℕ → ℕ) (g : Geometry) (setting : Setting) (position : Position) (r v : ℕ) (held : Option Held) (result : Outcome) (piece : List Event)
+    (given freed : ℕ) → IsLegalWithoutCounts g setting.history → FillRow setting v held result piece → Before f setting position given freed
+    → After f setting position (op.Fill r v) result piece given freed
+fill-after f g setting position r v None outcome.Skipped piece given freed legal row at =
+    quiet f g setting position piece given freed legal (none-still setting.caller piece row) at
+fill-after f g setting position r v (Some held) outcome.Filled piece given freed legal row at =
+    quiet f g setting position piece given freed legal (rw row (stills-filling setting.caller held.place held.words v)) at
+fill-after f g setting position r v held result piece given freed legal row at = absurd row
 
 check-after :
-    (f : ℕ → ℕ) (g : Geometry) (setting : Setting) (state : State) (r : ℕ) (held : Option Held) (result : Outcome) (piece : List Event)
-    (given freed : ℕ) → IsLegalWithoutCounts g setting.history → CheckRow setting state held result piece → Before f setting state given freed
-    → After f setting state (op.Check r) result piece given freed
-check-after f g setting state r None outcome.Skipped piece given freed legal row at =
-    quiet f g setting state piece given freed legal (none-still setting.caller piece row) at
-check-after f g setting state r (Some held) (outcome.Sum total) piece given freed legal row at =
-    quiet f g setting state piece given freed legal (none-still setting.caller piece row.0) at
-check-after f g setting state r held result piece given freed legal row at = absurd row
+    (f : ℕ → ℕ) (g : Geometry) (setting : Setting) (position : Position) (r : ℕ) (held : Option Held) (result : Outcome) (piece : List Event)
+    (given freed : ℕ) → IsLegalWithoutCounts g setting.history → CheckRow setting position held result piece → Before f setting position given freed
+    → After f setting position (op.Check r) result piece given freed
+check-after f g setting position r None outcome.Skipped piece given freed legal row at =
+    quiet f g setting position piece given freed legal (none-still setting.caller piece row) at
+check-after f g setting position r (Some held) (outcome.Sum total) piece given freed legal row at =
+    quiet f g setting position piece given freed legal (none-still setting.caller piece row.0) at
+check-after f g setting position r held result piece given freed legal row at = absurd row
 
 put-after :
-    (f : ℕ → ℕ) (g : Geometry) (setting : Setting) (state : State) (r shelf : ℕ) (held : Option Held) (result : Outcome) (piece : List Event)
-    (given freed : ℕ) → IsLegalWithoutCounts g setting.history → held_in state.registers r ≡ held → PutRow setting state shelf held result piece
-    → Before f setting state given freed → After f setting state (op.Put r shelf) result piece given freed
-put-after f g setting state r shelf None outcome.Skipped piece given freed legal full row at =
-    quiet f g setting state piece given freed legal (none-still setting.caller piece row) at
-put-after f g setting state r shelf (Some held) outcome.Put piece given freed legal full row at =
+    (f : ℕ → ℕ) (g : Geometry) (setting : Setting) (position : Position) (r shelf : ℕ) (held : Option Held) (result : Outcome) (piece : List Event)
+    (given freed : ℕ) → IsLegalWithoutCounts g setting.history → held_in position.registers r ≡ held → PutRow setting position shelf held result piece
+    → Before f setting position given freed → After f setting position (op.Put r shelf) result piece given freed
+put-after f g setting position r shelf None outcome.Skipped piece given freed legal full row at =
+    quiet f g setting position piece given freed legal (none-still setting.caller piece row) at
+put-after f g setting position r shelf (Some held) outcome.Put piece given freed legal full row at =
     rw row
-    (at-step f g setting.history setting.caller state.done (Put setting.caller held.place shelf) state.registers (slice_set state.registers r None) given
+    (at-step f g setting.history setting.caller position.done (Put setting.caller held.place shelf) position.registers (slice_set position.registers r None) given
     freed (given + 0) (freed + 0) legal refl
     (λ before legal_here begins own_is holds. record {
-      holds = holds-put before setting.caller r shelf held state.registers full holds;
+      holds = holds-put before setting.caller r shelf held position.registers full holds;
       given_is = refl;
       freed_is = refl;
     }) at)
-put-after f g setting state r shelf (Some held) outcome.ShelfFull piece given freed legal full row at =
-    quiet f g setting state piece given freed legal (none-still setting.caller piece row.0) at
-put-after f g setting state r shelf held result piece given freed legal full row at = absurd row
+put-after f g setting position r shelf (Some held) outcome.ShelfFull piece given freed legal full row at =
+    quiet f g setting position piece given freed legal (none-still setting.caller piece row.0) at
+put-after f g setting position r shelf held result piece given freed legal full row at = absurd row
 
 take-after :
-    (f : ℕ → ℕ) (g : Geometry) (setting : Setting) (state : State) (r shelf : ℕ) (held : Option Held) (result : Outcome) (piece : List Event)
-    (given freed : ℕ) → IsLegalWithoutCounts g setting.history → TakeRow setting state shelf held result piece
-    → Before f setting state given freed → After f setting state (op.Take r shelf) result piece given freed
-take-after f g setting state r shelf (Some held) outcome.Skipped piece given freed legal row at =
-    quiet f g setting state piece given freed legal (none-still setting.caller piece row) at
-take-after f g setting state r shelf None outcome.ShelfEmpty piece given freed legal row at =
-    quiet f g setting state piece given freed legal (rw row (refl, tt)) at
-take-after f g setting state r shelf None (outcome.Took words place) piece given freed legal row at =
+    (f : ℕ → ℕ) (g : Geometry) (setting : Setting) (position : Position) (r shelf : ℕ) (held : Option Held) (result : Outcome) (piece : List Event)
+    (given freed : ℕ) → IsLegalWithoutCounts g setting.history → TakeRow setting position shelf held result piece
+    → Before f setting position given freed → After f setting position (op.Take r shelf) result piece given freed
+take-after f g setting position r shelf (Some held) outcome.Skipped piece given freed legal row at =
+    quiet f g setting position piece given freed legal (none-still setting.caller piece row) at
+take-after f g setting position r shelf None outcome.ShelfEmpty piece given freed legal row at =
+    quiet f g setting position piece given freed legal (rw row (refl, tt)) at
+take-after f g setting position r shelf None (outcome.Took words place) piece given freed legal row at =
     let event : Event = Take setting.caller shelf place in
     rw row.0
-    (at-step f g setting.history setting.caller state.done event state.registers
-    (slice_set state.registers r (Some (record { place = place; words = words }))) given freed (given + 0) (freed + 0) legal refl
+    (at-step f g setting.history setting.caller position.done event position.registers
+    (slice_set position.registers r (Some (record { place = place; words = words }))) given freed (given + 0) (freed + 0) legal refl
     (λ before legal_here begins own_is holds.
     let there : setting.history ≡ row.1.before ++ event ∷ row.3.0 =
     row.3.1 ∙ ap (λ xs. (row.1.before ++ xs) ++ row.3.0) row.0 ∙ push-append row.1.before row.3.0 event in
@@ -220,41 +220,41 @@ take-after f g setting state r shelf None (outcome.Took words place) piece given
     subst (λ (h : List Event). HasWords (pool_of h) place words) same (row.2, row.4, row.5) in
     let allowed = (legal_here before [] event refl).1 in
     record {
-      holds = holds-taken before setting.caller r shelf place words state.registers allowed.0 has holds;
+      holds = holds-taken before setting.caller r shelf place words position.registers allowed.0 has holds;
       given_is = refl;
       freed_is = refl;
     }) at)
-take-after f g setting state r shelf held result piece given freed legal row at = absurd row
+take-after f g setting position r shelf held result piece given freed legal row at = absurd row
 
 row-after :
-    (f : ℕ → ℕ) (g : Geometry) (setting : Setting) (state : State) (operation : Op) (result : Outcome) (piece : List Event) (given freed : ℕ)
-    → IsLegalWithoutCounts g setting.history → FitsRow setting state operation result piece → Before f setting state given freed
-    → After f setting state operation result piece given freed
-row-after f g setting state (op.Alloc r need v) result piece given freed legal row at =
-    alloc-after f g setting state r need v (held_in state.registers r) result piece given freed legal row at
-row-after f g setting state (op.Free r) result piece given freed legal row at =
-    free-after f g setting state r (held_in state.registers r) result piece given freed legal refl row at
-row-after f g setting state (op.Fill r v) result piece given freed legal row at =
-    fill-after f g setting state r v (held_in state.registers r) result piece given freed legal row at
-row-after f g setting state (op.Check r) result piece given freed legal row at =
-    check-after f g setting state r (held_in state.registers r) result piece given freed legal row at
-row-after f g setting state (op.Put r shelf) result piece given freed legal row at =
-    put-after f g setting state r shelf (held_in state.registers r) result piece given freed legal refl row at
-row-after f g setting state (op.Take r shelf) result piece given freed legal row at =
-    take-after f g setting state r shelf (held_in state.registers r) result piece given freed legal row at
+    (f : ℕ → ℕ) (g : Geometry) (setting : Setting) (position : Position) (operation : Op) (result : Outcome) (piece : List Event) (given freed : ℕ)
+    → IsLegalWithoutCounts g setting.history → FitsRow setting position operation result piece → Before f setting position given freed
+    → After f setting position operation result piece given freed
+row-after f g setting position (op.Alloc r need v) result piece given freed legal row at =
+    alloc-after f g setting position r need v (held_in position.registers r) result piece given freed legal row at
+row-after f g setting position (op.Free r) result piece given freed legal row at =
+    free-after f g setting position r (held_in position.registers r) result piece given freed legal refl row at
+row-after f g setting position (op.Fill r v) result piece given freed legal row at =
+    fill-after f g setting position r v (held_in position.registers r) result piece given freed legal row at
+row-after f g setting position (op.Check r) result piece given freed legal row at =
+    check-after f g setting position r (held_in position.registers r) result piece given freed legal row at
+row-after f g setting position (op.Put r shelf) result piece given freed legal row at =
+    put-after f g setting position r shelf (held_in position.registers r) result piece given freed legal refl row at
+row-after f g setting position (op.Take r shelf) result piece given freed legal row at =
+    take-after f g setting position r shelf (held_in position.registers r) result piece given freed legal row at
 
 -- and so to the end of a walk
 pub walk-after :
-    (f : ℕ → ℕ) (g : Geometry) (setting : Setting) (from to : State) (operations : List Op) (results : List Outcome) (given freed : ℕ)
+    (f : ℕ → ℕ) (g : Geometry) (setting : Setting) (from to : Position) (operations : List Op) (results : List Outcome) (given freed : ℕ)
     → IsLegalWithoutCounts g setting.history → Walks setting from operations results to → Before f setting from given freed
     → Before f setting to (given + lane_given f operations results) (freed + lane_freed f from.registers operations results)
 walk-after f g setting from to [] [] given freed legal walks at =
-    subst (λ (s : State). Before f setting s (given + 0) (freed + 0)) (sym walks)
+    subst (λ (s : Position). Before f setting s (given + 0) (freed + 0)) (sym walks)
     (at-as f setting.history setting.caller from.done from.done from.registers given freed (given + 0) (freed + 0) refl (omega arith) (omega arith) at)
 walk-after f g setting from to [] (result ∷ results) given freed legal walks at = absurd walks
 walk-after f g setting from to (operation ∷ operations) [] given freed legal walks at = absurd walks
 walk-after f g setting from to (operation ∷ operations) (result ∷ results) given freed legal walks at =
-    let next : State = state_after from operation result walks.0 in
+    let next : Position = position_after from operation result walks.0 in
     at-as f setting.history setting.caller to.done to.done to.registers _ _ _ _ refl (omega arith) (omega arith)
     (walk-after f g setting next to operations results (given + count_with f (words_given operation result))
     (freed + count_with f (words_freed from.registers operation result)) legal walks.2

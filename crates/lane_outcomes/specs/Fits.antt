@@ -6,21 +6,21 @@ use Rattle.pool_model.specs.declared.event.Event.{Event}
 use Rattle.pool_model.specs.Histories.{own, caller_of}
 use Rattle.trace_text.specs.declared.trace.Op.{Op}
 use Rattle.lane_outcomes.specs.declared.outcome.Outcome.{Outcome}
-use Rattle.lane_outcomes.specs.Lane.{State, start, state_after}
+use Rattle.lane_outcomes.specs.Lane.{Position, start, position_after}
 use Rattle.lane_outcomes.specs.Rows.{Setting, FitsRow}
 
 -- the operations with these outcomes lead the lane from one state to another, one row after the other
-abbrev pub Walks : Setting → State → List Op → List Outcome → State → Type 0
+abbrev pub Walks : Setting → Position → List Op → List Outcome → Position → Type 0
 Walks setting from [] [] to = to ≡ from
 Walks setting from (operation ∷ operations) (result ∷ results) to =
     (piece : List Event) × FitsRow setting from operation result piece
-    × Walks setting (state_after from operation result piece) operations results to
+    × Walks setting (position_after from operation result piece) operations results to
 Walks setting from [] (result ∷ results) to = ⊥
 Walks setting from (operation ∷ operations) [] to = ⊥
 
 -- the outcomes of a lane fit its operations and a history: they use up all events of the lane, in their order
 pub record Fits (setting : Setting) (operations : List Op) (results : List Outcome) : Type 0 where
-  pub end : State
+  pub end : Position
   pub walks : Walks setting start operations results end
   pub all_used : own setting.caller setting.history ≡ end.done
 

@@ -15,14 +15,14 @@ use Rattle.lane_outcomes.specs.declared.outcome.Outcome.TheVariants as outcome
 
 -- a lane between two operations: what each of its registers holds, its own events so far, how many of its small
 -- allocations were given a block or refused, and whether it has no turn left
-pub record State : Type 0 where
+pub record Position : Type 0 where
   pub registers : List (Option Held)
   pub done : List Event
   pub answered : ℕ
   pub spent : Bool
 
 -- before the first operation
-abbrev pub start : State
+abbrev pub start : Position
 start = record { registers = replicate REGISTERS None; done = []; answered = 0; spent = false }
 
 -- what a register holds
@@ -55,13 +55,13 @@ spent_after spent outcome.Spent = true
 spent_after spent result = spent
 
 -- the lane after an operation with its outcome and the events that it added
-abbrev pub state_after : State → Op → Outcome → List Event → State
-state_after state operation result piece =
+abbrev pub position_after : Position → Op → Outcome → List Event → Position
+position_after position operation result piece =
     record {
-      registers = registers_after state.registers operation result;
-      done = state.done ++ piece;
-      answered = answered_after state.answered operation result;
-      spent = spent_after state.spent result;
+      registers = registers_after position.registers operation result;
+      done = position.done ++ piece;
+      answered = answered_after position.answered operation result;
+      spent = spent_after position.spent result;
     }
 
 -- the writes that fill a block of so many usable words: word i with v + i

@@ -13,7 +13,7 @@ use Rattle.trace_text.specs.declared.trace.Op.TheVariants as op
 use Rattle.lane_outcomes.specs.declared.registers.Held.{Held}
 use Rattle.lane_outcomes.specs.declared.outcome.Outcome.{Outcome}
 use Rattle.lane_outcomes.specs.declared.outcome.Outcome.TheVariants as outcome
-use Rattle.lane_outcomes.specs.Lane.{State, held_in, is_small, filling}
+use Rattle.lane_outcomes.specs.Lane.{Position, held_in, is_small, filling}
 
 -- what a lane's outcomes are held against: its number, the most turns of a caller, and the history and the lost exchanges of the closed heap
 pub record Setting : Type 0 where
@@ -46,8 +46,8 @@ pub record IsFullShelf (pool : Pool) (shelf : ℕ) : Type 0 where
   pub shelved : block.owner ≡ Shelf shelf
 
 -- an allocation on an empty register may still ask the heap: it is large, or the lane has turns left
-abbrev pub MayAsk : State → ℕ → Type 0
-MayAsk state need = (is_small (need_of need) && state.spent) ≡ false
+abbrev pub MayAsk : Position → ℕ → Type 0
+MayAsk position need = (is_small (need_of need) && position.spent) ≡ false
 
 -- a small block is given to another caller
 abbrev pub gives_another_small : ℕ → Event → Bool
@@ -56,24 +56,24 @@ gives_another_small caller event = false
 
 -- a small allocation finds no turn left: an earlier one found that; or as many turns as the limit are accounted for by the lane's answers and the lost
 -- exchanges, and also by its answers and the small blocks that others were given up to a moment behind its looks
-abbrev pub IsSpent : Setting → State → ℕ → List Event → Bool → Type 0
-IsSpent setting state need piece true = (is_small (need_of need) ≡ true) × (piece ≡ [])
-IsSpent setting state need piece false =
-    EventsOf setting.caller (alloc_spent need) piece × (setting.turn_limit ≤ state.answered + setting.lost)
-    × (moment : Moment setting (state.done ++ piece))
-    × (setting.turn_limit ≤ state.answered + count_by (gives_another_small setting.caller) moment.before)
+abbrev pub IsSpent : Setting → Position → ℕ → List Event → Bool → Type 0
+IsSpent setting position need piece true = (is_small (need_of need) ≡ true) × (piece ≡ [])
+IsSpent setting position need piece false =
+    EventsOf setting.caller (alloc_spent need) piece × (setting.turn_limit ≤ position.answered + setting.lost)
+    × (moment : Moment setting (position.done ++ piece))
+    × (setting.turn_limit ≤ position.answered + count_by (gives_another_small setting.caller) moment.before)
 
 -- an allocation: a block that is given is filled with rising numbers
-abbrev pub AllocRow : Setting → State → ℕ → ℕ → Option Held → Outcome → List Event → Type 0
-AllocRow setting state need v (Some held) outcome.Skipped piece = piece ≡ []
-AllocRow setting state need v None (outcome.Given words place) piece =
-    MayAsk state need × (words ≡ usable_words (need_of need))
+abbrev pub AllocRow : Setting → Position → ℕ → ℕ → Option Held → Outcome → List Event → Type 0
+AllocRow setting position need v (Some held) outcome.Skipped piece = piece ≡ []
+AllocRow setting position need v None (outcome.Given words place) piece =
+    MayAsk position need × (words ≡ usable_words (need_of need))
     × (calls : List Event) × EventsOf setting.caller (alloc_given need place) calls
     × (piece ≡ calls ++ filling setting.caller place words v)
-AllocRow setting state need v None outcome.Refused piece =
-    MayAsk state need × EventsOf setting.caller (alloc_refused need) piece
-AllocRow setting state need v None outcome.Spent piece = IsSpent setting state need piece state.spent
-AllocRow setting state need v held result piece = ⊥
+AllocRow setting position need v None outcome.Refused piece =
+    MayAsk position need × EventsOf setting.caller (alloc_refused need) piece
+AllocRow setting position need v None outcome.Spent piece = IsSpent setting position need piece position.spent
+AllocRow setting position need v held result piece = ⊥
 
 -- a free gives the held block back
 abbrev pub FreeRow : Setting → Option Held → Outcome → List Event → Type 0
@@ -88,36 +88,36 @@ FillRow setting v (Some held) outcome.Filled piece = piece ≡ filling setting.c
 FillRow setting v held result piece = ⊥
 
 -- a check sums what the held block contains after the lane's events so far
-abbrev pub CheckRow : Setting → State → Option Held → Outcome → List Event → Type 0
-CheckRow setting state None outcome.Skipped piece = piece ≡ []
-CheckRow setting state (Some held) (outcome.Sum total) piece =
-    (piece ≡ []) × (moment : Moment setting state.done) × (block : Block)
+abbrev pub CheckRow : Setting → Position → Option Held → Outcome → List Event → Type 0
+CheckRow setting position None outcome.Skipped piece = piece ≡ []
+CheckRow setting position (Some held) (outcome.Sum total) piece =
+    (piece ≡ []) × (moment : Moment setting position.done) × (block : Block)
     × (block_at held.place (pool_of moment.before) ≡ Some block) × IsSumOf block.contents total
-CheckRow setting state held result piece = ⊥
+CheckRow setting position held result piece = ⊥
 
 -- a put lays the held block on the shelf, or finds a block there
-abbrev pub PutRow : Setting → State → ℕ → Option Held → Outcome → List Event → Type 0
-PutRow setting state shelf None outcome.Skipped piece = piece ≡ []
-PutRow setting state shelf (Some held) outcome.Put piece = piece ≡ Put setting.caller held.place shelf ∷ []
-PutRow setting state shelf (Some held) outcome.ShelfFull piece =
-    (piece ≡ []) × (moment : Moment setting state.done) × IsFullShelf (pool_of moment.before) shelf
-PutRow setting state shelf held result piece = ⊥
+abbrev pub PutRow : Setting → Position → ℕ → Option Held → Outcome → List Event → Type 0
+PutRow setting position shelf None outcome.Skipped piece = piece ≡ []
+PutRow setting position shelf (Some held) outcome.Put piece = piece ≡ Put setting.caller held.place shelf ∷ []
+PutRow setting position shelf (Some held) outcome.ShelfFull piece =
+    (piece ≡ []) × (moment : Moment setting position.done) × IsFullShelf (pool_of moment.before) shelf
+PutRow setting position shelf held result piece = ⊥
 
 -- a take gets the block that lies on the shelf at that moment, or finds none
-abbrev pub TakeRow : Setting → State → ℕ → Option Held → Outcome → List Event → Type 0
-TakeRow setting state shelf (Some held) outcome.Skipped piece = piece ≡ []
-TakeRow setting state shelf None (outcome.Took words place) piece =
-    (piece ≡ Take setting.caller shelf place ∷ []) × (moment : Moment setting state.done) × (block : Block)
+abbrev pub TakeRow : Setting → Position → ℕ → Option Held → Outcome → List Event → Type 0
+TakeRow setting position shelf (Some held) outcome.Skipped piece = piece ≡ []
+TakeRow setting position shelf None (outcome.Took words place) piece =
+    (piece ≡ Take setting.caller shelf place ∷ []) × (moment : Moment setting position.done) × (block : Block)
     × Begins (moment.before ++ piece) setting.history
     × (block_at place (pool_of moment.before) ≡ Some block) × (words ≡ usable_words block.need)
-TakeRow setting state shelf None outcome.ShelfEmpty piece = piece ≡ TakeNone setting.caller shelf ∷ []
-TakeRow setting state shelf held result piece = ⊥
+TakeRow setting position shelf None outcome.ShelfEmpty piece = piece ≡ TakeNone setting.caller shelf ∷ []
+TakeRow setting position shelf held result piece = ⊥
 
 -- the operation may have this outcome, and then adds this piece to its lane's own events
-abbrev pub FitsRow : Setting → State → Op → Outcome → List Event → Type 0
-FitsRow setting state (op.Alloc r need v) result piece = AllocRow setting state need v (held_in state.registers r) result piece
-FitsRow setting state (op.Free r) result piece = FreeRow setting (held_in state.registers r) result piece
-FitsRow setting state (op.Fill r v) result piece = FillRow setting v (held_in state.registers r) result piece
-FitsRow setting state (op.Check r) result piece = CheckRow setting state (held_in state.registers r) result piece
-FitsRow setting state (op.Put r shelf) result piece = PutRow setting state shelf (held_in state.registers r) result piece
-FitsRow setting state (op.Take r shelf) result piece = TakeRow setting state shelf (held_in state.registers r) result piece
+abbrev pub FitsRow : Setting → Position → Op → Outcome → List Event → Type 0
+FitsRow setting position (op.Alloc r need v) result piece = AllocRow setting position need v (held_in position.registers r) result piece
+FitsRow setting position (op.Free r) result piece = FreeRow setting (held_in position.registers r) result piece
+FitsRow setting position (op.Fill r v) result piece = FillRow setting v (held_in position.registers r) result piece
+FitsRow setting position (op.Check r) result piece = CheckRow setting position (held_in position.registers r) result piece
+FitsRow setting position (op.Put r shelf) result piece = PutRow setting position shelf (held_in position.registers r) result piece
+FitsRow setting position (op.Take r shelf) result piece = TakeRow setting position shelf (held_in position.registers r) result piece

@@ -8,7 +8,7 @@ ghost use Rattle.pool_model.specs.Pool.{pool_of};
 ghost use Rattle.pool_model.specs.Legal.{IsLegalWithoutCounts};
 ghost use Rattle.trace_text.specs.declared.trace.Op.{Op};
 ghost use Rattle.lane_outcomes.specs.declared.outcome.Outcome.{Outcome};
-ghost use Rattle.lane_outcomes.specs.Lane.{State, start};
+ghost use Rattle.lane_outcomes.specs.Lane.{Position, start};
 ghost use Rattle.lane_outcomes.specs.Rows.{Setting, Moment};
 ghost use Rattle.lane_outcomes.specs.Fits.{Fits, Walks};
 ghost use Rattle.lane_outcomes.specs.Standing.{HoldsOwn};
@@ -23,7 +23,7 @@ pub fn outcomes_fit_on()
 /// Whatever other callers did in between: at each moment at which a lane has made exactly its events so
 /// far, its full registers hold blocks that it owns, each with its words, and no two the same block.
 pub fn registers_hold_own_blocks()
-    ensures { (g : Geometry) (setting : Setting) (operations : List Op) (outcomes : List Outcome) (state : State)
-        → IsLegalWithoutCounts g setting.history → Walks setting start operations outcomes state
-        → (moment : Moment setting state.done) → HoldsOwn (pool_of moment.before) setting.caller state.registers }
+    ensures { (g : Geometry) (setting : Setting) (operations : List Op) (outcomes : List Outcome) (position : Position)
+        → IsLegalWithoutCounts g setting.history → Walks setting start operations outcomes position
+        → (moment : Moment setting position.done) → HoldsOwn (pool_of moment.before) setting.caller position.registers }
 {}

@@ -40,7 +40,7 @@ use Rattle.lane_steps.specs.declared.lane.LaneState.{LaneState}
 use Rattle.lane_steps.specs.declared.stage.Stage.TheVariants as stage
 use Rattle.lane_steps.specs.Begun.{calls_of}
 use Rattle.lane_runner.specs.Driven.{IsDriven, lost_by_all, steppers_of}
-use Rattle.lane_runner.specs.Orders.{InOrder, InTurn}
+use Rattle.lane_runner.specs.Orders.{InOrder, OneByOne}
 use Rattle.lane_steps.specs.Paths.{Leads, begun_count}
 use Rattle.lane_runner.specs.Running.{HasEnded, HasPassed, HaveFinished, HaveFollowed, IsBelow, IsOnScriptOf, LanesRan, LanesStand, StandsOn, operations_in}
 use Rattle.lane_steps.specs.Scripts.{IsOnScript, Scripts}
@@ -209,9 +209,9 @@ module _ (passed : ℕ → ℕ → Type 0) (trace : Trace) (first mid last : Cor
   unfolding ran lanes-more
   order =
       let left = steppers_of finish.ran.moves in
-      let turns : InTurn 0 (length trace.lanes) left =
-      subst (λ n. InTurn 0 n left) (omega arith)
-      (subst (InTurn 0 (length trace.lanes + 0)) (append-nil left) (finish.order 0 [] (λ lane ended. contains-none lane) refl)) in
+      let turns : OneByOne 0 (length trace.lanes) left =
+      subst (λ n. OneByOne 0 n left) (omega arith)
+      (subst (OneByOne 0 (length trace.lanes + 0)) (append-nil left) (finish.order 0 [] (λ lane ended. contains-none lane) refl)) in
       let whole = follow.order.goes_on [] (length trace.lanes) left (λ lane ended. (finish.ran.still lane ended).0) turns in
       subst (InOrder trace.orders (length trace.lanes)) (sym (steppers-append follow.ran.moves finish.ran.moves))
       (subst (λ runs. InOrder runs (length trace.lanes) (steppers_of follow.ran.moves ++ left)) (append-nil trace.orders) whole)

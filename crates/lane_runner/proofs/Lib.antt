@@ -4,5 +4,5 @@ pub mod OrderLemmas
 pub mod RunLanes
 pub mod RunLemmas
 pub mod RunMeasures
-pub mod SeatLemmas
+pub mod PairLemmas
 pub mod ThreadLemmas

@@ -16,7 +16,7 @@ use Rattle.lane_engine.specs.declared.over_core.Grip.{Grip}
 use Rattle.lane_steps.specs.declared.lane.LaneState.{LaneState}
 use Rattle.lane_steps.specs.Begun.{calls_of}
 use Rattle.lane_runner.specs.Driven.{Drives, steppers_of}
-use Rattle.lane_runner.specs.Orders.{InOrder, InTurn}
+use Rattle.lane_runner.specs.Orders.{InOrder, OneByOne}
 use Rattle.lane_runner.specs.Running.{HasEnded, HasEndedIn, HasPassed, HasRun, HasRunOut, HasRunSome, HaveFinished, HaveFollowed, IsBelow, IsOnScriptOf, LanesRan, LanesStand, OneRanOut, operations_in}
 use Rattle.lane_runner.proofs.RunLemmas.{calls-append, leads-append, steppers-append}
 use Rattle.lane_runner.proofs.RunLanes.{contains-none, element_at, ended-at, one-ran, the-same}
@@ -168,7 +168,7 @@ finished-none passed trace c lanes stand = record {
   stand = stand;
   ran = lanes-none passed trace c lanes;
   ended = λ lane lt. absurd (omega (arith, lt));
-  order = λ left rest none turn. subst (λ n. InTurn 0 n rest) (sym (zero-add left)) turn;
+  order = λ left rest none turn. subst (λ n. OneByOne 0 n rest) (sym (zero-add left)) turn;
 }
 
 -- one lane goes on to its end
@@ -201,17 +201,17 @@ finished-more passed trace count a b c old mid new same h k = record {
       ];
   order = λ left rest none turn.
       let made = steppers_of k.one.ran.moves in
-      let next : InTurn count (suc left) (made ++ rest) = (
+      let next : OneByOne count (suc left) (made ++ rest) = (
         k.made,
         rest,
         ap (λ xs. xs ++ rest) k.one.only,
         none count k.ended,
-        subst (λ n. InTurn n left rest) (add-one count) turn,
+        subst (λ n. OneByOne n left rest) (add-one count) turn,
       ) in
       let first =
       h.order (suc left) (made ++ rest)
       (λ lane ended. let still = k.one.ran.still lane ended in not-both made rest lane still.0 (none lane still.1)) next in
-      subst (λ n. InTurn 0 n (steppers_of (h.ran.moves ++ k.one.ran.moves) ++ rest)) (omega arith)
-      (subst (InTurn 0 (count + suc left))
+      subst (λ n. OneByOne 0 n (steppers_of (h.ran.moves ++ k.one.ran.moves) ++ rest)) (omega arith)
+      (subst (OneByOne 0 (count + suc left))
       (sym (append_assoc (steppers_of h.ran.moves) made rest) ∙ ap (λ xs. xs ++ rest) (sym (steppers-append h.ran.moves k.one.ran.moves))) first);
 }

@@ -124,7 +124,7 @@ pub between-idle :
     → IsIdle (errand_at c.errands lane.caller)
 between-idle c operations lane stands is =
     let l = stands.stands.stands in
-    let at = subst (λ at. IsAt lane.caller c.events (errand_at c.errands lane.caller) l.state (progress_of (λ grip. grip.place) (λ grip. grip.need) lane).registers (drop (length lane.outcomes.items) operations) at l.added) is l.stands in
+    let at = subst (λ at. IsAt lane.caller c.events (errand_at c.errands lane.caller) l.position (progress_of (λ grip. grip.place) (λ grip. grip.need) lane).registers (drop (length lane.outcomes.items) operations) at l.added) is l.stands in
     at.0
 
 -- a step is made by a caller in a call

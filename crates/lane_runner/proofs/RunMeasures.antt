@@ -56,7 +56,7 @@ use Rattle.lane_engine.specs.Machines.{MovesCore}
 use Rattle.lane_engine.specs.declared.over_core.Grip.{Grip}
 use Rattle.lane_outcomes.specs.declared.outcome.Outcome.{Outcome}
 use Rattle.lane_outcomes.specs.declared.registers.Held.{Held}
-use Rattle.lane_outcomes.specs.Lane.{State as Standing}
+use Rattle.lane_outcomes.specs.Lane.{Position}
 use Rattle.lane_steps.specs.declared.lane.LaneState.{LaneState}
 use Rattle.lane_steps.specs.declared.stage.Stage.{Stage}
 use Rattle.lane_steps.specs.declared.stage.Stage.TheVariants as stage
@@ -116,50 +116,50 @@ missed-lost caller k e (point.Large p o) x added way idle none = absurd way
 
 -- where a take has begun again and the stage is the same, a take was under way before
 doing-take :
-    (caller shelf : ℕ) (pool pool' : Pool) (p : Point) (state state' : Standing) (registers registers' : List (Option Held)) (operation : Op)
-    (at : Stage) (added added' : List Event) → IsDoing caller pool p state registers operation at added
-    → IsDoing caller pool' (point.Large (large.LoadShelf shelf) continuation.Nothing) state' registers' operation at added'
+    (caller shelf : ℕ) (pool pool' : Pool) (p : Point) (position position' : Position) (registers registers' : List (Option Held)) (operation : Op)
+    (at : Stage) (added added' : List Event) → IsDoing caller pool p position registers operation at added
+    → IsDoing caller pool' (point.Large (large.LoadShelf shelf) continuation.Nothing) position' registers' operation at added'
     → (k : ℕ) × IsUnderWay caller (take k) p added
-doing-take caller shelf pool pool' p state state' registers registers' (op.Alloc r need v) stage.Calling added added' d d' = absurd d'.3
-doing-take caller shelf pool pool' p state state' registers registers' (op.Alloc r need v) (stage.Filling next) added added' d d' =
+doing-take caller shelf pool pool' p position position' registers registers' (op.Alloc r need v) stage.Calling added added' d d' = absurd d'.3
+doing-take caller shelf pool pool' p position position' registers registers' (op.Alloc r need v) (stage.Filling next) added added' d d' =
     absurd d'.4.writing.under_way
-doing-take caller shelf pool pool' p state state' registers registers' (op.Free r) stage.Calling added added' d d' = absurd d'.under_way
-doing-take caller shelf pool pool' p state state' registers registers' (op.Fill r v) (stage.Filling next) added added' d d' =
+doing-take caller shelf pool pool' p position position' registers registers' (op.Free r) stage.Calling added added' d d' = absurd d'.under_way
+doing-take caller shelf pool pool' p position position' registers registers' (op.Fill r v) (stage.Filling next) added added' d d' =
     absurd d'.3.under_way
-doing-take caller shelf pool pool' p state state' registers registers' (op.Check r) (stage.Summing next total) added added' d d' =
+doing-take caller shelf pool pool' p position position' registers registers' (op.Check r) (stage.Summing next total) added added' d d' =
     absurd d'.3.under_way
-doing-take caller shelf pool pool' p state state' registers registers' (op.Put r k) stage.Calling added added' d d' = absurd d'.under_way
-doing-take caller shelf pool pool' p state state' registers registers' (op.Take r k) stage.Calling added added' d d' = (k, d.2)
-doing-take caller shelf pool pool' p state state' registers registers' operation at added added' d d' = absurd d
+doing-take caller shelf pool pool' p position position' registers registers' (op.Put r k) stage.Calling added added' d d' = absurd d'.under_way
+doing-take caller shelf pool pool' p position position' registers registers' (op.Take r k) stage.Calling added added' d d' = (k, d.2)
+doing-take caller shelf pool pool' p position position' registers registers' operation at added added' d d' = absurd d
 
 under-take :
-    (caller shelf : ℕ) (pool pool' : Pool) (p : Point) (state state' : Standing) (registers registers' : List (Option Held)) (operations : List Op)
+    (caller shelf : ℕ) (pool pool' : Pool) (p : Point) (position position' : Position) (registers registers' : List (Option Held)) (operations : List Op)
     (at : Stage) (added added' : List Event)
-    → (operation : Op) × (rest : List Op) × (operations ≡ operation ∷ rest) × IsDoing caller pool p state registers operation at added
+    → (operation : Op) × (rest : List Op) × (operations ≡ operation ∷ rest) × IsDoing caller pool p position registers operation at added
     → (operation : Op) × (rest : List Op) × (operations ≡ operation ∷ rest)
-    × IsDoing caller pool' (point.Large (large.LoadShelf shelf) continuation.Nothing) state' registers' operation at added'
+    × IsDoing caller pool' (point.Large (large.LoadShelf shelf) continuation.Nothing) position' registers' operation at added'
     → (k : ℕ) × IsUnderWay caller (take k) p added
-under-take caller shelf pool pool' p state state' registers registers' operations at added added' d d' =
+under-take caller shelf pool pool' p position position' registers registers' operations at added added' d d' =
     let same : d'.0 ≡ d.0 = (let e = d.2 in let f = d'.2 in cc) in
-    doing-take caller shelf pool pool' p state state' registers registers' d.0 at added added' d.3
-    (subst (λ operation. IsDoing caller pool' (point.Large (large.LoadShelf shelf) continuation.Nothing) state' registers' operation at added') same d'.3)
+    doing-take caller shelf pool pool' p position position' registers registers' d.0 at added added' d.3
+    (subst (λ operation. IsDoing caller pool' (point.Large (large.LoadShelf shelf) continuation.Nothing) position' registers' operation at added') same d'.3)
 
 at-take :
-    (caller shelf : ℕ) (events events' : List Event) (e e' : ErrandFields) (state state' : Standing) (registers registers' : List (Option Held))
-    (operations : List Op) (at : Stage) (added added' : List Event) → IsAt caller events e state registers operations at added
-    → IsAt caller events' e' state' registers' operations at added' → e'.point ≡ point.Large (large.LoadShelf shelf) continuation.Nothing
+    (caller shelf : ℕ) (events events' : List Event) (e e' : ErrandFields) (position position' : Position) (registers registers' : List (Option Held))
+    (operations : List Op) (at : Stage) (added added' : List Event) → IsAt caller events e position registers operations at added
+    → IsAt caller events' e' position' registers' operations at added' → e'.point ≡ point.Large (large.LoadShelf shelf) continuation.Nothing
     → (k : ℕ) × IsUnderWay caller (take k) e.point added
-at-take caller shelf events events' e e' state state' registers registers' operations stage.Between added added' d d' is =
+at-take caller shelf events events' e e' position position' registers registers' operations stage.Between added added' d d' is =
     absurd (true≢false (sym d'.0 ∙ ap is_idle is))
-at-take caller shelf events events' e e' state state' registers registers' operations stage.Calling added added' d d' is =
-    under-take caller shelf (pool_of events) (pool_of events') e.point state state' registers registers' operations stage.Calling added added' d
-    (d'.0, d'.1, d'.2, subst (λ p. IsDoing caller (pool_of events') p state' registers' d'.0 stage.Calling added') is d'.3)
-at-take caller shelf events events' e e' state state' registers registers' operations (stage.Filling next) added added' d d' is =
-    under-take caller shelf (pool_of events) (pool_of events') e.point state state' registers registers' operations (stage.Filling next) added added' d
-    (d'.0, d'.1, d'.2, subst (λ p. IsDoing caller (pool_of events') p state' registers' d'.0 (stage.Filling next) added') is d'.3)
-at-take caller shelf events events' e e' state state' registers registers' operations (stage.Summing next total) added added' d d' is =
-    under-take caller shelf (pool_of events) (pool_of events') e.point state state' registers registers' operations (stage.Summing next total) added added' d
-    (d'.0, d'.1, d'.2, subst (λ p. IsDoing caller (pool_of events') p state' registers' d'.0 (stage.Summing next total) added') is d'.3)
+at-take caller shelf events events' e e' position position' registers registers' operations stage.Calling added added' d d' is =
+    under-take caller shelf (pool_of events) (pool_of events') e.point position position' registers registers' operations stage.Calling added added' d
+    (d'.0, d'.1, d'.2, subst (λ p. IsDoing caller (pool_of events') p position' registers' d'.0 stage.Calling added') is d'.3)
+at-take caller shelf events events' e e' position position' registers registers' operations (stage.Filling next) added added' d d' is =
+    under-take caller shelf (pool_of events) (pool_of events') e.point position position' registers registers' operations (stage.Filling next) added added' d
+    (d'.0, d'.1, d'.2, subst (λ p. IsDoing caller (pool_of events') p position' registers' d'.0 (stage.Filling next) added') is d'.3)
+at-take caller shelf events events' e e' position position' registers registers' operations (stage.Summing next total) added added' d d' is =
+    under-take caller shelf (pool_of events) (pool_of events') e.point position position' registers registers' operations (stage.Summing next total) added added' d
+    (d'.0, d'.1, d'.2, subst (λ p. IsDoing caller (pool_of events') p position' registers' d'.0 (stage.Summing next total) added') is d'.3)
 
 -- an event of the caller's would be seen
 append-none : (xs ys : List Event) → xs ++ ys ≡ xs → ys ≡ []
@@ -278,16 +278,16 @@ alone-left-falls c after operations old new moves stands now caller leads one re
             let l' = now.stands.stands in
             let registers' = (progress_of (λ grip. grip.place) (λ grip. grip.need) new).registers in
             let first =
-            subst (λ caller. IsAt caller after.events (errand_at after.errands caller) l'.state registers'
+            subst (λ caller. IsAt caller after.events (errand_at after.errands caller) l'.position registers'
             (drop (length new.outcomes.items) operations) new.stage l'.added) caller l'.stands in
             let second =
-            subst (λ (results : List Outcome). IsAt old.caller after.events (errand_at after.errands old.caller) l'.state registers'
+            subst (λ (results : List Outcome). IsAt old.caller after.events (errand_at after.errands old.caller) l'.position registers'
             (drop (length results) operations) new.stage l'.added) results first in
             let third =
-            subst (λ at. IsAt old.caller after.events (errand_at after.errands old.caller) l'.state registers'
+            subst (λ at. IsAt old.caller after.events (errand_at after.errands old.caller) l'.position registers'
             (drop (length old.outcomes.items) operations) at l'.added) same second in
             let way =
-            at-take old.caller again.0 c.events after.events (errand_at c.errands old.caller) (errand_at after.errands old.caller) l.state l'.state
+            at-take old.caller again.0 c.events after.events (errand_at c.errands old.caller) (errand_at after.errands old.caller) l.position l'.position
             (progress_of (λ grip. grip.place) (λ grip. grip.need) old).registers registers' (drop (length old.outcomes.items) operations)
             old.stage l.added l'.added l.stands third (begun-point c after old.caller again.0 lead) in
             tried-falls c after old.caller again.0 way.0 l.added stands.core stands.has lead again.2 way.1

@@ -1,4 +1,4 @@
--- Lanes on threads: how their elements are seated, run and taken back.
+-- Lanes on threads: how their elements are paired, run and taken back.
 use Rattle.std.proofs.Common.{ℕ, zero, suc, ◌≡◌, ◌<◌, ◌≤◌, ◌+◌, ◌↔◌, Bool, false, IsTrue, List, [], ◌∷◌, ◌++◌, Vec, Global, length, map, max, get_or, take, drop, refl, sym, ap, ◌∙◌, subst, inl, inr, arith}
 use Rattle.std.specs.Prelude.{All}
 use Rattle.std.proofs.lemmas.Bool.{cases_eq, cases_lt, true≢false}
@@ -27,7 +27,7 @@ use Rattle.lane_steps.specs.Lanes.{IsLane}
 use Rattle.lane_steps.specs.Paths.{FirstPassed, begun_count, held_blocks}
 use Rattle.lane_runner.specs.Running.{operations_in}
 use Rattle.lane_steps.specs.States.{IsNew}
-use Rattle.lane_runner.specs.Threads.{AreDone, AreDown, AreEnded, AreReady, HasEnded, HasRunThrough, HaveRun, IsDone, IsReady, IsSeated, StandsOver}
+use Rattle.lane_runner.specs.Threads.{AreDone, AreDown, AreEnded, AreReady, HasEndedOver, HasRunThrough, HaveRun, IsDone, IsReady, IsPaired, StandsOver}
 use Rattle.lane_steps.proofs.EndedLemmas.{lane-between, lane-new}
 
 -- elements with their numbers: one more behind them, and the last one gone
@@ -119,8 +119,8 @@ ready trace h k p lane has fresh caller new = record {
   between = new.between;
 }
 
-pub ready-seated : (trace : Trace) (h : Heap) (k : ℕ) (t : LaneThread) → IsReady trace h k t → IsSeated trace h t
-ready-seated trace h k t is = record {
+pub ready-paired : (trace : Trace) (h : Heap) (k : ℕ) (t : LaneThread) → IsReady trace h k t → IsPaired trace h t
+ready-paired trace h k t is = record {
   has = subst (λ n. n < length trace.lanes) (sym is.number) is.has;
   over = subst (λ n. StandsOver h (operations_in trace n) t.pass t.lane) (sym is.number) is.over;
 }
@@ -191,7 +191,7 @@ written-whole xs ys n a b =
 -- a lane that is done has ended with its outcomes
 pub done-ended :
     (trace : Trace) (h : Heap) (k : ℕ) (t : LaneThread) → IsDone trace h k t
-    → HasEnded h (operations_in trace k) k t.pass t.lane.outcomes.items
+    → HasEndedOver h (operations_in trace k) k t.pass t.lane.outcomes.items
 done-ended trace h k t done =
     let o = done.over in
     let registers = held_blocks (λ (block : Block). block.place) (λ (block : Block). block.need) t.lane.registers.items in
@@ -209,14 +209,14 @@ done-ended trace h k t done =
 -- one more has ended
 pub ended-push :
     (trace : Trace) (h : Heap) (k : ℕ) (ps : List Pass) (os : List (Vec Outcome Global)) (p : Pass) (o : Vec Outcome Global)
-    → AreEnded trace h k ps os → HasEnded h (operations_in trace (k + length ps)) (k + length ps) p o.items
+    → AreEnded trace h k ps os → HasEndedOver h (operations_in trace (k + length ps)) (k + length ps) p o.items
     → AreEnded trace h k (ps ++ p ∷ []) (os ++ o ∷ [])
-ended-push trace h k [] [] p o all one = (subst (λ n. HasEnded h (operations_in trace n) n p o.items) (omega arith) one, tt)
+ended-push trace h k [] [] p o all one = (subst (λ n. HasEndedOver h (operations_in trace n) n p o.items) (omega arith) one, tt)
 ended-push trace h k [] (r ∷ os) p o all one = absurd all
 ended-push trace h k (q ∷ ps) [] p o all one = absurd all
 ended-push trace h k (q ∷ ps) (r ∷ os) p o all one = (
   all.0,
-  ended-push trace h (suc k) ps os p o all.1 (subst (λ n. HasEnded h (operations_in trace n) n p o.items) (omega arith) one),
+  ended-push trace h (suc k) ps os p o all.1 (subst (λ n. HasEndedOver h (operations_in trace n) n p o.items) (omega arith) one),
 )
 
 pub ended-count :
@@ -230,15 +230,15 @@ ended-count trace h k (p ∷ ps) (o ∷ os) all = ap suc (ended-count trace h (s
 pub ended-at :
     (trace : Trace) (h : Heap) (k : ℕ) (ps : List Pass) (os : List (Vec Outcome Global)) (i : ℕ) (p : Pass) → AreEnded trace h k ps os
     → i < length ps → p ≡ get_or ps i p
-    → HasEnded h (operations_in trace (k + i)) (k + i) p (get_or (map (λ (o : Vec Outcome Global). o.items) os) i [])
+    → HasEndedOver h (operations_in trace (k + i)) (k + i) p (get_or (map (λ (o : Vec Outcome Global). o.items) os) i [])
 ended-at trace h k [] [] i p all lt there = absurd (omega (arith, lt))
 ended-at trace h k [] (o ∷ os) i p all lt there = absurd all
 ended-at trace h k (q ∷ ps) [] i p all lt there = absurd all
 ended-at trace h k (q ∷ ps) (o ∷ os) zero p all lt there =
-    subst (λ n. HasEnded h (operations_in trace n) n p o.items) (omega arith)
-    (subst (λ r. HasEnded h (operations_in trace k) k r o.items) (sym there) all.0)
+    subst (λ n. HasEndedOver h (operations_in trace n) n p o.items) (omega arith)
+    (subst (λ r. HasEndedOver h (operations_in trace k) k r o.items) (sym there) all.0)
 ended-at trace h k (q ∷ ps) (o ∷ os) (suc i) p all lt there =
-    subst (λ n. HasEnded h (operations_in trace n) n p (get_or (map (λ (o : Vec Outcome Global). o.items) os) i [])) (omega arith)
+    subst (λ n. HasEndedOver h (operations_in trace n) n p (get_or (map (λ (o : Vec Outcome Global). o.items) os) i [])) (omega arith)
     (ended-at trace h (suc k) ps os i p all.1 (omega (arith, lt)) there)
 
 pub ended-idle :
@@ -273,7 +273,7 @@ have-run trace h ps os is some all ended =
       all = all ∙ sym (one-each (length trace.lanes) some) ∙ sym is.callers;
       lists = length-map os (λ (o : Vec Outcome Global). o.items) ∙ ended-count trace h 0 ps os ended ∙ all;
       each = λ lane p lt there.
-          subst (λ n. HasEnded h (operations_in trace n) n p (get_or (map (λ (o : Vec Outcome Global). o.items) os) lane [])) (omega arith)
+          subst (λ n. HasEndedOver h (operations_in trace n) n p (get_or (map (λ (o : Vec Outcome Global). o.items) os) lane [])) (omega arith)
           (ended-at trace h 0 ps os lane p ended (omega (arith, lt, all)) there);
       rest = λ k p least lt there. absurd (omega (arith, least, lt, all));
     }

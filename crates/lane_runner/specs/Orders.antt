@@ -3,14 +3,14 @@ use Rattle.std.specs.Prelude.{ℕ, zero, suc, ◌≡◌, ◌<◌, ◌≤◌, ◌
 use Rattle.trace_text.specs.declared.trace.OrderRun.{OrderRun}
 
 -- lanes from one on, so many, make all their steps one lane after the other
-abbrev pub InTurn : ℕ → ℕ → List ℕ → Type 0
-InTurn lane zero steps = steps ≡ []
-InTurn lane (suc lanes) steps =
-    (made : ℕ) × (rest : List ℕ) × (steps ≡ replicate made lane ++ rest) × (¬ Contains rest lane) × InTurn (suc lane) lanes rest
+abbrev pub OneByOne : ℕ → ℕ → List ℕ → Type 0
+OneByOne lane zero steps = steps ≡ []
+OneByOne lane (suc lanes) steps =
+    (made : ℕ) × (rest : List ℕ) × (steps ≡ replicate made lane ++ rest) × (¬ Contains rest lane) × OneByOne (suc lane) lanes rest
 
 -- the steps, each by the lane that makes it, follow these order runs, and then each lane goes on to its end, lane 0 first: an order run's lane makes as many steps as it says, or fewer where it makes no other step after them
 abbrev pub InOrder : List OrderRun → ℕ → List ℕ → Type 0
-InOrder [] lanes steps = InTurn 0 lanes steps
+InOrder [] lanes steps = OneByOne 0 lanes steps
 InOrder (run ∷ runs) lanes steps =
     (made : ℕ) × (rest : List ℕ) × (steps ≡ replicate made run.lane ++ rest) × (made ≤ run.steps)
     × (made < run.steps → ¬ Contains rest run.lane) × InOrder runs lanes rest

@@ -16,7 +16,7 @@ use Rattle.lane_steps.specs.declared.lane.LaneState.{LaneState}
 use Rattle.lane_steps.specs.declared.stage.Stage.TheVariants as stage
 use Rattle.lane_steps.specs.Begun.{calls_of}
 use Rattle.lane_runner.specs.Driven.{Drives, steppers_of}
-use Rattle.lane_runner.specs.Orders.{InOrder, InTurn}
+use Rattle.lane_runner.specs.Orders.{InOrder, OneByOne}
 use Rattle.lane_steps.specs.Paths.{IsBy, Leads, FirstPassed, begun_count}
 use Rattle.lane_steps.specs.Scripts.{IsOnScript}
 use Rattle.lane_steps.specs.States.{IsLaneOf, progress_of}
@@ -145,5 +145,5 @@ pub record HaveFinished (passed : ℕ → ℕ → Type 0) (trace : Trace) (count
   pub ran : LanesRan passed trace c after old new
   pub ended : (lane : ℕ) → lane < count → HasEndedIn trace new lane
   pub order :
-      (left : ℕ) (rest : List ℕ) → ((lane : ℕ) → HasEndedIn trace new lane → ¬ Contains rest lane) → InTurn count left rest
-      → InTurn 0 (count + left) (steppers_of ran.moves ++ rest)
+      (left : ℕ) (rest : List ℕ) → ((lane : ℕ) → HasEndedIn trace new lane → ¬ Contains rest lane) → OneByOne count left rest
+      → OneByOne 0 (count + left) (steppers_of ran.moves ++ rest)

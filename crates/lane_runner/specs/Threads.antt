@@ -22,7 +22,7 @@ use Rattle.lane_runner.specs.Running.{operations_in}
 use Rattle.lane_steps.specs.States.{AreNew, IsLaneOf}
 
 -- a pass whose lane has ended with these outcomes
-pub record HasEnded (h : Heap) (operations : List Op) (lane : ℕ) (p : Pass) (outcomes : List Outcome) : Type 0 where
+pub record HasEndedOver (h : Heap) (operations : List Op) (lane : ℕ) (p : Pass) (outcomes : List Outcome) : Type 0 where
   pub of : IsOf h p
   pub caller : p.errand.caller ≡ lane
   pub registers : List (Option Held)
@@ -35,7 +35,7 @@ pub record HaveRun (trace : Trace) (h : Heap) (passes : List Pass) (outcomes : L
   pub lists : length outcomes ≡ length trace.lanes
   pub each :
       (lane : ℕ) (p : Pass) → lane < length trace.lanes → p ≡ slice_index_or passes lane p
-      → HasEnded h (operations_in trace lane) lane p (slice_index_or outcomes lane [])
+      → HasEndedOver h (operations_in trace lane) lane p (slice_index_or outcomes lane [])
   pub rest :
       (k : ℕ) (p : Pass) → length trace.lanes ≤ k → k < length passes → p ≡ slice_index_or passes k p → IsFresh h p × (p.errand.caller ≡ k)
 
@@ -54,7 +54,7 @@ pub record HasRunOver (passed : ℕ → ℕ → Type 0) (h : Heap) (operations :
   pub gate : FirstPassed passed old.caller (begun_count old.outcomes.items old.stage) → FirstPassed passed old.caller (length operations)
 
 -- a lane of a trace and the pass of its caller, as a thread has them
-pub record IsSeated (trace : Trace) (h : Heap) (t : LaneThread) : Type 0 where
+pub record IsPaired (trace : Trace) (h : Heap) (t : LaneThread) : Type 0 where
   pub has : t.lane.caller < length trace.lanes
   pub over : StandsOver h (operations_in trace t.lane.caller) t.pass t.lane
 
@@ -102,6 +102,6 @@ pub record IsReserved (trace : Trace) (r : Reserved) : Type 0 where
 -- the passes of the lanes from this number on, and the outcomes with which each of them has ended
 abbrev pub AreEnded : Trace → Heap → ℕ → List Pass → List (Vec Outcome Global) → Type 0
 AreEnded trace h lane [] [] = Unit {0}
-AreEnded trace h lane (p ∷ ps) (o ∷ os) = HasEnded h (operations_in trace lane) lane p o.items × AreEnded trace h (suc lane) ps os
+AreEnded trace h lane (p ∷ ps) (o ∷ os) = HasEndedOver h (operations_in trace lane) lane p o.items × AreEnded trace h (suc lane) ps os
 AreEnded trace h lane [] (o ∷ os) = ⊥
 AreEnded trace h lane (p ∷ ps) [] = ⊥

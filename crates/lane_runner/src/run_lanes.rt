@@ -7,7 +7,7 @@ ghost use Rattle.lane_outcomes.specs.Passed.{AllPassed};
 ghost use Rattle.live_heap.specs.Endings.{AreAllIdle};
 ghost use Rattle.live_heap.specs.Passes.{AreFrom};
 ghost use Rattle.lane_steps.specs.States.{AreNew};
-ghost use Rattle.lane_runner.specs.Threads.{AreDone, AreEnded, AreReady, HasRunOver, HasRunThrough, HaveRun, IsReserved, IsSeated, StandsOver};
+ghost use Rattle.lane_runner.specs.Threads.{AreDone, AreEnded, AreReady, HasRunOver, HasRunThrough, HaveRun, IsReserved, IsPaired, StandsOver};
 ghost use Rattle.lane_runner.specs.declared.run_lanes.LaneThread.{LaneThread};
 
 use crate::lanes::{lane_of, open_lanes};
@@ -79,7 +79,7 @@ impl LaneThread {
     /// Runs its lane to its end.
     fn run<R: Wait, G: Gate>(&mut self, rt: &R, trace: &Trace, heap: &Heap, gate: &G)
         requires trace { IsTrace trace.now }
-        requires seated { IsSeated trace.now heap.now self.old }
+        requires paired { IsPaired trace.now heap.now self.old }
         ensures { HasRunThrough (G.passed gate.now) trace.now heap.now self.old self.new }
     {
         let operations = lane_of(trace, self.lane.caller() as usize);
@@ -97,7 +97,7 @@ fn run_padded<R: Wait, G: Gate>(
     thread: &mut CachePadded<LaneThread>,
 )
     requires trace { IsTrace trace.now }
-    requires seated { IsSeated trace.now heap.now (padded_value {T = LaneThread} thread.old) }
+    requires paired { IsPaired trace.now heap.now (padded_value {T = LaneThread} thread.old) }
     ensures { HasRunThrough (G.passed gate.now) trace.now heap.now (padded_value {T = LaneThread} thread.old) (padded_value {T = LaneThread} thread.new) }
 {
     let thread: &mut LaneThread = thread;
@@ -114,7 +114,7 @@ fn run_each<R: Threads + Wait + Sync, G: Gate + Sync>(
 )
     requires trace { IsTrace trace.now }
     requires some { 0 < length threads.old }
-    requires seated { All (λ t. IsSeated trace.now heap.now (padded_value {T = LaneThread} t)) threads.old }
+    requires paired { All (λ t. IsPaired trace.now heap.now (padded_value {T = LaneThread} t)) threads.old }
     ensures { (i : ℕ) (d : _) → i < length threads.old
         → HasRunThrough (G.passed gate.now) trace.now heap.now (padded_value {T = LaneThread} (slice_index_or threads.old i d))
         (padded_value {T = LaneThread} (slice_index_or threads.new i d)) }
@@ -125,7 +125,7 @@ fn run_each<R: Threads + Wait + Sync, G: Gate + Sync>(
         threads,
         count,
         &|_, thread: &mut CachePadded<LaneThread>|
-            requires { IsTrace trace.now × IsSeated trace.now heap.now (padded_value {T = LaneThread} thread.old) }
+            requires { IsTrace trace.now × IsPaired trace.now heap.now (padded_value {T = LaneThread} thread.old) }
             ensures { HasRunThrough (G.passed gate.entry.now) trace.entry.now heap.entry.now (padded_value {T = LaneThread} thread.old) (padded_value {T = LaneThread} thread.new) }
         { run_padded(rt, trace, heap, gate, thread) },
     );
@@ -172,7 +172,7 @@ fn reserve(alloc: Global, trace: &Trace) -> Result<Reserved, AllocError>
 }
 
 /// Gives each lane the pass of its caller, the last lane first.
-fn seat_lanes(
+fn pair_lanes(
     _trace: &Trace,
     _heap: &Heap,
     mut lanes: Vec<LaneState<Block>>,
@@ -260,7 +260,7 @@ pub fn run_lanes<R: Threads + Wait + Sync, G: Gate + Sync>(
         mut threads,
         mut outcomes,
     } = reserved;
-    seat_lanes(trace, heap, lanes, &mut passes, &mut threads);
+    pair_lanes(trace, heap, lanes, &mut passes, &mut threads);
     run_threads(rt, trace, heap, gate, &mut threads);
     take_back(trace, heap, threads, &mut passes, &mut outcomes);
     Ok(LanesRun { outcomes, passes })

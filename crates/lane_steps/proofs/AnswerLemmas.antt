@@ -71,7 +71,7 @@ pub record HasMovedOn (e f : ErrandFields) (before after more : List Event) : Ty
   pub at_limit : e.turns ≡ e.geometry.turn_limit → f.turns ≡ e.geometry.turn_limit
 
 -- the call goes on
-pub record GoesOn (e f : ErrandFields) (call : Call) (before after added : List Event) : Type 0 where
+pub record CallGoesOn (e f : ErrandFields) (call : Call) (before after added : List Event) : Type 0 where
   pub more : List Event
   pub moved_on : HasMovedOn e f before after more
   pub busy : IsBusy f
@@ -222,7 +222,7 @@ moved-on e f before after answer s =
 goes-on :
     (e f : ErrandFields) (call : Call) (before after added : List Event) (answer : Progress)
     → ((r : Reply) → answer ≢ progress.Done r) → IsMoment e f before after answer → IsUnderWay e.caller call e.point added
-    → GoesOn e f call before after added
+    → CallGoesOn e f call before after added
 goes-on e f call before after added answer on moment way =
     let s = settled-of e f before after answer moment in
     let busy : IsBusy (settle_of e s.x) =
@@ -426,47 +426,47 @@ missed-same (take shelf) x y z w = refl
 -- what each answer says of each call; no other answer comes
 module _ {B : Type 0} (place_of : B → ℕ) (block_need : B → Need) (e f : ErrandFields) (before after added : List Event) where
   abbrev pub ToldOfAlloc : ℕ → Stepped B → Type 0
-  ToldOfAlloc words stepped.More = GoesOn e f (alloc words) before after added
-  ToldOfAlloc words stepped.Lost = GoesOn e f (alloc words) before after added
-  ToldOfAlloc words stepped.Cleared = GoesOn e f (alloc words) before after added
+  ToldOfAlloc words stepped.More = CallGoesOn e f (alloc words) before after added
+  ToldOfAlloc words stepped.Lost = CallGoesOn e f (alloc words) before after added
+  ToldOfAlloc words stepped.Cleared = CallGoesOn e f (alloc words) before after added
   ToldOfAlloc words (stepped.Given b) = EndsGiven e f words (place_of b) (block_need b) before after added
   ToldOfAlloc words stepped.Refused = Ends e f (ended.alloc_refused words) before after added
   ToldOfAlloc words stepped.Spent = EndsSpent e f words before after added
   ToldOfAlloc words told = ⊥
 
   abbrev pub ToldOfFree : ℕ → Need → Stepped B → Type 0
-  ToldOfFree place need stepped.More = GoesOn e f (free place need) before after added
-  ToldOfFree place need stepped.Lost = GoesOn e f (free place need) before after added
-  ToldOfFree place need stepped.Cleared = GoesOn e f (free place need) before after added
+  ToldOfFree place need stepped.More = CallGoesOn e f (free place need) before after added
+  ToldOfFree place need stepped.Lost = CallGoesOn e f (free place need) before after added
+  ToldOfFree place need stepped.Cleared = CallGoesOn e f (free place need) before after added
   ToldOfFree place need stepped.Freed = Ends e f (ended.freed place) before after added
   ToldOfFree place need told = ⊥
 
   abbrev pub ToldOfWrite : ℕ → Need → ℕ → ℕ → Stepped B → Type 0
-  ToldOfWrite place need i v stepped.More = GoesOn e f (write place need i v) before after added
-  ToldOfWrite place need i v stepped.Lost = GoesOn e f (write place need i v) before after added
-  ToldOfWrite place need i v stepped.Cleared = GoesOn e f (write place need i v) before after added
+  ToldOfWrite place need i v stepped.More = CallGoesOn e f (write place need i v) before after added
+  ToldOfWrite place need i v stepped.Lost = CallGoesOn e f (write place need i v) before after added
+  ToldOfWrite place need i v stepped.Cleared = CallGoesOn e f (write place need i v) before after added
   ToldOfWrite place need i v stepped.Wrote = Ends e f (ended.wrote place i v) before after added
   ToldOfWrite place need i v told = ⊥
 
   abbrev pub ToldOfRead : ℕ → Need → ℕ → Stepped B → Type 0
-  ToldOfRead place need i stepped.More = GoesOn e f (read place need i) before after added
-  ToldOfRead place need i stepped.Lost = GoesOn e f (read place need i) before after added
-  ToldOfRead place need i stepped.Cleared = GoesOn e f (read place need i) before after added
+  ToldOfRead place need i stepped.More = CallGoesOn e f (read place need i) before after added
+  ToldOfRead place need i stepped.Lost = CallGoesOn e f (read place need i) before after added
+  ToldOfRead place need i stepped.Cleared = CallGoesOn e f (read place need i) before after added
   ToldOfRead place need i (stepped.Word word) = EndsRead e f place i word before after added
   ToldOfRead place need i told = ⊥
 
   abbrev pub ToldOfPut : ℕ → Need → ℕ → Stepped B → Type 0
-  ToldOfPut place need shelf stepped.More = GoesOn e f (put place need shelf) before after added
-  ToldOfPut place need shelf stepped.Lost = GoesOn e f (put place need shelf) before after added
-  ToldOfPut place need shelf stepped.Cleared = GoesOn e f (put place need shelf) before after added
+  ToldOfPut place need shelf stepped.More = CallGoesOn e f (put place need shelf) before after added
+  ToldOfPut place need shelf stepped.Lost = CallGoesOn e f (put place need shelf) before after added
+  ToldOfPut place need shelf stepped.Cleared = CallGoesOn e f (put place need shelf) before after added
   ToldOfPut place need shelf stepped.Put = Ends e f (ended.put_done place shelf) before after added
   ToldOfPut place need shelf (stepped.Full b) = EndsFull e f place need shelf (place_of b) (block_need b) before after added
   ToldOfPut place need shelf told = ⊥
 
   abbrev pub ToldOfTake : ℕ → Stepped B → Type 0
-  ToldOfTake shelf stepped.More = GoesOn e f (take shelf) before after added
-  ToldOfTake shelf stepped.Lost = GoesOn e f (take shelf) before after added
-  ToldOfTake shelf stepped.Cleared = GoesOn e f (take shelf) before after added
+  ToldOfTake shelf stepped.More = CallGoesOn e f (take shelf) before after added
+  ToldOfTake shelf stepped.Lost = CallGoesOn e f (take shelf) before after added
+  ToldOfTake shelf stepped.Cleared = CallGoesOn e f (take shelf) before after added
   ToldOfTake shelf (stepped.Got b) = EndsGot e f shelf (place_of b) (block_need b) before after added
   ToldOfTake shelf stepped.Empty = Ends e f (ended.take_empty shelf) before after added
   ToldOfTake shelf stepped.Missed = Ends e f ended.take_missed before after added
@@ -569,20 +569,20 @@ module _ {B : Type 0} (place_of : B → ℕ) (block_need : B → Need) (e f : Er
 
   -- the call goes on
   on : (call : Call) (told : Stepped B) (h : HasStepped place_of block_need e f before after told) → ((r : Reply) → h.answer ≢ progress.Done r)
-      → IsUnderWay e.caller call e.point added → GoesOn e f call before after added
+      → IsUnderWay e.caller call e.point added → CallGoesOn e f call before after added
   on call told h going way = goes-on e f call before after added h.answer going h.moment way
 
-  more : (call : Call) → HasStepped place_of block_need e f before after stepped.More → IsUnderWay e.caller call e.point added → GoesOn e f call before after added
+  more : (call : Call) → HasStepped place_of block_need e f before after stepped.More → IsUnderWay e.caller call e.point added → CallGoesOn e f call before after added
   more call h way =
       on call stepped.More h
       (λ r is. absurd (let both : progress.More ≡ progress.Done r = sym (came (offered_at e.point) h.answer stepped.More h.tells) ∙ is in cc)) way
 
-  lost : (call : Call) → HasStepped place_of block_need e f before after stepped.Lost → IsUnderWay e.caller call e.point added → GoesOn e f call before after added
+  lost : (call : Call) → HasStepped place_of block_need e f before after stepped.Lost → IsUnderWay e.caller call e.point added → CallGoesOn e f call before after added
   lost call h way =
       on call stepped.Lost h
       (λ r is. absurd (let both : progress.Lost ≡ progress.Done r = sym (came (offered_at e.point) h.answer stepped.Lost h.tells) ∙ is in cc)) way
 
-  cleared : (call : Call) → HasStepped place_of block_need e f before after stepped.Cleared → IsUnderWay e.caller call e.point added → GoesOn e f call before after added
+  cleared : (call : Call) → HasStepped place_of block_need e f before after stepped.Cleared → IsUnderWay e.caller call e.point added → CallGoesOn e f call before after added
   cleared call h way =
       on call stepped.Cleared h
       (λ r is. absurd (let both : progress.Cleared ≡ progress.Done r = sym (came (offered_at e.point) h.answer stepped.Cleared h.tells) ∙ is in cc)) way

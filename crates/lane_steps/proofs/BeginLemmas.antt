@@ -22,7 +22,7 @@ use Rattle.trace_text.specs.declared.trace.Op.TheVariants as op
 use Rattle.lane_outcomes.specs.declared.registers.Held.{Held}
 use Rattle.lane_outcomes.specs.declared.outcome.Outcome.{Outcome}
 use Rattle.lane_outcomes.specs.declared.outcome.Outcome.TheVariants as outcome
-use Rattle.lane_outcomes.specs.Lane.{State, held_in, registers_after}
+use Rattle.lane_outcomes.specs.Lane.{Position, held_in, registers_after}
 use Rattle.lane_outcomes.specs.Rows.{AllocRow, CheckRow, FillRow, FitsRow, FreeRow, PutRow, Setting, TakeRow}
 use Rattle.lane_outcomes.specs.Standing.{HoldsOwn, OwnsWords, setting_in}
 use Rattle.lane_outcomes.proofs.HoldLemmas.{held-inside, held-set, holds-emptied}
@@ -67,19 +67,19 @@ emptied-apart pool caller r held registers full holds q other is =
 
 module _ (g : Geometry) (events : List Event) (e : ErrandFields) (operations : List Op) (registers : List (Option Held)) (results : List Outcome) (operation : Op) (rest : List Op) (lane : IsLane g e.caller events e operations registers results stage.Between) (next : drop (length results) operations ≡ operation ∷ rest) (served : IsServed g e.caller e events) where
   -- what the registers hold, and the caller's events
-  stood : registers ≡ lane.state.registers
+  stood : registers ≡ lane.position.registers
   stood = (lane-between g e.caller events e operations registers results stage.Between lane refl).1
 
-  done : own e.caller events ≡ lane.state.done
+  done : own e.caller events ≡ lane.position.done
   done = (lane-between g e.caller events e operations registers results stage.Between lane refl).2
 
-  done-none : own e.caller events ≡ lane.state.done ++ []
-  done-none = done ∙ sym (append-nil lane.state.done)
+  done-none : own e.caller events ≡ lane.position.done ++ []
+  done-none = done ∙ sym (append-nil lane.position.done)
 
   -- the operation is under way, at this stage and with these registers
   lane-begins :
       (f : ErrandFields) (call : Call) (now : List (Option Held)) (to : Stage) → HasBegun e f call
-      → IsAt e.caller events f lane.state now (drop (length results) operations) to [] → length now ≡ REGISTERS
+      → IsAt e.caller events f lane.position now (drop (length results) operations) to [] → length now ≡ REGISTERS
       → HoldsOwn (pool_of events) e.caller now → IsLane g e.caller events f operations now results to
   lane-begins f call now to begun stands size holds =
       lane-goes g e.caller events events e f operations registers now results stage.Between to [] lane
@@ -88,8 +88,8 @@ module _ (g : Geometry) (events : List Event) (e : ErrandFields) (operations : L
   -- it has its outcome at once, and adds no event
   lane-ends_at_once :
       (f : ErrandFields) (now : List (Option Held)) (result : Outcome) → f ≡ e
-      → FitsRow (setting_in events e.caller g.turn_limit e.lost) lane.state operation result []
-      → now ≡ registers_after lane.state.registers operation result → (result ≡ outcome.Spent → e.turns ≡ g.turn_limit)
+      → FitsRow (setting_in events e.caller g.turn_limit e.lost) lane.position operation result []
+      → now ≡ registers_after lane.position.registers operation result → (result ≡ outcome.Spent → e.turns ≡ g.turn_limit)
       → IsLane g e.caller events f operations now (results ++ result ∷ []) stage.Between
   lane-ends_at_once f now result same row now_is spent =
       subst (λ (d : ErrandFields). IsLane g e.caller events d operations now (results ++ result ∷ []) stage.Between) (sym same)
@@ -116,14 +116,14 @@ IsSkipped registers (op.Put r shelf) = held_in registers r ≡ None
 IsSkipped registers (op.Take r shelf) = (held : Held) × (held_in registers r ≡ Some held)
 
 skip-row :
-    (setting : Setting) (state : State) (operation : Op) → IsSkipped state.registers operation
-    → FitsRow setting state operation outcome.Skipped []
-skip-row setting state (op.Alloc r need v) is = subst (λ h. AllocRow setting state need v h outcome.Skipped []) (sym is.1) refl
-skip-row setting state (op.Free r) is = subst (λ h. FreeRow setting h outcome.Skipped []) (sym is) refl
-skip-row setting state (op.Fill r v) is = subst (λ h. FillRow setting v h outcome.Skipped []) (sym is) refl
-skip-row setting state (op.Check r) is = subst (λ h. CheckRow setting state h outcome.Skipped []) (sym is) refl
-skip-row setting state (op.Put r shelf) is = subst (λ h. PutRow setting state shelf h outcome.Skipped []) (sym is) refl
-skip-row setting state (op.Take r shelf) is = subst (λ h. TakeRow setting state shelf h outcome.Skipped []) (sym is.1) refl
+    (setting : Setting) (position : Position) (operation : Op) → IsSkipped position.registers operation
+    → FitsRow setting position operation outcome.Skipped []
+skip-row setting position (op.Alloc r need v) is = subst (λ h. AllocRow setting position need v h outcome.Skipped []) (sym is.1) refl
+skip-row setting position (op.Free r) is = subst (λ h. FreeRow setting h outcome.Skipped []) (sym is) refl
+skip-row setting position (op.Fill r v) is = subst (λ h. FillRow setting v h outcome.Skipped []) (sym is) refl
+skip-row setting position (op.Check r) is = subst (λ h. CheckRow setting position h outcome.Skipped []) (sym is) refl
+skip-row setting position (op.Put r shelf) is = subst (λ h. PutRow setting position shelf h outcome.Skipped []) (sym is) refl
+skip-row setting position (op.Take r shelf) is = subst (λ h. TakeRow setting position shelf h outcome.Skipped []) (sym is.1) refl
 
 pub begin-skips :
     (g : Geometry) (events : List Event) (e : ErrandFields) (operations : List Op) (registers : List (Option Held)) (results : List Outcome)
@@ -133,8 +133,8 @@ pub begin-skips :
 begin-skips g events e operations registers results operation rest lane next served skipped =
     let same = stood g events e operations registers results operation rest lane next served in
     lane-ends_at_once g events e operations registers results operation rest lane next served e registers outcome.Skipped refl
-    (skip-row _ lane.state operation (subst (λ rs. IsSkipped rs operation) same skipped))
-    (same ∙ sym (skip-keeps lane.state.registers operation)) (λ is. absurd (cc))
+    (skip-row _ lane.position operation (subst (λ rs. IsSkipped rs operation) same skipped))
+    (same ∙ sym (skip-keeps lane.position.registers operation)) (λ is. absurd (cc))
 
 pub begin-spent :
     (g : Geometry) (events : List Event) (e f : ErrandFields) (operations : List Op) (registers : List (Option Held)) (results : List Outcome)
@@ -146,7 +146,7 @@ begin-spent g events e f operations registers results r need v rest lane next se
     let same = stood g events e operations registers results operation rest lane next served in
     let limit : e.turns ≡ g.turn_limit = not_begun.limit ∙ ap (λ (h : Geometry). h.turn_limit) served.own_errand.geometry in
     lane-ends_at_once g events e operations registers results operation rest lane next served f registers outcome.Spent not_begun.same
-    (spent-row g e.caller events e lane.state r need v [] served (lane-between g e.caller events e operations registers results stage.Between lane refl).0
+    (spent-row g e.caller events e lane.position r need v [] served (lane-between g e.caller events e operations registers results stage.Between lane refl).0
     limit (done-none g events e operations registers results operation rest lane next served) lane.answered not_begun.all (λ is. refl)
     (ap (λ rs. held_in rs r) (sym same) ∙ empty)) same (λ is. limit)
 
@@ -158,14 +158,14 @@ module _ (g : Geometry) (events : List Event) (e f : ErrandFields) (operations :
   begin-alloc r need v next empty starts has_begun =
       let operation : Op = op.Alloc r need v in
       let same = stood g events e operations registers results operation rest lane next served in
-      let asks = may-ask e lane.state need (λ is. lane.spent is ∙ ap (λ (h : Geometry). h.turn_limit) (sym served.own_errand.geometry)) starts in
+      let asks = may-ask e lane.position need (λ is. lane.spent is ∙ ap (λ (h : Geometry). h.turn_limit) (sym served.own_errand.geometry)) starts in
       lane-begins g events e operations registers results operation rest lane next served f (alloc need) registers stage.Calling has_begun
       (operation, rest, next, (same, empty, asks, has_begun.under_way)) lane.size lane.holds
 
   gives-away :
       (r : ℕ) (held : Held) (need : Need) (call_of : ℕ → Need → Call) → held_in registers r ≡ Some held → Serves held need
-      → registers ≡ lane.state.registers → IsUnderWay e.caller (call_of held.place need) f.point []
-      → IsGivingAway e.caller f.point lane.state.registers (slice_set registers r None) r call_of []
+      → registers ≡ lane.position.registers → IsUnderWay e.caller (call_of held.place need) f.point []
+      → IsGivingAway e.caller f.point lane.position.registers (slice_set registers r None) r call_of []
   gives-away r held need call_of full serves same way =
       record {
         held = held;

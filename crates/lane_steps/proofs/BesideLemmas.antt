@@ -17,7 +17,7 @@ use Rattle.step_core.specs.Cores.{OwnsAfter}
 use Rattle.step_core.specs.Moments.{HasSeenMore}
 use Rattle.lane_outcomes.specs.declared.registers.Held.{Held}
 use Rattle.lane_outcomes.specs.declared.outcome.Outcome.{Outcome}
-use Rattle.lane_outcomes.specs.Lane.{State, start}
+use Rattle.lane_outcomes.specs.Lane.{Position, start}
 use Rattle.lane_outcomes.specs.Fits.{Walks}
 use Rattle.lane_outcomes.specs.Standing.{HoldsOwn, OwnsWords, setting_in}
 use Rattle.lane_outcomes.proofs.FitLemmas.{walks-later}
@@ -91,34 +91,34 @@ summing-beside g caller before after point held next total b owns s =
     }
 
 doing-beside :
-    (g : Geometry) (caller : ℕ) (before after : List Event) (point : Point) (state : State) (registers : List (Option Held)) (operation : Op)
+    (g : Geometry) (caller : ℕ) (before after : List Event) (point : Point) (position : Position) (registers : List (Option Held)) (operation : Op)
     (at : Stage) (added : List Event) → IsBeside g caller before after → HoldsOwn (pool_of before) caller registers
-    → IsDoing caller (pool_of before) point state registers operation at added
-    → IsDoing caller (pool_of after) point state registers operation at added
-doing-beside g caller before after point state registers (op.Check r) (stage.Summing next total) added b holds doing = (
+    → IsDoing caller (pool_of before) point position registers operation at added
+    → IsDoing caller (pool_of after) point position registers operation at added
+doing-beside g caller before after point position registers (op.Check r) (stage.Summing next total) added b holds doing = (
   doing.0,
   doing.1,
   doing.2,
   summing-beside g caller before after point doing.0 next total b (holds.owned r doing.0 doing.2) doing.3,
   doing.4,
 )
-doing-beside g caller before after point state registers operation at added b holds doing = doing
+doing-beside g caller before after point position registers operation at added b holds doing = doing
 
 at-beside :
-    (g : Geometry) (caller : ℕ) (before after : List Event) (e : ErrandFields) (state : State) (registers : List (Option Held))
+    (g : Geometry) (caller : ℕ) (before after : List Event) (e : ErrandFields) (position : Position) (registers : List (Option Held))
     (operations : List Op) (at : Stage) (added : List Event) → IsBeside g caller before after → HoldsOwn (pool_of before) caller registers
-    → IsAt caller before e state registers operations at added → IsAt caller after e state registers operations at added
-at-beside g caller before after e state registers operations stage.Between added b holds stands = stands
-at-beside g caller before after e state registers operations stage.Calling added b holds stands =
-    (stands.0, stands.1, stands.2, doing-beside g caller before after e.point state registers stands.0 stage.Calling added b holds stands.3)
-at-beside g caller before after e state registers operations (stage.Filling next) added b holds stands =
-    (stands.0, stands.1, stands.2, doing-beside g caller before after e.point state registers stands.0 (stage.Filling next) added b holds stands.3)
-at-beside g caller before after e state registers operations (stage.Summing next total) added b holds stands =
-    (stands.0, stands.1, stands.2, doing-beside g caller before after e.point state registers stands.0 (stage.Summing next total) added b holds stands.3)
+    → IsAt caller before e position registers operations at added → IsAt caller after e position registers operations at added
+at-beside g caller before after e position registers operations stage.Between added b holds stands = stands
+at-beside g caller before after e position registers operations stage.Calling added b holds stands =
+    (stands.0, stands.1, stands.2, doing-beside g caller before after e.point position registers stands.0 stage.Calling added b holds stands.3)
+at-beside g caller before after e position registers operations (stage.Filling next) added b holds stands =
+    (stands.0, stands.1, stands.2, doing-beside g caller before after e.point position registers stands.0 (stage.Filling next) added b holds stands.3)
+at-beside g caller before after e position registers operations (stage.Summing next total) added b holds stands =
+    (stands.0, stands.1, stands.2, doing-beside g caller before after e.point position registers stands.0 (stage.Summing next total) added b holds stands.3)
 
 -- the outcomes walk on a longer history, and where more was lost
 pub walks-on :
-    (before after more : List Event) (caller limit lost lost_too : ℕ) (from to : State) (operations : List Op) (results : List Outcome)
+    (before after more : List Event) (caller limit lost lost_too : ℕ) (from to : Position) (operations : List Op) (results : List Outcome)
     → after ≡ before ++ more → lost ≤ lost_too → Walks (setting_in before caller limit lost) from operations results to
     → Walks (setting_in after caller limit lost_too) from operations results to
 walks-on before after more caller limit lost lost_too from to operations results seen rises walks =
@@ -132,14 +132,14 @@ pub lane-beside :
 lane-beside g caller before after e operations registers results at lane seen legal =
     let b = beside-of g caller before after seen legal in
     record {
-      state = lane.state;
+      position = lane.position;
       within = lane.within;
-      walks = walks-on before after seen.more caller g.turn_limit e.lost e.lost start lane.state _ results seen.seen (omega arith) lane.walks;
+      walks = walks-on before after seen.more caller g.turn_limit e.lost e.lost start lane.position _ results seen.seen (omega arith) lane.walks;
       added = lane.added;
       own_events =
           ap (own caller) seen.seen ∙ own-append caller before seen.more ∙ ap (λ xs. own caller before ++ xs) seen.not_own
           ∙ append-nil (own caller before) ∙ lane.own_events;
-      stands = at-beside g caller before after e lane.state registers _ at lane.added b lane.holds lane.stands;
+      stands = at-beside g caller before after e lane.position registers _ at lane.added b lane.holds lane.stands;
       size = lane.size;
       holds = holds-still (pool_of before) (pool_of after) caller registers (words-beside g caller before after b) lane.holds;
       answered = lane.answered;

@@ -103,7 +103,7 @@ module _ {B : Type 0} (place_of : B → ℕ) (need_of : B → Need) (g : Geometr
   pub put-puts :
       (r shelf : ℕ) (at : Stage) (lane : IsLane g e.caller before e operations registers results at)
       → drop (length results) operations ≡ op.Put r shelf ∷ rest
-      → IsDoing e.caller (pool_of before) e.point lane.state registers (op.Put r shelf) at lane.added
+      → IsDoing e.caller (pool_of before) e.point lane.position registers (op.Put r shelf) at lane.added
       → HasStepped place_of need_of e f before events stepped.Put → EndsCalling at registers outcome.Put
   put-puts r shelf stage.Calling lane next doing step =
       let ends = told-of_put place_of need_of e f before events lane.added doing.held.place doing.need shelf stepped.Put step doing.under_way in
@@ -119,7 +119,7 @@ module _ {B : Type 0} (place_of : B → ℕ) (need_of : B → Need) (g : Geometr
   pub put-finds :
       (r shelf : ℕ) (block : B) (at : Stage) (lane : IsLane g e.caller before e operations registers results at)
       → drop (length results) operations ≡ op.Put r shelf ∷ rest
-      → IsDoing e.caller (pool_of before) e.point lane.state registers (op.Put r shelf) at lane.added
+      → IsDoing e.caller (pool_of before) e.point lane.position registers (op.Put r shelf) at lane.added
       → HasStepped place_of need_of e f before events (stepped.Full block) → EndsWithBlock at r block outcome.ShelfFull
   put-finds r shelf block stage.Calling lane next doing step =
       let full = told-of_put place_of need_of e f before events lane.added doing.held.place doing.need shelf (stepped.Full block) step doing.under_way in
@@ -141,7 +141,7 @@ module _ {B : Type 0} (place_of : B → ℕ) (need_of : B → Need) (g : Geometr
   pub take-gets :
       (r shelf : ℕ) (block : B) (at : Stage) (lane : IsLane g e.caller before e operations registers results at)
       → drop (length results) operations ≡ op.Take r shelf ∷ rest
-      → IsDoing e.caller (pool_of before) e.point lane.state registers (op.Take r shelf) at lane.added
+      → IsDoing e.caller (pool_of before) e.point lane.position registers (op.Take r shelf) at lane.added
       → HasStepped place_of need_of e f before events (stepped.Got block)
       → EndsWithBlock at r block (outcome.Took (usable_words (need_of block)) (place_of block))
   take-gets r shelf block stage.Calling lane next doing step =
@@ -162,7 +162,7 @@ module _ {B : Type 0} (place_of : B → ℕ) (need_of : B → Need) (g : Geometr
   pub take-finds :
       (r shelf : ℕ) (at : Stage) (lane : IsLane g e.caller before e operations registers results at)
       → drop (length results) operations ≡ op.Take r shelf ∷ rest
-      → IsDoing e.caller (pool_of before) e.point lane.state registers (op.Take r shelf) at lane.added
+      → IsDoing e.caller (pool_of before) e.point lane.position registers (op.Take r shelf) at lane.added
       → HasStepped place_of need_of e f before events stepped.Empty → EndsCalling at registers outcome.ShelfEmpty
   take-finds r shelf stage.Calling lane next doing step =
       let ends = told-of_take place_of need_of e f before events lane.added shelf stepped.Empty step doing.2 in
@@ -185,7 +185,7 @@ module _ {B : Type 0} (place_of : B → ℕ) (need_of : B → Need) (g : Geometr
   pub take-misses :
       (r shelf : ℕ) (at : Stage) (lane : IsLane g e.caller before e operations registers results at)
       → drop (length results) operations ≡ op.Take r shelf ∷ rest
-      → IsDoing e.caller (pool_of before) e.point lane.state registers (op.Take r shelf) at lane.added
+      → IsDoing e.caller (pool_of before) e.point lane.position registers (op.Take r shelf) at lane.added
       → HasStepped place_of need_of e f before events stepped.Missed → HasMissed at shelf
   take-misses r shelf stage.Calling lane next doing step =
       let ends = told-of_take place_of need_of e f before events lane.added shelf stepped.Missed step doing.2 in
@@ -218,7 +218,7 @@ module _ {B : Type 0} (place_of : B → ℕ) (need_of : B → Need) (g : Geometr
   pub check-reads :
       (r word : ℕ) (at : Stage) (lane : IsLane g e.caller before e operations registers results at)
       → drop (length results) operations ≡ op.Check r ∷ rest
-      → IsDoing e.caller (pool_of before) e.point lane.state registers (op.Check r) at lane.added
+      → IsDoing e.caller (pool_of before) e.point lane.position registers (op.Check r) at lane.added
       → HasStepped place_of need_of e f before events (stepped.Word word) → HasRead at r word
   check-reads r word (stage.Summing i total) lane next doing step =
       let held = doing.0 in

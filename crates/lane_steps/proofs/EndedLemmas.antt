@@ -32,11 +32,11 @@ use Rattle.lane_steps.proofs.ScriptLemmas.{empty, script-none, take_all}
 pub lane-between :
     (g : Geometry) (caller : ℕ) (events : List Event) (e : ErrandFields) (operations : List Op) (registers : List (Option Held))
     (results : List Outcome) (at : Stage) (lane : IsLane g caller events e operations registers results at) → at ≡ stage.Between
-    → IsIdle e × (registers ≡ lane.state.registers) × (own caller events ≡ lane.state.done)
+    → IsIdle e × (registers ≡ lane.position.registers) × (own caller events ≡ lane.position.done)
 lane-between g caller events e operations registers results at lane between =
-    let stands : IsAt caller events e lane.state registers (drop (length results) operations) stage.Between lane.added =
-    subst (λ a. IsAt caller events e lane.state registers (drop (length results) operations) a lane.added) between lane.stands in
-    (stands.0, stands.1, lane.own_events ∙ ap (λ xs. lane.state.done ++ xs) stands.2 ∙ append-nil lane.state.done)
+    let stands : IsAt caller events e lane.position registers (drop (length results) operations) stage.Between lane.added =
+    subst (λ a. IsAt caller events e lane.position registers (drop (length results) operations) a lane.added) between lane.stands in
+    (stands.0, stands.1, lane.own_events ∙ ap (λ xs. lane.position.done ++ xs) stands.2 ∙ append-nil lane.position.done)
 
 -- with all outcomes they fit the events, however much more was lost
 pub lane-fits :
@@ -46,9 +46,9 @@ pub lane-fits :
 lane-fits g caller events e operations registers results at lost lane between ended rises =
     let whole : take (length results) operations ≡ operations = ap (λ n. take n operations) ended ∙ take_all operations in
     record {
-      end = lane.state;
-      walks = walks-on events events [] caller g.turn_limit e.lost lost start lane.state operations results (sym (append-nil events)) rises
-          (subst (λ ops. Walks (setting_in events caller g.turn_limit e.lost) start ops results lane.state) whole lane.walks);
+      end = lane.position;
+      walks = walks-on events events [] caller g.turn_limit e.lost lost start lane.position operations results (sym (append-nil events)) rises
+          (subst (λ ops. Walks (setting_in events caller g.turn_limit e.lost) start ops results lane.position) whole lane.walks);
       all_used = (lane-between g caller events e operations registers results at lane between).2;
     }
 
@@ -73,7 +73,7 @@ lane-new {B = B} place_of need_of g caller events e operations lane new none idl
     ap (held_blocks place_of need_of) new.empty ∙ blocks-none place_of need_of REGISTERS in
     let stands : IsLane g caller events e operations empty [] stage.Between =
     record {
-      state = start;
+      position = start;
       within = omega arith;
       walks = refl;
       added = [];

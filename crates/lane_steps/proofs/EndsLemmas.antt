@@ -60,16 +60,16 @@ later-again g e f d before events more call moved begun heap legal =
 
 module _ (g : Geometry) (e f : ErrandFields) (before events : List Event) (operations : List Op) (registers : List (Option Held)) (results : List Outcome) (lane : IsLane g e.caller before e operations registers results stage.Calling) (heap : e.geometry ≡ g) (legal : IsLegal g events) (rest : List Op) where
   -- the caller's events
-  own-now : (more : List Event) → HasMovedOn e f before events more → own e.caller events ≡ lane.state.done ++ (lane.added ++ more)
+  own-now : (more : List Event) → HasMovedOn e f before events more → own e.caller events ≡ lane.position.done ++ (lane.added ++ more)
   own-now more moved =
-      moved.own_events ∙ ap (λ xs. xs ++ more) lane.own_events ∙ append_assoc lane.state.done lane.added more
+      moved.own_events ∙ ap (λ xs. xs ++ more) lane.own_events ∙ append_assoc lane.position.done lane.added more
 
-  own-done : (more : List Event) → HasMovedOn e f before events more → lane.added ++ more ≡ [] → own e.caller events ≡ lane.state.done
-  own-done more moved none = own-now more moved ∙ ap (λ xs. lane.state.done ++ xs) none ∙ append-nil lane.state.done
+  own-done : (more : List Event) → HasMovedOn e f before events more → lane.added ++ more ≡ [] → own e.caller events ≡ lane.position.done
+  own-done more moved none = own-now more moved ∙ ap (λ xs. lane.position.done ++ xs) none ∙ append-nil lane.position.done
 
   pub free-ends_lane :
       (r : ℕ) → drop (length results) operations ≡ op.Free r ∷ rest
-      → (doing : IsDoing e.caller (pool_of before) e.point lane.state registers (op.Free r) stage.Calling lane.added)
+      → (doing : IsDoing e.caller (pool_of before) e.point lane.position registers (op.Free r) stage.Calling lane.added)
       → Ends e f (ended.freed doing.held.place) before events lane.added
       → IsLane g e.caller events f operations registers (results ++ outcome.Freed ∷ []) stage.Between
   free-ends_lane r next doing ends =
@@ -80,20 +80,20 @@ module _ (g : Geometry) (e f : ErrandFields) (before events : List Event) (opera
 
   pub put-ends_lane :
       (r shelf : ℕ) → drop (length results) operations ≡ op.Put r shelf ∷ rest
-      → (doing : IsDoing e.caller (pool_of before) e.point lane.state registers (op.Put r shelf) stage.Calling lane.added)
+      → (doing : IsDoing e.caller (pool_of before) e.point lane.position registers (op.Put r shelf) stage.Calling lane.added)
       → Ends e f (ended.put_done doing.held.place shelf) before events lane.added
       → IsLane g e.caller events f operations registers (results ++ outcome.Put ∷ []) stage.Between
   put-ends_lane r shelf next doing ends =
       lane-ends g e.caller before events e f operations registers registers results stage.Calling (op.Put r shelf) rest outcome.Put
       (lane.added ++ ends.more) lane next (later-moved g e f before events ends.more ends.moved_on heap legal) ends.idle
       (own-now ends.more ends.moved_on)
-      (subst (λ h. PutRow (setting_in events e.caller g.turn_limit f.lost) lane.state shelf h outcome.Put (lane.added ++ ends.more)) (sym doing.was)
+      (subst (λ h. PutRow (setting_in events e.caller g.turn_limit f.lost) lane.position shelf h outcome.Put (lane.added ++ ends.more)) (sym doing.was)
       ends.all) doing.emptied (λ is. absurd (cc))
 
   -- the shelf is full: the block is in its register again
   pub put-full_lane :
       (r shelf back : ℕ) (back_need : Need) → drop (length results) operations ≡ op.Put r shelf ∷ rest
-      → (doing : IsDoing e.caller (pool_of before) e.point lane.state registers (op.Put r shelf) stage.Calling lane.added)
+      → (doing : IsDoing e.caller (pool_of before) e.point lane.position registers (op.Put r shelf) stage.Calling lane.added)
       → EndsFull e f doing.held.place doing.need shelf back back_need before events lane.added
       → IsLane g e.caller events f operations (slice_set registers r (Some (record { place = back; words = usable_words back_need })))
       (results ++ outcome.ShelfFull ∷ []) stage.Between
@@ -104,13 +104,13 @@ module _ (g : Geometry) (e f : ErrandFields) (before events : List Event) (opera
       let same : given_back ≡ doing.held =
       ap (λ (p : ℕ). record { place = p; words = usable_words back_need }) full.same_place
       ∙ ap (λ (w : ℕ). record { place = doing.held.place; words = w }) words in
-      let now_is : slice_set registers r (Some given_back) ≡ lane.state.registers =
-      ap (λ rs. slice_set rs r (Some given_back)) doing.emptied ∙ ap (λ h. slice_set (slice_set lane.state.registers r None) r (Some h)) same
-      ∙ set-back lane.state.registers r doing.held doing.was in
+      let now_is : slice_set registers r (Some given_back) ≡ lane.position.registers =
+      ap (λ rs. slice_set rs r (Some given_back)) doing.emptied ∙ ap (λ h. slice_set (slice_set lane.position.registers r None) r (Some h)) same
+      ∙ set-back lane.position.registers r doing.held doing.was in
       lane-ends g e.caller before events e f operations registers (slice_set registers r (Some given_back)) results stage.Calling (op.Put r shelf) rest
       outcome.ShelfFull (lane.added ++ ends.more) lane next (later-moved g e f before events ends.more ends.moved_on heap legal) ends.idle
       (own-now ends.more ends.moved_on)
-      (subst (λ h. PutRow (setting_in events e.caller g.turn_limit f.lost) lane.state shelf h outcome.ShelfFull (lane.added ++ ends.more)) (sym doing.was) (
+      (subst (λ h. PutRow (setting_in events e.caller g.turn_limit f.lost) lane.position shelf h outcome.ShelfFull (lane.added ++ ends.more)) (sym doing.was) (
         ends.all,
         record { before = events; begins = ([], sym (append-nil events)); own_done = own-done ends.more ends.moved_on ends.all },
         full.full,
@@ -118,7 +118,7 @@ module _ (g : Geometry) (e f : ErrandFields) (before events : List Event) (opera
 
   pub take-got_lane :
       (r shelf place : ℕ) (need : Need) → drop (length results) operations ≡ op.Take r shelf ∷ rest
-      → IsDoing e.caller (pool_of before) e.point lane.state registers (op.Take r shelf) stage.Calling lane.added
+      → IsDoing e.caller (pool_of before) e.point lane.position registers (op.Take r shelf) stage.Calling lane.added
       → EndsGot e f shelf place need before events lane.added
       → IsLane g e.caller events f operations (slice_set registers r (Some (record { place = place; words = usable_words need })))
       (results ++ outcome.Took (usable_words need) place ∷ []) stage.Between
@@ -128,14 +128,14 @@ module _ (g : Geometry) (e f : ErrandFields) (before events : List Event) (opera
       let piece = lane.added ++ ends.more in
       let none = taking-none e.caller shelf (stage_of e.point) lane.added doing.2 in
       let seen : List Event = before ++ got.between in
-      let own_seen : own e.caller seen ≡ lane.state.done =
+      let own_seen : own e.caller seen ≡ lane.position.done =
       own-append e.caller before got.between ∙ ap (λ xs. own e.caller before ++ xs) got.not_own ∙ append-nil (own e.caller before)
-      ∙ lane.own_events ∙ ap (λ xs. lane.state.done ++ xs) none ∙ append-nil lane.state.done in
-      let empty : held_in lane.state.registers r ≡ None = ap (λ rs. held_in rs r) (sym doing.0) ∙ doing.1 in
+      ∙ lane.own_events ∙ ap (λ xs. lane.position.done ++ xs) none ∙ append-nil lane.position.done in
+      let empty : held_in lane.position.registers r ≡ None = ap (λ rs. held_in rs r) (sym doing.0) ∙ doing.1 in
       lane-ends g e.caller before events e f operations registers (slice_set registers r (Some (record { place = place; words = words }))) results
       stage.Calling (op.Take r shelf) rest (outcome.Took words place) piece lane next
       (later-moved g e f before events ends.more ends.moved_on heap legal) ends.idle (own-now ends.more ends.moved_on)
-      (subst (λ h. TakeRow (setting_in events e.caller g.turn_limit f.lost) lane.state shelf h (outcome.Took words place) piece) (sym empty) (
+      (subst (λ h. TakeRow (setting_in events e.caller g.turn_limit f.lost) lane.position shelf h (outcome.Took words place) piece) (sym empty) (
         ends.all,
         record { before = seen; begins = (Take e.caller shelf place ∷ [], got.last); own_done = own_seen },
         got.block,
@@ -146,31 +146,31 @@ module _ (g : Geometry) (e f : ErrandFields) (before events : List Event) (opera
 
   pub take-empty_lane :
       (r shelf : ℕ) → drop (length results) operations ≡ op.Take r shelf ∷ rest
-      → IsDoing e.caller (pool_of before) e.point lane.state registers (op.Take r shelf) stage.Calling lane.added
+      → IsDoing e.caller (pool_of before) e.point lane.position registers (op.Take r shelf) stage.Calling lane.added
       → Ends e f (ended.take_empty shelf) before events lane.added
       → IsLane g e.caller events f operations registers (results ++ outcome.ShelfEmpty ∷ []) stage.Between
   take-empty_lane r shelf next doing ends =
-      let empty : held_in lane.state.registers r ≡ None = ap (λ rs. held_in rs r) (sym doing.0) ∙ doing.1 in
+      let empty : held_in lane.position.registers r ≡ None = ap (λ rs. held_in rs r) (sym doing.0) ∙ doing.1 in
       lane-ends g e.caller before events e f operations registers registers results stage.Calling (op.Take r shelf) rest outcome.ShelfEmpty
       (lane.added ++ ends.more) lane next (later-moved g e f before events ends.more ends.moved_on heap legal) ends.idle
       (own-now ends.more ends.moved_on)
-      (subst (λ h. TakeRow (setting_in events e.caller g.turn_limit f.lost) lane.state shelf h outcome.ShelfEmpty (lane.added ++ ends.more)) (sym empty)
+      (subst (λ h. TakeRow (setting_in events e.caller g.turn_limit f.lost) lane.position shelf h outcome.ShelfEmpty (lane.added ++ ends.more)) (sym empty)
       ends.all) doing.0 (λ is. absurd (cc))
 
   -- a take missed: nothing was added; it begins again
-  missed-none : (r shelf : ℕ) → IsDoing e.caller (pool_of before) e.point lane.state registers (op.Take r shelf) stage.Calling lane.added
+  missed-none : (r shelf : ℕ) → IsDoing e.caller (pool_of before) e.point lane.position registers (op.Take r shelf) stage.Calling lane.added
       → (ends : Ends e f ended.take_missed before events lane.added) → ends.more ≡ []
   missed-none r shelf doing ends =
       let none = taking-none e.caller shelf (stage_of e.point) lane.added doing.2 in ap (λ xs. xs ++ ends.more) (sym none) ∙ ends.all
 
-  pub missed-own : (r shelf : ℕ) → IsDoing e.caller (pool_of before) e.point lane.state registers (op.Take r shelf) stage.Calling lane.added
+  pub missed-own : (r shelf : ℕ) → IsDoing e.caller (pool_of before) e.point lane.position registers (op.Take r shelf) stage.Calling lane.added
       → Ends e f ended.take_missed before events lane.added → own e.caller events ≡ own e.caller before
   missed-own r shelf doing ends =
       ends.moved_on.own_events ∙ ap (λ xs. own e.caller before ++ xs) (missed-none r shelf doing ends) ∙ append-nil (own e.caller before)
 
   pub take-again_lane :
       (r shelf : ℕ) (d : ErrandFields) → drop (length results) operations ≡ op.Take r shelf ∷ rest
-      → IsDoing e.caller (pool_of before) e.point lane.state registers (op.Take r shelf) stage.Calling lane.added
+      → IsDoing e.caller (pool_of before) e.point lane.position registers (op.Take r shelf) stage.Calling lane.added
       → Ends e f ended.take_missed before events lane.added → HasBegun f d (take_call shelf)
       → IsLane g e.caller events d operations registers results stage.Calling
   take-again_lane r shelf d next doing ends begun =
@@ -181,11 +181,11 @@ module _ (g : Geometry) (e f : ErrandFields) (before events : List Event) (opera
       subst (λ k. IsUnderWay k (take_call shelf) d.point []) ends.moved_on.same_caller begun.under_way in
       lane-goes g e.caller before events e d operations registers registers results stage.Calling stage.Calling [] lane
       (later-again g e f d before events ends.more (take_call shelf) ends.moved_on begun heap legal)
-      (own-done ends.more ends.moved_on ends.all ∙ sym (append-nil lane.state.done)) (op.Take r shelf, rest, next, (doing.0, doing.1, way)) lane.size
+      (own-done ends.more ends.moved_on ends.all ∙ sym (append-nil lane.position.done)) (op.Take r shelf, rest, next, (doing.0, doing.1, way)) lane.size
       aside.holds
 
 -- a check: its last word is read, or the next one follows
-module _ (g : Geometry) (e f : ErrandFields) (before events : List Event) (operations : List Op) (registers : List (Option Held)) (results : List Outcome) (i total : ℕ) (lane : IsLane g e.caller before e operations registers results (stage.Summing i total)) (heap : e.geometry ≡ g) (legal : IsLegal g events) (rest : List Op) (r : ℕ) (next : drop (length results) operations ≡ op.Check r ∷ rest) (doing : IsDoing e.caller (pool_of before) e.point lane.state registers (op.Check r) (stage.Summing i total) lane.added) (word : ℕ) (read : EndsRead e f doing.0.place i word before events []) where
+module _ (g : Geometry) (e f : ErrandFields) (before events : List Event) (operations : List Op) (registers : List (Option Held)) (results : List Outcome) (i total : ℕ) (lane : IsLane g e.caller before e operations registers results (stage.Summing i total)) (heap : e.geometry ≡ g) (legal : IsLegal g events) (rest : List Op) (r : ℕ) (next : drop (length results) operations ≡ op.Check r ∷ rest) (doing : IsDoing e.caller (pool_of before) e.point lane.position registers (op.Check r) (stage.Summing i total) lane.added) (word : ℕ) (read : EndsRead e f doing.0.place i word before events []) where
   seen : HasSeenMore e.caller before events
   seen = read-adds_none e f doing.0.place i word before events read
 
@@ -197,22 +197,22 @@ module _ (g : Geometry) (e f : ErrandFields) (before events : List Event) (opera
       summed-more g e.caller before events doing.0 i total e f word [] seen legal (lane.holds.owned r doing.0 doing.2)
       (summed-of e.caller e.point (pool_of before) doing.0 i total doing.3) read
 
-  own-still : own e.caller events ≡ lane.state.done ++ []
+  own-still : own e.caller events ≡ lane.position.done ++ []
   own-still =
       read.ends.moved_on.own_events ∙ ap (λ xs. own e.caller before ++ xs) read.ends.all ∙ append-nil (own e.caller before) ∙ lane.own_events
-      ∙ ap (λ xs. lane.state.done ++ xs) doing.4
+      ∙ ap (λ xs. lane.position.done ++ xs) doing.4
 
   pub check-ends_lane : doing.0.words ≤ i + 1 → IsLane g e.caller events f operations registers (results ++ outcome.Sum ((total + word) % 2 ^ 64) ∷ []) stage.Between
   check-ends_lane last =
       let held = doing.0 in
       let whole : i + 1 ≡ held.words = let inside = doing.3.inside in omega arith in
-      let full : held_in lane.state.registers r ≡ Some held = ap (λ rs. held_in rs r) (sym doing.1) ∙ doing.2 in
+      let full : held_in lane.position.registers r ≡ Some held = ap (λ rs. held_in rs r) (sym doing.1) ∙ doing.2 in
       let sum : Outcome = outcome.Sum ((total + word) % 2 ^ 64) in
       lane-ends g e.caller before events e f operations registers registers results (stage.Summing i total) (op.Check r) rest sum [] lane next
       (later-moved g e f before events read.ends.more read.ends.moved_on heap legal) read.ends.idle own-still
-      (subst (λ h. CheckRow (setting_in events e.caller g.turn_limit f.lost) lane.state h sum []) (sym full) (
+      (subst (λ h. CheckRow (setting_in events e.caller g.turn_limit f.lost) lane.position h sum []) (sym full) (
         refl,
-        record { before = events; begins = ([], sym (append-nil events)); own_done = own-still ∙ append-nil lane.state.done },
+        record { before = events; begins = ([], sym (append-nil events)); own_done = own-still ∙ append-nil lane.position.done },
         summed.block,
         summed.live,
         summed-whole g e.caller events held (i + 1) ((total + word) % 2 ^ 64) summed legal (aside.holds.owned r held doing.2) whole,

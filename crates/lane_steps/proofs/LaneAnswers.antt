@@ -109,16 +109,16 @@ module _ {B : Type 0} (place_of : B → ℕ) (block_need : B → Need) (g : Geom
   -- the caller's events, with those of the step
   own-more :
       (at : Stage) (lane : IsLane g e.caller before e operations registers results at) (more : List Event) → HasMovedOn e f before events more
-      → own e.caller events ≡ lane.state.done ++ (lane.added ++ more)
-  own-more at lane more moved = moved.own_events ∙ ap (λ xs. xs ++ more) lane.own_events ∙ append_assoc lane.state.done lane.added more
+      → own e.caller events ≡ lane.position.done ++ (lane.added ++ more)
+  own-more at lane more moved = moved.own_events ∙ ap (λ xs. xs ++ more) lane.own_events ∙ append_assoc lane.position.done lane.added more
 
   -- the operation ends
   ends-lane :
       (at : Stage) (operation : Op) (lane : IsLane g e.caller before e operations registers results at)
       → drop (length results) operations ≡ operation ∷ rest → (end : Ended) (added : List Event) (ends : Ends e f end before events added)
       → (now : List (Option Held)) (result : Outcome)
-      → FitsRow (setting_in events e.caller g.turn_limit f.lost) lane.state operation result (lane.added ++ ends.more)
-      → now ≡ registers_after lane.state.registers operation result
+      → FitsRow (setting_in events e.caller g.turn_limit f.lost) lane.position operation result (lane.added ++ ends.more)
+      → now ≡ registers_after lane.position.registers operation result
       → (result ≡ outcome.Spent → f.turns ≡ g.turn_limit)
       → IsLane g e.caller events f operations now (results ++ result ∷ []) stage.Between
   ends-lane at operation lane next end added ends now result row now_is spent =
@@ -129,13 +129,13 @@ module _ {B : Type 0} (place_of : B → ℕ) (block_need : B → Need) (g : Geom
   pub alloc-ends_refused :
       (r need v : ℕ) (at : Stage) (lane : IsLane g e.caller before e operations registers results at)
       → drop (length results) operations ≡ op.Alloc r need v ∷ rest
-      → IsDoing e.caller (pool_of before) e.point lane.state registers (op.Alloc r need v) at lane.added
+      → IsDoing e.caller (pool_of before) e.point lane.position registers (op.Alloc r need v) at lane.added
       → HasStepped place_of block_need e f before events stepped.Refused
       → EndsSo g e f before events operations registers registers results at outcome.Refused
   alloc-ends_refused r need v stage.Calling lane next doing step =
       let ends : Ends e f (ended.alloc_refused need) before events lane.added =
       told-of_alloc place_of block_need e f before events lane.added need stepped.Refused step doing.3 in
-      let empty : held_in lane.state.registers r ≡ None = ap (λ rs. held_in rs r) (sym doing.0) ∙ doing.1 in
+      let empty : held_in lane.position.registers r ≡ None = ap (λ rs. held_in rs r) (sym doing.0) ∙ doing.1 in
       let here = lane-here g e.caller before e operations registers results stage.Calling (op.Alloc r need v) rest lane next in
       record {
         more = ends.more;
@@ -143,9 +143,9 @@ module _ {B : Type 0} (place_of : B → ℕ) (block_need : B → Need) (g : Geom
         spares = spares-ended e f (ended.alloc_refused need) before events lane.added registers ends (λ q other full. tt);
         stands =
             ends-lane stage.Calling (op.Alloc r need v) lane next (ended.alloc_refused need) lane.added ends registers outcome.Refused
-            (subst (λ h. AllocRow (setting_in events e.caller g.turn_limit f.lost) lane.state need v h outcome.Refused (lane.added ++ ends.more)) (sym empty)
+            (subst (λ h. AllocRow (setting_in events e.caller g.turn_limit f.lost) lane.position need v h outcome.Refused (lane.added ++ ends.more)) (sym empty)
             (doing.2, ends.all)) doing.0 (λ is. absurd (cc));
-        script = λ calls script. alloc-refused operations results lane.state.registers registers registers r need v calls here script;
+        script = λ calls script. alloc-refused operations results lane.position.registers registers registers r need v calls here script;
         few = omega arith;
       }
   alloc-ends_refused r need v stage.Between lane next doing step = absurd doing
@@ -157,14 +157,14 @@ module _ {B : Type 0} (place_of : B → ℕ) (block_need : B → Need) (g : Geom
   pub alloc-ends_spent :
       (r need v : ℕ) (at : Stage) (lane : IsLane g e.caller before e operations registers results at)
       → drop (length results) operations ≡ op.Alloc r need v ∷ rest
-      → IsDoing e.caller (pool_of before) e.point lane.state registers (op.Alloc r need v) at lane.added
+      → IsDoing e.caller (pool_of before) e.point lane.position registers (op.Alloc r need v) at lane.added
       → HasStepped place_of block_need e f before events stepped.Spent
       → EndsSo g e f before events operations registers registers results at outcome.Spent
   alloc-ends_spent r need v stage.Calling lane next doing step =
       let told : EndsSpent e f need before events lane.added =
       told-of_alloc place_of block_need e f before events lane.added need stepped.Spent step doing.3 in
       let ends = told.ends in
-      let empty : held_in lane.state.registers r ≡ None = ap (λ rs. held_in rs r) (sym doing.0) ∙ doing.1 in
+      let empty : held_in lane.position.registers r ≡ None = ap (λ rs. held_in rs r) (sym doing.0) ∙ doing.1 in
       let limit : f.turns ≡ g.turn_limit = told.limit ∙ ap (λ (h : Geometry). h.turn_limit) heap in
       let here = lane-here g e.caller before e operations registers results stage.Calling (op.Alloc r need v) rest lane next in
       record {
@@ -173,9 +173,9 @@ module _ {B : Type 0} (place_of : B → ℕ) (block_need : B → Need) (g : Geom
         spares = spares-ended e f (ended.alloc_spent need) before events lane.added registers ends (λ q other full. tt);
         stands =
             ends-lane stage.Calling (op.Alloc r need v) lane next (ended.alloc_spent need) lane.added ends registers outcome.Spent
-            (spent-row g e.caller events f lane.state r need v (lane.added ++ ends.more) served ends.idle limit (own-more stage.Calling lane ends.more ends.moved_on)
-            lane.answered ends.all (asked-unspent lane.state need e.caller (lane.added ++ ends.more) doing.2 ends.all) empty) doing.0 (λ is. limit);
-        script = λ calls script. alloc-spent operations results lane.state.registers registers registers r need v calls here script;
+            (spent-row g e.caller events f lane.position r need v (lane.added ++ ends.more) served ends.idle limit (own-more stage.Calling lane ends.more ends.moved_on)
+            lane.answered ends.all (asked-unspent lane.position need e.caller (lane.added ++ ends.more) doing.2 ends.all) empty) doing.0 (λ is. limit);
+        script = λ calls script. alloc-spent operations results lane.position.registers registers registers r need v calls here script;
         few = omega arith;
       }
   alloc-ends_spent r need v stage.Between lane next doing step = absurd doing
@@ -187,7 +187,7 @@ module _ {B : Type 0} (place_of : B → ℕ) (block_need : B → Need) (g : Geom
   pub free-ends_so :
       (r : ℕ) (at : Stage) (lane : IsLane g e.caller before e operations registers results at)
       → drop (length results) operations ≡ op.Free r ∷ rest
-      → IsDoing e.caller (pool_of before) e.point lane.state registers (op.Free r) at lane.added
+      → IsDoing e.caller (pool_of before) e.point lane.position registers (op.Free r) at lane.added
       → HasStepped place_of block_need e f before events stepped.Freed
       → EndsSo g e f before events operations registers registers results at outcome.Freed
   free-ends_so r stage.Calling lane next doing step =
@@ -202,7 +202,7 @@ module _ {B : Type 0} (place_of : B → ℕ) (block_need : B → Need) (g : Geom
             ends-lane stage.Calling (op.Free r) lane next (ended.freed doing.held.place) lane.added ends registers outcome.Freed
             (subst (λ h. FreeRow (setting_in events e.caller g.turn_limit f.lost) h outcome.Freed (lane.added ++ ends.more)) (sym doing.was) ends.all)
             doing.emptied (λ is. absurd (cc));
-        script = λ calls script. free-ends operations results lane.state.registers registers registers r calls here script;
+        script = λ calls script. free-ends operations results lane.position.registers registers registers r calls here script;
         few = omega arith;
       }
   free-ends_so r stage.Between lane next doing step = absurd doing
@@ -213,7 +213,7 @@ module _ {B : Type 0} (place_of : B → ℕ) (block_need : B → Need) (g : Geom
   pub alloc-ends_given :
       (r need v i : ℕ) (lane : IsLane g e.caller before e operations registers results (stage.Filling i))
       → drop (length results) operations ≡ op.Alloc r need v ∷ rest
-      → (doing : IsDoing e.caller (pool_of before) e.point lane.state registers (op.Alloc r need v) (stage.Filling i) lane.added)
+      → (doing : IsDoing e.caller (pool_of before) e.point lane.position registers (op.Alloc r need v) (stage.Filling i) lane.added)
       → HasStepped place_of block_need e f before events stepped.Wrote → doing.0.words ≤ i + 1 → held_in registers r ≡ Some doing.0
       → EndsSo g e f before events operations registers registers results (stage.Filling i) (outcome.Given doing.0.words doing.0.place)
   alloc-ends_given r need v i lane next doing step last full =
@@ -238,9 +238,9 @@ module _ {B : Type 0} (place_of : B → ℕ) (block_need : B → Need) (g : Geom
         spares = spares-ended e f (ended.wrote held.place i word) before events [] registers ends (λ q other full. tt);
         stands =
             ends-lane (stage.Filling i) (op.Alloc r need v) lane next (ended.wrote held.place i word) [] ends registers result
-            (subst (λ h. AllocRow (setting_in events e.caller g.turn_limit f.lost) lane.state need v h result (lane.added ++ ends.more)) (sym doing.1)
+            (subst (λ h. AllocRow (setting_in events e.caller g.turn_limit f.lost) lane.position need v h result (lane.added ++ ends.more)) (sym doing.1)
             (doing.3, filled.words.1, filled.given, filled.giving, piece)) doing.2 (λ is. absurd (cc));
-        script = λ calls script. alloc-given operations results lane.state.registers registers registers r need v calls here held i full writing.inside last script;
+        script = λ calls script. alloc-given operations results lane.position.registers registers registers r need v calls here held i full writing.inside last script;
         few = few-begun held writing.need i writing.serves writing.inside;
       }
 
@@ -248,7 +248,7 @@ module _ {B : Type 0} (place_of : B → ℕ) (block_need : B → Need) (g : Geom
   pub fill-ends_so :
       (r v i : ℕ) (lane : IsLane g e.caller before e operations registers results (stage.Filling i))
       → drop (length results) operations ≡ op.Fill r v ∷ rest
-      → (doing : IsDoing e.caller (pool_of before) e.point lane.state registers (op.Fill r v) (stage.Filling i) lane.added)
+      → (doing : IsDoing e.caller (pool_of before) e.point lane.position registers (op.Fill r v) (stage.Filling i) lane.added)
       → HasStepped place_of block_need e f before events stepped.Wrote → doing.0.words ≤ i + 1
       → EndsSo g e f before events operations registers registers results (stage.Filling i) outcome.Filled
   fill-ends_so r v i lane next doing step last =
@@ -263,7 +263,7 @@ module _ {B : Type 0} (place_of : B → ℕ) (block_need : B → Need) (g : Geom
       ap (λ xs. xs ++ ends.more) doing.4 ∙ ap (λ xs. take i fill ++ xs) more_is
       ∙ sym (filled-more e.caller held.place held.words v i writing.inside)
       ∙ filled-all e.caller held.place held.words v i writing.inside last in
-      let was : held_in lane.state.registers r ≡ Some held = ap (λ rs. held_in rs r) (sym doing.1) ∙ doing.2 in
+      let was : held_in lane.position.registers r ≡ Some held = ap (λ rs. held_in rs r) (sym doing.1) ∙ doing.2 in
       let here = lane-here g e.caller before e operations registers results (stage.Filling i) (op.Fill r v) rest lane next in
       record {
         more = ends.more;
@@ -273,7 +273,7 @@ module _ {B : Type 0} (place_of : B → ℕ) (block_need : B → Need) (g : Geom
             ends-lane (stage.Filling i) (op.Fill r v) lane next (ended.wrote held.place i word) [] ends registers outcome.Filled
             (subst (λ h. FillRow (setting_in events e.caller g.turn_limit f.lost) v h outcome.Filled (lane.added ++ ends.more)) (sym was) piece)
             doing.1 (λ is. absurd (cc));
-        script = λ calls script. fill-ends operations results lane.state.registers registers registers r v held writing.need calls here was writing.serves i writing.inside last script;
+        script = λ calls script. fill-ends operations results lane.position.registers registers registers r v held writing.need calls here was writing.serves i writing.inside last script;
         few = few-begun held writing.need i writing.serves writing.inside;
       }
 
@@ -303,7 +303,7 @@ module _ {B : Type 0} (place_of : B → ℕ) (block_need : B → Need) (g : Geom
     pub fill-goes_so :
         (r v i : ℕ) (n : Need) (lane : IsLane g e.caller before e operations registers results (stage.Filling i))
         → drop (length results) operations ≡ op.Fill r v ∷ rest
-        → (doing : IsDoing e.caller (pool_of before) e.point lane.state registers (op.Fill r v) (stage.Filling i) lane.added)
+        → (doing : IsDoing e.caller (pool_of before) e.point lane.position registers (op.Fill r v) (stage.Filling i) lane.added)
         → HasStepped place_of block_need e f before events stepped.Wrote → i + 1 < doing.0.words → Serves doing.0 n
         → HasBegun f h (write doing.0.place n (i + 1) ((v + (i + 1)) % 2 ^ 64))
         → GoesSo g e f h (write doing.0.place n (i + 1) ((v + (i + 1)) % 2 ^ 64)) before events operations registers registers results (stage.Filling i) (stage.Filling (i + 1))
@@ -319,7 +319,7 @@ module _ {B : Type 0} (place_of : B → ℕ) (block_need : B → Need) (g : Geom
         let so_far : lane.added ++ ends.more ≡ take (i + 1) fill =
         ap (λ xs. xs ++ ends.more) doing.4 ∙ ap (λ xs. take i fill ++ xs) more_is
         ∙ sym (filled-more e.caller held.place held.words v i writing.inside) in
-        let was : held_in lane.state.registers r ≡ Some held = ap (λ rs. held_in rs r) (sym doing.1) ∙ doing.2 in
+        let was : held_in lane.position.registers r ≡ Some held = ap (λ rs. held_in rs r) (sym doing.1) ∙ doing.2 in
         let here = lane-here g e.caller before e operations registers results (stage.Filling i) (op.Fill r v) rest lane next in
         record {
           more = ends.more;
@@ -334,7 +334,7 @@ module _ {B : Type 0} (place_of : B → ℕ) (block_need : B → Need) (g : Geom
                 writing-behind held n (i + 1) v ends.moved_on.same_caller serves inside begun,
                 so_far,
               ) lane.size (writes-hold (stage.Filling i) (op.Fill r v) lane next held.place i word ends);
-          script = λ calls script. fill-goes_on operations results lane.state.registers registers registers r v held n calls here was serves i inside script;
+          script = λ calls script. fill-goes_on operations results lane.position.registers registers registers r v held n calls here was serves i inside script;
           few = few-begun held writing.need i writing.serves writing.inside;
           rises = omega arith;
         }
@@ -342,7 +342,7 @@ module _ {B : Type 0} (place_of : B → ℕ) (block_need : B → Need) (g : Geom
     pub alloc-goes_so :
         (r need v i : ℕ) (n : Need) (lane : IsLane g e.caller before e operations registers results (stage.Filling i))
         → drop (length results) operations ≡ op.Alloc r need v ∷ rest
-        → (doing : IsDoing e.caller (pool_of before) e.point lane.state registers (op.Alloc r need v) (stage.Filling i) lane.added)
+        → (doing : IsDoing e.caller (pool_of before) e.point lane.position registers (op.Alloc r need v) (stage.Filling i) lane.added)
         → HasStepped place_of block_need e f before events stepped.Wrote → i + 1 < doing.0.words → Serves doing.0 n
         → held_in registers r ≡ Some doing.0 → HasBegun f h (write doing.0.place n (i + 1) ((v + (i + 1)) % 2 ^ 64))
         → GoesSo g e f h (write doing.0.place n (i + 1) ((v + (i + 1)) % 2 ^ 64)) before events operations registers registers results (stage.Filling i) (stage.Filling (i + 1))
@@ -383,7 +383,7 @@ module _ {B : Type 0} (place_of : B → ℕ) (block_need : B → Need) (g : Geom
               ) lane.size (writes-hold (stage.Filling i) (op.Alloc r need v) lane next held.place i word ends);
           script = λ calls script.
               subst (λ (m : Need). IsOnScript operations registers results (stage.Filling (i + 1)) (calls ++ write held.place m (i + 1) ((v + (i + 1)) % 2 ^ 64) ∷ [])) same
-              (alloc-fills_on operations results lane.state.registers registers registers r need v calls here held i full full inside script);
+              (alloc-fills_on operations results lane.position.registers registers registers r need v calls here held i full full inside script);
           few = few-begun held writing.need i writing.serves writing.inside;
           rises = omega arith;
         }
@@ -391,7 +391,7 @@ module _ {B : Type 0} (place_of : B → ℕ) (block_need : B → Need) (g : Geom
     pub alloc-given_so :
         (r need v : ℕ) (block : B) (at : Stage) (lane : IsLane g e.caller before e operations registers results at)
         → drop (length results) operations ≡ op.Alloc r need v ∷ rest
-        → IsDoing e.caller (pool_of before) e.point lane.state registers (op.Alloc r need v) at lane.added
+        → IsDoing e.caller (pool_of before) e.point lane.position registers (op.Alloc r need v) at lane.added
         → HasStepped place_of block_need e f before events (stepped.Given block) → r < REGISTERS
         → HasBegun f h (write (place_of block) (block_need block) 0 ((v + 0) % 2 ^ 64))
         → GoesSo g e f h (write (place_of block) (block_need block) 0 ((v + 0) % 2 ^ 64)) before events operations registers
@@ -403,17 +403,17 @@ module _ {B : Type 0} (place_of : B → ℕ) (block_need : B → Need) (g : Geom
         let held : Held = held_by place_of block_need block in
         let now : List (Option Held) = slice_set registers r (Some held) in
         let call = write (place_of block) (block_need block) 0 ((v + 0) % 2 ^ 64) in
-        let empty : held_in lane.state.registers r ≡ None = ap (λ rs. held_in rs r) (sym doing.0) ∙ doing.1 in
-        let now_is : now ≡ slice_set lane.state.registers r (Some held) = ap (λ rs. slice_set rs r (Some held)) doing.0 in
+        let empty : held_in lane.position.registers r ≡ None = ap (λ rs. held_in rs r) (sym doing.0) ∙ doing.1 in
+        let now_is : now ≡ slice_set lane.position.registers r (Some held) = ap (λ rs. slice_set rs r (Some held)) doing.0 in
         let is_need : IsNeed (block_need block) = owned-need g events e.caller (place_of block) (block_need block) served.legal told.owned in
         let serves : Serves held (need_of need) = (need_of-within need, ap (λ (n : Need). usable_words n) told.serves) in
         let inside : 0 < held.words = owned-words g events e.caller (place_of block) (block_need block) served.legal told.owned in
         let setting = setting_in events e.caller g.turn_limit f.lost in
-        let walks : Walks setting start (take (length results) operations) results lane.state =
-        walks-on before events ends.moved_on.rest e.caller g.turn_limit e.lost f.lost start lane.state (take (length results) operations) results
+        let walks : Walks setting start (take (length results) operations) results lane.position =
+        walks-on before events ends.moved_on.rest e.caller g.turn_limit e.lost f.lost start lane.position (take (length results) operations) results
         ends.moved_on.seen ends.moved_on.lost lane.walks in
-        let holds : HoldsOwn (pool_of events) e.caller (slice_set lane.state.registers r (Some held)) =
-        given-holds g setting (take (length results) operations) results lane.state r need held.place held.words (lane.added ++ ends.more) served.legal
+        let holds : HoldsOwn (pool_of events) e.caller (slice_set lane.position.registers r (Some held)) =
+        given-holds g setting (take (length results) operations) results lane.position r need held.place held.words (lane.added ++ ends.more) served.legal
         walks (own-more stage.Calling lane ends.more ends.moved_on) ends.all serves.1 in
         let here = lane-here g e.caller before e operations registers results stage.Calling (op.Alloc r need v) rest lane next in
         let full : held_in now r ≡ Some held = held-here registers r held (omega (arith, lane.size)) in
@@ -439,7 +439,7 @@ module _ {B : Type 0} (place_of : B → ℕ) (block_need : B → Need) (g : Geom
               (subst (HoldsOwn (pool_of events) e.caller) (sym now_is) holds);
           script = λ calls script.
               subst (λ (m : Need). IsOnScript operations now results (stage.Filling 0) (calls ++ write held.place m 0 ((v + 0) % 2 ^ 64) ∷ [])) (sym told.serves)
-              (alloc-fills operations results lane.state.registers registers now r need v calls here held full inside script);
+              (alloc-fills operations results lane.position.registers registers now r need v calls here held full inside script);
           few = omega arith;
           rises = omega arith;
         }

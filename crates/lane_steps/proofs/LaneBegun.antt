@@ -77,10 +77,10 @@ module _ {B : Type 0} (place_of : B → ℕ) (need_of : B → Need) (g : Geometr
   pub idle-before : (operation : Op) → Before operation → IsIdle e
   idle-before operation b = (lane-between g e.caller events e operations held lane.outcomes.items stage.Between (stood operation b) refl).0
 
-  same-registers : (operation : Op) (b : Before operation) → held ≡ (stood operation b).state.registers
+  same-registers : (operation : Op) (b : Before operation) → held ≡ (stood operation b).position.registers
   same-registers operation b = (lane-between g e.caller events e operations held lane.outcomes.items stage.Between (stood operation b) refl).1
 
-  here : (operation : Op) (b : Before operation) → IsHere operations lane.outcomes.items operation (stood operation b).state.registers
+  here : (operation : Op) (b : Before operation) → IsHere operations lane.outcomes.items operation (stood operation b).position.registers
   here operation b =
       lane-here g e.caller events e operations held lane.outcomes.items stage.Between operation b.next.0 (stood operation b) b.next.1
 
@@ -134,7 +134,7 @@ module _ {B : Type 0} (place_of : B → ℕ) (need_of : B → Need) (g : Geometr
   part-skips operation b skipped became =
       ends-part operation b e None outcome.Skipped became
       (begin-skips g events e operations held lane.outcomes.items operation b.next.0 (stood operation b) b.next.1 (served operation b) skipped)
-      (λ calls script. script-skips operations lane.outcomes.items operation (stood operation b).state.registers held held calls (here operation b) script)
+      (λ calls script. script-skips operations lane.outcomes.items operation (stood operation b).position.registers held held calls (here operation b) script)
 
   pub part-spent :
       (r need v : ℕ) → Before (op.Alloc r need v) → slice_index_or lane.registers.items r None ≡ None → alloc_answer e need ≡ begun.Spent
@@ -145,7 +145,7 @@ module _ {B : Type 0} (place_of : B → ℕ) (need_of : B → Need) (g : Geometr
       (begin-spent g events e (begun_by e (alloc need)) operations held lane.outcomes.items r need v b.next.0 (stood (op.Alloc r need v) b) b.next.1
       (served (op.Alloc r need v) b) (slot-empty place_of need_of lane.registers.items r empty) (alloc-not_begun e need answer))
       (λ calls script.
-      alloc-spent_at_once operations lane.outcomes.items (stood (op.Alloc r need v) b).state.registers held held r need v calls
+      alloc-spent_at_once operations lane.outcomes.items (stood (op.Alloc r need v) b).position.registers held held r need v calls
       (here (op.Alloc r need v) b) script)
 
   pub part-alloc :
@@ -157,7 +157,7 @@ module _ {B : Type 0} (place_of : B → ℕ) (need_of : B → Need) (g : Geometr
       (served (op.Alloc r need v) b) r need v b.next.1 (slot-empty place_of need_of lane.registers.items r empty) answer
       (begun-call (op.Alloc r need v) b (alloc need) answer)) b.stands.owned
       (λ calls script.
-      alloc-begins operations lane.outcomes.items (stood (op.Alloc r need v) b).state.registers held held r need v calls (here (op.Alloc r need v) b)
+      alloc-begins operations lane.outcomes.items (stood (op.Alloc r need v) b).position.registers held held r need v calls (here (op.Alloc r need v) b)
       script) (omega arith)
 
   pub part-take :
@@ -169,7 +169,7 @@ module _ {B : Type 0} (place_of : B → ℕ) (need_of : B → Need) (g : Geometr
       (served (op.Take r shelf) b) r shelf b.next.1 (slot-empty place_of need_of lane.registers.items r empty)
       (begun-call (op.Take r shelf) b (take shelf) tt)) b.stands.owned
       (λ calls script.
-      take-begins operations lane.outcomes.items (stood (op.Take r shelf) b).state.registers held held r shelf calls (here (op.Take r shelf) b) script)
+      take-begins operations lane.outcomes.items (stood (op.Take r shelf) b).position.registers held held r shelf calls (here (op.Take r shelf) b) script)
       (omega arith)
 
   -- the block in hand of a full register
@@ -187,7 +187,7 @@ module _ {B : Type 0} (place_of : B → ℕ) (need_of : B → Need) (g : Geometr
 
   was-full :
       (operation : Op) (b : Before operation) (r : ℕ) (block : B) → slice_index_or lane.registers.items r None ≡ Some block
-      → held_in (stood operation b).state.registers r ≡ Some (held_by place_of need_of block)
+      → held_in (stood operation b).position.registers r ≡ Some (held_by place_of need_of block)
   was-full operation b r block full =
       ap (λ rs. held_in rs r) (sym (same-registers operation b)) ∙ slot-full place_of need_of lane.registers.items r block full
 
@@ -210,7 +210,7 @@ module _ {B : Type 0} (place_of : B → ℕ) (need_of : B → Need) (g : Geometr
       (begun-call (op.Free r) b call (owned-before (op.Free r) b r block full))))
       (blocks-emptied place_of need_of events lane.caller r lane.registers.items b.stands.owned)
       (λ calls script.
-      free-begins operations lane.outcomes.items (stood (op.Free r) b).state.registers held (held_blocks place_of need_of now) r calls (here (op.Free r) b)
+      free-begins operations lane.outcomes.items (stood (op.Free r) b).position.registers held (held_blocks place_of need_of now) r calls (here (op.Free r) b)
       (held_by place_of need_of block) (need_of block) (was-full (op.Free r) b r block full) serves script)
       (omega arith)
 
@@ -229,7 +229,7 @@ module _ {B : Type 0} (place_of : B → ℕ) (need_of : B → Need) (g : Geometr
       (begun-call (op.Put r shelf) b call (owned-before (op.Put r shelf) b r block full))))
       (blocks-emptied place_of need_of events lane.caller r lane.registers.items b.stands.owned)
       (λ calls script.
-      put-begins operations lane.outcomes.items (stood (op.Put r shelf) b).state.registers held (held_blocks place_of need_of now) r shelf calls
+      put-begins operations lane.outcomes.items (stood (op.Put r shelf) b).position.registers held (held_blocks place_of need_of now) r shelf calls
       (here (op.Put r shelf) b) (held_by place_of need_of block) (need_of block) (was-full (op.Put r shelf) b r block full) serves script)
       (omega arith)
 
@@ -245,7 +245,7 @@ module _ {B : Type 0} (place_of : B → ℕ) (need_of : B → Need) (g : Geometr
       (held_by place_of need_of block) (need_of block) b.next.1 (slot-full place_of need_of lane.registers.items r block full) serves
       (begun-call (op.Fill r v) b call (owned-before (op.Fill r v) b r block full))) b.stands.owned
       (λ calls script.
-      fill-begins operations lane.outcomes.items (stood (op.Fill r v) b).state.registers held held r v (held_by place_of need_of block) (need_of block) calls
+      fill-begins operations lane.outcomes.items (stood (op.Fill r v) b).position.registers held held r v (held_by place_of need_of block) (need_of block) calls
       (here (op.Fill r v) b) (was-full (op.Fill r v) b r block full) serves (words-before (op.Fill r v) b r block full) script)
       (omega arith)
 
@@ -261,7 +261,7 @@ module _ {B : Type 0} (place_of : B → ℕ) (need_of : B → Need) (g : Geometr
       (held_by place_of need_of block) (need_of block) b.next.1 (slot-full place_of need_of lane.registers.items r block full) serves
       (begun-call (op.Check r) b call (owned-before (op.Check r) b r block full))) b.stands.owned
       (λ calls script.
-      check-begins operations lane.outcomes.items (stood (op.Check r) b).state.registers held held r (held_by place_of need_of block) (need_of block) calls
+      check-begins operations lane.outcomes.items (stood (op.Check r) b).position.registers held held r (held_by place_of need_of block) (need_of block) calls
       (here (op.Check r) b) (was-full (op.Check r) b r block full) serves 0 (words-before (op.Check r) b r block full) script)
       (omega arith)
 

@@ -21,13 +21,13 @@ use Rattle.lane_engine.specs.declared.stepped.Stepped.TheVariants as stepped
 use Rattle.lane_engine.specs.Engines.{HasStepped}
 use Rattle.lane_outcomes.specs.declared.registers.Held.{Held}
 use Rattle.lane_outcomes.specs.declared.outcome.Outcome.{Outcome}
-use Rattle.lane_outcomes.specs.Lane.{State, start, held_in}
+use Rattle.lane_outcomes.specs.Lane.{Position, start, held_in}
 use Rattle.lane_outcomes.specs.Standing.{HoldsOwn, OwnsWords}
 use Rattle.lane_steps.specs.declared.stage.Stage.{Stage}
 use Rattle.lane_steps.specs.declared.stage.Stage.TheVariants as stage
 use Rattle.lane_steps.specs.Lanes.{IsAt, IsLane}
 use Rattle.lane_steps.specs.Operations.{IsDoing}
-use Rattle.lane_steps.proofs.AnswerLemmas.{HasMovedOn, GoesOn, HasBegun, told-of_alloc, told-of_free, told-of_write, told-of_read, told-of_put, told-of_take}
+use Rattle.lane_steps.proofs.AnswerLemmas.{HasMovedOn, CallGoesOn, HasBegun, told-of_alloc, told-of_free, told-of_write, told-of_read, told-of_put, told-of_take}
 use Rattle.lane_steps.proofs.BesideLemmas.{walks-on}
 use Rattle.step_core.proofs.KeepLemmas.{spare-append}
 use Rattle.step_core.specs.Keeping.{Leaves}
@@ -59,65 +59,65 @@ moved-none e f before events more none moved = subst (HasMovedOn e f before even
 
 -- between two operations none is under way
 pub no-between :
-    (caller : ℕ) (pool : Pool) (point : Point) (state : State) (registers : List (Option Held)) (operation : Op) (added : List Event)
-    → IsDoing caller pool point state registers operation stage.Between added → ⊥
-no-between caller pool point state registers (op.Alloc r need v) added h = h
-no-between caller pool point state registers (op.Free r) added h = h
-no-between caller pool point state registers (op.Fill r v) added h = h
-no-between caller pool point state registers (op.Check r) added h = h
-no-between caller pool point state registers (op.Put r shelf) added h = h
-no-between caller pool point state registers (op.Take r shelf) added h = h
+    (caller : ℕ) (pool : Pool) (point : Point) (position : Position) (registers : List (Option Held)) (operation : Op) (added : List Event)
+    → IsDoing caller pool point position registers operation stage.Between added → ⊥
+no-between caller pool point position registers (op.Alloc r need v) added h = h
+no-between caller pool point position registers (op.Free r) added h = h
+no-between caller pool point position registers (op.Fill r v) added h = h
+no-between caller pool point position registers (op.Check r) added h = h
+no-between caller pool point position registers (op.Put r shelf) added h = h
+no-between caller pool point position registers (op.Take r shelf) added h = h
 
 -- the operation at hand is under way
 pub at-doing :
-    (caller : ℕ) (events : List Event) (e : ErrandFields) (state : State) (registers : List (Option Held)) (operations rest : List Op)
+    (caller : ℕ) (events : List Event) (e : ErrandFields) (position : Position) (registers : List (Option Held)) (operations rest : List Op)
     (operation : Op) (at : Stage) (added : List Event) → operations ≡ operation ∷ rest
-    → IsDoing caller (pool_of events) e.point state registers operation at added → IsAt caller events e state registers operations at added
-at-doing caller events e state registers operations rest operation stage.Between added next doing =
-    absurd (no-between caller (pool_of events) e.point state registers operation added doing)
-at-doing caller events e state registers operations rest operation stage.Calling added next doing = (operation, rest, next, doing)
-at-doing caller events e state registers operations rest operation (stage.Filling i) added next doing = (operation, rest, next, doing)
-at-doing caller events e state registers operations rest operation (stage.Summing i total) added next doing = (operation, rest, next, doing)
+    → IsDoing caller (pool_of events) e.point position registers operation at added → IsAt caller events e position registers operations at added
+at-doing caller events e position registers operations rest operation stage.Between added next doing =
+    absurd (no-between caller (pool_of events) e.point position registers operation added doing)
+at-doing caller events e position registers operations rest operation stage.Calling added next doing = (operation, rest, next, doing)
+at-doing caller events e position registers operations rest operation (stage.Filling i) added next doing = (operation, rest, next, doing)
+at-doing caller events e position registers operations rest operation (stage.Summing i total) added next doing = (operation, rest, next, doing)
 
 same-operation :
-    (caller : ℕ) (events : List Event) (e : ErrandFields) (state : State) (registers : List (Option Held)) (operations rest : List Op)
+    (caller : ℕ) (events : List Event) (e : ErrandFields) (position : Position) (registers : List (Option Held)) (operations rest : List Op)
     (operation : Op) (at : Stage) (added : List Event) → operations ≡ operation ∷ rest
-    → ((other : Op) × (others : List Op) × (operations ≡ other ∷ others) × IsDoing caller (pool_of events) e.point state registers other at added)
-    → IsDoing caller (pool_of events) e.point state registers operation at added
-same-operation caller events e state registers operations rest operation at added next h =
+    → ((other : Op) × (others : List Op) × (operations ≡ other ∷ others) × IsDoing caller (pool_of events) e.point position registers other at added)
+    → IsDoing caller (pool_of events) e.point position registers operation at added
+same-operation caller events e position registers operations rest operation at added next h =
     let same : h.0 ≡ operation = let s : h.0 ∷ h.1 ≡ operation ∷ rest = sym h.2 ∙ next in cc in
-    subst (λ o. IsDoing caller (pool_of events) e.point state registers o at added) same h.3
+    subst (λ o. IsDoing caller (pool_of events) e.point position registers o at added) same h.3
 
 pub doing-at :
-    (caller : ℕ) (events : List Event) (e : ErrandFields) (state : State) (registers : List (Option Held)) (operations rest : List Op)
+    (caller : ℕ) (events : List Event) (e : ErrandFields) (position : Position) (registers : List (Option Held)) (operations rest : List Op)
     (operation : Op) (at : Stage) (added : List Event) → operations ≡ operation ∷ rest → IsBusy e
-    → IsAt caller events e state registers operations at added → IsDoing caller (pool_of events) e.point state registers operation at added
-doing-at caller events e state registers operations rest operation stage.Between added next busy at = absurd (let idle = at.0 in cc)
-doing-at caller events e state registers operations rest operation stage.Calling added next busy at =
-    same-operation caller events e state registers operations rest operation stage.Calling added next at
-doing-at caller events e state registers operations rest operation (stage.Filling i) added next busy at =
-    same-operation caller events e state registers operations rest operation (stage.Filling i) added next at
-doing-at caller events e state registers operations rest operation (stage.Summing i total) added next busy at =
-    same-operation caller events e state registers operations rest operation (stage.Summing i total) added next at
+    → IsAt caller events e position registers operations at added → IsDoing caller (pool_of events) e.point position registers operation at added
+doing-at caller events e position registers operations rest operation stage.Between added next busy at = absurd (let idle = at.0 in cc)
+doing-at caller events e position registers operations rest operation stage.Calling added next busy at =
+    same-operation caller events e position registers operations rest operation stage.Calling added next at
+doing-at caller events e position registers operations rest operation (stage.Filling i) added next busy at =
+    same-operation caller events e position registers operations rest operation (stage.Filling i) added next at
+doing-at caller events e position registers operations rest operation (stage.Summing i total) added next busy at =
+    same-operation caller events e position registers operations rest operation (stage.Summing i total) added next at
 
 -- the lane stands behind a step of its caller, where the operation at hand is under way still
 module _ (g : Geometry) (e f : ErrandFields) (before events : List Event) (operations : List Op) (registers : List (Option Held)) (results : List Outcome) (at : Stage) (lane : IsLane g e.caller before e operations registers results at) (heap : e.geometry ≡ g) (operation : Op) (rest : List Op) (next : drop (length results) operations ≡ operation ∷ rest) where
   pub lane-stays :
       (more : List Event) → HasMovedOn e f before events more → (after : List (Option Held)) (to : Stage)
-      → IsDoing e.caller (pool_of events) f.point lane.state after operation to (lane.added ++ more) → length after ≡ REGISTERS
+      → IsDoing e.caller (pool_of events) f.point lane.position after operation to (lane.added ++ more) → length after ≡ REGISTERS
       → HoldsOwn (pool_of events) e.caller after → IsLane g e.caller events f operations after results to
   lane-stays more moved after to doing size holds =
       record {
-        state = lane.state;
+        position = lane.position;
         within = lane.within;
         walks =
-            walks-on before events moved.rest e.caller g.turn_limit e.lost f.lost start lane.state (take (length results) operations) results
+            walks-on before events moved.rest e.caller g.turn_limit e.lost f.lost start lane.position (take (length results) operations) results
             moved.seen moved.lost lane.walks;
         added = lane.added ++ more;
         own_events =
-            moved.own_events ∙ ap (λ xs. xs ++ more) lane.own_events ∙ append_assoc lane.state.done lane.added more;
+            moved.own_events ∙ ap (λ xs. xs ++ more) lane.own_events ∙ append_assoc lane.position.done lane.added more;
         stands =
-            at-doing e.caller events f lane.state after (drop (length results) operations) rest operation to (lane.added ++ more) next doing;
+            at-doing e.caller events f lane.position after (drop (length results) operations) rest operation to (lane.added ++ more) next doing;
         size = size;
         holds = holds;
         answered = lane.answered;
@@ -129,11 +129,11 @@ module _ (g : Geometry) (e f : ErrandFields) (before events : List Event) (opera
   -- where the caller adds no event
   pub lane-stays_so :
       HasMovedOn e f before events [] → (after : List (Option Held)) (to : Stage)
-      → IsDoing e.caller (pool_of events) f.point lane.state after operation to lane.added → length after ≡ REGISTERS
+      → IsDoing e.caller (pool_of events) f.point lane.position after operation to lane.added → length after ≡ REGISTERS
       → HoldsOwn (pool_of events) e.caller after → IsLane g e.caller events f operations after results to
   lane-stays_so moved after to doing size holds =
       lane-stays [] moved after to
-      (subst (IsDoing e.caller (pool_of events) f.point lane.state after operation to) (sym (append-nil lane.added)) doing) size holds
+      (subst (IsDoing e.caller (pool_of events) f.point lane.position after operation to) (sym (append-nil lane.added)) doing) size holds
 
   -- the registers hold their blocks still
   pub lane-holds :
@@ -152,7 +152,7 @@ IsOn told = ⊥
 module _ {B : Type 0} (place_of : B → ℕ) (need_of : B → Need) (e f : ErrandFields) (before events added : List Event) where
   pub alloc-on :
       (words : ℕ) (told : Stepped B) → IsOn told → HasStepped place_of need_of e f before events told → IsUnderWay e.caller (alloc words) e.point added
-      → GoesOn e f (alloc words) before events added
+      → CallGoesOn e f (alloc words) before events added
   alloc-on words stepped.More on step way = told-of_alloc place_of need_of e f before events added words stepped.More step way
   alloc-on words stepped.Lost on step way = told-of_alloc place_of need_of e f before events added words stepped.Lost step way
   alloc-on words stepped.Cleared on step way = told-of_alloc place_of need_of e f before events added words stepped.Cleared step way
@@ -160,7 +160,7 @@ module _ {B : Type 0} (place_of : B → ℕ) (need_of : B → Need) (e f : Erran
 
   pub free-on :
       (place : ℕ) (need : Need) (told : Stepped B) → IsOn told → HasStepped place_of need_of e f before events told
-      → IsUnderWay e.caller (free place need) e.point added → GoesOn e f (free place need) before events added
+      → IsUnderWay e.caller (free place need) e.point added → CallGoesOn e f (free place need) before events added
   free-on place need stepped.More on step way = told-of_free place_of need_of e f before events added place need stepped.More step way
   free-on place need stepped.Lost on step way = told-of_free place_of need_of e f before events added place need stepped.Lost step way
   free-on place need stepped.Cleared on step way = told-of_free place_of need_of e f before events added place need stepped.Cleared step way
@@ -168,7 +168,7 @@ module _ {B : Type 0} (place_of : B → ℕ) (need_of : B → Need) (e f : Erran
 
   pub write-on :
       (place : ℕ) (need : Need) (i v : ℕ) (told : Stepped B) → IsOn told → HasStepped place_of need_of e f before events told
-      → IsUnderWay e.caller (write place need i v) e.point added → GoesOn e f (write place need i v) before events added
+      → IsUnderWay e.caller (write place need i v) e.point added → CallGoesOn e f (write place need i v) before events added
   write-on place need i v stepped.More on step way = told-of_write place_of need_of e f before events added place need i v stepped.More step way
   write-on place need i v stepped.Lost on step way = told-of_write place_of need_of e f before events added place need i v stepped.Lost step way
   write-on place need i v stepped.Cleared on step way = told-of_write place_of need_of e f before events added place need i v stepped.Cleared step way
@@ -176,7 +176,7 @@ module _ {B : Type 0} (place_of : B → ℕ) (need_of : B → Need) (e f : Erran
 
   pub read-on :
       (place : ℕ) (need : Need) (i : ℕ) (told : Stepped B) → IsOn told → HasStepped place_of need_of e f before events told
-      → IsUnderWay e.caller (read place need i) e.point added → GoesOn e f (read place need i) before events added
+      → IsUnderWay e.caller (read place need i) e.point added → CallGoesOn e f (read place need i) before events added
   read-on place need i stepped.More on step way = told-of_read place_of need_of e f before events added place need i stepped.More step way
   read-on place need i stepped.Lost on step way = told-of_read place_of need_of e f before events added place need i stepped.Lost step way
   read-on place need i stepped.Cleared on step way = told-of_read place_of need_of e f before events added place need i stepped.Cleared step way
@@ -184,7 +184,7 @@ module _ {B : Type 0} (place_of : B → ℕ) (need_of : B → Need) (e f : Erran
 
   pub put-on :
       (place : ℕ) (need : Need) (shelf : ℕ) (told : Stepped B) → IsOn told → HasStepped place_of need_of e f before events told
-      → IsUnderWay e.caller (put place need shelf) e.point added → GoesOn e f (put place need shelf) before events added
+      → IsUnderWay e.caller (put place need shelf) e.point added → CallGoesOn e f (put place need shelf) before events added
   put-on place need shelf stepped.More on step way = told-of_put place_of need_of e f before events added place need shelf stepped.More step way
   put-on place need shelf stepped.Lost on step way = told-of_put place_of need_of e f before events added place need shelf stepped.Lost step way
   put-on place need shelf stepped.Cleared on step way = told-of_put place_of need_of e f before events added place need shelf stepped.Cleared step way
@@ -192,7 +192,7 @@ module _ {B : Type 0} (place_of : B → ℕ) (need_of : B → Need) (e f : Erran
 
   pub take-on :
       (shelf : ℕ) (told : Stepped B) → IsOn told → HasStepped place_of need_of e f before events told
-      → IsUnderWay e.caller (take_call shelf) e.point added → GoesOn e f (take_call shelf) before events added
+      → IsUnderWay e.caller (take_call shelf) e.point added → CallGoesOn e f (take_call shelf) before events added
   take-on shelf stepped.More on step way = told-of_take place_of need_of e f before events added shelf stepped.More step way
   take-on shelf stepped.Lost on step way = told-of_take place_of need_of e f before events added shelf stepped.Lost step way
   take-on shelf stepped.Cleared on step way = told-of_take place_of need_of e f before events added shelf stepped.Cleared step way
@@ -200,7 +200,7 @@ module _ {B : Type 0} (place_of : B → ℕ) (need_of : B → Need) (e f : Erran
 
 -- a call that goes on spares what it leaves
 pub spares-on :
-    (e f : ErrandFields) (call : Call) (before events added : List Event) (registers : List (Option Held)) (goes : GoesOn e f call before events added)
+    (e f : ErrandFields) (call : Call) (before events added : List Event) (registers : List (Option Held)) (goes : CallGoesOn e f call before events added)
     → ((q : ℕ) (other : Held) → held_in registers q ≡ Some other → Leaves call other.place) → SparesAll registers goes.more
 spares-on e f call before events added registers goes leaves q other full =
     spare-append other.place added goes.more
@@ -218,7 +218,7 @@ module _ {B : Type 0} (place_of : B → ℕ) (need_of : B → Need) (g : Geometr
   alloc-stays :
       (r need v : ℕ) (at : Stage) (lane : IsLane g e.caller before e operations registers results at)
       → drop (length results) operations ≡ op.Alloc r need v ∷ rest
-      → IsDoing e.caller (pool_of before) e.point lane.state registers (op.Alloc r need v) at lane.added → StaysSo at
+      → IsDoing e.caller (pool_of before) e.point lane.position registers (op.Alloc r need v) at lane.added → StaysSo at
   alloc-stays r need v stage.Calling lane next doing =
       let goes = alloc-on place_of need_of e f before events lane.added need told on step doing.3 in
       let spares = spares-on e f (alloc need) before events lane.added registers goes (λ q other full. tt) in
@@ -270,7 +270,7 @@ module _ {B : Type 0} (place_of : B → ℕ) (need_of : B → Need) (g : Geometr
   free-stays :
       (r : ℕ) (at : Stage) (lane : IsLane g e.caller before e operations registers results at)
       → drop (length results) operations ≡ op.Free r ∷ rest
-      → IsDoing e.caller (pool_of before) e.point lane.state registers (op.Free r) at lane.added → StaysSo at
+      → IsDoing e.caller (pool_of before) e.point lane.position registers (op.Free r) at lane.added → StaysSo at
   free-stays r stage.Calling lane next doing =
       let goes = free-on place_of need_of e f before events lane.added doing.held.place doing.need told on step doing.under_way in
       let spares = spares-on e f (free doing.held.place doing.need) before events lane.added registers goes (λ q other full. doing.apart q other full) in
@@ -293,7 +293,7 @@ module _ {B : Type 0} (place_of : B → ℕ) (need_of : B → Need) (g : Geometr
   fill-stays :
       (r v : ℕ) (at : Stage) (lane : IsLane g e.caller before e operations registers results at)
       → drop (length results) operations ≡ op.Fill r v ∷ rest
-      → IsDoing e.caller (pool_of before) e.point lane.state registers (op.Fill r v) at lane.added → StaysSo at
+      → IsDoing e.caller (pool_of before) e.point lane.position registers (op.Fill r v) at lane.added → StaysSo at
   fill-stays r v (stage.Filling i) lane next doing =
       let held = doing.0 in
       let writing = doing.3 in
@@ -326,7 +326,7 @@ module _ {B : Type 0} (place_of : B → ℕ) (need_of : B → Need) (g : Geometr
   put-stays :
       (r shelf : ℕ) (at : Stage) (lane : IsLane g e.caller before e operations registers results at)
       → drop (length results) operations ≡ op.Put r shelf ∷ rest
-      → IsDoing e.caller (pool_of before) e.point lane.state registers (op.Put r shelf) at lane.added → StaysSo at
+      → IsDoing e.caller (pool_of before) e.point lane.position registers (op.Put r shelf) at lane.added → StaysSo at
   put-stays r shelf stage.Calling lane next doing =
       let goes = put-on place_of need_of e f before events lane.added doing.held.place doing.need shelf told on step doing.under_way in
       let spares = spares-on e f (put doing.held.place doing.need shelf) before events lane.added registers goes (λ q other full. doing.apart q other full) in
@@ -349,7 +349,7 @@ module _ {B : Type 0} (place_of : B → ℕ) (need_of : B → Need) (g : Geometr
   take-stays :
       (r shelf : ℕ) (at : Stage) (lane : IsLane g e.caller before e operations registers results at)
       → drop (length results) operations ≡ op.Take r shelf ∷ rest
-      → IsDoing e.caller (pool_of before) e.point lane.state registers (op.Take r shelf) at lane.added → StaysSo at
+      → IsDoing e.caller (pool_of before) e.point lane.position registers (op.Take r shelf) at lane.added → StaysSo at
   take-stays r shelf stage.Calling lane next doing =
       let goes = take-on place_of need_of e f before events lane.added shelf told on step doing.2 in
       let spares = spares-on e f (take_call shelf) before events lane.added registers goes (λ q other full. tt) in
@@ -370,7 +370,7 @@ module _ {B : Type 0} (place_of : B → ℕ) (need_of : B → Need) (g : Geometr
   check-stays :
       (r : ℕ) (at : Stage) (lane : IsLane g e.caller before e operations registers results at)
       → drop (length results) operations ≡ op.Check r ∷ rest
-      → IsDoing e.caller (pool_of before) e.point lane.state registers (op.Check r) at lane.added → StaysSo at
+      → IsDoing e.caller (pool_of before) e.point lane.position registers (op.Check r) at lane.added → StaysSo at
   check-stays r (stage.Summing i total) lane next doing =
       let held = doing.0 in
       let summing = doing.3 in
@@ -423,7 +423,7 @@ module _ {B : Type 0} (place_of : B → ℕ) (need_of : B → Need) (g : Geometr
   pub lane-goes_on :
       (operation : Op) (at : Stage) (lane : IsLane g e.caller before e operations registers results at)
       → drop (length results) operations ≡ operation ∷ rest
-      → IsDoing e.caller (pool_of before) e.point lane.state registers operation at lane.added → StaysSo at
+      → IsDoing e.caller (pool_of before) e.point lane.position registers operation at lane.added → StaysSo at
   lane-goes_on (op.Alloc r need v) at lane next doing = alloc-stays r need v at lane next doing
   lane-goes_on (op.Free r) at lane next doing = free-stays r at lane next doing
   lane-goes_on (op.Fill r v) at lane next doing = fill-stays r v at lane next doing

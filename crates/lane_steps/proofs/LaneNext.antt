@@ -16,7 +16,7 @@ use Rattle.lane_engine.specs.declared.stepped.Stepped.{Stepped}
 use Rattle.lane_engine.specs.Engines.{HasStepped}
 use Rattle.lane_outcomes.specs.declared.registers.Held.{Held}
 use Rattle.lane_outcomes.specs.declared.outcome.Outcome.{Outcome}
-use Rattle.lane_outcomes.specs.Lane.{State}
+use Rattle.lane_outcomes.specs.Lane.{Position}
 use Rattle.lane_steps.specs.Advances.{Answers, Begins, IsBefore, IsNext, IsTold}
 use Rattle.lane_steps.specs.declared.lane.LaneState.{LaneState}
 use Rattle.lane_steps.specs.declared.stage.Stage.{Stage}
@@ -31,32 +31,32 @@ use Rattle.lane_steps.proofs.PartAdvances.{calls-kept, part-begins, part-steps}
 
 -- where an operation is under way its caller is busy
 doing-busy :
-    (caller : ℕ) (pool : Pool) (e : ErrandFields) (state : State) (registers : List (Option Held)) (operation : Op) (at : Stage)
-    (added : List Event) → IsDoing caller pool e.point state registers operation at added → IsBusy e
-doing-busy caller pool e state registers (op.Alloc r need v) stage.Calling added doing = way-busy caller (alloc need) e.point added doing.3
-doing-busy caller pool e state registers (op.Alloc r need v) (stage.Filling i) added doing = way-busy caller (write doing.0.place doing.4.writing.need i ((v + i) % 2 ^ 64)) e.point [] doing.4.writing.under_way
-doing-busy caller pool e state registers (op.Alloc r need v) stage.Between added doing = absurd doing
-doing-busy caller pool e state registers (op.Alloc r need v) (stage.Summing i total) added doing = absurd doing
-doing-busy caller pool e state registers (op.Free r) stage.Calling added doing = way-busy caller (free doing.held.place doing.need) e.point added doing.under_way
-doing-busy caller pool e state registers (op.Free r) stage.Between added doing = absurd doing
-doing-busy caller pool e state registers (op.Free r) (stage.Filling i) added doing = absurd doing
-doing-busy caller pool e state registers (op.Free r) (stage.Summing i total) added doing = absurd doing
-doing-busy caller pool e state registers (op.Fill r v) (stage.Filling i) added doing = way-busy caller (write doing.0.place doing.3.need i ((v + i) % 2 ^ 64)) e.point [] doing.3.under_way
-doing-busy caller pool e state registers (op.Fill r v) stage.Between added doing = absurd doing
-doing-busy caller pool e state registers (op.Fill r v) stage.Calling added doing = absurd doing
-doing-busy caller pool e state registers (op.Fill r v) (stage.Summing i total) added doing = absurd doing
-doing-busy caller pool e state registers (op.Check r) (stage.Summing i total) added doing = way-busy caller (read doing.0.place doing.3.need i) e.point [] doing.3.under_way
-doing-busy caller pool e state registers (op.Check r) stage.Between added doing = absurd doing
-doing-busy caller pool e state registers (op.Check r) stage.Calling added doing = absurd doing
-doing-busy caller pool e state registers (op.Check r) (stage.Filling i) added doing = absurd doing
-doing-busy caller pool e state registers (op.Put r shelf) stage.Calling added doing = way-busy caller (put doing.held.place doing.need shelf) e.point added doing.under_way
-doing-busy caller pool e state registers (op.Put r shelf) stage.Between added doing = absurd doing
-doing-busy caller pool e state registers (op.Put r shelf) (stage.Filling i) added doing = absurd doing
-doing-busy caller pool e state registers (op.Put r shelf) (stage.Summing i total) added doing = absurd doing
-doing-busy caller pool e state registers (op.Take r shelf) stage.Calling added doing = way-busy caller (take shelf) e.point added doing.2
-doing-busy caller pool e state registers (op.Take r shelf) stage.Between added doing = absurd doing
-doing-busy caller pool e state registers (op.Take r shelf) (stage.Filling i) added doing = absurd doing
-doing-busy caller pool e state registers (op.Take r shelf) (stage.Summing i total) added doing = absurd doing
+    (caller : ℕ) (pool : Pool) (e : ErrandFields) (position : Position) (registers : List (Option Held)) (operation : Op) (at : Stage)
+    (added : List Event) → IsDoing caller pool e.point position registers operation at added → IsBusy e
+doing-busy caller pool e position registers (op.Alloc r need v) stage.Calling added doing = way-busy caller (alloc need) e.point added doing.3
+doing-busy caller pool e position registers (op.Alloc r need v) (stage.Filling i) added doing = way-busy caller (write doing.0.place doing.4.writing.need i ((v + i) % 2 ^ 64)) e.point [] doing.4.writing.under_way
+doing-busy caller pool e position registers (op.Alloc r need v) stage.Between added doing = absurd doing
+doing-busy caller pool e position registers (op.Alloc r need v) (stage.Summing i total) added doing = absurd doing
+doing-busy caller pool e position registers (op.Free r) stage.Calling added doing = way-busy caller (free doing.held.place doing.need) e.point added doing.under_way
+doing-busy caller pool e position registers (op.Free r) stage.Between added doing = absurd doing
+doing-busy caller pool e position registers (op.Free r) (stage.Filling i) added doing = absurd doing
+doing-busy caller pool e position registers (op.Free r) (stage.Summing i total) added doing = absurd doing
+doing-busy caller pool e position registers (op.Fill r v) (stage.Filling i) added doing = way-busy caller (write doing.0.place doing.3.need i ((v + i) % 2 ^ 64)) e.point [] doing.3.under_way
+doing-busy caller pool e position registers (op.Fill r v) stage.Between added doing = absurd doing
+doing-busy caller pool e position registers (op.Fill r v) stage.Calling added doing = absurd doing
+doing-busy caller pool e position registers (op.Fill r v) (stage.Summing i total) added doing = absurd doing
+doing-busy caller pool e position registers (op.Check r) (stage.Summing i total) added doing = way-busy caller (read doing.0.place doing.3.need i) e.point [] doing.3.under_way
+doing-busy caller pool e position registers (op.Check r) stage.Between added doing = absurd doing
+doing-busy caller pool e position registers (op.Check r) stage.Calling added doing = absurd doing
+doing-busy caller pool e position registers (op.Check r) (stage.Filling i) added doing = absurd doing
+doing-busy caller pool e position registers (op.Put r shelf) stage.Calling added doing = way-busy caller (put doing.held.place doing.need shelf) e.point added doing.under_way
+doing-busy caller pool e position registers (op.Put r shelf) stage.Between added doing = absurd doing
+doing-busy caller pool e position registers (op.Put r shelf) (stage.Filling i) added doing = absurd doing
+doing-busy caller pool e position registers (op.Put r shelf) (stage.Summing i total) added doing = absurd doing
+doing-busy caller pool e position registers (op.Take r shelf) stage.Calling added doing = way-busy caller (take shelf) e.point added doing.2
+doing-busy caller pool e position registers (op.Take r shelf) stage.Between added doing = absurd doing
+doing-busy caller pool e position registers (op.Take r shelf) (stage.Filling i) added doing = absurd doing
+doing-busy caller pool e position registers (op.Take r shelf) (stage.Summing i total) added doing = absurd doing
 
 -- which counts as begun
 pub count-under : (results : List Outcome) (at : Stage) → at ≢ stage.Between → begun_count results at ≡ length results + 1
@@ -73,15 +73,15 @@ pub record IsUnder (e : ErrandFields) (operations : List Op) : Type 0 where
   pub busy : IsBusy e
 
 under-at :
-    (caller : ℕ) (events : List Event) (e : ErrandFields) (state : State) (registers : List (Option Held)) (operations : List Op) (at : Stage)
-    (added : List Event) → at ≢ stage.Between → IsAt caller events e state registers operations at added → IsUnder e operations
-under-at caller events e state registers operations stage.Between added not stands = absurd (not refl)
-under-at caller events e state registers operations stage.Calling added not (o, rest, next, doing) =
-    record { operation = o; rest = rest; next = next; busy = doing-busy caller (pool_of events) e state registers o stage.Calling added doing }
-under-at caller events e state registers operations (stage.Filling i) added not (o, rest, next, doing) =
-    record { operation = o; rest = rest; next = next; busy = doing-busy caller (pool_of events) e state registers o (stage.Filling i) added doing }
-under-at caller events e state registers operations (stage.Summing i total) added not (o, rest, next, doing) =
-    record { operation = o; rest = rest; next = next; busy = doing-busy caller (pool_of events) e state registers o (stage.Summing i total) added doing }
+    (caller : ℕ) (events : List Event) (e : ErrandFields) (position : Position) (registers : List (Option Held)) (operations : List Op) (at : Stage)
+    (added : List Event) → at ≢ stage.Between → IsAt caller events e position registers operations at added → IsUnder e operations
+under-at caller events e position registers operations stage.Between added not stands = absurd (not refl)
+under-at caller events e position registers operations stage.Calling added not (o, rest, next, doing) =
+    record { operation = o; rest = rest; next = next; busy = doing-busy caller (pool_of events) e position registers o stage.Calling added doing }
+under-at caller events e position registers operations (stage.Filling i) added not (o, rest, next, doing) =
+    record { operation = o; rest = rest; next = next; busy = doing-busy caller (pool_of events) e position registers o (stage.Filling i) added doing }
+under-at caller events e position registers operations (stage.Summing i total) added not (o, rest, next, doing) =
+    record { operation = o; rest = rest; next = next; busy = doing-busy caller (pool_of events) e position registers o (stage.Summing i total) added doing }
 
 -- a list from one of its elements on
 pub next-op :
@@ -185,7 +185,7 @@ module _ {S Base B : Type 0} (serves : S → ℕ → Type 0) (runs_on : S → Ba
       → lane.stage ≢ stage.Between → IsUnder (errand_of s lane.caller) (drop (length lane.outcomes.items) operations)
   lane-under s lane stands not =
       let l = stands.stands in
-      under-at lane.caller (events s) (errand_of s lane.caller) l.state _ (drop (length lane.outcomes.items) operations) lane.stage l.added not l.stands
+      under-at lane.caller (events s) (errand_of s lane.caller) l.position _ (drop (length lane.outcomes.items) operations) lane.stage l.added not l.stands
 
   -- and then it made a step, which is answered
   pub record IsAdvanced (s t : S) (lane after : LaneState B) : Type 0 where

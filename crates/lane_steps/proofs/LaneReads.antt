@@ -122,7 +122,7 @@ module _ {B : Type 0} (place_of : B → ℕ) (need_of : B → Need) (g : Geometr
         (subst (λ (h : Held). HasBegun f (begun_by f call) (read h.place (need_of w.block) (w.i + 1))) (sym same) begun) in
         let stood = stood-at place_of need_of g events f seen operations lane o s t (stage.Summing w.i w.total) w.summing in
         let doing = doing-here place_of need_of g events f seen operations lane o s t (stage.Summing w.i w.total) w.summing in
-        let was : held_in stood.state.registers r ≡ Some (held_by place_of need_of w.block) = ap (λ rs. held_in rs r) (sym doing.1) ∙ full in
+        let was : held_in stood.position.registers r ≡ Some (held_by place_of need_of w.block) = ap (λ rs. held_in rs r) (sym doing.1) ∙ full in
         let here = lane-here g t.e.caller seen t.e operations held lane.outcomes.items (stage.Summing w.i w.total) o t.next.0 stood t.next.1 in
         subst (λ n. Became lane new lane.registers.items lane.outcomes.items (stage.Summing n total)
         → Gone (begun_by f (read (place_of w.block) (need_of w.block) n)) (Some (read (place_of w.block) (need_of w.block) n))) (sym is)
@@ -132,7 +132,7 @@ module _ {B : Type 0} (place_of : B → ℕ) (need_of : B → Need) (g : Geometr
         (subst (λ n. Became lane new lane.registers.items lane.outcomes.items (stage.Summing (w.i + 1) n)) sum_is became) stands
         (owned-now place_of need_of g events f seen operations lane o s t had.seen.more had.seen.moved_on had.seen.spares)
         (λ calls script.
-        check-goes_on operations lane.outcomes.items stood.state.registers held held r (held_by place_of need_of w.block) (need_of w.block) calls here was
+        check-goes_on operations lane.outcomes.items stood.position.registers held held r (held_by place_of need_of w.block) (need_of w.block) calls here was
         serves w.i w.total sum inside script)
         (few-begun (held_by place_of need_of w.block) (need_of w.block) w.i serves w.inside) (omega arith))
         became
@@ -157,7 +157,7 @@ module _ {B : Type 0} (place_of : B → ℕ) (need_of : B → Need) (g : Geometr
         let sum_is : total ≡ sum = total_is ∙ ap (λ a. total_with a word) w.summing in
         let stood = stood-at place_of need_of g events f seen operations lane o s t (stage.Summing w.i w.total) w.summing in
         let doing = doing-here place_of need_of g events f seen operations lane o s t (stage.Summing w.i w.total) w.summing in
-        let was : held_in stood.state.registers r ≡ Some (held_by place_of need_of w.block) = ap (λ rs. held_in rs r) (sym doing.1) ∙ full in
+        let was : held_in stood.position.registers r ≡ Some (held_by place_of need_of w.block) = ap (λ rs. held_in rs r) (sym doing.1) ∙ full in
         let here = lane-here g t.e.caller seen t.e operations held lane.outcomes.items (stage.Summing w.i w.total) o t.next.0 stood t.next.1 in
         told-ends place_of need_of g events f seen operations lane o s t again new (stage.Summing w.i w.total) w.summing lane.registers.items
         (outcome.Sum sum)
@@ -165,7 +165,7 @@ module _ {B : Type 0} (place_of : B → ℕ) (need_of : B → Need) (g : Geometr
         (had.ends (subst (λ (h : Held). h.words ≤ w.i + 1) (sym same) last))
         (owned-now place_of need_of g events f seen operations lane o s t had.seen.more had.seen.moved_on had.seen.spares)
         (λ calls script.
-        check-ends operations lane.outcomes.items stood.state.registers held held r (held_by place_of need_of w.block) (need_of w.block) calls here was
+        check-ends operations lane.outcomes.items stood.position.registers held held r (held_by place_of need_of w.block) (need_of w.block) calls here was
         serves w.i w.total sum w.inside last script)
         (few-begun (held_by place_of need_of w.block) (need_of w.block) w.i serves w.inside)
 
@@ -196,7 +196,7 @@ module _ {B : Type 0} (place_of : B → ℕ) (need_of : B → Need) (g : Geometr
         let here = lane-here g t.e.caller seen t.e operations held lane.outcomes.items lane.stage o t.next.0 stood t.next.1 in
         calling-ends o s t lane.registers.items outcome.Put ends became
         (owned-now place_of need_of g events f seen operations lane o s t ends.seen.more ends.seen.moved_on ends.seen.spares)
-        (λ calls script. put-ends operations lane.outcomes.items stood.state.registers held held r shelf calls here script)
+        (λ calls script. put-ends operations lane.outcomes.items stood.position.registers held held r shelf calls here script)
 
     -- a block comes into the register
     block-ends :
@@ -233,7 +233,7 @@ module _ {B : Type 0} (place_of : B → ℕ) (need_of : B → Need) (g : Geometr
         let here = lane-here g t.e.caller seen t.e operations held lane.outcomes.items lane.stage o t.next.0 stood t.next.1 in
         block-ends o s t r block outcome.ShelfFull ends became
         (λ calls script.
-        put-finds_full operations lane.outcomes.items stood.state.registers held
+        put-finds_full operations lane.outcomes.items stood.position.registers held
         (held_blocks place_of need_of (slice_set lane.registers.items r (Some block))) r shelf calls here script)
 
     pub part-take_got :
@@ -254,7 +254,7 @@ module _ {B : Type 0} (place_of : B → ℕ) (need_of : B → Need) (g : Geometr
         block-ends o s t r block result ends
         (subst (λ (x : Outcome). Became lane new (slice_set lane.registers.items r (Some block)) (lane.outcomes.items ++ x ∷ []) stage.Between) is became)
         (λ calls script.
-        take-got operations lane.outcomes.items stood.state.registers held
+        take-got operations lane.outcomes.items stood.position.registers held
         (held_blocks place_of need_of (slice_set lane.registers.items r (Some block))) r shelf calls here (usable_words (need_of block)) (place_of block)
         script)
 
@@ -271,7 +271,7 @@ module _ {B : Type 0} (place_of : B → ℕ) (need_of : B → Need) (g : Geometr
         let here = lane-here g t.e.caller seen t.e operations held lane.outcomes.items lane.stage o t.next.0 stood t.next.1 in
         calling-ends o s t lane.registers.items outcome.ShelfEmpty ends became
         (owned-now place_of need_of g events f seen operations lane o s t ends.seen.more ends.seen.moved_on ends.seen.spares)
-        (λ calls script. take-finds_none operations lane.outcomes.items stood.state.registers held held r shelf calls here script)
+        (λ calls script. take-finds_none operations lane.outcomes.items stood.position.registers held held r shelf calls here script)
 
   -- a take that missed
   missed-of : (r shelf : ℕ) (t : Told (op.Take r shelf) stepped.Missed)
@@ -310,7 +310,7 @@ module _ {B : Type 0} (place_of : B → ℕ) (need_of : B → Need) (g : Geometr
       (owned-now place_of need_of g events f seen operations lane o s t missed.seen.more missed.seen.moved_on missed.seen.spares)
       (λ calls script.
       subst (λ a. IsOnScript operations held lane.outcomes.items a (calls ++ call ∷ [])) (sym missed.calling)
-      (take-again operations lane.outcomes.items stood.state.registers held held r shelf calls here
+      (take-again operations lane.outcomes.items stood.position.registers held held r shelf calls here
       (subst (λ a. IsOnScript operations held lane.outcomes.items a calls) missed.calling script)))
       (inr (refl, refl, inr (shelf, refl, own_same)))
       (ap (λ a. begun_count lane.outcomes.items a) missed.calling ∙ omega arith)

@@ -11,7 +11,7 @@ use Rattle.lane_engine.specs.declared.stepped.Stepped.{Stepped}
 use Rattle.lane_engine.specs.declared.stepped.Stepped.TheVariants as stepped
 use Rattle.lane_engine.specs.Engines.{HasStepped}
 use Rattle.lane_outcomes.specs.declared.registers.Held.{Held}
-use Rattle.lane_outcomes.specs.Lane.{State}
+use Rattle.lane_outcomes.specs.Lane.{Position}
 use Rattle.lane_steps.specs.Advances.{HasGoneOn, IsTold, IsAgain}
 use Rattle.lane_steps.specs.declared.lane.LaneState.{LaneState}
 use Rattle.lane_steps.specs.declared.stage.Stage.{Stage}
@@ -53,9 +53,9 @@ module _ {B : Type 0} (place_of : B → ℕ) (need_of : B → Need) (e f : Erran
   free-only added place need stepped.Freed is one = absurd (one refl)
   free-only added place need told is one = absurd is
 
-  module _ (state : State) (registers : List (Option Held)) (added : List Event) (told : Stepped B) (step : HasStepped place_of need_of e f before events told) where
+  module _ (position : Position) (registers : List (Option Held)) (added : List Event) (told : Stepped B) (step : HasStepped place_of need_of e f before events told) where
     alloc-on_rest :
-        (r need v : ℕ) (at : Stage) → IsDoing e.caller (pool_of before) e.point state registers (op.Alloc r need v) at added
+        (r need v : ℕ) (at : Stage) → IsDoing e.caller (pool_of before) e.point position registers (op.Alloc r need v) at added
         → ((b : B) → told ≡ stepped.Given b → ⊥) → (told ≡ stepped.Refused → ⊥) → (told ≡ stepped.Spent → ⊥) → (told ≡ stepped.Wrote → ⊥) → IsOn told
     alloc-on_rest r need v stage.Calling doing one two three four =
         alloc-only added need told (told-of_alloc place_of need_of e f before events added need told step doing.3) one two three
@@ -66,7 +66,7 @@ module _ {B : Type 0} (place_of : B → ℕ) (need_of : B → Need) (e f : Erran
     alloc-on_rest r need v (stage.Summing i total) doing one two three four = absurd doing
 
     fill-on_rest :
-        (r v : ℕ) (at : Stage) → IsDoing e.caller (pool_of before) e.point state registers (op.Fill r v) at added
+        (r v : ℕ) (at : Stage) → IsDoing e.caller (pool_of before) e.point position registers (op.Fill r v) at added
         → (told ≡ stepped.Wrote → ⊥) → IsOn told
     fill-on_rest r v (stage.Filling i) doing one =
         write-only [] doing.0.place doing.3.need i ((v + i) % 2 ^ 64) told
@@ -76,7 +76,7 @@ module _ {B : Type 0} (place_of : B → ℕ) (need_of : B → Need) (e f : Erran
     fill-on_rest r v (stage.Summing i total) doing one = absurd doing
 
     free-on_rest :
-        (r : ℕ) (at : Stage) → IsDoing e.caller (pool_of before) e.point state registers (op.Free r) at added
+        (r : ℕ) (at : Stage) → IsDoing e.caller (pool_of before) e.point position registers (op.Free r) at added
         → (told ≡ stepped.Freed → ⊥) → IsOn told
     free-on_rest r stage.Calling doing one =
         free-only added doing.held.place doing.need told
@@ -86,7 +86,7 @@ module _ {B : Type 0} (place_of : B → ℕ) (need_of : B → Need) (e f : Erran
     free-on_rest r (stage.Summing i total) doing one = absurd doing
 
     check-on_rest :
-        (r : ℕ) (at : Stage) → IsDoing e.caller (pool_of before) e.point state registers (op.Check r) at added
+        (r : ℕ) (at : Stage) → IsDoing e.caller (pool_of before) e.point position registers (op.Check r) at added
         → ((word : ℕ) → told ≡ stepped.Word word → ⊥) → IsOn told
     check-on_rest r (stage.Summing i total) doing one =
         elim (read-only place_of need_of e f before events [] doing.0.place doing.3.need i told
@@ -99,7 +99,7 @@ module _ {B : Type 0} (place_of : B → ℕ) (need_of : B → Need) (e f : Erran
     check-on_rest r (stage.Filling i) doing one = absurd doing
 
     put-on_rest :
-        (r shelf : ℕ) (at : Stage) → IsDoing e.caller (pool_of before) e.point state registers (op.Put r shelf) at added
+        (r shelf : ℕ) (at : Stage) → IsDoing e.caller (pool_of before) e.point position registers (op.Put r shelf) at added
         → (told ≡ stepped.Put → ⊥) → ((b : B) → told ≡ stepped.Full b → ⊥) → IsOn told
     put-on_rest r shelf stage.Calling doing one two =
         elim (put-only place_of need_of e f before events added doing.held.place doing.need shelf told
@@ -112,7 +112,7 @@ module _ {B : Type 0} (place_of : B → ℕ) (need_of : B → Need) (e f : Erran
     put-on_rest r shelf (stage.Summing i total) doing one two = absurd doing
 
     take-on_rest :
-        (r shelf : ℕ) (at : Stage) → IsDoing e.caller (pool_of before) e.point state registers (op.Take r shelf) at added
+        (r shelf : ℕ) (at : Stage) → IsDoing e.caller (pool_of before) e.point position registers (op.Take r shelf) at added
         → ((b : B) → told ≡ stepped.Got b → ⊥) → (told ≡ stepped.Empty → ⊥) → (told ≡ stepped.Missed → ⊥) → IsOn told
     take-on_rest r shelf stage.Calling doing one two three =
         elim (take-only place_of need_of e f before events added shelf told
@@ -144,7 +144,7 @@ module _ {B : Type 0} (place_of : B → ℕ) (need_of : B → Need) (g : Geometr
       let o = op.Alloc r need v in
       let stood = stood-at place_of need_of g events f seen operations lane o told t lane.stage refl in
       stays-so o t
-      (alloc-on_rest place_of need_of t.e f seen events stood.state (held_blocks place_of need_of lane.registers.items) stood.added told t.stepped r need v
+      (alloc-on_rest place_of need_of t.e f seen events stood.position (held_blocks place_of need_of lane.registers.items) stood.added told t.stepped r need v
       lane.stage (doing-here place_of need_of g events f seen operations lane o told t lane.stage refl) one two three four)
 
   pub fill-rest :
@@ -153,7 +153,7 @@ module _ {B : Type 0} (place_of : B → ℕ) (need_of : B → Need) (g : Geometr
       let o = op.Fill r v in
       let stood = stood-at place_of need_of g events f seen operations lane o told t lane.stage refl in
       stays-so o t
-      (fill-on_rest place_of need_of t.e f seen events stood.state (held_blocks place_of need_of lane.registers.items) stood.added told t.stepped r v
+      (fill-on_rest place_of need_of t.e f seen events stood.position (held_blocks place_of need_of lane.registers.items) stood.added told t.stepped r v
       lane.stage (doing-here place_of need_of g events f seen operations lane o told t lane.stage refl) one)
 
   pub free-rest :
@@ -162,7 +162,7 @@ module _ {B : Type 0} (place_of : B → ℕ) (need_of : B → Need) (g : Geometr
       let o = op.Free r in
       let stood = stood-at place_of need_of g events f seen operations lane o told t lane.stage refl in
       stays-so o t
-      (free-on_rest place_of need_of t.e f seen events stood.state (held_blocks place_of need_of lane.registers.items) stood.added told t.stepped r
+      (free-on_rest place_of need_of t.e f seen events stood.position (held_blocks place_of need_of lane.registers.items) stood.added told t.stepped r
       lane.stage (doing-here place_of need_of g events f seen operations lane o told t lane.stage refl) one)
 
   pub check-rest :
@@ -171,7 +171,7 @@ module _ {B : Type 0} (place_of : B → ℕ) (need_of : B → Need) (g : Geometr
       let o = op.Check r in
       let stood = stood-at place_of need_of g events f seen operations lane o told t lane.stage refl in
       stays-so o t
-      (check-on_rest place_of need_of t.e f seen events stood.state (held_blocks place_of need_of lane.registers.items) stood.added told t.stepped r
+      (check-on_rest place_of need_of t.e f seen events stood.position (held_blocks place_of need_of lane.registers.items) stood.added told t.stepped r
       lane.stage (doing-here place_of need_of g events f seen operations lane o told t lane.stage refl) one)
 
   pub put-rest :
@@ -181,7 +181,7 @@ module _ {B : Type 0} (place_of : B → ℕ) (need_of : B → Need) (g : Geometr
       let o = op.Put r shelf in
       let stood = stood-at place_of need_of g events f seen operations lane o told t lane.stage refl in
       stays-so o t
-      (put-on_rest place_of need_of t.e f seen events stood.state (held_blocks place_of need_of lane.registers.items) stood.added told t.stepped r shelf
+      (put-on_rest place_of need_of t.e f seen events stood.position (held_blocks place_of need_of lane.registers.items) stood.added told t.stepped r shelf
       lane.stage (doing-here place_of need_of g events f seen operations lane o told t lane.stage refl) one two)
 
   pub take-rest :
@@ -191,5 +191,5 @@ module _ {B : Type 0} (place_of : B → ℕ) (need_of : B → Need) (g : Geometr
       let o = op.Take r shelf in
       let stood = stood-at place_of need_of g events f seen operations lane o told t lane.stage refl in
       stays-so o t
-      (take-on_rest place_of need_of t.e f seen events stood.state (held_blocks place_of need_of lane.registers.items) stood.added told t.stepped r shelf
+      (take-on_rest place_of need_of t.e f seen events stood.position (held_blocks place_of need_of lane.registers.items) stood.added told t.stepped r shelf
       lane.stage (doing-here place_of need_of g events f seen operations lane o told t lane.stage refl) one two three)

@@ -17,7 +17,7 @@ use Rattle.trace_text.specs.declared.trace.Op.{Op}
 use Rattle.lane_engine.specs.declared.stepped.Stepped.{Stepped}
 use Rattle.lane_outcomes.specs.declared.registers.Held.{Held}
 use Rattle.lane_outcomes.specs.declared.outcome.Outcome.{Outcome}
-use Rattle.lane_outcomes.specs.Lane.{State}
+use Rattle.lane_outcomes.specs.Lane.{Position}
 use Rattle.lane_steps.specs.Advances.{HasGoneOn, IsTold, behind}
 use Rattle.lane_steps.specs.declared.lane.LaneState.{LaneState}
 use Rattle.lane_steps.specs.declared.stage.Stage.{Stage}
@@ -35,13 +35,13 @@ use Rattle.lane_steps.proofs.ScriptLemmas.{left-rises, left-ends, script-stays}
 
 -- an operation that is under way has begun
 pub doing-begun :
-    (caller : ℕ) (events : List Event) (e : ErrandFields) (state : State) (registers : List (Option Held)) (operation : Op) (at : Stage)
-    (added : List Event) → IsDoing caller (pool_of events) e.point state registers operation at added → 0 < stage_begun at
-doing-begun caller events e state registers operation stage.Between added doing =
-    absurd (no-between caller (pool_of events) e.point state registers operation added doing)
-doing-begun caller events e state registers operation stage.Calling added doing = omega arith
-doing-begun caller events e state registers operation (stage.Filling i) added doing = omega arith
-doing-begun caller events e state registers operation (stage.Summing i total) added doing = omega arith
+    (caller : ℕ) (events : List Event) (e : ErrandFields) (position : Position) (registers : List (Option Held)) (operation : Op) (at : Stage)
+    (added : List Event) → IsDoing caller (pool_of events) e.point position registers operation at added → 0 < stage_begun at
+doing-begun caller events e position registers operation stage.Between added doing =
+    absurd (no-between caller (pool_of events) e.point position registers operation added doing)
+doing-begun caller events e position registers operation stage.Calling added doing = omega arith
+doing-begun caller events e position registers operation (stage.Filling i) added doing = omega arith
+doing-begun caller events e position registers operation (stage.Summing i total) added doing = omega arith
 
 -- the word behind, or none
 pub behind-some : (i words next : ℕ) → Some next ≡ behind i words → (next ≡ i + 1) × (i + 1 < words)
@@ -82,10 +82,10 @@ module _ {B : Type 0} (place_of : B → ℕ) (need_of : B → Need) (g : Geometr
 
   pub doing-here :
       (at : Stage) (is : lane.stage ≡ at)
-      → IsDoing t.e.caller (pool_of seen) t.e.point (stood-at at is).state registers operation at (stood-at at is).added
+      → IsDoing t.e.caller (pool_of seen) t.e.point (stood-at at is).position registers operation at (stood-at at is).added
   doing-here at is =
       let stood = stood-at at is in
-      doing-at t.e.caller seen t.e stood.state registers (drop (length lane.outcomes.items) operations) t.next.0 operation at stood.added t.next.1 is-busy
+      doing-at t.e.caller seen t.e stood.position registers (drop (length lane.outcomes.items) operations) t.next.0 operation at stood.added t.next.1 is-busy
       stood.stands
 
   -- the blocks in hand after the step
@@ -114,7 +114,7 @@ module _ {B : Type 0} (place_of : B → ℕ) (need_of : B → Need) (g : Geometr
         let stays = lane-goes_on place_of need_of g t.e f seen events operations registers lane.outcomes.items heap
         (legal-weaker g events t.still_served.legal) t.next.0 told on t.stepped operation lane.stage (stood-at lane.stage refl) t.next.1
         (doing-here lane.stage refl) in
-        let some = doing-begun t.e.caller seen t.e (stood-at lane.stage refl).state registers operation lane.stage (stood-at lane.stage refl).added
+        let some = doing-begun t.e.caller seen t.e (stood-at lane.stage refl).position registers operation lane.stage (stood-at lane.stage refl).added
         (doing-here lane.stage refl) in
         gone-on place_of need_of g events f None again operations lane new lane.registers.items lane.outcomes.items lane.stage became t.stood.room
         (subst (λ c. IsLane g c events f operations registers lane.outcomes.items lane.stage) number stays.stands)

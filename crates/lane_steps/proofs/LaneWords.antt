@@ -23,7 +23,7 @@ use Rattle.lane_engine.specs.Engines.{HasStepped}
 use Rattle.lane_outcomes.specs.declared.registers.Held.{Held}
 use Rattle.lane_outcomes.specs.declared.outcome.Outcome.{Outcome}
 use Rattle.lane_outcomes.specs.declared.outcome.Outcome.TheVariants as outcome
-use Rattle.lane_outcomes.specs.Lane.{State, held_in, filling}
+use Rattle.lane_outcomes.specs.Lane.{Position, held_in, filling}
 use Rattle.lane_outcomes.specs.Rows.{MayAsk}
 use Rattle.lane_steps.specs.Advances.{HasGoneOn, IsTold, behind, word_behind}
 use Rattle.lane_steps.specs.declared.lane.LaneState.{LaneState}
@@ -40,9 +40,9 @@ use Rattle.lane_steps.proofs.LaneParts.{Became, block-in, slot-full, set-held, b
 use Rattle.lane_steps.proofs.LaneTold.{behind-some, behind-none, heap, served-now, stood-at, doing-here, owned-now, begun-behind, owns-by, told-ends_so, told-goes}
 
 -- an allocation that is given a block is at its first call; a word that is written is one of a fill
-module _ {B : Type 0} (place_of : B → ℕ) (block_need : B → Need) (e f : ErrandFields) (before events : List Event) (state : State) (registers : List (Option Held)) (added : List Event) where
+module _ {B : Type 0} (place_of : B → ℕ) (block_need : B → Need) (e f : ErrandFields) (before events : List Event) (position : Position) (registers : List (Option Held)) (added : List Event) where
   is-given :
-      (r need v : ℕ) (block : B) (at : Stage) → IsDoing e.caller (pool_of before) e.point state registers (op.Alloc r need v) at added
+      (r need v : ℕ) (block : B) (at : Stage) → IsDoing e.caller (pool_of before) e.point position registers (op.Alloc r need v) at added
       → HasStepped place_of block_need e f before events (stepped.Given block)
       → EndsGiven e f need (place_of block) (block_need block) before events added
   is-given r need v block stage.Calling doing step =
@@ -53,7 +53,7 @@ module _ {B : Type 0} (place_of : B → ℕ) (block_need : B → Need) (e f : Er
   is-given r need v block (stage.Summing i total) doing step = absurd doing
 
   alloc-fills :
-      (r need v : ℕ) (at : Stage) → IsDoing e.caller (pool_of before) e.point state registers (op.Alloc r need v) at added
+      (r need v : ℕ) (at : Stage) → IsDoing e.caller (pool_of before) e.point position registers (op.Alloc r need v) at added
       → HasStepped place_of block_need e f before events stepped.Wrote → (i : ℕ) × (at ≡ stage.Filling i)
   alloc-fills r need v stage.Calling doing step =
       absurd (told-of_alloc place_of block_need e f before events added need stepped.Wrote step doing.3)
@@ -62,7 +62,7 @@ module _ {B : Type 0} (place_of : B → ℕ) (block_need : B → Need) (e f : Er
   alloc-fills r need v (stage.Summing i total) doing step = absurd doing
 
   fill-fills :
-      (r v : ℕ) (at : Stage) → IsDoing e.caller (pool_of before) e.point state registers (op.Fill r v) at added → (i : ℕ) × (at ≡ stage.Filling i)
+      (r v : ℕ) (at : Stage) → IsDoing e.caller (pool_of before) e.point position registers (op.Fill r v) at added → (i : ℕ) × (at ≡ stage.Filling i)
   fill-fills r v stage.Calling doing = absurd doing
   fill-fills r v stage.Between doing = absurd doing
   fill-fills r v (stage.Filling i) doing = (i, refl)
@@ -77,12 +77,12 @@ module _ {B : Type 0} (place_of : B → ℕ) (block_need : B → Need) (e f : Er
 
   -- the block in hand, in place of what the register holds of it
   given-by :
-      (r need v i : ℕ) (block : B) (doing : IsDoing e.caller (pool_of before) e.point state registers (op.Alloc r need v) (stage.Filling i) added)
+      (r need v i : ℕ) (block : B) (doing : IsDoing e.caller (pool_of before) e.point position registers (op.Alloc r need v) (stage.Filling i) added)
       → held_by place_of block_need block ≡ doing.0
-      → (held_in state.registers r ≡ None) × (registers ≡ slice_set state.registers r (Some (held_by place_of block_need block))) × MayAsk state need
+      → (held_in position.registers r ≡ None) × (registers ≡ slice_set position.registers r (Some (held_by place_of block_need block))) × MayAsk position need
       × IsGivenAndFilling e.caller e.point (held_by place_of block_need block) need v i added
   given-by r need v i block doing same =
-      let D : Held → Type 0 = λ (h : Held). (held_in state.registers r ≡ None) × (registers ≡ slice_set state.registers r (Some h)) × MayAsk state need
+      let D : Held → Type 0 = λ (h : Held). (held_in position.registers r ≡ None) × (registers ≡ slice_set position.registers r (Some h)) × MayAsk position need
       × IsGivenAndFilling e.caller e.point h need v i added in
       subst D (sym same) (doing.1, doing.2, doing.3, doing.4)
 
@@ -103,7 +103,7 @@ module _ {B : Type 0} (place_of : B → ℕ) (need_of : B → Need) (g : Geometr
   given-facts r need v block t =
       let stood = stood-at place_of need_of g events f seen operations lane (op.Alloc r need v) (stepped.Given block) t lane.stage refl in
       let doing = doing-here place_of need_of g events f seen operations lane (op.Alloc r need v) (stepped.Given block) t lane.stage refl in
-      let given = is-given place_of need_of t.e f seen events stood.state held stood.added r need v block lane.stage doing t.stepped in
+      let given = is-given place_of need_of t.e f seen events stood.position held stood.added r need v block lane.stage doing t.stepped in
       let owned : OwnsAfter events lane.caller (place_of block) (need_of block) =
       subst (λ c. OwnsAfter events c (place_of block) (need_of block)) t.served.own_errand.number given.owned in
       record {
@@ -126,16 +126,16 @@ module _ {B : Type 0} (place_of : B → ℕ) (need_of : B → Need) (g : Geometr
   alloc-written r need v within t =
       let o = op.Alloc r need v in
       let first = stood-at place_of need_of g events f seen operations lane o stepped.Wrote t lane.stage refl in
-      let at = alloc-fills place_of need_of t.e f seen events first.state held first.added r need v lane.stage
+      let at = alloc-fills place_of need_of t.e f seen events first.position held first.added r need v lane.stage
       (doing-here place_of need_of g events f seen operations lane o stepped.Wrote t lane.stage refl) t.stepped in
       let stood = stood-at place_of need_of g events f seen operations lane o stepped.Wrote t (stage.Filling at.0) at.1 in
       let doing = doing-here place_of need_of g events f seen operations lane o stepped.Wrote t (stage.Filling at.0) at.1 in
-      let size : length stood.state.registers ≡ REGISTERS =
-      sym (length-set stood.state.registers r (Some doing.0)) ∙ ap length (sym doing.2) ∙ stood.size in
+      let size : length stood.position.registers ≡ REGISTERS =
+      sym (length-set stood.position.registers r (Some doing.0)) ∙ ap length (sym doing.2) ∙ stood.size in
       let full : held_in held r ≡ Some doing.0 =
-      ap (λ rs. held_in rs r) doing.2 ∙ held-here stood.state.registers r doing.0 (omega arith) in
+      ap (λ rs. held_in rs r) doing.2 ∙ held-here stood.position.registers r doing.0 (omega arith) in
       let found = block-in place_of need_of lane.registers.items r doing.0 full in
-      let ends = is-written place_of need_of t.e f seen events stood.state held stood.added doing.0 at.0 v doing.4.writing t.stepped in
+      let ends = is-written place_of need_of t.e f seen events stood.position held stood.added doing.0 at.0 v doing.4.writing t.stepped in
       let spares = spares-ended t.e f (ended.wrote doing.0.place at.0 ((v + at.0) % 2 ^ 64)) seen events [] held ends (λ q other full. tt) in
       record {
         i = at.0;
@@ -151,12 +151,12 @@ module _ {B : Type 0} (place_of : B → ℕ) (need_of : B → Need) (g : Geometr
   fill-written r v t =
       let o = op.Fill r v in
       let first = stood-at place_of need_of g events f seen operations lane o stepped.Wrote t lane.stage refl in
-      let at = fill-fills place_of need_of t.e f seen events first.state held first.added r v lane.stage
+      let at = fill-fills place_of need_of t.e f seen events first.position held first.added r v lane.stage
       (doing-here place_of need_of g events f seen operations lane o stepped.Wrote t lane.stage refl) in
       let stood = stood-at place_of need_of g events f seen operations lane o stepped.Wrote t (stage.Filling at.0) at.1 in
       let doing = doing-here place_of need_of g events f seen operations lane o stepped.Wrote t (stage.Filling at.0) at.1 in
       let found = block-in place_of need_of lane.registers.items r doing.0 doing.2 in
-      let ends = is-written place_of need_of t.e f seen events stood.state held stood.added doing.0 at.0 v doing.3 t.stepped in
+      let ends = is-written place_of need_of t.e f seen events stood.position held stood.added doing.0 at.0 v doing.3 t.stepped in
       let spares = spares-ended t.e f (ended.wrote doing.0.place at.0 ((v + at.0) % 2 ^ 64)) seen events [] held ends (λ q other full. tt) in
       record {
         i = at.0;
@@ -261,14 +261,14 @@ module _ {B : Type 0} (place_of : B → ℕ) (need_of : B → Need) (g : Geometr
         (owns-by place_of need_of g events f seen operations lane o stepped.Wrote t (place_of w.block) (need_of w.block) w.owned) in
         let stood = stood-at place_of need_of g events f seen operations lane o stepped.Wrote t (stage.Filling w.i) w.filling in
         let doing = doing-here place_of need_of g events f seen operations lane o stepped.Wrote t (stage.Filling w.i) w.filling in
-        let size : length stood.state.registers ≡ REGISTERS =
-        sym (length-set stood.state.registers r (Some doing.0)) ∙ ap length (sym doing.2) ∙ stood.size in
+        let size : length stood.position.registers ≡ REGISTERS =
+        sym (length-set stood.position.registers r (Some doing.0)) ∙ ap length (sym doing.2) ∙ stood.size in
         let was : held_in held r ≡ Some doing.0 =
-        ap (λ rs. held_in rs r) doing.2 ∙ held-here stood.state.registers r doing.0 (omega arith) in
+        ap (λ rs. held_in rs r) doing.2 ∙ held-here stood.position.registers r doing.0 (omega arith) in
         let full : held_in held r ≡ Some (held_by place_of need_of w.block) = slot-full place_of need_of lane.registers.items r w.block w.full in
         let same : held_by place_of need_of w.block ≡ doing.0 =
         let s : Some (held_by place_of need_of w.block) ≡ Some doing.0 = sym full ∙ was in cc in
-        let by = given-by place_of need_of t.e f seen events stood.state held stood.added r need v w.i w.block doing same in
+        let by = given-by place_of need_of t.e f seen events stood.position held stood.added r need v w.i w.block doing same in
         let goes = alloc-goes_so place_of need_of g t.e f seen events operations held lane.outcomes.items
         (heap place_of need_of g events f seen operations lane o stepped.Wrote t)
         (served-now place_of need_of g events f seen operations lane o stepped.Wrote t) t.next.0 (begun_by f call) r need v w.i (need_of w.block)
@@ -292,14 +292,14 @@ module _ {B : Type 0} (place_of : B → ℕ) (need_of : B → Need) (g : Geometr
         let w = alloc-written r need v within t in
         let stood = stood-at place_of need_of g events f seen operations lane o stepped.Wrote t (stage.Filling w.i) w.filling in
         let doing = doing-here place_of need_of g events f seen operations lane o stepped.Wrote t (stage.Filling w.i) w.filling in
-        let size : length stood.state.registers ≡ REGISTERS =
-        sym (length-set stood.state.registers r (Some doing.0)) ∙ ap length (sym doing.2) ∙ stood.size in
+        let size : length stood.position.registers ≡ REGISTERS =
+        sym (length-set stood.position.registers r (Some doing.0)) ∙ ap length (sym doing.2) ∙ stood.size in
         let was : held_in held r ≡ Some doing.0 =
-        ap (λ rs. held_in rs r) doing.2 ∙ held-here stood.state.registers r doing.0 (omega arith) in
+        ap (λ rs. held_in rs r) doing.2 ∙ held-here stood.position.registers r doing.0 (omega arith) in
         let full : held_in held r ≡ Some (held_by place_of need_of w.block) = slot-full place_of need_of lane.registers.items r w.block w.full in
         let same : held_by place_of need_of w.block ≡ doing.0 =
         let s : Some (held_by place_of need_of w.block) ≡ Some doing.0 = sym full ∙ was in cc in
-        let by = given-by place_of need_of t.e f seen events stood.state held stood.added r need v w.i w.block doing same in
+        let by = given-by place_of need_of t.e f seen events stood.position held stood.added r need v w.i w.block doing same in
         let result : Outcome = outcome.Given (usable_words (need_of w.block)) (place_of w.block) in
         let ends = alloc-ends_given place_of need_of g t.e f seen events operations held lane.outcomes.items
         (heap place_of need_of g events f seen operations lane o stepped.Wrote t)
@@ -329,7 +329,7 @@ module _ {B : Type 0} (place_of : B → ℕ) (need_of : B → Need) (g : Geometr
         let full : held_in held r ≡ Some (held_by place_of need_of w.block) = slot-full place_of need_of lane.registers.items r w.block w.full in
         let same : held_by place_of need_of w.block ≡ doing.0 =
         let s : Some (held_by place_of need_of w.block) ≡ Some doing.0 = sym full ∙ doing.2 in cc in
-        let D : Held → Type 0 = λ (h : Held). (held ≡ stood.state.registers) × (held_in held r ≡ Some h) × IsWriting t.e.caller t.e.point h w.i v
+        let D : Held → Type 0 = λ (h : Held). (held ≡ stood.position.registers) × (held_in held r ≡ Some h) × IsWriting t.e.caller t.e.point h w.i v
         × (stood.added ≡ take_events w.i (filling t.e.caller h.place h.words v)) in
         let by : D (held_by place_of need_of w.block) = subst D (sym same) (doing.1, doing.2, doing.3, doing.4) in
         let goes = fill-goes_so place_of need_of g t.e f seen events operations held lane.outcomes.items

@@ -25,7 +25,7 @@ use Rattle.lane_outcomes.specs.declared.registers.Held.{Held}
 use Rattle.lane_outcomes.specs.declared.outcome.Outcome.{Outcome}
 use Rattle.lane_outcomes.specs.declared.outcome.Outcome.TheVariants as outcome
 use Rattle.lane_outcomes.specs.Fits.{Walks}
-use Rattle.lane_outcomes.specs.Lane.{State, start, registers_after, spent_after, state_after}
+use Rattle.lane_outcomes.specs.Lane.{Position, start, registers_after, spent_after, position_after}
 use Rattle.lane_outcomes.specs.Rows.{FitsRow, Setting}
 use Rattle.lane_outcomes.specs.Standing.{HoldsOwn, setting_in}
 use Rattle.lane_outcomes.proofs.FollowLemmas.{FollowsAt, IsStill, at-step, at-stills}
@@ -85,14 +85,14 @@ later-same g e events legal =
 pub lane-goes :
     (g : Geometry) (caller : ℕ) (before after : List Event) (e f : ErrandFields) (operations : List Op) (registers now : List (Option Held))
     (results : List Outcome) (at to : Stage) (added : List Event) (lane : IsLane g caller before e operations registers results at)
-    → IsLater g e f before after → own caller after ≡ lane.state.done ++ added
-    → IsAt caller after f lane.state now (drop (length results) operations) to added → length now ≡ REGISTERS
+    → IsLater g e f before after → own caller after ≡ lane.position.done ++ added
+    → IsAt caller after f lane.position now (drop (length results) operations) to added → length now ≡ REGISTERS
     → HoldsOwn (pool_of after) caller now → IsLane g caller after f operations now results to
 lane-goes g caller before after e f operations registers now results at to added lane later own_is stands size holds =
     record {
-      state = lane.state;
+      position = lane.position;
       within = lane.within;
-      walks = walks-on before after later.rest caller g.turn_limit e.lost f.lost start lane.state (take (length results) operations) results later.seen
+      walks = walks-on before after later.rest caller g.turn_limit e.lost f.lost start lane.position (take (length results) operations) results later.seen
           later.lost lane.walks;
       added = added;
       own_events = own_is;
@@ -124,11 +124,11 @@ from-size registers [] (result ∷ results) = refl
 from-size registers (operation ∷ operations) (result ∷ results) =
     from-size (registers_after registers operation result) operations results ∙ registers-size registers operation result
 
-pub state-size :
+pub position-size :
     (g : Geometry) (caller : ℕ) (events : List Event) (e : ErrandFields) (operations : List Op) (registers : List (Option Held))
     (results : List Outcome) (at : Stage) (lane : IsLane g caller events e operations registers results at)
-    → length lane.state.registers ≡ REGISTERS
-state-size g caller events e operations registers results at lane =
+    → length lane.position.registers ≡ REGISTERS
+position-size g caller events e operations registers results at lane =
     ap length (lane-stood g caller events e operations registers results at lane) ∙ from-size empty operations results
     ∙ length-replicate {A = Option Held} REGISTERS None
 
@@ -143,37 +143,37 @@ pub lane-ends :
     (g : Geometry) (caller : ℕ) (before after : List Event) (e f : ErrandFields) (operations : List Op) (registers now : List (Option Held))
     (results : List Outcome) (at : Stage) (operation : Op) (rest : List Op) (result : Outcome) (piece : List Event)
     (lane : IsLane g caller before e operations registers results at) → drop (length results) operations ≡ operation ∷ rest
-    → IsLater g e f before after → IsIdle f → own caller after ≡ lane.state.done ++ piece
-    → FitsRow (setting_in after caller g.turn_limit f.lost) lane.state operation result piece
-    → now ≡ registers_after lane.state.registers operation result → (result ≡ outcome.Spent → f.turns ≡ g.turn_limit)
+    → IsLater g e f before after → IsIdle f → own caller after ≡ lane.position.done ++ piece
+    → FitsRow (setting_in after caller g.turn_limit f.lost) lane.position operation result piece
+    → now ≡ registers_after lane.position.registers operation result → (result ≡ outcome.Spent → f.turns ≡ g.turn_limit)
     → IsLane g caller after f operations now (results ++ result ∷ []) stage.Between
 lane-ends g caller before after e f operations registers now results at operation rest result piece lane next later idle own_is row now_is spent =
     let setting = setting_in after caller g.turn_limit f.lost in
-    let state : State = state_after lane.state operation result piece in
+    let position : Position = position_after lane.position operation result piece in
     let longer : length (results ++ result ∷ []) ≡ suc (length results) = length-append results (result ∷ []) ∙ omega arith in
     let first : take (length (results ++ result ∷ [])) operations ≡ take (length results) operations ++ operation ∷ [] =
     ap (λ n. take n operations) longer ∙ take-next (length results) operations operation rest next in
-    let walked : Walks setting start (take (length results) operations) results lane.state =
-    walks-on before after later.rest caller g.turn_limit e.lost f.lost start lane.state (take (length results) operations) results later.seen later.lost
+    let walked : Walks setting start (take (length results) operations) results lane.position =
+    walks-on before after later.rest caller g.turn_limit e.lost f.lost start lane.position (take (length results) operations) results later.seen later.lost
     lane.walks in
-    let walks : Walks setting start (take (length results) operations ++ operation ∷ []) (results ++ result ∷ []) state =
-    walks-more setting start lane.state (take (length results) operations) results operation result piece walked row in
-    let holds : HoldsOwn (pool_of after) caller (registers_after lane.state.registers operation result) =
-    registers-hold g setting (take (length results) operations ++ operation ∷ []) (results ++ result ∷ []) state (legal-weaker g after later.legal) walks
+    let walks : Walks setting start (take (length results) operations ++ operation ∷ []) (results ++ result ∷ []) position =
+    walks-more setting start lane.position (take (length results) operations) results operation result piece walked row in
+    let holds : HoldsOwn (pool_of after) caller (registers_after lane.position.registers operation result) =
+    registers-hold g setting (take (length results) operations ++ operation ∷ []) (results ++ result ∷ []) position (legal-weaker g after later.legal) walks
     (record { before = after; begins = ([], sym (append-nil after)); own_done = own_is }) in
     record {
-      state = state;
+      position = position;
       within = let below = here-below operations rest results operation next in omega arith;
-      walks = subst (λ ops. Walks setting start ops (results ++ result ∷ []) state) (sym first) walks;
+      walks = subst (λ ops. Walks setting start ops (results ++ result ∷ []) position) (sym first) walks;
       added = [];
-      own_events = own_is ∙ sym (append-nil (lane.state.done ++ piece));
+      own_events = own_is ∙ sym (append-nil (lane.position.done ++ piece));
       stands = (idle, now_is, refl);
       size =
-          ap length now_is ∙ registers-size lane.state.registers operation result
-          ∙ state-size g caller before e operations registers results at lane;
+          ap length now_is ∙ registers-size lane.position.registers operation result
+          ∙ position-size g caller before e operations registers results at lane;
       holds = subst (HoldsOwn (pool_of after) caller) (sym now_is) holds;
-      answered = answered-row setting lane.state operation result piece row lane.answered;
-      spent = spent-still lane.state.spent result (f.turns ≡ g.turn_limit) (λ is. later.at_limit (lane.spent is)) spent;
+      answered = answered-row setting lane.position operation result piece row lane.answered;
+      spent = spent-still lane.position.spent result (f.turns ≡ g.turn_limit) (λ is. later.at_limit (lane.spent is)) spent;
     }
 
 -- the events of an allocation that is given a block: looks, and then the event
@@ -194,11 +194,11 @@ given-by caller need place TooLarge events giving = absurd giving
 
 -- with the block that an allocation is given the registers hold the caller's blocks, and no two the same one
 pub given-holds :
-    (g : Geometry) (setting : Setting) (operations : List Op) (results : List Outcome) (state : State) (r need place words : ℕ) (calls : List Event)
-    → IsLegal g setting.history → Walks setting start operations results state → own setting.caller setting.history ≡ state.done ++ calls
+    (g : Geometry) (setting : Setting) (operations : List Op) (results : List Outcome) (position : Position) (r need place words : ℕ) (calls : List Event)
+    → IsLegal g setting.history → Walks setting start operations results position → own setting.caller setting.history ≡ position.done ++ calls
     → IsGiving setting.caller need place (need_of need) calls → words ≡ usable_words (need_of need)
-    → HoldsOwn (pool_of setting.history) setting.caller (slice_set state.registers r (Some (record { place = place; words = words })))
-given-holds g setting operations results state r need place words calls legal walks own_is giving words_are =
+    → HoldsOwn (pool_of setting.history) setting.caller (slice_set position.registers r (Some (record { place = place; words = words })))
+given-holds g setting operations results position r need place words calls legal walks own_is giving words_are =
     let history = setting.history in
     let caller = setting.caller in
     let f = λ (w : ℕ). w in
@@ -210,14 +210,14 @@ given-holds g setting operations results state r need place words calls legal wa
       given_is = tally-none (give_at f) caller [] before none;
       freed_is = tally-none (free_at f) caller [] before none;
     } in
-    let at_begin = walk-after f g setting start state operations results 0 0 weaker walks at_start in
-    let at_looked = at-stills f g history caller state.done by.looked state.registers _ _ weaker by.stills at_begin in
-    let set : List (Option Held) = slice_set state.registers r (Some (record { place = place; words = words })) in
-    let at_given = at-step f g history caller (state.done ++ by.looked) (Alloc caller need place) state.registers set _ _ _ _ weaker refl
+    let at_begin = walk-after f g setting start position operations results 0 0 weaker walks at_start in
+    let at_looked = at-stills f g history caller position.done by.looked position.registers _ _ weaker by.stills at_begin in
+    let set : List (Option Held) = slice_set position.registers r (Some (record { place = place; words = words })) in
+    let at_given = at-step f g history caller (position.done ++ by.looked) (Alloc caller need place) position.registers set _ _ _ _ weaker refl
     (λ before legal_here begins own_here holds. record {
-      holds = holds-fresh g before caller need place words r state.registers legal_here words_are holds;
+      holds = holds-fresh g before caller need place words r position.registers legal_here words_are holds;
       given_is = refl;
       freed_is = refl;
     }) at_looked in
     (at_given history ([], sym (append-nil history))
-    (own_is ∙ ap (λ xs. state.done ++ xs) by.whole ∙ sym (append_assoc state.done by.looked (Alloc caller need place ∷ [])))).holds
+    (own_is ∙ ap (λ xs. position.done ++ xs) by.whole ∙ sym (append_assoc position.done by.looked (Alloc caller need place ∷ [])))).holds

@@ -20,7 +20,7 @@ use Rattle.lane_outcomes.specs.declared.registers.Held.{Held}
 use Rattle.lane_outcomes.specs.declared.outcome.Outcome.{Outcome}
 use Rattle.lane_outcomes.specs.declared.outcome.Outcome.TheVariants as outcome
 use Rattle.lane_outcomes.specs.Fits.{Walks}
-use Rattle.lane_outcomes.specs.Lane.{State, start, held_in, registers_after, state_after}
+use Rattle.lane_outcomes.specs.Lane.{Position, start, held_in, registers_after, position_after}
 use Rattle.lane_outcomes.specs.Rows.{Setting}
 use Rattle.lane_steps.specs.declared.stage.Stage.{Stage}
 use Rattle.lane_steps.specs.declared.stage.Stage.TheVariants as stage
@@ -44,13 +44,13 @@ drop-below (suc n) (first ∷ operations) operation rest next = let below = drop
 
 -- the registers after operations with these outcomes are those of a walk
 pub walks-registers :
-    (setting : Setting) (from to : State) (operations : List Op) (results : List Outcome) → Walks setting from operations results to
+    (setting : Setting) (from to : Position) (operations : List Op) (results : List Outcome) → Walks setting from operations results to
     → to.registers ≡ registers_from from.registers operations results
-walks-registers setting from to [] [] walks = ap (λ (s : State). s.registers) walks
+walks-registers setting from to [] [] walks = ap (λ (s : Position). s.registers) walks
 walks-registers setting from to [] (result ∷ results) walks = absurd walks
 walks-registers setting from to (operation ∷ operations) [] walks = absurd walks
 walks-registers setting from to (operation ∷ operations) (result ∷ results) walks =
-    walks-registers setting (state_after from operation result walks.0) to operations results walks.2
+    walks-registers setting (position_after from operation result walks.0) to operations results walks.2
 
 -- the operations behind those with outcomes don't count for them
 registers-cut :
@@ -99,14 +99,14 @@ pub record IsHere (operations : List Op) (results : List Outcome) (operation : O
 pub lane-stood :
     (g : Geometry) (caller : ℕ) (events : List Event) (e : ErrandFields) (operations : List Op) (registers : List (Option Held))
     (results : List Outcome) (at : Stage) (lane : IsLane g caller events e operations registers results at)
-    → lane.state.registers ≡ registers_from empty operations results
+    → lane.position.registers ≡ registers_from empty operations results
 lane-stood g caller events e operations registers results at lane =
-    walks-registers _ start lane.state (take (length results) operations) results lane.walks ∙ registers-cut empty operations results
+    walks-registers _ start lane.position (take (length results) operations) results lane.walks ∙ registers-cut empty operations results
 
 pub lane-here :
     (g : Geometry) (caller : ℕ) (events : List Event) (e : ErrandFields) (operations : List Op) (registers : List (Option Held))
     (results : List Outcome) (at : Stage) (operation : Op) (rest : List Op) (lane : IsLane g caller events e operations registers results at)
-    → drop (length results) operations ≡ operation ∷ rest → IsHere operations results operation lane.state.registers
+    → drop (length results) operations ≡ operation ∷ rest → IsHere operations results operation lane.position.registers
 lane-here g caller events e operations registers results at operation rest lane next =
     record { rest = rest; next = next; stood = lane-stood g caller events e operations registers results at lane }
 

@@ -26,7 +26,7 @@ use Rattle.trace_text.specs.declared.trace.Op.TheVariants as op
 use Rattle.lane_outcomes.specs.declared.registers.Held.{Held}
 use Rattle.lane_outcomes.specs.declared.outcome.Outcome.{Outcome}
 use Rattle.lane_outcomes.specs.declared.outcome.Outcome.TheVariants as outcome
-use Rattle.lane_outcomes.specs.Lane.{State, answered_after, filling, held_in, is_small}
+use Rattle.lane_outcomes.specs.Lane.{Position, answered_after, filling, held_in, is_small}
 use Rattle.lane_outcomes.specs.Rows.{AllocRow, CheckRow, FillRow, FitsRow, FreeRow, IsSpent, MayAsk, Moment, PutRow, Setting, TakeRow, gives_another_small}
 use Rattle.lane_outcomes.specs.Standing.{setting_in}
 use Rattle.lane_outcomes.proofs.FillLemmas.{writes}
@@ -114,10 +114,10 @@ spending-count caller (Large units) piece spending = absurd spending
 spending-count caller TooLarge piece spending = absurd spending
 
 spent-count :
-    (setting : Setting) (state : State) (need : ℕ) (piece : List Event) (spent : Bool) → IsSpent setting state need piece spent
+    (setting : Setting) (position : Position) (need : ℕ) (piece : List Event) (spent : Bool) → IsSpent setting position need piece spent
     → answered_in setting.caller piece ≡ 0
-spent-count setting state need piece true row = ap (answered_in setting.caller) row.1
-spent-count setting state need piece false row = spending-count setting.caller (need_of need) piece row.0
+spent-count setting position need piece true row = ap (answered_in setting.caller) row.1
+spent-count setting position need piece false row = spending-count setting.caller (need_of need) piece row.0
 
 -- a piece that has so many answers
 piece-count :
@@ -135,93 +135,93 @@ counted true answered = omega arith
 counted false answered = omega arith
 
 alloc-answered :
-    (setting : Setting) (state : State) (r need v : ℕ) (held : Option Held) (result : Outcome) (piece : List Event)
-    → AllocRow setting state need v held result piece → state.answered ≡ answered_in setting.caller state.done
-    → answered_after state.answered (op.Alloc r need v) result ≡ answered_in setting.caller (state.done ++ piece)
-alloc-answered setting state r need v (Some held) outcome.Skipped piece row so_far =
-    piece-none setting.caller state.done piece state.answered so_far (ap (answered_in setting.caller) row)
-alloc-answered setting state r need v None (outcome.Given words place) piece row so_far =
+    (setting : Setting) (position : Position) (r need v : ℕ) (held : Option Held) (result : Outcome) (piece : List Event)
+    → AllocRow setting position need v held result piece → position.answered ≡ answered_in setting.caller position.done
+    → answered_after position.answered (op.Alloc r need v) result ≡ answered_in setting.caller (position.done ++ piece)
+alloc-answered setting position r need v (Some held) outcome.Skipped piece row so_far =
+    piece-none setting.caller position.done piece position.answered so_far (ap (answered_in setting.caller) row)
+alloc-answered setting position r need v None (outcome.Given words place) piece row so_far =
     let caller = setting.caller in
     let gives = giving-count caller need place (need_of need) row.2 row.3 in
     let fills = writes-none caller words 0 caller place v in
     let all = answered-append caller row.2 (filling caller place words v) in
     let count : answered_in caller piece ≡ one_if (nat_le need SMALL_MOST) = ap (answered_in caller) row.4 ∙ omega arith in
-    ap (λ b. if b then suc state.answered else state.answered) (small-need need) ∙ counted (nat_le need SMALL_MOST) state.answered
-    ∙ piece-count caller state.done piece state.answered (one_if (nat_le need SMALL_MOST)) so_far count
-alloc-answered setting state r need v None outcome.Refused piece row so_far =
-    ap (λ b. if b then suc state.answered else state.answered) (small-need need) ∙ counted (nat_le need SMALL_MOST) state.answered
-    ∙ piece-count setting.caller state.done piece state.answered (one_if (nat_le need SMALL_MOST)) so_far
+    ap (λ b. if b then suc position.answered else position.answered) (small-need need) ∙ counted (nat_le need SMALL_MOST) position.answered
+    ∙ piece-count caller position.done piece position.answered (one_if (nat_le need SMALL_MOST)) so_far count
+alloc-answered setting position r need v None outcome.Refused piece row so_far =
+    ap (λ b. if b then suc position.answered else position.answered) (small-need need) ∙ counted (nat_le need SMALL_MOST) position.answered
+    ∙ piece-count setting.caller position.done piece position.answered (one_if (nat_le need SMALL_MOST)) so_far
     (refusing-count setting.caller need (need_of need) piece row.1)
-alloc-answered setting state r need v None outcome.Spent piece row so_far =
-    piece-none setting.caller state.done piece state.answered so_far (spent-count setting state need piece state.spent row)
-alloc-answered setting state r need v held result piece row so_far = absurd row
+alloc-answered setting position r need v None outcome.Spent piece row so_far =
+    piece-none setting.caller position.done piece position.answered so_far (spent-count setting position need piece position.spent row)
+alloc-answered setting position r need v held result piece row so_far = absurd row
 
 free-answered :
-    (setting : Setting) (state : State) (r : ℕ) (held : Option Held) (result : Outcome) (piece : List Event) → FreeRow setting held result piece
-    → state.answered ≡ answered_in setting.caller state.done
-    → answered_after state.answered (op.Free r) result ≡ answered_in setting.caller (state.done ++ piece)
-free-answered setting state r None outcome.Skipped piece row so_far =
-    piece-none setting.caller state.done piece state.answered so_far (ap (answered_in setting.caller) row)
-free-answered setting state r (Some held) outcome.Freed piece row so_far =
-    piece-none setting.caller state.done piece state.answered so_far (ap (answered_in setting.caller) row)
-free-answered setting state r held result piece row so_far = absurd row
+    (setting : Setting) (position : Position) (r : ℕ) (held : Option Held) (result : Outcome) (piece : List Event) → FreeRow setting held result piece
+    → position.answered ≡ answered_in setting.caller position.done
+    → answered_after position.answered (op.Free r) result ≡ answered_in setting.caller (position.done ++ piece)
+free-answered setting position r None outcome.Skipped piece row so_far =
+    piece-none setting.caller position.done piece position.answered so_far (ap (answered_in setting.caller) row)
+free-answered setting position r (Some held) outcome.Freed piece row so_far =
+    piece-none setting.caller position.done piece position.answered so_far (ap (answered_in setting.caller) row)
+free-answered setting position r held result piece row so_far = absurd row
 
 fill-answered :
-    (setting : Setting) (state : State) (r v : ℕ) (held : Option Held) (result : Outcome) (piece : List Event)
-    → FillRow setting v held result piece → state.answered ≡ answered_in setting.caller state.done
-    → answered_after state.answered (op.Fill r v) result ≡ answered_in setting.caller (state.done ++ piece)
-fill-answered setting state r v None outcome.Skipped piece row so_far =
-    piece-none setting.caller state.done piece state.answered so_far (ap (answered_in setting.caller) row)
-fill-answered setting state r v (Some held) outcome.Filled piece row so_far =
-    piece-none setting.caller state.done piece state.answered so_far
+    (setting : Setting) (position : Position) (r v : ℕ) (held : Option Held) (result : Outcome) (piece : List Event)
+    → FillRow setting v held result piece → position.answered ≡ answered_in setting.caller position.done
+    → answered_after position.answered (op.Fill r v) result ≡ answered_in setting.caller (position.done ++ piece)
+fill-answered setting position r v None outcome.Skipped piece row so_far =
+    piece-none setting.caller position.done piece position.answered so_far (ap (answered_in setting.caller) row)
+fill-answered setting position r v (Some held) outcome.Filled piece row so_far =
+    piece-none setting.caller position.done piece position.answered so_far
     (ap (answered_in setting.caller) row ∙ writes-none setting.caller held.words 0 setting.caller held.place v)
-fill-answered setting state r v held result piece row so_far = absurd row
+fill-answered setting position r v held result piece row so_far = absurd row
 
 check-answered :
-    (setting : Setting) (state : State) (r : ℕ) (held : Option Held) (result : Outcome) (piece : List Event)
-    → CheckRow setting state held result piece → state.answered ≡ answered_in setting.caller state.done
-    → answered_after state.answered (op.Check r) result ≡ answered_in setting.caller (state.done ++ piece)
-check-answered setting state r None outcome.Skipped piece row so_far =
-    piece-none setting.caller state.done piece state.answered so_far (ap (answered_in setting.caller) row)
-check-answered setting state r (Some held) (outcome.Sum total) piece row so_far =
-    piece-none setting.caller state.done piece state.answered so_far (ap (answered_in setting.caller) row.0)
-check-answered setting state r held result piece row so_far = absurd row
+    (setting : Setting) (position : Position) (r : ℕ) (held : Option Held) (result : Outcome) (piece : List Event)
+    → CheckRow setting position held result piece → position.answered ≡ answered_in setting.caller position.done
+    → answered_after position.answered (op.Check r) result ≡ answered_in setting.caller (position.done ++ piece)
+check-answered setting position r None outcome.Skipped piece row so_far =
+    piece-none setting.caller position.done piece position.answered so_far (ap (answered_in setting.caller) row)
+check-answered setting position r (Some held) (outcome.Sum total) piece row so_far =
+    piece-none setting.caller position.done piece position.answered so_far (ap (answered_in setting.caller) row.0)
+check-answered setting position r held result piece row so_far = absurd row
 
 put-answered :
-    (setting : Setting) (state : State) (r shelf : ℕ) (held : Option Held) (result : Outcome) (piece : List Event)
-    → PutRow setting state shelf held result piece → state.answered ≡ answered_in setting.caller state.done
-    → answered_after state.answered (op.Put r shelf) result ≡ answered_in setting.caller (state.done ++ piece)
-put-answered setting state r shelf None outcome.Skipped piece row so_far =
-    piece-none setting.caller state.done piece state.answered so_far (ap (answered_in setting.caller) row)
-put-answered setting state r shelf (Some held) outcome.Put piece row so_far =
-    piece-none setting.caller state.done piece state.answered so_far (ap (answered_in setting.caller) row)
-put-answered setting state r shelf (Some held) outcome.ShelfFull piece row so_far =
-    piece-none setting.caller state.done piece state.answered so_far (ap (answered_in setting.caller) row.0)
-put-answered setting state r shelf held result piece row so_far = absurd row
+    (setting : Setting) (position : Position) (r shelf : ℕ) (held : Option Held) (result : Outcome) (piece : List Event)
+    → PutRow setting position shelf held result piece → position.answered ≡ answered_in setting.caller position.done
+    → answered_after position.answered (op.Put r shelf) result ≡ answered_in setting.caller (position.done ++ piece)
+put-answered setting position r shelf None outcome.Skipped piece row so_far =
+    piece-none setting.caller position.done piece position.answered so_far (ap (answered_in setting.caller) row)
+put-answered setting position r shelf (Some held) outcome.Put piece row so_far =
+    piece-none setting.caller position.done piece position.answered so_far (ap (answered_in setting.caller) row)
+put-answered setting position r shelf (Some held) outcome.ShelfFull piece row so_far =
+    piece-none setting.caller position.done piece position.answered so_far (ap (answered_in setting.caller) row.0)
+put-answered setting position r shelf held result piece row so_far = absurd row
 
 take-answered :
-    (setting : Setting) (state : State) (r shelf : ℕ) (held : Option Held) (result : Outcome) (piece : List Event)
-    → TakeRow setting state shelf held result piece → state.answered ≡ answered_in setting.caller state.done
-    → answered_after state.answered (op.Take r shelf) result ≡ answered_in setting.caller (state.done ++ piece)
-take-answered setting state r shelf (Some held) outcome.Skipped piece row so_far =
-    piece-none setting.caller state.done piece state.answered so_far (ap (answered_in setting.caller) row)
-take-answered setting state r shelf None outcome.ShelfEmpty piece row so_far =
-    piece-none setting.caller state.done piece state.answered so_far (ap (answered_in setting.caller) row)
-take-answered setting state r shelf None (outcome.Took words place) piece row so_far =
-    piece-none setting.caller state.done piece state.answered so_far (ap (answered_in setting.caller) row.0)
-take-answered setting state r shelf held result piece row so_far = absurd row
+    (setting : Setting) (position : Position) (r shelf : ℕ) (held : Option Held) (result : Outcome) (piece : List Event)
+    → TakeRow setting position shelf held result piece → position.answered ≡ answered_in setting.caller position.done
+    → answered_after position.answered (op.Take r shelf) result ≡ answered_in setting.caller (position.done ++ piece)
+take-answered setting position r shelf (Some held) outcome.Skipped piece row so_far =
+    piece-none setting.caller position.done piece position.answered so_far (ap (answered_in setting.caller) row)
+take-answered setting position r shelf None outcome.ShelfEmpty piece row so_far =
+    piece-none setting.caller position.done piece position.answered so_far (ap (answered_in setting.caller) row)
+take-answered setting position r shelf None (outcome.Took words place) piece row so_far =
+    piece-none setting.caller position.done piece position.answered so_far (ap (answered_in setting.caller) row.0)
+take-answered setting position r shelf held result piece row so_far = absurd row
 
 -- one operation more
 pub answered-row :
-    (setting : Setting) (state : State) (operation : Op) (result : Outcome) (piece : List Event) → FitsRow setting state operation result piece
-    → state.answered ≡ answered_in setting.caller state.done
-    → answered_after state.answered operation result ≡ answered_in setting.caller (state.done ++ piece)
-answered-row setting state (op.Alloc r need v) result piece row so_far = alloc-answered setting state r need v (held_in state.registers r) result piece row so_far
-answered-row setting state (op.Free r) result piece row so_far = free-answered setting state r (held_in state.registers r) result piece row so_far
-answered-row setting state (op.Fill r v) result piece row so_far = fill-answered setting state r v (held_in state.registers r) result piece row so_far
-answered-row setting state (op.Check r) result piece row so_far = check-answered setting state r (held_in state.registers r) result piece row so_far
-answered-row setting state (op.Put r shelf) result piece row so_far = put-answered setting state r shelf (held_in state.registers r) result piece row so_far
-answered-row setting state (op.Take r shelf) result piece row so_far = take-answered setting state r shelf (held_in state.registers r) result piece row so_far
+    (setting : Setting) (position : Position) (operation : Op) (result : Outcome) (piece : List Event) → FitsRow setting position operation result piece
+    → position.answered ≡ answered_in setting.caller position.done
+    → answered_after position.answered operation result ≡ answered_in setting.caller (position.done ++ piece)
+answered-row setting position (op.Alloc r need v) result piece row so_far = alloc-answered setting position r need v (held_in position.registers r) result piece row so_far
+answered-row setting position (op.Free r) result piece row so_far = free-answered setting position r (held_in position.registers r) result piece row so_far
+answered-row setting position (op.Fill r v) result piece row so_far = fill-answered setting position r v (held_in position.registers r) result piece row so_far
+answered-row setting position (op.Check r) result piece row so_far = check-answered setting position r (held_in position.registers r) result piece row so_far
+answered-row setting position (op.Put r shelf) result piece row so_far = put-answered setting position r shelf (held_in position.registers r) result piece row so_far
+answered-row setting position (op.Take r shelf) result piece row so_far = take-answered setting position r shelf (held_in position.registers r) result piece row so_far
 
 -- an event of another caller's is no answer to this one
 others-answer : (caller : ℕ) (event : Event) → eqb (caller_of event) caller ≡ false → answers caller event ≡ 0
@@ -282,13 +282,13 @@ given-to-all caller (event ∷ events) =
 
 -- an allocation that finds no turn left fits, where its caller has begun as many as it may
 spent-rows :
-    (setting : Setting) (state : State) (need : ℕ) (piece : List Event) (spent : Bool) → EventsOf setting.caller (alloc_spent need) piece
-    → is_small (need_of need) ≡ true → (spent ≡ true → piece ≡ []) → setting.turn_limit ≤ state.answered + setting.lost
-    → (moment : Moment setting (state.done ++ piece))
-    → setting.turn_limit ≤ state.answered + count_by (gives_another_small setting.caller) moment.before
-    → IsSpent setting state need piece spent
-spent-rows setting state need piece true events small none limit moment given = (small, none refl)
-spent-rows setting state need piece false events small none limit moment given = (events, limit, moment, given)
+    (setting : Setting) (position : Position) (need : ℕ) (piece : List Event) (spent : Bool) → EventsOf setting.caller (alloc_spent need) piece
+    → is_small (need_of need) ≡ true → (spent ≡ true → piece ≡ []) → setting.turn_limit ≤ position.answered + setting.lost
+    → (moment : Moment setting (position.done ++ piece))
+    → setting.turn_limit ≤ position.answered + count_by (gives_another_small setting.caller) moment.before
+    → IsSpent setting position need piece spent
+spent-rows setting position need piece true events small none limit moment given = (small, none refl)
+spent-rows setting position need piece false events small none limit moment given = (events, limit, moment, given)
 
 spending-small : (caller : ℕ) (n : Need) (piece : List Event) → IsSpending caller n piece → is_small n ≡ true
 spending-small caller (Small class) piece spending = refl
@@ -296,26 +296,26 @@ spending-small caller (Large units) piece spending = absurd spending
 spending-small caller TooLarge piece spending = absurd spending
 
 pub spent-row :
-    (g : Geometry) (caller : ℕ) (after : List Event) (f : ErrandFields) (state : State) (r need v : ℕ) (piece : List Event)
-    → IsServed g caller f after → IsIdle f → f.turns ≡ g.turn_limit → own caller after ≡ state.done ++ piece
-    → state.answered ≡ answered_in caller state.done → EventsOf caller (alloc_spent need) piece → (state.spent ≡ true → piece ≡ [])
-    → held_in state.registers r ≡ None
-    → FitsRow (setting_in after caller g.turn_limit f.lost) state (op.Alloc r need v) outcome.Spent piece
-spent-row g caller after f state r need v piece served idle limit own_is answered events none empty =
+    (g : Geometry) (caller : ℕ) (after : List Event) (f : ErrandFields) (position : Position) (r need v : ℕ) (piece : List Event)
+    → IsServed g caller f after → IsIdle f → f.turns ≡ g.turn_limit → own caller after ≡ position.done ++ piece
+    → position.answered ≡ answered_in caller position.done → EventsOf caller (alloc_spent need) piece → (position.spent ≡ true → piece ≡ [])
+    → held_in position.registers r ≡ None
+    → FitsRow (setting_in after caller g.turn_limit f.lost) position (op.Alloc r need v) outcome.Spent piece
+spent-row g caller after f position r need v piece served idle limit own_is answered events none empty =
     let stage = point-answered f.point idle in
     let seen = answered-own caller after in
-    let told : answered_in caller (own caller after) ≡ answered_in caller (state.done ++ piece) = ap (answered_in caller) own_is in
-    let more = answered-append caller state.done piece in
+    let told : answered_in caller (own caller after) ≡ answered_in caller (position.done ++ piece) = ap (answered_in caller) own_is in
+    let more = answered-append caller position.done piece in
     let nothing = spending-count caller (need_of need) piece events in
     let by_lost = served.by_lost in
-    let few : g.turn_limit ≤ state.answered + f.lost = omega arith in
+    let few : g.turn_limit ≤ position.answered + f.lost = omega arith in
     let by_given = served.by_given in
     let parts = given-to-all caller after in
-    let given : g.turn_limit ≤ state.answered + count_by (gives_another_small caller) after = omega arith in
-    let moment : Moment (setting_in after caller g.turn_limit f.lost) (state.done ++ piece) =
+    let given : g.turn_limit ≤ position.answered + count_by (gives_another_small caller) after = omega arith in
+    let moment : Moment (setting_in after caller g.turn_limit f.lost) (position.done ++ piece) =
     record { before = after; begins = ([], sym (append-nil after)); own_done = own_is } in
-    subst (λ h. AllocRow (setting_in after caller g.turn_limit f.lost) state need v h outcome.Spent piece) (sym empty)
-    (spent-rows (setting_in after caller g.turn_limit f.lost) state need piece state.spent events (spending-small caller (need_of need) piece events) none few moment given)
+    subst (λ h. AllocRow (setting_in after caller g.turn_limit f.lost) position need v h outcome.Spent piece) (sym empty)
+    (spent-rows (setting_in after caller g.turn_limit f.lost) position need piece position.spent events (spending-small caller (need_of need) piece events) none few moment given)
 
 -- a lane that is spent is answered so: so an allocation that starts may ask
 started-asks :
@@ -328,16 +328,16 @@ started-asks e (Large units) spent limit starts = refl
 started-asks e TooLarge spent limit starts = refl
 
 pub may-ask :
-    (e : ErrandFields) (state : State) (need : ℕ) → (state.spent ≡ true → e.turns ≡ e.geometry.turn_limit)
-    → alloc_answer e need ≡ begun.Started → MayAsk state need
-may-ask e state need limit starts =
-    started-asks e (need_of need) state.spent (λ is. eq-eqb e.turns e.geometry.turn_limit (limit is)) starts
+    (e : ErrandFields) (position : Position) (need : ℕ) → (position.spent ≡ true → e.turns ≡ e.geometry.turn_limit)
+    → alloc_answer e need ≡ begun.Started → MayAsk position need
+may-ask e position need limit starts =
+    started-asks e (need_of need) position.spent (λ is. eq-eqb e.turns e.geometry.turn_limit (limit is)) starts
 
 -- one that may ask and ends spent was not spent before
 pub asked-unspent :
-    (state : State) (need caller : ℕ) (piece : List Event) → MayAsk state need → EventsOf caller (alloc_spent need) piece
-    → state.spent ≡ true → piece ≡ []
-asked-unspent state need caller piece asks events spent =
+    (position : Position) (need caller : ℕ) (piece : List Event) → MayAsk position need → EventsOf caller (alloc_spent need) piece
+    → position.spent ≡ true → piece ≡ []
+asked-unspent position need caller piece asks events spent =
     let small = spending-small caller (need_of need) piece events in
-    let both : (is_small (need_of need) && state.spent) ≡ true = rw (small, spent) refl in
+    let both : (is_small (need_of need) && position.spent) ≡ true = rw (small, spent) refl in
     absurd (true≢false (sym both ∙ asks))

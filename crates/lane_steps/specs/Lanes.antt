@@ -12,28 +12,28 @@ use Rattle.trace_text.specs.declared.trace.Op.{Op}
 use Rattle.lane_outcomes.specs.declared.registers.Held.{Held}
 use Rattle.lane_outcomes.specs.declared.outcome.Outcome.{Outcome}
 use Rattle.lane_outcomes.specs.Fits.{Walks}
-use Rattle.lane_outcomes.specs.Lane.{State, start}
+use Rattle.lane_outcomes.specs.Lane.{Position, start}
 use Rattle.lane_outcomes.specs.Standing.{HoldsOwn, setting_in}
 use Rattle.lane_steps.specs.declared.stage.Stage.{Stage}
 use Rattle.lane_steps.specs.declared.stage.Stage.TheVariants as stage
 use Rattle.lane_steps.specs.Operations.{IsDoing}
 
 -- between two operations nothing is under way; else the next one of the script is
-abbrev pub IsAt : ℕ → List Event → ErrandFields → State → List (Option Held) → List Op → Stage → List Event → Type 0
-IsAt caller events e state registers operations stage.Between added = IsIdle e × (registers ≡ state.registers) × (added ≡ [])
-IsAt caller events e state registers operations stage added =
+abbrev pub IsAt : ℕ → List Event → ErrandFields → Position → List (Option Held) → List Op → Stage → List Event → Type 0
+IsAt caller events e position registers operations stage.Between added = IsIdle e × (registers ≡ position.registers) × (added ≡ [])
+IsAt caller events e position registers operations stage added =
     (operation : Op) × (rest : List Op) × (operations ≡ operation ∷ rest)
-    × IsDoing caller (pool_of events) e.point state registers operation stage added
+    × IsDoing caller (pool_of events) e.point position registers operation stage added
 
 -- a lane of these operations has these outcomes so far, and these registers, and is at this stage; its caller has this errand, and these events are seen: the outcomes walk the first operations, and what the caller has added beyond them belongs to the operation under way
 pub record IsLane (g : Geometry) (caller : ℕ) (events : List Event) (e : ErrandFields) (operations : List Op) (registers : List (Option Held)) (results : List Outcome) (at : Stage) : Type 0 where
-  pub state : State
+  pub position : Position
   pub within : length results ≤ length operations
-  pub walks : Walks (setting_in events caller g.turn_limit e.lost) start (take (length results) operations) results state
+  pub walks : Walks (setting_in events caller g.turn_limit e.lost) start (take (length results) operations) results position
   pub added : List Event
-  pub own_events : own caller events ≡ state.done ++ added
-  pub stands : IsAt caller events e state registers (drop (length results) operations) at added
+  pub own_events : own caller events ≡ position.done ++ added
+  pub stands : IsAt caller events e position registers (drop (length results) operations) at added
   pub size : length registers ≡ REGISTERS
   pub holds : HoldsOwn (pool_of events) caller registers
-  pub answered : state.answered ≡ count_by (gives_small caller) state.done + count_by (refuses_small caller) state.done
-  pub spent : state.spent ≡ true → e.turns ≡ g.turn_limit
+  pub answered : position.answered ≡ count_by (gives_small caller) position.done + count_by (refuses_small caller) position.done
+  pub spent : position.spent ≡ true → e.turns ≡ g.turn_limit

@@ -12,7 +12,7 @@ use Rattle.call_events.specs.UnderWay.{IsUnderWay}
 use Rattle.trace_text.specs.declared.trace.Op.{Op}
 use Rattle.trace_text.specs.declared.trace.Op.TheVariants as op
 use Rattle.lane_outcomes.specs.declared.registers.Held.{Held}
-use Rattle.lane_outcomes.specs.Lane.{State, held_in, filling}
+use Rattle.lane_outcomes.specs.Lane.{Position, held_in, filling}
 use Rattle.lane_outcomes.specs.Rows.{IsWord, MayAsk}
 use Rattle.lane_steps.specs.declared.stage.Stage.{Stage}
 use Rattle.lane_steps.specs.declared.stage.Stage.TheVariants as stage
@@ -60,22 +60,22 @@ pub record IsGivingAway (caller : ℕ) (point : Point) (before registers : List 
   pub under_way : IsUnderWay caller (call_of held.place need) point added
 
 -- an operation is under way in a lane that stood so when it began: this is its stage, these are the events that it has added, and this is what the registers hold meanwhile; the events seen leave this pool
-abbrev pub IsDoing : ℕ → Pool → Point → State → List (Option Held) → Op → Stage → List Event → Type 0
-IsDoing caller pool point state registers (op.Alloc r need v) stage.Calling added =
-    (registers ≡ state.registers) × (held_in registers r ≡ None) × MayAsk state need × IsUnderWay caller (call.alloc need) point added
-IsDoing caller pool point state registers (op.Alloc r need v) (stage.Filling next) added =
-    (held : Held) × (held_in state.registers r ≡ None) × (registers ≡ slice_set state.registers r (Some held)) × MayAsk state need
+abbrev pub IsDoing : ℕ → Pool → Point → Position → List (Option Held) → Op → Stage → List Event → Type 0
+IsDoing caller pool point position registers (op.Alloc r need v) stage.Calling added =
+    (registers ≡ position.registers) × (held_in registers r ≡ None) × MayAsk position need × IsUnderWay caller (call.alloc need) point added
+IsDoing caller pool point position registers (op.Alloc r need v) (stage.Filling next) added =
+    (held : Held) × (held_in position.registers r ≡ None) × (registers ≡ slice_set position.registers r (Some held)) × MayAsk position need
     × IsGivenAndFilling caller point held need v next added
-IsDoing caller pool point state registers (op.Free r) stage.Calling added =
-    IsGivingAway caller point state.registers registers r (λ place need. call.free place need) added
-IsDoing caller pool point state registers (op.Fill r v) (stage.Filling next) added =
-    (held : Held) × (registers ≡ state.registers) × (held_in registers r ≡ Some held) × IsWriting caller point held next v
+IsDoing caller pool point position registers (op.Free r) stage.Calling added =
+    IsGivingAway caller point position.registers registers r (λ place need. call.free place need) added
+IsDoing caller pool point position registers (op.Fill r v) (stage.Filling next) added =
+    (held : Held) × (registers ≡ position.registers) × (held_in registers r ≡ Some held) × IsWriting caller point held next v
     × (added ≡ take next (filling caller held.place held.words v))
-IsDoing caller pool point state registers (op.Check r) (stage.Summing next total) added =
-    (held : Held) × (registers ≡ state.registers) × (held_in registers r ≡ Some held) × IsSumming caller point pool held next total
+IsDoing caller pool point position registers (op.Check r) (stage.Summing next total) added =
+    (held : Held) × (registers ≡ position.registers) × (held_in registers r ≡ Some held) × IsSumming caller point pool held next total
     × (added ≡ [])
-IsDoing caller pool point state registers (op.Put r shelf) stage.Calling added =
-    IsGivingAway caller point state.registers registers r (λ place need. call.put place need shelf) added
-IsDoing caller pool point state registers (op.Take r shelf) stage.Calling added =
-    (registers ≡ state.registers) × (held_in registers r ≡ None) × IsUnderWay caller (call.take shelf) point added
-IsDoing caller pool point state registers operation stage added = ⊥
+IsDoing caller pool point position registers (op.Put r shelf) stage.Calling added =
+    IsGivingAway caller point position.registers registers r (λ place need. call.put place need shelf) added
+IsDoing caller pool point position registers (op.Take r shelf) stage.Calling added =
+    (registers ≡ position.registers) × (held_in registers r ≡ None) × IsUnderWay caller (call.take shelf) point added
+IsDoing caller pool point position registers operation stage added = ⊥

@@ -42,7 +42,7 @@ use Rattle.step_core.proofs.CoreLemmas.{run-sound, run-longer}
 use Rattle.step_core.proofs.MomentLemmas.{reached-served}
 use Rattle.live_heap.specs.declared.view.Standing.{Standing}
 use Rattle.live_heap.specs.declared.view.View.{View}
-use Rattle.live_heap.specs.Rule.{IsStanding, Stands, Kept, Holds, state_with}
+use Rattle.live_heap.specs.Rule.{IsStanding, Stands, Kept, TableHolds, state_with}
 use Rattle.live_heap.specs.Sights.{IsBegun, Saw, TakesStep, after_events, found_in}
 use Rattle.live_heap.proofs.Alone.{reached-alone}
 use Rattle.live_heap.proofs.Growing.{IsBy, starts-self, starts-more, starts-event, rest-none, own-between, own-others, wins-others}
@@ -433,7 +433,7 @@ module _ (g : Geometry) (words : List ℕ) (views : List View) (id : ℕ) (v : V
 pub may-step :
     {S : Type 0} (g : Geometry) (slots id : ℕ) (me : Me S View) (before : Standing) (e : ErrandFields) → me.0.callers ≡ before ∷ []
     → IsBegun me.0.seen before.errand e → IsBusy e
-    → Allows {S = S} (Holds g) slots id me (word_index g (name_of (plan_of e))) (after_action (plan_of e)) (λ n. Saw e n me)
+    → Allows {S = S} (TableHolds g) slots id me (word_index g (name_of (plan_of e))) (after_action (plan_of e)) (λ n. Saw e n me)
 may-step {S} g slots id me before e one b busy s h homes at small =
     let v = me.0 in (
       view_then g s.words s.views id v before e h at one b busy,
@@ -448,29 +448,29 @@ module _ {S : Type 0} (key g : Geometry) (slots id : ℕ) (me : Me S View) (befo
     (same : key ≡ g) (named : f ≡ e) (one : me.0.callers ≡ before ∷ []) (b : IsBegun me.0.seen before.errand f) (busy : IsBusy f)
     (there : index ≡ word_index g w) where
   abbrev At : Action → Type 0
-  At a = Allows {S = S} (Holds key) slots id me index (after_action a) (λ n. Saw e n me)
+  At a = Allows {S = S} (TableHolds key) slots id me index (after_action a) (λ n. Saw e n me)
 
   may : (a : Action) → name_of a ≡ w → plan_of f ≡ a → At a
   may a on is =
-      let A : Action → Type 0 = λ x. Allows {S = S} (Holds g) slots id me (word_index g (name_of x)) (after_action x) (λ n. Saw e n me) in
-      let I : ℕ → Type 0 = λ i. Allows {S = S} (Holds g) slots id me i (after_action a) (λ n. Saw e n me) in
-      let K : Geometry → Type 0 = λ k. Allows {S = S} (Holds k) slots id me index (after_action a) (λ n. Saw e n me) in
+      let A : Action → Type 0 = λ x. Allows {S = S} (TableHolds g) slots id me (word_index g (name_of x)) (after_action x) (λ n. Saw e n me) in
+      let I : ℕ → Type 0 = λ i. Allows {S = S} (TableHolds g) slots id me i (after_action a) (λ n. Saw e n me) in
+      let K : Geometry → Type 0 = λ k. Allows {S = S} (TableHolds k) slots id me index (after_action a) (λ n. Saw e n me) in
       subst K (sym same)
       (subst I (ap (word_index g) on ∙ sym there)
       (subst A (ap plan_of (sym named) ∙ is)
       (may-step g slots id me before e one (subst (IsBegun me.0.seen before.errand) named b) (subst IsBusy named busy))))
 
-  pub may-load : plan_of f ≡ Load w → Allows {S = S} (Holds key) slots id me index (λ n. n) (λ n. Saw e n me)
+  pub may-load : plan_of f ≡ Load w → Allows {S = S} (TableHolds key) slots id me index (λ n. n) (λ n. Saw e n me)
   may-load is = may (Load w) refl is
 
-  pub may-store : (x : ℕ) → plan_of f ≡ Store w x → Allows {S = S} (Holds key) slots id me index (λ _. x) (λ _ m. (k : ℕ) × Saw e k me m)
+  pub may-store : (x : ℕ) → plan_of f ≡ Store w x → Allows {S = S} (TableHolds key) slots id me index (λ _. x) (λ _ m. (k : ℕ) × Saw e k me m)
   may-store x is s h homes at small = let t = may (Store w x) refl is s h homes at small in (t.0, t.1, t.2, t.3, (_, t.4))
 
-  pub may-swap : (x : ℕ) → plan_of f ≡ Swap w x → Allows {S = S} (Holds key) slots id me index (λ _. x) (λ n. Saw e n me)
+  pub may-swap : (x : ℕ) → plan_of f ≡ Swap w x → Allows {S = S} (TableHolds key) slots id me index (λ _. x) (λ n. Saw e n me)
   may-swap x is = may (Swap w x) refl is
 
-  pub may-and : (x : ℕ) → plan_of f ≡ And w x → Allows {S = S} (Holds key) slots id me index (λ n. bit_and n x) (λ n. Saw e n me)
+  pub may-and : (x : ℕ) → plan_of f ≡ And w x → Allows {S = S} (TableHolds key) slots id me index (λ n. bit_and n x) (λ n. Saw e n me)
   may-and x is = may (And w x) refl is
 
-  pub may-exchange : (x y : ℕ) → plan_of f ≡ Cas w x y → Allows {S = S} (Holds key) slots id me index (λ n. either (n == x) y n) (λ n. Saw e n me)
+  pub may-exchange : (x y : ℕ) → plan_of f ≡ Cas w x y → Allows {S = S} (TableHolds key) slots id me index (λ n. either (n == x) y n) (λ n. Saw e n me)
   may-exchange x y is = may (Cas w x y) refl is

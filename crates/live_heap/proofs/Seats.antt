@@ -24,7 +24,7 @@ use Rattle.sound_state.specs.Wins.{no_wins}
 use Rattle.step_core.specs.Cores.{IsReached, no_errand}
 use Rattle.live_heap.specs.declared.view.Standing.{Standing}
 use Rattle.live_heap.specs.declared.view.View.{View}
-use Rattle.live_heap.specs.Rule.{IsStanding, Stands, Kept, Holds, first_errands, state_with}
+use Rattle.live_heap.specs.Rule.{IsStanding, Stands, Kept, TableHolds, first_errands, state_with}
 use Rattle.live_heap.specs.Views.{idle_standing, idles_from, opening_view, first_part, first_caller, other_part, other_callers, gathered, spent_view, longer}
 use Rattle.live_heap.proofs.Growing.{StartsWith, starts-self, starts-on, count-between}
 
@@ -145,7 +145,7 @@ given_else : (id n j k : ℕ) → j ≢ id → given_at id n j k ≡ (j, k)
 given_else id n j zero ne = refl
 given_else id n j (suc k) ne = rw (ne_eqb j id ne) refl
 
-pub splits : {S : Type 0} (g : Geometry) (id : ℕ) (v : View) → Splits {S = S} (Holds g) id v (first_part v) (other_part v)
+pub splits : {S : Type 0} (g : Geometry) (id : ℕ) (v : View) → Splits {S = S} (TableHolds g) id v (first_part v) (other_part v)
 splits g id v s h at = record {
   whole = h.whole;
   errands = h.errands;
@@ -255,7 +255,7 @@ taken_other id n other k = rw (eq-eqb other other refl) refl
 taken_else : (id n other j k : ℕ) → j ≢ other → taken_at id n other j k ≡ (j, k)
 taken_else id n other j k ne = rw (ne_eqb j other ne) refl
 
-pub joins : {S : Type 0} (g : Geometry) (id : ℕ) (v : View) (from : ℕ) (w : View) → Joins {S = S} (Holds g) id v from w (gathered v w) spent_view
+pub joins : {S : Type 0} (g : Geometry) (id : ℕ) (v : View) (from : ℕ) (w : View) → Joins {S = S} (TableHolds g) id v from w (gathered v w) spent_view
 joins g id v from w s h at apart there = record {
   whole = h.whole;
   errands = h.errands;

@@ -58,5 +58,5 @@ pub record Kept (g : Geometry) (words : List ℕ) (views : List View) : Type 0 w
   pub each : (id : ℕ) (v : View) → get_elem? views id ≡ some v → Stands g errands events run.wins.list place id v
 
 -- so it is in a table
-abbrev pub Holds : {S : Type 0} → Geometry → TableState S View → Type 0
-Holds g s = Kept g s.words s.views
+abbrev pub TableHolds : {S : Type 0} → Geometry → TableState S View → Type 0
+TableHolds g s = Kept g s.words s.views

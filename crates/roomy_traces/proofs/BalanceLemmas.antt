@@ -9,7 +9,7 @@ use Rattle.trace_text.specs.declared.trace.Op.TheVariants as op
 use Rattle.lane_outcomes.specs.declared.registers.Held.{Held}
 use Rattle.lane_outcomes.specs.declared.outcome.Outcome.{Outcome}
 use Rattle.lane_outcomes.specs.declared.outcome.Outcome.TheVariants as outcome
-use Rattle.lane_outcomes.specs.Lane.{State, held_in, registers_after}
+use Rattle.lane_outcomes.specs.Lane.{Position, held_in, registers_after}
 use Rattle.lane_outcomes.specs.LaneCounts.{words_given, words_freed, count_with, as_one}
 use Rattle.lane_outcomes.specs.Rows.{Setting, AllocRow, FreeRow, FitsRow}
 use Rattle.lane_outcomes.proofs.HoldLemmas.{held-inside}
@@ -29,41 +29,41 @@ set-balance f registers r held now within full =
     omega arith
 
 alloc-balance :
-    (f : ℕ → ℕ) (setting : Setting) (state : State) (r need v : ℕ) (held : Option Held) (result : Outcome) (piece : List Event)
-    → r < length state.registers → held_in state.registers r ≡ held → AllocRow setting state need v held result piece
-    → count_with f (words_given (op.Alloc r need v) result) + own_by f state.registers
-    ≡ 0 + own_by f (registers_after state.registers (op.Alloc r need v) result)
-alloc-balance f setting state r need v (Some held) outcome.Skipped piece within full row = refl
-alloc-balance f setting state r need v None (outcome.Given words place) piece within full row =
-    set-balance f state.registers r None (Some (record { place = place; words = words })) within full
-alloc-balance f setting state r need v None outcome.Refused piece within full row = refl
-alloc-balance f setting state r need v None outcome.Spent piece within full row = refl
-alloc-balance f setting state r need v held result piece within full row = absurd row
+    (f : ℕ → ℕ) (setting : Setting) (position : Position) (r need v : ℕ) (held : Option Held) (result : Outcome) (piece : List Event)
+    → r < length position.registers → held_in position.registers r ≡ held → AllocRow setting position need v held result piece
+    → count_with f (words_given (op.Alloc r need v) result) + own_by f position.registers
+    ≡ 0 + own_by f (registers_after position.registers (op.Alloc r need v) result)
+alloc-balance f setting position r need v (Some held) outcome.Skipped piece within full row = refl
+alloc-balance f setting position r need v None (outcome.Given words place) piece within full row =
+    set-balance f position.registers r None (Some (record { place = place; words = words })) within full
+alloc-balance f setting position r need v None outcome.Refused piece within full row = refl
+alloc-balance f setting position r need v None outcome.Spent piece within full row = refl
+alloc-balance f setting position r need v held result piece within full row = absurd row
 
 free-balance :
-    (f : ℕ → ℕ) (setting : Setting) (state : State) (r : ℕ) (held : Option Held) (result : Outcome) (piece : List Event)
-    → held_in state.registers r ≡ held → FreeRow setting held result piece
-    → 0 + own_by f state.registers
-    ≡ count_with f (words_freed state.registers (op.Free r) result) + own_by f (registers_after state.registers (op.Free r) result)
-free-balance f setting state r None outcome.Skipped piece full row = refl
-free-balance f setting state r (Some held) outcome.Freed piece full row =
-    rw full (set-balance f state.registers r (Some held) None (held-inside state.registers r held full) full)
-free-balance f setting state r held result piece full row = absurd row
+    (f : ℕ → ℕ) (setting : Setting) (position : Position) (r : ℕ) (held : Option Held) (result : Outcome) (piece : List Event)
+    → held_in position.registers r ≡ held → FreeRow setting held result piece
+    → 0 + own_by f position.registers
+    ≡ count_with f (words_freed position.registers (op.Free r) result) + own_by f (registers_after position.registers (op.Free r) result)
+free-balance f setting position r None outcome.Skipped piece full row = refl
+free-balance f setting position r (Some held) outcome.Freed piece full row =
+    rw full (set-balance f position.registers r (Some held) None (held-inside position.registers r held full) full)
+free-balance f setting position r held result piece full row = absurd row
 
 -- what is given and what was held are together what is freed and what is held then
 pub row-balance :
-    (f : ℕ → ℕ) (setting : Setting) (state : State) (operation : Op) (result : Outcome) (piece : List Event) → IsPlain operation → IsOp operation
-    → length state.registers ≡ REGISTERS → FitsRow setting state operation result piece
-    → count_with f (words_given operation result) + own_by f state.registers
-    ≡ count_with f (words_freed state.registers operation result) + own_by f (registers_after state.registers operation result)
-row-balance f setting state (op.Alloc r need v) result piece plain ranges many row =
-    alloc-balance f setting state r need v (held_in state.registers r) result piece (subst (λ n. r < n) (sym many) ranges.0) refl row
-row-balance f setting state (op.Free r) result piece plain ranges many row =
-    free-balance f setting state r (held_in state.registers r) result piece refl row
-row-balance f setting state (op.Fill r v) result piece plain ranges many row = refl
-row-balance f setting state (op.Check r) result piece plain ranges many row = refl
-row-balance f setting state (op.Put r shelf) result piece plain ranges many row = absurd plain
-row-balance f setting state (op.Take r shelf) result piece plain ranges many row = absurd plain
+    (f : ℕ → ℕ) (setting : Setting) (position : Position) (operation : Op) (result : Outcome) (piece : List Event) → IsPlain operation → IsOp operation
+    → length position.registers ≡ REGISTERS → FitsRow setting position operation result piece
+    → count_with f (words_given operation result) + own_by f position.registers
+    ≡ count_with f (words_freed position.registers operation result) + own_by f (registers_after position.registers operation result)
+row-balance f setting position (op.Alloc r need v) result piece plain ranges many row =
+    alloc-balance f setting position r need v (held_in position.registers r) result piece (subst (λ n. r < n) (sym many) ranges.0) refl row
+row-balance f setting position (op.Free r) result piece plain ranges many row =
+    free-balance f setting position r (held_in position.registers r) result piece refl row
+row-balance f setting position (op.Fill r v) result piece plain ranges many row = refl
+row-balance f setting position (op.Check r) result piece plain ranges many row = refl
+row-balance f setting position (op.Put r shelf) result piece plain ranges many row = absurd plain
+row-balance f setting position (op.Take r shelf) result piece plain ranges many row = absurd plain
 
 -- no operation both gives a block and frees one
 pub gives-or-frees :

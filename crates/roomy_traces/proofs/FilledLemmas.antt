@@ -17,7 +17,7 @@ use Rattle.trace_text.specs.declared.trace.Op.TheVariants as op
 use Rattle.lane_outcomes.specs.declared.registers.Held.{Held}
 use Rattle.lane_outcomes.specs.declared.outcome.Outcome.{Outcome}
 use Rattle.lane_outcomes.specs.declared.outcome.Outcome.TheVariants as outcome
-use Rattle.lane_outcomes.specs.Lane.{State, held_in, registers_after, filling}
+use Rattle.lane_outcomes.specs.Lane.{Position, held_in, registers_after, filling}
 use Rattle.lane_outcomes.specs.Rows.{Setting, AllocRow, FreeRow, FillRow, CheckRow, FitsRow}
 use Rattle.lane_outcomes.proofs.HoldLemmas.{HoldsOnce, held-inside}
 use Rattle.roomy_traces.specs.Roomy.{Filled, IsPlain, serial_step, serial_after}
@@ -56,35 +56,35 @@ same-many registers filled alike =
 
 -- after an allocation
 given-filled :
-    (g : Geometry) (setting : Setting) (state : State) (filled : List (Option Filled)) (r need v words place : ℕ) (calls piece : List Event)
-    → IsLegalWithoutCounts g setting.history → IsAlike state.registers filled → r < length state.registers
+    (g : Geometry) (setting : Setting) (position : Position) (filled : List (Option Filled)) (r need v words place : ℕ) (calls piece : List Event)
+    → IsLegalWithoutCounts g setting.history → IsAlike position.registers filled → r < length position.registers
     → words ≡ usable_words (need_of need) → IsGivenBy setting.caller need place calls → piece ≡ calls ++ filling setting.caller place words v
-    → HoldsOnce (slice_set state.registers r (Some (record { place = place; words = words })))
-    → AreFilled setting.history setting.caller state.done state.registers filled
-    → AreFilled setting.history setting.caller (state.done ++ piece) (slice_set state.registers r (Some (record { place = place; words = words })))
+    → HoldsOnce (slice_set position.registers r (Some (record { place = place; words = words })))
+    → AreFilled setting.history setting.caller position.done position.registers filled
+    → AreFilled setting.history setting.caller (position.done ++ piece) (slice_set position.registers r (Some (record { place = place; words = words })))
     (slice_set filled r (Some (record { words = usable_words (need_of need); first = v })))
-given-filled g setting state filled r need v words place calls piece legal alike within words_are given piece_is once at q held now full there =
+given-filled g setting position filled r need v words place calls piece legal alike within words_are given piece_is once at q held now full there =
     let caller = setting.caller in
     let new : Held = record { place = place; words = words } in
     let fresh : Filled = record { words = usable_words (need_of need); first = v } in
-    let here : held_in (slice_set state.registers r (Some new)) r ≡ Some new = get_or-set_same state.registers r (Some new) None within in
+    let here : held_in (slice_set position.registers r (Some new)) r ≡ Some new = get_or-set_same position.registers r (Some new) None within in
     elim (cases_eq q r) [
       | inl same ↦
           let held_is : new ≡ held =
-          let e : Some new ≡ Some held = sym here ∙ ap (λ k. held_in (slice_set state.registers r (Some new)) k) (sym same) ∙ full in cc in
+          let e : Some new ≡ Some held = sym here ∙ ap (λ k. held_in (slice_set position.registers r (Some new)) k) (sym same) ∙ full in cc in
           let now_is : fresh ≡ now =
           let e : Some fresh ≡ Some now =
-          sym (get_or-set_same filled r (Some fresh) None (subst (λ n. r < n) (same-many state.registers filled alike) within))
+          sym (get_or-set_same filled r (Some fresh) None (subst (λ n. r < n) (same-many position.registers filled alike) within))
           ∙ ap (λ k. slice_index_or (slice_set filled r (Some fresh)) k None) (sym same) ∙ there in cc in
-          let placed : AtMoments setting.history caller (state.done ++ (calls ++ filling caller place words v)) (HasContents caller place (filled_from v words)) =
-          at-given g setting.history caller need place words v state.done calls legal words_are given in
-          let worded : AtMoments setting.history caller (state.done ++ piece) (HasContents caller place (filled_from v (usable_words (need_of need)))) =
+          let placed : AtMoments setting.history caller (position.done ++ (calls ++ filling caller place words v)) (HasContents caller place (filled_from v words)) =
+          at-given g setting.history caller need place words v position.done calls legal words_are given in
+          let worded : AtMoments setting.history caller (position.done ++ piece) (HasContents caller place (filled_from v (usable_words (need_of need)))) =
           rw (piece_is, ← words_are) placed in
-          subst (λ (b : Filled). AtMoments setting.history caller (state.done ++ piece) (HasContents caller held.place (filled_from b.first b.words))) now_is
-          (subst (λ (h : Held). AtMoments setting.history caller (state.done ++ piece) (HasContents caller h.place (filled_from fresh.first fresh.words)))
+          subst (λ (b : Filled). AtMoments setting.history caller (position.done ++ piece) (HasContents caller held.place (filled_from b.first b.words))) now_is
+          (subst (λ (h : Held). AtMoments setting.history caller (position.done ++ piece) (HasContents caller h.place (filled_from fresh.first fresh.words)))
           held_is worded)
       | inr other ↦
-          let full_before : held_in state.registers q ≡ Some held = sym (get_or-set_other state.registers r q (Some new) None other) ∙ full in
+          let full_before : held_in position.registers q ≡ Some held = sym (get_or-set_other position.registers r q (Some new) None other) ∙ full in
           let there_before : slice_index_or filled q None ≡ Some now = sym (get_or-set_other filled r q (Some fresh) None other) ∙ there in
           let away : held.place ≢ place = once q r held new full here other in
           let called : AllByRecursion (IsAway held.place) calls =
@@ -95,174 +95,174 @@ given-filled g setting state filled r need v words place calls piece legal alike
           subst (AllByRecursion (IsAway held.place)) (sym piece_is)
           (all-append (IsAway held.place) calls (filling caller place words v) called
           (all-filling (IsAway held.place) caller place words v (λ i n. away))) in
-          at-away g setting.history caller state.done piece held.place (filled_from now.first now.words) legal all_away
+          at-away g setting.history caller position.done piece held.place (filled_from now.first now.words) legal all_away
           (at q held now full_before there_before)
     ]
 
 alloc-filled :
-    (g : Geometry) (setting : Setting) (state : State) (filled : List (Option Filled)) (r need v : ℕ) (held : Option Held) (result : Outcome)
-    (now : Option Filled) (piece : List Event) → IsLegalWithoutCounts g setting.history → IsAlike state.registers filled
-    → words_held held ≡ words_filled now → r < length state.registers → IsAnswered result → AllocRow setting state need v held result piece
-    → HoldsOnce (registers_after state.registers (op.Alloc r need v) result)
-    → AreFilled setting.history setting.caller state.done state.registers filled
-    → AreFilled setting.history setting.caller (state.done ++ piece) (registers_after state.registers (op.Alloc r need v) result)
+    (g : Geometry) (setting : Setting) (position : Position) (filled : List (Option Filled)) (r need v : ℕ) (held : Option Held) (result : Outcome)
+    (now : Option Filled) (piece : List Event) → IsLegalWithoutCounts g setting.history → IsAlike position.registers filled
+    → words_held held ≡ words_filled now → r < length position.registers → IsAnswered result → AllocRow setting position need v held result piece
+    → HoldsOnce (registers_after position.registers (op.Alloc r need v) result)
+    → AreFilled setting.history setting.caller position.done position.registers filled
+    → AreFilled setting.history setting.caller (position.done ++ piece) (registers_after position.registers (op.Alloc r need v) result)
     (serial_step filled now (op.Alloc r need v))
-alloc-filled g setting state filled r need v (Some held) outcome.Skipped (Some now) piece legal alike same within answered row once at =
-    filled-none setting.history setting.caller state.done piece state.registers filled row at
-alloc-filled g setting state filled r need v (Some held) outcome.Skipped None piece legal alike same within answered row once at =
+alloc-filled g setting position filled r need v (Some held) outcome.Skipped (Some now) piece legal alike same within answered row once at =
+    filled-none setting.history setting.caller position.done piece position.registers filled row at
+alloc-filled g setting position filled r need v (Some held) outcome.Skipped None piece legal alike same within answered row once at =
     absurd (let e : Some held.words ≡ None = same in cc)
-alloc-filled g setting state filled r need v None (outcome.Given words place) None piece legal alike same within answered row once at =
-    given-filled g setting state filled r need v words place row.2 piece legal alike within row.1
+alloc-filled g setting position filled r need v None (outcome.Given words place) None piece legal alike same within answered row once at =
+    given-filled g setting position filled r need v words place row.2 piece legal alike within row.1
     (given-by setting.caller need place (need_of need) row.2 row.3) row.4 once at
-alloc-filled g setting state filled r need v None (outcome.Given words place) (Some now) piece legal alike same within answered row once at =
+alloc-filled g setting position filled r need v None (outcome.Given words place) (Some now) piece legal alike same within answered row once at =
     absurd (let e : None ≡ Some now.words = same in cc)
-alloc-filled g setting state filled r need v None outcome.Refused now piece legal alike same within answered row once at = absurd answered
-alloc-filled g setting state filled r need v None outcome.Spent now piece legal alike same within answered row once at = absurd answered
-alloc-filled g setting state filled r need v held result now piece legal alike same within answered row once at = absurd row
+alloc-filled g setting position filled r need v None outcome.Refused now piece legal alike same within answered row once at = absurd answered
+alloc-filled g setting position filled r need v None outcome.Spent now piece legal alike same within answered row once at = absurd answered
+alloc-filled g setting position filled r need v held result now piece legal alike same within answered row once at = absurd row
 
 -- after a free
 freed-filled :
-    (g : Geometry) (setting : Setting) (state : State) (filled : List (Option Filled)) (r : ℕ) (gone : Held) (piece : List Event)
-    → IsLegalWithoutCounts g setting.history → held_in state.registers r ≡ Some gone → piece ≡ Free setting.caller gone.place ∷ []
-    → HoldsOnce state.registers → AreFilled setting.history setting.caller state.done state.registers filled
-    → AreFilled setting.history setting.caller (state.done ++ piece) (slice_set state.registers r None) (slice_set filled r None)
-freed-filled g setting state filled r gone piece legal held_r piece_is once at q held now full there =
+    (g : Geometry) (setting : Setting) (position : Position) (filled : List (Option Filled)) (r : ℕ) (gone : Held) (piece : List Event)
+    → IsLegalWithoutCounts g setting.history → held_in position.registers r ≡ Some gone → piece ≡ Free setting.caller gone.place ∷ []
+    → HoldsOnce position.registers → AreFilled setting.history setting.caller position.done position.registers filled
+    → AreFilled setting.history setting.caller (position.done ++ piece) (slice_set position.registers r None) (slice_set filled r None)
+freed-filled g setting position filled r gone piece legal held_r piece_is once at q held now full there =
     elim (cases_eq q r) [
       | inl same ↦
-          let none : held_in (slice_set state.registers r None) q ≡ None =
-          ap (λ k. held_in (slice_set state.registers r None) k) same
-          ∙ get_or-set_same state.registers r None None (held-inside state.registers r gone held_r) in
+          let none : held_in (slice_set position.registers r None) q ≡ None =
+          ap (λ k. held_in (slice_set position.registers r None) k) same
+          ∙ get_or-set_same position.registers r None None (held-inside position.registers r gone held_r) in
           absurd (let e : None ≡ Some held = sym none ∙ full in cc)
       | inr other ↦
-          let full_before : held_in state.registers q ≡ Some held = sym (get_or-set_other state.registers r q None None other) ∙ full in
+          let full_before : held_in position.registers q ≡ Some held = sym (get_or-set_other position.registers r q None None other) ∙ full in
           let there_before : slice_index_or filled q None ≡ Some now = sym (get_or-set_other filled r q None None other) ∙ there in
           let away : held.place ≢ gone.place = once q r held gone full_before held_r other in
-          at-away g setting.history setting.caller state.done piece held.place (filled_from now.first now.words) legal
+          at-away g setting.history setting.caller position.done piece held.place (filled_from now.first now.words) legal
           (subst (AllByRecursion (IsAway held.place)) (sym piece_is) (away, tt)) (at q held now full_before there_before)
     ]
 
 free-filled :
-    (g : Geometry) (setting : Setting) (state : State) (filled : List (Option Filled)) (r : ℕ) (held : Option Held) (result : Outcome)
-    (now : Option Filled) (piece : List Event) → IsLegalWithoutCounts g setting.history → held_in state.registers r ≡ held
-    → words_held held ≡ words_filled now → FreeRow setting held result piece → HoldsOnce state.registers
-    → AreFilled setting.history setting.caller state.done state.registers filled
-    → AreFilled setting.history setting.caller (state.done ++ piece) (registers_after state.registers (op.Free r) result)
+    (g : Geometry) (setting : Setting) (position : Position) (filled : List (Option Filled)) (r : ℕ) (held : Option Held) (result : Outcome)
+    (now : Option Filled) (piece : List Event) → IsLegalWithoutCounts g setting.history → held_in position.registers r ≡ held
+    → words_held held ≡ words_filled now → FreeRow setting held result piece → HoldsOnce position.registers
+    → AreFilled setting.history setting.caller position.done position.registers filled
+    → AreFilled setting.history setting.caller (position.done ++ piece) (registers_after position.registers (op.Free r) result)
     (serial_step filled now (op.Free r))
-free-filled g setting state filled r None outcome.Skipped None piece legal full same row once at =
-    filled-none setting.history setting.caller state.done piece state.registers filled row at
-free-filled g setting state filled r None outcome.Skipped (Some now) piece legal full same row once at =
+free-filled g setting position filled r None outcome.Skipped None piece legal full same row once at =
+    filled-none setting.history setting.caller position.done piece position.registers filled row at
+free-filled g setting position filled r None outcome.Skipped (Some now) piece legal full same row once at =
     absurd (let e : None ≡ Some now.words = same in cc)
-free-filled g setting state filled r (Some held) outcome.Freed (Some now) piece legal full same row once at =
-    freed-filled g setting state filled r held piece legal full row once at
-free-filled g setting state filled r (Some held) outcome.Freed None piece legal full same row once at =
+free-filled g setting position filled r (Some held) outcome.Freed (Some now) piece legal full same row once at =
+    freed-filled g setting position filled r held piece legal full row once at
+free-filled g setting position filled r (Some held) outcome.Freed None piece legal full same row once at =
     absurd (let e : Some held.words ≡ None = same in cc)
-free-filled g setting state filled r held result now piece legal full same row once at = absurd row
+free-filled g setting position filled r held result now piece legal full same row once at = absurd row
 
 -- after a filling
 refilled-filled :
-    (g : Geometry) (setting : Setting) (state : State) (filled : List (Option Filled)) (r v : ℕ) (hers : Held) (was : Filled) (piece : List Event)
-    → IsLegalWithoutCounts g setting.history → IsAlike state.registers filled → held_in state.registers r ≡ Some hers
-    → slice_index_or filled r None ≡ Some was → piece ≡ filling setting.caller hers.place hers.words v → HoldsOnce state.registers
-    → AreFilled setting.history setting.caller state.done state.registers filled
-    → AreFilled setting.history setting.caller (state.done ++ piece) state.registers (slice_set filled r (Some (record { words = was.words; first = v })))
-refilled-filled g setting state filled r v hers was piece legal alike held_r was_r piece_is once at q held now full there =
+    (g : Geometry) (setting : Setting) (position : Position) (filled : List (Option Filled)) (r v : ℕ) (hers : Held) (was : Filled) (piece : List Event)
+    → IsLegalWithoutCounts g setting.history → IsAlike position.registers filled → held_in position.registers r ≡ Some hers
+    → slice_index_or filled r None ≡ Some was → piece ≡ filling setting.caller hers.place hers.words v → HoldsOnce position.registers
+    → AreFilled setting.history setting.caller position.done position.registers filled
+    → AreFilled setting.history setting.caller (position.done ++ piece) position.registers (slice_set filled r (Some (record { words = was.words; first = v })))
+refilled-filled g setting position filled r v hers was piece legal alike held_r was_r piece_is once at q held now full there =
     let caller = setting.caller in
     let fresh : Filled = record { words = was.words; first = v } in
     let within : r < length filled =
-    subst (λ n. r < n) (same-many state.registers filled alike) (held-inside state.registers r hers held_r) in
+    subst (λ n. r < n) (same-many position.registers filled alike) (held-inside position.registers r hers held_r) in
     elim (cases_eq q r) [
       | inl same ↦
           let held_is : hers ≡ held =
-          let e : Some hers ≡ Some held = sym held_r ∙ ap (λ k. held_in state.registers k) (sym same) ∙ full in cc in
+          let e : Some hers ≡ Some held = sym held_r ∙ ap (λ k. held_in position.registers k) (sym same) ∙ full in cc in
           let now_is : fresh ≡ now =
           let e : Some fresh ≡ Some now =
           sym (get_or-set_same filled r (Some fresh) None within)
           ∙ ap (λ k. slice_index_or (slice_set filled r (Some fresh)) k None) (sym same) ∙ there in cc in
           let words : hers.words ≡ was.words =
-          let e : Some hers.words ≡ Some was.words = sym (ap words_held held_r) ∙ alike-at state.registers filled r alike ∙ ap words_filled was_r in cc in
+          let e : Some hers.words ≡ Some was.words = sym (ap words_held held_r) ∙ alike-at position.registers filled r alike ∙ ap words_filled was_r in cc in
           let many : length (filled_from was.first was.words) ≡ hers.words =
           length-map (numbers_from was.first was.words) (λ n. Some n)
           ∙ length-map-range_with_len (λ i. (was.first + i) % 2 ^ 64) 0 was.words ∙ sym words in
-          let put : AtMoments setting.history caller (state.done ++ filling caller hers.place hers.words v) (HasContents caller hers.place (filled_from v hers.words)) =
-          at-filling g setting.history caller hers.place hers.words v state.done (filled_from was.first was.words) legal many (at r hers was held_r was_r) in
-          let worded : AtMoments setting.history caller (state.done ++ piece) (HasContents caller hers.place (filled_from v was.words)) =
+          let put : AtMoments setting.history caller (position.done ++ filling caller hers.place hers.words v) (HasContents caller hers.place (filled_from v hers.words)) =
+          at-filling g setting.history caller hers.place hers.words v position.done (filled_from was.first was.words) legal many (at r hers was held_r was_r) in
+          let worded : AtMoments setting.history caller (position.done ++ piece) (HasContents caller hers.place (filled_from v was.words)) =
           rw (piece_is, ← words) put in
-          subst (λ (b : Filled). AtMoments setting.history caller (state.done ++ piece) (HasContents caller held.place (filled_from b.first b.words))) now_is
-          (subst (λ (h : Held). AtMoments setting.history caller (state.done ++ piece) (HasContents caller h.place (filled_from fresh.first fresh.words)))
+          subst (λ (b : Filled). AtMoments setting.history caller (position.done ++ piece) (HasContents caller held.place (filled_from b.first b.words))) now_is
+          (subst (λ (h : Held). AtMoments setting.history caller (position.done ++ piece) (HasContents caller h.place (filled_from fresh.first fresh.words)))
           held_is worded)
       | inr other ↦
           let there_before : slice_index_or filled q None ≡ Some now = sym (get_or-set_other filled r q (Some fresh) None other) ∙ there in
           let away : held.place ≢ hers.place = once q r held hers full held_r other in
-          at-away g setting.history caller state.done piece held.place (filled_from now.first now.words) legal
+          at-away g setting.history caller position.done piece held.place (filled_from now.first now.words) legal
           (subst (AllByRecursion (IsAway held.place)) (sym piece_is)
           (all-filling (IsAway held.place) caller hers.place hers.words v (λ i n. away)))
           (at q held now full there_before)
     ]
 
 fill-filled :
-    (g : Geometry) (setting : Setting) (state : State) (filled : List (Option Filled)) (r v : ℕ) (held : Option Held) (result : Outcome)
-    (now : Option Filled) (piece : List Event) → IsLegalWithoutCounts g setting.history → IsAlike state.registers filled
-    → held_in state.registers r ≡ held → slice_index_or filled r None ≡ now → words_held held ≡ words_filled now
-    → FillRow setting v held result piece → HoldsOnce state.registers → AreFilled setting.history setting.caller state.done state.registers filled
-    → AreFilled setting.history setting.caller (state.done ++ piece) (registers_after state.registers (op.Fill r v) result)
+    (g : Geometry) (setting : Setting) (position : Position) (filled : List (Option Filled)) (r v : ℕ) (held : Option Held) (result : Outcome)
+    (now : Option Filled) (piece : List Event) → IsLegalWithoutCounts g setting.history → IsAlike position.registers filled
+    → held_in position.registers r ≡ held → slice_index_or filled r None ≡ now → words_held held ≡ words_filled now
+    → FillRow setting v held result piece → HoldsOnce position.registers → AreFilled setting.history setting.caller position.done position.registers filled
+    → AreFilled setting.history setting.caller (position.done ++ piece) (registers_after position.registers (op.Fill r v) result)
     (serial_step filled now (op.Fill r v))
-fill-filled g setting state filled r v None outcome.Skipped None piece legal alike full there same row once at =
-    filled-none setting.history setting.caller state.done piece state.registers filled row at
-fill-filled g setting state filled r v None outcome.Skipped (Some now) piece legal alike full there same row once at =
+fill-filled g setting position filled r v None outcome.Skipped None piece legal alike full there same row once at =
+    filled-none setting.history setting.caller position.done piece position.registers filled row at
+fill-filled g setting position filled r v None outcome.Skipped (Some now) piece legal alike full there same row once at =
     absurd (let e : None ≡ Some now.words = same in cc)
-fill-filled g setting state filled r v (Some held) outcome.Filled (Some now) piece legal alike full there same row once at =
-    refilled-filled g setting state filled r v held now piece legal alike full there row once at
-fill-filled g setting state filled r v (Some held) outcome.Filled None piece legal alike full there same row once at =
+fill-filled g setting position filled r v (Some held) outcome.Filled (Some now) piece legal alike full there same row once at =
+    refilled-filled g setting position filled r v held now piece legal alike full there row once at
+fill-filled g setting position filled r v (Some held) outcome.Filled None piece legal alike full there same row once at =
     absurd (let e : Some held.words ≡ None = same in cc)
-fill-filled g setting state filled r v held result now piece legal alike full there same row once at = absurd row
+fill-filled g setting position filled r v held result now piece legal alike full there same row once at = absurd row
 
 -- after a check
 check-none :
-    (setting : Setting) (state : State) (held : Option Held) (result : Outcome) (piece : List Event) → CheckRow setting state held result piece → piece ≡ []
-check-none setting state None outcome.Skipped piece row = row
-check-none setting state (Some held) (outcome.Sum total) piece row = row.0
-check-none setting state held result piece row = absurd row
+    (setting : Setting) (position : Position) (held : Option Held) (result : Outcome) (piece : List Event) → CheckRow setting position held result piece → piece ≡ []
+check-none setting position None outcome.Skipped piece row = row
+check-none setting position (Some held) (outcome.Sum total) piece row = row.0
+check-none setting position held result piece row = absurd row
 
 -- so it is after each plain operation
 pub row-filled :
-    (g : Geometry) (setting : Setting) (state : State) (filled : List (Option Filled)) (operation : Op) (result : Outcome) (piece : List Event)
-    → IsPlain operation → IsOp operation → IsLegalWithoutCounts g setting.history → IsAlike state.registers filled → IsAnswered result
-    → FitsRow setting state operation result piece → HoldsOnce state.registers → HoldsOnce (registers_after state.registers operation result)
-    → AreFilled setting.history setting.caller state.done state.registers filled
-    → AreFilled setting.history setting.caller (state.done ++ piece) (registers_after state.registers operation result) (serial_after filled operation)
-row-filled g setting state filled (op.Alloc r need v) result piece plain ranges legal alike answered row once after at =
-    alloc-filled g setting state filled r need v (held_in state.registers r) result (slice_index_or filled r None) piece legal alike
-    (alike-at state.registers filled r alike) (subst (λ n. r < n) (sym alike.many) ranges.0) answered row after at
-row-filled g setting state filled (op.Free r) result piece plain ranges legal alike answered row once after at =
-    free-filled g setting state filled r (held_in state.registers r) result (slice_index_or filled r None) piece legal refl
-    (alike-at state.registers filled r alike) row once at
-row-filled g setting state filled (op.Fill r v) result piece plain ranges legal alike answered row once after at =
-    fill-filled g setting state filled r v (held_in state.registers r) result (slice_index_or filled r None) piece legal alike refl refl
-    (alike-at state.registers filled r alike) row once at
-row-filled g setting state filled (op.Check r) result piece plain ranges legal alike answered row once after at =
-    subst (AreFilled setting.history setting.caller (state.done ++ piece) state.registers) (step-check filled (slice_index_or filled r None) r)
-    (filled-none setting.history setting.caller state.done piece state.registers filled
-    (check-none setting state (held_in state.registers r) result piece row) at)
-row-filled g setting state filled (op.Put r shelf) result piece plain ranges legal alike answered row once after at = absurd plain
-row-filled g setting state filled (op.Take r shelf) result piece plain ranges legal alike answered row once after at = absurd plain
+    (g : Geometry) (setting : Setting) (position : Position) (filled : List (Option Filled)) (operation : Op) (result : Outcome) (piece : List Event)
+    → IsPlain operation → IsOp operation → IsLegalWithoutCounts g setting.history → IsAlike position.registers filled → IsAnswered result
+    → FitsRow setting position operation result piece → HoldsOnce position.registers → HoldsOnce (registers_after position.registers operation result)
+    → AreFilled setting.history setting.caller position.done position.registers filled
+    → AreFilled setting.history setting.caller (position.done ++ piece) (registers_after position.registers operation result) (serial_after filled operation)
+row-filled g setting position filled (op.Alloc r need v) result piece plain ranges legal alike answered row once after at =
+    alloc-filled g setting position filled r need v (held_in position.registers r) result (slice_index_or filled r None) piece legal alike
+    (alike-at position.registers filled r alike) (subst (λ n. r < n) (sym alike.many) ranges.0) answered row after at
+row-filled g setting position filled (op.Free r) result piece plain ranges legal alike answered row once after at =
+    free-filled g setting position filled r (held_in position.registers r) result (slice_index_or filled r None) piece legal refl
+    (alike-at position.registers filled r alike) row once at
+row-filled g setting position filled (op.Fill r v) result piece plain ranges legal alike answered row once after at =
+    fill-filled g setting position filled r v (held_in position.registers r) result (slice_index_or filled r None) piece legal alike refl refl
+    (alike-at position.registers filled r alike) row once at
+row-filled g setting position filled (op.Check r) result piece plain ranges legal alike answered row once after at =
+    subst (AreFilled setting.history setting.caller (position.done ++ piece) position.registers) (step-check filled (slice_index_or filled r None) r)
+    (filled-none setting.history setting.caller position.done piece position.registers filled
+    (check-none setting position (held_in position.registers r) result piece row) at)
+row-filled g setting position filled (op.Put r shelf) result piece plain ranges legal alike answered row once after at = absurd plain
+row-filled g setting position filled (op.Take r shelf) result piece plain ranges legal alike answered row once after at = absurd plain
 
 -- a check sums what the block was filled with
 check-summed :
-    (setting : Setting) (state : State) (filled : List (Option Filled)) (r : ℕ) (held : Option Held) (result : Outcome) (now : Option Filled)
-    (piece : List Event) → held_in state.registers r ≡ held → slice_index_or filled r None ≡ now → CheckRow setting state held result piece
-    → AreFilled setting.history setting.caller state.done state.registers filled → IsSummed now result
-check-summed setting state filled r None outcome.Skipped None piece full there row at = tt
-check-summed setting state filled r None outcome.Skipped (Some now) piece full there row at = tt
-check-summed setting state filled r (Some held) (outcome.Sum total) (Some now) piece full there row at =
+    (setting : Setting) (position : Position) (filled : List (Option Filled)) (r : ℕ) (held : Option Held) (result : Outcome) (now : Option Filled)
+    (piece : List Event) → held_in position.registers r ≡ held → slice_index_or filled r None ≡ now → CheckRow setting position held result piece
+    → AreFilled setting.history setting.caller position.done position.registers filled → IsSummed now result
+check-summed setting position filled r None outcome.Skipped None piece full there row at = tt
+check-summed setting position filled r None outcome.Skipped (Some now) piece full there row at = tt
+check-summed setting position filled r (Some held) (outcome.Sum total) (Some now) piece full there row at =
     known-sum (pool_of row.1.before) setting.caller held.place now.first now.words total row.2
     (at r held now full there row.1.before row.1.begins row.1.own_done) row.3 row.4
-check-summed setting state filled r (Some held) (outcome.Sum total) None piece full there row at = tt
-check-summed setting state filled r held result now piece full there row at = absurd row
+check-summed setting position filled r (Some held) (outcome.Sum total) None piece full there row at = tt
+check-summed setting position filled r held result now piece full there row at = absurd row
 
 pub row-summed :
-    (setting : Setting) (state : State) (filled : List (Option Filled)) (operation : Op) (result : Outcome) (piece : List Event)
-    → FitsRow setting state operation result piece → AreFilled setting.history setting.caller state.done state.registers filled
+    (setting : Setting) (position : Position) (filled : List (Option Filled)) (operation : Op) (result : Outcome) (piece : List Event)
+    → FitsRow setting position operation result piece → AreFilled setting.history setting.caller position.done position.registers filled
     → IsSummedAt filled operation result
-row-summed setting state filled (op.Check r) result piece row at =
-    check-summed setting state filled r (held_in state.registers r) result (slice_index_or filled r None) piece refl refl row at
-row-summed setting state filled operation result piece row at = tt
+row-summed setting position filled (op.Check r) result piece row at =
+    check-summed setting position filled r (held_in position.registers r) result (slice_index_or filled r None) piece refl refl row at
+row-summed setting position filled operation result piece row at = tt

@@ -13,7 +13,7 @@ use Rattle.trace_text.specs.declared.trace.Op.TheVariants as op
 use Rattle.lane_outcomes.specs.declared.registers.Held.{Held}
 use Rattle.lane_outcomes.specs.declared.outcome.Outcome.{Outcome}
 use Rattle.lane_outcomes.specs.declared.outcome.Outcome.TheVariants as outcome
-use Rattle.lane_outcomes.specs.Lane.{State, held_in, registers_after, state_after}
+use Rattle.lane_outcomes.specs.Lane.{Position, held_in, registers_after, position_after}
 use Rattle.lane_outcomes.specs.LaneCounts.{words_given, words_freed, count_with, as_one}
 use Rattle.lane_outcomes.specs.Rows.{Setting, AllocRow, FreeRow, FillRow, CheckRow, FitsRow}
 use Rattle.lane_outcomes.specs.Fits.{Walks}
@@ -25,23 +25,23 @@ use Rattle.roomy_traces.proofs.BalanceLemmas.{row-balance, gives-or-frees}
 use Rattle.roomy_traces.proofs.RegisterLemmas.{IsAlike, IsAnswered, alike-count, row-alike}
 
 -- the events that a walk adds
-pub record Adds (from to : State) : Type 0 where
+pub record Adds (from to : Position) : Type 0 where
   pub tail : List Event
   pub whole : to.done ≡ from.done ++ tail
 
-abbrev pub adds-more : (from to : State) (operation : Op) (result : Outcome) (piece : List Event) → Adds (state_after from operation result piece) to → Adds from to
+abbrev pub adds-more : (from to : Position) (operation : Op) (result : Outcome) (piece : List Event) → Adds (position_after from operation result piece) to → Adds from to
 adds-more from to operation result piece adds =
     record { tail = piece ++ adds.tail; whole = adds.whole ∙ append_assoc from.done piece adds.tail }
 
 pub walk-adds :
-    (setting : Setting) (from to : State) (operations : List Op) (results : List Outcome) → Walks setting from operations results to → Adds from to
+    (setting : Setting) (from to : Position) (operations : List Op) (results : List Outcome) → Walks setting from operations results to → Adds from to
 walk-adds setting from to [] [] walks =
-    record { tail = []; whole = ap (λ (s : State). s.done) walks ∙ sym (append-nil from.done) }
+    record { tail = []; whole = ap (λ (s : Position). s.done) walks ∙ sym (append-nil from.done) }
 walk-adds setting from to [] (result ∷ results) walks = absurd walks
 walk-adds setting from to (operation ∷ operations) [] walks = absurd walks
 walk-adds setting from to (operation ∷ operations) (result ∷ results) walks =
     adds-more from to operation result walks.0
-    (walk-adds setting (state_after from operation result walks.0) to operations results walks.2)
+    (walk-adds setting (position_after from operation result walks.0) to operations results walks.2)
 
 -- an event that isn't a refusal
 abbrev pub IsUnrefusing : Event → Type 0
@@ -56,12 +56,12 @@ answered-or result unspent = inl tt
 
 -- a refusal adds its event
 alloc-refuses :
-    (setting : Setting) (state : State) (need v : ℕ) (held : Option Held) (piece : List Event) → AllocRow setting state need v held outcome.Refused piece
+    (setting : Setting) (position : Position) (need v : ℕ) (held : Option Held) (piece : List Event) → AllocRow setting position need v held outcome.Refused piece
     → AllByRecursion IsUnrefusing piece → ⊥
-alloc-refuses setting state need v None piece row none =
+alloc-refuses setting position need v None piece row none =
     let refused = refused-by setting.caller need (need_of need) piece row.1 in
     (all-ends IsUnrefusing refused.looked (Refuse setting.caller need ∷ []) (subst (AllByRecursion IsUnrefusing) refused.whole none)).0
-alloc-refuses setting state need v (Some held) piece row none = row
+alloc-refuses setting position need v (Some held) piece row none = row
 
 free-refuses : (setting : Setting) (held : Option Held) (piece : List Event) → FreeRow setting held outcome.Refused piece → ⊥
 free-refuses setting None piece row = row
@@ -71,19 +71,19 @@ fill-refuses : (setting : Setting) (v : ℕ) (held : Option Held) (piece : List 
 fill-refuses setting v None piece row = row
 fill-refuses setting v (Some held) piece row = row
 
-check-refuses : (setting : Setting) (state : State) (held : Option Held) (piece : List Event) → CheckRow setting state held outcome.Refused piece → ⊥
-check-refuses setting state None piece row = row
-check-refuses setting state (Some held) piece row = row
+check-refuses : (setting : Setting) (position : Position) (held : Option Held) (piece : List Event) → CheckRow setting position held outcome.Refused piece → ⊥
+check-refuses setting position None piece row = row
+check-refuses setting position (Some held) piece row = row
 
 pub row-refuses :
-    (setting : Setting) (state : State) (operation : Op) (piece : List Event) → IsPlain operation
-    → FitsRow setting state operation outcome.Refused piece → AllByRecursion IsUnrefusing piece → ⊥
-row-refuses setting state (op.Alloc r need v) piece plain row none = alloc-refuses setting state need v (held_in state.registers r) piece row none
-row-refuses setting state (op.Free r) piece plain row none = free-refuses setting (held_in state.registers r) piece row
-row-refuses setting state (op.Fill r v) piece plain row none = fill-refuses setting v (held_in state.registers r) piece row
-row-refuses setting state (op.Check r) piece plain row none = check-refuses setting state (held_in state.registers r) piece row
-row-refuses setting state (op.Put r shelf) piece plain row none = plain
-row-refuses setting state (op.Take r shelf) piece plain row none = plain
+    (setting : Setting) (position : Position) (operation : Op) (piece : List Event) → IsPlain operation
+    → FitsRow setting position operation outcome.Refused piece → AllByRecursion IsUnrefusing piece → ⊥
+row-refuses setting position (op.Alloc r need v) piece plain row none = alloc-refuses setting position need v (held_in position.registers r) piece row none
+row-refuses setting position (op.Free r) piece plain row none = free-refuses setting (held_in position.registers r) piece row
+row-refuses setting position (op.Fill r v) piece plain row none = fill-refuses setting v (held_in position.registers r) piece row
+row-refuses setting position (op.Check r) piece plain row none = check-refuses setting position (held_in position.registers r) piece row
+row-refuses setting position (op.Put r shelf) piece plain row none = plain
+row-refuses setting position (op.Take r shelf) piece plain row none = plain
 
 refused-gives : (operation : Op) → count_with as_one (words_given operation outcome.Refused) ≡ 0
 refused-gives (op.Alloc r need v) = refl
@@ -150,15 +150,15 @@ behind-most filled next operations part piece more given freed counts balance is
       sum_by-append (λ e. cond (is_free e) 1 0) piece more,
     )
 
-pub record WalkHolds (from to : State) (filled : List (Option Filled)) (operations : List Op) : Type 0 where
+pub record WalkHolds (from to : Position) (filled : List (Option Filled)) (operations : List Op) : Type 0 where
   pub adds : Adds from to
   pub bounded : IsBounded filled operations adds.tail
 
 -- where the row is answered, by what comes behind it
 answered-holds :
-    (setting : Setting) (from to : State) (filled : List (Option Filled)) (operation : Op) (operations : List Op) (result : Outcome) (piece : List Event)
+    (setting : Setting) (from to : Position) (filled : List (Option Filled)) (operation : Op) (operations : List Op) (result : Outcome) (piece : List Event)
     → IsPlain operation → IsOp operation → IsAlike from.registers filled → IsAnswered result → FitsRow setting from operation result piece
-    → WalkHolds (state_after from operation result piece) to (serial_after filled operation) operations
+    → WalkHolds (position_after from operation result piece) to (serial_after filled operation) operations
     → WalkHolds from to filled (operation ∷ operations)
 answered-holds setting from to filled operation operations result piece plain ranges alike answered row later =
     let next : List (Option Filled) = serial_after filled operation in
@@ -186,8 +186,8 @@ answered-holds setting from to filled operation operations result piece plain ra
     }
 
 refused-holds :
-    (setting : Setting) (from to : State) (filled : List (Option Filled)) (operation : Op) (operations : List Op) (piece : List Event)
-    → IsPlain operation → FitsRow setting from operation outcome.Refused piece → Adds (state_after from operation outcome.Refused piece) to
+    (setting : Setting) (from to : Position) (filled : List (Option Filled)) (operation : Op) (operations : List Op) (piece : List Event)
+    → IsPlain operation → FitsRow setting from operation outcome.Refused piece → Adds (position_after from operation outcome.Refused piece) to
     → WalkHolds from to filled (operation ∷ operations)
 refused-holds setting from to filled operation operations piece plain row later =
     let counts = row-counts setting from operation outcome.Refused piece plain row in
@@ -204,12 +204,12 @@ refused-holds setting from to filled operation operations piece plain row later 
     }
 
 pub walk-holds :
-    (setting : Setting) (from to : State) (filled : List (Option Filled)) (operations : List Op) (results : List Outcome)
+    (setting : Setting) (from to : Position) (filled : List (Option Filled)) (operations : List Op) (results : List Outcome)
     → AllByRecursion IsPlain operations → AllByRecursion IsOp operations → AllByRecursion IsUnspent results → IsAlike from.registers filled
     → Walks setting from operations results to → WalkHolds from to filled operations
 walk-holds setting from to filled [] [] plain ranges unspent alike walks =
     record {
-      adds = record { tail = []; whole = ap (λ (s : State). s.done) walks ∙ sym (append-nil from.done) };
+      adds = record { tail = []; whole = ap (λ (s : Position). s.done) walks ∙ sym (append-nil from.done) };
       bounded = λ part begins none. omega (arith, count-begins is_alloc part [] begins);
     }
 walk-holds setting from to filled [] (result ∷ results) plain ranges unspent alike walks = absurd walks
@@ -218,12 +218,12 @@ walk-holds setting from to filled (operation ∷ operations) (result ∷ results
     elim (answered-or result unspent.0) [
       | inl answered ↦
           answered-holds setting from to filled operation operations result walks.0 plain.0 ranges.0 alike answered walks.1
-          (walk-holds setting (state_after from operation result walks.0) to (serial_after filled operation) operations results plain.1 ranges.1
+          (walk-holds setting (position_after from operation result walks.0) to (serial_after filled operation) operations results plain.1 ranges.1
           unspent.1 (row-alike setting from filled operation result walks.0 plain.0 alike answered walks.1) walks.2)
       | inr refused ↦
-          subst (λ (r : Outcome). FitsRow setting from operation r walks.0 → Adds (state_after from operation r walks.0) to → WalkHolds from to filled (operation ∷ operations))
+          subst (λ (r : Outcome). FitsRow setting from operation r walks.0 → Adds (position_after from operation r walks.0) to → WalkHolds from to filled (operation ∷ operations))
           (sym refused)
           (refused-holds setting from to filled operation operations walks.0 plain.0)
           walks.1
-          (walk-adds setting (state_after from operation result walks.0) to operations results walks.2)
+          (walk-adds setting (position_after from operation result walks.0) to operations results walks.2)
     ]

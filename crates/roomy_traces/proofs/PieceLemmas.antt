@@ -15,7 +15,7 @@ use Rattle.trace_text.specs.declared.trace.Op.TheVariants as op
 use Rattle.lane_outcomes.specs.declared.registers.Held.{Held}
 use Rattle.lane_outcomes.specs.declared.outcome.Outcome.{Outcome}
 use Rattle.lane_outcomes.specs.declared.outcome.Outcome.TheVariants as outcome
-use Rattle.lane_outcomes.specs.Lane.{State, held_in, filling}
+use Rattle.lane_outcomes.specs.Lane.{Position, held_in, filling}
 use Rattle.lane_outcomes.specs.LaneCounts.{words_given, words_freed, count_with, as_one}
 use Rattle.lane_outcomes.specs.Rows.{Setting, IsSpent, AllocRow, FreeRow, FillRow, CheckRow, FitsRow}
 use Rattle.lane_outcomes.proofs.FillLemmas.{writes}
@@ -75,10 +75,10 @@ spending-looks caller (Large units) piece spending = absurd spending
 spending-looks caller TooLarge piece spending = absurd spending
 
 pub spent-looks :
-    (setting : Setting) (state : State) (need : ℕ) (piece : List Event) (spent : Bool) → IsSpent setting state need piece spent
+    (setting : Setting) (position : Position) (need : ℕ) (piece : List Event) (spent : Bool) → IsSpent setting position need piece spent
     → AllByRecursion (IsLook setting.caller) piece
-spent-looks setting state need piece true row = rw row.1 tt
-spent-looks setting state need piece false row = spending-looks setting.caller (need_of need) piece row.0
+spent-looks setting position need piece true row = rw row.1 tt
+spent-looks setting position need piece false row = spending-looks setting.caller (need_of need) piece row.0
 
 -- events that give so many blocks and free so many
 pub record Counts (events : List Event) (given freed : ℕ) : Type 0 where
@@ -131,19 +131,19 @@ given-counts caller need place words v calls piece given is =
     subst (λ xs. Counts xs 1 0) (sym is) (counts-append calls (filling caller place words v) 1 0 0 0 called filled)
 
 alloc-counts :
-    (setting : Setting) (state : State) (r need v : ℕ) (held : Option Held) (result : Outcome) (piece : List Event)
-    → AllocRow setting state need v held result piece → Counts piece (count_with as_one (words_given (op.Alloc r need v) result)) 0
-alloc-counts setting state r need v (Some held) outcome.Skipped piece row = quiet-counts piece (quiet-none piece row)
-alloc-counts setting state r need v None (outcome.Given words place) piece row =
+    (setting : Setting) (position : Position) (r need v : ℕ) (held : Option Held) (result : Outcome) (piece : List Event)
+    → AllocRow setting position need v held result piece → Counts piece (count_with as_one (words_given (op.Alloc r need v) result)) 0
+alloc-counts setting position r need v (Some held) outcome.Skipped piece row = quiet-counts piece (quiet-none piece row)
+alloc-counts setting position r need v None (outcome.Given words place) piece row =
     given-counts setting.caller need place words v row.2 piece (given-by setting.caller need place (need_of need) row.2 row.3) row.4
-alloc-counts setting state r need v None outcome.Refused piece row =
+alloc-counts setting position r need v None outcome.Refused piece row =
     let refused = refused-by setting.caller need (need_of need) piece row.1 in
     quiet-counts piece
     (subst (AllByRecursion IsQuiet) (sym refused.whole)
     (all-append IsQuiet refused.looked (Refuse setting.caller need ∷ []) (quiet-looks setting.caller refused.looked refused.look) ((refl, refl), tt)))
-alloc-counts setting state r need v None outcome.Spent piece row =
-    quiet-counts piece (quiet-looks setting.caller piece (spent-looks setting state need piece state.spent row))
-alloc-counts setting state r need v held result piece row = absurd row
+alloc-counts setting position r need v None outcome.Spent piece row =
+    quiet-counts piece (quiet-looks setting.caller piece (spent-looks setting position need piece position.spent row))
+alloc-counts setting position r need v held result piece row = absurd row
 
 free-counts :
     (setting : Setting) (registers : List (Option Held)) (r : ℕ) (held : Option Held) (result : Outcome) (piece : List Event)
@@ -161,24 +161,24 @@ fill-counts setting v (Some held) outcome.Filled piece row =
 fill-counts setting v held result piece row = absurd row
 
 check-counts :
-    (setting : Setting) (state : State) (held : Option Held) (result : Outcome) (piece : List Event) → CheckRow setting state held result piece
+    (setting : Setting) (position : Position) (held : Option Held) (result : Outcome) (piece : List Event) → CheckRow setting position held result piece
     → Counts piece 0 0
-check-counts setting state None outcome.Skipped piece row = quiet-counts piece (quiet-none piece row)
-check-counts setting state (Some held) (outcome.Sum total) piece row = quiet-counts piece (quiet-none piece row.0)
-check-counts setting state held result piece row = absurd row
+check-counts setting position None outcome.Skipped piece row = quiet-counts piece (quiet-none piece row)
+check-counts setting position (Some held) (outcome.Sum total) piece row = quiet-counts piece (quiet-none piece row.0)
+check-counts setting position held result piece row = absurd row
 
 -- a plain operation gives and frees what its outcome says
 pub row-counts :
-    (setting : Setting) (state : State) (operation : Op) (result : Outcome) (piece : List Event) → IsPlain operation
-    → FitsRow setting state operation result piece
-    → Counts piece (count_with as_one (words_given operation result)) (count_with as_one (words_freed state.registers operation result))
-row-counts setting state (op.Alloc r need v) result piece plain row =
-    alloc-counts setting state r need v (held_in state.registers r) result piece row
-row-counts setting state (op.Free r) result piece plain row = free-counts setting state.registers r (held_in state.registers r) result piece refl row
-row-counts setting state (op.Fill r v) result piece plain row = fill-counts setting v (held_in state.registers r) result piece row
-row-counts setting state (op.Check r) result piece plain row = check-counts setting state (held_in state.registers r) result piece row
-row-counts setting state (op.Put r shelf) result piece plain row = absurd plain
-row-counts setting state (op.Take r shelf) result piece plain row = absurd plain
+    (setting : Setting) (position : Position) (operation : Op) (result : Outcome) (piece : List Event) → IsPlain operation
+    → FitsRow setting position operation result piece
+    → Counts piece (count_with as_one (words_given operation result)) (count_with as_one (words_freed position.registers operation result))
+row-counts setting position (op.Alloc r need v) result piece plain row =
+    alloc-counts setting position r need v (held_in position.registers r) result piece row
+row-counts setting position (op.Free r) result piece plain row = free-counts setting position.registers r (held_in position.registers r) result piece refl row
+row-counts setting position (op.Fill r v) result piece plain row = fill-counts setting v (held_in position.registers r) result piece row
+row-counts setting position (op.Check r) result piece plain row = check-counts setting position (held_in position.registers r) result piece row
+row-counts setting position (op.Put r shelf) result piece plain row = absurd plain
+row-counts setting position (op.Take r shelf) result piece plain row = absurd plain
 
 -- an event that, where it refuses, refuses a small need
 abbrev pub IsTame : Event → Type 0
@@ -186,23 +186,23 @@ IsTame (Refuse by need) = need ≤ SMALL_MOST
 IsTame event = Unit {0}
 
 tame-alloc :
-    (setting : Setting) (state : State) (need v : ℕ) (held : Option Held) (result : Outcome) (piece : List Event) → need ≤ SMALL_MOST
-    → AllocRow setting state need v held result piece → AllByRecursion IsTame piece
-tame-alloc setting state need v (Some held) outcome.Skipped piece small row = rw row tt
-tame-alloc setting state need v None (outcome.Given words place) piece small row =
+    (setting : Setting) (position : Position) (need v : ℕ) (held : Option Held) (result : Outcome) (piece : List Event) → need ≤ SMALL_MOST
+    → AllocRow setting position need v held result piece → AllByRecursion IsTame piece
+tame-alloc setting position need v (Some held) outcome.Skipped piece small row = rw row tt
+tame-alloc setting position need v None (outcome.Given words place) piece small row =
     let given = given-by setting.caller need place (need_of need) row.2 row.3 in
     let called : AllByRecursion IsTame row.2 =
     subst (AllByRecursion IsTame) (sym given.whole)
     (all-append IsTame given.looked (Alloc setting.caller need place ∷ []) (all-looks IsTame setting.caller given.looked (λ class. tt) given.look) (tt, tt)) in
     subst (AllByRecursion IsTame) (sym row.4)
     (all-append IsTame row.2 (filling setting.caller place words v) called (all-filling IsTame setting.caller place words v (λ i n. tt)))
-tame-alloc setting state need v None outcome.Refused piece small row =
+tame-alloc setting position need v None outcome.Refused piece small row =
     let refused = refused-by setting.caller need (need_of need) piece row.1 in
     subst (AllByRecursion IsTame) (sym refused.whole)
     (all-append IsTame refused.looked (Refuse setting.caller need ∷ []) (all-looks IsTame setting.caller refused.looked (λ class. tt) refused.look) (small, tt))
-tame-alloc setting state need v None outcome.Spent piece small row =
-    all-looks IsTame setting.caller piece (λ class. tt) (spent-looks setting state need piece state.spent row)
-tame-alloc setting state need v held result piece small row = absurd row
+tame-alloc setting position need v None outcome.Spent piece small row =
+    all-looks IsTame setting.caller piece (λ class. tt) (spent-looks setting position need piece position.spent row)
+tame-alloc setting position need v held result piece small row = absurd row
 
 tame-free :
     (setting : Setting) (held : Option Held) (result : Outcome) (piece : List Event) → FreeRow setting held result piece → AllByRecursion IsTame piece
@@ -218,19 +218,19 @@ tame-fill setting v (Some held) outcome.Filled piece row = rw row (all-filling I
 tame-fill setting v held result piece row = absurd row
 
 tame-check :
-    (setting : Setting) (state : State) (held : Option Held) (result : Outcome) (piece : List Event) → CheckRow setting state held result piece
+    (setting : Setting) (position : Position) (held : Option Held) (result : Outcome) (piece : List Event) → CheckRow setting position held result piece
     → AllByRecursion IsTame piece
-tame-check setting state None outcome.Skipped piece row = rw row tt
-tame-check setting state (Some held) (outcome.Sum total) piece row = rw row.0 tt
-tame-check setting state held result piece row = absurd row
+tame-check setting position None outcome.Skipped piece row = rw row tt
+tame-check setting position (Some held) (outcome.Sum total) piece row = rw row.0 tt
+tame-check setting position held result piece row = absurd row
 
 -- so are those of a plain operation
 pub row-tame :
-    (setting : Setting) (state : State) (operation : Op) (result : Outcome) (piece : List Event) → IsPlain operation
-    → FitsRow setting state operation result piece → AllByRecursion IsTame piece
-row-tame setting state (op.Alloc r need v) result piece plain row = tame-alloc setting state need v (held_in state.registers r) result piece plain row
-row-tame setting state (op.Free r) result piece plain row = tame-free setting (held_in state.registers r) result piece row
-row-tame setting state (op.Fill r v) result piece plain row = tame-fill setting v (held_in state.registers r) result piece row
-row-tame setting state (op.Check r) result piece plain row = tame-check setting state (held_in state.registers r) result piece row
-row-tame setting state (op.Put r shelf) result piece plain row = absurd plain
-row-tame setting state (op.Take r shelf) result piece plain row = absurd plain
+    (setting : Setting) (position : Position) (operation : Op) (result : Outcome) (piece : List Event) → IsPlain operation
+    → FitsRow setting position operation result piece → AllByRecursion IsTame piece
+row-tame setting position (op.Alloc r need v) result piece plain row = tame-alloc setting position need v (held_in position.registers r) result piece plain row
+row-tame setting position (op.Free r) result piece plain row = tame-free setting (held_in position.registers r) result piece row
+row-tame setting position (op.Fill r v) result piece plain row = tame-fill setting v (held_in position.registers r) result piece row
+row-tame setting position (op.Check r) result piece plain row = tame-check setting position (held_in position.registers r) result piece row
+row-tame setting position (op.Put r shelf) result piece plain row = absurd plain
+row-tame setting position (op.Take r shelf) result piece plain row = absurd plain

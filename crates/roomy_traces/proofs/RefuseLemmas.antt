@@ -21,7 +21,7 @@ use Rattle.trace_text.specs.declared.trace.Op.{Op}
 use Rattle.trace_text.specs.declared.trace.Trace.{Trace}
 use Rattle.lane_outcomes.specs.declared.registers.Held.{Held}
 use Rattle.lane_outcomes.specs.declared.outcome.Outcome.{Outcome}
-use Rattle.lane_outcomes.specs.Lane.{State, start, state_after}
+use Rattle.lane_outcomes.specs.Lane.{Position, start, position_after}
 use Rattle.lane_outcomes.specs.Rows.{Setting}
 use Rattle.lane_outcomes.specs.Fits.{Walks, OutcomesFit}
 use Rattle.lane_outcomes.specs.Standing.{setting_in}
@@ -93,13 +93,13 @@ few-live trace history before lost outcomes named roomy legal fit begins none =
 
 -- a lane's events refuse small needs alone
 walk-tame :
-    (setting : Setting) (from to : State) (operations : List Op) (results : List Outcome) → AllByRecursion IsPlain operations
+    (setting : Setting) (from to : Position) (operations : List Op) (results : List Outcome) → AllByRecursion IsPlain operations
     → Walks setting from operations results to → AllByRecursion IsTame from.done → AllByRecursion IsTame to.done
-walk-tame setting from to [] [] plain walks tame = subst (λ (s : State). AllByRecursion IsTame s.done) (sym walks) tame
+walk-tame setting from to [] [] plain walks tame = subst (λ (s : Position). AllByRecursion IsTame s.done) (sym walks) tame
 walk-tame setting from to [] (result ∷ results) plain walks tame = absurd walks
 walk-tame setting from to (operation ∷ operations) [] plain walks tame = absurd walks
 walk-tame setting from to (operation ∷ operations) (result ∷ results) plain walks tame =
-    walk-tame setting (state_after from operation result walks.0) to operations results plain.1 walks.2
+    walk-tame setting (position_after from operation result walks.0) to operations results plain.1 walks.2
     (all-append IsTame from.done walks.0 tame (row-tame setting from operation result walks.0 plain.0 walks.1))
 
 own-tame :

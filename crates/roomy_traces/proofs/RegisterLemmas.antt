@@ -11,7 +11,7 @@ use Rattle.trace_text.specs.declared.trace.Op.TheVariants as op
 use Rattle.lane_outcomes.specs.declared.registers.Held.{Held}
 use Rattle.lane_outcomes.specs.declared.outcome.Outcome.{Outcome}
 use Rattle.lane_outcomes.specs.declared.outcome.Outcome.TheVariants as outcome
-use Rattle.lane_outcomes.specs.Lane.{State, held_in, registers_after}
+use Rattle.lane_outcomes.specs.Lane.{Position, held_in, registers_after}
 use Rattle.lane_outcomes.specs.LaneCounts.{count_with}
 use Rattle.lane_outcomes.specs.Rows.{Setting, AllocRow, FreeRow, FillRow, CheckRow, FitsRow}
 use Rattle.roomy_traces.specs.Roomy.{Filled, IsPlain, filled_in, serial_step, serial_after, held_by}
@@ -95,33 +95,33 @@ pub record IsSerialRow (registers : List (Option Held)) (filled : List (Option F
   pub outcome_is : without_place result ≡ serial_outcome now operation
 
 alloc-serial :
-    (setting : Setting) (state : State) (filled : List (Option Filled)) (r need v : ℕ) (held : Option Held) (result : Outcome) (now : Option Filled)
-    (piece : List Event) → words_held held ≡ words_filled now → IsAlike state.registers filled → IsAnswered result
-    → AllocRow setting state need v held result piece → IsSerialRow state.registers filled now (op.Alloc r need v) result
-alloc-serial setting state filled r need v (Some held) outcome.Skipped (Some now) piece same alike answered row = record { alike = alike; outcome_is = refl }
-alloc-serial setting state filled r need v (Some held) outcome.Skipped None piece same alike answered row = mismatch held _ same
-alloc-serial setting state filled r need v None (outcome.Given words place) None piece same alike answered row =
+    (setting : Setting) (position : Position) (filled : List (Option Filled)) (r need v : ℕ) (held : Option Held) (result : Outcome) (now : Option Filled)
+    (piece : List Event) → words_held held ≡ words_filled now → IsAlike position.registers filled → IsAnswered result
+    → AllocRow setting position need v held result piece → IsSerialRow position.registers filled now (op.Alloc r need v) result
+alloc-serial setting position filled r need v (Some held) outcome.Skipped (Some now) piece same alike answered row = record { alike = alike; outcome_is = refl }
+alloc-serial setting position filled r need v (Some held) outcome.Skipped None piece same alike answered row = mismatch held _ same
+alloc-serial setting position filled r need v None (outcome.Given words place) None piece same alike answered row =
     record {
       alike =
-          alike-set state.registers filled r (Some (record { place = place; words = words }))
+          alike-set position.registers filled r (Some (record { place = place; words = words }))
           (Some (record { words = usable_words (need_of need); first = v })) (ap Some row.1) alike;
       outcome_is = ap (λ n. outcome.Given n 0) row.1;
     }
-alloc-serial setting state filled r need v None (outcome.Given words place) (Some now) piece same alike answered row = mismatch_too now _ same
-alloc-serial setting state filled r need v None outcome.Refused now piece same alike answered row = absurd answered
-alloc-serial setting state filled r need v None outcome.Spent now piece same alike answered row = absurd answered
-alloc-serial setting state filled r need v held result now piece same alike answered row = absurd row
+alloc-serial setting position filled r need v None (outcome.Given words place) (Some now) piece same alike answered row = mismatch_too now _ same
+alloc-serial setting position filled r need v None outcome.Refused now piece same alike answered row = absurd answered
+alloc-serial setting position filled r need v None outcome.Spent now piece same alike answered row = absurd answered
+alloc-serial setting position filled r need v held result now piece same alike answered row = absurd row
 
 free-serial :
-    (setting : Setting) (state : State) (filled : List (Option Filled)) (r : ℕ) (held : Option Held) (result : Outcome) (now : Option Filled)
-    (piece : List Event) → words_held held ≡ words_filled now → IsAlike state.registers filled → FreeRow setting held result piece
-    → IsSerialRow state.registers filled now (op.Free r) result
-free-serial setting state filled r None outcome.Skipped None piece same alike row = record { alike = alike; outcome_is = refl }
-free-serial setting state filled r None outcome.Skipped (Some now) piece same alike row = mismatch_too now _ same
-free-serial setting state filled r (Some held) outcome.Freed (Some now) piece same alike row =
-    record { alike = alike-set state.registers filled r None None refl alike; outcome_is = refl }
-free-serial setting state filled r (Some held) outcome.Freed None piece same alike row = mismatch held _ same
-free-serial setting state filled r held result now piece same alike row = absurd row
+    (setting : Setting) (position : Position) (filled : List (Option Filled)) (r : ℕ) (held : Option Held) (result : Outcome) (now : Option Filled)
+    (piece : List Event) → words_held held ≡ words_filled now → IsAlike position.registers filled → FreeRow setting held result piece
+    → IsSerialRow position.registers filled now (op.Free r) result
+free-serial setting position filled r None outcome.Skipped None piece same alike row = record { alike = alike; outcome_is = refl }
+free-serial setting position filled r None outcome.Skipped (Some now) piece same alike row = mismatch_too now _ same
+free-serial setting position filled r (Some held) outcome.Freed (Some now) piece same alike row =
+    record { alike = alike-set position.registers filled r None None refl alike; outcome_is = refl }
+free-serial setting position filled r (Some held) outcome.Freed None piece same alike row = mismatch held _ same
+free-serial setting position filled r held result now piece same alike row = absurd row
 
 -- a register that is set to what it holds already
 alike-same :
@@ -138,46 +138,46 @@ alike-same registers filled r v now there alike =
     }
 
 fill-serial :
-    (setting : Setting) (state : State) (filled : List (Option Filled)) (r v : ℕ) (held : Option Held) (result : Outcome) (now : Option Filled)
-    (piece : List Event) → words_held held ≡ words_filled now → slice_index_or filled r None ≡ now → IsAlike state.registers filled
-    → FillRow setting v held result piece → IsSerialRow state.registers filled now (op.Fill r v) result
-fill-serial setting state filled r v None outcome.Skipped None piece same there alike row = record { alike = alike; outcome_is = refl }
-fill-serial setting state filled r v None outcome.Skipped (Some now) piece same there alike row = mismatch_too now _ same
-fill-serial setting state filled r v (Some held) outcome.Filled (Some now) piece same there alike row =
-    record { alike = alike-same state.registers filled r v now there alike; outcome_is = refl }
-fill-serial setting state filled r v (Some held) outcome.Filled None piece same there alike row = mismatch held _ same
-fill-serial setting state filled r v held result now piece same there alike row = absurd row
+    (setting : Setting) (position : Position) (filled : List (Option Filled)) (r v : ℕ) (held : Option Held) (result : Outcome) (now : Option Filled)
+    (piece : List Event) → words_held held ≡ words_filled now → slice_index_or filled r None ≡ now → IsAlike position.registers filled
+    → FillRow setting v held result piece → IsSerialRow position.registers filled now (op.Fill r v) result
+fill-serial setting position filled r v None outcome.Skipped None piece same there alike row = record { alike = alike; outcome_is = refl }
+fill-serial setting position filled r v None outcome.Skipped (Some now) piece same there alike row = mismatch_too now _ same
+fill-serial setting position filled r v (Some held) outcome.Filled (Some now) piece same there alike row =
+    record { alike = alike-same position.registers filled r v now there alike; outcome_is = refl }
+fill-serial setting position filled r v (Some held) outcome.Filled None piece same there alike row = mismatch held _ same
+fill-serial setting position filled r v held result now piece same there alike row = absurd row
 
 check-serial :
-    (setting : Setting) (state : State) (filled : List (Option Filled)) (r : ℕ) (held : Option Held) (result : Outcome) (now : Option Filled)
-    (piece : List Event) → words_held held ≡ words_filled now → IsAlike state.registers filled → IsSummed now result
-    → CheckRow setting state held result piece → IsSerialRow state.registers filled now (op.Check r) result
-check-serial setting state filled r None outcome.Skipped None piece same alike summed row = record { alike = alike; outcome_is = refl }
-check-serial setting state filled r None outcome.Skipped (Some now) piece same alike summed row = mismatch_too now _ same
-check-serial setting state filled r (Some held) (outcome.Sum total) (Some now) piece same alike summed row =
+    (setting : Setting) (position : Position) (filled : List (Option Filled)) (r : ℕ) (held : Option Held) (result : Outcome) (now : Option Filled)
+    (piece : List Event) → words_held held ≡ words_filled now → IsAlike position.registers filled → IsSummed now result
+    → CheckRow setting position held result piece → IsSerialRow position.registers filled now (op.Check r) result
+check-serial setting position filled r None outcome.Skipped None piece same alike summed row = record { alike = alike; outcome_is = refl }
+check-serial setting position filled r None outcome.Skipped (Some now) piece same alike summed row = mismatch_too now _ same
+check-serial setting position filled r (Some held) (outcome.Sum total) (Some now) piece same alike summed row =
     record { alike = alike; outcome_is = ap outcome.Sum summed }
-check-serial setting state filled r (Some held) (outcome.Sum total) None piece same alike summed row = mismatch held _ same
-check-serial setting state filled r held result now piece same alike summed row = absurd row
+check-serial setting position filled r (Some held) (outcome.Sum total) None piece same alike summed row = mismatch held _ same
+check-serial setting position filled r held result now piece same alike summed row = absurd row
 
 -- so does each plain operation
 pub row-serial :
-    (setting : Setting) (state : State) (filled : List (Option Filled)) (operation : Op) (result : Outcome) (piece : List Event) → IsPlain operation
-    → IsAlike state.registers filled → IsAnswered result → IsSummedAt filled operation result
-    → FitsRow setting state operation result piece → IsSerialRow state.registers filled (filled_in filled operation) operation result
-row-serial setting state filled (op.Alloc r need v) result piece plain alike answered summed row =
-    alloc-serial setting state filled r need v (held_in state.registers r) result (slice_index_or filled r None) piece
-    (alike-at state.registers filled r alike) alike answered row
-row-serial setting state filled (op.Free r) result piece plain alike answered summed row =
-    free-serial setting state filled r (held_in state.registers r) result (slice_index_or filled r None) piece
-    (alike-at state.registers filled r alike) alike row
-row-serial setting state filled (op.Fill r v) result piece plain alike answered summed row =
-    fill-serial setting state filled r v (held_in state.registers r) result (slice_index_or filled r None) piece
-    (alike-at state.registers filled r alike) refl alike row
-row-serial setting state filled (op.Check r) result piece plain alike answered summed row =
-    check-serial setting state filled r (held_in state.registers r) result (slice_index_or filled r None) piece
-    (alike-at state.registers filled r alike) alike summed row
-row-serial setting state filled (op.Put r shelf) result piece plain alike answered summed row = absurd plain
-row-serial setting state filled (op.Take r shelf) result piece plain alike answered summed row = absurd plain
+    (setting : Setting) (position : Position) (filled : List (Option Filled)) (operation : Op) (result : Outcome) (piece : List Event) → IsPlain operation
+    → IsAlike position.registers filled → IsAnswered result → IsSummedAt filled operation result
+    → FitsRow setting position operation result piece → IsSerialRow position.registers filled (filled_in filled operation) operation result
+row-serial setting position filled (op.Alloc r need v) result piece plain alike answered summed row =
+    alloc-serial setting position filled r need v (held_in position.registers r) result (slice_index_or filled r None) piece
+    (alike-at position.registers filled r alike) alike answered row
+row-serial setting position filled (op.Free r) result piece plain alike answered summed row =
+    free-serial setting position filled r (held_in position.registers r) result (slice_index_or filled r None) piece
+    (alike-at position.registers filled r alike) alike row
+row-serial setting position filled (op.Fill r v) result piece plain alike answered summed row =
+    fill-serial setting position filled r v (held_in position.registers r) result (slice_index_or filled r None) piece
+    (alike-at position.registers filled r alike) refl alike row
+row-serial setting position filled (op.Check r) result piece plain alike answered summed row =
+    check-serial setting position filled r (held_in position.registers r) result (slice_index_or filled r None) piece
+    (alike-at position.registers filled r alike) alike summed row
+row-serial setting position filled (op.Put r shelf) result piece plain alike answered summed row = absurd plain
+row-serial setting position filled (op.Take r shelf) result piece plain alike answered summed row = absurd plain
 
 -- the registers are alike again, whatever a sum was
 pub step-check : (filled : List (Option Filled)) (now : Option Filled) (r : ℕ) → filled ≡ serial_step filled now (op.Check r)
@@ -185,19 +185,19 @@ step-check filled None r = refl
 step-check filled (Some now) r = refl
 
 pub row-alike :
-    (setting : Setting) (state : State) (filled : List (Option Filled)) (operation : Op) (result : Outcome) (piece : List Event) → IsPlain operation
-    → IsAlike state.registers filled → IsAnswered result → FitsRow setting state operation result piece
-    → IsAlike (registers_after state.registers operation result) (serial_after filled operation)
-row-alike setting state filled (op.Alloc r need v) result piece plain alike answered row =
-    (alloc-serial setting state filled r need v (held_in state.registers r) result (slice_index_or filled r None) piece
-    (alike-at state.registers filled r alike) alike answered row).alike
-row-alike setting state filled (op.Free r) result piece plain alike answered row =
-    (free-serial setting state filled r (held_in state.registers r) result (slice_index_or filled r None) piece
-    (alike-at state.registers filled r alike) alike row).alike
-row-alike setting state filled (op.Fill r v) result piece plain alike answered row =
-    (fill-serial setting state filled r v (held_in state.registers r) result (slice_index_or filled r None) piece
-    (alike-at state.registers filled r alike) refl alike row).alike
-row-alike setting state filled (op.Check r) result piece plain alike answered row =
-    subst (IsAlike state.registers) (step-check filled (slice_index_or filled r None) r) alike
-row-alike setting state filled (op.Put r shelf) result piece plain alike answered row = absurd plain
-row-alike setting state filled (op.Take r shelf) result piece plain alike answered row = absurd plain
+    (setting : Setting) (position : Position) (filled : List (Option Filled)) (operation : Op) (result : Outcome) (piece : List Event) → IsPlain operation
+    → IsAlike position.registers filled → IsAnswered result → FitsRow setting position operation result piece
+    → IsAlike (registers_after position.registers operation result) (serial_after filled operation)
+row-alike setting position filled (op.Alloc r need v) result piece plain alike answered row =
+    (alloc-serial setting position filled r need v (held_in position.registers r) result (slice_index_or filled r None) piece
+    (alike-at position.registers filled r alike) alike answered row).alike
+row-alike setting position filled (op.Free r) result piece plain alike answered row =
+    (free-serial setting position filled r (held_in position.registers r) result (slice_index_or filled r None) piece
+    (alike-at position.registers filled r alike) alike row).alike
+row-alike setting position filled (op.Fill r v) result piece plain alike answered row =
+    (fill-serial setting position filled r v (held_in position.registers r) result (slice_index_or filled r None) piece
+    (alike-at position.registers filled r alike) refl alike row).alike
+row-alike setting position filled (op.Check r) result piece plain alike answered row =
+    subst (IsAlike position.registers) (step-check filled (slice_index_or filled r None) r) alike
+row-alike setting position filled (op.Put r shelf) result piece plain alike answered row = absurd plain
+row-alike setting position filled (op.Take r shelf) result piece plain alike answered row = absurd plain

@@ -12,7 +12,7 @@ use Rattle.trace_text.specs.Traces.{IsOp, IsTrace}
 use Rattle.trace_text.specs.declared.trace.Op.{Op}
 use Rattle.trace_text.specs.declared.trace.Trace.{Trace}
 use Rattle.lane_outcomes.specs.declared.outcome.Outcome.{Outcome}
-use Rattle.lane_outcomes.specs.Lane.{State, start, state_after}
+use Rattle.lane_outcomes.specs.Lane.{Position, start, position_after}
 use Rattle.lane_outcomes.specs.LaneCounts.{as_one, lane_given, lane_freed}
 use Rattle.lane_outcomes.specs.Rows.{Setting, FitsRow}
 use Rattle.lane_outcomes.specs.Fits.{Walks, OutcomesFit}
@@ -32,12 +32,12 @@ use Rattle.roomy_traces.proofs.RefuseLemmas.{alike-start, lane-ranges, never-ref
 use Rattle.roomy_traces.proofs.FilledLemmas.{AreFilled, filled-start, row-filled, row-summed}
 
 -- where a lane stands, its registers beside those of the lane computed on its own
-record Stands (setting : Setting) (state : State) (filled : List (Option Filled)) : Type 0 where
-  pub alike : IsAlike state.registers filled
-  pub are_filled : AreFilled setting.history setting.caller state.done state.registers filled
+record Stands (setting : Setting) (position : Position) (filled : List (Option Filled)) : Type 0 where
+  pub alike : IsAlike position.registers filled
+  pub are_filled : AreFilled setting.history setting.caller position.done position.registers filled
   pub given : ℕ
   pub freed : ℕ
-  pub before : Before as_one setting state given freed
+  pub before : Before as_one setting position given freed
 
 stands-start : (setting : Setting) → Stands setting start no_blocks
 stands-start setting =
@@ -55,24 +55,24 @@ stands-start setting =
 
 -- no two registers hold the same block, since there is a moment at which the lane stands so
 once-at :
-    (setting : Setting) (state to : State) (given freed : ℕ) → Before as_one setting state given freed → Adds state to
-    → own setting.caller setting.history ≡ to.done → HoldsOnce state.registers
-once-at setting state to given freed at adds all_used =
-    let moment = moment-of setting.caller setting.history state.done adds.tail (all_used ∙ adds.whole) in
+    (setting : Setting) (position to : Position) (given freed : ℕ) → Before as_one setting position given freed → Adds position to
+    → own setting.caller setting.history ≡ to.done → HoldsOnce position.registers
+once-at setting position to given freed at adds all_used =
+    let moment = moment-of setting.caller setting.history position.done adds.tail (all_used ∙ adds.whole) in
     (at moment.0 moment.1 moment.2).holds.once
 
 -- the lane after one row more
-record Goes (setting : Setting) (state : State) (filled : List (Option Filled)) (operation : Op) (result : Outcome) (piece : List Event) : Type 0 where
-  pub stands : Stands setting (state_after state operation result piece) (serial_after filled operation)
-  pub serial : IsSerialRow state.registers filled (filled_in filled operation) operation result
+record Goes (setting : Setting) (position : Position) (filled : List (Option Filled)) (operation : Op) (result : Outcome) (piece : List Event) : Type 0 where
+  pub stands : Stands setting (position_after position operation result piece) (serial_after filled operation)
+  pub serial : IsSerialRow position.registers filled (filled_in filled operation) operation result
 
 row-goes :
-    (g : Geometry) (setting : Setting) (from to : State) (filled : List (Option Filled)) (operation : Op) (result : Outcome) (piece : List Event)
+    (g : Geometry) (setting : Setting) (from to : Position) (filled : List (Option Filled)) (operation : Op) (result : Outcome) (piece : List Event)
     → IsPlain operation → IsOp operation → IsLegalWithoutCounts g setting.history → IsAnswered result → own setting.caller setting.history ≡ to.done
-    → Adds (state_after from operation result piece) to → FitsRow setting from operation result piece → Stands setting from filled
+    → Adds (position_after from operation result piece) to → FitsRow setting from operation result piece → Stands setting from filled
     → Goes setting from filled operation result piece
 row-goes g setting from to filled operation result piece plain ranges legal answered all_used adds row stands =
-    let next : State = state_after from operation result piece in
+    let next : Position = position_after from operation result piece in
     let after : Before as_one setting next _ _ =
     walk-after as_one g setting from next (operation ∷ []) (result ∷ []) stands.given stands.freed legal (piece, row, refl) stands.before in
     let once : HoldsOnce from.registers =
@@ -92,28 +92,28 @@ row-goes g setting from to filled operation result piece plain ranges legal answ
     }
 
 -- a walk without want of a turn or a block has the outcomes of the lane computed on its own, and ends with its registers
-pub record IsSerial (from to : State) (filled : List (Option Filled)) (operations : List Op) (results : List Outcome) : Type 0 where
+pub record IsSerial (from to : Position) (filled : List (Option Filled)) (operations : List Op) (results : List Outcome) : Type 0 where
   pub outcomes : map without_place results ≡ serial_from filled operations
   pub balance :
       (f : ℕ → ℕ) → lane_given f operations results + own_by f from.registers ≡ lane_freed f from.registers operations results + own_by f to.registers
   pub alike : IsAlike to.registers (serial_end filled operations)
 
 walk-serial :
-    (g : Geometry) (setting : Setting) (from to : State) (filled : List (Option Filled)) (operations : List Op) (results : List Outcome)
+    (g : Geometry) (setting : Setting) (from to : Position) (filled : List (Option Filled)) (operations : List Op) (results : List Outcome)
     → AllByRecursion IsPlain operations → AllByRecursion IsOp operations → AllByRecursion IsUnspent results → AllByRecursion IsUnrefusing to.done
     → IsLegalWithoutCounts g setting.history → own setting.caller setting.history ≡ to.done → Walks setting from operations results to
     → Stands setting from filled → IsSerial from to filled operations results
 walk-serial g setting from to filled [] [] plain ranges unspent unrefusing legal all_used walks stands =
     record {
       outcomes = refl;
-      balance = λ f. ap (λ (s : State). 0 + own_by f s.registers) (sym walks);
-      alike = subst (λ (s : State). IsAlike s.registers filled) (sym walks) stands.alike;
+      balance = λ f. ap (λ (s : Position). 0 + own_by f s.registers) (sym walks);
+      alike = subst (λ (s : Position). IsAlike s.registers filled) (sym walks) stands.alike;
     }
 walk-serial g setting from to filled [] (result ∷ results) plain ranges unspent unrefusing legal all_used walks stands = absurd walks
 walk-serial g setting from to filled (operation ∷ operations) [] plain ranges unspent unrefusing legal all_used walks stands = absurd walks
 walk-serial g setting from to filled (operation ∷ operations) (result ∷ results) plain ranges unspent unrefusing legal all_used walks stands =
     let piece : List Event = walks.0 in
-    let next : State = state_after from operation result piece in
+    let next : Position = position_after from operation result piece in
     let adds : Adds next to = walk-adds setting next to operations results walks.2 in
     let quiet : AllByRecursion IsUnrefusing piece =
     all-ends IsUnrefusing from.done piece

@@ -15,7 +15,7 @@ use Rattle.trace_text.specs.declared.trace.Trace.{Trace}
 use Rattle.lane_outcomes.specs.declared.registers.Held.{Held}
 use Rattle.lane_outcomes.specs.declared.outcome.Outcome.{Outcome}
 use Rattle.lane_outcomes.specs.declared.outcome.Outcome.TheVariants as outcome
-use Rattle.lane_outcomes.specs.Lane.{State, start, held_in, is_small, answered_after, spent_after, state_after}
+use Rattle.lane_outcomes.specs.Lane.{Position, start, held_in, is_small, answered_after, spent_after, position_after}
 use Rattle.lane_outcomes.specs.LaneCounts.{words_given, count_with, as_one}
 use Rattle.lane_outcomes.specs.Rows.{Setting, IsSpent, AllocRow, FreeRow, FillRow, CheckRow, FitsRow, gives_another_small}
 use Rattle.lane_outcomes.specs.Fits.{Fits, Walks, OutcomesFit}
@@ -36,9 +36,9 @@ given-asked operation result = omega arith
 
 -- a walk gives at most a block for each allocation
 pub walk-allocs :
-    (setting : Setting) (from to : State) (operations : List Op) (results : List Outcome) → AllByRecursion IsPlain operations
+    (setting : Setting) (from to : Position) (operations : List Op) (results : List Outcome) → AllByRecursion IsPlain operations
     → Walks setting from operations results to → count_by is_alloc to.done ≤ count_by is_alloc from.done + count_by is_allocation operations
-walk-allocs setting from to [] [] plain walks = let same : count_by is_alloc to.done ≡ count_by is_alloc from.done = ap (λ (s : State). count_by is_alloc s.done) walks in omega arith
+walk-allocs setting from to [] [] plain walks = let same : count_by is_alloc to.done ≡ count_by is_alloc from.done = ap (λ (s : Position). count_by is_alloc s.done) walks in omega arith
 walk-allocs setting from to [] (result ∷ results) plain walks = absurd walks
 walk-allocs setting from to (operation ∷ operations) [] plain walks = absurd walks
 walk-allocs setting from to (operation ∷ operations) (result ∷ results) plain walks =
@@ -49,7 +49,7 @@ walk-allocs setting from to (operation ∷ operations) (result ∷ results) plai
       given-asked operation result,
       sum_by-append (λ e. cond (is_alloc e) 1 0) from.done walks.0,
       sum_by-cons (λ o. cond (is_allocation o) 1 0) operation operations,
-      walk-allocs setting (state_after from operation result walks.0) to operations results plain.1 walks.2,
+      walk-allocs setting (position_after from operation result walks.0) to operations results plain.1 walks.2,
     )
 
 -- an outcome that isn't want of a turn
@@ -74,13 +74,13 @@ abbrev AreFewOthers : Setting → ℕ → Type 0
 AreFewOthers setting others = (before : List Event) → Begins before setting.history → count_by (gives_another_small setting.caller) before ≤ others
 
 alloc-unspent :
-    (setting : Setting) (state : State) (others need v : ℕ) (held : Option Held) (result : Outcome) (piece : List Event) → AreFewOthers setting others
-    → state.answered + 1 + others ≤ setting.turn_limit → state.spent ≡ false → AllocRow setting state need v held result piece → IsUnspent result
-alloc-unspent setting state others need v None outcome.Spent piece few room fresh row =
-    let spent : IsSpent setting state need piece false = subst (IsSpent setting state need piece) fresh row in
+    (setting : Setting) (position : Position) (others need v : ℕ) (held : Option Held) (result : Outcome) (piece : List Event) → AreFewOthers setting others
+    → position.answered + 1 + others ≤ setting.turn_limit → position.spent ≡ false → AllocRow setting position need v held result piece → IsUnspent result
+alloc-unspent setting position others need v None outcome.Spent piece few room fresh row =
+    let spent : IsSpent setting position need piece false = subst (IsSpent setting position need piece) fresh row in
     absurd (omega (arith, room, spent.3, few spent.2.before spent.2.begins))
-alloc-unspent setting state others need v (Some held) outcome.Spent piece few room fresh row = absurd row
-alloc-unspent setting state others need v held result piece few room fresh row = tt
+alloc-unspent setting position others need v (Some held) outcome.Spent piece few room fresh row = absurd row
+alloc-unspent setting position others need v held result piece few room fresh row = tt
 
 free-unspent : (setting : Setting) (held : Option Held) (result : Outcome) (piece : List Event) → FreeRow setting held result piece → IsUnspent result
 free-unspent setting None outcome.Spent piece row = absurd row
@@ -93,27 +93,27 @@ fill-unspent setting v (Some held) outcome.Spent piece row = absurd row
 fill-unspent setting v held result piece row = tt
 
 check-unspent :
-    (setting : Setting) (state : State) (held : Option Held) (result : Outcome) (piece : List Event) → CheckRow setting state held result piece
+    (setting : Setting) (position : Position) (held : Option Held) (result : Outcome) (piece : List Event) → CheckRow setting position held result piece
     → IsUnspent result
-check-unspent setting state None outcome.Spent piece row = absurd row
-check-unspent setting state (Some held) outcome.Spent piece row = absurd row
-check-unspent setting state held result piece row = tt
+check-unspent setting position None outcome.Spent piece row = absurd row
+check-unspent setting position (Some held) outcome.Spent piece row = absurd row
+check-unspent setting position held result piece row = tt
 
 row-unspent :
-    (setting : Setting) (state : State) (others : ℕ) (operation : Op) (result : Outcome) (piece : List Event) → IsPlain operation
-    → AreFewOthers setting others → state.answered + asks operation + others ≤ setting.turn_limit → state.spent ≡ false
-    → FitsRow setting state operation result piece → IsUnspent result
-row-unspent setting state others (op.Alloc r need v) result piece plain few room fresh row =
-    alloc-unspent setting state others need v (held_in state.registers r) result piece few room fresh row
-row-unspent setting state others (op.Free r) result piece plain few room fresh row = free-unspent setting (held_in state.registers r) result piece row
-row-unspent setting state others (op.Fill r v) result piece plain few room fresh row = fill-unspent setting v (held_in state.registers r) result piece row
-row-unspent setting state others (op.Check r) result piece plain few room fresh row = check-unspent setting state (held_in state.registers r) result piece row
-row-unspent setting state others (op.Put r shelf) result piece plain few room fresh row = absurd plain
-row-unspent setting state others (op.Take r shelf) result piece plain few room fresh row = absurd plain
+    (setting : Setting) (position : Position) (others : ℕ) (operation : Op) (result : Outcome) (piece : List Event) → IsPlain operation
+    → AreFewOthers setting others → position.answered + asks operation + others ≤ setting.turn_limit → position.spent ≡ false
+    → FitsRow setting position operation result piece → IsUnspent result
+row-unspent setting position others (op.Alloc r need v) result piece plain few room fresh row =
+    alloc-unspent setting position others need v (held_in position.registers r) result piece few room fresh row
+row-unspent setting position others (op.Free r) result piece plain few room fresh row = free-unspent setting (held_in position.registers r) result piece row
+row-unspent setting position others (op.Fill r v) result piece plain few room fresh row = fill-unspent setting v (held_in position.registers r) result piece row
+row-unspent setting position others (op.Check r) result piece plain few room fresh row = check-unspent setting position (held_in position.registers r) result piece row
+row-unspent setting position others (op.Put r shelf) result piece plain few room fresh row = absurd plain
+row-unspent setting position others (op.Take r shelf) result piece plain few room fresh row = absurd plain
 
 -- where the limit has room for what the lane asks for and what others are given, no turn is wanting
 walk-unspent :
-    (setting : Setting) (others : ℕ) (from to : State) (operations : List Op) (results : List Outcome) → AllByRecursion IsPlain operations
+    (setting : Setting) (others : ℕ) (from to : Position) (operations : List Op) (results : List Outcome) → AllByRecursion IsPlain operations
     → AreFewOthers setting others → from.answered + count_by is_allocation operations + others ≤ setting.turn_limit → from.spent ≡ false
     → Walks setting from operations results to → AllByRecursion IsUnspent results
 walk-unspent setting others from to [] [] plain few room fresh walks = tt
@@ -123,7 +123,7 @@ walk-unspent setting others from to (operation ∷ operations) (result ∷ resul
     let all : count_by is_allocation (operation ∷ operations) ≡ asks operation + count_by is_allocation operations =
     sum_by-cons (λ o. cond (is_allocation o) 1 0) operation operations in
     let here : IsUnspent result = row-unspent setting from others operation result walks.0 plain.0 few (omega (arith, room, all)) fresh walks.1 in
-    let next : State = state_after from operation result walks.0 in
+    let next : Position = position_after from operation result walks.0 in
     let step : next.answered ≤ from.answered + asks operation = answered-step from.answered operation result in (
       here,
       walk-unspent setting others next to operations results plain.1 few (omega (arith, room, all, step))

@@ -13,8 +13,8 @@ overflow_mul-blocks c =
     let closed = c.args.closed.now in
     let t = c.add_actives-tally.result in
     let room =
-    actives-room (closed_state closed) c.args.settled t c.args.class (descriptor_count closed.geometry) closed.geometry.heaps
-    (count-most (closed_state closed)) (λ heap. offers-most closed heap c.args.class c.requires.rests) c.requires.settled
+    actives-room (closed_state closed) c.args.anchored t c.args.class (descriptor_count closed.geometry) closed.geometry.heaps
+    (count-most (closed_state closed)) (λ heap. offers-most closed heap c.args.class c.requires.rests) c.requires.anchored
     c.add_actives-tally.ensures in
     let few = few-descriptors closed c.requires.rests in
     let heaps = (closed-checked closed c.requires.rests).heaps.1 in
@@ -27,7 +27,7 @@ overflow_sub-result c =
     let closed = c.args.closed.now in
     let t = c.add_actives-tally.result in
     let x : IsTallied closed.geometry (closed_state closed) c.args.class t =
-    record { settled = c.args.settled; counts = c.requires.settled; all = c.add_actives-tally.ensures } in
+    record { anchored = c.args.anchored; counts = c.requires.anchored; all = c.add_actives-tally.ensures } in
     let all = class-within closed c.args.class t c.requires.rests c.requires.class x in
     let size : c.from.result * t.superblocks ≡ block_count_of c.args.class * t.superblocks =
     ap (λ k. k * t.superblocks) (c.from.ensures ∙ c.block_count.ensures) in
@@ -38,7 +38,7 @@ overflow_sub-result-2 c =
     let closed = c.args.closed.now in
     let t = c.add_actives-tally.result in
     let x : IsTallied closed.geometry (closed_state closed) c.args.class t =
-    record { settled = c.args.settled; counts = c.requires.settled; all = c.add_actives-tally.ensures } in
+    record { anchored = c.args.anchored; counts = c.requires.anchored; all = c.add_actives-tally.ensures } in
     let all = class-within closed c.args.class t c.requires.rests c.requires.class x in
     let size : c.from.result * t.superblocks ≡ block_count_of c.args.class * t.superblocks =
     ap (λ k. k * t.superblocks) (c.from.ensures ∙ c.block_count.ensures) in
@@ -49,6 +49,6 @@ returns c = λ l listed.
     let closed = c.args.closed.now in
     let t = c.add_actives-tally.result in
     let x : IsTallied closed.geometry (closed_state closed) c.args.class t =
-    record { settled = c.args.settled; counts = c.requires.settled; all = c.add_actives-tally.ensures } in
+    record { anchored = c.args.anchored; counts = c.requires.anchored; all = c.add_actives-tally.ensures } in
     class-count closed c.args.class t _ c.requires.rests c.requires.class x
     (ap (λ k. k * t.superblocks) (c.from.ensures ∙ c.block_count.ensures)) refl refl refl l listed

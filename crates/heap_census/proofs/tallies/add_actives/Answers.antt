@@ -10,8 +10,8 @@ pub add_active-tally-requires-clause-room : goal.add_active-tally-requires-claus
 add_active-tally-requires-clause-room c =
     let closed = c.args.closed.now in
     let room =
-    actives-room (closed_state closed) c.args.settled c.loop-heap.tally c.args.class (descriptor_count closed.geometry) c.loop-heap.heap
-    (count-most (closed_state closed)) (λ heap. offers-most closed heap c.args.class c.requires.rests) c.requires.settled c.loop-heap.invariant in
+    actives-room (closed_state closed) c.args.anchored c.loop-heap.tally c.args.class (descriptor_count closed.geometry) c.loop-heap.heap
+    (count-most (closed_state closed)) (λ heap. offers-most closed heap c.args.class c.requires.rests) c.requires.anchored c.loop-heap.invariant in
     let few = few-descriptors closed c.requires.rests in
     let heaps = (closed-checked closed c.requires.rests).heaps.1 in
     let same = ap (λ (g : Geometry). g.heaps) c.geometry-heap-end.ensures.value in

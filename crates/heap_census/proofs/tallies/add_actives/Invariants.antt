@@ -4,4 +4,4 @@ use Rattle.heap_census.proofs.tallies.add_actives.Given as goal
 
 -- the words so far are counted
 abbrev pub invariant-loop-heap : goal.invariant-loop-heap
-invariant-loop-heap l = IsSameTally l.tally (with_actives (closed_state l.closed) l.fn.settled l.class l.heap)
+invariant-loop-heap l = IsSameTally l.tally (with_actives (closed_state l.closed) l.fn.anchored l.class l.heap)

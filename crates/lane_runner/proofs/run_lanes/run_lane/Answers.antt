@@ -4,7 +4,7 @@ use Rattle.live_heap.specs.declared.heap.Heap.{Heap}
 use Rattle.live_heap.specs.Passes.{IsOf, seen}
 use Rattle.lane_steps.specs.Paths.{FirstPassed, begun_count}
 use Rattle.lane_steps.specs.States.{IsLaneOf}
-use Rattle.lane_runner.proofs.SeatLemmas.{over-after, run-over}
+use Rattle.lane_runner.proofs.PairLemmas.{over-after, run-over}
 use Rattle.lane_runner.proofs.run_lanes.run_lane.Goals as goal
 
 pub advance-requires-clause-serves : goal.advance-requires-clause-serves

@@ -3,20 +3,20 @@ use Rattle.std.specs.Prelude.{All, slice_index_or}
 use Rattle.crossbeam_utils.specs.declared.cache_padded.CachePadded.{CachePadded}
 use Rattle.crossbeam_utils.specs.Padded.{padded_value}
 use Rattle.lane_runner.specs.declared.run_lanes.LaneThread.{LaneThread}
-use Rattle.lane_runner.specs.Threads.{AreDone, HasRunThrough, IsReady, IsSeated}
-use Rattle.lane_runner.proofs.ThreadLemmas.{down-all, ready-seated, threads-done, threads-gone, written-whole}
+use Rattle.lane_runner.specs.Threads.{AreDone, HasRunThrough, IsReady, IsPaired}
+use Rattle.lane_runner.proofs.ThreadLemmas.{down-all, ready-paired, threads-done, threads-gone, written-whole}
 use Rattle.lane_runner.proofs.run_lanes.run_threads.Goals as goal
 
 pub run_each-requires-clause-some : goal.run_each-requires-clause-some
 run_each-requires-clause-some g c = omega (arith, ap length c.as_mut_slice.ensures.value, c.requires.ready.0, c.requires.some)
 
-pub run_each-requires-clause-seated : goal.run_each-requires-clause-seated
-run_each-requires-clause-seated g c = λ lifetimes outlive.
+pub run_each-requires-clause-paired : goal.run_each-requires-clause-paired
+run_each-requires-clause-paired g c = λ lifetimes outlive.
     let trace = c.args.trace.now in
     let h = c.args.heap.now in
-    let Q = λ (t : CachePadded LaneThread). IsSeated trace h (padded_value t) in
+    let Q = λ (t : CachePadded LaneThread). IsPaired trace h (padded_value t) in
     subst (λ (l : List (CachePadded LaneThread)). All Q l) (sym c.as_mut_slice.ensures.value)
-    (down-all (λ k (t : CachePadded LaneThread). IsReady trace h k (padded_value t)) Q (λ k t. ready-seated trace h k (padded_value t)) 0
+    (down-all (λ k (t : CachePadded LaneThread). IsReady trace h k (padded_value t)) Q (λ k t. ready-paired trace h k (padded_value t)) 0
     c.args.threads.now.items c.requires.ready.1)
 
 pub returns-clause-done : goal.returns-clause-done

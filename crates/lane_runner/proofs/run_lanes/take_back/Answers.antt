@@ -3,7 +3,7 @@ use Rattle.lane_outcomes.specs.declared.outcome.Outcome.{Outcome}
 use Rattle.live_heap.specs.declared.pass.Pass.{Pass}
 use Rattle.lane_runner.specs.declared.run_lanes.LaneThread.{LaneThread}
 use Rattle.lane_runner.specs.Threads.{AreDone, AreEnded}
-use Rattle.lane_runner.proofs.SeatLemmas.{back-done, back-ended, push-long}
+use Rattle.lane_runner.proofs.PairLemmas.{back-done, back-ended, push-long}
 use Rattle.lane_runner.proofs.ThreadLemmas.{ended-count}
 use Rattle.lane_runner.proofs.run_lanes.take_back.Goals as goal
 

@@ -1,6 +1,6 @@
 use Rattle.std.proofs.Common.{arith}
 use Rattle.heap_census.proofs.RestLemmas.{few-descriptors}
-use Rattle.heap_census.proofs.tallies.add_settled.Goals as goal
+use Rattle.heap_census.proofs.tallies.add_anchored.Goals as goal
 
 pub add_superblock-requires-clause-superblocks : goal.add_superblock-requires-clause-superblocks
 add_superblock-requires-clause-superblocks c =

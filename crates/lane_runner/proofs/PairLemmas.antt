@@ -16,7 +16,7 @@ use Rattle.lane_steps.specs.declared.stage.Stage.TheVariants as stage
 use Rattle.lane_steps.specs.Paths.{FirstPassed, begun_count}
 use Rattle.lane_runner.specs.Running.{operations_in}
 use Rattle.lane_steps.specs.States.{IsLaneOf, IsNew}
-use Rattle.lane_runner.specs.Threads.{AreDone, AreEnded, AreReady, HasEnded, HasRunOver, IsDone, IsReady, StandsOver}
+use Rattle.lane_runner.specs.Threads.{AreDone, AreEnded, AreReady, HasEndedOver, HasRunOver, IsDone, IsReady, StandsOver}
 use Rattle.lane_runner.proofs.ThreadLemmas.{done-ended, down-pop, down-push, ended-push, from-pop, ready}
 
 -- a lane over an engine stands so over the pass
@@ -60,30 +60,30 @@ push-long xs ys x is = ap length is ∙ omega (arith, length-append ys (x ∷ []
 
 -- a lane is given the pass of its caller
 module _ (trace : Trace) (h : Heap) (lanes rest : List (LaneState Block)) (lane : LaneState Block) (passes others : List Pass) (p : Pass) (lane_last : lanes ≡ rest ++ lane ∷ []) (pass_last : passes ≡ others ++ p ∷ []) (as_many : length passes ≡ length lanes) (fresh : AreFrom h 0 passes) (new : AreFresh trace lanes) (few : length lanes ≤ length trace.lanes) where
-  seat-many : length others ≡ length rest
-  seat-many = omega (arith, push-long lanes rest lane lane_last, push-long passes others p pass_last, as_many)
+  pair-many : length others ≡ length rest
+  pair-many = omega (arith, push-long lanes rest lane lane_last, push-long passes others p pass_last, as_many)
 
   popped : AreFrom h 0 others × IsFresh h p × (p.errand.caller ≡ 0 + length others)
   popped = from-pop h 0 others p (subst (AreFrom h 0) pass_last fresh)
 
-  pub seat-passes : AreFrom h 0 others × (length others ≡ length rest)
-  seat-passes = (popped.0, seat-many)
+  pub pair-passes : AreFrom h 0 others × (length others ≡ length rest)
+  pair-passes = (popped.0, pair-many)
 
-  pub seat-lanes : AreFresh trace rest
-  seat-lanes k one lt there =
+  pub pair-lanes : AreFresh trace rest
+  pair-lanes k one lt there =
       new k one (omega (arith, lt, push-long lanes rest lane lane_last))
       (there ∙ sym (get_or_append_left rest (lane ∷ []) one k lt) ∙ ap (λ xs. get_or xs k one) (sym lane_last))
 
-  pub seat-thread :
+  pub pair-thread :
       (threads : List (CachePadded LaneThread)) (t : CachePadded LaneThread) → padded_value t ≡ record { pass = p; lane = lane }
       → AreReady trace h (length lanes) threads → AreReady trace h (length rest) (threads ++ t ∷ [])
-  seat-thread threads t is readies =
+  pair-thread threads t is readies =
       let k = length rest in
       let long = push-long lanes rest lane lane_last in
       let last : lane ≡ get_or lanes k lane =
       sym (get_or_push rest lane lane k refl) ∙ ap (λ xs. get_or xs k lane) (sym lane_last) in
       let one =
-      ready trace h k p lane (omega (arith, long, few)) popped.1 (popped.2 ∙ omega (arith, seat-many)) (new k lane (omega (arith, long)) last) in
+      ready trace h k p lane (omega (arith, long, few)) popped.1 (popped.2 ∙ omega (arith, pair-many)) (new k lane (omega (arith, long)) last) in
       down-push (λ k t. IsReady trace h k (padded_value t)) k threads t (subst (λ n. AreReady trace h n threads) (long ∙ omega arith) readies)
       (subst (IsReady trace h k) (sym is) one)
 
@@ -95,11 +95,11 @@ module _ (trace : Trace) (h : Heap) (threads rest : List (CachePadded LaneThread
   pub back-ended : AreEnded trace h 0 (passes ++ p ∷ []) (outcomes ++ o ∷ [])
   back-ended =
       let k = length passes in
-      let one : HasEnded h (operations_in trace k) k p o.items =
-      subst (λ (q : Pass). HasEnded h (operations_in trace k) k q o.items) (sym same_pass)
-      (subst (λ (r : Vec Outcome Global). HasEnded h (operations_in trace k) k (padded_value t).pass r.items) (sym same_outcomes)
+      let one : HasEndedOver h (operations_in trace k) k p o.items =
+      subst (λ (q : Pass). HasEndedOver h (operations_in trace k) k q o.items) (sym same_pass)
+      (subst (λ (r : Vec Outcome Global). HasEndedOver h (operations_in trace k) k (padded_value t).pass r.items) (sym same_outcomes)
       (done-ended trace h k (padded_value t) popped-done.0)) in
-      ended-push trace h 0 passes outcomes p o ended (subst (λ n. HasEnded h (operations_in trace n) n p o.items) (omega arith) one)
+      ended-push trace h 0 passes outcomes p o ended (subst (λ n. HasEndedOver h (operations_in trace n) n p o.items) (omega arith) one)
 
   pub back-done : AreDone trace h (length (passes ++ p ∷ [])) rest
   back-done = subst (λ n. AreDone trace h n rest) (omega (arith, length-append passes (p ∷ []))) popped-done.1

@@ -1,8 +1,8 @@
 use Rattle.std.proofs.Common.{◌≡◌, ◌≤◌, ◌++◌, ◌∷◌, [], length, length-append, sym, ap, ◌∙◌, subst, arith}
 use Rattle.std.specs.Prelude.{option_to_list}
 use Rattle.lane_runner.specs.Threads.{AreReady}
-use Rattle.lane_runner.proofs.SeatLemmas.{push-long, seat-lanes, seat-passes, seat-thread}
-use Rattle.lane_runner.proofs.run_lanes.seat_lanes.Goals as goal
+use Rattle.lane_runner.proofs.PairLemmas.{push-long, pair-lanes, pair-passes, pair-thread}
+use Rattle.lane_runner.proofs.run_lanes.pair_lanes.Goals as goal
 
 pub loop-lane-preserved : goal.loop-lane-preserved
 loop-lane-preserved c =
@@ -19,16 +19,16 @@ loop-lane-preserved c =
     let pass_last : passes ≡ others ++ p ∷ [] =
     c.pop-in-Some.ensures.items ∙ ap (λ o. others ++ option_to_list o) c.unwrap-pass.ensures in
     let few : length lanes ≤ length trace.lanes = omega (arith, i.all) in
-    let seated = seat-passes trace h lanes rest lane passes others p last pass_last i.as_many i.passes i.lanes few in
+    let paired = pair-passes trace h lanes rest lane passes others p last pass_last i.as_many i.passes i.lanes few in
     let long = push-long lanes rest lane last in
     let threads = c.loop-lane.threads.items in
     record {
-      lanes = seat-lanes trace h lanes rest lane passes others p last pass_last i.as_many i.passes i.lanes few;
-      passes = seated.0;
-      as_many = seated.1;
+      lanes = pair-lanes trace h lanes rest lane passes others p last pass_last i.as_many i.passes i.lanes few;
+      passes = paired.0;
+      as_many = paired.1;
       threads =
           subst (AreReady trace h (length rest)) (sym c.push_reserved.ensures.items)
-          (seat-thread trace h lanes rest lane passes others p last pass_last i.as_many i.passes i.lanes few threads c.new.result c.new.ensures i.threads);
+          (pair-thread trace h lanes rest lane passes others p last pass_last i.as_many i.passes i.lanes few threads c.new.result c.new.ensures i.threads);
       all = omega (arith, i.all, long, ap length c.push_reserved.ensures.items, length-append threads (c.new.result ∷ []));
       room = c.push_reserved.ensures.capacity ∙ i.room;
       back = c.pop-in-Some.ensures.capacity ∙ i.back;

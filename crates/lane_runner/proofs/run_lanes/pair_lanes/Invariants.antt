@@ -1,8 +1,8 @@
 use Rattle.std.proofs.Common.{◌≡◌, ◌+◌, length, vec_capacity}
 use Rattle.live_heap.specs.Passes.{AreFrom}
 use Rattle.lane_runner.specs.Threads.{AreReady}
-use Rattle.lane_runner.proofs.SeatLemmas.{AreFresh}
-use Rattle.lane_runner.proofs.run_lanes.seat_lanes.Given as goal
+use Rattle.lane_runner.proofs.PairLemmas.{AreFresh}
+use Rattle.lane_runner.proofs.run_lanes.pair_lanes.Given as goal
 
 abbrev pub invariant-loop-lane : goal.invariant-loop-lane
 invariant-loop-lane l = record {

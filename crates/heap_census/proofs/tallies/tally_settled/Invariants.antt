@@ -1,7 +1,0 @@
-use Rattle.heap_census.specs.Census.{closed_state}
-use Rattle.heap_census.specs.Tallies.{AreTallies, settled_tally}
-use Rattle.heap_census.proofs.tallies.tally_settled.Given as goal
-
--- the descriptors so far are counted
-abbrev pub invariant-loop-desc : goal.invariant-loop-desc
-invariant-loop-desc l = AreTallies l.tallies (settled_tally (closed_state l.closed) l.desc)
