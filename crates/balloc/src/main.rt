@@ -11,8 +11,6 @@ use std::{env, io};
 use trace_commands::run::run;
 
 mod exit;
-#[cfg(test)]
-mod tests;
 
 /// The words behind the program's name.
 fn words<R: Env + AllocGlobal>(rt: &R, alloc: Global) -> io::Result<Vec<String>> {

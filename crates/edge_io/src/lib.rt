@@ -13,5 +13,3 @@ pub mod real;
 pub mod sink;
 pub mod source;
 pub mod steady;
-#[cfg(test)]
-mod tests;

@@ -17,5 +17,3 @@ pub mod laws;
 pub mod next;
 pub mod point;
 pub mod reply;
-#[cfg(test)]
-mod tests;

@@ -17,5 +17,3 @@ pub mod point;
 pub mod retired;
 pub mod settle;
 pub mod stay;
-#[cfg(test)]
-mod tests;

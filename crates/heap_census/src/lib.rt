@@ -9,5 +9,3 @@ pub mod census;
 pub mod counting;
 pub mod laws;
 mod tallies;
-#[cfg(test)]
-mod tests;

@@ -12,9 +12,6 @@ use heap_geometry::need::{Need, usable};
 use std::alloc::AllocError;
 use step_core::machine::Core;
 
-#[cfg(test)]
-mod tests;
-
 /// A block that a caller of a machine holds. `place` is the arena word of its prefix.
 #[derive(Debug, PartialEq, Eq, Drop)]
 pub struct Grip {

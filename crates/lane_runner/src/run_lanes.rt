@@ -25,9 +25,6 @@ use std::thread;
 use std::thread::Threads;
 use trace_text::trace::{Op, Trace};
 
-#[cfg(test)]
-mod tests;
-
 /// By how many lost exchanges and cleared superblocks, together, a lane's count grows between two yields.
 const YIELD_AFTER: u64 = 64;
 

@@ -11,8 +11,6 @@ pub mod plan;
 pub mod point;
 pub mod run;
 pub mod settle;
-#[cfg(test)]
-mod tests;
 pub mod units;
 pub mod want;
 mod words;

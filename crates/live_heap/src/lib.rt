@@ -16,6 +16,4 @@ pub mod laws;
 pub mod pass;
 mod plays;
 mod steps;
-#[cfg(test)]
-mod tests;
 pub mod view;

@@ -11,6 +11,4 @@ pub mod info;
 pub mod laws;
 pub mod prefix;
 pub mod shelf;
-#[cfg(test)]
-mod tests;
 pub mod widths;

@@ -28,8 +28,6 @@ mod changes;
 mod live_block;
 mod marks;
 mod places;
-#[cfg(test)]
-mod tests;
 
 /// A pool of live blocks that keeps its events.
 ///

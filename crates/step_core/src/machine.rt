@@ -40,9 +40,6 @@ use word_plan::action::{Action, Found, apply};
 use word_plan::layout::Layout;
 use word_plan::name::WordName;
 
-#[cfg(test)]
-mod tests;
-
 /// The whole machine: the words of a heap, the errand of each caller, the events so far, and the
 /// number of steps. A caller is named by its number.
 ///

@@ -13,6 +13,4 @@ pub mod plan;
 pub mod point;
 pub mod settle;
 pub mod stay;
-#[cfg(test)]
-mod tests;
 mod words;

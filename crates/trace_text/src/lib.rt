@@ -10,7 +10,5 @@ pub mod numbers;
 pub mod printing;
 pub mod reading;
 mod stage;
-#[cfg(test)]
-mod tests;
 pub mod text;
 pub mod trace;

@@ -11,5 +11,3 @@ pub mod layout;
 pub mod limits;
 pub mod name;
 pub mod seat;
-#[cfg(test)]
-mod tests;

@@ -8,6 +8,4 @@ pub mod laws;
 pub mod making;
 mod pipeline;
 mod scalability;
-#[cfg(test)]
-mod tests;
 mod threadtest;

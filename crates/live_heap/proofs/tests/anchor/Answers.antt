@@ -1,7 +1,0 @@
-use Rattle.std.proofs.Common.{rules}
-use Rattle.word_plan.specs.Counts.{descriptor_count}
-use Rattle.live_heap.proofs.tests.anchor.Goals as goal
-
-pub word-requires : goal.word-requires
-unfolding descriptor_count
-word-requires c = search rules

@@ -1,0 +1,186 @@
+//! Steps of a large block and of a shelf, by the numbers of the words.
+
+use heap_geometry::geometry::Geometry;
+use heap_geometry::need::Need;
+use large_parts::plan::plan_large;
+use large_parts::point::LargePoint;
+use large_parts::run::Run;
+use large_parts::settle::settle_large;
+use large_parts::units::first_run;
+use large_parts::want::Want;
+use std::process::Abort;
+use word_plan::action::{Action, Found, apply};
+use word_plan::name::WordName::{Arena, Shelf, Units};
+
+const GEOMETRY: Geometry = Geometry {
+    frames: 1,
+    heaps: 1,
+    units: 1,
+    callers: 2,
+    turn_limit: 100,
+};
+
+/// An action, the word that it finds, and the word that it leaves.
+type Row = (Action, u64, u64);
+
+/// The point behind these steps, each of which makes the action of its row.
+fn steps<R: Abort>(rt: &R, point: LargePoint, rows: &[Row]) -> LargePoint {
+    let mut point = point;
+    for (action, before, after) in rows {
+        assert_eq!(rt; plan_large(&point), *action);
+        let (word, found) = apply(action, *before);
+        assert_eq!(rt; word, *after);
+        point = settle_large(point, found);
+    }
+    point
+}
+
+/// A block of 1,024 usable words takes the first unit behind the one frame.
+#[test]
+fn a_large_block_takes_a_unit(rt: HostRuntime) {
+    let rows = [
+        (Action::Load(Units), 0, 0),
+        (Action::Cas(Units, 0, 1), 0, 1),
+        (Action::Store(Arena(2048), 3), 0, 3),
+    ];
+    let load = LargePoint::LoadUnits {
+        want: Want::new(GEOMETRY, 1),
+    };
+    let given = steps(&rt, load, &rows);
+    assert!(rt; matches!(given, LargePoint::GivenRun { place: 2048, .. }));
+}
+
+/// It gives the unit back.
+#[test]
+fn a_large_block_is_freed(rt: HostRuntime) {
+    let rows = [
+        (Action::Load(Arena(2048)), 3, 3),
+        (Action::And(Units, u64::MAX - 1), 1, 0),
+    ];
+    let load = LargePoint::LoadRunPrefix {
+        place: 2048,
+        run: Run::new(0, 1),
+    };
+    assert!(rt; matches!(steps(&rt, load, &rows), LargePoint::FreedRun));
+}
+
+/// Where no run is free, an exchange of the word with itself finds that again.
+#[test]
+fn no_run_is_free(rt: HostRuntime) {
+    let point = LargePoint::TakeRun {
+        want: Want::new(GEOMETRY, 2),
+        bits: 0,
+    };
+    assert_eq!(rt; plan_large(&point), Action::Cas(Units, 0, 0));
+    let won = Found {
+        value: 0,
+        won: true,
+    };
+    assert!(rt; matches!(settle_large(point, won), LargePoint::NoRun));
+    let lost = Found {
+        value: 1,
+        won: false,
+    };
+    assert!(rt; matches!(settle_large(point, lost), LargePoint::LoadUnits { .. }));
+}
+
+/// A block is put on a shelf, which is full then.
+#[test]
+fn a_block_is_put_on_a_shelf(rt: HostRuntime) {
+    let put = LargePoint::PutBlock {
+        shelf: 5,
+        place: 2048,
+        need: Need::Large(1),
+    };
+    let action = Action::Cas(Shelf(5), 0, 262_289);
+    let done = steps(&rt, put, &[(action, 0, 262_289)]);
+    assert!(rt; matches!(done, LargePoint::PutDone));
+    let full = steps(&rt, put, &[(action, 262_289, 262_289)]);
+    assert!(rt; matches!(full, LargePoint::ShelfFull { found: 262_289 }));
+}
+
+/// It is taken from there, which leaves nothing; where another caller took it first, it is missed.
+#[test]
+fn a_block_is_taken_from_a_shelf(rt: HostRuntime) {
+    let look = LargePoint::LoadShelf { shelf: 5 };
+    let take = steps(&rt, look, &[(Action::Load(Shelf(5)), 262_289, 262_289)]);
+    let action = Action::Cas(Shelf(5), 262_289, 0);
+    let got = steps(&rt, take, &[(action, 262_289, 0)]);
+    assert!(rt;
+        matches!(
+            got,
+            LargePoint::Got {
+                place: 2048,
+                need: Need::Large(1)
+            }
+        )
+    );
+    let missed = steps(&rt, take, &[(action, 0, 0)]);
+    assert!(rt;
+        matches!(
+            missed,
+            LargePoint::Missed {
+                expected: 262_289,
+                found: 0
+            }
+        )
+    );
+}
+
+/// Where nothing lies on a shelf, an exchange of the word with itself finds that again.
+#[test]
+fn nothing_lies_on_a_shelf(rt: HostRuntime) {
+    let look = LargePoint::LoadShelf { shelf: 5 };
+    let rows = [
+        (Action::Load(Shelf(5)), 0, 0),
+        (Action::Cas(Shelf(5), 0, 0), 0, 0),
+    ];
+    assert!(rt; matches!(steps(&rt, look, &rows), LargePoint::NothingThere));
+}
+
+/// The usable words of a block stand behind its prefix word.
+#[test]
+fn usable_words(rt: HostRuntime) {
+    let write = LargePoint::StoreWord {
+        place: 2048,
+        index: 3,
+        value: 10,
+    };
+    let wrote = steps(&rt, write, &[(Action::Store(Arena(2052), 10), 0, 10)]);
+    assert!(rt; matches!(wrote, LargePoint::Wrote));
+    let read = LargePoint::LoadWord {
+        place: 2048,
+        index: 3,
+    };
+    let word = steps(&rt, read, &[(Action::Load(Arena(2052)), 10, 10)]);
+    assert!(rt; matches!(word, LargePoint::Word { value: 10 }));
+}
+
+/// The lowest unit that begins so many clear bits among the first ones.
+#[test]
+fn first_runs(rt: HostRuntime) {
+    let cases = [
+        (0, 64, 64, Some(0)),
+        (1, 64, 64, None),
+        (1, 64, 63, Some(1)),
+        (u64::MAX, 64, 1, None),
+        (u64::MAX >> 1, 64, 1, Some(63)),
+        (u64::MAX >> 1, 63, 1, None),
+        (0b1011, 4, 1, Some(2)),
+        (0b1011, 4, 2, None),
+        (0b1011, 6, 2, Some(4)),
+        (0b10_0101, 8, 1, Some(1)),
+        (0b10_0101, 8, 2, Some(3)),
+        (0b10_0101, 8, 3, None),
+        (0, 3, 4, None),
+        (0, 0, 1, None),
+    ];
+    for (bits, units, n, first) in cases {
+        assert!(rt; units <= 64 && n >= 1 && n <= 64);
+        assert_eq!(rt;
+            first_run(bits, units, n),
+            first,
+            "{n} of {units} in {bits}"
+        );
+    }
+}

@@ -1,0 +1,97 @@
+//! Numbers of packed words, by the table of their fields.
+
+use heap_geometry::need::Need;
+use packed_words::active::ActiveWord;
+use packed_words::anchor::{Anchor, State};
+use packed_words::head::Head;
+use packed_words::info::Info;
+use packed_words::prefix::{Prefix, link_of};
+use packed_words::shelf::ShelfWord;
+
+/// Each code of a state stands in bits 20 and 21.
+#[test]
+fn anchors(rt: HostRuntime) {
+    let rows = [
+        (Anchor::new(1, 959, State::Active, 0), 982_017),
+        (Anchor::new(65, 383, State::Active, 64), 268_827_713),
+        (Anchor::new(1, 959, State::Active, 64), 269_417_473),
+        (Anchor::new(0, 0, State::Full, 0), 1 << 20),
+        (Anchor::new(0, 0, State::Partial, 0), 2 << 20),
+        (Anchor::new(0, 0, State::Empty, 0), 3 << 20),
+    ];
+    for (anchor, word) in rows {
+        assert_eq!(rt; anchor.pack(), word);
+        assert_eq!(rt; Anchor::unpack(word), anchor);
+    }
+    let again = Anchor::unpack(269_417_473);
+    let fields = (again.avail(), again.count(), again.state(), again.tag());
+    assert_eq!(rt; fields, (1, 959, State::Active, 64));
+}
+
+#[test]
+fn active_words(rt: HostRuntime) {
+    let held = |desc, credits| ActiveWord::Held { desc, credits };
+    let rows = [
+        (0, ActiveWord::Null),
+        (64, held(0, 0)),
+        (127, held(0, 63)),
+        (128, held(1, 0)),
+    ];
+    for (word, active) in rows {
+        assert_eq!(rt; active.pack(), word);
+        assert_eq!(rt; ActiveWord::unpack(word), Some(active));
+    }
+    assert_eq!(rt; ActiveWord::unpack(63), None);
+}
+
+#[test]
+fn heads(rt: HostRuntime) {
+    assert_eq!(rt; Head::new(3, 5).pack(), 3 + 5 * 65_536);
+    let head = Head::unpack(3 + 5 * 65_536);
+    assert_eq!(rt; (head.top(), head.tag()), (3, 5));
+}
+
+#[test]
+fn prefixes(rt: HostRuntime) {
+    let rows = [
+        (14, Prefix::Small { desc: 7 }),
+        (129, Prefix::Large { units: 64 }),
+    ];
+    for (word, prefix) in rows {
+        assert_eq!(rt; prefix.pack(), word);
+        assert_eq!(rt; Prefix::unpack(word), Some(prefix));
+    }
+    for word in [1, 131] {
+        assert_eq!(rt; Prefix::unpack(word), None);
+    }
+    assert_eq!(rt; link_of(5 * 1024 + 3), 3);
+}
+
+#[test]
+fn infos(rt: HostRuntime) {
+    let info = Info::new(1023, 15, 9);
+    let word = 1023 + 15 * 65_536 + 9 * 16_777_216;
+    assert_eq!(rt; info.pack(), word);
+    assert_eq!(rt; (info.frame(), info.heap(), info.class()), (1023, 15, 9));
+    let rows = [(word, Some(info)), (1024, None), (1 << 32, None)];
+    for (word, info) in rows {
+        assert_eq!(rt; Info::unpack(word), info);
+    }
+}
+
+#[test]
+fn shelf_words(rt: HostRuntime) {
+    let block = |place, need| ShelfWord::Block { place, need };
+    let rows = [
+        (262_289, block(2048, Need::Large(1))),
+        (131, block(0, Need::Small(3))),
+        (0, ShelfWord::Nothing),
+    ];
+    for (word, shelf) in rows {
+        assert_eq!(rt; shelf.pack(), word);
+        assert_eq!(rt; ShelfWord::unpack(word), Some(shelf));
+    }
+    for word in [128 + 16, 128 + 10] {
+        assert_eq!(rt; ShelfWord::unpack(word), None);
+    }
+}

@@ -1,0 +1,288 @@
+//! Steps of one superblock, by the numbers of the words.
+
+use heap_geometry::geometry::Geometry;
+use superblock_parts::plan::plan_block;
+use superblock_parts::point::{BlockPoint, Share};
+use superblock_parts::settle::settle_block;
+use word_plan::action::{Action, Found};
+use word_plan::name::WordName::{self, Active, Arena, Hazard, Info};
+use word_plan::seat::{Seat, Site};
+
+const GEOMETRY: Geometry = Geometry {
+    frames: 1,
+    heaps: 1,
+    units: 0,
+    callers: 2,
+    turn_limit: 100,
+};
+
+/// The word of descriptor 0 in frame 0, of heap 0 and class 9.
+const INFO: u64 = 9 << 24;
+
+/// A superblock of class 9 has two blocks. It is installed with two credits, both blocks reserved.
+/// The second caller takes the last credit and pops the first block, so the first caller's pop is
+/// lost and made again.
+#[test]
+fn the_tag_tells_a_second_pop(rt: HostRuntime) {
+    let anchor = WordName::Anchor(0);
+    let active = Active(0, 9);
+    let first = [
+        (Action::Load(active), 65, true),
+        (Action::Cas(active, 65, 64), 65, true),
+        (Action::Load(Info(0)), INFO, true),
+        (Action::Load(anchor), 0, true),
+        (Action::Load(Arena(0)), 1, true),
+        (Action::Cas(anchor, 0, 4_194_305), 5_242_881, false),
+        (Action::Load(anchor), 5_242_881, true),
+        (Action::Load(Arena(1024)), 0, true),
+        (Action::Cas(anchor, 5_242_881, 9_437_184), 5_242_881, true),
+        (Action::Store(Arena(1024), 0), 0, true),
+    ];
+    let mut point = BlockPoint::LoadActive {
+        seat: Seat::new(GEOMETRY, 0, 9),
+    };
+    for (action, value, won) in first {
+        assert_eq!(rt; plan_block(&point), action);
+        point = settle_block(point, Found { value, won });
+    }
+    assert!(rt; matches!(point, BlockPoint::Given { index: 1, .. }));
+
+    let second = [
+        (Action::Load(active), 64, true),
+        (Action::Cas(active, 64, 0), 64, true),
+        (Action::Load(Info(0)), INFO, true),
+        (Action::Load(anchor), 0, true),
+        (Action::Load(Arena(0)), 1, true),
+        (Action::Cas(anchor, 0, 5_242_881), 0, true),
+        (Action::Store(Arena(0), 0), 1, true),
+    ];
+    let mut point = BlockPoint::LoadActive {
+        seat: Seat::new(GEOMETRY, 1, 9),
+    };
+    for (action, value, won) in second {
+        assert_eq!(rt; plan_block(&point), action);
+        point = settle_block(point, Found { value, won });
+    }
+    assert!(rt; matches!(point, BlockPoint::Given { index: 0, .. }));
+}
+
+/// The free of the first of two handed-out blocks makes the full superblock partial, and the free
+/// of the second makes it empty, which stores the hazard word and loads the heap first.
+#[test]
+fn two_frees_empty_a_superblock(rt: HostRuntime) {
+    let anchor = WordName::Anchor(0);
+    let seat = Seat::new(GEOMETRY, 1, 9);
+    let first = [
+        (Action::Load(Arena(0)), 0, true),
+        (Action::Load(anchor), 9_437_184, true),
+        (Action::Store(Arena(0), 0), 0, true),
+        (Action::Cas(anchor, 9_437_184, 10_486_784), 9_437_184, true),
+    ];
+    let mut point = BlockPoint::LoadPrefix {
+        seat,
+        frame: 0,
+        index: 0,
+    };
+    for (action, value, won) in first {
+        assert_eq!(rt; plan_block(&point), action);
+        point = settle_block(point, Found { value, won });
+    }
+    assert!(rt; matches!(point, BlockPoint::BecamePartial { stored: false, .. }));
+
+    let second = [
+        (Action::Load(Arena(1024)), 0, true),
+        (Action::Load(anchor), 10_486_784, true),
+        (Action::Store(Hazard(1), 1), 0, true),
+        (Action::Load(Info(0)), INFO, true),
+        (Action::Store(Arena(1024), 0), 0, true),
+        (
+            Action::Cas(anchor, 10_486_784, 11_535_361),
+            10_486_784,
+            true,
+        ),
+    ];
+    let mut point = BlockPoint::LoadPrefix {
+        seat,
+        frame: 0,
+        index: 1,
+    };
+    for (action, value, won) in second {
+        assert_eq!(rt; plan_block(&point), action);
+        point = settle_block(point, Found { value, won });
+    }
+    assert!(rt; matches!(point, BlockPoint::BecameEmpty { heap: 0, .. }));
+}
+
+/// The last blocks of a new superblock of class 0 are linked, and it is installed with 64 credits
+/// while 959 blocks stay on its count. Where another was installed first, it is not needed.
+#[test]
+fn a_new_superblock(rt: HostRuntime) {
+    let rows = [
+        (Action::Store(Arena(2044), 1023), 0, true),
+        (Action::Store(Arena(2046), 0), 0, true),
+        (Action::Store(Info(0), 0), 0, true),
+        (Action::Store(WordName::Anchor(0), 982_017), 0, true),
+        (Action::Cas(Active(0, 0), 0, 127), 0, true),
+        (Action::Store(Arena(0), 0), 0, true),
+    ];
+    let site = Site {
+        seat: Seat::new(GEOMETRY, 0, 0),
+        desc: 0,
+        frame: 0,
+    };
+    let mut point = BlockPoint::LinkBlock { site, index: 1022 };
+    for (action, value, won) in rows {
+        assert_eq!(rt; plan_block(&point), action);
+        point = settle_block(point, Found { value, won });
+    }
+    assert!(rt; matches!(point, BlockPoint::Given { index: 0, .. }));
+
+    let lost = Found {
+        value: 128,
+        won: false,
+    };
+    let point = settle_block(BlockPoint::InstallSuperblock { site }, lost);
+    assert!(rt; matches!(point, BlockPoint::Discarded { .. }));
+}
+
+/// Who takes the last credit of a superblock of class 1 takes 64 more off its count, and offers
+/// them, or returns them where another superblock is active by now.
+#[test]
+fn the_last_credit(rt: HostRuntime) {
+    let anchor = WordName::Anchor(0);
+    let active = Active(0, 1);
+    let rows = [
+        (Action::Load(active), 64, true),
+        (Action::Cas(active, 64, 0), 64, true),
+        (Action::Load(Info(0)), 1 << 24, true),
+        (Action::Load(anchor), 264_698_944, true),
+        (Action::Load(Arena(256)), 65, true),
+        (
+            Action::Cas(anchor, 264_698_944, 268_827_713),
+            264_698_944,
+            true,
+        ),
+        (Action::Cas(active, 0, 127), 191, false),
+        (Action::Load(anchor), 268_827_713, true),
+        (
+            Action::Cas(anchor, 268_827_713, 270_990_401),
+            268_827_713,
+            true,
+        ),
+    ];
+    let mut point = BlockPoint::LoadActive {
+        seat: Seat::new(GEOMETRY, 0, 1),
+    };
+    for (action, value, won) in rows {
+        assert_eq!(rt; plan_block(&point), action);
+        point = settle_block(point, Found { value, won });
+    }
+    assert!(rt; matches!(point, BlockPoint::Returned { index: 64, .. }));
+}
+
+/// A pop that a grant pays for leaves the state, and what was granted beside is offered.
+#[test]
+fn a_granted_pop(rt: HostRuntime) {
+    let site = Site {
+        seat: Seat::new(GEOMETRY, 0, 1),
+        desc: 0,
+        frame: 0,
+    };
+    let rows = [
+        (Action::Load(WordName::Anchor(0)), 3, true),
+        (Action::Load(Arena(12)), 2055, true),
+        (Action::Cas(WordName::Anchor(0), 3, 4_194_311), 3, true),
+        (Action::Cas(Active(0, 1), 0, 65), 0, true),
+    ];
+    let share = Share::Grant { more: 2 };
+    let mut point = BlockPoint::LoadAnchor { site, share };
+    for (action, value, won) in rows {
+        assert_eq!(rt; plan_block(&point), action);
+        point = settle_block(point, Found { value, won });
+    }
+    assert!(rt; matches!(point, BlockPoint::StorePrefix { index: 3, .. }));
+}
+
+/// The seat of the first caller, for class 9.
+fn seat() -> Seat {
+    Seat::new(GEOMETRY, 0, 9)
+}
+
+/// Descriptor 0 and frame 0, for that seat.
+fn site() -> Site {
+    Site {
+        seat: seat(),
+        desc: 0,
+        frame: 0,
+    }
+}
+
+/// A heap of these numbers has 66 descriptors, one frame and one processor heap. A word that names
+/// another one leaves the point, as do an anchor with a third block and a large block's prefix.
+#[test]
+fn words_that_are_not_expected(rt: HostRuntime) {
+    let share = Share::Credit;
+    let rows = [
+        (BlockPoint::LoadActive { seat: seat() }, 67 * 64),
+        (BlockPoint::LoadActive { seat: seat() }, 63),
+        (
+            BlockPoint::LoadInfo {
+                seat: seat(),
+                desc: 0,
+                share,
+            },
+            INFO + 1,
+        ),
+        (
+            BlockPoint::LoadInfo {
+                seat: seat(),
+                desc: 0,
+                share,
+            },
+            INFO + 65_536,
+        ),
+        (
+            BlockPoint::LoadAnchor {
+                site: site(),
+                share,
+            },
+            2,
+        ),
+        (
+            BlockPoint::LoadPrefix {
+                seat: seat(),
+                frame: 0,
+                index: 0,
+            },
+            2 * 66,
+        ),
+        (
+            BlockPoint::LoadPrefix {
+                seat: seat(),
+                frame: 0,
+                index: 0,
+            },
+            3,
+        ),
+        (
+            BlockPoint::LoadPushAnchor {
+                site: site(),
+                index: 0,
+                stored: false,
+            },
+            2,
+        ),
+        (
+            BlockPoint::LoadReturn {
+                site: site(),
+                index: 0,
+                more: 1,
+            },
+            2,
+        ),
+    ];
+    for (point, value) in rows {
+        let next = settle_block(point, Found { value, won: true });
+        assert_eq!(rt; plan_block(&next), plan_block(&point), "at {value}");
+    }
+}

@@ -1,0 +1,147 @@
+//! What outcomes say: how much is live, and the lines of a report.
+
+use heap_geometry::geometry::Geometry;
+use heap_geometry::limits::MAX_TURNS;
+use lane_outcomes::live::live_count;
+use lane_outcomes::outcome::Outcome;
+use lane_outcomes::report::report;
+use std::alloc::{AllocError, Global};
+use std::test::Fail;
+use trace_text::trace::{Lanes, Op, Orders, Trace};
+
+/// Lane 0 puts one of two blocks on a shelf, and lane 1 takes and frees it.
+fn two_lanes(alloc: Global) -> Result<Trace, AllocError> {
+    let first = [
+        Op::Alloc {
+            r: 0,
+            need: 1,
+            v: 5,
+        },
+        Op::Alloc {
+            r: 1,
+            need: 3,
+            v: 7,
+        },
+        Op::Put { r: 1, shelf: 5 },
+    ];
+    let second = [Op::Take { r: 0, shelf: 5 }, Op::Free { r: 0 }];
+    let lanes = vec![in alloc; first.to_vec(alloc)?, second.to_vec(alloc)?]?;
+    Ok(Trace {
+        heap: Geometry {
+            frames: 4,
+            heaps: 1,
+            units: 0,
+            callers: 2,
+            turn_limit: MAX_TURNS,
+        },
+        named_limit: false,
+        lanes: Lanes::new(lanes),
+        orders: Orders::new(Vec::new(alloc)),
+    })
+}
+
+#[test]
+fn a_block_that_was_taken_and_freed_is_not_live(rt: HostRuntime) -> Result<(), Fail> {
+    let alloc = rt.alloc();
+    let trace = two_lanes(alloc)?;
+    let first = [
+        Outcome::Given { words: 1, place: 0 },
+        Outcome::Given {
+            words: 3,
+            place: 2048,
+        },
+        Outcome::Put,
+    ];
+    let second = [
+        Outcome::Took {
+            words: 3,
+            place: 2048,
+        },
+        Outcome::Freed,
+    ];
+    let outcomes = vec![in alloc; first.to_vec(alloc)?, second.to_vec(alloc)?]?;
+    assert_eq!(rt; live_count(&trace, outcomes.as_slice()), (1, 1));
+    let shelved = vec![in alloc; first.to_vec(alloc)?]?;
+    assert_eq!(rt; live_count(&trace, shelved.as_slice()), (2, 4));
+    Ok(())
+}
+
+const EACH_OUTCOME: &str = "heap 4 1 2 lanes 1
+lane 0
+given 1
+refused
+spent
+freed
+filled
+sum 24
+put
+shelf full
+took 3
+shelf empty
+skipped
+live 1 words 3
+";
+
+const NAMED_LIMIT: &str = "heap 1 1 0 2 lanes 0
+live 0 words 0
+";
+
+fn one_lane(alloc: Global) -> Result<Trace, AllocError> {
+    let heap = Geometry {
+        frames: 4,
+        heaps: 1,
+        units: 2,
+        callers: 1,
+        turn_limit: MAX_TURNS,
+    };
+    Ok(Trace {
+        heap,
+        named_limit: false,
+        lanes: Lanes::new(vec![in alloc; Vec::new(alloc)]?),
+        orders: Orders::new(Vec::new(alloc)),
+    })
+}
+
+fn no_lane(alloc: Global) -> Trace {
+    let heap = Geometry {
+        frames: 1,
+        heaps: 1,
+        units: 0,
+        callers: 1,
+        turn_limit: 2,
+    };
+    Trace {
+        heap,
+        named_limit: true,
+        lanes: Lanes::new(Vec::new(alloc)),
+        orders: Orders::new(Vec::new(alloc)),
+    }
+}
+
+fn each_outcome(alloc: Global) -> Result<Vec<Outcome>, AllocError> {
+    [
+        Outcome::Given { words: 1, place: 7 },
+        Outcome::Refused,
+        Outcome::Spent,
+        Outcome::Freed,
+        Outcome::Filled,
+        Outcome::Sum(24),
+        Outcome::Put,
+        Outcome::ShelfFull,
+        Outcome::Took { words: 3, place: 9 },
+        Outcome::ShelfEmpty,
+        Outcome::Skipped,
+    ]
+    .to_vec(alloc)
+}
+
+#[test]
+fn each_line_is_spelled(rt: HostRuntime) -> Result<(), Fail> {
+    let alloc = rt.alloc();
+    let outcomes = vec![in alloc; each_outcome(alloc)?]?;
+    let text = report(alloc, &one_lane(alloc)?, &outcomes, 1, 3)?;
+    assert_eq!(rt; text.as_slice(), EACH_OUTCOME.as_bytes());
+    let text = report(alloc, &no_lane(alloc), &[], 0, 0)?;
+    assert_eq!(rt; text.as_slice(), NAMED_LIMIT.as_bytes());
+    Ok(())
+}

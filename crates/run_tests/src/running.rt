@@ -1,0 +1,107 @@
+//! Runs of the program over edges in memory.
+
+use edge_io::gate::{Gate, NoGate};
+use edge_io::memory::MemorySink;
+use edge_io::source::Source;
+use edge_io::steady::SteadySource;
+use std::alloc::{AllocError, Global};
+use std::process::Abort;
+use std::sync::Wait;
+use std::test::Fail;
+use std::thread::Threads;
+use trace_commands::closing::Closing;
+use trace_commands::run::{Ended, run};
+
+/// More bytes than any answer here has.
+pub const ROOM: usize = 32_768;
+
+/// What a run leaves of its heap.
+#[derive(Clone, Copy, Debug, PartialEq, Eq)]
+pub enum Left {
+    Nothing,
+    /// A plain pool, which no command leaves today.
+    Pool,
+    /// The heap that threads have shared.
+    Shared,
+    /// The machine that was stepped.
+    Machine,
+}
+
+/// The status that a run ends with, and what it leaves.
+pub type Told = (u8, Left);
+
+fn told_of(ended: &Ended) -> Told {
+    let left = match &ended.closed {
+        None => Left::Nothing,
+        Some(Closing::Plain(_)) => Left::Pool,
+        Some(Closing::Ran(_)) => Left::Shared,
+        Some(Closing::Stepped(_)) => Left::Machine,
+    };
+    (ended.status, left)
+}
+
+/// The words of a command line.
+fn words_of(alloc: Global, line: &str) -> Result<Vec<String>, AllocError> {
+    let mut words = Vec::new(alloc);
+    for word in line.split_whitespace() {
+        words.push(word.to_string(alloc)?)?;
+    }
+    Ok(words)
+}
+
+/// A sink that takes any answer in one write.
+pub fn wide_sink(alloc: Global) -> Result<MemorySink, AllocError> {
+    MemorySink::new(alloc, ROOM, ROOM, Vec::new(alloc))
+}
+
+/// How the program ends on this command line between these edges, where operations pass this gate.
+pub fn run_through<R: Threads + Wait + Sync, S: Source, G: Gate + Sync>(
+    rt: &R,
+    alloc: Global,
+    line: &str,
+    source: &mut S,
+    sink: &mut MemorySink,
+    gate: &G,
+) -> Result<Told, AllocError> {
+    let words = words_of(alloc, line)?;
+    let ended = run(rt, alloc, words.as_slice(), source, sink, gate);
+    Ok(told_of(&ended))
+}
+
+/// How the program ends on this command line between these edges.
+pub fn run_between<R: Threads + Wait + Sync, S: Source>(
+    rt: &R,
+    alloc: Global,
+    line: &str,
+    source: &mut S,
+    sink: &mut MemorySink,
+) -> Result<Told, AllocError> {
+    run_through(rt, alloc, line, source, sink, &NoGate)
+}
+
+/// How the program ends on this command line and input, and what it writes.
+pub fn run_on<R: Threads + Wait + Sync>(
+    rt: &R,
+    alloc: Global,
+    line: &str,
+    input: &str,
+) -> Result<(Told, MemorySink), AllocError> {
+    let mut source = SteadySource::new(input.as_bytes().to_vec(alloc)?);
+    let mut sink = wide_sink(alloc)?;
+    let told = run_between(rt, alloc, line, &mut source, &mut sink)?;
+    Ok((told, sink))
+}
+
+/// The program ends so on this command line and input, and writes this text.
+pub fn writes<R: Threads + Wait + Abort + AllocGlobal + Sync>(
+    rt: &R,
+    line: &str,
+    input: &str,
+    ends: Told,
+    text: &str,
+) -> Result<(), Fail> {
+    let (told, sink) = run_on(rt, rt.alloc(), line, input)?;
+    assert_eq!(rt; told, ends, "{line}: {input}");
+    assert_eq!(rt; sink.bytes(), text.as_bytes(), "{line}: {input}");
+    Ok(())
+}

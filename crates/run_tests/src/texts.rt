@@ -1,0 +1,252 @@
+//! Texts that are read, refused and printed.
+
+use std::test::Fail;
+use trace_text::fault::{Cause, TraceFault};
+use trace_text::limits::MAX_INPUT;
+use trace_text::printing::print_trace;
+use trace_text::reading::read_trace;
+use trace_text::trace::{Lanes, Op, OrderRun, Orders};
+
+/// A text is refused at this line for this cause.
+fn is_refused(rt: &HostRuntime, text: &[u8], number: u32, cause: u8) -> bool {
+    text.len() <= MAX_INPUT
+        && read_trace(rt.alloc(), text).err() == Some(TraceFault::Line { number, cause })
+}
+
+const PLAIN: &[u8] = b"heap 4 1 2\nlane\na 0 1 5\na 1 3 7\nc 1\nf 0\nf 1\nend\n";
+
+#[test]
+fn a_plain_text(rt: HostRuntime) -> Result<(), Fail> {
+    let trace = read_trace(rt.alloc(), PLAIN)?;
+    assert_eq!(rt; trace.heap.frames, 4);
+    assert_eq!(rt; trace.heap.heaps, 1);
+    assert_eq!(rt; trace.heap.units, 2);
+    assert_eq!(rt; trace.heap.callers, 1);
+    assert_eq!(rt; trace.heap.turn_limit, 274_877_906_943);
+    assert!(rt; !trace.named_limit);
+    assert_eq!(rt; trace.orders.as_slice().len(), 0);
+    let lanes = trace.lanes.as_slice();
+    assert_eq!(rt; lanes.len(), 1);
+    let want = [
+        Op::Alloc {
+            r: 0,
+            need: 1,
+            v: 5,
+        },
+        Op::Alloc {
+            r: 1,
+            need: 3,
+            v: 7,
+        },
+        Op::Check { r: 1 },
+        Op::Free { r: 0 },
+        Op::Free { r: 1 },
+    ];
+    assert_eq!(rt; lanes[0].as_slice(), want.as_slice());
+    Ok(())
+}
+
+#[test]
+fn a_lenient_text(rt: HostRuntime) -> Result<(), Fail> {
+    let text =
+        b"heap 1 1 0\r\n# note\r\n\r\nlane\r\na 0 1 18446744073709551615\r\n\ta\t0  1 2 \r\nw 0 4\r\nc 0\r\nf 0\r\nf 0\r\nc 0\r\nend";
+    let trace = read_trace(rt.alloc(), text)?;
+    let want = [
+        Op::Alloc {
+            r: 0,
+            need: 1,
+            v: 18_446_744_073_709_551_615,
+        },
+        Op::Alloc {
+            r: 0,
+            need: 1,
+            v: 2,
+        },
+        Op::Fill { r: 0, v: 4 },
+        Op::Check { r: 0 },
+        Op::Free { r: 0 },
+        Op::Free { r: 0 },
+        Op::Check { r: 0 },
+    ];
+    let lanes = trace.lanes.as_slice();
+    assert_eq!(rt; lanes.len(), 1);
+    assert_eq!(rt; lanes[0].as_slice(), want.as_slice());
+    Ok(())
+}
+
+#[test]
+fn the_largest_need(rt: HostRuntime) -> Result<(), Fail> {
+    let trace = read_trace(rt.alloc(), b"heap 1 1 64\nlane\na 0 131071 1\nend\n")?;
+    let want = [Op::Alloc {
+        r: 0,
+        need: 131_071,
+        v: 1,
+    }];
+    let lanes = trace.lanes.as_slice();
+    assert_eq!(rt; lanes.len(), 1);
+    assert_eq!(rt; lanes[0].as_slice(), want.as_slice());
+    let larger = b"heap 1 1 64\nlane\na 0 131072 1\nend\n";
+    assert!(rt; is_refused(&rt, larger, 3, 7));
+    Ok(())
+}
+
+#[test]
+fn refused_texts(rt: HostRuntime) {
+    let refused: [(&[u8], u32, u8); 27] = [
+        (b"", 1, 2),
+        (b"a 0 1 1\n", 1, 2),
+        (b"heap 0 1 2\nend\n", 1, 3),
+        (b"heap 4 1 2\nlane\n", 3, 9),
+        (b"heap 4 1 2\nlane\na 0 1", 3, 5),
+        (b"heap 4 1 2\nlane\na 0 x 1\nend\n", 3, 6),
+        (b"heap 4 1 2\nlane\na 1024 1 1\nend\n", 3, 7),
+        (b"heap 4 1 2\nlane\nr 0 5\nend\n", 3, 4),
+        (b"heap 4 1 2\na 0 1 1\nend\n", 2, 4),
+        (b"heap 4 1 2\nend\nlane\n", 3, 4),
+        (
+            b"heap 4 1 2\nlane\nlane\nlane\nlane\nlane\nlane\nlane\nlane\nlane\nlane\nlane\nlane\nlane\nlane\nlane\nlane\nlane\n",
+            18,
+            8,
+        ),
+        (b"heap 4 1 2\n\xc3\xa9", 2, 1),
+        (b"heap 4 1 2\nlane\norder 1 5\nend\n", 3, 7),
+        (b"\0", 1, 1),
+        (b"heap 1025 1 0", 1, 3),
+        (b"heap 4 1 2 0", 1, 3),
+        (b"heap 4 1 2 274877906944", 1, 3),
+        (b"heap 4 1 2\nlane\na 0 1 99999999999999999999", 3, 6),
+        (b"heap 4 1 2\nlane\nw 01 5\nend\n", 3, 6),
+        (b"heap 4 1 2\nheap 4 1 2\nend\n", 2, 4),
+        (b"heap 4 1 2\nend\nend\n", 3, 4),
+        (b"heap 4 1 2\norder 0 5\nend\n", 2, 7),
+        (b"heap 4 1 2\nlane\norder 0 5\nlane\nend\n", 4, 4),
+        (b"heap 4 1 2\nlane\norder 0 5\nf 0\nend\n", 4, 4),
+        (b"heap 4 1 2\nlane\norder 0 1000001\nend\n", 3, 7),
+        (b"heap 4 1 2\nlane\nt 0 64\nend\n", 3, 7),
+        (b"heap 4 1 2\r\r\nend\n", 1, 1),
+    ];
+    for (text, number, cause) in refused {
+        assert!(rt; is_refused(&rt, text, number, cause));
+    }
+}
+
+#[test]
+fn cuts_of_a_text(rt: HostRuntime) -> Result<(), Fail> {
+    // The line and the cause of the first 0 bytes, of the first one, of the first two, and so on.
+    let cuts = [
+        (1, 2),
+        (1, 2),
+        (1, 2),
+        (1, 2),
+        (1, 5),
+        (1, 5),
+        (1, 5),
+        (1, 5),
+        (1, 5),
+        (1, 5),
+        (2, 9),
+        (2, 9),
+        (2, 4),
+        (2, 4),
+        (2, 4),
+        (3, 9),
+        (3, 9),
+        (3, 5),
+        (3, 5),
+        (3, 5),
+        (3, 5),
+        (3, 5),
+        (3, 5),
+        (4, 9),
+        (4, 9),
+        (4, 5),
+        (4, 5),
+        (4, 5),
+        (4, 5),
+        (4, 5),
+        (4, 5),
+        (5, 9),
+        (5, 9),
+        (5, 5),
+        (5, 5),
+        (6, 9),
+        (6, 9),
+        (6, 5),
+        (6, 5),
+        (7, 9),
+        (7, 9),
+        (7, 5),
+        (7, 5),
+        (8, 9),
+        (8, 9),
+        (8, 4),
+        (8, 4),
+    ];
+    for (bytes, (number, cause)) in cuts.into_iter().enumerate() {
+        assert!(rt; bytes < PLAIN.len());
+        assert!(rt; is_refused(&rt, &PLAIN[..bytes], number, cause));
+    }
+    let trace = read_trace(rt.alloc(), &PLAIN[..47])?;
+    let lanes = trace.lanes.as_slice();
+    assert_eq!(rt; lanes.len(), 1);
+    assert_eq!(rt; lanes[0].as_slice().len(), 5);
+    Ok(())
+}
+
+#[test]
+fn every_line_is_printed_again(rt: HostRuntime) -> Result<(), Fail> {
+    let text =
+        b"heap 4 2 64 274877906943\nlane\na 1023 131071 18446744073709551615\nw 0 9\nc 0\nf 10\nlane\np 3 63\nt 3 0\nlane\norder 1 1000000\norder 2 1\nend\n";
+    let trace = read_trace(rt.alloc(), text)?;
+    assert_eq!(rt; trace.heap.callers, 3);
+    let want = [
+        OrderRun {
+            lane: 1,
+            steps: 1_000_000,
+        },
+        OrderRun { lane: 2, steps: 1 },
+    ];
+    assert_eq!(rt; trace.orders.as_slice(), want.as_slice());
+    assert_eq!(rt;
+        print_trace(rt.alloc(), &trace)?.as_slice(),
+        text.as_slice()
+    );
+    Ok(())
+}
+
+#[test]
+fn an_unnamed_limit_is_not_printed(rt: HostRuntime) -> Result<(), Fail> {
+    let trace = read_trace(rt.alloc(), b"heap 4 1 2\n # a comment\nend")?;
+    assert_eq!(rt;
+        print_trace(rt.alloc(), &trace)?.as_slice(),
+        b"heap 4 1 2\nend\n".as_slice()
+    );
+    Ok(())
+}
+
+#[test]
+fn a_refusal_is_told_in_one_line(rt: HostRuntime) -> Result<(), Fail> {
+    let fault = TraceFault::Line {
+        number: 18,
+        cause: Cause::TooManyLanes.code(),
+    };
+    let told = format!(in rt.alloc(); "{fault}")?;
+    assert_eq!(rt; told.as_str(), "line 18 cause 8");
+    Ok(())
+}
+
+#[test]
+fn lists_are_given_back(rt: HostRuntime) -> Result<(), Fail> {
+    let mut lanes = Lanes::new(Vec::new(rt.alloc()));
+    assert!(rt; lanes.is_empty());
+    lanes.push_lane(rt.alloc())?;
+    lanes.push_op(Op::Free { r: 3 })?;
+    assert_eq!(rt; lanes.len(), 1);
+    let lanes = lanes.into_vec();
+    assert_eq!(rt; lanes[0].as_slice(), [Op::Free { r: 3 }].as_slice());
+    let mut orders = Orders::new(Vec::new(rt.alloc()));
+    assert!(rt; orders.is_empty());
+    orders.push(OrderRun { lane: 0, steps: 1 })?;
+    assert_eq!(rt; orders.into_vec().len(), 1);
+    Ok(())
+}
