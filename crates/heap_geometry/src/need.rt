@@ -78,31 +78,3 @@ pub fn block_count(class: u8) -> u32
 {
     FRAME_WORDS >> (class + 1)
 }
-
-#[cfg(test)]
-mod tests {
-    use super::*;
-
-    /// Where a class or a run of units ends and the next begins.
-    #[test]
-    fn needs_at_their_boundaries(rt: HostRuntime) {
-        let cases = [
-            (0, Need::Small(0), 1),
-            (1, Need::Small(0), 1),
-            (2, Need::Small(1), 3),
-            (3, Need::Small(1), 3),
-            (512, Need::Small(9), 1023),
-            (1023, Need::Small(9), 1023),
-            (1024, Need::Large(1), 2047),
-            (2047, Need::Large(1), 2047),
-            (2048, Need::Large(2), 4095),
-            (131_071, Need::Large(64), 131_071),
-            (131_072, Need::TooLarge, 0),
-            (u32::MAX, Need::TooLarge, 0),
-        ];
-        for (need, blocks, words) in cases {
-            assert_eq!(rt; class_of(need), blocks, "at {need}");
-            assert_eq!(rt; usable(class_of(need)), words, "at {need}");
-        }
-    }
-}

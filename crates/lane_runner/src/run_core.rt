@@ -18,9 +18,6 @@ use std::alloc::{AllocError, Global};
 use step_core::machine::Core;
 use trace_text::trace::{Op, OrderRun, Trace};
 
-#[cfg(test)]
-mod tests;
-
 /// Advances a lane so many times, or to its end.
 fn run_some<G: Gate>(
     gate: &G,

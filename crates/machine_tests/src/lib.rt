@@ -11,6 +11,8 @@ mod large_blocks;
 #[cfg(test)]
 mod machine;
 #[cfg(test)]
+mod needs;
+#[cfg(test)]
 mod packing;
 #[cfg(test)]
 mod partials;

@@ -50,7 +50,7 @@ fn word(core: &Core, name: WordName) -> Option<u64> {
         WordName::Active(of, class) | WordName::Slot(of, class) => {
             u32::from(of) < heap.heaps && class < CLASSES
         }
-        WordName::FrameHead | WordName::Units => true,
+        WordName::FrameHead | WordName::DescHead | WordName::Units => true,
         WordName::Hazard(caller) => u32::from(caller) < heap.callers,
         WordName::Shelf(shelf) => shelf < SHELVES,
         _ => false,
@@ -575,5 +575,79 @@ fn a_caller_ends_its_calls_wherever_another_stopped(rt: HostRuntime) -> Result<(
         assert_eq!(rt; counts(&core, 1), Some((1, 4, 0, 0)), "after {stop}");
         assert_eq!(rt; alone(&mut core, 1), Some(Ok(0)), "after {stop}");
     }
+    Ok(())
+}
+
+// The free of the last block of a superblock guards descriptor 0. So caller 1, refused for the second time,
+// makes descriptor 1 available before it, and descriptor 2 when it is refused again; a word names a
+// descriptor by its number plus 1.
+#[test]
+fn a_guarded_descriptor_is_not_made_available(rt: HostRuntime) -> Result<(), Fail> {
+    let mut core = Core::open(rt.alloc(), heap(1, 0, 2, 9))?;
+    stop_after(&mut core, 38)?;
+    words_are(&rt, &core, &[(WordName::Hazard(0), 1)]);
+    for first in [3, 2, 3] {
+        assert_eq!(rt; begin(&mut core, 1, 1023), Some(Begun::Started));
+        assert_eq!(rt; alone(&mut core, 1), Some(Ok(17)));
+        words_are(&rt, &core, &[(WordName::DescHead, first)]);
+    }
+    assert_eq!(rt; alone(&mut core, 0), Some(Ok(6)));
+    words_are(
+        &rt,
+        &core,
+        &[(WordName::Hazard(0), 0), (WordName::DescHead, 3)],
+    );
+    Ok(())
+}
+
+/// So many slots of caller 0.
+fn slots(core: &mut Core, count: u64) -> Result<(), AllocError> {
+    for _ in 0..count {
+        let _ = slot(core, 0)?;
+    }
+    Ok(())
+}
+
+/// So many slots of caller 1, which allocates one word and frees it, again and again.
+fn allocate_and_free(core: &mut Core, count: u64) -> Result<(), AllocError> {
+    for _ in 0..count {
+        match place_given(core, 1, 1) {
+            Some(place) => {
+                let _ = call(core, 1, place, Need::Small(0), Request::Free);
+            }
+            None => {
+                let _ = begin(core, 1, 1);
+            }
+        }
+        let _ = slot(core, 1)?;
+    }
+    Ok(())
+}
+
+/// Two callers want a superblock at the same time, three times over. Caller 1 wins each time, and has taken
+/// the last credit of its own when caller 0 looks again.
+fn lose_three_times(core: &mut Core) -> Result<(), AllocError> {
+    let _ = begin(core, 0, 1);
+    slots(core, 1039)?;
+    allocate_and_free(core, 1041)?;
+    slots(core, 1)?;
+    for left in [699, 700] {
+        allocate_and_free(core, left)?;
+        slots(core, 1042)?;
+        allocate_and_free(core, 5)?;
+        slots(core, 1)?;
+    }
+    allocate_and_free(core, 700)
+}
+
+// From one lost exchange to the end of its call a caller makes 1,049 steps: 1,024 blocks are linked.
+#[test]
+fn a_turn_of_most_steps(rt: HostRuntime) -> Result<(), Fail> {
+    let mut core = Core::open(rt.alloc(), heap(2, 0, 2, 999))?;
+    lose_three_times(&mut core)?;
+    assert_eq!(rt; counts(&core, 0), Some((3, 8, 3, 0)));
+    assert_eq!(rt; alone(&mut core, 0), Some(Ok(1049)));
+    assert_eq!(rt; counts(&core, 0), Some((4, 13, 3, 0)));
+    assert_eq!(rt; place_given(&core, 0, 1), Some(0));
     Ok(())
 }

@@ -1,0 +1,53 @@
+#!/usr/bin/env python3
+"""Tries the wrong bodies that the gate leaves out: the edits in also-must-fail/ of a crate.
+
+usage: python3 tools/try_edits.py [CRATE ..]
+
+The gate tries at most ten edits a crate, those in must-fail/. This tries the others, of the named crates or
+of all, in a copy of the work tree where they stand in place of those ten: `rt must-fail` proves each crate
+once and tries each edit over it, in half a minute or so. Prints what rt says of each edit; ends with 1 where
+one is not refused.
+"""
+
+import shutil
+import subprocess
+import sys
+import tempfile
+from pathlib import Path
+
+ROOT = Path(__file__).resolve().parent.parent
+
+
+def copy_tree(to):
+    """Copies the files of the work tree that git knows or would add."""
+    listed = subprocess.run(
+        ["git", "ls-files", "-z", "--cached", "--others", "--exclude-standard"],
+        cwd=ROOT, check=True, capture_output=True, text=True,
+    )
+    for name in filter(None, listed.stdout.split("\0")):
+        if (ROOT / name).is_file():
+            (to / name).parent.mkdir(parents=True, exist_ok=True)
+            shutil.copy2(ROOT / name, to / name)
+
+
+def put_in_place(crate):
+    """Lets the edits of also-must-fail/ be the crate's only ones."""
+    shutil.rmtree(crate / "must-fail", ignore_errors=True)
+    (crate / "also-must-fail").rename(crate / "must-fail")
+
+
+def main():
+    has_edits = sorted(it.parent.name for it in ROOT.glob("crates/*/also-must-fail"))
+    names = sys.argv[1:] or has_edits
+    lacking = [it for it in names if it not in has_edits]
+    if lacking:
+        sys.exit(f"{lacking[0]} has no folder also-must-fail")
+    with tempfile.TemporaryDirectory(prefix="edits-") as room:
+        copy_tree(Path(room))
+        for name in names:
+            put_in_place(Path(room) / "crates" / name)
+        sys.exit(subprocess.run(["rt", "must-fail", *names], cwd=room).returncode)
+
+
+if __name__ == "__main__":
+    main()
