@@ -37,7 +37,7 @@ def put_in_place(crate):
 
 
 def main():
-    has_edits = sorted(it.parent.name for it in ROOT.glob("crates/*/also-must-fail"))
+    has_edits = sorted({it.parent.parent.name for it in ROOT.glob("crates/*/also-must-fail/*.edit")})
     names = sys.argv[1:] or has_edits
     lacking = [it for it in names if it not in has_edits]
     if lacking:
@@ -47,9 +47,11 @@ def main():
         for name in names:
             put_in_place(Path(room) / "crates" / name)
         ran = subprocess.run(["rt", "ci", *names], cwd=room, stdout=subprocess.PIPE, text=True)
-    told = [it for it in ran.stdout.splitlines() if it.startswith(("rt: must-fail", "rt: FAILED"))]
-    print(*told, sep="\n")
-    print(f"{sum(': refused' in it for it in told)} of {len(told)} edits refused, those of the crates below among them")
+    lines = ran.stdout.splitlines()
+    edits = [it for it in lines if it.startswith("rt: must-fail")]
+    refused = sum(": refused" in it for it in edits)
+    print(*edits, *lines[-1:], sep="\n")
+    print(f"{refused} of {len(edits)} edits refused, those of the crates below among them")
     sys.exit(ran.returncode)
 
 
