@@ -1,16 +1,14 @@
 //! Runs allocation traces, which are read or made, and reports what became of their operations.
 #![tactic(auto)]
 
+use command_parts::exit::{code_of, status_without_words};
 use edge_io::gate::NoGate;
 use edge_io::real::{StdSink, StdSource};
-use exit::{code_of, status_without_words};
 use std::alloc::Global;
 use std::process::ExitCode;
 use std::rt::Env;
 use std::{env, io};
 use trace_commands::run::run;
-
-mod exit;
 
 /// The words behind the program's name.
 fn words<R: Env + AllocGlobal>(rt: &R, alloc: Global) -> io::Result<Vec<String>> {

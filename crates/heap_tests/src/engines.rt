@@ -2,13 +2,11 @@
 //! come from a model of the machine that was written apart from it.
 
 ghost use Rattle.std.specs.Prelude.{◌<◌, IsTrue};
-ghost use Rattle.heap_geometry.specs.Geometry.{IsChecked, IsWithin};
-ghost use Rattle.heap_geometry.specs.declared.limits.TheConstants.{MAX_FRAMES, MAX_UNITS};
 ghost use Rattle.errand_steps.specs.Begins.{IsIdle};
 ghost use Rattle.step_core.specs.Cores.{errand_at, IsCore, OwnsAfter, OwnsBlock};
 
+use crate::alone::geometry;
 use errand_steps::reply::Begun;
-use heap_geometry::geometry::Geometry;
 use heap_geometry::limits::SHELVES;
 use heap_geometry::need::Need;
 use lane_engine::engine::{Engine, Token};
@@ -16,11 +14,12 @@ use lane_engine::over_core::Grip;
 use lane_engine::stepped::Stepped;
 use pool_model::owner::Owner;
 use std::alloc::AllocError;
+use std::process::Abort;
 use std::test::Fail;
 use step_core::machine::Core;
 
 /// What is asked of a block.
-#[derive(Clone, Copy)]
+#[derive(Clone, Copy, Debug)]
 enum Request {
     Free,
     Write(u32, u64),
@@ -98,21 +97,6 @@ fn take<B: Token + Drop, E: Engine<Held = B>>(
     Ok(Some(finish(engine, caller)?))
 }
 
-/// A heap with one processor heap of each class, one caller, and nine turns.
-fn heap(frames: u32, units: u32) -> Geometry
-    requires frames { IsWithin 1 MAX_FRAMES frames }
-    requires units { IsWithin 0 MAX_UNITS units }
-    ensures { IsChecked result }
-{
-    Geometry {
-        frames,
-        heaps: 1,
-        units,
-        callers: 1,
-        turn_limit: 9,
-    }
-}
-
 /// Whether the machine serves caller 0, and that is idle.
 fn can_begin(core: &Core) -> bool
     ensures rule { IsCore core.now }
@@ -133,97 +117,137 @@ fn owns(core: &Core, grip: &Grip) -> bool
     }
 }
 
-/// An allocation of caller 0's.
-fn alloc(core: &mut Core, need: u32) -> Result<Option<(u64, Stepped<Grip>)>, AllocError> {
-    if can_begin(core) {
-        allocate(core, 0, need)
-    } else {
-        Ok(None)
+/// The blocks that are held here.
+#[derive(Clone, Copy, Debug)]
+enum Size {
+    /// Those of 3 words.
+    Three,
+    /// Those of 1,023 words, the largest class.
+    Widest,
+}
+
+/// The block of this size at this place.
+fn grip(place: u32, size: Size) -> Grip {
+    match size {
+        Size::Three => Grip {
+            place,
+            need: Need::Small(1),
+        },
+        Size::Widest => Grip {
+            place,
+            need: Need::Small(9),
+        },
     }
 }
 
-/// A call of caller 0's on its block.
-fn call(
-    core: &mut Core,
-    held: Grip,
-    request: Request,
-) -> Result<Option<(u64, Stepped<Grip>)>, AllocError> {
-    if can_begin(core) && owns(core, &held) {
-        complete(core, 0, held, request)
-    } else {
-        Ok(None)
+/// A whole call of caller 0's.
+#[derive(Clone, Copy, Debug)]
+enum Call {
+    Alloc(u32),
+    /// A call on the block of this size at this place.
+    On(u32, Size, Request),
+    Take(u8),
+}
+
+/// The call from its begin to its end; `None` where it can't be made.
+fn make(core: &mut Core, call: Call) -> Result<Option<(u64, Stepped<Grip>)>, AllocError> {
+    if !can_begin(core) {
+        return Ok(None);
+    }
+    match call {
+        Call::Alloc(need) => allocate(core, 0, need),
+        Call::On(place, size, request) => {
+            let held = grip(place, size);
+            if owns(core, &held) {
+                complete(core, 0, held, request)
+            } else {
+                Ok(None)
+            }
+        }
+        Call::Take(shelf) => take(core, 0, shelf),
     }
 }
 
-/// A take of caller 0's.
-fn take_from(core: &mut Core, shelf: u8) -> Result<Option<(u64, Stepped<Grip>)>, AllocError> {
-    if can_begin(core) {
-        take(core, 0, shelf)
-    } else {
-        Ok(None)
-    }
-}
+/// A call, how many steps it makes, and what the last one comes to.
+type Row = (Call, (u64, Stepped<Grip>));
 
-/// A block of the largest class, with 1,023 words.
-fn widest(place: u32) -> Grip {
-    Grip {
-        place,
-        need: Need::Small(9),
+/// These calls, one after the other, come to this.
+fn come_to<R: Abort>(rt: &R, core: &mut Core, rows: &[Row]) -> Result<(), Fail> {
+    for (call, answer) in rows {
+        let made = make(core, *call)?;
+        assert_eq!(rt; made.as_ref(), Some(answer), "{call:?}");
     }
-}
-
-/// A block of 3 words.
-fn three(place: u32) -> Grip {
-    Grip {
-        place,
-        need: Need::Small(1),
-    }
+    Ok(())
 }
 
 #[test]
 fn blocks_are_given_and_freed(rt: HostRuntime) -> Result<(), Fail> {
-    let mut core = Core::open(rt.alloc(), heap(2, 0))?;
-    assert_eq!(rt;
-        alloc(&mut core, 1023)?,
-        Some((19, Stepped::Given(widest(0))))
-    );
-    assert_eq!(rt;
-        alloc(&mut core, 1023)?,
-        Some((7, Stepped::Given(widest(1024))))
-    );
-    assert_eq!(rt; Core::words(&widest(1024)), 1023);
-    assert_eq!(rt; Core::place(&widest(1024)), 1024);
-    let freed = call(&mut core, widest(0), Request::Free)?;
-    assert_eq!(rt; freed.map(|(_, stepped)| stepped), Some(Stepped::Freed));
-    let freed = call(&mut core, widest(1024), Request::Free)?;
-    assert_eq!(rt; freed.map(|(_, stepped)| stepped), Some(Stepped::Freed));
-    assert_eq!(rt; core.steps(), 44);
+    let mut core = Core::open(rt.alloc(), geometry(2, 0, 1, 9))?;
+    let rows = [
+        (
+            Call::Alloc(1023),
+            (19, Stepped::Given(grip(0, Size::Widest))),
+        ),
+        (
+            Call::Alloc(1023),
+            (7, Stepped::Given(grip(1024, Size::Widest))),
+        ),
+        (
+            Call::On(0, Size::Widest, Request::Free),
+            (6, Stepped::Freed),
+        ),
+        (
+            Call::On(1024, Size::Widest, Request::Free),
+            (12, Stepped::Freed),
+        ),
+    ];
+    come_to(&rt, &mut core, &rows)?;
+    let second = grip(1024, Size::Widest);
+    assert_eq!(rt; (Core::words(&second), Core::place(&second)), (1023, 1024));
     Ok(())
 }
 
 #[test]
 fn words_are_read_as_written_and_shelves_hold_one_block(rt: HostRuntime) -> Result<(), Fail> {
-    let mut core = Core::open(rt.alloc(), heap(4, 0))?;
-    assert_eq!(rt; alloc(&mut core, 3)?, Some((529, Stepped::Given(three(0)))));
-    for (i, v) in [(0, 5), (1, 6), (2, 7)] {
-        let wrote = call(&mut core, three(0), Request::Write(i, v))?;
-        assert_eq!(rt; wrote, Some((1, Stepped::Wrote)), "at {i}");
-    }
-    for (i, v) in [(0, 5), (1, 6), (2, 7)] {
-        let read = call(&mut core, three(0), Request::Read(i))?;
-        assert_eq!(rt; read, Some((1, Stepped::Word(v))), "at {i}");
-    }
-    assert_eq!(rt;
-        call(&mut core, three(0), Request::Put(0))?,
-        Some((1, Stepped::Put))
-    );
-    let second = alloc(&mut core, 3)?.map(|(_, stepped)| stepped);
-    assert_eq!(rt; second, Some(Stepped::Given(three(4))));
-    let full = call(&mut core, three(4), Request::Put(0))?;
-    assert_eq!(rt; full, Some((1, Stepped::Full(three(4)))));
-    let wrote = call(&mut core, three(4), Request::Write(0, 8))?;
-    assert_eq!(rt; wrote, Some((1, Stepped::Wrote)));
-    assert_eq!(rt; take_from(&mut core, 0)?, Some((2, Stepped::Got(three(0)))));
-    assert_eq!(rt; take_from(&mut core, 1)?, Some((2, Stepped::Empty)));
-    Ok(())
+    let mut core = Core::open(rt.alloc(), geometry(4, 0, 1, 9))?;
+    let rows = [
+        (Call::Alloc(3), (529, Stepped::Given(grip(0, Size::Three)))),
+        (
+            Call::On(0, Size::Three, Request::Write(0, 5)),
+            (1, Stepped::Wrote),
+        ),
+        (
+            Call::On(0, Size::Three, Request::Write(1, 6)),
+            (1, Stepped::Wrote),
+        ),
+        (
+            Call::On(0, Size::Three, Request::Write(2, 7)),
+            (1, Stepped::Wrote),
+        ),
+        (
+            Call::On(0, Size::Three, Request::Read(0)),
+            (1, Stepped::Word(5)),
+        ),
+        (
+            Call::On(0, Size::Three, Request::Read(1)),
+            (1, Stepped::Word(6)),
+        ),
+        (
+            Call::On(0, Size::Three, Request::Read(2)),
+            (1, Stepped::Word(7)),
+        ),
+        (Call::On(0, Size::Three, Request::Put(0)), (1, Stepped::Put)),
+        (Call::Alloc(3), (7, Stepped::Given(grip(4, Size::Three)))),
+        (
+            Call::On(4, Size::Three, Request::Put(0)),
+            (1, Stepped::Full(grip(4, Size::Three))),
+        ),
+        (
+            Call::On(4, Size::Three, Request::Write(0, 8)),
+            (1, Stepped::Wrote),
+        ),
+        (Call::Take(0), (2, Stepped::Got(grip(0, Size::Three)))),
+        (Call::Take(1), (2, Stepped::Empty)),
+    ];
+    come_to(&rt, &mut core, &rows)
 }

@@ -3,7 +3,7 @@
 use crate::running::{Left, run_on};
 use std::alloc::{AllocError, Global};
 use std::test::Fail;
-use trace_commands::status::REPORTED;
+use command_parts::status::REPORTED;
 
 /// Sixteen lanes that each ask for all units of the heap.
 fn greedy_lanes(alloc: Global) -> Result<String, AllocError> {

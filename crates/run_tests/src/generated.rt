@@ -7,7 +7,7 @@ use std::alloc::{AllocError, Global};
 use std::sync::Wait;
 use std::test::Fail;
 use std::thread::Threads;
-use trace_commands::status::{REPORTED, WRITE_FAULT};
+use command_parts::status::{REPORTED, WRITE_FAULT};
 use trace_text::limits::MAX_INPUT;
 use trace_text::printing::print_trace;
 use trace_text::reading::read_trace;

@@ -7,7 +7,7 @@ use edge_io::steady::SteadySource;
 use std::alloc::{AllocError, Global};
 use std::sync::OnceLock;
 use std::test::Fail;
-use trace_commands::status::REPORTED;
+use command_parts::status::REPORTED;
 
 /// How often a lane looks for the others before it goes on without them.
 const LOOKS: u32 = 100_000_000;

@@ -2,7 +2,7 @@
 
 use crate::running::{Left, writes};
 use std::test::Fail;
-use trace_commands::status::REFUSED;
+use command_parts::status::REFUSED;
 
 #[test]
 fn refused_texts_are_told(rt: HostRuntime) -> Result<(), Fail> {

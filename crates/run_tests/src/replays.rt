@@ -5,7 +5,7 @@ use std::process::Abort;
 use std::sync::Wait;
 use std::test::Fail;
 use std::thread::Threads;
-use trace_commands::status::REPORTED;
+use command_parts::status::REPORTED;
 
 /// The program writes these reports of these traces.
 fn all_are_reported<R: Threads + Wait + Abort + AllocGlobal + Sync>(

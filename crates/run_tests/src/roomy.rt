@@ -3,7 +3,7 @@
 use crate::running::{Left, run_on, writes};
 use std::alloc::{AllocError, Global};
 use std::test::Fail;
-use trace_commands::status::REPORTED;
+use command_parts::status::REPORTED;
 
 /// How many lanes the trace has.
 const LANES: u32 = 8;

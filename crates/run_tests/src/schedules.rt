@@ -6,7 +6,7 @@ use std::process::Abort;
 use std::sync::Wait;
 use std::test::Fail;
 use std::thread::Threads;
-use trace_commands::status::REPORTED;
+use command_parts::status::REPORTED;
 
 /// `schedule` writes this of this trace.
 fn is_scheduled<R: Threads + Wait + Abort + AllocGlobal + Sync>(

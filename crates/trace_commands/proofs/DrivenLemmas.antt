@@ -27,11 +27,11 @@ use Rattle.roomy_traces.specs.Serial.{left_by, serial_outcomes, serial_report_of
 use Rattle.roomy_traces.proofs.ReportLemmas.{live-left, one-report}
 use Rattle.roomy_traces.proofs.SerialLemmas.{outcomes-serial}
 use Rattle.trace_commands.specs.Answers.{IsRun, IsTold, make_text, replay_text, serial_make, serial_replay}
-use Rattle.trace_commands.specs.Summaries.{summary_with, trace_of}
+use Rattle.command_parts.specs.Summaries.{summary_with, trace_of}
 use Rattle.trace_commands.specs.Closings.{IsDrivenIn, IsShared, history_of, lost_by_threads, lost_of}
 use Rattle.trace_commands.specs.declared.closing.Closing.{Closing}
 use Rattle.trace_commands.specs.declared.closing.Closing.TheVariants.{Ran, Stepped}
-use Rattle.trace_commands.specs.declared.command.Workload.{Workload}
+use Rattle.command_parts.specs.declared.command.Workload.{Workload}
 use Rattle.trace_commands.proofs.SerialLemmas.{summaries-same}
 
 -- what a machine that was driven leaves

@@ -1,7 +1,3 @@
-mod EdgeLemmas
-mod WordLemmas
-mod ParserLemmas
-mod CommandLemmas
 mod DrivenLemmas
 mod RunLemmas
 mod SerialLemmas

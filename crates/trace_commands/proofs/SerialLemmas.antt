@@ -9,11 +9,11 @@ use Rattle.lane_outcomes.specs.declared.outcome.Outcome.TheVariants as outcome
 use Rattle.roomy_traces.specs.Serial.{without_place}
 use Rattle.trace_text.specs.Text.{line}
 use Rattle.trace_text.specs.declared.trace.Op.{Op}
-use Rattle.trace_commands.specs.Command.{workload_words}
-use Rattle.trace_commands.specs.Summaries.{counts_text, summary_with}
-use Rattle.trace_commands.specs.Tallies.{all_of, given_words, is_freed, is_given, is_refused, is_spent, is_sum, tally_of}
-use Rattle.trace_commands.specs.declared.command.Workload.{Workload}
-use Rattle.trace_commands.specs.declared.tally.Tally.{Tally}
+use Rattle.command_parts.specs.Command.{workload_words}
+use Rattle.command_parts.specs.Summaries.{counts_text, summary_with}
+use Rattle.command_parts.specs.Tallies.{all_of, given_words, is_freed, is_given, is_refused, is_spent, is_sum, tally_of}
+use Rattle.command_parts.specs.declared.command.Workload.{Workload}
+use Rattle.command_parts.specs.declared.tally.Tally.{Tally}
 
 -- what is counted of outcomes is the same without their places
 sums-same :

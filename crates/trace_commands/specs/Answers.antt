@@ -15,13 +15,13 @@ use Rattle.heap_census.specs.declared.census.Census.{Census as Counts}
 use Rattle.workloads.specs.declared.kind.Kind.TheVariants.{Pipeline}
 use Rattle.trace_commands.specs.Censuses.{IsCensusOf, census_text}
 use Rattle.trace_commands.specs.Closings.{IsDrivenIn, IsShared, geometry_of, history_of, lost_of, steps_of}
-use Rattle.trace_commands.specs.Command.{has_input}
-use Rattle.trace_commands.specs.Summaries.{serial_summary_of, summary_of, trace_of}
+use Rattle.command_parts.specs.Command.{has_input}
+use Rattle.command_parts.specs.Summaries.{serial_summary_of, summary_of, trace_of}
 use Rattle.trace_commands.specs.declared.closing.Closing.{Closing}
-use Rattle.trace_commands.specs.declared.command.Command.{Command}
-use Rattle.trace_commands.specs.declared.command.Command.TheVariants.{Replay, Schedule, Census, Make, Print}
-use Rattle.trace_commands.specs.declared.command.Workload.{Workload}
-use Rattle.trace_commands.specs.declared.status.TheConstants.{REPORTED, REFUSED}
+use Rattle.command_parts.specs.declared.command.Command.{Command}
+use Rattle.command_parts.specs.declared.command.Command.TheVariants.{Replay, Schedule, Census, Make, Print}
+use Rattle.command_parts.specs.declared.command.Workload.{Workload}
+use Rattle.command_parts.specs.declared.status.TheConstants.{REPORTED, REFUSED}
 
 -- the lanes of a trace ran to their ends on this heap, which is the one that the trace asks for: each lane's outcomes
 -- fit its operations and the one history of the heap, which is legal; each operation passed the gate; and the heap was

@@ -1,10 +1,4 @@
-pub mod Command
 pub mod Closings
-pub mod Input
-pub mod Output
-pub mod Tallies
-pub mod Summaries
 pub mod Answers
 pub mod Censuses
 pub mod Runs
-pub mod Statuses

@@ -7,18 +7,9 @@
 mod answer;
 mod census;
 pub mod closing;
-pub mod command;
 pub mod driven;
-mod input;
 mod made;
-mod output;
-mod parsing;
 pub mod run;
-pub mod status;
 mod steps;
-mod stop;
-pub mod summary;
-mod tally;
 mod threaded;
 pub mod told;
-mod wide;

@@ -4,12 +4,12 @@ ghost use Rattle.std.specs.Prelude.{◌≡◌, IfOk, Some};
 ghost use Rattle.trace_text.specs.Text.{canonical_of};
 ghost use Rattle.trace_commands.specs.Answers.{HasOneSummary, IsTold, make_text, serial_make};
 ghost use Rattle.trace_commands.specs.Closings.{IsShared};
-ghost use Rattle.trace_commands.specs.Command.{IsWorkload};
-ghost use Rattle.trace_commands.specs.Summaries.{trace_of};
+ghost use Rattle.command_parts.specs.Command.{IsWorkload};
+ghost use Rattle.command_parts.specs.Summaries.{trace_of};
 
 use crate::closing::Closing;
-use crate::command::Workload;
-use crate::summary::summary;
+use command_parts::command::Workload;
+use command_parts::summary::summary;
 use crate::threaded::{ThreadedRun, run_on_threads};
 use crate::told::Told;
 use edge_io::gate::Gate;

@@ -4,7 +4,7 @@ ghost use Rattle.std.specs.Prelude.{◌≡◌, IfOk};
 ghost use Rattle.trace_commands.specs.Closings.{cleared_by_all, steps_line};
 ghost use Rattle.lane_runner.specs.Driven.{lost_by_all};
 
-use crate::wide::write_wide;
+use command_parts::wide::write_wide;
 use std::alloc::{AllocError, Global};
 use step_core::machine::Core;
 use trace_text::text::Text;

@@ -1,0 +1,4 @@
+mod EdgeLemmas
+mod WordLemmas
+mod ParserLemmas
+mod CommandLemmas

@@ -1,0 +1,128 @@
+//! The commands of the program, and how they are written.
+
+ghost use Rattle.std.specs.Prelude.{ℕ, ◌≡◌, ◌≤◌, ◌∷◌, [], Some, IfSome, decimal};
+ghost use Rattle.clap.specs.Walk.{texts};
+ghost use Rattle.workloads.specs.declared.kind.Kind.{Kind};
+ghost use Rattle.workloads.specs.declared.making.TheConstants.{MAX_SIZE};
+ghost use Rattle.command_parts.specs.Command.{IsCommandLine, IsWorkload, kind_name, workload_words};
+ghost use Rattle.command_parts.specs.declared.command.Command.{Command};
+ghost use Rattle.command_parts.specs.declared.command.Workload.{Workload};
+
+use trace_text::numbers::number;
+use workloads::kind::Kind;
+use workloads::making::MAX_SIZE;
+
+/// A workload that a command names. `size` is at most `MAX_SIZE`.
+#[derive(Clone, Copy, Debug, PartialEq, Eq)]
+pub struct Workload {
+    pub kind: Kind,
+    /// The rounds of all lanes together.
+    pub size: u32,
+    /// What the draws begin with.
+    pub start: u64,
+}
+
+/// A command of the program.
+#[derive(Clone, Copy, Debug, PartialEq, Eq)]
+pub enum Command {
+    /// Run the trace that stands on standard input, each lane on a thread of its own, and report it.
+    Replay,
+    /// Run it in the order that it gives, and report it with the steps that were made.
+    Schedule,
+    /// Run it as `Replay` does, report it, and count what the heap holds at its end.
+    Census,
+    /// Make the trace of a workload, run it, and sum up its outcomes.
+    Make(Workload),
+    /// Make the trace of a workload, and print it.
+    Print(Workload),
+}
+
+/// The name of a kind of workload.
+pub fn name_of(kind: Kind) -> &'static str
+    ensures { result.now ≡ kind_name kind }
+{
+    match kind {
+        Kind::Scalability => "scalability",
+        Kind::Threadtest => "threadtest",
+        Kind::Larson => "larson",
+        Kind::Pipeline => "pipeline",
+    }
+}
+
+/// The kind of workload that has this name.
+fn kind_of(word: &str) -> Option<Kind>
+    ensures some { IfSome result (λ kind. word.now ≡ kind_name kind) }
+    ensures only { (kind : Kind) → word.now ≡ kind_name kind → result ≡ Some kind }
+{
+    match word {
+        "scalability" => Some(Kind::Scalability),
+        "threadtest" => Some(Kind::Threadtest),
+        "larson" => Some(Kind::Larson),
+        "pipeline" => Some(Kind::Pipeline),
+        _ => None,
+    }
+}
+
+/// The size that a word is.
+fn size_of(word: &str) -> Option<u32>
+    ensures some { IfSome result (λ size. (size ≤ MAX_SIZE) × (word.now ≡ decimal size)) }
+    ensures only { (size : ℕ) → size ≤ MAX_SIZE → word.now ≡ decimal size → result ≡ Some size }
+{
+    let size = number(word.as_bytes())?;
+    if size <= u64::from(MAX_SIZE) {
+        Some(size as u32)
+    } else {
+        None
+    }
+}
+
+/// The workload that these words name.
+fn workload_of(kind: &str, size: &str, start: &str) -> Option<Workload>
+    ensures some { IfSome result (λ workload.
+        IsWorkload workload × (kind.now ∷ size.now ∷ start.now ∷ [] ≡ workload_words workload)) }
+    ensures only { (workload : Workload) → IsWorkload workload
+        → kind.now ∷ size.now ∷ start.now ∷ [] ≡ workload_words workload → result ≡ Some workload }
+{
+    let kind = kind_of(kind)?;
+    let size = size_of(size)?;
+    let start = number(start.as_bytes())?;
+    Some(Workload { kind, size, start })
+}
+
+/// The command that is this one word.
+fn short_command(word: &str) -> Option<Command>
+    ensures some { IfSome result (λ command. IsCommandLine command (word.now ∷ [])) }
+    ensures only { (command : Command) → IsCommandLine command (word.now ∷ []) → result ≡ Some command }
+{
+    match word {
+        "replay" => Some(Command::Replay),
+        "schedule" => Some(Command::Schedule),
+        "census" => Some(Command::Census),
+        _ => None,
+    }
+}
+
+/// The command on a workload that has this name.
+fn workload_command(word: &str, workload: Workload) -> Option<Command>
+    requires { IsWorkload workload }
+    ensures some { IfSome result (λ command. IsCommandLine command (word.now ∷ workload_words workload)) }
+    ensures only { (command : Command) → IsCommandLine command (word.now ∷ workload_words workload) → result ≡ Some command }
+{
+    match word {
+        "make" => Some(Command::Make(workload)),
+        "print" => Some(Command::Print(workload)),
+        _ => None,
+    }
+}
+
+/// The command that is written so.
+pub fn command_of(words: &[&str]) -> Option<Command>
+    ensures some { IfSome result (λ command. IsCommandLine command (texts words.now)) }
+    ensures only { (command : Command) → IsCommandLine command (texts words.now) → result ≡ Some command }
+{
+    match words {
+        [word] => short_command(word),
+        [word, kind, size, start] => workload_command(word, workload_of(kind, size, start)?),
+        _ => None,
+    }
+}
