@@ -4,7 +4,7 @@
     tools/bench_heap.py [--count N] [--runs N] [--threads N,..]
     tools/bench_heap.py stress [--rounds N] [--threads N,..] [--seed N]
 
-It builds crates/heap_bench where that is not built yet, and a small C program beside it by `cc`, which
+It builds crates/benches where that is not built yet, and a small C program beside it by `cc`, which
 makes pairs of glibc's malloc and free of the same size on as many threads. Each thread makes N (count):
 
     bare    atomic loads, compares and exchanges, and stores at random places of as many words
@@ -30,8 +30,8 @@ import tempfile
 import time
 
 HERE = os.path.dirname(os.path.abspath(__file__))
-CRATE = os.path.join(HERE, "..", "crates", "heap_bench")
-PROGRAM = os.path.join(CRATE, "out", "heap_bench")
+CRATE = os.path.join(HERE, "..", "crates", "benches")
+PROGRAM = os.path.join(CRATE, "out", "benches")
 HEAP = ["1000", "4", "8"]
 STRESSED = [["256", "4", "64"], ["24", "2", "8"], ["4", "1", "2"]]
 MODES = ["bare", "steps", "hold", "pairs", "malloc"]
@@ -76,7 +76,7 @@ int main(int words, char **word)
 def built():
     """Builds the program, where it isn't built."""
     if not os.path.exists(PROGRAM):
-        words = ["rt", "run", "--", "bare", "1", "1", "1", *HEAP]
+        words = ["rt", "run", "--", "heap", "bare", "1", "1", "1", *HEAP]
         subprocess.run(words, check=True, cwd=CRATE, stdout=subprocess.DEVNULL)
 
 
@@ -94,7 +94,7 @@ def seconds(malloc, mode, count, threads):
     if mode == "malloc":
         words = [malloc, str(count), str(threads)]
     else:
-        words = [PROGRAM, mode, "1", str(count), str(threads), *HEAP]
+        words = [PROGRAM, "heap", mode, "1", str(count), str(threads), *HEAP]
     used = resource.getrusage(resource.RUSAGE_CHILDREN).ru_utime
     began = time.perf_counter()
     subprocess.run(words, check=True, stdout=subprocess.DEVNULL)
@@ -130,7 +130,7 @@ def stress(said):
     right = True
     for heap in STRESSED:
         for threads in said.threads:
-            words = [PROGRAM, "stress", str(said.seed), str(said.rounds), str(threads), *heap]
+            words = [PROGRAM, "heap", "stress", str(said.seed), str(said.rounds), str(threads), *heap]
             began = time.perf_counter()
             run = subprocess.run(words, stdout=subprocess.PIPE, text=True)
             took = time.perf_counter() - began

@@ -3,7 +3,7 @@
 
     tools/bench_steps.py [--count N] [--runs N]
 
-It builds crates/step_bench where that is not built yet, and runs it: `bare` makes loads, compares and
+It builds crates/benches where that is not built yet, and runs it: `machine bare` makes loads, compares and
 stores at random places of a table of as many words as the heap has, `hold` steps of 16 callers in turn
 that never free, `all` steps of 16 callers in turn that make calls of all kinds. Each figure is the least
 processor time (user) of some runs, divided by their number of steps or accesses; the opening of the heap
@@ -15,14 +15,15 @@ import resource
 import subprocess
 
 HERE = os.path.dirname(os.path.abspath(__file__))
-CRATE = os.path.join(HERE, "..", "crates", "step_bench")
-HEAP = ["1000", "4", "8", "16"]
+CRATE = os.path.join(HERE, "..", "crates", "benches")
+PROGRAM = os.path.join(CRATE, "out", "benches")
+HEAP = ["16", "1000", "4", "8"]
 
 
 def seconds(mode, count):
     """The user time of one run."""
     before = resource.getrusage(resource.RUSAGE_CHILDREN).ru_utime
-    words = [os.path.join(CRATE, "out", "step_bench"), mode, "1", str(count), *HEAP]
+    words = [PROGRAM, "machine", mode, "1", str(count), *HEAP]
     subprocess.run(words, check=True, stdout=subprocess.DEVNULL)
     return resource.getrusage(resource.RUSAGE_CHILDREN).ru_utime - before
 
@@ -32,8 +33,8 @@ def main():
     parser.add_argument("--count", type=int, default=10_000_000)
     parser.add_argument("--runs", type=int, default=5)
     said = parser.parse_args()
-    if not os.path.exists(os.path.join(CRATE, "out", "step_bench")):
-        words = ["rt", "run", "--", "bare", "1", "1", *HEAP]
+    if not os.path.exists(PROGRAM):
+        words = ["rt", "run", "--", "machine", "bare", "1", "1", *HEAP]
         subprocess.run(words, check=True, cwd=CRATE, stdout=subprocess.DEVNULL)
     modes = ["bare", "hold", "all"]
     times = {mode: [] for mode in modes}

@@ -100,10 +100,13 @@ def draw_crates():
             height[name] = 1 + max((height_of(low) for low in stands_on[name]), default=-1)
         return height[name]
 
+    # A crate that only high ones use is drawn close to them.
+    for name in sorted(stands_on, key=height_of, reverse=True):
+        above = [height[user] for user, lows in stands_on.items() if name in lows]
+        height[name] = min(above, default=height[name] + 1) - 1
     rows = {}
     for name in stands_on:
-        rows.setdefault(height_of(name), []).append(name)
-    # A crate that only high ones use is drawn close to them.
+        rows.setdefault(height[name], []).append(name)
     wide, high, gap_x, gap_y = 138, 34, 18, 34
     most = max(len(names) for names in rows.values())
     width = most * wide + (most - 1) * gap_x + 48

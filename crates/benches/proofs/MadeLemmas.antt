@@ -1,0 +1,118 @@
+-- What a call that has ended leaves a pass with.
+use Rattle.std.proofs.Common.{ℕ, ◌≡◌, ◌≢◌, inl, inr, List, Option, Some, None, refl, sym, ap, ◌∙◌, subst}
+use Rattle.std.proofs.lemmas.Bool.{cases_Bool}
+use Rattle.heap_geometry.specs.declared.need.Need.{Need}
+use Rattle.pool_model.specs.declared.event.Event.{Event}
+use Rattle.errand_steps.specs.declared.reply.Progress.TheVariants as progress
+use Rattle.errand_steps.specs.declared.reply.Reply.{Reply}
+use Rattle.errand_steps.specs.declared.reply.Reply.TheVariants as reply
+use Rattle.errand_steps.specs.Begins.{IsBusy, IsIdle}
+use Rattle.errand_steps.specs.Calls.{Call, free, put}
+use Rattle.errand_steps.specs.Errands.{settle_of}
+use Rattle.errand_steps.specs.Points.{is_idle}
+use Rattle.errand_steps.proofs.AnswerLemmas.{done-told}
+use Rattle.step_core.specs.Cores.{OwnsAfter}
+use Rattle.step_core.specs.Keeping.{Leaves}
+use Rattle.step_core.specs.Moments.{IsMoment}
+use Rattle.live_heap.specs.declared.answers.Ending.TheVariants as ending
+use Rattle.live_heap.specs.declared.answers.Full.{Full}
+use Rattle.live_heap.specs.declared.answers.Step.{Step}
+use Rattle.live_heap.specs.declared.answers.Step.TheVariants as step
+use Rattle.live_heap.specs.declared.block.Block.{Block}
+use Rattle.live_heap.specs.declared.heap.Heap.{Heap}
+use Rattle.live_heap.specs.declared.pass.Pass.{Pass}
+use Rattle.live_heap.specs.Answers.{HasStepped, PutTellsFull, progress_of}
+use Rattle.live_heap.specs.Calls.{HasCalled}
+use Rattle.live_heap.specs.Passes.{IsOf, Owns, seen}
+use Rattle.live_heap.proofs.Told.{found, moment-settles, moment-meant}
+use Rattle.benches.specs.Hands.{HasMade, Rests}
+
+-- the laws of `passes_keep_their_blocks`: a call keeps the other blocks, and a block that it brings is none of those
+abbrev pub KeepsOthers : Type 0
+KeepsOthers =
+    (h : Heap) (p q : Pass) (call : Call) (steps : ℕ) (answer : Reply) (block : Block) → IsOf h p → IsOf h q → HasCalled p call steps answer q
+    → Leaves call block.place → Owns p block → Owns q block
+
+abbrev pub GivesAnother : Type 0
+GivesAnother =
+    (h : Heap) (p q : Pass) (call : Call) (steps place : ℕ) (need : Need) (block : Block) → IsOf h p → IsOf h q
+    → HasCalled p call steps (reply.Given place need) q → Owns p block → block.place ≢ place
+
+abbrev pub GetsAnother : Type 0
+GetsAnother =
+    (h : Heap) (p q : Pass) (call : Call) (steps place : ℕ) (need : Need) (block : Block) → IsOf h p → IsOf h q
+    → HasCalled p call steps (reply.Got place need) q → Owns p block → block.place ≢ place
+
+module _ (keep : KeepsOthers) (h : Heap) (p q : Pass) (call : Call) (steps : ℕ) (of : IsOf h p) (still : IsOf h q) where
+  -- it brought no block
+  pub made-none : (answer : Reply) → HasCalled p call steps answer q → HasMade h p call None q
+  made-none answer called = record {
+    rests = (still, called.idle);
+    keeps = λ block leaves owned. keep h p q call steps answer block of still called leaves owned;
+    new = tt;
+  }
+
+  -- it was given a block
+  pub made-given :
+      GivesAnother → (block : Block) → HasCalled p call steps (reply.Given block.place block.need) q → Owns q block → HasMade h p call (Some block) q
+  made-given another block called owned = record {
+    rests = (still, called.idle);
+    keeps = λ other leaves had. keep h p q call steps (reply.Given block.place block.need) other of still called leaves had;
+    new = (owned, λ other had. another h p q call steps block.place block.need other of still called had);
+  }
+
+  -- it took one
+  pub made-got :
+      GetsAnother → (block : Block) → HasCalled p call steps (reply.Got block.place block.need) q → Owns q block → HasMade h p call (Some block) q
+  made-got another block called owned = record {
+    rests = (still, called.idle);
+    keeps = λ other leaves had. keep h p q call steps (reply.Got block.place block.need) other of still called leaves had;
+    new = (owned, λ other had. another h p q call steps block.place block.need other of still called had);
+  }
+
+-- nothing has happened
+pub made-nothing : (h : Heap) (p q : Pass) (call : Call) → Rests h p → q ≡ p → HasMade h p call None q
+made-nothing h p q call rests same =
+    subst (λ (x : Pass). HasMade h p call None x) (sym same) (record { rests = rests; keeps = λ block leaves owned. owned; new = tt })
+
+-- what it brought is not asked for
+pub made-without : (h : Heap) (p q : Pass) (call : Call) (got : Option Block) → HasMade h p call got q → HasMade h p call None q
+made-without h p q call got made = record { rests = made.rests; keeps = made.keeps; new = tt }
+
+-- a put that found a full shelf, and the free of the block that came back
+pub made-freed :
+    KeepsOthers → (h : Heap) (p q r : Pass) (block : Block) (shelf : ℕ) (full : Full) → IsOf h p → IsOf h q → PutTellsFull p block shelf full q
+    → HasMade h q (free full.block.place full.block.need) None r → HasMade h p (put block.place block.need shelf) None r
+made-freed keep h p q r block shelf full of still tells freed =
+    let same : full.block.place ≡ block.place = ap (λ (b : Block). b.place) tells.same in
+    record {
+      rests = freed.rests;
+      keeps = λ other leaves owned. freed.keeps other (λ e. leaves (e ∙ same)) (keep h p q (put block.place block.need shelf) 0 (reply.Full full.found) other of still tells.called leaves owned);
+      new = tt;
+    }
+
+-- a step that is told has given a block ends its call, and the block is the pass's
+abbrev IsIdleStep : Step → Type 0
+IsIdleStep step.Idle = Unit {0}
+IsIdleStep told = ⊥
+
+pub given-owned :
+    (p q : Pass) (told : Step) (block : Block) → q.errand.caller ≡ p.errand.caller → (IsIdle p.errand → (told ≡ step.Idle) × (q ≡ p))
+    → (IsBusy p.errand → HasStepped p q told) → told ≡ step.Done (ending.Given block) → IsIdle q.errand × Owns q block
+given-owned p q told block caller idle busy is =
+    elim (cases_Bool (is_idle p.errand.point)) [
+      | inl rests ↦ absurd (subst IsIdleStep (sym (idle rests).0 ∙ is) tt)
+      | inr moves ↦
+          let r : Reply = reply.Given block.place block.need in
+          let m : IsMoment p.errand q.errand (seen p) (seen q) (progress.Done r) =
+          subst (λ (t : Step). IsMoment p.errand q.errand (seen p) (seen q) (progress_of t)) is (busy moves).moment in
+          let x = found p.errand q.errand (seen p) (seen q) (progress.Done r) m in
+          let settled = moment-settles p.errand q.errand (seen p) (seen q) (progress.Done r) m in
+          let rests : IsIdle (settle_of p.errand x) = (done-told p.errand x moves).1 (r, sym m.answers) in
+          let given = moment-meant p.errand q.errand (seen p) (seen q) (progress.Done r) m r refl in
+          let owned : OwnsAfter m.next.history p.errand.caller block.place block.need = given.3.block in (
+            subst IsIdle (sym settled) rests,
+            subst (λ k. OwnsAfter (seen q) k block.place block.need) (sym caller)
+                (subst (λ (l : List Event). OwnsAfter l p.errand.caller block.place block.need) m.now owned),
+          )
+    ]

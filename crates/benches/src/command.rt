@@ -1,0 +1,116 @@
+//! The commands that the words behind the program's name are.
+
+ghost use Rattle.std.specs.Prelude.{IfOk, IfSome, All};
+ghost use Rattle.heap_geometry.specs.Geometry.{IsChecked};
+
+use heap_geometry::geometry::Geometry;
+use heap_geometry::limits::MAX_TURNS;
+use std::alloc::{AllocError, Global};
+
+/// How many words a command has.
+const WORDS: usize = 8;
+
+/// What the threads do with a heap.
+#[derive(Clone, Copy, PartialEq, Eq)]
+pub enum Task {
+    /// Steps of allocations of one word and of their frees.
+    Steps,
+    /// Steps of allocations of one word that frees nothing.
+    Hold,
+    /// Allocations of one word, each with its free behind it.
+    Pairs,
+    /// Calls of all kinds on blocks that are filled and checked.
+    Stress,
+}
+
+/// Which calls are begun on the machine, and whose step is the next one.
+#[derive(Clone, Copy, PartialEq, Eq)]
+pub enum Mix {
+    /// Each caller in turn asks for one usable word again and again, and frees nothing.
+    Hold,
+    /// Each caller in turn makes calls of all kinds.
+    All,
+    /// Callers in random order make calls of all kinds.
+    Mingled,
+}
+
+/// What is timed.
+#[derive(Clone, Copy, PartialEq, Eq)]
+pub enum Bench {
+    /// Atomic accesses alone, on threads.
+    Atomics,
+    /// A heap at work, on threads.
+    Heap(Task),
+    /// Memory accesses alone, on one thread.
+    Accesses,
+    /// Steps of the machine, on one thread.
+    Machine(Mix),
+}
+
+/// What the program is asked to do, how often, and in which heap. On threads each caller has one.
+#[derive(Clone, Copy)]
+pub struct Command {
+    pub bench: Bench,
+    /// Where the random numbers begin.
+    pub seed: u64,
+    /// How many accesses, steps, pairs or rounds are made: on threads, by each of them.
+    pub count: u64,
+    pub geometry: Geometry,
+}
+
+/// The bench of this place and mode.
+fn bench_of(place: &str, mode: &str) -> Option<Bench> {
+    match (place, mode) {
+        ("heap", "bare") => Some(Bench::Atomics),
+        ("heap", "steps") => Some(Bench::Heap(Task::Steps)),
+        ("heap", "hold") => Some(Bench::Heap(Task::Hold)),
+        ("heap", "pairs") => Some(Bench::Heap(Task::Pairs)),
+        ("heap", "stress") => Some(Bench::Heap(Task::Stress)),
+        ("machine", "bare") => Some(Bench::Accesses),
+        ("machine", "hold") => Some(Bench::Machine(Mix::Hold)),
+        ("machine", "all") => Some(Bench::Machine(Mix::All)),
+        ("machine", "mingled") => Some(Bench::Machine(Mix::Mingled)),
+        _ => None,
+    }
+}
+
+/// The command, where the words are one and its heap exists.
+fn command_of(words: &[String]) -> Option<Command>
+    ensures { IfSome result (λ command. IsChecked command.geometry) }
+{
+    match words {
+        [place, mode, seed, count, callers, frames, heaps, units] => {
+            let geometry = Geometry {
+                frames: frames.parse().ok()?,
+                heaps: heaps.parse().ok()?,
+                units: units.parse().ok()?,
+                callers: callers.parse().ok()?,
+                turn_limit: MAX_TURNS,
+            };
+            Some(Command {
+                bench: bench_of(place.as_str(), mode.as_str())?,
+                seed: seed.parse().ok()?,
+                count: count.parse().ok()?,
+                geometry: geometry.check().ok()?,
+            })
+        }
+        _ => None,
+    }
+}
+
+/// The commands, where the words are one or more, each behind the last.
+pub fn commands_of(alloc: Global, words: &[String]) -> Result<Option<Vec<Command>>, AllocError>
+    ensures { IfOk result (λ found. IfSome found (λ commands. All (λ command. IsChecked command.geometry) commands.items)) }
+{
+    if words.is_empty() {
+        return Ok(None);
+    }
+    let mut commands = Vec::new(alloc);
+    for own in words.chunks(WORDS) {
+        let Some(command) = command_of(own) else {
+            return Ok(None);
+        };
+        commands.push(command)?;
+    }
+    Ok(Some(commands))
+}

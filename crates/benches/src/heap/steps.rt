@@ -1,0 +1,68 @@
+//! Steps in a row, and pairs of calls.
+
+ghost use Rattle.live_heap.specs.Passes.{IsOf};
+ghost use Rattle.benches.specs.Hands.{Rests};
+
+use crate::heap::calls::{allocate, release};
+use crate::heap::tally::{Tally, count};
+use live_heap::answers::{Ending, Step};
+use live_heap::heap::Heap;
+use live_heap::pass::Pass;
+use std::sync::Wait;
+
+/// Makes so many steps, and those that end the last call: allocations of one word, and where `frees` says
+/// so the free of each block behind its allocation.
+pub fn make_steps<R: Wait>(
+    rt: &R,
+    heap: &Heap,
+    pass: &mut Pass,
+    steps: u64,
+    frees: bool,
+    tally: &mut Tally,
+)
+    requires { Rests heap.now pass.old }
+    ensures { Rests heap.now pass.new }
+{
+    for _ in rt.forever() {
+        if pass.idle() {
+            if tally.made >= steps {
+                return;
+            }
+            let _ = heap.begin_alloc(pass, 1);
+        }
+        make_step(heap, pass, frees, tally);
+    }
+    unreachable!()
+}
+
+/// Makes one step; where it is given a block that is to be freed, the free begins.
+fn make_step(heap: &Heap, pass: &mut Pass, frees: bool, tally: &mut Tally)
+    requires { IsOf heap.now pass.old }
+    ensures { IsOf heap.now pass.new }
+{
+    count(&mut tally.made);
+    match heap.step(pass) {
+        Step::Done(Ending::Given(block)) => {
+            count(&mut tally.given);
+            if frees {
+                heap.begin_free(pass, block);
+            }
+        }
+        Step::Done(Ending::Freed) => count(&mut tally.freed),
+        Step::Done(Ending::Refused) => count(&mut tally.refused),
+        _ => {}
+    }
+}
+
+/// So many allocations of one word, each with its free behind it.
+pub fn make_pairs<R: Wait>(rt: &R, heap: &Heap, pass: &mut Pass, pairs: u64, tally: &mut Tally)
+    requires { Rests heap.now pass.old }
+    ensures { Rests heap.now pass.new }
+{
+    for _ in 0..pairs {
+        count(&mut tally.made);
+        if let Some(block) = allocate(rt, heap, pass, 1, tally) {
+            release(rt, heap, pass, block, tally);
+        }
+    }
+}

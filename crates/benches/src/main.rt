@@ -1,0 +1,95 @@
+//! Benches, for a clock beside them: calls on one heap from many threads, and steps of the machine in a
+//! row on one thread, each beside bare accesses of the same kind as many; and puts the heap under stress.
+//!
+//! `benches PLACE MODE SEED COUNT CALLERS FRAMES HEAPS UNITS ..`: one bench or more, of eight words each.
+//! Where the place is `heap`, each of CALLERS threads (1 to 16) makes COUNT atomic accesses at random
+//! places of a table of as many words as the heap has (`bare`), or has a pass of the heap and makes
+//! COUNT steps of allocations of one word with their frees (`steps`) or without (`hold`), COUNT
+//! allocations of one word with their frees (`pairs`), or COUNT rounds of calls of all kinds on blocks
+//! that it fills and checks (`stress`). Where it is `machine`, one thread loads a word, compares it and
+//! stores it, COUNT times, at random places of such a table (`bare`), or makes COUNT steps of a machine
+//! on which calls of a mix are begun (`hold`, `all`, `mingled`).
+//!
+//! It prints a line of counts for each bench, so that tools/bench_heap.py and tools/bench_steps.py can
+//! time it. All words are read before a bench begins, and a bench that does not end well is the last:
+//! with the exit status 1 where a word of a block was not what its owner had written there.
+#![tactic(auto)]
+
+ghost use Rattle.std.specs.Prelude.{All};
+ghost use Rattle.heap_geometry.specs.Geometry.{IsChecked};
+
+use command::{Bench, Command, commands_of};
+use std::alloc::Global;
+use std::io::Print;
+use std::process::ExitCode;
+use std::rt::Env;
+use std::sync::Wait;
+use std::thread::Threads;
+use std::{env, io};
+
+mod command;
+mod heap;
+mod machine;
+mod random;
+
+/// The exit status where a word was wrong.
+const WRONG: u8 = 1;
+
+/// The exit status where the words behind the program's name are no commands.
+const USAGE: u8 = 2;
+
+/// The exit status where something else failed.
+const FAILED: u8 = 6;
+
+/// The words behind the program's name.
+fn words<R: Env + AllocGlobal>(rt: &R, alloc: Global) -> io::Result<Vec<String>> {
+    let mut words = Vec::new(alloc);
+    for word in env::args(rt)?.skip(1) {
+        words.push(word)?;
+    }
+    Ok(words)
+}
+
+/// Does what the command says, prints the counts, and answers how many words were wrong.
+fn print_counts<R: Print + Threads + Wait + Sync>(
+    rt: &R,
+    alloc: Global,
+    command: Command,
+) -> io::Result<u64>
+    requires { IsChecked command.geometry }
+{
+    match command.bench {
+        Bench::Atomics => heap::print_accesses(rt, alloc, command)?,
+        Bench::Heap(task) => return heap::print_counts(rt, alloc, task, command),
+        Bench::Accesses => machine::print_accesses(rt, alloc, command)?,
+        Bench::Machine(mix) => machine::print_counts(rt, alloc, mix, command)?,
+    }
+    Ok(0)
+}
+
+/// Does what the commands say, up to the first that does not end well, and answers the exit status.
+fn status_of<R: Print + Threads + Wait + Sync>(rt: &R, alloc: Global, commands: &[Command]) -> u8
+    requires { All (λ command. IsChecked command.geometry) commands.now }
+{
+    for command in commands {
+        match print_counts(rt, alloc, *command) {
+            Ok(0) => {}
+            Ok(_) => return WRONG,
+            Err(_) => return FAILED,
+        }
+    }
+    0
+}
+
+fn main(rt: HostRuntime) -> ExitCode {
+    let alloc = rt.alloc();
+    let Ok(words) = words(&rt, alloc) else {
+        return ExitCode::from(FAILED);
+    };
+    let status = match commands_of(alloc, words.as_slice()) {
+        Ok(Some(commands)) => status_of(&rt, alloc, commands.as_slice()),
+        Ok(None) => USAGE,
+        Err(_) => FAILED,
+    };
+    ExitCode::from(status)
+}

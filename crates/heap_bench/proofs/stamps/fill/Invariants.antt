@@ -1,5 +1,0 @@
-use Rattle.heap_bench.specs.Hands.{Keeps, Rests}
-use Rattle.heap_bench.proofs.stamps.fill.Given as goal
-
-abbrev pub invariant-loop-i : goal.invariant-loop-i
-invariant-loop-i l = record { rests : Rests l.heap l.pass; keeps : Keeps l.fn.pass l.pass }

@@ -1,9 +1,0 @@
-use Rattle.std.proofs.Common.{vec_len}
-use Rattle.heap_bench.specs.Hands.{IsWorking}
-use Rattle.heap_bench.proofs.worker.Worker.give_all_back.Given as goal
-
-abbrev pub invariant-loop-self : goal.invariant-loop-self
-invariant-loop-self g l = record { working : IsWorking l.heap l.self }
-
-abbrev pub decreases-loop-self : goal.decreases-loop-self
-decreases-loop-self g l = vec_len l.self.hand

@@ -1,5 +1,0 @@
-use Rattle.std.proofs.Common.{◌≡◌, ◌<◌}
-use Rattle.step_bench.proofs.run.run.Given as goal
-
-abbrev pub invariant-loop : goal.invariant-loop
-invariant-loop l = record { heap : l.core.geometry ≡ l.geometry; caller : l.caller < l.geometry.callers }
