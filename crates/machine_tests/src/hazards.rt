@@ -2,13 +2,14 @@
 
 ghost use Rattle.std.specs.Prelude.{[], ◌∷◌, ◌≡◌};
 
+use crate::heaps::seat_of;
+use crate::walk::{stay, walk};
 use hazard_parts::limits::HELD_MOST;
-use hazard_parts::plan::plan_desc;
 use hazard_parts::point::DescPoint;
 use hazard_parts::retired::Retired;
-use hazard_parts::settle::settle_desc;
 use heap_geometry::geometry::Geometry;
-use word_plan::action::{Action, Found};
+use std::process::Abort;
+use word_plan::action::Action;
 use word_plan::name::WordName::{DescHead, Hazard, Next};
 use word_plan::seat::Seat;
 
@@ -22,8 +23,8 @@ const GEOMETRY: Geometry = Geometry {
 };
 
 /// The seat of the second caller, for class 9.
-fn seat() -> Seat {
-    Seat::new(GEOMETRY, 1, 9)
+fn seat<R: Abort>(rt: &R) -> Seat {
+    seat_of(rt, GEOMETRY, 1, 9)
 }
 
 /// A pop stores its hazard word and loads the head again. It begins anew where the head has changed
@@ -46,11 +47,8 @@ fn a_pop_begins_anew_where_the_head_changed(rt: HostRuntime) {
         (Action::Cas(DescHead, 4, 0), 4, true),
         (Action::Store(Hazard(1), 0), 4, true),
     ];
-    let mut point = DescPoint::LoadDescHead { seat: seat() };
-    for (action, value, won) in rows {
-        assert_eq!(rt; plan_desc(&point), action);
-        point = settle_desc(point, Found { value, won });
-    }
+    let first_point = DescPoint::LoadDescHead { seat: seat(&rt) };
+    let point = walk(&rt, first_point, &rows);
     assert!(rt; matches!(point, DescPoint::Got { desc: 3, .. }));
 }
 
@@ -66,30 +64,27 @@ fn a_push_begins_anew_where_it_is_lost(rt: HostRuntime) {
         (Action::Store(Next(7), 0), 4, true),
         (Action::Cas(DescHead, 0, 8), 0, true),
     ];
-    let mut point = DescPoint::LoadHeadToPush {
-        seat: seat(),
+    let first_point = DescPoint::LoadHeadToPush {
+        seat: seat(&rt),
         desc: 7,
     };
-    for (action, value, won) in rows {
-        assert_eq!(rt; plan_desc(&point), action);
-        point = settle_desc(point, Found { value, won });
-    }
+    let point = walk(&rt, first_point, &rows);
     assert!(rt; matches!(point, DescPoint::Pushed { desc: 7, .. }));
 }
 
 /// A scan reads each caller's hazard word, in the order of the callers, and remembers it.
 #[test]
 fn a_scan_reads_each_hazard_word(rt: HostRuntime) {
-    let rows = [(Action::Load(Hazard(0)), 5), (Action::Load(Hazard(1)), 9)];
-    let mut point = DescPoint::ReadHazard {
-        seat: seat(),
+    let rows = [
+        (Action::Load(Hazard(0)), 5, true),
+        (Action::Load(Hazard(1)), 9, true),
+    ];
+    let first = DescPoint::ReadHazard {
+        seat: seat(&rt),
         held: [0; HELD_MOST],
         at: 0,
     };
-    for (action, value) in rows {
-        assert_eq!(rt; plan_desc(&point), action);
-        point = settle_desc(point, Found { value, won: true });
-    }
+    let point = walk(&rt, first, &rows);
     let read = match point {
         DescPoint::Scanned { held, .. } => held,
         _ => [0; HELD_MOST],
@@ -100,51 +95,30 @@ fn a_scan_reads_each_hazard_word(rt: HostRuntime) {
 /// Clearing the hazard word is one step.
 #[test]
 fn a_hazard_word_is_cleared(rt: HostRuntime) {
-    let point = DescPoint::ClearHazard { seat: seat() };
-    assert_eq!(rt; plan_desc(&point), Action::Store(Hazard(1), 0));
-    let found = Found {
-        value: 3,
-        won: true,
-    };
-    assert!(rt; matches!(settle_desc(point, found), DescPoint::Cleared { .. }));
+    let clear = DescPoint::ClearHazard { seat: seat(&rt) };
+    let cleared = walk(&rt, clear, &[(Action::Store(Hazard(1), 0), 3, true)]);
+    assert!(rt; matches!(cleared, DescPoint::Cleared { .. }));
 }
 
 /// The last descriptor's name is 66. A word that names a later one leaves the point, as does a head
 /// of no descriptor where one is to be taken.
 #[test]
 fn words_that_are_not_expected(rt: HostRuntime) {
+    let seat = seat(&rt);
     let rows = [
-        (DescPoint::LoadDescHead { seat: seat() }, 0),
-        (DescPoint::LoadDescHead { seat: seat() }, 67),
-        (
-            DescPoint::LoadNextDesc {
-                seat: seat(),
-                desc: 0,
-            },
-            67,
-        ),
-        (
-            DescPoint::LoadHeadToPush {
-                seat: seat(),
-                desc: 0,
-            },
-            67,
-        ),
+        (DescPoint::LoadDescHead { seat }, 0),
+        (DescPoint::LoadDescHead { seat }, 67),
+        (DescPoint::LoadNextDesc { seat, desc: 0 }, 67),
+        (DescPoint::LoadHeadToPush { seat, desc: 0 }, 67),
     ];
-    for (point, value) in rows {
-        let next = settle_desc(point, Found { value, won: true });
-        assert_eq!(rt; plan_desc(&next), plan_desc(&point), "at {value}");
-    }
+    stay(&rt, &rows);
 }
 
 /// A word that names the last descriptor is one that is expected.
 #[test]
 fn the_last_descriptor_is_guarded(rt: HostRuntime) {
-    let found = Found {
-        value: 66,
-        won: true,
-    };
-    let point = settle_desc(DescPoint::LoadDescHead { seat: seat() }, found);
+    let load = DescPoint::LoadDescHead { seat: seat(&rt) };
+    let point = walk(&rt, load, &[(Action::Load(DescHead), 66, true)]);
     assert!(rt; matches!(point, DescPoint::StoreHazard { desc: 65, .. }));
 }
 
@@ -167,24 +141,30 @@ fn three_retired() -> Retired
     retired
 }
 
+/// Where the callers hold this, that descriptor is picked.
+fn picks<R: Abort>(rt: &R, retired: &Retired, rows: &[(u64, u64, Option<u16>)]) {
+    for row in rows {
+        let (first, second, picked) = *row;
+        assert_eq!(rt; retired.pick(&held(first, second)), picked);
+    }
+}
+
 /// With two callers, one of three retired descriptors is always free to go. A hazard word names a
 /// descriptor by its index plus 1; the longest retired one is picked.
 #[test]
 fn one_of_three_is_not_held_by_two(rt: HostRuntime) {
-    assert_eq!(rt; Retired::new().pick(&held(0, 0)), None);
+    picks(&rt, &Retired::new(), &[(0, 0, None)]);
+    let rows = [
+        (0, 0, Some(4)),
+        (4, 9, Some(4)),
+        (0, 5, Some(0)),
+        (1, 5, Some(9)),
+        (10, 5, Some(0)),
+        (1, 10, Some(4)),
+    ];
     let retired = three_retired();
     assert_eq!(rt; retired.len(), 3);
-    let rows = [
-        (held(0, 0), Some(4)),
-        (held(4, 9), Some(4)),
-        (held(0, 5), Some(0)),
-        (held(1, 5), Some(9)),
-        (held(10, 5), Some(0)),
-        (held(1, 10), Some(4)),
-    ];
-    for (held, picked) in rows {
-        assert_eq!(rt; retired.pick(&held), picked);
-    }
+    picks(&rt, &retired, &rows);
 }
 
 #[test]
@@ -192,12 +172,6 @@ fn a_removed_one_is_not_picked(rt: HostRuntime) {
     let mut retired = three_retired();
     retired.remove(0);
     assert_eq!(rt; retired.len(), 2);
-    let rows = [
-        (held(0, 0), Some(4)),
-        (held(5, 0), Some(9)),
-        (held(10, 5), None),
-    ];
-    for (held, picked) in rows {
-        assert_eq!(rt; retired.pick(&held), picked);
-    }
+    let rows = [(0, 0, Some(4)), (5, 0, Some(9)), (10, 5, None)];
+    picks(&rt, &retired, &rows);
 }

@@ -9,7 +9,7 @@ use large_parts::settle::settle_large;
 use large_parts::units::first_run;
 use large_parts::want::Want;
 use std::process::Abort;
-use word_plan::action::{Action, Found, apply};
+use word_plan::action::{Action, apply};
 use word_plan::name::WordName::{Arena, Shelf, Units};
 
 const GEOMETRY: Geometry = Geometry {
@@ -26,10 +26,10 @@ type Row = (Action, u64, u64);
 /// The point behind these steps, each of which makes the action of its row.
 fn steps<R: Abort>(rt: &R, point: LargePoint, rows: &[Row]) -> LargePoint {
     let mut point = point;
-    for (action, before, after) in rows {
-        assert_eq!(rt; plan_large(&point), *action);
-        let (word, found) = apply(action, *before);
-        assert_eq!(rt; word, *after);
+    for row in rows {
+        let (action, before, after) = *row;
+        let (word, found) = apply(&action, before);
+        assert_eq!(rt; (plan_large(&point), word), (action, after));
         point = settle_large(point, found);
     }
     point
@@ -71,17 +71,11 @@ fn no_run_is_free(rt: HostRuntime) {
         want: Want::new(GEOMETRY, 2),
         bits: 0,
     };
-    assert_eq!(rt; plan_large(&point), Action::Cas(Units, 0, 0));
-    let won = Found {
-        value: 0,
-        won: true,
-    };
-    assert!(rt; matches!(settle_large(point, won), LargePoint::NoRun));
-    let lost = Found {
-        value: 1,
-        won: false,
-    };
-    assert!(rt; matches!(settle_large(point, lost), LargePoint::LoadUnits { .. }));
+    let exchange = Action::Cas(Units, 0, 0);
+    let won = steps(&rt, point, &[(exchange, 0, 0)]);
+    assert!(rt; matches!(won, LargePoint::NoRun));
+    let lost = steps(&rt, point, &[(exchange, 1, 1)]);
+    assert!(rt; matches!(lost, LargePoint::LoadUnits { .. }));
 }
 
 /// A block is put on a shelf, which is full then.
@@ -156,6 +150,15 @@ fn usable_words(rt: HostRuntime) {
     assert!(rt; matches!(word, LargePoint::Word { value: 10 }));
 }
 
+/// The first run of so many units, where so many can be asked for of so many.
+fn run_in(bits: u64, units: u8, n: u8) -> Option<Option<u8>> {
+    if units <= 64 && n >= 1 && n <= 64 {
+        Some(first_run(bits, units, n))
+    } else {
+        None
+    }
+}
+
 /// The lowest unit that begins so many clear bits among the first ones.
 #[test]
 fn first_runs(rt: HostRuntime) {
@@ -176,10 +179,9 @@ fn first_runs(rt: HostRuntime) {
         (0, 0, 1, None),
     ];
     for (bits, units, n, first) in cases {
-        assert!(rt; units <= 64 && n >= 1 && n <= 64);
         assert_eq!(rt;
-            first_run(bits, units, n),
-            first,
+            run_in(bits, units, n),
+            Some(first),
             "{n} of {units} in {bits}"
         );
     }

@@ -7,6 +7,8 @@ mod errands;
 #[cfg(test)]
 mod hazards;
 #[cfg(test)]
+mod heaps;
+#[cfg(test)]
 mod large_blocks;
 #[cfg(test)]
 mod machine;
@@ -19,8 +21,12 @@ mod partials;
 #[cfg(test)]
 mod plain_pool;
 #[cfg(test)]
+mod script;
+#[cfg(test)]
 mod stacks;
 #[cfg(test)]
 mod superblocks;
 #[cfg(test)]
 mod table;
+#[cfg(test)]
+mod walk;

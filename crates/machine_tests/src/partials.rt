@@ -1,12 +1,13 @@
 //! Steps of partial superblocks, by the numbers of the words.
 
+use crate::heaps::{first_site, seat_of};
+use crate::walk::{Row, stay, walk};
 use heap_geometry::geometry::Geometry;
-use partial_parts::plan::plan_partial;
 use partial_parts::point::PartialPoint;
-use partial_parts::settle::settle_partial;
-use word_plan::action::{Action, Found};
+use std::process::Abort;
+use word_plan::action::Action;
 use word_plan::name::WordName::{Anchor, Info, Slot};
-use word_plan::seat::{Seat, Site};
+use word_plan::seat::Seat;
 
 /// A heap of these numbers has 86 descriptors.
 const GEOMETRY: Geometry = Geometry {
@@ -24,17 +25,8 @@ const PARTIAL: u64 = 10_486_784;
 const EMPTY: u64 = 11_535_361;
 
 /// The seat of the first caller, for class 9.
-fn seat() -> Seat {
-    Seat::new(GEOMETRY, 0, 9)
-}
-
-/// Descriptor 0 and frame 0, for that seat.
-fn site() -> Site {
-    Site {
-        seat: seat(),
-        desc: 0,
-        frame: 0,
-    }
+fn seat<R: Abort>(rt: &R) -> Seat {
+    seat_of(rt, GEOMETRY, 0, 9)
 }
 
 /// The one free block of a superblock is granted, which makes it full.
@@ -48,11 +40,8 @@ fn the_last_block_is_granted(rt: HostRuntime) {
         (Action::Load(Anchor(0)), PARTIAL, true),
         (Action::Cas(Anchor(0), PARTIAL, 9_437_184), PARTIAL, true),
     ];
-    let mut point = PartialPoint::LoadSlot { seat: seat() };
-    for (action, value, won) in rows {
-        assert_eq!(rt; plan_partial(&point), action);
-        point = settle_partial(point, Found { value, won });
-    }
+    let first_point = PartialPoint::LoadSlot { seat: seat(&rt) };
+    let point = walk(&rt, first_point, &rows);
     assert!(rt; matches!(point, PartialPoint::Granted { more: 0, .. }));
 }
 
@@ -72,13 +61,10 @@ fn the_most_is_granted(rt: HostRuntime) {
         (Action::Load(Anchor(6)), 2_168_835, true),
         (Action::Cas(Anchor(6), 2_168_835, 5_123), 2_168_835, true),
     ];
-    let mut point = PartialPoint::LoadSlot {
-        seat: Seat::new(GEOMETRY, 1, 1),
+    let first_point = PartialPoint::LoadSlot {
+        seat: seat_of(&rt, GEOMETRY, 1, 1),
     };
-    for (action, value, won) in rows {
-        assert_eq!(rt; plan_partial(&point), action);
-        point = settle_partial(point, Found { value, won });
-    }
+    let point = walk(&rt, first_point, &rows);
     assert!(rt; matches!(point, PartialPoint::Granted { more: 64, .. }));
 }
 
@@ -87,105 +73,74 @@ fn the_most_is_granted(rt: HostRuntime) {
 #[test]
 fn slots_are_filled(rt: HostRuntime) {
     let load = PartialPoint::LoadOwner {
-        seat: seat(),
+        seat: seat(&rt),
         desc: 4,
     };
-    assert_eq!(rt; plan_partial(&load), Action::Load(Info(4)));
-    let found = Found {
-        value: (9 << 24) + 65_537,
-        won: true,
-    };
-    let put = settle_partial(load, found);
-    assert_eq!(rt; plan_partial(&put), Action::Swap(Slot(1, 9), 5));
-    let filled = settle_partial(
-        put,
-        Found {
-            value: 0,
-            won: true,
-        },
-    );
+    let rows = [(Action::Load(Info(4)), (9 << 24) + 65_537, true)];
+    let put = walk(&rt, load, &rows);
+    let swap = Action::Swap(Slot(1, 9), 5);
+    let filled = walk(&rt, put, &[(swap, 0, true)]);
     assert!(rt; matches!(filled, PartialPoint::SlotFilled { .. }));
-    let other = settle_partial(
-        put,
-        Found {
-            value: 86,
-            won: true,
-        },
-    );
+    let other = walk(&rt, put, &[(swap, 86, true)]);
     assert!(rt; matches!(other, PartialPoint::Displaced { desc: 85, .. }));
 }
 
 /// A superblock that became empty is taken out of the slot where it stands there.
 #[test]
 fn an_empty_superblock_leaves_the_slot(rt: HostRuntime) {
-    let load = PartialPoint::LoadHeldSlot {
-        seat: seat(),
+    let first = PartialPoint::LoadHeldSlot {
+        seat: seat(&rt),
         desc: 4,
         heap: 1,
     };
-    assert_eq!(rt; plan_partial(&load), Action::Load(Slot(1, 9)));
-    let other = settle_partial(
-        load,
-        Found {
-            value: 4,
-            won: true,
-        },
-    );
-    assert!(rt; matches!(other, PartialPoint::NotInSlot { .. }));
-    let remove = settle_partial(
-        load,
-        Found {
-            value: 5,
-            won: true,
-        },
-    );
-    assert_eq!(rt; plan_partial(&remove), Action::Cas(Slot(1, 9), 5, 0));
-    let removed = settle_partial(
-        remove,
-        Found {
-            value: 5,
-            won: true,
-        },
-    );
+    let load = Action::Load(Slot(1, 9));
+    let remove = Action::Cas(Slot(1, 9), 5, 0);
+    let removed = walk(&rt, first, &[(load, 5, true), (remove, 5, true)]);
     assert!(rt; matches!(removed, PartialPoint::Removed { desc: 4, .. }));
-    let lost = settle_partial(
-        remove,
-        Found {
-            value: 0,
-            won: false,
-        },
-    );
-    assert!(rt; matches!(lost, PartialPoint::NotInSlot { .. }));
+    let other: &[Row] = &[(load, 4, true)];
+    let lost: &[Row] = &[(load, 5, true), (remove, 0, false)];
+    for rows in [other, lost] {
+        let point = walk(&rt, first, rows);
+        assert!(rt; matches!(point, PartialPoint::NotInSlot { .. }));
+    }
+}
+
+/// Whether descriptor 0 of a list was found to be empty, or partial.
+fn told_empty(point: PartialPoint) -> Option<bool> {
+    match point {
+        PartialPoint::ListedEmpty { desc: 0, .. } => Some(true),
+        PartialPoint::ListedPartial { desc: 0, .. } => Some(false),
+        _ => None,
+    }
 }
 
 /// An anchor of which only the state is looked at may name a block that the class has not.
 #[test]
 fn empty_superblocks_are_told(rt: HostRuntime) {
-    let grant = PartialPoint::LoadGrantAnchor { site: site() };
+    let grant = PartialPoint::LoadGrantAnchor {
+        site: first_site(seat(&rt)),
+    };
     let listed = PartialPoint::LoadListedAnchor {
-        seat: seat(),
+        seat: seat(&rt),
         desc: 0,
     };
-    assert_eq!(rt; plan_partial(&grant), Action::Load(Anchor(0)));
-    assert_eq!(rt; plan_partial(&listed), Action::Load(Anchor(0)));
+    let load = Action::Load(Anchor(0));
     for value in [EMPTY, EMPTY + 1] {
-        let took = settle_partial(grant, Found { value, won: true });
+        let took = walk(&rt, grant, &[(load, value, true)]);
         assert!(rt;
             matches!(took, PartialPoint::TookEmpty { .. }),
             "at {value}"
         );
-        let empty = settle_partial(listed, Found { value, won: true });
-        assert!(rt;
-            matches!(empty, PartialPoint::ListedEmpty { desc: 0, .. }),
-            "at {value}"
-        );
     }
-    for value in [PARTIAL, PARTIAL + 2] {
-        let partial = settle_partial(listed, Found { value, won: true });
-        assert!(rt;
-            matches!(partial, PartialPoint::ListedPartial { desc: 0, .. }),
-            "at {value}"
-        );
+    let rows = [
+        (EMPTY, true),
+        (EMPTY + 1, true),
+        (PARTIAL, false),
+        (PARTIAL + 2, false),
+    ];
+    for (value, empty) in rows {
+        let point = walk(&rt, listed, &[(load, value, true)]);
+        assert_eq!(rt; told_empty(point), Some(empty), "at {value}");
     }
 }
 
@@ -193,21 +148,18 @@ fn empty_superblocks_are_told(rt: HostRuntime) {
 /// point, as does, for a grant, an anchor with a third block. An empty slot is none of these.
 #[test]
 fn words_that_are_not_expected(rt: HostRuntime) {
-    let slot = PartialPoint::LoadSlot { seat: seat() };
-    let info = PartialPoint::LoadTakenInfo {
-        seat: seat(),
-        desc: 0,
-    };
-    let owner = PartialPoint::LoadOwner {
-        seat: seat(),
-        desc: 0,
-    };
+    let seat = seat(&rt);
+    let slot = PartialPoint::LoadSlot { seat };
+    let info = PartialPoint::LoadTakenInfo { seat, desc: 0 };
+    let owner = PartialPoint::LoadOwner { seat, desc: 0 };
     let put = PartialPoint::PutSlot {
-        seat: seat(),
+        seat,
         desc: 0,
         heap: 0,
     };
-    let grant = PartialPoint::LoadGrantAnchor { site: site() };
+    let grant = PartialPoint::LoadGrantAnchor {
+        site: first_site(seat),
+    };
     let rows = [
         (slot, 87),
         (info, (9 << 24) + 2),
@@ -217,16 +169,7 @@ fn words_that_are_not_expected(rt: HostRuntime) {
         (put, 87),
         (grant, PARTIAL + 2),
     ];
-    for (point, value) in rows {
-        let next = settle_partial(point, Found { value, won: true });
-        assert_eq!(rt; plan_partial(&next), plan_partial(&point), "at {value}");
-    }
-    let empty = settle_partial(
-        slot,
-        Found {
-            value: 0,
-            won: true,
-        },
-    );
+    stay(&rt, &rows);
+    let empty = walk(&rt, slot, &[(Action::Load(Slot(0, 9)), 0, true)]);
     assert!(rt; matches!(empty, PartialPoint::SlotEmpty { .. }));
 }

@@ -1,9 +1,10 @@
 //! Calls of the plain pool, one after another.
 
 ghost use Rattle.std.specs.Prelude.{◌<◌, ◌≡◌, OnOk};
-ghost use Rattle.heap_geometry.specs.declared.limits.TheConstants.{SHELVES, MAX_FRAMES, MAX_UNITS};
-ghost use Rattle.heap_geometry.specs.Geometry.{IsChecked, IsWithin};
+ghost use Rattle.heap_geometry.specs.declared.limits.TheConstants.{SHELVES};
+ghost use Rattle.heap_geometry.specs.Geometry.{IsChecked};
 
+use crate::heaps::checked;
 use heap_geometry::geometry::Geometry;
 use heap_geometry::limits::SHELVES;
 use pool_model::plain::PlainPool;
@@ -69,19 +70,19 @@ fn crowd(pool: &mut PlainPool, shelf: u8) -> Result<Option<PlainPut>, AllocError
     }
 }
 
-fn small_heap(frames: u32, units: u32) -> Geometry
-    requires frames { IsWithin 1 MAX_FRAMES frames }
-    requires units { IsWithin 0 MAX_UNITS units }
+/// A heap of one caller and one processor heap of each class.
+fn small_heap<R: Abort>(rt: &R, frames: u32, units: u32) -> Geometry
     ensures checked { IsChecked result }
     ensures callers { result.callers ≡ 1 }
 {
-    Geometry {
+    let geometry = Geometry {
         frames,
         heaps: 1,
         units,
         callers: 1,
         turn_limit: 1,
-    }
+    };
+    checked(rt, geometry)
 }
 
 /// What is asked of a pool: to allocate and put on a shelf, or to take from there and free.
@@ -135,7 +136,7 @@ fn got(place: u32, words: u32) -> Told {
 
 #[test]
 fn a_full_heap_refuses_and_a_bare_frame_changes_its_class(rt: HostRuntime) -> Result<(), Fail> {
-    let mut pool = PlainPool::open(rt.alloc(), small_heap(1, 0))?;
+    let mut pool = PlainPool::open(rt.alloc(), small_heap(&rt, 1, 0))?;
     let rows = [
         (Asked::Shelve(1023, 0), given(0, 1023)),
         (Asked::Shelve(1023, 1), given(1024, 1023)),
@@ -153,7 +154,7 @@ fn a_full_heap_refuses_and_a_bare_frame_changes_its_class(rt: HostRuntime) -> Re
 
 #[test]
 fn the_least_free_place_is_given(rt: HostRuntime) -> Result<(), Fail> {
-    let mut pool = PlainPool::open(rt.alloc(), small_heap(3, 0))?;
+    let mut pool = PlainPool::open(rt.alloc(), small_heap(&rt, 3, 0))?;
     let rows = [
         (Asked::Shelve(3, 0), given(0, 3)),
         (Asked::Shelve(3, 1), given(4, 3)),
@@ -167,7 +168,7 @@ fn the_least_free_place_is_given(rt: HostRuntime) -> Result<(), Fail> {
 
 #[test]
 fn a_large_need_is_given_the_least_run(rt: HostRuntime) -> Result<(), Fail> {
-    let mut pool = PlainPool::open(rt.alloc(), small_heap(1, 3))?;
+    let mut pool = PlainPool::open(rt.alloc(), small_heap(&rt, 1, 3))?;
     let rows = [
         (Asked::Shelve(1024, 0), given(2048, 2047)),
         (Asked::Shelve(2048, 1), given(4096, 4095)),
@@ -182,14 +183,14 @@ fn a_large_need_is_given_the_least_run(rt: HostRuntime) -> Result<(), Fail> {
 
 #[test]
 fn a_word_reads_as_it_was_written(rt: HostRuntime) -> Result<(), Fail> {
-    let mut pool = PlainPool::open(rt.alloc(), small_heap(1, 0))?;
+    let mut pool = PlainPool::open(rt.alloc(), small_heap(&rt, 1, 0))?;
     assert_eq!(rt; write_and_read(&mut pool, 3, 2, 7)?, Some((0, 7)));
     Ok(())
 }
 
 #[test]
 fn a_full_shelf_takes_no_block(rt: HostRuntime) -> Result<(), Fail> {
-    let mut pool = PlainPool::open(rt.alloc(), small_heap(1, 0))?;
+    let mut pool = PlainPool::open(rt.alloc(), small_heap(&rt, 1, 0))?;
     assert_eq!(rt; crowd(&mut pool, 63)?, Some(PlainPut::Full));
     Ok(())
 }

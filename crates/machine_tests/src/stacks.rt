@@ -1,14 +1,14 @@
 //! Steps of a stack, by the numbers of the words.
 
-ghost use Rattle.std.specs.Prelude.{◌<◌};
-
+use crate::heaps::seat_of;
+use crate::walk::walk;
 use heap_geometry::geometry::Geometry;
 use packed_words::head::Head;
 use stack_parts::plan::plan_stack;
 use stack_parts::point::{Pile, StackPoint};
 use stack_parts::settle::settle_stack;
 use std::process::Abort;
-use word_plan::action::{Action, Found, apply};
+use word_plan::action::{Action, apply};
 use word_plan::name::WordName::{self, FrameHead, FrameNext, ListHead, Next};
 use word_plan::seat::Seat;
 
@@ -22,10 +22,8 @@ const GEOMETRY: Geometry = Geometry {
 };
 
 /// The seat of a caller, for class 9.
-fn seat(caller: u8) -> Seat
-    requires { caller < 3 }
-{
-    Seat::new(GEOMETRY, caller, 9)
+fn seat<R: Abort>(rt: &R, caller: u8) -> Seat {
+    seat_of(rt, GEOMETRY, caller, 9)
 }
 
 /// The word that an action is on.
@@ -94,11 +92,9 @@ fn popped(point: StackPoint) -> Option<u16> {
 }
 
 /// A caller's pop of a frame, at its begin.
-fn pop(caller: u8) -> StackPoint
-    requires { caller < 3 }
-{
+fn pop<R: Abort>(rt: &R, caller: u8) -> StackPoint {
     StackPoint::LoadTop {
-        seat: seat(caller),
+        seat: seat(rt, caller),
         pile: Pile::Frames,
     }
 }
@@ -109,14 +105,14 @@ fn pop(caller: u8) -> StackPoint
 #[test]
 fn the_tag_tells_a_reused_frame(rt: HostRuntime) {
     let mut words = [1, 2, 0];
-    let first = steps_to(&rt, &mut words, pop(0), 2, 1);
+    let first = steps_to(&rt, &mut words, pop(&rt, 0), 2, 1);
     assert_eq!(rt; plan_stack(&first), Action::Cas(FrameHead, 1, 65_538));
     for (head, index) in [(65_538, 0), (131_072, 1)] {
-        let left = steps_to(&rt, &mut words, pop(1), 3, head);
+        let left = steps_to(&rt, &mut words, pop(&rt, 1), 3, head);
         assert_eq!(rt; popped(left), Some(index));
     }
     let push = StackPoint::LoadTopToPush {
-        seat: seat(1),
+        seat: seat(&rt, 1),
         pile: Pile::Frames,
         index: 0,
     };
@@ -141,15 +137,12 @@ fn a_list_of_partial_superblocks(rt: HostRuntime) {
         (Action::Store(Next(5), 0), 8, true),
         (Action::Cas(ListHead(9), 65_536, 65_542), 65_536, true),
     ];
-    let mut point = StackPoint::LoadTopToPush {
-        seat: seat(0),
+    let first_point = StackPoint::LoadTopToPush {
+        seat: seat(&rt, 0),
         pile,
         index: 5,
     };
-    for (action, value, won) in push {
-        assert_eq!(rt; plan_stack(&point), action);
-        point = settle_stack(point, Found { value, won });
-    }
+    let point = walk(&rt, first_point, &push);
     assert!(rt; matches!(point, StackPoint::Pushed { .. }));
 
     let pop = [
@@ -157,14 +150,11 @@ fn a_list_of_partial_superblocks(rt: HostRuntime) {
         (Action::Load(Next(5)), 0, true),
         (Action::Cas(ListHead(9), 65_542, 131_072), 65_542, true),
     ];
-    let mut point = StackPoint::LoadTop {
-        seat: seat(0),
+    let first_point = StackPoint::LoadTop {
+        seat: seat(&rt, 0),
         pile,
     };
-    for (action, value, won) in pop {
-        assert_eq!(rt; plan_stack(&point), action);
-        point = settle_stack(point, Found { value, won });
-    }
+    let point = walk(&rt, first_point, &pop);
     assert!(rt; matches!(point, StackPoint::Popped { index: 5, .. }));
 }
 
@@ -173,81 +163,45 @@ fn a_list_of_partial_superblocks(rt: HostRuntime) {
 #[test]
 fn an_empty_stack(rt: HostRuntime) {
     let pile = Pile::Frames;
-    let found = Found {
-        value: 65_536,
-        won: true,
+    let load = StackPoint::LoadTop {
+        seat: seat(&rt, 0),
+        pile,
     };
-    let point = settle_stack(
-        StackPoint::LoadTop {
-            seat: seat(0),
-            pile,
-        },
-        found,
-    );
+    let point = walk(&rt, load, &[(Action::Load(FrameHead), 65_536, true)]);
     assert!(rt; matches!(point, StackPoint::FoundEmpty { .. }));
 
     let confirm = StackPoint::ConfirmEmpty {
-        seat: seat(0),
+        seat: seat(&rt, 0),
         pile,
         head: Head::new(0, 1),
     };
-    assert_eq!(rt;
-        plan_stack(&confirm),
-        Action::Cas(FrameHead, 65_536, 65_536)
-    );
-    assert!(rt;
-        matches!(
-            settle_stack(confirm, found),
-            StackPoint::ConfirmedEmpty { .. }
-        )
-    );
-    let lost = Found {
-        value: 65_537,
-        won: false,
-    };
-    assert!(rt; matches!(settle_stack(confirm, lost), StackPoint::LoadTop { .. }));
+    let exchange = Action::Cas(FrameHead, 65_536, 65_536);
+    let confirmed = walk(&rt, confirm, &[(exchange, 65_536, true)]);
+    assert!(rt; matches!(confirmed, StackPoint::ConfirmedEmpty { .. }));
+    let lost = walk(&rt, confirm, &[(exchange, 65_537, false)]);
+    assert!(rt; matches!(lost, StackPoint::LoadTop { .. }));
 }
 
 /// The heap has two frames and 102 descriptors. A head or a next word that names one more leaves
 /// the point, and the last one is popped.
 #[test]
 fn words_that_are_not_expected(rt: HostRuntime) {
-    for (pile, most) in [(Pile::Frames, 2), (Pile::Partials, 102)] {
+    let piles = [
+        (Pile::Frames, FrameHead, FrameNext(1), 2),
+        (Pile::Partials, ListHead(9), Next(101), 102),
+    ];
+    for (pile, head, next, most) in piles {
         let load = StackPoint::LoadTop {
-            seat: seat(2),
+            seat: seat(&rt, 2),
             pile,
         };
-        let last = settle_stack(
-            load,
-            Found {
-                value: most,
-                won: true,
-            },
-        );
-        assert!(rt; matches!(last, StackPoint::LoadBelow { .. }), "at {most}");
-        let more = settle_stack(
-            load,
-            Found {
-                value: most + 1,
-                won: true,
-            },
-        );
-        assert!(rt; matches!(more, StackPoint::LoadTop { .. }), "at {most}");
-        let below = settle_stack(
-            last,
-            Found {
-                value: most,
-                won: true,
-            },
-        );
+        let rows = [
+            (Action::Load(head), most + 1, true),
+            (Action::Load(head), most, true),
+            (Action::Load(next), most + 1, true),
+            (Action::Load(next), most, true),
+        ];
+        let below = walk(&rt, load, &rows);
         assert!(rt; matches!(below, StackPoint::PopTop { .. }), "at {most}");
-        let more = settle_stack(
-            last,
-            Found {
-                value: most + 1,
-                won: true,
-            },
-        );
-        assert!(rt; matches!(more, StackPoint::LoadBelow { .. }), "at {most}");
     }
 }

@@ -1,10 +1,11 @@
 //! Steps of one superblock, by the numbers of the words.
 
+use crate::heaps::{first_site, seat_of};
+use crate::walk::{stay, walk};
 use heap_geometry::geometry::Geometry;
-use superblock_parts::plan::plan_block;
+use std::process::Abort;
 use superblock_parts::point::{BlockPoint, Share};
-use superblock_parts::settle::settle_block;
-use word_plan::action::{Action, Found};
+use word_plan::action::Action;
 use word_plan::name::WordName::{self, Active, Arena, Hazard, Info};
 use word_plan::seat::{Seat, Site};
 
@@ -38,13 +39,10 @@ fn the_tag_tells_a_second_pop(rt: HostRuntime) {
         (Action::Cas(anchor, 5_242_881, 9_437_184), 5_242_881, true),
         (Action::Store(Arena(1024), 0), 0, true),
     ];
-    let mut point = BlockPoint::LoadActive {
-        seat: Seat::new(GEOMETRY, 0, 9),
+    let first_point = BlockPoint::LoadActive {
+        seat: seat_of(&rt, GEOMETRY, 0, 9),
     };
-    for (action, value, won) in first {
-        assert_eq!(rt; plan_block(&point), action);
-        point = settle_block(point, Found { value, won });
-    }
+    let point = walk(&rt, first_point, &first);
     assert!(rt; matches!(point, BlockPoint::Given { index: 1, .. }));
 
     let second = [
@@ -56,13 +54,10 @@ fn the_tag_tells_a_second_pop(rt: HostRuntime) {
         (Action::Cas(anchor, 0, 5_242_881), 0, true),
         (Action::Store(Arena(0), 0), 1, true),
     ];
-    let mut point = BlockPoint::LoadActive {
-        seat: Seat::new(GEOMETRY, 1, 9),
+    let first_point = BlockPoint::LoadActive {
+        seat: seat_of(&rt, GEOMETRY, 1, 9),
     };
-    for (action, value, won) in second {
-        assert_eq!(rt; plan_block(&point), action);
-        point = settle_block(point, Found { value, won });
-    }
+    let point = walk(&rt, first_point, &second);
     assert!(rt; matches!(point, BlockPoint::Given { index: 0, .. }));
 }
 
@@ -71,22 +66,19 @@ fn the_tag_tells_a_second_pop(rt: HostRuntime) {
 #[test]
 fn two_frees_empty_a_superblock(rt: HostRuntime) {
     let anchor = WordName::Anchor(0);
-    let seat = Seat::new(GEOMETRY, 1, 9);
+    let seat = seat_of(&rt, GEOMETRY, 1, 9);
     let first = [
         (Action::Load(Arena(0)), 0, true),
         (Action::Load(anchor), 9_437_184, true),
         (Action::Store(Arena(0), 0), 0, true),
         (Action::Cas(anchor, 9_437_184, 10_486_784), 9_437_184, true),
     ];
-    let mut point = BlockPoint::LoadPrefix {
+    let first_point = BlockPoint::LoadPrefix {
         seat,
         frame: 0,
         index: 0,
     };
-    for (action, value, won) in first {
-        assert_eq!(rt; plan_block(&point), action);
-        point = settle_block(point, Found { value, won });
-    }
+    let point = walk(&rt, first_point, &first);
     assert!(rt; matches!(point, BlockPoint::BecamePartial { stored: false, .. }));
 
     let second = [
@@ -101,15 +93,12 @@ fn two_frees_empty_a_superblock(rt: HostRuntime) {
             true,
         ),
     ];
-    let mut point = BlockPoint::LoadPrefix {
+    let first_point = BlockPoint::LoadPrefix {
         seat,
         frame: 0,
         index: 1,
     };
-    for (action, value, won) in second {
-        assert_eq!(rt; plan_block(&point), action);
-        point = settle_block(point, Found { value, won });
-    }
+    let point = walk(&rt, first_point, &second);
     assert!(rt; matches!(point, BlockPoint::BecameEmpty { heap: 0, .. }));
 }
 
@@ -125,23 +114,17 @@ fn a_new_superblock(rt: HostRuntime) {
         (Action::Cas(Active(0, 0), 0, 127), 0, true),
         (Action::Store(Arena(0), 0), 0, true),
     ];
-    let site = Site {
-        seat: Seat::new(GEOMETRY, 0, 0),
-        desc: 0,
-        frame: 0,
-    };
-    let mut point = BlockPoint::LinkBlock { site, index: 1022 };
-    for (action, value, won) in rows {
-        assert_eq!(rt; plan_block(&point), action);
-        point = settle_block(point, Found { value, won });
-    }
+    let site = first_site(seat_of(&rt, GEOMETRY, 0, 0));
+    let first_point = BlockPoint::LinkBlock { site, index: 1022 };
+    let point = walk(&rt, first_point, &rows);
     assert!(rt; matches!(point, BlockPoint::Given { index: 0, .. }));
 
-    let lost = Found {
-        value: 128,
-        won: false,
-    };
-    let point = settle_block(BlockPoint::InstallSuperblock { site }, lost);
+    let install = BlockPoint::InstallSuperblock { site };
+    let point = walk(
+        &rt,
+        install,
+        &[(Action::Cas(Active(0, 0), 0, 127), 128, false)],
+    );
     assert!(rt; matches!(point, BlockPoint::Discarded { .. }));
 }
 
@@ -170,24 +153,17 @@ fn the_last_credit(rt: HostRuntime) {
             true,
         ),
     ];
-    let mut point = BlockPoint::LoadActive {
-        seat: Seat::new(GEOMETRY, 0, 1),
+    let first_point = BlockPoint::LoadActive {
+        seat: seat_of(&rt, GEOMETRY, 0, 1),
     };
-    for (action, value, won) in rows {
-        assert_eq!(rt; plan_block(&point), action);
-        point = settle_block(point, Found { value, won });
-    }
+    let point = walk(&rt, first_point, &rows);
     assert!(rt; matches!(point, BlockPoint::Returned { index: 64, .. }));
 }
 
 /// A pop that a grant pays for leaves the state, and what was granted beside is offered.
 #[test]
 fn a_granted_pop(rt: HostRuntime) {
-    let site = Site {
-        seat: Seat::new(GEOMETRY, 0, 1),
-        desc: 0,
-        frame: 0,
-    };
+    let site = first_site(seat_of(&rt, GEOMETRY, 0, 1));
     let rows = [
         (Action::Load(WordName::Anchor(0)), 3, true),
         (Action::Load(Arena(12)), 2055, true),
@@ -195,62 +171,31 @@ fn a_granted_pop(rt: HostRuntime) {
         (Action::Cas(Active(0, 1), 0, 65), 0, true),
     ];
     let share = Share::Grant { more: 2 };
-    let mut point = BlockPoint::LoadAnchor { site, share };
-    for (action, value, won) in rows {
-        assert_eq!(rt; plan_block(&point), action);
-        point = settle_block(point, Found { value, won });
-    }
+    let first_point = BlockPoint::LoadAnchor { site, share };
+    let point = walk(&rt, first_point, &rows);
     assert!(rt; matches!(point, BlockPoint::StorePrefix { index: 3, .. }));
 }
 
 /// The seat of the first caller, for class 9.
-fn seat() -> Seat {
-    Seat::new(GEOMETRY, 0, 9)
+fn seat<R: Abort>(rt: &R) -> Seat {
+    seat_of(rt, GEOMETRY, 0, 9)
 }
 
 /// Descriptor 0 and frame 0, for that seat.
-fn site() -> Site {
-    Site {
-        seat: seat(),
-        desc: 0,
-        frame: 0,
-    }
+fn site<R: Abort>(rt: &R) -> Site {
+    first_site(seat(rt))
 }
 
 /// A heap of these numbers has 66 descriptors, one frame and one processor heap. A word that names
 /// another one leaves the point, as do an anchor with a third block and a large block's prefix.
 #[test]
 fn words_that_are_not_expected(rt: HostRuntime) {
-    let share = Share::Credit;
-    let rows = [
-        (BlockPoint::LoadActive { seat: seat() }, 67 * 64),
-        (BlockPoint::LoadActive { seat: seat() }, 63),
-        (
-            BlockPoint::LoadInfo {
-                seat: seat(),
-                desc: 0,
-                share,
-            },
-            INFO + 1,
-        ),
-        (
-            BlockPoint::LoadInfo {
-                seat: seat(),
-                desc: 0,
-                share,
-            },
-            INFO + 65_536,
-        ),
-        (
-            BlockPoint::LoadAnchor {
-                site: site(),
-                share,
-            },
-            2,
-        ),
+    let loads = [
+        (BlockPoint::LoadActive { seat: seat(&rt) }, 67 * 64),
+        (BlockPoint::LoadActive { seat: seat(&rt) }, 63),
         (
             BlockPoint::LoadPrefix {
-                seat: seat(),
+                seat: seat(&rt),
                 frame: 0,
                 index: 0,
             },
@@ -258,7 +203,7 @@ fn words_that_are_not_expected(rt: HostRuntime) {
         ),
         (
             BlockPoint::LoadPrefix {
-                seat: seat(),
+                seat: seat(&rt),
                 frame: 0,
                 index: 0,
             },
@@ -266,7 +211,7 @@ fn words_that_are_not_expected(rt: HostRuntime) {
         ),
         (
             BlockPoint::LoadPushAnchor {
-                site: site(),
+                site: site(&rt),
                 index: 0,
                 stored: false,
             },
@@ -274,15 +219,38 @@ fn words_that_are_not_expected(rt: HostRuntime) {
         ),
         (
             BlockPoint::LoadReturn {
-                site: site(),
+                site: site(&rt),
                 index: 0,
                 more: 1,
             },
             2,
         ),
     ];
-    for (point, value) in rows {
-        let next = settle_block(point, Found { value, won: true });
-        assert_eq!(rt; plan_block(&next), plan_block(&point), "at {value}");
-    }
+    stay(&rt, &loads);
+    let pops = [
+        (
+            BlockPoint::LoadInfo {
+                seat: seat(&rt),
+                desc: 0,
+                share: Share::Credit,
+            },
+            INFO + 1,
+        ),
+        (
+            BlockPoint::LoadInfo {
+                seat: seat(&rt),
+                desc: 0,
+                share: Share::Credit,
+            },
+            INFO + 65_536,
+        ),
+        (
+            BlockPoint::LoadAnchor {
+                site: site(&rt),
+                share: Share::Credit,
+            },
+            2,
+        ),
+    ];
+    stay(&rt, &pops);
 }
