@@ -319,6 +319,17 @@ fn comes_to(core: &mut Core, deed: Deed) -> Result<bool, AllocError> {
             let begun = take(core, 0, shelf);
             ends(core, begun, steps, reply)
         }
+        Deed::Ends(steps, reply) => ends(core, true, steps, reply),
+        other => passes(core, other),
+    }
+}
+
+/// The same for a deed that is slots, or calls whose answers are not asked for.
+fn passes(core: &mut Core, deed: Deed) -> Result<bool, AllocError> {
+    match deed {
+        Deed::Slot(caller, progress) => Ok(slot(core, caller)? == Some(progress)),
+        Deed::Slots(first, second, steps) => Ok(schedule(core, first, second) == Some(Ok(steps))),
+        Deed::Alone(caller, steps) => Ok(alone(core, caller) == Some(Ok(steps))),
         Deed::AllocatesTimes(words, times) => {
             allocate_times(core, words, times)?;
             Ok(true)
@@ -331,10 +342,6 @@ fn comes_to(core: &mut Core, deed: Deed) -> Result<bool, AllocError> {
             stop_after(core, steps)?;
             Ok(true)
         }
-        Deed::Ends(steps, reply) => ends(core, true, steps, reply),
-        Deed::Slot(caller, progress) => Ok(slot(core, caller)? == Some(progress)),
-        Deed::Slots(first, second, steps) => Ok(schedule(core, first, second) == Some(Ok(steps))),
-        Deed::Alone(caller, steps) => Ok(alone(core, caller) == Some(Ok(steps))),
         other => Ok(is_so(core, other)),
     }
 }
@@ -358,7 +365,8 @@ fn is_so(core: &Core, deed: Deed) -> bool {
 /// Plays a script: each deed comes to what it says.
 pub fn play<R: Abort>(rt: &R, core: &mut Core, deeds: &[Deed]) -> Result<(), Fail> {
     for (number, deed) in deeds.iter().enumerate() {
-        assert!(rt; comes_to(core, *deed)?, "deed {number}");
+        let came = comes_to(core, *deed)?;
+        assert!(rt; came, "deed {number}, {} steps so far", core.steps());
     }
     Ok(())
 }
