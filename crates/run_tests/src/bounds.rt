@@ -15,7 +15,7 @@ use trace_text::limits::MAX_INPUT;
 use trace_text::reading::read_trace;
 
 /// What is live in a frame: so many blocks, all of one class.
-#[derive(Clone, Copy, Debug)]
+#[derive(Clone, Copy)]
 struct Frame {
     class: u8,
     live: u32,
@@ -29,7 +29,7 @@ impl Frame {
 }
 
 /// The frames of a heap, as events fill and empty them.
-#[derive(Debug, Drop)]
+#[derive(Drop)]
 struct Frames {
     frames: Vec<Frame>,
 }
@@ -134,6 +134,20 @@ fn exchanges(core: &Core) -> (u64, u64) {
     (won, lost)
 }
 
+/// What a run of a heap with so many frames came to.
+fn met_in(alloc: Global, frames: usize, run: &DrivenRun) -> Result<Met, AllocError> {
+    let (part_used, bare) = most_of(alloc, frames, run.core.events())?;
+    let (won, lost) = exchanges(&run.core);
+    Ok(Met {
+        refused: count_of(run.outcomes.as_slice(), Outcome::Refused),
+        spent: count_of(run.outcomes.as_slice(), Outcome::Spent),
+        part_used,
+        bare,
+        won,
+        lost,
+    })
+}
+
 /// Runs the trace that a text names.
 fn met_by(alloc: Global, text: &str) -> Result<Option<Met>, AllocError> {
     let text = text.as_bytes();
@@ -143,17 +157,8 @@ fn met_by(alloc: Global, text: &str) -> Result<Option<Met>, AllocError> {
     let Ok(trace) = read_trace(alloc, text) else {
         return Ok(None);
     };
-    let DrivenRun { core, outcomes } = drive(alloc, &NoGate, &trace)?;
-    let (part_used, bare) = most_of(alloc, trace.heap.frames as usize, core.events())?;
-    let (won, lost) = exchanges(&core);
-    Ok(Some(Met {
-        refused: count_of(outcomes.as_slice(), Outcome::Refused),
-        spent: count_of(outcomes.as_slice(), Outcome::Spent),
-        part_used,
-        bare,
-        won,
-        lost,
-    }))
+    let run = drive(alloc, &NoGate, &trace)?;
+    Ok(Some(met_in(alloc, trace.heap.frames as usize, &run)?))
 }
 
 /// Operations that allocate a block of each class and free it, but keep the last one.

@@ -1,9 +1,13 @@
 //! Reports with what the closed heap holds.
 
-use crate::running::{Left, run_on, writes};
+use crate::running::{Left, Told, run_on, writes};
+use edge_io::memory::MemorySink;
 use std::alloc::{AllocError, Global};
+use std::process::Abort;
+use std::sync::Wait;
 use std::test::Fail;
-use command_parts::status::REPORTED;
+use std::thread::Threads;
+use trace_commands::status::REPORTED;
 
 /// The plain run: two superblocks are active, with 64 blocks each that are offered.
 #[test]
@@ -92,21 +96,32 @@ fn classes_that_add_up(text: &str) -> usize {
         .count()
 }
 
+/// How the lanes' run ends, and its census.
+fn run_busy<R: Threads + Wait + Sync>(
+    rt: &R,
+    alloc: Global,
+) -> Result<(Told, MemorySink), AllocError> {
+    let trace = busy_lanes(alloc)?;
+    run_on(rt, alloc, "census", trace.as_str())
+}
+
+/// A census adds up: each class, and what is live, but for two large blocks.
+fn census_adds_up<R: Abort + AllocGlobal>(rt: &R, text: &str) {
+    let large = text.lines().filter(|line| *line == "given 6143").count();
+    assert_eq!(rt; (classes_that_add_up(text), large), (10, 2));
+    let live = sum_of(text, "class ", "live").saturating_add(2);
+    assert_eq!(rt; sum_of(text, "live ", "live"), live);
+    assert!(rt; text.ends_with("units 2\n"));
+}
+
 /// The columns of each class add up, and what is live is what the report says, but for large blocks.
 #[test]
 fn columns_add_up(rt: HostRuntime) -> Result<(), Fail> {
-    let alloc = rt.alloc();
-    let trace = busy_lanes(alloc)?;
-    let (told, sink) = run_on(&rt, alloc, "census", trace.as_str())?;
+    let (told, sink) = run_busy(&rt, rt.alloc())?;
     assert_eq!(rt; told, (REPORTED, Left::Shared));
     let Ok(text) = str::from_utf8(sink.bytes()) else {
         panic!(rt; "a census is text");
     };
-    assert_eq!(rt; classes_that_add_up(text), 10);
-    let large = text.lines().filter(|line| *line == "given 6143").count();
-    assert_eq!(rt; large, 2);
-    let live = sum_of(text, "class ", "live").saturating_add(2);
-    assert_eq!(rt; sum_of(text, "live ", "live"), live);
-    assert!(rt; text.ends_with("units 2\n"));
+    census_adds_up(&rt, text);
     Ok(())
 }

@@ -1,58 +1,44 @@
 //! Each edge in a run of calls, through its trait.
 
+use crate::running::steady_source;
 use edge_io::faults::Failed;
 use edge_io::gate::{Gate, NoGate};
 use edge_io::memory::{MemorySink, MemorySource};
 use edge_io::real::{StdSink, StdSource};
 use edge_io::sink::Sink;
 use edge_io::source::Source;
-use edge_io::steady::SteadySource;
-use std::alloc::{AllocError, Global};
 use std::io;
+use std::process::Abort;
 use std::test::Fail;
 
 const TEXT: &[u8] = b"abcdefg";
 
-/// What some reads into a buffer of four bytes answered, `None` for a failure, and the bytes that they gave.
-fn reads<S: Source>(
-    alloc: Global,
-    source: &mut S,
-    calls: u32,
-) -> Result<(Vec<Option<usize>>, Vec<u8>), AllocError> {
-    let mut answers = Vec::new(alloc);
-    let mut bytes = Vec::new(alloc);
-    let mut buf = [0u8; 4];
-    for _ in 0..calls {
-        match source.read(&mut buf) {
-            Ok(n) => {
-                bytes.extend_from_slice(&buf[..n])?;
-                answers.push(Some(n))?;
-            }
-            Err(Failed) => answers.push(None)?,
-        }
+/// What a read into a buffer of four bytes gives, `None` for a failure.
+fn read_four<'a, S: Source>(source: &mut S, buffer: &'a mut [u8; 4]) -> Option<&'a [u8]> {
+    match source.read(buffer) {
+        Ok(n) => Some(&buffer[..n]),
+        Err(Failed) => None,
     }
-    Ok((answers, bytes))
 }
 
-/// What some writes answered, each of what the ones before it left of the text, `None` for a failure.
-fn writes<K: Sink>(
-    alloc: Global,
-    sink: &mut K,
-    text: &[u8],
-    calls: u32,
-) -> Result<Vec<Option<usize>>, AllocError> {
-    let mut answers = Vec::new(alloc);
-    let mut rest = text;
-    for _ in 0..calls {
-        match sink.write(rest) {
-            Ok(n) => {
-                rest = &rest[n..];
-                answers.push(Some(n))?;
-            }
-            Err(Failed) => answers.push(None)?,
+/// The reads of a source into buffers of four bytes give these pieces, `None` for a failure.
+fn gives<R: Abort + AllocGlobal, S: Source>(rt: &R, source: &mut S, pieces: &[Option<&[u8]>]) {
+    for piece in pieces {
+        assert_eq!(rt; read_four(source, &mut [0; 4]), *piece);
+    }
+}
+
+/// The writes of a sink, each of what the ones before it left of the text, take so many bytes, `None` for a
+/// failure.
+fn takes<R: Abort + AllocGlobal, K: Sink>(rt: &R, sink: &mut K, counts: &[Option<usize>]) {
+    let mut rest = TEXT;
+    for count in counts {
+        let taken = sink.write(rest).ok();
+        assert_eq!(rt; taken, *count);
+        if let Some(n) = taken {
+            rest = &rest[n..];
         }
     }
-    Ok(answers)
 }
 
 /// Passes a gate that threads may share.
@@ -107,56 +93,61 @@ impl io::Write for Unflushed {
 
 #[test]
 fn sources_in_memory(rt: HostRuntime) -> Result<(), Fail> {
-    let alloc = rt.alloc();
-    let mut steady = SteadySource::new(TEXT.to_vec(alloc)?);
-    let (answers, bytes) = reads(alloc, &mut steady, 4)?;
-    assert_eq!(rt;
-        answers.as_slice(),
-        [Some(4), Some(3), Some(0), Some(0)].as_slice()
+    gives(
+        &rt,
+        &mut steady_source(rt.alloc(), TEXT)?,
+        &[Some(b"abcd"), Some(b"efg"), Some(b""), Some(b"")],
     );
-    assert_eq!(rt; bytes.as_slice(), TEXT);
 
-    let failing = [2, 5].to_vec(alloc)?;
-    let mut memory = MemorySource::new(TEXT.to_vec(alloc)?, 3, failing);
-    let (answers, bytes) = reads(alloc, &mut memory, 6)?;
-    let want = [Some(3), None, Some(3), Some(1), None, Some(0)];
-    assert_eq!(rt; answers.as_slice(), want.as_slice());
-    assert_eq!(rt; bytes.as_slice(), TEXT);
+    let failing = [2, 5].to_vec(rt.alloc())?;
+    let mut memory = MemorySource::new(TEXT.to_vec(rt.alloc())?, 3, failing);
+    gives(
+        &rt,
+        &mut memory,
+        &[
+            Some(b"abc"),
+            None,
+            Some(b"def"),
+            Some(b"g"),
+            None,
+            Some(b""),
+        ],
+    );
     Ok(())
 }
 
 #[test]
 fn sink_in_memory(rt: HostRuntime) -> Result<(), Fail> {
-    let alloc = rt.alloc();
-    let failing = [2].to_vec(alloc)?;
-    let mut sink = MemorySink::new(alloc, 5, 2, failing)?;
-    let answers = writes(alloc, &mut sink, TEXT, 6)?;
-    let want = [Some(2), None, Some(2), Some(1), None, None];
-    assert_eq!(rt; answers.as_slice(), want.as_slice());
+    let failing = [2].to_vec(rt.alloc())?;
+    let mut sink = MemorySink::new(rt.alloc(), 5, 2, failing)?;
+    takes(
+        &rt,
+        &mut sink,
+        &[Some(2), None, Some(2), Some(1), None, None],
+    );
     assert_eq!(rt; sink.bytes(), b"abcde".as_slice());
     Ok(())
 }
 
 #[test]
-fn edges_over_std(rt: HostRuntime) -> Result<(), Fail> {
-    let alloc = rt.alloc();
-    let (answers, bytes) = reads(alloc, &mut StdSource::new(TEXT), 3)?;
-    assert_eq!(rt; answers.as_slice(), [Some(4), Some(3), Some(0)].as_slice());
-    assert_eq!(rt; bytes.as_slice(), TEXT);
+fn edges_over_std(rt: HostRuntime) {
+    gives(
+        &rt,
+        &mut StdSource::new(TEXT),
+        &[Some(b"abcd"), Some(b"efg"), Some(b"")],
+    );
     let interrupted = Interrupted { is_over: false };
-    let (answers, bytes) = reads(alloc, &mut StdSource::new(interrupted), 2)?;
-    assert_eq!(rt; answers.as_slice(), [None, Some(4)].as_slice());
-    assert_eq!(rt; bytes.as_slice(), b"abcd".as_slice());
+    gives(
+        &rt,
+        &mut StdSource::new(interrupted),
+        &[None, Some(b"abcd")],
+    );
 
-    let mut taken = Vec::new(alloc);
-    let answers = writes(alloc, &mut StdSink::new(&mut taken), TEXT, 2)?;
-    assert_eq!(rt; answers.as_slice(), [Some(7), Some(0)].as_slice());
+    let mut taken = Vec::new(rt.alloc());
+    takes(&rt, &mut StdSink::new(&mut taken), &[Some(7), Some(0)]);
     assert_eq!(rt; taken.as_slice(), TEXT);
-    let answers = writes(alloc, &mut StdSink::new(Stuck), TEXT, 2)?;
-    assert_eq!(rt; answers.as_slice(), [None, None].as_slice());
-    let answers = writes(alloc, &mut StdSink::new(Unflushed), TEXT, 1)?;
-    assert_eq!(rt; answers.as_slice(), [None].as_slice());
-    Ok(())
+    takes(&rt, &mut StdSink::new(Stuck), &[None, None]);
+    takes(&rt, &mut StdSink::new(Unflushed), &[None]);
 }
 
 #[test]

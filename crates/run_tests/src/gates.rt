@@ -1,6 +1,7 @@
 //! In which order operations pass a gate.
 
 use edge_io::gate::Gate;
+use std::alloc::Global;
 use std::cell::Cell;
 use std::test::Fail;
 use trace_commands::told::schedule;
@@ -28,21 +29,26 @@ impl<'a> Gate for Expecting<'a> {
     }
 }
 
-/// Each operation passes once, also one that is skipped, and lane 0 goes on only where its order run says.
-#[test]
-fn each_operation_passes_the_gate(rt: HostRuntime) -> Result<(), Fail> {
-    let alloc = rt.alloc();
+/// Runs two lanes on a machine, whose operations pass this gate.
+fn run_at(alloc: Global, gate: &Expecting) -> Result<(), Fail> {
     let trace = read_trace(
         alloc,
         b"heap 4 1 2\nlane\na 0 1 5\na 0 1 6\nf 0\nf 0\nlane\nc 7\na 1 1 5\norder 0 1\norder 1 1\nend\n",
     )?;
+    let _told = schedule(alloc, gate, &trace)?;
+    Ok(())
+}
+
+/// Each operation passes once, also one that is skipped, and lane 0 goes on only where its order run says.
+#[test]
+fn each_operation_passes_the_gate(rt: HostRuntime) -> Result<(), Fail> {
     let gate = Expecting {
         expected: &[(0, 0), (1, 0), (1, 1), (0, 1), (0, 2), (0, 3)],
         passed: Cell::new(0),
         wrong: Cell::new(false),
     };
-    let _told = schedule(alloc, &gate, &trace)?;
-    assert_eq!(rt; gate.passed.get(), gate.expected.len());
-    assert!(rt; !gate.wrong.get());
+    run_at(rt.alloc(), &gate)?;
+    let passed = gate.passed.get();
+    assert_eq!(rt; (passed, gate.wrong.get()), (gate.expected.len(), false));
     Ok(())
 }

@@ -1,16 +1,17 @@
 //! Commands on workloads, which read nothing.
 
-use crate::running::{Left, ROOM, Told, run_between, run_on, wide_sink, writes};
-use edge_io::memory::{MemorySink, MemorySource};
-use edge_io::source::Source;
+use crate::printed::is_printed;
+use crate::running::{
+    Left, ROOM, Told, failing_sink, failing_source, leaves, next_reads, run_from, run_on,
+    wide_sink, writes,
+};
+use edge_io::memory::MemorySink;
+use edge_io::steady::SteadySource;
 use std::alloc::{AllocError, Global};
 use std::sync::Wait;
 use std::test::Fail;
 use std::thread::Threads;
-use command_parts::status::{REPORTED, WRITE_FAULT};
-use trace_text::limits::MAX_INPUT;
-use trace_text::printing::print_trace;
-use trace_text::reading::read_trace;
+use trace_commands::status::{REPORTED, WRITE_FAULT};
 
 #[test]
 fn workloads_are_summed_up(rt: HostRuntime) -> Result<(), Fail> {
@@ -39,15 +40,11 @@ fn empty_workload_is_printed(rt: HostRuntime) -> Result<(), Fail> {
 
 #[test]
 fn what_is_printed_is_printed_again(rt: HostRuntime) -> Result<(), Fail> {
-    let alloc = rt.alloc();
-    let (told, sink) = run_on(&rt, alloc, "print larson 1000 3", "")?;
+    let (told, sink) = run_on(&rt, rt.alloc(), "print larson 1000 3", "")?;
     let text = sink.bytes();
-    assert_eq!(rt; told, (REPORTED, Left::Nothing));
-    assert!(rt; text.starts_with(b"heap 1024 8 0\nlane\na "));
-    assert!(rt; text.len() <= MAX_INPUT);
-    let trace = read_trace(alloc, text)?;
-    assert_eq!(rt; print_trace(alloc, &trace)?.as_slice(), text);
-    Ok(())
+    let is_workload = text.starts_with(b"heap 1024 8 0\nlane\na ");
+    assert_eq!(rt; (told, is_workload), ((REPORTED, Left::Nothing), true));
+    is_printed(&rt, text, text)
 }
 
 /// How a workload's run ends whose source fails at its first call, and what the source gives afterwards:
@@ -58,13 +55,9 @@ fn run_unread<R: Threads + Wait + Sync>(
     line: &str,
     input: &[u8],
 ) -> Result<(Told, [Option<usize>; 2]), AllocError> {
-    let mut source = MemorySource::new(input.to_vec(alloc)?, ROOM, [1].to_vec(alloc)?);
-    let mut sink = wide_sink(alloc)?;
-    let told = run_between(rt, alloc, line, &mut source, &mut sink)?;
-    let mut buffer = [0; ROOM];
-    let first = source.read(&mut buffer).ok();
-    let second = source.read(&mut buffer).ok();
-    Ok((told, [first, second]))
+    let mut source = failing_source(alloc, input, ROOM, 1)?;
+    let (told, _sink) = run_from(rt, alloc, line, &mut source, wide_sink(alloc)?)?;
+    Ok((told, next_reads(&mut source)))
 }
 
 #[test]
@@ -76,8 +69,8 @@ fn workloads_read_nothing(rt: HostRuntime) -> Result<(), Fail> {
     ];
     for (line, left) in cases {
         let (told, reads) = run_unread(&rt, rt.alloc(), line, input)?;
-        assert_eq!(rt; told, (REPORTED, left), "{line}");
-        assert_eq!(rt; reads, [None, Some(input.len())], "{line}");
+        let all = [None, Some(input.len())];
+        assert_eq!(rt; (told, reads), ((REPORTED, left), all), "{line}");
     }
     Ok(())
 }
@@ -88,10 +81,8 @@ fn run_cut<R: Threads + Wait + Sync>(
     alloc: Global,
     line: &str,
 ) -> Result<(Told, MemorySink), AllocError> {
-    let mut source = MemorySource::new(Vec::new(alloc), ROOM, Vec::new(alloc));
-    let mut sink = MemorySink::new(alloc, ROOM, 8, [2].to_vec(alloc)?)?;
-    let told = run_between(rt, alloc, line, &mut source, &mut sink)?;
-    Ok((told, sink))
+    let mut source = SteadySource::new(Vec::new(alloc));
+    run_from(rt, alloc, line, &mut source, failing_sink(alloc, 8, 2)?)
 }
 
 #[test]
@@ -101,9 +92,8 @@ fn failed_writes_of_workloads(rt: HostRuntime) -> Result<(), Fail> {
         ("print scalability 1 1", Left::Nothing, "heap 102"),
     ];
     for (line, left, written) in cases {
-        let (told, sink) = run_cut(&rt, rt.alloc(), line)?;
-        assert_eq!(rt; told, (WRITE_FAULT, left), "{line}");
-        assert_eq!(rt; sink.bytes(), written.as_bytes(), "{line}");
+        let run = run_cut(&rt, rt.alloc(), line)?;
+        leaves(&rt, &run, (WRITE_FAULT, left), written);
     }
     Ok(())
 }

@@ -1,17 +1,33 @@
 //! Runs on a machine, one lane after another, where a lane takes what another one has put on a shelf. On
 //! threads it may come before that.
 
+ghost use Rattle.std.specs.Prelude.{◌≤◌, length};
+ghost use Rattle.trace_text.specs.declared.limits.TheConstants.{MAX_INPUT};
+ghost use Rattle.workloads.specs.declared.making.TheConstants.{MAX_SIZE};
+
 use edge_io::gate::NoGate;
 use lane_outcomes::live::live_count;
 use lane_outcomes::report::report;
+use std::alloc::Global;
+use std::process::Abort;
 use std::test::Fail;
 use command_parts::command::Workload;
 use trace_commands::driven::{DrivenRun, drive};
-use command_parts::summary::summary;
-use trace_text::limits::MAX_LANES;
+use trace_commands::summary::summary;
+use trace_text::limits::{MAX_INPUT, MAX_LANES};
 use trace_text::reading::read_trace;
 use workloads::kind::Kind;
-use workloads::making::make_trace;
+use workloads::making::{MAX_SIZE, make_trace};
+
+/// The report of the run that a text names.
+fn driven_report(alloc: Global, text: &[u8]) -> Result<Vec<u8>, Fail>
+    requires { length text.now ≤ MAX_INPUT }
+{
+    let trace = read_trace(alloc, text)?;
+    let DrivenRun { outcomes, .. } = drive(alloc, &NoGate, &trace)?;
+    let (live, words) = live_count(&trace, outcomes.as_slice());
+    Ok(report(alloc, &trace, outcomes.as_slice(), live, words)?)
+}
 
 #[test]
 fn blocks_go_from_lane_to_lane(rt: HostRuntime) -> Result<(), Fail> {
@@ -29,18 +45,27 @@ fn blocks_go_from_lane_to_lane(rt: HostRuntime) -> Result<(), Fail> {
         ),
     ];
     for (input, text) in cases {
-        let trace = read_trace(alloc, input.as_bytes())?;
-        let DrivenRun { outcomes, .. } = drive(alloc, &NoGate, &trace)?;
-        let (live, words) = live_count(&trace, outcomes.as_slice());
-        let written = report(alloc, &trace, outcomes.as_slice(), live, words)?;
+        let written = driven_report(alloc, input.as_bytes())?;
         assert_eq!(rt; written.as_slice(), text.as_bytes(), "{input}");
     }
     Ok(())
 }
 
+/// The summary of a workload's run on a machine.
+fn driven_summary<R: Abort + AllocGlobal>(rt: &R, workload: Workload) -> Result<Vec<u8>, Fail>
+    requires { workload.size ≤ MAX_SIZE }
+{
+    let alloc = rt.alloc();
+    let trace = make_trace(alloc, workload.kind, workload.size, workload.start)?;
+    let DrivenRun { outcomes, .. } = drive(alloc, &NoGate, &trace)?;
+    let outcomes = outcomes.as_slice();
+    let (live, words) = live_count(&trace, outcomes);
+    assert!(rt; outcomes.len() <= MAX_LANES as usize);
+    Ok(summary(alloc, workload, &trace, outcomes, live, words)?)
+}
+
 #[test]
 fn a_pipeline_hands_blocks_over(rt: HostRuntime) -> Result<(), Fail> {
-    let alloc = rt.alloc();
     let workload = Workload {
         kind: Kind::Pipeline,
         size: 8,
@@ -48,12 +73,7 @@ fn a_pipeline_hands_blocks_over(rt: HostRuntime) -> Result<(), Fail> {
     };
     let text =
         "make pipeline 8 5\nlanes 8 operations 20\ngiven 4 words 12\nrefused 0 spent 0\nfreed 4\nchecked 4\nlive 0 words 0\n";
-    let trace = make_trace(alloc, workload.kind, workload.size, workload.start)?;
-    let DrivenRun { outcomes, .. } = drive(alloc, &NoGate, &trace)?;
-    let outcomes = outcomes.as_slice();
-    let (live, words) = live_count(&trace, outcomes);
-    assert!(rt; outcomes.len() <= MAX_LANES as usize);
-    let written = summary(alloc, workload, &trace, outcomes, live, words)?;
+    let written = driven_summary(&rt, workload)?;
     assert_eq!(rt; written.as_slice(), text.as_bytes());
     Ok(())
 }

@@ -21,6 +21,8 @@ mod meetings;
 #[cfg(test)]
 mod outcomes;
 #[cfg(test)]
+mod printed;
+#[cfg(test)]
 mod refusals;
 #[cfg(test)]
 mod replays;

@@ -1,13 +1,15 @@
 //! Lanes that are on their way at the same time: each waits at its second operation until all have come
 //! there, which lanes that run one after another never do.
 
-use crate::running::{Left, run_through, wide_sink};
+use crate::running::{Left, Told, run_through, steady_source, wide_sink};
 use edge_io::gate::Gate;
-use edge_io::steady::SteadySource;
+use edge_io::memory::MemorySink;
 use std::alloc::{AllocError, Global};
-use std::sync::OnceLock;
+use std::process::Abort;
+use std::sync::{OnceLock, Wait};
 use std::test::Fail;
-use command_parts::status::REPORTED;
+use std::thread::Threads;
+use trace_commands::status::REPORTED;
 
 /// How often a lane looks for the others before it goes on without them.
 const LOOKS: u32 = 100_000_000;
@@ -63,31 +65,59 @@ impl Gate for Meeting {
     }
 }
 
-/// So many lanes that each allocate a word and free it, and the report of their run.
-fn short_lanes(alloc: Global, heap: &str, lanes: usize) -> Result<(String, String), AllocError> {
+/// Lanes that each allocate a word and free it.
+fn short_lanes(alloc: Global, heap: &str, lanes: usize) -> Result<String, AllocError> {
     let mut trace = format!(in alloc; "heap {heap}\n")?;
-    let mut report = format!(in alloc; "heap {heap} lanes {lanes}\n")?;
-    for lane in 0..lanes {
+    for _ in 0..lanes {
         trace.push_str("lane\na 0 1 1\nf 0\n")?;
-        write!(report, "lane {lane}\ngiven 1\nfreed\n")?;
     }
     trace.push_str("end\n")?;
+    Ok(trace)
+}
+
+/// The report of their run.
+fn short_report(alloc: Global, heap: &str, lanes: usize) -> Result<String, AllocError> {
+    let mut report = format!(in alloc; "heap {heap} lanes {lanes}\n")?;
+    for lane in 0..lanes {
+        write!(report, "lane {lane}\ngiven 1\nfreed\n")?;
+    }
     report.push_str("live 0 words 0\n")?;
-    Ok((trace, report))
+    Ok(report)
+}
+
+/// How the lanes' run ends, what it writes, and whether all of them met.
+fn run_meeting<R: Threads + Wait + AllocGlobal + Sync>(
+    rt: &R,
+    trace: &str,
+    lanes: usize,
+) -> Result<(Told, MemorySink, bool), AllocError> {
+    let gate = Meeting::of(rt.alloc(), lanes)?;
+    let mut source = steady_source(rt.alloc(), trace.as_bytes())?;
+    let mut sink = wide_sink(rt.alloc())?;
+    let told = run_through(rt, rt.alloc(), "replay", &mut source, &mut sink, &gate)?;
+    Ok((told, sink, gate.missed.get().is_none()))
+}
+
+/// All lanes meet, and the run has its report.
+fn meets<R: Threads + Wait + Abort + AllocGlobal + Sync>(
+    rt: &R,
+    heap: &str,
+    lanes: usize,
+) -> Result<(), Fail> {
+    let trace = short_lanes(rt.alloc(), heap, lanes)?;
+    let (told, sink, all_met) = run_meeting(rt, trace.as_str(), lanes)?;
+    assert_eq!(rt;
+        (told, all_met),
+        ((REPORTED, Left::Shared), true),
+        "{lanes} lanes"
+    );
+    let report = short_report(rt.alloc(), heap, lanes)?;
+    assert_eq!(rt; sink.bytes(), report.as_bytes(), "{lanes} lanes");
+    Ok(())
 }
 
 #[test]
 fn all_lanes_are_on_their_way_at_once(rt: HostRuntime) -> Result<(), Fail> {
-    let alloc = rt.alloc();
-    for (heap, lanes) in [("4 2 0", 2), ("64 1 0", 16)] {
-        let (trace, report) = short_lanes(alloc, heap, lanes)?;
-        let gate = Meeting::of(alloc, lanes)?;
-        let mut source = SteadySource::new(trace.as_bytes().to_vec(alloc)?);
-        let mut sink = wide_sink(alloc)?;
-        let told = run_through(&rt, alloc, "replay", &mut source, &mut sink, &gate)?;
-        assert_eq!(rt; told, (REPORTED, Left::Shared), "{lanes} lanes");
-        assert_eq!(rt; sink.bytes(), report.as_bytes(), "{lanes} lanes");
-        assert!(rt; gate.missed.get().is_none(), "{lanes} lanes");
-    }
-    Ok(())
+    meets(&rt, "4 2 0", 2)?;
+    meets(&rt, "64 1 0", 16)
 }

@@ -1,8 +1,22 @@
 //! Where a text is refused, and for which cause.
 
 use crate::running::{Left, writes};
+use std::process::Abort;
+use std::sync::Wait;
 use std::test::Fail;
-use command_parts::status::REFUSED;
+use std::thread::Threads;
+use trace_commands::status::REFUSED;
+
+/// Both commands that run a text refuse this one so.
+fn is_told<R: Threads + Wait + Abort + AllocGlobal + Sync>(
+    rt: &R,
+    input: &str,
+    refusal: &str,
+) -> Result<(), Fail> {
+    let ends = (REFUSED, Left::Nothing);
+    writes(rt, "replay", input, ends, refusal)?;
+    writes(rt, "schedule", input, ends, refusal)
+}
 
 #[test]
 fn refused_texts_are_told(rt: HostRuntime) -> Result<(), Fail> {
@@ -26,9 +40,7 @@ fn refused_texts_are_told(rt: HostRuntime) -> Result<(), Fail> {
         ("heap 4 1 2\nlane\norder 1 5\nend\n", "line 3 cause 7\n"),
     ];
     for (input, refusal) in cases {
-        for line in ["replay", "schedule"] {
-            writes(&rt, line, input, (REFUSED, Left::Nothing), refusal)?;
-        }
+        is_told(&rt, input, refusal)?;
     }
     Ok(())
 }

@@ -1,9 +1,12 @@
 //! A trace with frames and turns to spare has one report, on threads and in any order of steps.
 
-use crate::running::{Left, run_on, writes};
+use crate::running::{Left, Told, run_on, writes};
+use edge_io::memory::MemorySink;
 use std::alloc::{AllocError, Global};
+use std::sync::Wait;
 use std::test::Fail;
-use command_parts::status::REPORTED;
+use std::thread::Threads;
+use trace_commands::status::REPORTED;
 
 /// How many lanes the trace has.
 const LANES: u32 = 8;
@@ -72,15 +75,27 @@ fn shuffled(alloc: Global, start: u64) -> Result<String, AllocError> {
     Ok(trace)
 }
 
+/// How the lanes' run in the order that a number chooses ends, and what it writes.
+fn run_shuffled<R: Threads + Wait + Sync>(
+    rt: &R,
+    alloc: Global,
+    start: u64,
+) -> Result<(Told, MemorySink), AllocError> {
+    let trace = shuffled(alloc, start)?;
+    run_on(rt, alloc, "schedule", trace.as_str())
+}
+
 #[test]
 fn schedules_give_one_report(rt: HostRuntime) -> Result<(), Fail> {
-    let alloc = rt.alloc();
-    let report = roomy_report(alloc)?;
+    let report = roomy_report(rt.alloc())?;
     for start in 1..=10u64 {
-        let trace = shuffled(alloc, start)?;
-        let (told, sink) = run_on(&rt, alloc, "schedule", trace.as_str())?;
-        assert_eq!(rt; told, (REPORTED, Left::Machine), "{start}");
-        assert!(rt; sink.bytes().starts_with(report.as_bytes()), "{start}");
+        let (told, sink) = run_shuffled(&rt, rt.alloc(), start)?;
+        let is_reported = sink.bytes().starts_with(report.as_bytes());
+        assert_eq!(rt;
+            (told, is_reported),
+            ((REPORTED, Left::Machine), true),
+            "{start}"
+        );
     }
     Ok(())
 }

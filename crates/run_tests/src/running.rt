@@ -1,7 +1,10 @@
 //! Runs of the program over edges in memory.
 
+ghost use Rattle.std.specs.Prelude.{◌<◌};
+
 use edge_io::gate::{Gate, NoGate};
-use edge_io::memory::MemorySink;
+use edge_io::memory::{MemorySink, MemorySource};
+use edge_io::sink::Sink;
 use edge_io::source::Source;
 use edge_io::steady::SteadySource;
 use std::alloc::{AllocError, Global};
@@ -49,9 +52,45 @@ fn words_of(alloc: Global, line: &str) -> Result<Vec<String>, AllocError> {
     Ok(words)
 }
 
+/// A source that gives these bytes and never fails.
+pub fn steady_source(alloc: Global, bytes: &[u8]) -> Result<SteadySource, AllocError> {
+    Ok(SteadySource::new(bytes.to_vec(alloc)?))
+}
+
+/// A source that gives these bytes, so many a call, and fails at this one.
+pub fn failing_source(
+    alloc: Global,
+    bytes: &[u8],
+    chunk: usize,
+    call: u64,
+) -> Result<MemorySource, AllocError>
+    requires { 0 < chunk }
+{
+    let bytes = bytes.to_vec(alloc)?;
+    Ok(MemorySource::new(bytes, chunk, vec![in alloc; call]?))
+}
+
 /// A sink that takes any answer in one write.
 pub fn wide_sink(alloc: Global) -> Result<MemorySink, AllocError> {
     MemorySink::new(alloc, ROOM, ROOM, Vec::new(alloc))
+}
+
+/// A sink that takes so many bytes a call, and fails at this one.
+pub fn failing_sink(alloc: Global, chunk: usize, call: u64) -> Result<MemorySink, AllocError>
+    requires { 0 < chunk }
+{
+    MemorySink::new(alloc, ROOM, chunk, vec![in alloc; call]?)
+}
+
+/// What the next two reads of a source answer, `None` for a failure.
+pub fn next_reads<S: Source>(source: &mut S) -> [Option<usize>; 2] {
+    let mut buffer = [0; ROOM];
+    [source.read(&mut buffer).ok(), source.read(&mut buffer).ok()]
+}
+
+/// What the next two writes of this piece answer, `None` for a failure.
+pub fn next_writes<K: Sink>(sink: &mut K, piece: &[u8]) -> [Option<usize>; 2] {
+    [sink.write(piece).ok(), sink.write(piece).ok()]
 }
 
 /// How the program ends on this command line between these edges, where operations pass this gate.
@@ -79,6 +118,18 @@ pub fn run_between<R: Threads + Wait + Sync, S: Source>(
     run_through(rt, alloc, line, source, sink, &NoGate)
 }
 
+/// How the program ends on this command line and this source, and what the sink holds then.
+pub fn run_from<R: Threads + Wait + Sync, S: Source>(
+    rt: &R,
+    alloc: Global,
+    line: &str,
+    source: &mut S,
+    mut sink: MemorySink,
+) -> Result<(Told, MemorySink), AllocError> {
+    let told = run_between(rt, alloc, line, source, &mut sink)?;
+    Ok((told, sink))
+}
+
 /// How the program ends on this command line and input, and what it writes.
 pub fn run_on<R: Threads + Wait + Sync>(
     rt: &R,
@@ -86,10 +137,18 @@ pub fn run_on<R: Threads + Wait + Sync>(
     line: &str,
     input: &str,
 ) -> Result<(Told, MemorySink), AllocError> {
-    let mut source = SteadySource::new(input.as_bytes().to_vec(alloc)?);
-    let mut sink = wide_sink(alloc)?;
-    let told = run_between(rt, alloc, line, &mut source, &mut sink)?;
-    Ok((told, sink))
+    let mut source = steady_source(alloc, input.as_bytes())?;
+    run_from(rt, alloc, line, &mut source, wide_sink(alloc)?)
+}
+
+/// A run ended so, and its sink holds this text.
+pub fn leaves<R: Abort + AllocGlobal>(
+    rt: &R,
+    (told, sink): &(Told, MemorySink),
+    ends: Told,
+    text: &str,
+) {
+    assert_eq!(rt; (*told, sink.bytes()), (ends, text.as_bytes()));
 }
 
 /// The program ends so on this command line and input, and writes this text.
@@ -101,7 +160,10 @@ pub fn writes<R: Threads + Wait + Abort + AllocGlobal + Sync>(
     text: &str,
 ) -> Result<(), Fail> {
     let (told, sink) = run_on(rt, rt.alloc(), line, input)?;
-    assert_eq!(rt; told, ends, "{line}: {input}");
-    assert_eq!(rt; sink.bytes(), text.as_bytes(), "{line}: {input}");
+    assert_eq!(rt;
+        (told, sink.bytes()),
+        (ends, text.as_bytes()),
+        "{line}: {input}"
+    );
     Ok(())
 }

@@ -1,9 +1,10 @@
 //! The statuses of words, of long inputs and of edges that fail.
 
-use crate::running::{Left, ROOM, Told, run_between, wide_sink};
-use edge_io::memory::{MemorySink, MemorySource};
-use edge_io::sink::Sink;
-use edge_io::source::Source;
+use crate::running::{
+    Left, ROOM, Told, failing_sink, failing_source, leaves, next_reads, next_writes, run_between,
+    run_from, steady_source, wide_sink,
+};
+use edge_io::memory::MemorySink;
 use edge_io::steady::SteadySource;
 use std::alloc::{AllocError, Global};
 use std::sync::Wait;
@@ -29,18 +30,14 @@ fn run_uncalled<R: Threads + Wait + Sync>(
     line: &str,
     input: &[u8],
 ) -> Result<Uncalled, AllocError> {
-    let mut source = MemorySource::new(input.to_vec(alloc)?, ROOM, [1].to_vec(alloc)?);
-    let mut sink = MemorySink::new(alloc, ROOM, ROOM, [1].to_vec(alloc)?)?;
+    let mut source = failing_source(alloc, input, ROOM, 1)?;
+    let mut sink = failing_sink(alloc, ROOM, 1)?;
     let told = run_between(rt, alloc, line, &mut source, &mut sink)?;
-    let written = sink.bytes().len();
-    let mut buffer = [0; ROOM];
-    let reads = [source.read(&mut buffer).ok(), source.read(&mut buffer).ok()];
-    let writes = [sink.write(input).ok(), sink.write(input).ok()];
     Ok(Uncalled {
         told,
-        written,
-        reads,
-        writes,
+        written: sink.bytes().len(),
+        reads: next_reads(&mut source),
+        writes: next_writes(&mut sink, input),
     })
 }
 
@@ -81,20 +78,26 @@ fn other_words_are_no_command(rt: HostRuntime) -> Result<(), Fail> {
     Ok(())
 }
 
+/// How a run ends on a comment of so many bytes, and what it writes.
+fn run_long<R: Threads + Wait + Sync>(
+    rt: &R,
+    alloc: Global,
+    length: usize,
+) -> Result<(Told, MemorySink), AllocError> {
+    let mut source = SteadySource::new(vec![in alloc; b'#'; length]?);
+    run_from(rt, alloc, "replay", &mut source, wide_sink(alloc)?)
+}
+
 /// The longest input that is read, and one byte more.
 #[test]
 fn long_inputs(rt: HostRuntime) -> Result<(), Fail> {
-    let alloc = rt.alloc();
     let cases = [
         (MAX_INPUT, REFUSED, "line 2 cause 2\n"),
         (MAX_INPUT + 1, TOO_MANY, ""),
     ];
     for (length, status, written) in cases {
-        let mut source = SteadySource::new(vec![in alloc; b'#'; length]?);
-        let mut sink = wide_sink(alloc)?;
-        let told = run_between(&rt, alloc, "replay", &mut source, &mut sink)?;
-        assert_eq!(rt; told, (status, Left::Nothing));
-        assert_eq!(rt; sink.bytes(), written.as_bytes());
+        let run = run_long(&rt, rt.alloc(), length)?;
+        leaves(&rt, &run, (status, Left::Nothing), written);
     }
     Ok(())
 }
@@ -106,10 +109,8 @@ fn run_failing_read<R: Threads + Wait + Sync>(
     input: &[u8],
     call: u64,
 ) -> Result<(Told, MemorySink), AllocError> {
-    let mut source = MemorySource::new(input.to_vec(alloc)?, 10, [call].to_vec(alloc)?);
-    let mut sink = wide_sink(alloc)?;
-    let told = run_between(rt, alloc, "replay", &mut source, &mut sink)?;
-    Ok((told, sink))
+    let mut source = failing_source(alloc, input, 10, call)?;
+    run_from(rt, alloc, "replay", &mut source, wide_sink(alloc)?)
 }
 
 /// Five reads bring the 48 bytes, and the sixth finds the end.
@@ -129,9 +130,8 @@ fn a_failed_read_ends_the_run(rt: HostRuntime) -> Result<(), Fail> {
         (7, (REPORTED, Left::Shared), report),
     ];
     for (call, ends, written) in cases {
-        let (told, sink) = run_failing_read(&rt, rt.alloc(), input, call)?;
-        assert_eq!(rt; told, ends, "read {call}");
-        assert_eq!(rt; sink.bytes(), written.as_bytes(), "read {call}");
+        let run = run_failing_read(&rt, rt.alloc(), input, call)?;
+        leaves(&rt, &run, ends, written);
     }
     Ok(())
 }
@@ -143,10 +143,14 @@ fn run_failing_write<R: Threads + Wait + Sync>(
     input: &str,
     call: u64,
 ) -> Result<(Told, MemorySink), AllocError> {
-    let mut source = SteadySource::new(input.as_bytes().to_vec(alloc)?);
-    let mut sink = MemorySink::new(alloc, ROOM, 8, [call].to_vec(alloc)?)?;
-    let told = run_between(rt, alloc, "replay", &mut source, &mut sink)?;
-    Ok((told, sink))
+    let mut source = steady_source(alloc, input.as_bytes())?;
+    run_from(
+        rt,
+        alloc,
+        "replay",
+        &mut source,
+        failing_sink(alloc, 8, call)?,
+    )
 }
 
 /// What stands there is the beginning of a report, or of a refusal.
@@ -170,9 +174,8 @@ fn a_failed_write_ends_the_run(rt: HostRuntime) -> Result<(), Fail> {
         ("", 3, (REFUSED, Left::Nothing), "line 1 cause 2\n"),
     ];
     for (input, call, ends, written) in cases {
-        let (told, sink) = run_failing_write(&rt, rt.alloc(), input, call)?;
-        assert_eq!(rt; told, ends, "write {call}");
-        assert_eq!(rt; sink.bytes(), written.as_bytes(), "write {call}");
+        let run = run_failing_write(&rt, rt.alloc(), input, call)?;
+        leaves(&rt, &run, ends, written);
     }
     Ok(())
 }

@@ -1,9 +1,11 @@
 //! Texts that are read, refused and printed.
 
+use crate::printed::is_printed;
+use heap_geometry::geometry::Geometry;
+use std::process::Abort;
 use std::test::Fail;
 use trace_text::fault::{Cause, TraceFault};
 use trace_text::limits::MAX_INPUT;
-use trace_text::printing::print_trace;
 use trace_text::reading::read_trace;
 use trace_text::trace::{Lanes, Op, OrderRun, Orders};
 
@@ -13,21 +15,31 @@ fn is_refused(rt: &HostRuntime, text: &[u8], number: u32, cause: u8) -> bool {
         && read_trace(rt.alloc(), text).err() == Some(TraceFault::Line { number, cause })
 }
 
+/// A text is read as a trace of one lane with these operations.
+fn is_one_lane<R: Abort + AllocGlobal>(rt: &R, text: &[u8], ops: &[Op]) -> Result<(), Fail> {
+    assert!(rt; text.len() <= MAX_INPUT);
+    let trace = read_trace(rt.alloc(), text)?;
+    let lanes = trace.lanes.as_slice();
+    assert_eq!(rt; lanes.len(), 1);
+    assert_eq!(rt; lanes[0].as_slice(), ops);
+    Ok(())
+}
+
 const PLAIN: &[u8] = b"heap 4 1 2\nlane\na 0 1 5\na 1 3 7\nc 1\nf 0\nf 1\nend\n";
 
 #[test]
 fn a_plain_text(rt: HostRuntime) -> Result<(), Fail> {
     let trace = read_trace(rt.alloc(), PLAIN)?;
-    assert_eq!(rt; trace.heap.frames, 4);
-    assert_eq!(rt; trace.heap.heaps, 1);
-    assert_eq!(rt; trace.heap.units, 2);
-    assert_eq!(rt; trace.heap.callers, 1);
-    assert_eq!(rt; trace.heap.turn_limit, 274_877_906_943);
-    assert!(rt; !trace.named_limit);
-    assert_eq!(rt; trace.orders.as_slice().len(), 0);
-    let lanes = trace.lanes.as_slice();
-    assert_eq!(rt; lanes.len(), 1);
-    let want = [
+    let heap = Geometry {
+        frames: 4,
+        heaps: 1,
+        units: 2,
+        callers: 1,
+        turn_limit: 274_877_906_943,
+    };
+    let orders = trace.orders.as_slice().len();
+    assert_eq!(rt; (trace.heap, trace.named_limit, orders), (heap, false, 0));
+    let ops = [
         Op::Alloc {
             r: 0,
             need: 1,
@@ -42,16 +54,14 @@ fn a_plain_text(rt: HostRuntime) -> Result<(), Fail> {
         Op::Free { r: 0 },
         Op::Free { r: 1 },
     ];
-    assert_eq!(rt; lanes[0].as_slice(), want.as_slice());
-    Ok(())
+    is_one_lane(&rt, PLAIN, &ops)
 }
 
 #[test]
 fn a_lenient_text(rt: HostRuntime) -> Result<(), Fail> {
     let text =
         b"heap 1 1 0\r\n# note\r\n\r\nlane\r\na 0 1 18446744073709551615\r\n\ta\t0  1 2 \r\nw 0 4\r\nc 0\r\nf 0\r\nf 0\r\nc 0\r\nend";
-    let trace = read_trace(rt.alloc(), text)?;
-    let want = [
+    let ops = [
         Op::Alloc {
             r: 0,
             need: 1,
@@ -68,26 +78,19 @@ fn a_lenient_text(rt: HostRuntime) -> Result<(), Fail> {
         Op::Free { r: 0 },
         Op::Check { r: 0 },
     ];
-    let lanes = trace.lanes.as_slice();
-    assert_eq!(rt; lanes.len(), 1);
-    assert_eq!(rt; lanes[0].as_slice(), want.as_slice());
-    Ok(())
+    is_one_lane(&rt, text, &ops)
 }
 
 #[test]
 fn the_largest_need(rt: HostRuntime) -> Result<(), Fail> {
-    let trace = read_trace(rt.alloc(), b"heap 1 1 64\nlane\na 0 131071 1\nend\n")?;
-    let want = [Op::Alloc {
+    let larger = b"heap 1 1 64\nlane\na 0 131072 1\nend\n";
+    assert!(rt; is_refused(&rt, larger, 3, 7));
+    let ops = [Op::Alloc {
         r: 0,
         need: 131_071,
         v: 1,
     }];
-    let lanes = trace.lanes.as_slice();
-    assert_eq!(rt; lanes.len(), 1);
-    assert_eq!(rt; lanes[0].as_slice(), want.as_slice());
-    let larger = b"heap 1 1 64\nlane\na 0 131072 1\nend\n";
-    assert!(rt; is_refused(&rt, larger, 3, 7));
-    Ok(())
+    is_one_lane(&rt, b"heap 1 1 64\nlane\na 0 131071 1\nend\n", &ops)
 }
 
 #[test]
@@ -198,30 +201,21 @@ fn every_line_is_printed_again(rt: HostRuntime) -> Result<(), Fail> {
     let text =
         b"heap 4 2 64 274877906943\nlane\na 1023 131071 18446744073709551615\nw 0 9\nc 0\nf 10\nlane\np 3 63\nt 3 0\nlane\norder 1 1000000\norder 2 1\nend\n";
     let trace = read_trace(rt.alloc(), text)?;
-    assert_eq!(rt; trace.heap.callers, 3);
-    let want = [
+    let runs = [
         OrderRun {
             lane: 1,
             steps: 1_000_000,
         },
         OrderRun { lane: 2, steps: 1 },
     ];
-    assert_eq!(rt; trace.orders.as_slice(), want.as_slice());
-    assert_eq!(rt;
-        print_trace(rt.alloc(), &trace)?.as_slice(),
-        text.as_slice()
-    );
-    Ok(())
+    let orders = trace.orders.as_slice();
+    assert_eq!(rt; (trace.heap.callers, orders), (3, runs.as_slice()));
+    is_printed(&rt, text, text)
 }
 
 #[test]
 fn an_unnamed_limit_is_not_printed(rt: HostRuntime) -> Result<(), Fail> {
-    let trace = read_trace(rt.alloc(), b"heap 4 1 2\n # a comment\nend")?;
-    assert_eq!(rt;
-        print_trace(rt.alloc(), &trace)?.as_slice(),
-        b"heap 4 1 2\nend\n".as_slice()
-    );
-    Ok(())
+    is_printed(&rt, b"heap 4 1 2\n # a comment\nend", b"heap 4 1 2\nend\n")
 }
 
 #[test]
@@ -235,8 +229,7 @@ fn a_refusal_is_told_in_one_line(rt: HostRuntime) -> Result<(), Fail> {
     Ok(())
 }
 
-#[test]
-fn lists_are_given_back(rt: HostRuntime) -> Result<(), Fail> {
+fn lanes_are_given_back<R: Abort + AllocGlobal>(rt: &R) -> Result<(), Fail> {
     let mut lanes = Lanes::new(Vec::new(rt.alloc()));
     assert!(rt; lanes.is_empty());
     lanes.push_lane(rt.alloc())?;
@@ -244,9 +237,19 @@ fn lists_are_given_back(rt: HostRuntime) -> Result<(), Fail> {
     assert_eq!(rt; lanes.len(), 1);
     let lanes = lanes.into_vec();
     assert_eq!(rt; lanes[0].as_slice(), [Op::Free { r: 3 }].as_slice());
+    Ok(())
+}
+
+fn orders_are_given_back<R: Abort + AllocGlobal>(rt: &R) -> Result<(), Fail> {
     let mut orders = Orders::new(Vec::new(rt.alloc()));
     assert!(rt; orders.is_empty());
     orders.push(OrderRun { lane: 0, steps: 1 })?;
     assert_eq!(rt; orders.into_vec().len(), 1);
     Ok(())
+}
+
+#[test]
+fn lists_are_given_back(rt: HostRuntime) -> Result<(), Fail> {
+    lanes_are_given_back(&rt)?;
+    orders_are_given_back(&rt)
 }

@@ -1,19 +1,20 @@
 //! Texts of generated traces.
 
-ghost use Rattle.std.specs.Prelude.{◌≤◌};
-ghost use Rattle.workloads.specs.declared.making.TheConstants.{MAX_SIZE};
-
+use crate::printed::is_printed;
+use std::process::Abort;
 use std::test::Fail;
-use trace_text::limits::MAX_INPUT;
 use trace_text::printing::print_trace;
-use trace_text::reading::read_trace;
 use workloads::kind::Kind;
 use workloads::making::{MAX_SIZE, make_trace};
 
 /// The text of a workload's trace.
-fn text_of(rt: &HostRuntime, kind: Kind, size: u32, start: u64) -> Result<Vec<u8>, Fail>
-    requires { size ≤ MAX_SIZE }
-{
+fn text_of<R: Abort + AllocGlobal>(
+    rt: &R,
+    kind: Kind,
+    size: u32,
+    start: u64,
+) -> Result<Vec<u8>, Fail> {
+    assert!(rt; size <= MAX_SIZE);
     let trace = make_trace(rt.alloc(), kind, size, start)?;
     Ok(print_trace(rt.alloc(), &trace)?)
 }
@@ -86,7 +87,6 @@ fn short_texts(rt: HostRuntime) -> Result<(), Fail> {
         ),
     ];
     for (kind, size, start, want) in texts {
-        assert!(rt; size <= MAX_SIZE);
         assert_eq!(rt; text_of(&rt, kind, size, start)?.as_slice(), want);
     }
     Ok(())
@@ -137,10 +137,8 @@ fn long_texts(rt: HostRuntime) -> Result<(), Fail> {
         (Kind::Pipeline, 1000, 3, 19_254, 1_285_632_394),
     ];
     for (kind, size, start, length, sum) in texts {
-        assert!(rt; size <= MAX_SIZE);
         let text = text_of(&rt, kind, size, start)?;
-        assert_eq!(rt; text.len(), length);
-        assert_eq!(rt; sum_of(&text), sum);
+        assert_eq!(rt; (text.len(), sum_of(&text)), (length, sum));
     }
     Ok(())
 }
@@ -148,13 +146,7 @@ fn long_texts(rt: HostRuntime) -> Result<(), Fail> {
 #[test]
 fn a_text_is_read_again(rt: HostRuntime) -> Result<(), Fail> {
     let text = text_of(&rt, Kind::Larson, 1000, 3)?;
-    assert!(rt; text.len() <= MAX_INPUT);
-    let trace = read_trace(rt.alloc(), &text)?;
-    assert_eq!(rt;
-        print_trace(rt.alloc(), &trace)?.as_slice(),
-        text.as_slice()
-    );
-    Ok(())
+    is_printed(&rt, &text, &text)
 }
 
 #[test]
