@@ -1,11 +1,11 @@
 //! In which order operations pass a gate.
 
+use crate::printed::trace_of;
 use edge_io::gate::Gate;
 use std::alloc::Global;
 use std::cell::Cell;
 use std::test::Fail;
 use trace_commands::told::schedule;
-use trace_text::reading::read_trace;
 
 /// A gate that expects these operations of these lanes, in this order.
 #[derive(Drop)]
@@ -31,7 +31,7 @@ impl<'a> Gate for Expecting<'a> {
 
 /// Runs two lanes on a machine, whose operations pass this gate.
 fn run_at(alloc: Global, gate: &Expecting) -> Result<(), Fail> {
-    let trace = read_trace(
+    let trace = trace_of(
         alloc,
         b"heap 4 1 2\nlane\na 0 1 5\na 0 1 6\nf 0\nf 0\nlane\nc 7\na 1 1 5\norder 0 1\norder 1 1\nend\n",
     )?;

@@ -93,7 +93,7 @@ fn failed_writes_of_workloads(rt: HostRuntime) -> Result<(), Fail> {
     ];
     for (line, left, written) in cases {
         let run = run_cut(&rt, rt.alloc(), line)?;
-        leaves(&rt, &run, (WRITE_FAULT, left), written);
+        leaves(&rt, 2, &run, (WRITE_FAULT, left), written);
     }
     Ok(())
 }

@@ -2,29 +2,40 @@
 //! threads it may come before that.
 
 ghost use Rattle.std.specs.Prelude.{◌≤◌, length};
+ghost use Rattle.trace_text.specs.Traces.{IsTrace};
 ghost use Rattle.trace_text.specs.declared.limits.TheConstants.{MAX_INPUT};
 ghost use Rattle.workloads.specs.declared.making.TheConstants.{MAX_SIZE};
 
+use crate::printed::trace_of;
 use edge_io::gate::NoGate;
 use lane_outcomes::live::live_count;
+use lane_outcomes::outcome::Outcome;
 use lane_outcomes::report::report;
-use std::alloc::Global;
+use std::alloc::{AllocError, Global};
 use std::process::Abort;
 use std::test::Fail;
 use command_parts::command::Workload;
 use trace_commands::driven::{DrivenRun, drive};
 use trace_commands::summary::summary;
 use trace_text::limits::{MAX_INPUT, MAX_LANES};
-use trace_text::reading::read_trace;
+use trace_text::trace::Trace;
 use workloads::kind::Kind;
 use workloads::making::{MAX_SIZE, make_trace};
+
+/// The outcomes of a trace's run on a machine.
+fn outcomes_of(alloc: Global, trace: &Trace) -> Result<Vec<Vec<Outcome>>, AllocError>
+    requires { IsTrace trace.now }
+{
+    let DrivenRun { outcomes, .. } = drive(alloc, &NoGate, trace)?;
+    Ok(outcomes)
+}
 
 /// The report of the run that a text names.
 fn driven_report(alloc: Global, text: &[u8]) -> Result<Vec<u8>, Fail>
     requires { length text.now ≤ MAX_INPUT }
 {
-    let trace = read_trace(alloc, text)?;
-    let DrivenRun { outcomes, .. } = drive(alloc, &NoGate, &trace)?;
+    let trace = trace_of(alloc, text)?;
+    let outcomes = outcomes_of(alloc, &trace)?;
     let (live, words) = live_count(&trace, outcomes.as_slice());
     Ok(report(alloc, &trace, outcomes.as_slice(), live, words)?)
 }
@@ -57,7 +68,7 @@ fn driven_summary<R: Abort + AllocGlobal>(rt: &R, workload: Workload) -> Result<
 {
     let alloc = rt.alloc();
     let trace = make_trace(alloc, workload.kind, workload.size, workload.start)?;
-    let DrivenRun { outcomes, .. } = drive(alloc, &NoGate, &trace)?;
+    let outcomes = outcomes_of(alloc, &trace)?;
     let outcomes = outcomes.as_slice();
     let (live, words) = live_count(&trace, outcomes);
     assert!(rt; outcomes.len() <= MAX_LANES as usize);

@@ -141,14 +141,19 @@ pub fn run_on<R: Threads + Wait + Sync>(
     run_from(rt, alloc, line, &mut source, wide_sink(alloc)?)
 }
 
-/// A run ended so, and its sink holds this text.
+/// A run with an edge that fails at this call ended so, and its sink holds this text.
 pub fn leaves<R: Abort + AllocGlobal>(
     rt: &R,
+    call: u64,
     (told, sink): &(Told, MemorySink),
     ends: Told,
     text: &str,
 ) {
-    assert_eq!(rt; (*told, sink.bytes()), (ends, text.as_bytes()));
+    assert_eq!(rt;
+        (*told, sink.bytes()),
+        (ends, text.as_bytes()),
+        "call {call}"
+    );
 }
 
 /// The program ends so on this command line and input, and writes this text.

@@ -96,8 +96,9 @@ fn long_inputs(rt: HostRuntime) -> Result<(), Fail> {
         (MAX_INPUT + 1, TOO_MANY, ""),
     ];
     for (length, status, written) in cases {
-        let run = run_long(&rt, rt.alloc(), length)?;
-        leaves(&rt, &run, (status, Left::Nothing), written);
+        let (told, sink) = run_long(&rt, rt.alloc(), length)?;
+        assert_eq!(rt; told, (status, Left::Nothing));
+        assert_eq!(rt; sink.bytes(), written.as_bytes());
     }
     Ok(())
 }
@@ -131,7 +132,7 @@ fn a_failed_read_ends_the_run(rt: HostRuntime) -> Result<(), Fail> {
     ];
     for (call, ends, written) in cases {
         let run = run_failing_read(&rt, rt.alloc(), input, call)?;
-        leaves(&rt, &run, ends, written);
+        leaves(&rt, call, &run, ends, written);
     }
     Ok(())
 }
@@ -175,7 +176,7 @@ fn a_failed_write_ends_the_run(rt: HostRuntime) -> Result<(), Fail> {
     ];
     for (input, call, ends, written) in cases {
         let run = run_failing_write(&rt, rt.alloc(), input, call)?;
-        leaves(&rt, &run, ends, written);
+        leaves(&rt, call, &run, ends, written);
     }
     Ok(())
 }

@@ -1,6 +1,6 @@
 //! Texts that are read, refused and printed.
 
-use crate::printed::is_printed;
+use crate::printed::{is_printed, trace_of};
 use heap_geometry::geometry::Geometry;
 use std::process::Abort;
 use std::test::Fail;
@@ -18,7 +18,7 @@ fn is_refused(rt: &HostRuntime, text: &[u8], number: u32, cause: u8) -> bool {
 /// A text is read as a trace of one lane with these operations.
 fn is_one_lane<R: Abort + AllocGlobal>(rt: &R, text: &[u8], ops: &[Op]) -> Result<(), Fail> {
     assert!(rt; text.len() <= MAX_INPUT);
-    let trace = read_trace(rt.alloc(), text)?;
+    let trace = trace_of(rt.alloc(), text)?;
     let lanes = trace.lanes.as_slice();
     assert_eq!(rt; lanes.len(), 1);
     assert_eq!(rt; lanes[0].as_slice(), ops);
@@ -29,7 +29,7 @@ const PLAIN: &[u8] = b"heap 4 1 2\nlane\na 0 1 5\na 1 3 7\nc 1\nf 0\nf 1\nend\n"
 
 #[test]
 fn a_plain_text(rt: HostRuntime) -> Result<(), Fail> {
-    let trace = read_trace(rt.alloc(), PLAIN)?;
+    let trace = trace_of(rt.alloc(), PLAIN)?;
     let heap = Geometry {
         frames: 4,
         heaps: 1,
@@ -189,7 +189,7 @@ fn cuts_of_a_text(rt: HostRuntime) -> Result<(), Fail> {
         assert!(rt; bytes < PLAIN.len());
         assert!(rt; is_refused(&rt, &PLAIN[..bytes], number, cause));
     }
-    let trace = read_trace(rt.alloc(), &PLAIN[..47])?;
+    let trace = trace_of(rt.alloc(), &PLAIN[..47])?;
     let lanes = trace.lanes.as_slice();
     assert_eq!(rt; lanes.len(), 1);
     assert_eq!(rt; lanes[0].as_slice().len(), 5);
@@ -200,7 +200,7 @@ fn cuts_of_a_text(rt: HostRuntime) -> Result<(), Fail> {
 fn every_line_is_printed_again(rt: HostRuntime) -> Result<(), Fail> {
     let text =
         b"heap 4 2 64 274877906943\nlane\na 1023 131071 18446744073709551615\nw 0 9\nc 0\nf 10\nlane\np 3 63\nt 3 0\nlane\norder 1 1000000\norder 2 1\nend\n";
-    let trace = read_trace(rt.alloc(), text)?;
+    let trace = trace_of(rt.alloc(), text)?;
     let runs = [
         OrderRun {
             lane: 1,
@@ -229,7 +229,8 @@ fn a_refusal_is_told_in_one_line(rt: HostRuntime) -> Result<(), Fail> {
     Ok(())
 }
 
-fn lanes_are_given_back<R: Abort + AllocGlobal>(rt: &R) -> Result<(), Fail> {
+#[test]
+fn lists_are_given_back(rt: HostRuntime) -> Result<(), Fail> {
     let mut lanes = Lanes::new(Vec::new(rt.alloc()));
     assert!(rt; lanes.is_empty());
     lanes.push_lane(rt.alloc())?;
@@ -237,19 +238,9 @@ fn lanes_are_given_back<R: Abort + AllocGlobal>(rt: &R) -> Result<(), Fail> {
     assert_eq!(rt; lanes.len(), 1);
     let lanes = lanes.into_vec();
     assert_eq!(rt; lanes[0].as_slice(), [Op::Free { r: 3 }].as_slice());
-    Ok(())
-}
-
-fn orders_are_given_back<R: Abort + AllocGlobal>(rt: &R) -> Result<(), Fail> {
     let mut orders = Orders::new(Vec::new(rt.alloc()));
     assert!(rt; orders.is_empty());
     orders.push(OrderRun { lane: 0, steps: 1 })?;
     assert_eq!(rt; orders.into_vec().len(), 1);
     Ok(())
-}
-
-#[test]
-fn lists_are_given_back(rt: HostRuntime) -> Result<(), Fail> {
-    lanes_are_given_back(&rt)?;
-    orders_are_given_back(&rt)
 }
