@@ -1,13 +1,13 @@
 //! Reports with what the closed heap holds.
 
 use crate::running::{Left, Told, run_on, writes};
+use command_parts::status::REPORTED;
 use edge_io::memory::MemorySink;
 use std::alloc::{AllocError, Global};
 use std::process::Abort;
 use std::sync::Wait;
 use std::test::Fail;
 use std::thread::Threads;
-use trace_commands::status::REPORTED;
 
 /// The plain run: two superblocks are active, with 64 blocks each that are offered.
 #[test]

@@ -1,13 +1,13 @@
 //! Lanes that all want what only one of them can have.
 
 use crate::running::{Left, Told, run_on};
+use command_parts::status::REPORTED;
 use edge_io::memory::MemorySink;
 use std::alloc::{AllocError, Global};
 use std::process::Abort;
 use std::sync::Wait;
 use std::test::Fail;
 use std::thread::Threads;
-use trace_commands::status::REPORTED;
 
 /// Sixteen lanes that each ask for all units of the heap.
 fn greedy_lanes(alloc: Global) -> Result<String, AllocError> {

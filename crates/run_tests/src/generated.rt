@@ -5,13 +5,13 @@ use crate::running::{
     Left, ROOM, Told, failing_sink, failing_source, leaves, next_reads, run_from, run_on,
     wide_sink, writes,
 };
+use command_parts::status::{REPORTED, WRITE_FAULT};
 use edge_io::memory::MemorySink;
 use edge_io::steady::SteadySource;
 use std::alloc::{AllocError, Global};
 use std::sync::Wait;
 use std::test::Fail;
 use std::thread::Threads;
-use trace_commands::status::{REPORTED, WRITE_FAULT};
 
 #[test]
 fn workloads_are_summed_up(rt: HostRuntime) -> Result<(), Fail> {

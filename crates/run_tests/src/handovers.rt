@@ -7,6 +7,8 @@ ghost use Rattle.trace_text.specs.declared.limits.TheConstants.{MAX_INPUT};
 ghost use Rattle.workloads.specs.declared.making.TheConstants.{MAX_SIZE};
 
 use crate::printed::trace_of;
+use command_parts::command::Workload;
+use command_parts::summary::summary;
 use edge_io::gate::NoGate;
 use lane_outcomes::live::live_count;
 use lane_outcomes::outcome::Outcome;
@@ -14,9 +16,7 @@ use lane_outcomes::report::report;
 use std::alloc::{AllocError, Global};
 use std::process::Abort;
 use std::test::Fail;
-use command_parts::command::Workload;
 use trace_commands::driven::{DrivenRun, drive};
-use trace_commands::summary::summary;
 use trace_text::limits::{MAX_INPUT, MAX_LANES};
 use trace_text::trace::Trace;
 use workloads::kind::Kind;

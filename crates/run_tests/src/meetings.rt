@@ -2,6 +2,7 @@
 //! there, which lanes that run one after another never do.
 
 use crate::running::{Left, Told, run_through, steady_source, wide_sink};
+use command_parts::status::REPORTED;
 use edge_io::gate::Gate;
 use edge_io::memory::MemorySink;
 use std::alloc::{AllocError, Global};
@@ -9,7 +10,6 @@ use std::process::Abort;
 use std::sync::{OnceLock, Wait};
 use std::test::Fail;
 use std::thread::Threads;
-use trace_commands::status::REPORTED;
 
 /// How often a lane looks for the others before it goes on without them.
 const LOOKS: u32 = 100_000_000;

@@ -1,11 +1,11 @@
 //! Where a text is refused, and for which cause.
 
 use crate::running::{Left, writes};
+use command_parts::status::REFUSED;
 use std::process::Abort;
 use std::sync::Wait;
 use std::test::Fail;
 use std::thread::Threads;
-use trace_commands::status::REFUSED;
 
 /// Both commands that run a text refuse this one so.
 fn is_told<R: Threads + Wait + Abort + AllocGlobal + Sync>(

@@ -1,11 +1,11 @@
 //! Reports of traces that have one report, whatever order the threads of their lanes make their steps in.
 
 use crate::running::{Left, writes};
+use command_parts::status::REPORTED;
 use std::process::Abort;
 use std::sync::Wait;
 use std::test::Fail;
 use std::thread::Threads;
-use command_parts::status::REPORTED;
 
 /// The program writes these reports of these traces.
 fn all_are_reported<R: Threads + Wait + Abort + AllocGlobal + Sync>(

@@ -1,12 +1,12 @@
 //! A trace with frames and turns to spare has one report, on threads and in any order of steps.
 
 use crate::running::{Left, Told, run_on, writes};
+use command_parts::status::REPORTED;
 use edge_io::memory::MemorySink;
 use std::alloc::{AllocError, Global};
 use std::sync::Wait;
 use std::test::Fail;
 use std::thread::Threads;
-use trace_commands::status::REPORTED;
 
 /// How many lanes the trace has.
 const LANES: u32 = 8;

@@ -1,12 +1,12 @@
 //! Reports of traces that give the order of their steps.
 
 use crate::running::{Left, writes};
+use command_parts::status::REPORTED;
 use std::alloc::{AllocError, Global};
 use std::process::Abort;
 use std::sync::Wait;
 use std::test::Fail;
 use std::thread::Threads;
-use command_parts::status::REPORTED;
 
 /// `schedule` writes this of this trace.
 fn is_scheduled<R: Threads + Wait + Abort + AllocGlobal + Sync>(

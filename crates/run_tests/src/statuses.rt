@@ -4,13 +4,13 @@ use crate::running::{
     Left, ROOM, Told, failing_sink, failing_source, leaves, next_reads, next_writes, run_between,
     run_from, steady_source, wide_sink,
 };
+use command_parts::status::{READ_FAULT, REFUSED, REPORTED, TOO_MANY, USAGE, WRITE_FAULT};
 use edge_io::memory::MemorySink;
 use edge_io::steady::SteadySource;
 use std::alloc::{AllocError, Global};
 use std::sync::Wait;
 use std::test::Fail;
 use std::thread::Threads;
-use command_parts::status::{READ_FAULT, REFUSED, REPORTED, TOO_MANY, USAGE, WRITE_FAULT};
 use trace_text::limits::MAX_INPUT;
 
 /// How a run ends that calls neither edge, and what the edges answer afterwards.
