@@ -20,7 +20,7 @@ fn needs_at_their_boundaries(rt: HostRuntime) {
         (u32::MAX, Need::TooLarge, 0),
     ];
     for (need, blocks, words) in rows {
-        assert_eq!(rt; class_of(need), blocks, "at {need}");
-        assert_eq!(rt; usable(class_of(need)), words, "at {need}");
+        let found = class_of(need);
+        assert_eq!(rt; (found, usable(found)), (blocks, words), "at {need}");
     }
 }

@@ -20,8 +20,7 @@ fn anchors(rt: HostRuntime) {
         (Anchor::new(0, 0, State::Empty, 0), 3 << 20),
     ];
     for (anchor, word) in rows {
-        assert_eq!(rt; anchor.pack(), word);
-        assert_eq!(rt; Anchor::unpack(word), anchor);
+        assert_eq!(rt; (anchor.pack(), Anchor::unpack(word)), (word, anchor));
     }
     let again = Anchor::unpack(269_417_473);
     let fields = (again.avail(), again.count(), again.state(), again.tag());
@@ -38,17 +37,20 @@ fn active_words(rt: HostRuntime) {
         (128, held(1, 0)),
     ];
     for (word, active) in rows {
-        assert_eq!(rt; active.pack(), word);
-        assert_eq!(rt; ActiveWord::unpack(word), Some(active));
+        assert_eq!(rt;
+            (active.pack(), ActiveWord::unpack(word)),
+            (word, Some(active))
+        );
     }
     assert_eq!(rt; ActiveWord::unpack(63), None);
 }
 
 #[test]
 fn heads(rt: HostRuntime) {
-    assert_eq!(rt; Head::new(3, 5).pack(), 3 + 5 * 65_536);
-    let head = Head::unpack(3 + 5 * 65_536);
-    assert_eq!(rt; (head.top(), head.tag()), (3, 5));
+    let word = 3 + 5 * 65_536;
+    let head = Head::unpack(word);
+    let told = (Head::new(3, 5).pack(), head.top(), head.tag());
+    assert_eq!(rt; told, (word, 3, 5));
 }
 
 #[test]
@@ -58,8 +60,7 @@ fn prefixes(rt: HostRuntime) {
         (129, Prefix::Large { units: 64 }),
     ];
     for (word, prefix) in rows {
-        assert_eq!(rt; prefix.pack(), word);
-        assert_eq!(rt; Prefix::unpack(word), Some(prefix));
+        assert_eq!(rt; (prefix.pack(), Prefix::unpack(word)), (word, Some(prefix)));
     }
     for word in [1, 131] {
         assert_eq!(rt; Prefix::unpack(word), None);
@@ -71,8 +72,8 @@ fn prefixes(rt: HostRuntime) {
 fn infos(rt: HostRuntime) {
     let info = Info::new(1023, 15, 9);
     let word = 1023 + 15 * 65_536 + 9 * 16_777_216;
-    assert_eq!(rt; info.pack(), word);
-    assert_eq!(rt; (info.frame(), info.heap(), info.class()), (1023, 15, 9));
+    let told = (info.pack(), info.frame(), info.heap(), info.class());
+    assert_eq!(rt; told, (word, 1023, 15, 9));
     let rows = [(word, Some(info)), (1024, None), (1 << 32, None)];
     for (word, info) in rows {
         assert_eq!(rt; Info::unpack(word), info);
@@ -88,8 +89,10 @@ fn shelf_words(rt: HostRuntime) {
         (0, ShelfWord::Nothing),
     ];
     for (word, shelf) in rows {
-        assert_eq!(rt; shelf.pack(), word);
-        assert_eq!(rt; ShelfWord::unpack(word), Some(shelf));
+        assert_eq!(rt;
+            (shelf.pack(), ShelfWord::unpack(word)),
+            (word, Some(shelf))
+        );
     }
     for word in [128 + 16, 128 + 10] {
         assert_eq!(rt; ShelfWord::unpack(word), None);
