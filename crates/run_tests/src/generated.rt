@@ -88,12 +88,12 @@ fn run_cut<R: Threads + Wait + Sync>(
 #[test]
 fn failed_writes_of_workloads(rt: HostRuntime) -> Result<(), Fail> {
     let cases = [
-        ("make scalability 1 1", Left::Shared, "make sca"),
-        ("print scalability 1 1", Left::Nothing, "heap 102"),
+        (1, "make scalability 1 1", Left::Shared, "make sca"),
+        (2, "print scalability 1 1", Left::Nothing, "heap 102"),
     ];
-    for (line, left, written) in cases {
+    for (number, line, left, written) in cases {
         let run = run_cut(&rt, rt.alloc(), line)?;
-        leaves(&rt, 2, &run, (WRITE_FAULT, left), written);
+        leaves(&rt, number, &run, (WRITE_FAULT, left), written);
     }
     Ok(())
 }

@@ -141,10 +141,10 @@ pub fn run_on<R: Threads + Wait + Sync>(
     run_from(rt, alloc, line, &mut source, wide_sink(alloc)?)
 }
 
-/// A run with an edge that fails at this call ended so, and its sink holds this text.
+/// A run ended so, and its sink holds this text. The number tells it from the other runs of a test.
 pub fn leaves<R: Abort + AllocGlobal>(
     rt: &R,
-    call: u64,
+    number: u64,
     (told, sink): &(Told, MemorySink),
     ends: Told,
     text: &str,
@@ -152,7 +152,7 @@ pub fn leaves<R: Abort + AllocGlobal>(
     assert_eq!(rt;
         (*told, sink.bytes()),
         (ends, text.as_bytes()),
-        "call {call}"
+        "at {number}"
     );
 }
 
