@@ -11,12 +11,12 @@ ghost use Rattle.command_parts.specs.Input.{TakesMore, TakesSome};
 ghost use Rattle.trace_commands.specs.Runs.{ReadsInVain, TakesFor};
 
 use crate::closing::Closing;
+use crate::made::{make, print};
+use crate::told::{Told, counted, replay, schedule};
 use command_parts::command::Command;
 use command_parts::input::read_input;
-use crate::made::{make, print};
 use command_parts::status::{REFUSED, REPORTED};
 use command_parts::stop::Stop;
-use crate::told::{Told, counted, replay, schedule};
 use edge_io::gate::Gate;
 use edge_io::source::Source;
 use std::alloc::{AllocError, Global};

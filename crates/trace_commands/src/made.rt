@@ -8,10 +8,10 @@ ghost use Rattle.command_parts.specs.Command.{IsWorkload};
 ghost use Rattle.command_parts.specs.Summaries.{trace_of};
 
 use crate::closing::Closing;
-use command_parts::command::Workload;
-use command_parts::summary::summary;
 use crate::threaded::{ThreadedRun, run_on_threads};
 use crate::told::Told;
+use command_parts::command::Workload;
+use command_parts::summary::summary;
 use edge_io::gate::Gate;
 use lane_outcomes::live::live_count;
 use std::alloc::{AllocError, Global};
