@@ -1,4 +1,4 @@
-use Rattle.std.proofs.Common.{◌∙◌, arith}
+use Rattle.std.proofs.Common.{◌∙◌, arith, rules}
 use Rattle.std.proofs.lemmas.List.{length-set}
 use Rattle.heap_census.specs.Census.{IsClassCount}
 use Rattle.heap_census.proofs.ClassLemmas.{counts-more}
@@ -15,3 +15,6 @@ loop-class-preserved c = record {
 
 pub returns-clause-each : goal.returns-clause-each
 returns-clause-each c = λ l listed class below. c.loop-class.invariant.each l listed class (omega (arith, below))
+
+pub loop-class-init : goal.loop-class-init
+loop-class-init c = search rules

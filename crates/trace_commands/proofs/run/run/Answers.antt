@@ -1,4 +1,4 @@
-use Rattle.std.proofs.Common.{Err, ap, inl, inr, lit<, refl}
+use Rattle.std.proofs.Common.{Err, ap, inl, inr, lit<, refl, rules}
 use Rattle.command_parts.specs.Command.{has_input}
 use Rattle.trace_commands.proofs.RunLemmas.{known-stop, reported-answers, refused-answers, stop-answers}
 use Rattle.trace_commands.proofs.run.run.Goals as goal
@@ -35,3 +35,6 @@ returns-in-Ok-write_text-clause-complete g c =
 
 pub returns-clause-known : goal.returns-clause-known
 returns-clause-known g c = (4, lit< tt, refl)
+
+pub returns-in-Err-Usage-clause-usage : goal.returns-in-Err-Usage-clause-usage
+returns-in-Err-Usage-clause-usage g c = search rules

@@ -1,8 +1,8 @@
-use Rattle.std.proofs.Common.{◌∙◌, sym, subst}
+use Rattle.std.proofs.Common.{ap, ◌∙◌, sym, subst}
 use Rattle.word_plan.specs.declared.action.Action.{Action}
-use Rattle.word_plan.specs.Actions.{name_of}
+use Rattle.word_plan.specs.Actions.{name_of, found_by}
 use Rattle.word_plan.specs.Table.{Exists}
-use Rattle.errand_steps.specs.Errands.{ErrandFields}
+use Rattle.errand_steps.specs.Errands.{ErrandFields, answer_of, settle_of}
 use Rattle.errand_steps.proofs.BlindLemmas.{errand-blind, answer-blind}
 use Rattle.live_heap.proofs.Moves.{may-load, may-store, may-exchange, may-swap, may-and}
 use Rattle.live_heap.specs.Sights.{TakesStep}
@@ -83,4 +83,19 @@ returns-in-Store-clause-step g c =
       subst S (sym r.named) t.1.0,
       errand-blind c.args.errand.now c.in-Store.name c.in-Store.new _ _ stores,
       answer-blind c.args.errand.now c.in-Store.name c.in-Store.new _ _ stores,
+    )
+
+pub returns-in-Cas-clause-step : goal.returns-in-Cas-clause-step
+returns-in-Cas-clause-step g c =
+    let r = c.requires in
+    let x = c.compare_exchange-value.result in
+    let t = c.compare_exchange-value.ensures.2.0 in
+    let S : ErrandFields → Type 0 = λ e. TakesStep e x c.args.seat.now.me.0 c.compare_exchange-value.new.seat.me.0 in
+    let found = λ (a : Action). found_by a x in
+    let e = c.args.errand.now in
+    let exchanges = sym c.in-Cas.is ∙ r.planned in (
+      x,
+      subst S (sym r.named) t,
+      ap (λ (a : Action). settle_of e (found a)) exchanges,
+      ap (λ (a : Action). answer_of e (found a)) exchanges,
     )

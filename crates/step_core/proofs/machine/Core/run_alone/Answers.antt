@@ -1,4 +1,4 @@
-use Rattle.std.proofs.Common.{arith, sym, subst}
+use Rattle.std.proofs.Common.{arith, rules, sym, subst}
 use Rattle.step_core.specs.Cores.{CoreFields, IsCore}
 use Rattle.step_core.proofs.AloneLemmas.{IsSoFar, none-so-far, so-far-falls, so-far-room, so-far-next, so-far-bound, so-far-few, so-far-lost, so-far-first, so-far-cleared}
 use Rattle.step_core.proofs.CoreLemmas.{core-sound}
@@ -55,3 +55,15 @@ returns-clause-first c = so-far-first c.args.self.now c.loop-self.self c.args.ca
 
 pub returns-clause-cleared : goal.returns-clause-cleared
 returns-clause-cleared c = so-far-cleared c.args.self.now c.loop-self.self c.args.caller c.loop-self.steps c.requires c.loop-self.invariant
+
+pub step-requires-clause-busy : goal.step-requires-clause-busy
+step-requires-clause-busy c = search rules
+
+pub returns-in-Err-clause-err : goal.returns-in-Err-clause-err
+returns-in-Err-clause-err c = search rules
+
+pub returns-in-Err-clause-idle : goal.returns-in-Err-clause-idle
+returns-in-Err-clause-idle c = search rules
+
+pub returns-clause-ok : goal.returns-clause-ok
+returns-clause-ok c = search rules
