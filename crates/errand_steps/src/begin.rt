@@ -1,10 +1,14 @@
 //! How calls begin.
 
-ghost use Rattle.std.specs.Prelude.{◌≡◌, ◌<◌};
+ghost use Rattle.std.specs.Prelude.{◌≡◌, ◌<◌, false};
 ghost use Rattle.heap_geometry.specs.Need.{usable_words};
 ghost use Rattle.heap_geometry.specs.declared.limits.TheConstants.{CLASSES, MAX_UNITS, SHELVES};
+ghost use Rattle.heap_geometry.specs.Place.{frame_of, index_of};
+ghost use Rattle.heap_geometry.specs.declared.need.Need.TheVariants.{Small};
+ghost use Rattle.superblock_parts.specs.declared.point.BlockPoint.TheVariants.{LoadActive, LoadPrefix};
 ghost use Rattle.errand_steps.specs.declared.continuation.Continuation.{Continuation};
 ghost use Rattle.errand_steps.specs.declared.point.Point.{Point};
+ghost use Rattle.errand_steps.specs.Errands.{is_spent, one_more};
 ghost use Rattle.errand_steps.specs.Begins.{IsIdle, IsHeapBlock, alloc_begun, alloc_answer, free_point, free_begun, write_begun, read_begun, put_begun, take_begun, seat_of, unit_of};
 
 use crate::continuation::Continuation;
@@ -52,6 +56,42 @@ impl Errand {
             }
             Need::TooLarge => Begun::TooLarge,
         }
+    }
+
+    /// Where the free of a small block at this place begins.
+    #[tactic(auto, using(crate::proofs::BeginLemmas::frame_is, crate::proofs::BeginLemmas::index_is))]
+    #[inline(always)]
+    pub fn free_from(&self, place: u32, class: u8) -> BlockPoint
+        requires { IsHeapBlock self.now.geometry place (Small class) }
+        ensures { result ≡ LoadPrefix (seat_of self.now class) (frame_of place) (index_of class place) }
+    {
+        let _ = self.caller();
+        let (frame, index) = split_place(place, class);
+        BlockPoint::LoadPrefix {
+            seat: self.seat(class),
+            frame: frame as u16,
+            index: index as u16,
+        }
+    }
+
+    /// Where a small allocation begins.
+    #[inline(always)]
+    pub fn alloc_from(&self, class: u8) -> BlockPoint
+        requires { class < CLASSES }
+        ensures { result ≡ LoadActive (seat_of self.now class) }
+    {
+        BlockPoint::LoadActive {
+            seat: self.seat(class),
+        }
+    }
+
+    /// Takes a turn, for a call that is made without the errand.
+    #[inline(always)]
+    pub fn take_turn(&mut self)
+        requires { is_spent self.old ≡ false }
+        ensures { self.new ≡ record self.old { turns = one_more self.old.turns } }
+    {
+        self.turns += 1;
     }
 
     /// Begins the free of the block at this place.
@@ -132,6 +172,7 @@ impl Errand {
     }
 
     /// The caller at work on blocks of this class.
+    #[inline(always)]
     fn seat(&self, class: u8) -> Seat
         requires { class < CLASSES }
         ensures { result ≡ seat_of self.now class }

@@ -13,6 +13,7 @@ use word_plan::action::{Action, Found};
 
 /// Whether a step with this action is a won exchange that counts: its two numbers differ, or it is a
 /// swap or an and.
+#[inline(always)]
 pub fn counts_won(action: Action, found: Found) -> bool
     ensures { result ≡ counts_won action found }
 {
@@ -67,6 +68,7 @@ pub fn counts_cleared(point: &Point, found: Found) -> bool
 }
 
 /// The count after a step that raises it or doesn't. It stands still at the end of its type.
+#[inline(always)]
 pub fn raised(rises: bool, count: u64) -> u64
     ensures { result ≡ raised rises count }
 {

@@ -10,10 +10,11 @@ ghost use Rattle.pool_model.specs.declared.event.Event.TheVariants.{Alloc};
 ghost use Rattle.word_plan.specs.Actions.{name_of};
 ghost use Rattle.word_plan.specs.Table.{Exists};
 ghost use Rattle.errand_steps.specs.Begins.{IsBusy, IsHeapBlock};
-ghost use Rattle.errand_steps.specs.Errands.{IsErrand, open_errand, plan_of, course_of, settle_of, answer_of, after_list, after_turn, picked, turned, begins_turn, point_after, list_after, IsListable, is_full, is_spent, told, going_on};
+ghost use Rattle.errand_steps.specs.Errands.{IsErrand, counts_won, raised, open_errand, plan_of, course_of, settle_of, answer_of, after_list, after_turn, picked, turned, begins_turn, point_after, list_after, IsListable, is_full, is_spent, told, going_on};
 ghost use Rattle.errand_steps.specs.Events.{event_of};
 ghost use Rattle.errand_steps.specs.Offers.{offered_at};
 ghost use Rattle.errand_steps.specs.declared.next.Next.TheVariants.{At, End};
+ghost use Rattle.errand_steps.specs.declared.point.Point.TheVariants.{Block};
 ghost use Rattle.errand_steps.specs.Nexts.{next_of};
 ghost use Rattle.errand_steps.specs.Points.{is_idle};
 
@@ -134,6 +135,23 @@ impl Errand {
         ensures { result ≡ self.now.cleared }
     {
         self.cleared
+    }
+
+    /// Stands at a point of a superblock, in a call that was made so far without it.
+    #[inline(always)]
+    pub fn stand_at(&mut self, at: BlockPoint, continuation: Continuation)
+        requires { IsErrand (record self.old { point = Block at continuation }) }
+        ensures { self.new ≡ record self.old { point = Block at continuation } }
+    {
+        self.point = Point::Block { at, continuation };
+    }
+
+    /// Counts an exchange that was won, where it counts.
+    #[inline(always)]
+    pub fn count(&mut self, action: Action, found: Found)
+        ensures { self.new ≡ record self.old { won = raised (counts_won action found) self.old.won } }
+    {
+        self.won = raised(counts_won(action, found), self.won);
     }
 
     /// Goes on to the errand that follows what its action found, and answers what the step came to.
@@ -324,7 +342,7 @@ impl Errand {
     }
 
     /// Whether the caller has no turn left.
-    pub(crate) fn is_spent(&self) -> bool
+    pub fn is_spent(&self) -> bool
         ensures { result ≡ is_spent self.now }
     {
         self.turns == self.geometry.turn_limit

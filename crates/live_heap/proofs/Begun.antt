@@ -8,7 +8,7 @@ use Rattle.pool_model.proofs.PoolLemmas.{every-each, place-found}
 use Rattle.pool_model.proofs.WellFormedLemmas.{sound-of}
 use Rattle.errand_steps.specs.Begins.{IsIdle, IsHeapBlock, alloc_begun, free_begun, write_begun, read_begun, put_begun, take_begun}
 use Rattle.errand_steps.specs.Calls.{Call, begun_by}
-use Rattle.errand_steps.specs.Errands.{ErrandFields}
+use Rattle.errand_steps.specs.Errands.{ErrandFields, IsErrand}
 use Rattle.sound_state.specs.Runs.{MayBegin}
 use Rattle.live_heap.specs.declared.block.Block.{Block}
 use Rattle.live_heap.specs.declared.heap.Heap.{Heap}
@@ -75,3 +75,12 @@ heap-block h p block of owned =
     subst (λ g. IsHeapBlock g block.place block.need) (sym (of-laid h p of))
     (subst (λ m. IsHeapBlock h.layout block.place m) owned.3
     (subst (λ q. IsHeapBlock h.layout q b.need) at (formed.need, formed.place)))
+
+-- in no call the pass's errand keeps its rule
+rule-begun : (log : List Event) (before e : ErrandFields) → IsBegun log before e → IsIdle e → IsErrand before → IsErrand e
+rule-begun log before e (inl same) idle rule = subst IsErrand (sym same) rule
+rule-begun log before e (inr (call, was, may, begun)) idle rule =
+    subst IsErrand (sym (begun ∙ begun-idle before call was (subst IsIdle begun idle))) rule
+
+pub of-rule : (h : Heap) (p : Pass) → IsOf h p → IsIdle p.errand → IsErrand p.errand
+of-rule h p of idle = rule-begun (seen p) of.before.errand p.errand of.begun idle of.served.own_errand.rule

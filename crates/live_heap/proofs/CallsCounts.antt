@@ -1,5 +1,5 @@
 -- How the steps of a call are counted against its tries.
-use Rattle.std.proofs.Common.{ℕ, suc, Bool, true, false, ◌≡◌, ◌≢◌, ◌<◌, ◌≤◌, ◌+◌, ◌*◌, ◌-◌, ◌^◌, inl, inr, List, refl, sym, ◌∙◌, subst, arith}
+use Rattle.std.proofs.Common.{ℕ, suc, Bool, true, false, ◌≡◌, ◌≢◌, ◌<◌, ◌≤◌, ◌+◌, ◌-◌, ◌^◌, inl, inr, List, refl, sym, ◌∙◌, subst, arith}
 use Rattle.std.proofs.lemmas.Bool.{cases_Bool, true≢false}
 use Rattle.heap_geometry.specs.declared.geometry.Geometry.{Geometry}
 use Rattle.heap_geometry.specs.declared.limits.TheConstants.{CALL_STEPS}
@@ -27,6 +27,7 @@ use Rattle.step_core.specs.Moments.{IsMoment}
 use Rattle.live_heap.specs.declared.heap.Heap.{Heap}
 use Rattle.live_heap.specs.declared.pass.Pass.{Pass}
 use Rattle.live_heap.specs.Calls.{EndsInTime, IsCalling, IsInterrupted, tries_of}
+use Rattle.live_heap.specs.Going.{IsGoing}
 use Rattle.live_heap.specs.Passes.{IsOf, seen}
 use Rattle.live_heap.specs.Sights.{IsBegun}
 use Rattle.live_heap.proofs.Begun.{of-laid}
@@ -210,17 +211,6 @@ of-short h p of =
     left-most of.before.errand.geometry of.before.errand.caller of.before.errand.point o.rule.geometry o.rule.point in
     is_begun-short (seen p) of.before.errand p.errand h.layout o.geometry of.served.checked
     (subst (λ g. steps_left g of.before.errand.point < CALL_STEPS) o.geometry was) of.begun
-
--- a call that is given so many tries has gone on from p to q, and has so many of them left
-pub record IsGoing (h : Heap) (p : Pass) (tries left : ℕ) (q : Pass) : Type 0 where
-  pub busy : IsBusy q.errand
-  pub calls :
-      (first : Pass) (call : Call) (made : ℕ) → IsCalling first call made p
-      → (steps : ℕ) × IsCalling first call steps q
-      × (steps + steps_left h.layout q.errand.point + CALL_STEPS * left < made + CALL_STEPS * tries + CALL_STEPS)
-      × (left ≡ 0 → steps ≤ made + CALL_STEPS * tries)
-  pub most : tries_of q.errand + left ≤ tries_of p.errand + tries
-  pub spent : q.errand.lost < 2 ^ 64 - 1 → tries_of q.errand + left ≡ tries_of p.errand + tries
 
 pub going-first : (h : Heap) (p : Pass) (tries : ℕ) → IsOf h p → IsBusy p.errand → 0 < tries → IsGoing h p tries tries p
 going-first h p tries of busy some =

@@ -102,7 +102,7 @@ ended-missed (ending.Missed a b) expected found is = cc
 ended-missed end expected found is = absurd (cc)
 
 -- what a step answers that leads to an end
-end-answers : (e : ErrandFields) (x : Find) (p : Point) (r : Reply) → e.point ≡ p → next_of p x ≡ next.End r → answer_of e x ≡ progress.Done r
+pub end-answers : (e : ErrandFields) (x : Find) (p : Point) (r : Reply) → e.point ≡ p → next_of p x ≡ next.End r → answer_of e x ≡ progress.Done r
 unfolding answer_of course_of
 end-answers e x p r at is =
     ap (λ n. told_by (after_turn e (after_list e n)) (counts_lost e.point x) (counts_cleared e.point x)) (ap (λ q. next_of q x) at ∙ is)
@@ -144,11 +144,11 @@ unfolding take_begun
 take-point p b shelf since = ap (λ (e : ErrandFields). e.point) since.errand
 
 -- what follows their steps
-store-ends : (place i v : ℕ) (o : Continuation) (x : Find) → next_of (point.Large (large.StoreWord place i v) o) x ≡ next.End reply.Wrote
+pub store-ends : (place i v : ℕ) (o : Continuation) (x : Find) → next_of (point.Large (large.StoreWord place i v) o) x ≡ next.End reply.Wrote
 unfolding next_of
 store-ends place i v o x = refl
 
-load-ends : (place i : ℕ) (o : Continuation) (x : Find) → next_of (point.Large (large.LoadWord place i) o) x ≡ next.End (reply.Word x.value)
+pub load-ends : (place i : ℕ) (o : Continuation) (x : Find) → next_of (point.Large (large.LoadWord place i) o) x ≡ next.End (reply.Word x.value)
 unfolding next_of
 load-ends place i o x = refl
 

@@ -1,3 +1,4 @@
+pub mod AllocLemmas
 pub mod Alone
 pub mod Begun
 pub mod CallsAnswers
@@ -6,9 +7,11 @@ pub mod CallsGrow
 pub mod CallsOne
 pub mod Dealt
 pub mod Ending
+pub mod FreeLemmas
 pub mod Gathering
 pub mod Growing
 pub mod Holding
+pub mod JoinLemmas
 pub mod LawsClosed
 pub mod LawsKept
 pub mod LawsServed
@@ -18,5 +21,7 @@ pub mod RefusedPoints
 pub mod RefusedSteps
 pub mod Seats
 pub mod Stepped
+pub mod Straight
 pub mod Told
 pub mod Totals
+pub mod WalkLemmas

@@ -1,6 +1,7 @@
 pub mod Answers
 pub mod Calls
 pub mod Endings
+pub mod Going
 pub mod Hands
 pub mod Holdings
 pub mod Passes

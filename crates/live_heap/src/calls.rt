@@ -21,12 +21,35 @@ use crate::block::Block;
 use crate::heap::Heap;
 use crate::pass::Pass;
 use errand_steps::reply::Begun;
+use heap_geometry::need::{Need, class_of};
+use std::marker::Brand;
 
 impl Heap {
     /// An allocation of so many usable words. It loses fewer exchanges, and clears fewer empty
     /// superblocks, than there are tries, or is interrupted; between two of these it makes fewer than
     /// `CALL_STEPS` steps.
     pub fn alloc(&self, pass: &mut Pass, need: u32, tries: u32) -> AllocAnswer
+        requires of { IsOf self.now pass.old }
+        requires idle { IsIdle pass.old.errand }
+        requires tries { 0 < tries }
+        ensures of { IsOf self.now pass.new }
+        ensures too_large { (result ≡ AllocAnswer.TooLarge) ↔ (LARGE_MOST < need) }
+        ensures spent { alloc_answer pass.old.errand need ≡ begun.Spent → result ≡ AllocAnswer.Spent }
+        ensures tells { AllocTells pass.old need tries result pass.new }
+    {
+        match class_of(need) {
+            Need::Small(class) if !pass.errand.is_spent() => {
+                match self.alloc_small(pass, need, class, tries) {
+                    Some(ending) => alloc_ended(ending),
+                    None => AllocAnswer::Busy,
+                }
+            }
+            _ => self.alloc_begun(pass, need, tries),
+        }
+    }
+
+    /// An allocation by its errand, from its begin on.
+    fn alloc_begun(&self, pass: &mut Pass, need: u32, tries: u32) -> AllocAnswer
         requires of { IsOf self.now pass.old }
         requires idle { IsIdle pass.old.errand }
         requires tries { 0 < tries }
@@ -54,10 +77,18 @@ impl Heap {
         ensures of { IsOf self.now pass.new }
         ensures tells { FreeTells pass.old block tries result pass.new }
     {
-        self.begin_free(pass, block);
-        match self.go_on(pass, tries) {
-            Some(_) => FreeAnswer::Freed,
-            None => FreeAnswer::Busy,
+        match block.need {
+            Need::Small(class) => match self.free_small(pass, block.place, class, tries) {
+                Some(_) => FreeAnswer::Freed,
+                None => FreeAnswer::Busy,
+            },
+            _ => {
+                self.begin_free(pass, block);
+                match self.go_on(pass, tries) {
+                    Some(_) => FreeAnswer::Freed,
+                    None => FreeAnswer::Busy,
+                }
+            }
         }
     }
 
@@ -85,11 +116,7 @@ impl Heap {
         ensures of { IsOf self.now pass.new }
         ensures called { HasCalled pass.old (write block.now.place block.now.need i v) 0 reply.Wrote pass.new }
     {
-        self.begin_write(pass, block, i, v);
-        match self.step(pass) {
-            Step::Done(Ending::Wrote) => {}
-            _ => unreachable!(),
-        }
+        self.store_word::<Brand>(&mut pass.seat, &pass.errand, block, i, v);
     }
 
     /// Reads a usable word of the pass's block; `i` counts them from 0. It is what the block's owners last
@@ -103,11 +130,7 @@ impl Heap {
         ensures called { HasCalled pass.old (read block.now.place block.now.need i) 0 (reply.Word result) pass.new }
         ensures contents { IsContents pass.new block.now.place i result }
     {
-        self.begin_read(pass, block, i);
-        match self.step(pass) {
-            Step::Done(Ending::Word(word)) => word,
-            _ => unreachable!(),
-        }
+        self.load_word::<Brand>(&mut pass.seat, &pass.errand, block, i)
     }
 
     /// Puts the pass's block on a shelf, from where any pass may take it.

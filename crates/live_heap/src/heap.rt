@@ -92,6 +92,7 @@ impl Heap {
     }
 
     /// The place of a word in the table.
+    #[inline(always)]
     pub(crate) fn index(&self, name: WordName) -> usize
         requires { Exists self.now.layout name }
         ensures place { result ≡ word_index self.now.layout name }

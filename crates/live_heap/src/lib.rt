@@ -17,3 +17,5 @@ pub mod pass;
 mod plays;
 mod steps;
 pub mod view;
+mod walks;
+mod words;

@@ -111,7 +111,7 @@ fn told(progress: Progress, offer: Option<Offer>) -> Step
 }
 
 /// The same of the step that ends a call.
-fn ended(reply: Reply, offer: Option<Offer>) -> Ending
+pub(crate) fn ended(reply: Reply, offer: Option<Offer>) -> Ending
     requires { IsAnswerable offer (Progress.Done reply) }
     ensures reply { reply_of result ≡ reply }
     ensures back { GivesBack offer (Step.Done result) }

@@ -22,6 +22,7 @@ fn has_desc(seat: Seat, desc: u16) -> bool
 }
 
 /// From an active word.
+#[inline(always)]
 pub fn after_active(seat: Seat, word: u64) -> BlockPoint
     ensures { result ≡ after_active seat (active_of word) }
 {
@@ -37,6 +38,7 @@ pub fn after_active(seat: Seat, word: u64) -> BlockPoint
 }
 
 /// From the word of a descriptor of which a block was reserved.
+#[inline(always)]
 pub fn after_info(seat: Seat, desc: u16, share: Share, word: u64) -> BlockPoint
     ensures { result ≡ after_info seat desc share (info_in seat.geometry word) }
 {
@@ -54,6 +56,7 @@ pub fn after_info(seat: Seat, desc: u16, share: Share, word: u64) -> BlockPoint
 }
 
 /// From an anchor, for a pop.
+#[inline(always)]
 pub fn after_anchor(site: Site, share: Share, word: u64) -> BlockPoint
     ensures { result ≡ after_anchor site share (anchor_in site.seat.class word) }
 {
@@ -68,6 +71,7 @@ pub fn after_anchor(site: Site, share: Share, word: u64) -> BlockPoint
 }
 
 /// From a pop of this block.
+#[inline(always)]
 pub fn after_pop(site: Site, index: u16, more: u8) -> BlockPoint
     ensures { result ≡ after_pop site index more }
 {
@@ -94,6 +98,7 @@ pub fn after_return_anchor(site: Site, index: u16, more: u8, word: u64) -> Block
 }
 
 /// From the prefix word of the block that is freed.
+#[inline(always)]
 pub fn after_prefix(seat: Seat, frame: u16, index: u16, word: u64) -> BlockPoint
     ensures { result ≡ after_prefix seat frame index (prefix_of word) }
 {
@@ -108,6 +113,7 @@ pub fn after_prefix(seat: Seat, frame: u16, index: u16, word: u64) -> BlockPoint
 }
 
 /// From an anchor, for a push.
+#[inline(always)]
 pub fn after_push_anchor(site: Site, index: u16, stored: bool, word: u64) -> BlockPoint
     ensures { result ≡ after_push_anchor site index stored (anchor_in site.seat.class word) }
 {
@@ -167,6 +173,7 @@ pub fn after_link(site: Site, index: u16) -> BlockPoint
 }
 
 /// From a push.
+#[inline(always)]
 pub fn after_push(site: Site, anchor: Anchor, stored: bool, heap: u8) -> BlockPoint
     ensures { result ≡ after_push site anchor stored heap }
 {

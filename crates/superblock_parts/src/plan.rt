@@ -12,6 +12,7 @@ use word_plan::action::Action;
 use word_plan::name::{WordName, name_of_desc};
 
 /// The action of a point. Who left makes none, and its action here stands for nothing.
+#[inline(always)]
 pub fn plan_block(point: &BlockPoint) -> Action
     ensures { result ≡ plan_block_of point.now }
 {

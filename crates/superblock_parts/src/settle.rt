@@ -15,6 +15,7 @@ use word_plan::action::Found;
 /// The point after what the action found. A word that is not expected leaves the point as it is:
 /// one that names nothing that the heap has, or an anchor whose first available block is none of
 /// the class. Who left stays where it is.
+#[inline(always)]
 pub fn settle_block(point: BlockPoint, found: Found) -> BlockPoint
     ensures { result ≡ settle_block_of point found }
 {
@@ -152,6 +153,7 @@ pub fn settle_block(point: BlockPoint, found: Found) -> BlockPoint
 }
 
 /// What the taker of one of these credits pays with.
+#[inline(always)]
 pub(crate) fn share_of(credits: u8) -> Share
     ensures { result ≡ (if credits == 0 then Share.LastCredit else Share.Credit) }
 {

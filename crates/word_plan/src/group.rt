@@ -50,6 +50,7 @@ pub const GROUPS: [Group; GROUP_COUNT] = [
 ];
 
 /// The group of a word.
+#[inline(always)]
 pub fn group_of(name: WordName) -> Group
     ensures { result ≡ group_of name }
 {
@@ -71,6 +72,7 @@ pub fn group_of(name: WordName) -> Group
 }
 
 /// Where a word stands in its group.
+#[inline(always)]
 pub fn offset_of(name: WordName) -> u32
     ensures { result ≡ offset_of name }
 {
@@ -117,6 +119,7 @@ pub fn group_words(geometry: Geometry, group: Group) -> u32
 }
 
 /// How many groups stand before one.
+#[inline(always)]
 pub fn group_number(group: Group) -> usize
     ensures value { result ≡ group_number group }
     ensures within { result < length groups }

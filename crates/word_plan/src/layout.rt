@@ -76,6 +76,7 @@ impl Layout {
     }
 
     /// The place of a word in the table.
+    #[inline(always)]
     pub fn index(&self, name: WordName) -> u32
         requires { Exists self.now name }
         ensures place { result ≡ word_index self.now name }

@@ -2,7 +2,7 @@ use Rattle.std.proofs.Common.{◌+◌, ◌*◌}
 use Rattle.heap_geometry.specs.declared.limits.TheConstants.{CALL_STEPS}
 use Rattle.sound_state.specs.StepsLeft.{steps_left}
 use Rattle.live_heap.specs.Passes.{IsOf}
-use Rattle.live_heap.proofs.CallsCounts.{IsGoing}
+use Rattle.live_heap.specs.Going.{IsGoing}
 use Rattle.live_heap.proofs.heap.Heap.go_on.Given as goal
 
 abbrev pub invariant-loop-left : goal.invariant-loop-left

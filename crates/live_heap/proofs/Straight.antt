@@ -1,0 +1,123 @@
+-- Calls on usable words, which are one step each.
+use Rattle.std.proofs.Common.{ℕ, ◌≡◌, ◌<◌, ◌+◌, ◌^◌, refl, sym, ap, arith}
+use Rattle.heap_geometry.specs.declared.geometry.Geometry.{Geometry}
+use Rattle.heap_geometry.specs.declared.need.Need.{Need}
+use Rattle.heap_geometry.specs.declared.need.Need.TheVariants.{Small, Large, TooLarge}
+use Rattle.heap_geometry.specs.Geometry.{IsChecked}
+use Rattle.heap_geometry.specs.Need.{usable_words}
+use Rattle.heap_geometry.proofs.PlaceLemmas.{block-within}
+use Rattle.word_plan.specs.declared.action.Action.TheVariants.{Load, Store}
+use Rattle.word_plan.specs.declared.action.Found.{Found as Find}
+use Rattle.word_plan.specs.declared.name.WordName.TheVariants.{Arena}
+use Rattle.word_plan.specs.Counts.{arena_words, word_count}
+use Rattle.word_plan.specs.Table.{start_of, word_index, words_in}
+use Rattle.large_parts.specs.declared.point.LargePoint.TheVariants as large
+use Rattle.errand_steps.specs.declared.continuation.Continuation.TheVariants.{Nothing}
+use Rattle.errand_steps.specs.declared.point.Point.{Point}
+use Rattle.errand_steps.specs.declared.point.Point.TheVariants as point
+use Rattle.errand_steps.specs.declared.reply.Progress.TheVariants.{Done}
+use Rattle.errand_steps.specs.declared.reply.Reply.TheVariants as reply
+use Rattle.errand_steps.specs.Begins.{IsIdle, IsBusy, IsHeapBlock, write_begun, read_begun}
+use Rattle.errand_steps.specs.Calls.{Call, begun_by, write, read}
+use Rattle.errand_steps.specs.Errands.{ErrandFields, plan_of, settle_of, answer_of, course_of}
+use Rattle.errand_steps.specs.Nexts.{next_of}
+use Rattle.errand_steps.specs.Points.{plan_point_of}
+use Rattle.errand_steps.specs.Offers.{offered_at}
+use Rattle.sound_state.specs.Runs.{MayBegin}
+use Rattle.sound_state.proofs.beginnings.BegunErrands.{idle-is}
+use Rattle.live_heap.specs.declared.answers.Ending.{Ending}
+use Rattle.live_heap.specs.declared.answers.Step.TheVariants as step
+use Rattle.live_heap.specs.declared.heap.Heap.{Heap}
+use Rattle.live_heap.specs.declared.pass.Pass.{Pass}
+use Rattle.live_heap.specs.Answers.{GivesBack, HasStepped, reply_of}
+use Rattle.live_heap.specs.Going.{in_call}
+use Rattle.live_heap.specs.Passes.{IsOf, seen, view}
+use Rattle.live_heap.specs.Sights.{IsSightOf, TakesStep, after_events, found_in}
+use Rattle.live_heap.proofs.Begun.{begins-of}
+use Rattle.live_heap.proofs.CallsOne.{end-answers, store-ends, load-ends}
+use Rattle.live_heap.proofs.Stepped.{of-sight, still-of, took-step}
+
+-- a usable word of a block lies in the arena
+pub payload-within : (g : Geometry) (place : ℕ) (n : Need) (i : ℕ) → IsHeapBlock g place n → i < usable_words n → place + 1 + i < arena_words g
+payload-within g place (Small class) i (needs, (frame, index, has, within, is)) below =
+    omega (arith, block-within class index within, is, has, below)
+payload-within g place (Large units) i (needs, (unit, within, is)) below = omega (arith, is, within, below)
+payload-within g place TooLarge i (needs, nowhere) below = absurd nowhere
+
+-- the arena is within the table, and its words are no more than a number of 32 bits says
+pub arena-within : (g : Geometry) (k : ℕ) → k < arena_words g → k < word_count g
+unfolding word_count
+arena-within g k within = omega (arith, within)
+
+pub arena-short : (g : Geometry) (k : ℕ) → IsChecked g → k < arena_words g → k < 2 ^ 32
+arena-short g k checked within = omega (arith, within, checked.frames.1, checked.units.1)
+
+-- the table begins with the arena
+pub arena-index : (g : Geometry) (k : ℕ) → k ≡ word_index g (Arena k)
+unfolding word_index start_of words_in
+arena-index g k = let e : k ≡ 0 + k = omega arith in e
+
+-- what the two calls' steps do
+pub write-plan :
+    (e : ErrandFields) (place : ℕ) (n : Need) (i v : ℕ) → place + 1 + i < 2 ^ 32
+    → plan_of (begun_by e (write place n i v)) ≡ Store (Arena (place + 1 + i)) v
+unfolding write_begun plan_point_of
+write-plan e place n i v short = ap (λ k. Store (Arena k) v) (omega (arith, short))
+
+pub read-plan :
+    (e : ErrandFields) (place : ℕ) (n : Need) (i : ℕ) → place + 1 + i < 2 ^ 32
+    → plan_of (begun_by e (read place n i)) ≡ Load (Arena (place + 1 + i))
+unfolding read_begun plan_point_of
+read-plan e place n i short = ap (λ k. Load (Arena k)) (omega (arith, short))
+
+pub write-busy : (e : ErrandFields) (place : ℕ) (n : Need) (i v : ℕ) → IsBusy (begun_by e (write place n i v))
+unfolding write_begun
+write-busy e place n i v = refl
+
+pub read-busy : (e : ErrandFields) (place : ℕ) (n : Need) (i : ℕ) → IsBusy (begun_by e (read place n i))
+unfolding read_begun
+read-busy e place n i = refl
+
+-- they leave the errand as it was, and answer
+pub write-settles :
+    (e : ErrandFields) (place : ℕ) (n : Need) (i v : ℕ) (x : Find) → IsIdle e → e ≡ settle_of (begun_by e (write place n i v)) x
+unfolding write_begun settle_of course_of next_of plan_point_of
+write-settles e place n i v x idle = ap (λ (p : Point). record e { point = p }) (idle-is e.point idle)
+
+pub read-settles :
+    (e : ErrandFields) (place : ℕ) (n : Need) (i : ℕ) (x : Find) → IsIdle e → e ≡ settle_of (begun_by e (read place n i)) x
+unfolding read_begun settle_of course_of next_of plan_point_of
+read-settles e place n i x idle = ap (λ (p : Point). record e { point = p }) (idle-is e.point idle)
+
+pub write-answers :
+    (e : ErrandFields) (place : ℕ) (n : Need) (i v : ℕ) (x : Find) → Done reply.Wrote ≡ answer_of (begun_by e (write place n i v)) x
+unfolding write_begun
+write-answers e place n i v x =
+    sym (end-answers (write_begun e place i v) x (point.Large (large.StoreWord place i v) Nothing) reply.Wrote refl (store-ends place i v Nothing x))
+
+pub read-answers :
+    (e : ErrandFields) (place : ℕ) (n : Need) (i : ℕ) (x : Find)
+    → Done (reply.Word x.value) ≡ answer_of (begun_by e (read place n i)) x
+unfolding read_begun
+read-answers e place n i x =
+    sym (end-answers (read_begun e place i) x (point.Large (large.LoadWord place i) Nothing) (reply.Word x.value) refl (load-ends place i Nothing x))
+
+-- it may make the step of that call, and nothing need hold its errand
+pub call-sight :
+    (h : Heap) (p : Pass) (call : Call) → IsOf h p → IsIdle p.errand → MayBegin (after_events (seen p)) p.errand.caller call
+    → IsSightOf h.layout (view p) (begun_by p.errand call)
+call-sight h p call of idle may = of-sight h (in_call p call) (begins-of h p (in_call p call) call of idle may refl refl)
+
+-- a call that ends with its one step
+module _
+    (h : Heap) (p q : Pass) (call : Call) (n : ℕ) (end : Ending) (of : IsOf h p) (idle : IsIdle p.errand)
+    (may : MayBegin (after_events (seen p)) p.errand.caller call)
+    (is : q.errand ≡ settle_of (begun_by p.errand call) (found_in (begun_by p.errand call) n))
+    (s : TakesStep (begun_by p.errand call) n (view p) (view q)) where
+  pub one-of : q.seat.table_id ≡ p.seat.table_id → q.seat.me.1 ≡ p.seat.me.1 → IsOf h q
+  one-of table empty = still-of h (in_call p call) q n (begins-of h p (in_call p call) call of idle may refl refl) table empty is s
+
+  pub one-stepped :
+      Done (reply_of end) ≡ answer_of (begun_by p.errand call) (found_in (begun_by p.errand call) n)
+      → GivesBack (offered_at (begun_by p.errand call).point) (step.Done end) → HasStepped (in_call p call) q (step.Done end)
+  one-stepped answers back = record { moment = took-step (in_call p call) q n (Done (reply_of end)) is answers s; back = back }

@@ -1,0 +1,25 @@
+use Rattle.std.proofs.Common.{ap, sym, subst, ◌∙◌, refl}
+use Rattle.word_plan.specs.declared.action.Action.{Action}
+use Rattle.word_plan.specs.Actions.{name_of}
+use Rattle.word_plan.specs.Table.{Exists}
+use Rattle.errand_steps.specs.Begins.{IsBusy}
+use Rattle.errand_steps.specs.Errands.{plan_of}
+use Rattle.errand_steps.proofs.PlanLemmas.{plan-exists}
+use Rattle.live_heap.proofs.WalkLemmas.{planned-at}
+use Rattle.live_heap.proofs.heap.Heap.step_at.Goals as goal
+
+pub act_named-requires-clause-busy : goal.act_named-requires-clause-busy
+act_named-requires-clause-busy g c = subst IsBusy (sym c.requires.named) refl
+
+pub act_named-requires-clause-planned : goal.act_named-requires-clause-planned
+act_named-requires-clause-planned g c =
+    c.plan_block-action.ensures ∙ (planned-at c.args._errand.now c.args.at.now c.args._goes ∙ ap plan_of (sym c.requires.named))
+
+pub act_named-requires-clause-there : goal.act_named-requires-clause-there
+act_named-requires-clause-there g c =
+    let r = c.requires in
+    let e = g.E.Doing.errand in
+    let there = plan-exists e.geometry e.caller e.point r.rule.geometry r.rule.caller r.rule.point in
+    let at : Exists c.args.self.now.layout (name_of (plan_of e)) = subst (λ k. Exists k (name_of (plan_of e))) r.sight.laid there in
+    subst (λ (a : Action). Exists c.args.self.now.layout (name_of a))
+    (ap plan_of r.named ∙ (sym (planned-at c.args._errand.now c.args.at.now c.args._goes) ∙ sym c.plan_block-action.ensures)) at
