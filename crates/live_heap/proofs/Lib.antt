@@ -15,6 +15,7 @@ pub mod JoinLemmas
 pub mod LawsClosed
 pub mod LawsKept
 pub mod LawsServed
+pub mod Linked
 pub mod Moves
 pub mod OneCaller
 pub mod RefusedPoints

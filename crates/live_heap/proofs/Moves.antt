@@ -7,6 +7,8 @@ use prog.Atomic.{either}
 use Rattle.atomic_table.specs.Table.{Me, Allows}
 use Rattle.atomic_table.specs.Table.Act.{keeps as nothing}
 use Rattle.atomic_table.proofs.Lists.{at_set}
+use Rattle.placed_words.specs.Places.{place}
+use Rattle.placed_words.proofs.StepLemmas.{allows-at_place}
 use Rattle.heap_geometry.specs.declared.geometry.Geometry.{Geometry}
 use Rattle.heap_geometry.specs.declared.need.Need.{Need}
 use Rattle.word_plan.specs.declared.action.Action.{Action}
@@ -42,7 +44,7 @@ use Rattle.step_core.proofs.CoreLemmas.{run-sound, run-longer}
 use Rattle.step_core.proofs.MomentLemmas.{reached-served}
 use Rattle.live_heap.specs.declared.view.Standing.{Standing}
 use Rattle.live_heap.specs.declared.view.View.{View}
-use Rattle.live_heap.specs.Rule.{IsStanding, Stands, Kept, TableHolds, state_with}
+use Rattle.live_heap.specs.Rule.{IsStanding, Stands, Kept, PlacesHold, TableHolds, state_with}
 use Rattle.live_heap.specs.Sights.{IsBegun, Saw, TakesStep, after_events, found_in}
 use Rattle.live_heap.proofs.Alone.{reached-alone}
 use Rattle.live_heap.proofs.Growing.{IsBy, starts-self, starts-more, starts-event, rest-none, own-between, own-others, wins-others}
@@ -446,31 +448,34 @@ may-step {S} g slots id me before e one b busy s h homes at small =
 -- the five actions, at the place of their word
 module _ {S : Type 0} (key g : Geometry) (slots id : ℕ) (me : Me S View) (before : Standing) (e f : ErrandFields) (w : WordName) (index : ℕ)
     (same : key ≡ g) (named : f ≡ e) (one : me.0.callers ≡ before ∷ []) (b : IsBegun me.0.seen before.errand f) (busy : IsBusy f)
-    (there : index ≡ word_index g w) where
+    (number : word_index g w < word_count g) (there : index ≡ place g (word_index g w)) where
   abbrev At : Action → Type 0
-  At a = Allows {S = S} (TableHolds key) slots id me index (after_action a) (λ n. Saw e n me)
+  At a = Allows {S = S} (PlacesHold key) slots id me index (after_action a) (λ n. Saw e n me)
 
   may : (a : Action) → name_of a ≡ w → plan_of f ≡ a → At a
   may a on is =
       let A : Action → Type 0 = λ x. Allows {S = S} (TableHolds g) slots id me (word_index g (name_of x)) (after_action x) (λ n. Saw e n me) in
       let I : ℕ → Type 0 = λ i. Allows {S = S} (TableHolds g) slots id me i (after_action a) (λ n. Saw e n me) in
-      let K : Geometry → Type 0 = λ k. Allows {S = S} (TableHolds k) slots id me index (after_action a) (λ n. Saw e n me) in
+      let P : ℕ → Type 0 = λ i. Allows {S = S} (PlacesHold g) slots id me i (after_action a) (λ n. Saw e n me) in
+      let K : Geometry → Type 0 = λ k. Allows {S = S} (PlacesHold k) slots id me index (after_action a) (λ n. Saw e n me) in
       subst K (sym same)
-      (subst I (ap (word_index g) on ∙ sym there)
+      (subst P (sym there)
+      (allows-at_place g (TableHolds g) slots id me (word_index g w) (after_action a) (λ n. Saw e n me) number
+      (subst I (ap (word_index g) on)
       (subst A (ap plan_of (sym named) ∙ is)
-      (may-step g slots id me before e one (subst (IsBegun me.0.seen before.errand) named b) (subst IsBusy named busy))))
+      (may-step g slots id me before e one (subst (IsBegun me.0.seen before.errand) named b) (subst IsBusy named busy))))))
 
-  pub may-load : plan_of f ≡ Load w → Allows {S = S} (TableHolds key) slots id me index (λ n. n) (λ n. Saw e n me)
+  pub may-load : plan_of f ≡ Load w → Allows {S = S} (PlacesHold key) slots id me index (λ n. n) (λ n. Saw e n me)
   may-load is = may (Load w) refl is
 
-  pub may-store : (x : ℕ) → plan_of f ≡ Store w x → Allows {S = S} (TableHolds key) slots id me index (λ _. x) (λ _ m. (k : ℕ) × Saw e k me m)
+  pub may-store : (x : ℕ) → plan_of f ≡ Store w x → Allows {S = S} (PlacesHold key) slots id me index (λ _. x) (λ _ m. (k : ℕ) × Saw e k me m)
   may-store x is s h homes at small = let t = may (Store w x) refl is s h homes at small in (t.0, t.1, t.2, t.3, (_, t.4))
 
-  pub may-swap : (x : ℕ) → plan_of f ≡ Swap w x → Allows {S = S} (TableHolds key) slots id me index (λ _. x) (λ n. Saw e n me)
+  pub may-swap : (x : ℕ) → plan_of f ≡ Swap w x → Allows {S = S} (PlacesHold key) slots id me index (λ _. x) (λ n. Saw e n me)
   may-swap x is = may (Swap w x) refl is
 
-  pub may-and : (x : ℕ) → plan_of f ≡ And w x → Allows {S = S} (TableHolds key) slots id me index (λ n. bit_and n x) (λ n. Saw e n me)
+  pub may-and : (x : ℕ) → plan_of f ≡ And w x → Allows {S = S} (PlacesHold key) slots id me index (λ n. bit_and n x) (λ n. Saw e n me)
   may-and x is = may (And w x) refl is
 
-  pub may-exchange : (x y : ℕ) → plan_of f ≡ Cas w x y → Allows {S = S} (TableHolds key) slots id me index (λ n. either (n == x) y n) (λ n. Saw e n me)
+  pub may-exchange : (x y : ℕ) → plan_of f ≡ Cas w x y → Allows {S = S} (PlacesHold key) slots id me index (λ n. either (n == x) y n) (λ n. Saw e n me)
   may-exchange x y is = may (Cas w x y) refl is

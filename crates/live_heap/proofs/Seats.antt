@@ -6,6 +6,8 @@ use mathlib.Core.Option.{some, some-injective, some-ne-none}
 use lib.ListN.{get_elem?}
 use Rattle.atomic_table.specs.Table.{Splits, Joins}
 use Rattle.atomic_table.proofs.Lists.{at_set, set_else}
+use Rattle.placed_words.specs.Places.{placed_count}
+use Rattle.placed_words.proofs.PlaceLemmas.{place-least}
 use Rattle.heap_geometry.specs.declared.geometry.Geometry.{Geometry}
 use Rattle.heap_geometry.specs.Geometry.{IsChecked}
 use Rattle.word_plan.specs.Counts.{word_count}
@@ -344,5 +346,5 @@ joins g id v from w s h at apart there = record {
         }
 
 -- a table has words
-pub some-words : (g : Geometry) → 0 < word_count g
-some-words g = let w = word_index-within g FrameHead tt in omega arith
+pub some-words : (g : Geometry) → 0 < placed_count g
+some-words g = omega (arith, word_index-within g FrameHead tt, place-least g (word_count g))

@@ -4,6 +4,7 @@ pub mod Endings
 pub mod Going
 pub mod Hands
 pub mod Holdings
+pub mod Linked
 pub mod Passes
 pub mod Refusals
 pub mod Rule

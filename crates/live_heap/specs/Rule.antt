@@ -3,6 +3,7 @@ use Rattle.std.specs.Prelude.{ℕ, ◌≡◌, ◌<◌, ◌≤◌, if◌then◌el
 use mathlib.Core.Option.{some}
 use lib.ListN.{get_elem?}
 use Rattle.atomic_table.specs.Table.{State as TableState}
+use Rattle.placed_words.specs.Places.{HoldsAtPlaces}
 use Rattle.heap_geometry.specs.declared.geometry.Geometry.{Geometry}
 use Rattle.word_plan.specs.Counts.{word_count}
 use Rattle.word_plan.specs.Words.{word_in}
@@ -60,3 +61,7 @@ pub record Kept (g : Geometry) (words : List ℕ) (views : List View) : Type 0 w
 -- so it is in a table
 abbrev pub TableHolds : {S : Type 0} → Geometry → TableState S View → Type 0
 TableHolds g s = Kept g s.words s.views
+
+-- and so it is in memory, where each word lies at its place
+abbrev pub PlacesHold : {S : Type 0} → Geometry → TableState S View → Type 0
+PlacesHold g s = HoldsAtPlaces g (TableHolds g) s

@@ -16,10 +16,10 @@ use crate::plays::Gathers;
 use crate::view::View;
 use atomic_table::Seat;
 use heap_geometry::geometry::Geometry;
+use placed_words::placement::Placement;
 use std::alloc::Global;
 use std::marker::Model;
 use std::snapshot::Snapshot;
-use word_plan::layout::Layout;
 use word_plan::name::WordName;
 
 /// A heap that no thread shares any more. It holds the words; contracts see beside them the errand of
@@ -27,7 +27,7 @@ use word_plan::name::WordName;
 /// memory.
 pub struct Closed {
     table: atomic_table::Closed<u8, Global>,
-    layout: Layout,
+    layout: Placement,
     last: Snapshot<Seat<u8, View>>,
     won: u64,
     lost: u64,
@@ -36,14 +36,14 @@ pub struct Closed {
 impl Model for Closed {
     ghost use Rattle.std.specs.Prelude.{◌≡◌};
     ghost use Rattle.std.specs.Slots.{slots_items, slots_len, IsFull};
-    ghost use Rattle.word_plan.specs.Counts.{word_count};
+    ghost use Rattle.placed_words.specs.Places.{placed_count, words_at};
     ghost use Rattle.live_heap.specs.Endings.{ClosedFields, IsCounted, IsResting, closed_with};
 
     ghost Value = { ClosedFields };
 
-    ghost view = { λ s. closed_with s.layout (slots_items s.table.words) s.last.value.me.0 };
+    ghost view = { λ s. closed_with s.layout (words_at s.layout (slots_items s.table.words)) s.last.value.me.0 };
 
-    ghost invariant = { λ s. record { full : IsFull s.table.words; len : slots_len s.table.words ≡ word_count s.layout; bare : slots_len s.table.slots ≡ 0; rests : IsResting (closed_with s.layout (slots_items s.table.words) s.last.value.me.0); counts : IsCounted (closed_with s.layout (slots_items s.table.words) s.last.value.me.0) s.won s.lost } };
+    ghost invariant = { λ s. record { full : IsFull s.table.words; len : slots_len s.table.words ≡ placed_count s.layout; bare : slots_len s.table.slots ≡ 0; rests : IsResting (closed_with s.layout (words_at s.layout (slots_items s.table.words)) s.last.value.me.0); counts : IsCounted (closed_with s.layout (words_at s.layout (slots_items s.table.words)) s.last.value.me.0) s.won s.lost } };
 }
 
 /// What is refused where there is no memory for closing: nothing has changed.
@@ -116,7 +116,7 @@ impl Closed {
         requires { Exists self.now.geometry name }
         ensures { result ≡ word_in self.now.geometry self.now.words name }
     {
-        self.table.word(self.layout.index(name) as usize)
+        self.table.word(self.layout.place(name) as usize)
     }
 
     /// How many exchanges all callers won, at most 2^64 - 1.

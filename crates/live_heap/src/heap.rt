@@ -2,18 +2,19 @@
 
 ghost use Rattle.std.specs.Prelude.{ℕ, ◌≡◌, ◌<◌, ◌+◌, ◌≤◌, [], length, vec_capacity, IfOk};
 ghost use Rattle.heap_geometry.specs.Geometry.{IsChecked};
+ghost use Rattle.placed_words.specs.Places.{place, placed_count};
 ghost use Rattle.word_plan.specs.Counts.{word_count};
 ghost use Rattle.word_plan.specs.Table.{Exists, word_index};
 
+use crate::opened::first_words;
 use crate::pass::Pass;
 use crate::plays::{Peels, Reachable};
 use crate::view::View;
 use atomic_table::{Seat, Table};
 use errand_steps::errand::Errand;
 use heap_geometry::geometry::Geometry;
+use placed_words::placement::Placement;
 use std::alloc::{AllocError, Global};
-use step_core::first::first_table;
-use word_plan::layout::Layout;
 use word_plan::name::WordName;
 
 /// A heap of a fixed arena. Threads share it by reference, each with a pass of its own.
@@ -23,8 +24,8 @@ use word_plan::name::WordName;
 #[derive(Drop)]
 pub struct Heap {
     pub(crate) table: Table<u8, View, Geometry, Reachable, Global>,
-    pub(crate) layout: Layout,
-    ghost laid: { (table.shared.table_id.words ≡ word_count layout) × (table.shared.table_id.slots ≡ 0) × (table.shared.key ≡ layout) },
+    pub(crate) layout: Placement,
+    ghost laid: { (table.shared.table_id.words ≡ placed_count layout) × (table.shared.table_id.slots ≡ 0) × (table.shared.key ≡ layout) },
     ghost checked: { IsChecked layout },
 }
 
@@ -55,8 +56,8 @@ impl Heap {
         ensures { IfOk result (λ laid. (laid.0.layout ≡ geometry) × (laid.1.table_id ≡ laid.0.table.shared.table_id)
             × (laid.1.me ≡ (opening_view geometry, []))) }
     {
-        let layout = Layout::new(geometry);
-        let words = first_table(alloc, &layout, None)?;
+        let layout = Placement::new(geometry);
+        let words = first_words(alloc, &layout)?;
         let (table, seat) = Table::of_words(alloc, words.as_slice(), &geometry)?;
         Ok((Heap { table, layout }, seat))
     }
@@ -91,13 +92,14 @@ impl Heap {
         self.layout.geometry()
     }
 
-    /// The place of a word in the table.
+    /// The place of a word in memory.
     #[inline(always)]
     pub(crate) fn index(&self, name: WordName) -> usize
         requires { Exists self.now.layout name }
-        ensures place { result ≡ word_index self.now.layout name }
+        ensures number { word_index self.now.layout name < word_count self.now.layout }
+        ensures place { result ≡ place self.now.layout (word_index self.now.layout name) }
         ensures within { result < self.now.table.shared.table_id.words }
     {
-        self.layout.index(name) as usize
+        self.layout.place(name) as usize
     }
 }

@@ -13,6 +13,7 @@ mod calls;
 pub mod closed;
 pub mod heap;
 pub mod laws;
+mod opened;
 pub mod pass;
 mod plays;
 mod steps;

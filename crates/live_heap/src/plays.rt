@@ -9,10 +9,10 @@ use std::marker::{Brand, PhantomData};
 pub struct Reachable;
 
 impl TableRule<u8, View, Geometry> for Reachable {
-    ghost use Rattle.live_heap.specs.Rule.{TableHolds};
+    ghost use Rattle.live_heap.specs.Rule.{PlacesHold};
     ghost use Rattle.live_heap.specs.Views.{opening_view};
 
-    ghost holds = { TableHolds };
+    ghost holds = { PlacesHold };
 
     ghost first = { opening_view };
 }

@@ -53,7 +53,7 @@ impl Heap {
         self.table.shared.load::<Finds<E>>(seat, place)
     }
 
-    /// The place of a usable word in the table, which begins with the arena.
+    /// The place of a usable word in memory, which begins with the arena.
     fn payload(&self, block: &Block, i: u32) -> usize
         requires { block.now.place + 1 + i < arena_words self.now.layout }
         ensures place { result ≡ block.now.place + 1 + i }

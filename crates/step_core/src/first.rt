@@ -65,7 +65,7 @@ fn first_word(layout: &Layout, installed: Option<u8>, name: WordName) -> u64
 }
 
 /// A word at opening.
-fn opening(layout: &Layout, name: WordName) -> u64
+pub fn opening(layout: &Layout, name: WordName) -> u64
     requires { Exists layout.now name }
     ensures { result ≡ opening layout.now name }
 {

@@ -3,7 +3,10 @@ use Rattle.std.specs.Prelude.{slice_index}
 use mathlib.Core.Option.{some, some-injective, some-ne-none}
 use lib.ListN.{get_elem?}
 use Rattle.std.specs.Slots.{slots_items}
-use Rattle.word_plan.specs.Table.{Exists}
+use Rattle.placed_words.specs.Places.{words_at}
+use Rattle.placed_words.proofs.WordsLemmas.{at-words_at}
+use Rattle.word_plan.proofs.TableLemmas.{word_index-within}
+use Rattle.word_plan.specs.Table.{Exists, word_index}
 use Rattle.word_plan.specs.Words.{word_in}
 use Rattle.word_plan.proofs.WordLemmas.{word_in-there}
 use Rattle.live_heap.specs.Endings.{ClosedFields}
@@ -18,7 +21,10 @@ pub returns : goal.returns
 returns c =
     let E : ClosedFields → Type 0 = λ w. Exists w.geometry c.args.name in
     let there = subst E (sym c.self.view_is) c.requires in
-    read (slots_items c.self.inside.table.words) c.index.result c.word.result c.word.ensures
-    ∙ (ap (slice_index (slots_items c.self.inside.table.words)) c.index.ensures.place
-    ∙ (sym (word_in-there c.self.inside.layout (slots_items c.self.inside.table.words) c.args.name there)
-    ∙ ap (λ (w : ClosedFields). word_in w.geometry w.words c.args.name) c.self.view_is))
+    let g = c.self.inside.layout in
+    let placed = slots_items c.self.inside.table.words in
+    read placed c.place.result c.word.result c.word.ensures
+    ∙ (ap (slice_index placed) c.place.ensures.place
+    ∙ (sym (at-words_at g placed (word_index g c.args.name) (word_index-within g c.args.name there))
+    ∙ (sym (word_in-there g (words_at g placed) c.args.name there)
+    ∙ ap (λ (w : ClosedFields). word_in w.geometry w.words c.args.name) c.self.view_is)))

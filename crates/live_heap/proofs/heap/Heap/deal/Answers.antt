@@ -7,6 +7,8 @@ use Rattle.live_heap.specs.declared.view.Standing.{Standing}
 use Rattle.live_heap.specs.declared.view.View.{View}
 use Rattle.live_heap.specs.Passes.{AreFrom}
 use Rattle.live_heap.specs.Views.{first_part, other_part, idle_standing, idles_from}
+use Rattle.placed_words.proofs.StepLemmas.{splits-at_places}
+use Rattle.live_heap.specs.Rule.{TableHolds}
 use Rattle.live_heap.proofs.Seats.{some-words, splits}
 use Rattle.live_heap.proofs.Dealt.{idles-more, fresh, AreFrom-push}
 use Rattle.live_heap.proofs.heap.Heap.deal.Goals as goal
@@ -15,7 +17,7 @@ pub split_seat-next-requires : goal.split_seat-next-requires
 split_seat-next-requires c =
     let h = c.args.self.now in
     let some = some-words h.layout in
-    (c.loop-caller.invariant.table, omega (arith, some, h.laid.0), splits h.table.shared.key c.loop-caller.rest.id c.loop-caller.rest.me.0)
+    (c.loop-caller.invariant.table, omega (arith, some, h.laid.0), splits-at_places h.table.shared.key (TableHolds h.table.shared.key) c.loop-caller.rest.id c.loop-caller.rest.me.0 _ _ (splits h.table.shared.key c.loop-caller.rest.id c.loop-caller.rest.me.0))
 
 pub loop-caller-preserved : goal.loop-caller-preserved
 loop-caller-preserved c =

@@ -8,6 +8,8 @@ use Rattle.live_heap.specs.declared.view.View.{View}
 use Rattle.live_heap.specs.declared.pass.Pass.{Pass}
 use Rattle.live_heap.specs.Endings.{IsIn}
 use Rattle.live_heap.specs.Passes.{IsOf}
+use Rattle.placed_words.proofs.StepLemmas.{joins-at_places}
+use Rattle.live_heap.specs.Rule.{TableHolds}
 use Rattle.live_heap.proofs.Seats.{joins, some-words}
 use Rattle.live_heap.proofs.Gathering.{front, last, one-idle, one-sum, all-idle, is_in-itself, more-in, one-in}
 use Rattle.live_heap.proofs.heap.Heap.gather.Goals as goal
@@ -20,7 +22,7 @@ join_seat-requires c =
     let taken = subst (λ (l : List Pass). All P l) c.in-Some.ensures.items i.others in
     let mine = last (λ (p : Pass). IsOf h p × IsIdle p.errand) c.pop-in-loop-pass.new.self.items c.in-Some.pass taken in
     let some = some-words h.layout in
-    (i.table, mine.0.table, mine.0.empty, omega (arith, some, h.laid.0), joins h.table.shared.key c.loop-pass.seat.id c.loop-pass.seat.me.0 c.in-Some.pass.seat.id c.in-Some.pass.seat.me.0)
+    (i.table, mine.0.table, mine.0.empty, omega (arith, some, h.laid.0), joins-at_places h.table.shared.key (TableHolds h.table.shared.key) c.loop-pass.seat.id c.loop-pass.seat.me.0 c.in-Some.pass.seat.id c.in-Some.pass.seat.me.0 _ _ (joins h.table.shared.key c.loop-pass.seat.id c.loop-pass.seat.me.0 c.in-Some.pass.seat.id c.in-Some.pass.seat.me.0))
 
 pub loop-pass-preserved : goal.loop-pass-preserved
 loop-pass-preserved c =

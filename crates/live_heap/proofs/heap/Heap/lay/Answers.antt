@@ -1,6 +1,7 @@
-use Rattle.std.proofs.Common.{ℕ, List, [], ◌∷◌, sym, subst}
+use Rattle.std.proofs.Common.{ℕ, ◌≡◌, List, [], ◌∷◌, length, sym, subst}
 use Rattle.heap_geometry.specs.declared.geometry.Geometry.{Geometry}
 use Rattle.word_plan.specs.Counts.{word_count}
+use Rattle.placed_words.specs.Places.{placed_count, words_at}
 use Rattle.errand_steps.specs.Openings.{opening}
 use Rattle.step_core.specs.Firsts.{IsTable}
 use Rattle.live_heap.specs.Rule.{Kept}
@@ -11,7 +12,9 @@ use Rattle.live_heap.proofs.heap.Heap.lay.Goals as goal
 pub of_words-requires : goal.of_words-requires
 of_words-requires c =
     let g = c.args.geometry in
-    let T : Geometry → Type 0 = λ h. IsTable h (opening h) (word_count h) c.in_ok-words.words.items in
-    let table : T g = subst T c.new-layout.ensures c.in_ok-words.ensures in
-    subst (λ (ws : List ℕ). Kept g ws (opening_view g ∷ [])) (sym c.as_slice.ensures.value)
-    (opens g c.in_ok-words.words.items c.requires table.all (table-opening g c.in_ok-words.words.items table))
+    let placed = c.in_ok-words.words.items in
+    let P : Geometry → Type 0 = λ h. (length placed ≡ placed_count h) × IsTable h (opening h) (word_count h) (words_at h placed) in
+    let at : P g = subst P c.new-layout.ensures (c.in_ok-words.ensures.count, c.in_ok-words.ensures.words) in
+    let H : List ℕ → Type 0 = λ ws. (length ws ≡ placed_count g) × Kept g (words_at g ws) (opening_view g ∷ []) in
+    subst H (sym c.as_slice.ensures.value)
+    (at.0, opens g (words_at g placed) c.requires at.1.all (table-opening g (words_at g placed) at.1))

@@ -1,8 +1,15 @@
 use Rattle.std.proofs.Common.{◌<◌, ◌+◌, subst, sym}
-use Rattle.live_heap.proofs.Straight.{arena-within}
+use Rattle.word_plan.specs.Table.{word_index}
+use Rattle.word_plan.specs.declared.name.WordName.TheVariants.{Arena}
+use Rattle.word_plan.proofs.TableLemmas.{word_index-within}
+use Rattle.placed_words.specs.Places.{placed_count}
+use Rattle.placed_words.proofs.KindLemmas.{start-place}
+use Rattle.placed_words.proofs.PlaceLemmas.{place-within}
 use Rattle.live_heap.proofs.heap.Heap.payload.Goals as goal
 
 pub returns-clause-within : goal.returns-clause-within
 returns-clause-within c =
     let h = c.args.self.now in
-    subst (λ n. c.args.block.now.place + 1 + c.args.i < n) (sym h.laid.0) (arena-within h.layout _ c.requires)
+    let n = c.args.block.now.place + 1 + c.args.i in
+    let below = place-within h.layout (word_index h.layout (Arena n)) (word_index-within h.layout (Arena n) c.requires) in
+    subst (λ m. n < m) (sym h.laid.0) (subst (λ k. k < placed_count h.layout) (sym (start-place h.layout (Arena n) h.checked c.requires)) below)

@@ -1,10 +1,12 @@
 use Rattle.std.proofs.Common.{◌+◌, sym, subst, ◌∙◌}
 use Rattle.word_plan.specs.declared.name.WordName.TheVariants.{Arena}
+use Rattle.word_plan.proofs.TableLemmas.{word_index-within}
+use Rattle.placed_words.proofs.KindLemmas.{start-place}
 use Rattle.errand_steps.specs.Calls.{begun_by, write}
 use Rattle.errand_steps.specs.Errands.{ErrandFields}
 use Rattle.live_heap.specs.Sights.{IsBegun}
 use Rattle.live_heap.proofs.Moves.{may-store}
-use Rattle.live_heap.proofs.Straight.{arena-index, arena-short, write-busy, write-plan}
+use Rattle.live_heap.proofs.Straight.{arena-short, write-busy, write-plan}
 use Rattle.live_heap.proofs.heap.Heap.store_word.Goals as goal
 
 pub store-requires : goal.store-requires
@@ -16,5 +18,5 @@ store-requires g c =
       r.table,
       c.payload-place.ensures.within,
       may-store h.table.shared.key h.layout _ c.args.seat.now.id c.args.seat.now.me r.sight.before g.E.Doing.errand e (Arena (block.place + 1 + c.args.i))
-          c.payload-place.result h.laid.2 (sym r.named) r.sight.one (subst (λ (f : ErrandFields). IsBegun c.args.seat.now.me.0.seen r.sight.before.errand f) r.named r.sight.begun) (write-busy c.args._errand.now block.place block.need c.args.i c.args.v) (c.payload-place.ensures.place ∙ arena-index h.layout _) c.args.v (write-plan c.args._errand.now block.place block.need c.args.i c.args.v (arena-short h.layout _ h.checked r.inside)),
+          c.payload-place.result h.laid.2 (sym r.named) r.sight.one (subst (λ (f : ErrandFields). IsBegun c.args.seat.now.me.0.seen r.sight.before.errand f) r.named r.sight.begun) (write-busy c.args._errand.now block.place block.need c.args.i c.args.v) (word_index-within h.layout (Arena (block.place + 1 + c.args.i)) r.inside) (c.payload-place.ensures.place ∙ start-place h.layout (Arena (block.place + 1 + c.args.i)) h.checked r.inside) c.args.v (write-plan c.args._errand.now block.place block.need c.args.i c.args.v (arena-short h.layout _ h.checked r.inside)),
     )

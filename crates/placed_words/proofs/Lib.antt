@@ -1,0 +1,4 @@
+pub mod PlaceLemmas
+pub mod WordsLemmas
+pub mod StepLemmas
+pub mod KindLemmas
