@@ -10,9 +10,6 @@ use Rattle.errand_steps.specs.declared.reply.Reply.TheVariants as reply
 use Rattle.errand_steps.specs.Errands.{ErrandFields}
 use Rattle.errand_steps.specs.Offers.{offered_at}
 use Rattle.step_core.specs.Moments.{IsMoment}
-use Rattle.live_heap.specs.declared.answers.Step.{Step}
-use Rattle.live_heap.specs.declared.block.Block.{Block}
-use Rattle.live_heap.specs.Answers.{GivesBack, progress_of}
 use Rattle.lane_engine.specs.declared.stepped.Stepped.{Stepped}
 use Rattle.lane_engine.specs.declared.stepped.Stepped.TheVariants as stepped
 
@@ -49,8 +46,3 @@ IsTellable offer (progress.Done (reply.Given place need)) = IsNeed need
 IsTellable offer (progress.Done (reply.Full found)) = IsSomeAnd offer (λ own. IsNeed own.need)
 IsTellable offer (progress.Done (reply.Got place need)) = IsNeed need
 IsTellable offer answer = Unit {0}
-
--- an engine over a pass tells what a step of the heap came to, whatever a put had offered
-abbrev pub TellsStep : Step → Stepped Block → Type 0
-TellsStep step told =
-    (offer : Option Offer) → GivesBack offer step → Tells (λ block. block.place) (λ block. block.need) offer (progress_of step) told

@@ -1,2 +1,3 @@
 pub mod Engines
 pub mod Machines
+pub mod Whole

@@ -1,8 +1,9 @@
-//! What lanes run on: something that serves callers, one atomic step after another. A machine on one
-//! thread is one.
+//! What lanes run on: something that serves callers, one atomic step after another, as a machine on one
+//! thread; or something that makes the whole calls of one caller, as a pass of a heap.
 #![tactic(auto)]
 
+pub mod calls;
 pub mod engine;
 pub mod over_core;
-pub mod over_heap;
+pub mod over_pass;
 pub mod stepped;

@@ -6,3 +6,7 @@ pub mod RunLemmas
 pub mod RunMeasures
 pub mod PairLemmas
 pub mod ThreadLemmas
+pub mod WholeSteps
+pub mod WholeOps
+pub mod WholeWalks
+pub mod WholeLaws

@@ -123,6 +123,7 @@ pub ready-paired : (trace : Trace) (h : Heap) (k : ℕ) (t : LaneThread) → IsR
 ready-paired trace h k t is = record {
   has = subst (λ n. n < length trace.lanes) (sym is.number) is.has;
   over = subst (λ n. StandsOver h (operations_in trace n) t.pass t.lane) (sym is.number) is.over;
+  between = is.between;
 }
 
 -- its thread has run it

@@ -57,6 +57,7 @@ pub record HasRunOver (passed : ℕ → ℕ → Type 0) (h : Heap) (operations :
 pub record IsPaired (trace : Trace) (h : Heap) (t : LaneThread) : Type 0 where
   pub has : t.lane.caller < length trace.lanes
   pub over : StandsOver h (operations_in trace t.lane.caller) t.pass t.lane
+  pub between : t.lane.stage ≡ stage.Between
 
 -- its thread has run it to its end
 abbrev pub HasRunThrough : (ℕ → ℕ → Type 0) → Trace → Heap → LaneThread → LaneThread → Type 0

@@ -6,6 +6,7 @@ ghost use Rattle.trace_text.specs.Traces.{IsOp, IsTrace};
 ghost use Rattle.lane_outcomes.specs.Passed.{AllPassed};
 ghost use Rattle.live_heap.specs.Endings.{AreAllIdle};
 ghost use Rattle.live_heap.specs.Passes.{AreFrom};
+ghost use Rattle.lane_steps.specs.declared.stage.Stage.TheVariants as stage;
 ghost use Rattle.lane_steps.specs.States.{AreNew};
 ghost use Rattle.lane_runner.specs.Threads.{AreDone, AreEnded, AreReady, HasRunOver, HasRunThrough, HaveRun, IsReserved, IsPaired, StandsOver};
 ghost use Rattle.lane_runner.specs.declared.run_lanes.LaneThread.{LaneThread};
@@ -13,7 +14,7 @@ ghost use Rattle.lane_runner.specs.declared.run_lanes.LaneThread.{LaneThread};
 use crate::lanes::{lane_of, open_lanes};
 use crossbeam_utils::CachePadded;
 use edge_io::gate::Gate;
-use lane_engine::over_heap::PassEngine;
+use lane_engine::over_pass::PassCalls;
 use lane_outcomes::outcome::Outcome;
 use lane_steps::lane::LaneState;
 use live_heap::block::Block;
@@ -24,19 +25,6 @@ use std::sync::Wait;
 use std::thread;
 use std::thread::Threads;
 use trace_text::trace::{Op, Trace};
-
-/// By how many lost exchanges and cleared superblocks, together, a lane's count grows between two yields.
-const YIELD_AFTER: u64 = 64;
-
-/// Yields where a lane's count has grown enough since it last yielded, and answers what it was when it
-/// last yielded.
-fn yielded(last: u64, now: u64) -> u64 {
-    if now.saturating_sub(last) < YIELD_AFTER {
-        return last;
-    }
-    thread::yield_now();
-    now
-}
 
 /// Runs a lane to its end, with the pass of its caller.
 fn run_lane<R: Wait, G: Gate>(
@@ -49,20 +37,11 @@ fn run_lane<R: Wait, G: Gate>(
 )
     requires operations { All IsOp operations.now }
     requires stands { StandsOver heap.now operations.now pass.old lane.old }
+    requires between { lane.old.stage ≡ stage.Between }
     ensures ran { HasRunOver (G.passed gate.now) heap.now operations.now lane.old pass.new lane.new }
 {
-    let mut engine = PassEngine::new(heap, pass);
-    let mut last = engine.setbacks();
-    for _ in rt.forever() {
-        let Ok(made) = lane.advance(&mut engine, operations, gate) else {
-            unreachable!()
-        };
-        if !made {
-            return;
-        }
-        last = yielded(last, engine.setbacks());
-    }
-    unreachable!()
+    let mut calls = PassCalls::new(heap, pass);
+    lane.run(rt, &mut calls, operations, gate);
 }
 
 /// What one thread works on: a lane, and the pass of its caller.

@@ -126,7 +126,7 @@ pub record EndsGot (e f : ErrandFields) (shelf place : ℕ) (need : Need) (befor
   pub owned : OwnsAfter after e.caller place need
 
 -- a step of a caller, over events: its errand goes on by what its action found, and the events gain that of the step behind those of others
-record IsSettled (e f : ErrandFields) (before after : List Event) (answer : Progress) : Type 0 where
+pub record IsSettled (e f : ErrandFields) (before after : List Event) (answer : Progress) : Type 0 where
   pub x : Found
   pub rule : IsErrand e
   pub lost : e.lost < 2 ^ 64
@@ -139,7 +139,7 @@ record IsSettled (e f : ErrandFields) (before after : List Event) (answer : Prog
   pub not_own : own e.caller between ≡ []
   pub seen : after ≡ with_event (before ++ between) (event_of e.caller e.point x)
 
-settled-of :
+pub settled-of :
     (e f : ErrandFields) (before after : List Event) (answer : Progress) → IsMoment e f before after answer
     → IsSettled e f before after answer
 settled-of e f before after answer m =
@@ -219,7 +219,7 @@ moved-on e f before after answer s =
     }
 
 -- where the step doesn't end the call, it goes on
-goes-on :
+pub goes-on :
     (e f : ErrandFields) (call : Call) (before after added : List Event) (answer : Progress)
     → ((r : Reply) → answer ≢ progress.Done r) → IsMoment e f before after answer → IsUnderWay e.caller call e.point added
     → CallGoesOn e f call before after added
@@ -272,7 +272,7 @@ ends-not e f call before after added r none moment way =
 told-not_idle : (n : Next) (lost cleared : Bool) → told_by n lost cleared ≢ progress.Idle
 told-not_idle n lost cleared is = grind (arith)
 
-answer-not_idle : (e : ErrandFields) (x : Found) → answer_of e x ≢ progress.Idle
+pub answer-not_idle : (e : ErrandFields) (x : Found) → answer_of e x ≢ progress.Idle
 unfolding answer_of
 answer-not_idle e x is = told-not_idle (course_of e x) (counts_lost e.point x) (counts_cleared e.point x) is
 

@@ -97,7 +97,7 @@ word-each contents words next word all each last i below =
           (subst (IsWord (slice_index_or contents next None)) (sym found) last)
     ]
 
-sum-one : (words : List ℕ) (total word : ℕ) → total ≡ sum words % 2 ^ 64 → (total + word) % 2 ^ 64 ≡ sum (words ++ word ∷ []) % 2 ^ 64
+pub sum-one : (words : List ℕ) (total word : ℕ) → total ≡ sum words % 2 ^ 64 → (total + word) % 2 ^ 64 ≡ sum (words ++ word ∷ []) % 2 ^ 64
 sum-one words total word is =
     ap (λ n. (n + word) % 2 ^ 64) is ∙ mod-add-mod (sum words) (2 ^ 64) word ∙ ap (λ n. n % 2 ^ 64) (sym (sum_by_push (λ n. n) words word))
 

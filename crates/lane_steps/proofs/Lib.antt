@@ -22,3 +22,4 @@ pub mod OutcomeLemmas
 pub mod PartAdvances
 pub mod ScriptLemmas
 pub mod TurnLemmas
+pub mod MadeLemmas

@@ -14,6 +14,7 @@ ghost use Rattle.step_core.specs.Moments.{HasSeenMore};
 
 mod answers;
 mod begins;
+mod calls;
 mod registers;
 
 use crate::stage::Stage;

@@ -65,7 +65,7 @@ adds-from caller before after added b is = (
   same-rest (own caller before) (own caller b.0) added (sym (own-append caller before b.0) ∙ (ap (own caller) (sym b.1) ∙ is)),
 )
 
-called-adds :
+pub called-adds :
     (p q : Pass) (call : Call) (steps : ℕ) (answer : Reply) (h : HasCalled p call steps answer q)
     → Adds p.errand.caller (seen p) (seen q) h.added
 called-adds p q call steps answer h =
@@ -79,7 +79,7 @@ calling-adds p q call steps h =
     adds-from p.errand.caller (seen p) (seen q) h.added (steps-grow steps (begun_by p.errand call) (seen p) q.errand (seen q) h.on) h.events
 
 -- a block stays its owner's where the events that its owner adds spare it
-owns-on :
+pub owns-on :
     (g : Geometry) (caller place : ℕ) (need : Need) (before after added : List Event) → IsLegal g after → Adds caller before after added
     → AllSpare place added → OwnsAfter before caller place need → OwnsAfter after caller place need
 owns-on g caller place need before after added legal adds spares owns =
@@ -102,7 +102,7 @@ leaves-some (take shelf) reply.Empty place leaves = tt
 leaves-some (take shelf) (reply.Missed expected found) place leaves = tt
 leaves-some call answer place leaves = tt
 
-ended-spares :
+pub ended-spares :
     (caller place : ℕ) (call : Call) (answer : Reply) (added : List Event) → Leaves call place → HasEnded caller call answer added
     → AllSpare place added
 ended-spares caller place call answer added leaves h =
@@ -207,7 +207,7 @@ giving-last caller words place at (Large units) events h = ([], h, tt)
 giving-last caller words place at TooLarge events h = absurd h
 
 -- a block that is given is none of the caller's
-given-apart :
+pub given-apart :
     (g : Geometry) (caller place at : ℕ) (need n : Need) (call : Call) (before after added : List Event) → IsLegal g after
     → Adds caller before after added → HasEnded caller call (reply.Given place n) added → OwnsAfter before caller at need → at ≢ place
 given-apart g caller place at need n (alloc words) before after added legal adds h owns =
@@ -225,7 +225,7 @@ given-apart g caller place at need n (put q m shelf) before after added legal ad
 given-apart g caller place at need n (take shelf) before after added legal adds h owns = absurd (none-some h.ended.0 h.ended.1)
 
 -- nor is one that it takes from a shelf
-got-apart :
+pub got-apart :
     (g : Geometry) (caller place at : ℕ) (need n : Need) (call : Call) (before after added : List Event) → IsLegal g after
     → Adds caller before after added → HasEnded caller call (reply.Got place n) added → OwnsAfter before caller at need → at ≢ place
 got-apart g caller place at need n (take shelf) before after added legal adds h owns =

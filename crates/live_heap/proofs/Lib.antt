@@ -26,3 +26,4 @@ pub mod Straight
 pub mod Told
 pub mod Totals
 pub mod WalkLemmas
+pub mod WholeLaws

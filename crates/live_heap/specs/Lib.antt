@@ -10,3 +10,4 @@ pub mod Refusals
 pub mod Rule
 pub mod Sights
 pub mod Views
+pub mod Whole

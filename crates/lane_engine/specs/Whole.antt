@@ -1,0 +1,39 @@
+-- What whole calls answer, whoever makes them.
+use Rattle.std.specs.Prelude.{ℕ, ◌≡◌, ◌∷◌, List, [], Option, Some, None}
+use Rattle.heap_geometry.specs.declared.need.Need.{Need}
+use Rattle.errand_steps.specs.declared.reply.Reply.{Reply}
+use Rattle.errand_steps.specs.declared.reply.Reply.TheVariants as reply
+use Rattle.errand_steps.specs.Calls.{Call}
+use Rattle.lane_engine.specs.declared.calls.Allocated.{Allocated}
+use Rattle.lane_engine.specs.declared.calls.Allocated.TheVariants as allocated
+use Rattle.lane_engine.specs.declared.calls.Taken.{Taken}
+use Rattle.lane_engine.specs.declared.calls.Taken.TheVariants as taken
+
+-- a whole call with its answer
+pub record Made : Type 0 where
+  pub call : Call
+  pub answer : Reply
+
+-- whole calls lead from one state to another, one after the other
+abbrev pub LeadsBy : {S : Type 0} → (S → Call → Reply → S → Type 0) → S → List Made → S → Type 0
+LeadsBy called before [] after = after ≡ before
+LeadsBy called before (made ∷ rest) after = (next : _) × called before made.call made.answer next × LeadsBy called next rest after
+
+module _ {B : Type 0} (place_of : B → ℕ) (need_of : B → Need) where
+  -- the answer of an allocation
+  abbrev pub allocated_as : Allocated B → Reply
+  allocated_as (allocated.Given block) = reply.Given (place_of block) (need_of block)
+  allocated_as allocated.Refused = reply.Refused
+  allocated_as allocated.Spent = reply.Spent
+
+  -- that of a put of this block: where the shelf is full the same block is back, and still the caller's
+  abbrev pub PutTells : (ℕ → Need → Type 0) → (Reply → Type 0) → ℕ → Need → Option B → Type 0
+  PutTells owns ended place need None = ended reply.Put
+  PutTells owns ended place need (Some back) =
+      (place_of back ≡ place) × (need_of back ≡ need) × owns place need × (found : ℕ) × ended (reply.Full found)
+
+  -- that of a take
+  abbrev pub TakeTells : (Reply → Type 0) → Taken B → Type 0
+  TakeTells ended (taken.Got block) = ended (reply.Got (place_of block) (need_of block))
+  TakeTells ended taken.Empty = ended reply.Empty
+  TakeTells ended taken.Missed = (expected : ℕ) × (found : ℕ) × ended (reply.Missed expected found)

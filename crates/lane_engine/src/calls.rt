@@ -1,0 +1,132 @@
+//! The trait over which a lane makes whole calls.
+
+ghost use Rattle.std.specs.Prelude.{ℕ, ◌≡◌, ◌≢◌, ◌<◌, ◌≤◌};
+ghost use Rattle.heap_geometry.specs.declared.limits.TheConstants.{LARGE_MOST, SHELVES};
+ghost use Rattle.heap_geometry.specs.declared.need.Need.{Need};
+ghost use Rattle.heap_geometry.specs.Need.{need_of, usable_words};
+ghost use Rattle.errand_steps.specs.declared.reply.Reply.{Reply};
+ghost use Rattle.errand_steps.specs.declared.reply.Reply.TheVariants as reply;
+ghost use Rattle.errand_steps.specs.Calls.{Call, alloc, free, write, read, put, take};
+ghost use Rattle.step_core.specs.Keeping.{Leaves};
+ghost use Rattle.lane_engine.specs.Whole.{PutTells, TakeTells, allocated_as};
+ghost use Rattle.live_heap.specs.Whole.{Hands};
+
+use crate::engine::Token;
+use std::sync::Wait;
+
+/// What an allocation came to.
+#[derive(Debug, PartialEq, Eq, Drop)]
+pub enum Allocated<B> {
+    /// The block.
+    Given(B),
+    /// No block is free.
+    Refused,
+    /// The caller has no turn left.
+    Spent,
+}
+
+/// What a take came to.
+#[derive(Debug, PartialEq, Eq, Drop)]
+pub enum Taken<B> {
+    /// The block that lay on the shelf.
+    Got(B),
+    /// The shelf is empty.
+    Empty,
+    /// Another caller changed the shelf in between.
+    Missed,
+}
+
+/// One caller of a heap, or something in front of it, that makes whole calls. What a call did, and what
+/// it saw of others in the meantime, is `called`; a call may wait for others.
+pub trait Calls {
+    /// A block that the caller holds.
+    type Held: Token;
+
+    /// It is in no call.
+    ghost stands: { Self → Type 0 };
+
+    /// The block at this place, which serves this need, is the caller's.
+    ghost owns: { Self → ℕ → Need → Type 0 };
+
+    /// What it runs on, which no call changes.
+    ghost Base: { Type 0 };
+
+    ghost runs_on: { Self → Base };
+
+    /// A whole call led from one state to the other, and ended with this answer.
+    ghost called: { Self → Call → Reply → Self → Type 0 };
+
+    /// The usable words of a block.
+    fn words(held: &Self::Held) -> u32
+        ensures { result ≡ usable_words (Self.Held.need_of held.now) };
+
+    /// The arena word of a block's prefix.
+    fn place(held: &Self::Held) -> u32
+        ensures { result ≡ Self.Held.place_of held.now };
+
+    /// Allocates a block of so many usable words.
+    fn allocate<R: Wait>(&mut self, rt: &R, need: u32) -> Allocated<Self::Held>
+        requires stands { stands self.old }
+        requires need { need ≤ LARGE_MOST }
+        ensures stands { stands self.new }
+        ensures base { runs_on self.new ≡ runs_on self.old }
+        ensures called { called self.old (alloc need) (allocated_as Self.Held.place_of Self.Held.need_of result) self.new };
+
+    /// Frees the caller's block.
+    fn free<R: Wait>(&mut self, rt: &R, held: Self::Held)
+        requires stands { stands self.old }
+        requires owned { owns self.old (Self.Held.place_of held) (Self.Held.need_of held) }
+        ensures stands { stands self.new }
+        ensures base { runs_on self.new ≡ runs_on self.old }
+        ensures called { called self.old (free (Self.Held.place_of held) (Self.Held.need_of held)) reply.Freed self.new };
+
+    /// Writes a usable word of the caller's block; `i` counts them from 0.
+    fn write(&mut self, held: &Self::Held, i: u32, v: u64)
+        requires stands { stands self.old }
+        requires owned { owns self.old (Self.Held.place_of held.now) (Self.Held.need_of held.now) }
+        requires word { i < usable_words (Self.Held.need_of held.now) }
+        ensures stands { stands self.new }
+        ensures base { runs_on self.new ≡ runs_on self.old }
+        ensures called { called self.old (write (Self.Held.place_of held.now) (Self.Held.need_of held.now) i v) reply.Wrote self.new };
+
+    /// Reads a usable word of the caller's block; `i` counts them from 0.
+    fn read(&mut self, held: &Self::Held, i: u32) -> u64
+        requires stands { stands self.old }
+        requires owned { owns self.old (Self.Held.place_of held.now) (Self.Held.need_of held.now) }
+        requires word { i < usable_words (Self.Held.need_of held.now) }
+        ensures stands { stands self.new }
+        ensures base { runs_on self.new ≡ runs_on self.old }
+        ensures called { called self.old (read (Self.Held.place_of held.now) (Self.Held.need_of held.now) i) (reply.Word result) self.new };
+
+    /// Puts the caller's block on a shelf; where a block lies there already it comes back.
+    fn put(&mut self, held: Self::Held, shelf: u8) -> Option<Self::Held>
+        requires stands { stands self.old }
+        requires owned { owns self.old (Self.Held.place_of held) (Self.Held.need_of held) }
+        requires shelf { shelf < SHELVES }
+        ensures stands { stands self.new }
+        ensures base { runs_on self.new ≡ runs_on self.old }
+        ensures called { PutTells Self.Held.place_of Self.Held.need_of (owns self.new)
+            (λ answer. called self.old (put (Self.Held.place_of held) (Self.Held.need_of held) shelf) answer self.new)
+            (Self.Held.place_of held) (Self.Held.need_of held) result };
+
+    /// Takes the block that lies on a shelf.
+    fn take(&mut self, shelf: u8) -> Taken<Self::Held>
+        requires stands { stands self.old }
+        requires shelf { shelf < SHELVES }
+        ensures stands { stands self.new }
+        ensures base { runs_on self.new ≡ runs_on self.old }
+        ensures called { TakeTells Self.Held.place_of Self.Held.need_of (λ answer. called self.old (take shelf) answer self.new) result };
+
+    /// A call leaves the caller its blocks, but for the one that it gives away.
+    ghost keeps: { (s t : Self) (call : Call) (answer : Reply) (place : ℕ) (need : Need) → called s call answer t
+        → Leaves call place → owns s place need → owns t place need };
+
+    /// A block that it hands out is the caller's, and none of those that it had.
+    ghost hands: { (s t : Self) (call : Call) (answer : Reply) (place : ℕ) (need : Need) → called s call answer t
+        → Hands answer place need → owns t place need };
+
+    ghost apart: { (s t : Self) (call : Call) (answer : Reply) (place other : ℕ) (need had : Need) → called s call answer t → Hands answer place need → owns s other had → other ≢ place };
+
+    /// A block that is given serves what was asked for.
+    ghost serves: { (s t : Self) (words place : ℕ) (need : Need) → called s (alloc words) (reply.Given place need) t → need ≡ need_of words };
+}

@@ -1,0 +1,184 @@
+//! A pass of a heap, whose lane makes whole calls.
+
+ghost use Rattle.std.specs.Prelude.{ℕ, ◌≡◌, ◌<◌, ◌≤◌, ◌^◌};
+ghost use Rattle.heap_geometry.specs.Need.{usable_words};
+ghost use Rattle.errand_steps.specs.Calls.{Call};
+ghost use Rattle.live_heap.specs.Answers.{IsResumable};
+ghost use Rattle.live_heap.specs.Calls.{IsCalling};
+ghost use Rattle.live_heap.specs.Passes.{IsOf};
+ghost use Rattle.live_heap.specs.Whole.{IsAtRest, ResumesTo};
+
+use crate::calls::{Allocated, Calls, Taken};
+use crate::engine::Token;
+use live_heap::answers::{AllocAnswer, FreeAnswer, Resumed, Taken as Found};
+use live_heap::block::Block;
+use live_heap::heap::Heap;
+use live_heap::pass::Pass;
+use std::sync::Wait;
+use std::thread;
+
+impl Token for Block {
+    ghost place_of = { λ block. block.place };
+
+    ghost need_of = { λ block. block.need };
+}
+
+/// By how many lost exchanges and cleared superblocks, together, a pass's count grows between two yields.
+const YIELD_AFTER: u32 = 64;
+
+/// A pass that makes whole calls. It yields once each time the exchanges that it lost and the superblocks
+/// that it cleared have grown by 64.
+#[derive(Drop)]
+pub struct PassCalls<'a> {
+    heap: &'a Heap,
+    pass: &'a mut Pass,
+    /// Its count when it last yielded.
+    last: u64,
+}
+
+/// How many exchanges a pass has lost and how many empty superblocks it has cleared, together, at most
+/// 2^64 - 1.
+fn setbacks(pass: &Pass) -> u64 {
+    pass.lost().saturating_add(pass.cleared())
+}
+
+/// How many more it may lose or clear before it yields; it yields where that is due.
+fn tries(pass: &Pass, last: &mut u64) -> u32
+    ensures { 0 < result }
+{
+    let now = setbacks(pass);
+    let grown = now.saturating_sub(*last);
+    if grown < u64::from(YIELD_AFTER) {
+        return YIELD_AFTER - grown as u32;
+    }
+    thread::yield_now();
+    *last = now;
+    YIELD_AFTER
+}
+
+/// Goes on with an allocation or a free that was interrupted, to its end.
+fn go_on<R: Wait>(rt: &R, heap: &Heap, pass: &mut Pass, last: &mut u64) -> Resumed
+    requires of { IsOf heap.now pass.old }
+    requires under_way { IsResumable pass.old }
+    ensures rests { IsAtRest heap.now pass.new }
+    ensures ended { (first : Pass) (call : Call) (made : ℕ) → IsCalling first call made pass.old → ResumesTo first call result pass.new }
+{
+    for _ in rt.forever() {
+        let tries = tries(pass, last);
+        match heap.resume(pass, tries) {
+            Resumed::Busy => {}
+            ended => return ended,
+        }
+    }
+    unreachable!()
+}
+
+impl<'a> PassCalls<'a> {
+    /// Whole calls of this pass.
+    pub fn new(heap: &'a Heap, pass: &'a mut Pass) -> PassCalls<'a>
+        requires { IsAtRest heap.now pass.old }
+        ensures same { result.pass.ghost_name ≡ pass.entry.ghost_name }
+        ensures pass { result.pass.now ≡ pass.old }
+        ensures heap { result.heap.now ≡ heap.now }
+    {
+        let last = setbacks(pass);
+        PassCalls { heap, pass, last }
+    }
+}
+
+impl<'a> Calls for PassCalls<'a> {
+    ghost use Rattle.std.specs.Prelude.{◌≡◌, ℕ};
+    ghost use Rattle.heap_geometry.specs.Need.{usable_words};
+    ghost use Rattle.live_heap.specs.declared.heap.Heap.{Heap};
+    ghost use Rattle.step_core.specs.Cores.{OwnsAfter};
+    ghost use Rattle.live_heap.specs.Passes.{IsOf, seen};
+    ghost use Rattle.live_heap.specs.Whole.{IsAtRest, IsWhole};
+    ghost use Rattle.live_heap.proofs.WholeLaws.{pass-keeps, pass-hands, pass-apart, pass-serves};
+
+    type Held = Block;
+
+    ghost stands = { λ e. IsAtRest e.heap.now e.pass.now };
+
+    ghost owns = { λ e place need. OwnsAfter (seen e.pass.now) e.pass.now.errand.caller place need };
+
+    ghost Base = { ℕ × Heap };
+
+    ghost runs_on = { λ e. (e.pass.ghost_name, e.heap.now) };
+
+    ghost called = { λ e call answer f. IsWhole e.heap.now e.pass.now call answer f.heap.now f.pass.now };
+
+    fn words(held: &Block) -> u32
+        ensures { result ≡ usable_words held.now.need }
+    {
+        held.words()
+    }
+
+    fn place(held: &Block) -> u32
+        ensures { result ≡ held.now.place }
+    {
+        held.place()
+    }
+
+    fn allocate<R: Wait>(&mut self, rt: &R, need: u32) -> Allocated<Block> {
+        let tries = tries(self.pass, &mut self.last);
+        match self.heap.alloc(self.pass, need, tries) {
+            AllocAnswer::Given(block) => Allocated::Given(block),
+            AllocAnswer::Refused => Allocated::Refused,
+            AllocAnswer::Spent => Allocated::Spent,
+            AllocAnswer::TooLarge => unreachable!(),
+            AllocAnswer::Busy => match go_on(rt, self.heap, self.pass, &mut self.last) {
+                Resumed::Given(block) => Allocated::Given(block),
+                Resumed::Refused => Allocated::Refused,
+                Resumed::Spent => Allocated::Spent,
+                _ => unreachable!(),
+            },
+        }
+    }
+
+    fn free<R: Wait>(&mut self, rt: &R, held: Block) {
+        let tries = tries(self.pass, &mut self.last);
+        match self.heap.free(self.pass, held, tries) {
+            FreeAnswer::Freed => {}
+            FreeAnswer::Busy => {
+                let _ = go_on(rt, self.heap, self.pass, &mut self.last);
+            }
+        }
+    }
+
+    fn write(&mut self, held: &Block, i: u32, v: u64) {
+        self.heap.write(self.pass, held, i, v);
+    }
+
+    fn read(&mut self, held: &Block, i: u32) -> u64 {
+        self.heap.read(self.pass, held, i)
+    }
+
+    fn put(&mut self, held: Block, shelf: u8) -> Option<Block> {
+        match self.heap.put(self.pass, held, shelf) {
+            Ok(()) => None,
+            Err(full) => Some(full.block),
+        }
+    }
+
+    fn take(&mut self, shelf: u8) -> Taken<Block> {
+        // A take that misses has lost an exchange, and is tried again: it yields as the others do.
+        let _ = tries(self.pass, &mut self.last);
+        match self.heap.take(self.pass, shelf) {
+            Found::Got(block) => Taken::Got(block),
+            Found::Empty => Taken::Empty,
+            Found::Missed { .. } => Taken::Missed,
+        }
+    }
+
+    ghost keeps = { λ s t call answer place need called.
+        pass-keeps s.heap.now t.heap.now s.pass.now t.pass.now call answer place need called };
+
+    ghost hands = { λ s t call answer place need called.
+        pass-hands s.heap.now t.heap.now s.pass.now t.pass.now call answer place need called };
+
+    ghost apart = { λ s t call answer place other need had called.
+        pass-apart s.heap.now t.heap.now s.pass.now t.pass.now call answer place other need had called };
+
+    ghost serves = { λ s t words place need called.
+        pass-serves s.heap.now t.heap.now s.pass.now t.pass.now words place need called };
+}

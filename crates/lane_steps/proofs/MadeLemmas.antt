@@ -1,0 +1,548 @@
+-- Whole calls one after the other, and what they leave in the registers of their lane.
+use Rattle.std.proofs.Common.{ℕ, zero, suc, ◌≡◌, ◌≢◌, ◌<◌, ◌≤◌, ◌+◌, ◌%◌, ◌^◌, ◌∷◌, ◌++◌, List, [], Option, Some, None, length, map, drop, refl, sym, ap, ◌∙◌, subst, inl, inr, arith, append_assoc, append-nil, vec_capacity}
+use Rattle.std.specs.Prelude.{slice_set, sum}
+use Rattle.std.specs.List.{range_with_len, slice_index_or}
+use Rattle.std.specs.Option.{option_map}
+use Rattle.std.proofs.lemmas.Bool.{cases_eq, cases_lt}
+use Rattle.std.proofs.lemmas.List.{get_or_default, length-append, length-set}
+use Rattle.std.proofs.Math.Seq.{drop-nil}
+use Rattle.std.proofs.lemmas.List.FromFn.{map-range_with_len_more}
+use Rattle.heap_geometry.specs.declared.need.Need.{Need}
+use Rattle.heap_geometry.specs.Need.{need_of, usable_words}
+use Rattle.errand_steps.specs.declared.reply.Reply.{Reply}
+use Rattle.errand_steps.specs.declared.reply.Reply.TheVariants as reply
+use Rattle.errand_steps.specs.Calls.{Call, alloc, free, write, read, put, take}
+use Rattle.step_core.specs.Keeping.{Leaves}
+use Rattle.trace_text.specs.declared.limits.TheConstants.{REGISTERS}
+use Rattle.trace_text.specs.declared.trace.Op.{Op}
+use Rattle.trace_text.specs.declared.trace.Op.TheVariants as op
+use Rattle.lane_engine.specs.Whole.{Made, LeadsBy}
+use Rattle.lane_outcomes.specs.declared.registers.Held.{Held}
+use Rattle.lane_outcomes.specs.declared.outcome.Outcome.{Outcome}
+use Rattle.lane_outcomes.specs.declared.outcome.Outcome.TheVariants as outcome
+use Rattle.lane_outcomes.specs.Lane.{held_in, registers_after}
+use Rattle.lane_steps.specs.declared.lane.LaneState.{LaneState}
+use Rattle.lane_steps.specs.Advances.{IsNext}
+use Rattle.lane_steps.specs.Made.{AllMade, AreMisses, HasRun, HoldsBlocks, MadeFor, Makes, OneMade, Skips, Sums, Takes, answered, found_from, register_of, wrote}
+use Rattle.lane_steps.specs.declared.stage.Stage.TheVariants as stage
+use Rattle.lane_steps.specs.Paths.{held_by, held_blocks}
+use Rattle.lane_steps.specs.Scripts.{registers_from}
+use Rattle.lane_steps.proofs.LaneParts.{set-held, slot-empty, slot-full}
+
+-- one write more, one read more, one miss more
+pub wrote-more :
+    (place : ℕ) (need : Need) (v i : ℕ)
+    → wrote place need v (i + 1) ≡ wrote place need v i ++ answered (write place need i ((v + i) % 2 ^ 64)) reply.Wrote ∷ []
+wrote-more place need v i =
+    map-range_with_len_more (λ i. answered (write place need i ((v + i) % 2 ^ 64)) reply.Wrote) 0 i i (omega arith)
+
+pub found-more :
+    (place : ℕ) (need : Need) (i : ℕ) (words : List ℕ) (word j : ℕ) → j ≡ i + length words
+    → found_from place need i (words ++ word ∷ []) ≡ found_from place need i words ++ answered (read place need j) (reply.Word word) ∷ []
+found-more place need i [] word j is = ap (λ k. answered (read place need k) (reply.Word word) ∷ []) (omega (arith, is))
+found-more place need i (w ∷ words) word j is =
+    ap (λ ms. answered (read place need i) (reply.Word w) ∷ ms) (found-more place need (suc i) words word j (omega (arith, is)))
+
+pub misses-more :
+    (shelf : ℕ) (misses : List Made) (expected found : ℕ) → AreMisses shelf misses
+    → AreMisses shelf (misses ++ answered (take shelf) (reply.Missed expected found) ∷ [])
+misses-more shelf [] expected found are = (expected, found, refl, tt)
+misses-more shelf (m ∷ misses) expected found are = (are.0, are.1, are.2, misses-more shelf misses expected found are.3)
+
+module _ {S : Type 0} (called : S → Call → Reply → S → Type 0) where
+  -- one call more
+  pub leads-more :
+      (s t u : S) (made : List Made) (call : Call) (answer : Reply) → LeadsBy called s made t → called t call answer u
+      → LeadsBy called s (made ++ answered call answer ∷ []) u
+  leads-more s t u [] call answer leads one = (u, subst (λ x. called x call answer u) leads one, refl)
+  leads-more s t u (m ∷ made) call answer leads one = (leads.0, leads.1, leads-more leads.0 t u made call answer leads.2 one)
+
+  -- calls and then others
+  pub leads-then :
+      (s t u : S) (made more : List Made) → LeadsBy called s made t → LeadsBy called t more u → LeadsBy called s (made ++ more) u
+  leads-then s t u [] more leads rest = subst (λ x. LeadsBy called x more u) leads rest
+  leads-then s t u (m ∷ made) more leads rest = (leads.0, leads.1, leads-then leads.0 t u made more leads.2 rest)
+
+  -- one operation more
+  pub all-more :
+      (registers : List (Option Held)) (operations : List Op) (results : List Outcome) (s t u : S) (operation : Op) (result : Outcome) (rest : List Op)
+      → drop (length results) operations ≡ operation ∷ rest → AllMade called registers operations results s t
+      → OneMade called (registers_from registers operations results) operation result t u
+      → AllMade called registers operations (results ++ result ∷ []) s u
+  all-more registers [] [] s t u operation result rest next all one = absurd (cc)
+  all-more registers (o ∷ operations) [] s t u operation result rest next all one =
+      let same : o ≡ operation = cc in
+      (u, subst (λ x. OneMade called registers o result x u) all (subst (λ p. OneMade called registers p result t u) (sym same) one), refl)
+  all-more registers [] (r ∷ results) s t u operation result rest next all one = absurd all
+  all-more registers (o ∷ operations) (r ∷ results) s t u operation result rest next all one =
+      (all.0, all.1, all-more (registers_after registers o r) operations results all.0 t u operation result rest next all.2 one)
+
+-- the registers behind one operation more
+pub from-more :
+    (registers : List (Option Held)) (operations : List Op) (results : List Outcome) (operation : Op) (result : Outcome) (rest : List Op)
+    → drop (length results) operations ≡ operation ∷ rest
+    → registers_from registers operations (results ++ result ∷ []) ≡ registers_after (registers_from registers operations results) operation result
+from-more registers [] [] operation result rest next = absurd (cc)
+from-more registers (o ∷ operations) [] operation result rest next =
+    let same : o ≡ operation = cc in ap (λ p. registers_after registers p result) same
+from-more registers [] (r ∷ results) operation result rest next = absurd (cc)
+from-more registers (o ∷ operations) (r ∷ results) operation result rest next =
+    from-more (registers_after registers o r) operations results operation result rest next
+
+-- calls that give no block away which lies at this place
+abbrev pub AllLeave : ℕ → List Made → Type 0
+AllLeave place [] = Unit {0}
+AllLeave place (made ∷ rest) = Leaves made.call place × AllLeave place rest
+
+leave-writes :
+    (at place : ℕ) (need : Need) (v : ℕ) (is : List ℕ)
+    → AllLeave at (map (λ i. answered (write place need i ((v + i) % 2 ^ 64)) reply.Wrote) is)
+leave-writes at place need v [] = tt
+leave-writes at place need v (i ∷ is) = (tt, leave-writes at place need v is)
+
+pub leave-wrote : (at place : ℕ) (need : Need) (v words : ℕ) → AllLeave at (wrote place need v words)
+leave-wrote at place need v words = leave-writes at place need v (range_with_len 0 words)
+
+pub leave-found : (at place : ℕ) (need : Need) (i : ℕ) (words : List ℕ) → AllLeave at (found_from place need i words)
+leave-found at place need i [] = tt
+leave-found at place need i (word ∷ words) = (tt, leave-found at place need (suc i) words)
+
+pub leave-misses : (at shelf : ℕ) (misses : List Made) → AreMisses shelf misses → AllLeave at misses
+leave-misses at shelf [] are = tt
+leave-misses at shelf (m ∷ misses) are = (subst (λ (x : Made). Leaves x.call at) (sym are.2) tt, leave-misses at shelf misses are.3)
+
+pub leave-takes : (at shelf : ℕ) (misses : List Made) (answer : Reply) → AreMisses shelf misses → AllLeave at (misses ++ answered (take shelf) answer ∷ [])
+leave-takes at shelf [] answer are = (tt, tt)
+leave-takes at shelf (m ∷ misses) answer are =
+    (subst (λ (x : Made). Leaves x.call at) (sym are.2) tt, leave-takes at shelf misses answer are.3)
+
+module _ {S : Type 0} (called : S → Call → Reply → S → Type 0) (owns : S → ℕ → Need → Type 0) (keeps : (s t : S) (call : Call) (answer : Reply) (place : ℕ) (need : Need) → called s call answer t → Leaves call place → owns s place need → owns t place need) where
+  -- the caller keeps its block through calls
+  pub leads-keep :
+      (s t : S) (made : List Made) (place : ℕ) (need : Need) → LeadsBy called s made t → AllLeave place made → owns s place need → owns t place need
+  leads-keep s t [] place need leads leave owned = subst (λ x. owns x place need) (sym leads) owned
+  leads-keep s t (m ∷ made) place need leads leave owned =
+      leads-keep leads.0 t made place need leads.2 leave.1 (keeps s leads.0 m.call m.answer place need leads.1 leave.0 owned)
+
+module _ {B : Type 0} (place_of : B → ℕ) (need_of : B → Need) where
+  -- the registers as they were, with all blocks still the caller's
+  pub holds-still :
+      (owns after : ℕ → Need → Type 0) (blocks : List (Option B)) → HoldsBlocks place_of need_of owns blocks
+      → ((place : ℕ) (need : Need) → owns place need → after place need) → HoldsBlocks place_of need_of after blocks
+  holds-still owns after blocks holds keep = record {
+    size = holds.size;
+    owned = λ r block full. keep (place_of block) (need_of block) (holds.owned r block full);
+    once = holds.once;
+  }
+
+  -- a register within
+  full-inside : (blocks : List (Option B)) (r : ℕ) (block : B) → slice_index_or blocks r None ≡ Some block → r < length blocks
+  full-inside [] r block full = absurd (cc)
+  full-inside (b ∷ blocks) zero block full = omega arith
+  full-inside (b ∷ blocks) (suc r) block full = let rest = full-inside blocks r block full in omega (arith, rest)
+
+  set-other : (blocks : List (Option B)) (r q : ℕ) (slot : Option B) → q ≢ r → slice_index_or (slice_set blocks r slot) q None ≡ slice_index_or blocks q None
+  set-other [] r q slot differ = refl
+  set-other (b ∷ blocks) zero zero slot differ = absurd (differ refl)
+  set-other (b ∷ blocks) zero (suc q) slot differ = refl
+  set-other (b ∷ blocks) (suc r) zero slot differ = refl
+  set-other (b ∷ blocks) (suc r) (suc q) slot differ = set-other blocks r q slot (λ is. differ (ap suc is))
+
+  set-here : (blocks : List (Option B)) (r : ℕ) (slot : Option B) (block : B) → slice_index_or (slice_set blocks r slot) r None ≡ Some block → slot ≡ Some block
+  set-here [] r slot block is = absurd (cc)
+  set-here (b ∷ blocks) zero slot block is = is
+  set-here (b ∷ blocks) (suc r) slot block is = set-here blocks r slot block is
+
+  -- a block that is given away leaves its register
+  pub holds-emptied :
+      (owns after : ℕ → Need → Type 0) (blocks : List (Option B)) (r : ℕ) (block : B) → slice_index_or blocks r None ≡ Some block
+      → HoldsBlocks place_of need_of owns blocks
+      → ((place : ℕ) (need : Need) → place ≢ place_of block → owns place need → after place need)
+      → HoldsBlocks place_of need_of after (slice_set blocks r None)
+  holds-emptied owns after blocks r block full holds keep =
+      let was : (q : ℕ) (other : B) → slice_index_or (slice_set blocks r None) q None ≡ Some other
+      → (q ≢ r) × (slice_index_or blocks q None ≡ Some other) =
+      λ q other is.
+      elim (cases_eq q r) [
+        | inl same ↦ absurd (let here = set-here blocks r None other (ap (λ k. slice_index_or (slice_set blocks r None) k None) (sym same) ∙ is) in cc)
+        | inr differ ↦ (differ, sym (set-other blocks r q None differ) ∙ is)
+      ] in
+      record {
+        size = length-set blocks r None ∙ holds.size;
+        owned = λ q other is.
+            let w = was q other is in
+            keep (place_of other) (need_of other) (holds.once q r other block w.1 full w.0) (holds.owned q other w.1);
+        once = λ q k other another is are differ. holds.once q k other another (was q other is).1 (was k another are).1 differ;
+      }
+
+  -- a block that is handed out goes into a register
+  pub holds-filled :
+      (owns after : ℕ → Need → Type 0) (blocks : List (Option B)) (r : ℕ) (block : B) → HoldsBlocks place_of need_of owns blocks
+      → ((place : ℕ) (need : Need) → owns place need → after place need) → after (place_of block) (need_of block)
+      → ((q : ℕ) (other : B) → q ≢ r → slice_index_or blocks q None ≡ Some other → place_of other ≢ place_of block)
+      → HoldsBlocks place_of need_of after (slice_set blocks r (Some block))
+  holds-filled owns after blocks r block holds keep mine apart =
+      let had : (q : ℕ) (other : B) → q ≢ r → slice_index_or (slice_set blocks r (Some block)) q None ≡ Some other → slice_index_or blocks q None ≡ Some other =
+      λ q other differ is. sym (set-other blocks r q (Some block) differ) ∙ is in
+      let here : (q : ℕ) (other : B) → q ≡ r → slice_index_or (slice_set blocks r (Some block)) q None ≡ Some other → block ≡ other =
+      λ q other same is.
+      let so : Some block ≡ Some other = set-here blocks r (Some block) other (ap (λ k. slice_index_or (slice_set blocks r (Some block)) k None) (sym same) ∙ is) in cc in
+      record {
+        size = length-set blocks r (Some block) ∙ holds.size;
+        owned = λ q other is.
+            elim (cases_eq q r) [
+              | inl same ↦ subst (λ (b : B). after (place_of b) (need_of b)) (here q other same is) mine
+              | inr differ ↦ keep (place_of other) (need_of other) (holds.owned q other (had q other differ is))
+            ];
+        once = λ q k other another is are differ.
+            elim (cases_eq q r) [
+              | inl same ↦
+                  let k_other : k ≢ r = λ e. differ (same ∙ sym e) in
+                  let ne = apart k another k_other (had k another k_other are) in
+                  λ e. ne (sym e ∙ ap place_of (sym (here q other same is)))
+              | inr q_other ↦ elim (cases_eq k r) [
+                | inl same ↦
+                    let ne = apart q other q_other (had q other q_other is) in
+                    λ e. ne (e ∙ ap place_of (sym (here k another same are)))
+                | inr k_other ↦ holds.once q k other another (had q other q_other is) (had k another k_other are) differ
+              ]
+            ];
+      }
+
+  -- what the code leaves of a lane
+  pub record IsFinished (old new : LaneState B) (blocks : List (Option B)) (result : Outcome) : Type 0 where
+    pub blocks_are : new.registers.items ≡ blocks
+    pub results : new.outcomes.items ≡ old.outcomes.items ++ result ∷ []
+    pub same_caller : new.caller ≡ old.caller
+    pub at : new.stage ≡ stage.Between
+    pub room : vec_capacity new.outcomes ≡ vec_capacity old.outcomes
+
+  module _ {S : Type 0} (owns : S → ℕ → Need → Type 0) (called : S → Call → Reply → S → Type 0) (s t : S) (old new : LaneState B) where
+    pub makes-of :
+        (operation : Op) (result : Outcome) (blocks : List (Option B)) → IsFinished old new blocks result
+        → OneMade called (held_blocks place_of need_of old.registers.items) operation result s t
+        → held_blocks place_of need_of blocks ≡ registers_after (held_blocks place_of need_of old.registers.items) operation result
+        → HoldsBlocks place_of need_of (owns t) blocks
+        → Makes place_of need_of owns called operation s t old new
+    makes-of operation result blocks finished made registers holds = record {
+      result = result;
+      made = made;
+      registers = ap (held_blocks place_of need_of) finished.blocks_are ∙ registers;
+      holds = subst (HoldsBlocks place_of need_of (owns t)) (sym finished.blocks_are) holds;
+      results = finished.results;
+      same_caller = finished.same_caller;
+      between = finished.at;
+      room = finished.room;
+    }
+
+-- a skipped operation has no call, and leaves the registers
+skip-for : (held : Option Held) (operation : Op) → Skips held operation → MadeFor held operation outcome.Skipped []
+skip-for (Some held) (op.Alloc r need v) is = (tt, refl)
+skip-for (Some held) (op.Take r shelf) is = (tt, refl)
+skip-for (Some held) (op.Free r) is = absurd is
+skip-for (Some held) (op.Fill r v) is = absurd is
+skip-for (Some held) (op.Check r) is = absurd is
+skip-for (Some held) (op.Put r shelf) is = absurd is
+skip-for None (op.Free r) is = (tt, refl)
+skip-for None (op.Fill r v) is = (tt, refl)
+skip-for None (op.Check r) is = (tt, refl)
+skip-for None (op.Put r shelf) is = (tt, refl)
+skip-for None (op.Alloc r need v) is = absurd is
+skip-for None (op.Take r shelf) is = absurd is
+
+skip-leaves : (registers : List (Option Held)) (operation : Op) → registers ≡ registers_after registers operation outcome.Skipped
+skip-leaves registers (op.Alloc r need v) = refl
+skip-leaves registers (op.Free r) = refl
+skip-leaves registers (op.Fill r v) = refl
+skip-leaves registers (op.Check r) = refl
+skip-leaves registers (op.Put r shelf) = refl
+skip-leaves registers (op.Take r shelf) = refl
+
+-- an operation that was made, by what its code did
+module _ {B S : Type 0} (place_of : B → ℕ) (need_of_block : B → Need) (owns : S → ℕ → Need → Type 0) (called : S → Call → Reply → S → Type 0) (keeps : (s t : S) (call : Call) (answer : Reply) (place : ℕ) (need : Need) → called s call answer t → Leaves call place → owns s place need → owns t place need) (s t : S) (old new : LaneState B) (holds : HoldsBlocks place_of need_of_block (owns s) old.registers.items) where
+  abbrev rs : List (Option Held)
+  rs = held_blocks place_of need_of_block old.registers.items
+
+  abbrev Done : List (Option B) → Outcome → Type 0
+  Done blocks result = IsFinished place_of need_of_block old new blocks result
+
+  pub made-free :
+      (r : ℕ) (block : B) → slice_index_or old.registers.items r None ≡ Some block
+      → Done (slice_set old.registers.items r None) outcome.Freed → called s (free (place_of block) (need_of_block block)) reply.Freed t
+      → Makes place_of need_of_block owns called (op.Free r) s t old new
+  made-free r block full done one =
+      let call = free (place_of block) (need_of_block block) in
+      let made : List Made = answered call reply.Freed ∷ [] in
+      makes-of place_of need_of_block owns called s t old new (op.Free r) outcome.Freed (slice_set old.registers.items r None) done (
+        made,
+        subst (λ h. MadeFor h (op.Free r) outcome.Freed made) (sym (slot-full place_of need_of_block old.registers.items r block full))
+            (need_of_block block, refl, refl),
+        (t, one, refl),
+      )
+      (set-held place_of need_of_block old.registers.items r None)
+      (holds-emptied place_of need_of_block (owns s) (owns t) old.registers.items r block full holds
+      (λ place need differ owned. keeps s t call reply.Freed place need one differ owned))
+
+  pub made-put :
+      (r shelf : ℕ) (block : B) → slice_index_or old.registers.items r None ≡ Some block
+      → Done (slice_set old.registers.items r None) outcome.Put → called s (put (place_of block) (need_of_block block) shelf) reply.Put t
+      → Makes place_of need_of_block owns called (op.Put r shelf) s t old new
+  made-put r shelf block full done one =
+      let call = put (place_of block) (need_of_block block) shelf in
+      let made : List Made = answered call reply.Put ∷ [] in
+      makes-of place_of need_of_block owns called s t old new (op.Put r shelf) outcome.Put (slice_set old.registers.items r None) done (
+        made,
+        subst (λ h. MadeFor h (op.Put r shelf) outcome.Put made) (sym (slot-full place_of need_of_block old.registers.items r block full))
+            (need_of_block block, refl, refl),
+        (t, one, refl),
+      )
+      (set-held place_of need_of_block old.registers.items r None)
+      (holds-emptied place_of need_of_block (owns s) (owns t) old.registers.items r block full holds
+      (λ place need differ owned. keeps s t call reply.Put place need one differ owned))
+
+  -- the block that comes back is the same
+  set-twice : (blocks : List (Option B)) (r : ℕ) (a b : Option B) → slice_set (slice_set blocks r a) r b ≡ slice_set blocks r b
+  set-twice [] r a b = refl
+  set-twice (x ∷ blocks) zero a b = refl
+  set-twice (x ∷ blocks) (suc r) a b = ap (λ xs. x ∷ xs) (set-twice blocks r a b)
+
+  set-same :
+      (blocks : List (Option B)) (r : ℕ) (block back : B) → slice_index_or blocks r None ≡ Some block → held_by place_of need_of_block back ≡ held_by place_of need_of_block block
+      → held_blocks place_of need_of_block (slice_set blocks r (Some back)) ≡ held_blocks place_of need_of_block blocks
+  set-same [] r block back full same = refl
+  set-same (x ∷ blocks) zero block back full same =
+      ap (λ h. Some h ∷ held_blocks place_of need_of_block blocks) same
+      ∙ ap (λ x. option_map (held_by place_of need_of_block) x ∷ held_blocks place_of need_of_block blocks) (sym full)
+  set-same (x ∷ blocks) (suc r) block back full same =
+      ap (λ hs. option_map (held_by place_of need_of_block) x ∷ hs) (set-same blocks r block back full same)
+
+  pub made-put_full :
+      (r shelf found : ℕ) (block back : B) → slice_index_or old.registers.items r None ≡ Some block
+      → Done (slice_set (slice_set old.registers.items r None) r (Some back)) outcome.ShelfFull → place_of back ≡ place_of block
+      → need_of_block back ≡ need_of_block block → owns t (place_of block) (need_of_block block)
+      → called s (put (place_of block) (need_of_block block) shelf) (reply.Full found) t
+      → Makes place_of need_of_block owns called (op.Put r shelf) s t old new
+  made-put_full r shelf found block back full done same_place same_need owned one =
+      let call = put (place_of block) (need_of_block block) shelf in
+      let made : List Made = answered call (reply.Full found) ∷ [] in
+      let blocks = old.registers.items in
+      let emptied = holds-emptied place_of need_of_block (owns s) (owns t) blocks r block full holds
+      (λ place need differ owned. keeps s t call (reply.Full found) place need one differ owned) in
+      let mine : owns t (place_of back) (need_of_block back) =
+      subst (λ p. owns t p (need_of_block back)) (sym same_place) (subst (λ n. owns t (place_of block) n) (sym same_need) owned) in
+      let held_same : held_by place_of need_of_block back ≡ held_by place_of need_of_block block =
+      ap (λ p. record { place = p; words = usable_words (need_of_block back) }) same_place
+      ∙ ap (λ n. record { place = place_of block; words = usable_words n }) same_need in
+      makes-of place_of need_of_block owns called s t old new (op.Put r shelf) outcome.ShelfFull
+      (slice_set (slice_set blocks r None) r (Some back)) done (
+        made,
+        subst (λ h. MadeFor h (op.Put r shelf) outcome.ShelfFull made) (sym (slot-full place_of need_of_block blocks r block full))
+            (need_of_block block, refl, (found, refl)),
+        (t, one, refl),
+      )
+      (ap (held_blocks place_of need_of_block) (set-twice blocks r None (Some back)) ∙ set-same blocks r block back full held_same)
+      (holds-filled place_of need_of_block (owns t) (owns t) (slice_set blocks r None) r back emptied (λ place need owned. owned) mine
+      (λ q other differ there.
+      subst (λ p. place_of other ≢ p) (sym same_place)
+      (holds.once q r other block (sym (set-other place_of need_of_block blocks r q None differ) ∙ there) full differ)))
+
+  -- the block's words are written, or read
+  pub made-fill :
+      (r v : ℕ) (block : B) → slice_index_or old.registers.items r None ≡ Some block → Done old.registers.items outcome.Filled
+      → LeadsBy called s (wrote (place_of block) (need_of_block block) v (usable_words (need_of_block block))) t
+      → Makes place_of need_of_block owns called (op.Fill r v) s t old new
+  made-fill r v block full done leads =
+      let made = wrote (place_of block) (need_of_block block) v (usable_words (need_of_block block)) in
+      makes-of place_of need_of_block owns called s t old new (op.Fill r v) outcome.Filled old.registers.items done (
+        made,
+        subst (λ h. MadeFor h (op.Fill r v) outcome.Filled made) (sym (slot-full place_of need_of_block old.registers.items r block full))
+            (need_of_block block, refl, refl),
+        leads,
+      ) refl
+      (holds-still place_of need_of_block (owns s) (owns t) old.registers.items holds
+      (λ place need. leads-keep called owns keeps s t made place need leads
+      (leave-wrote place (place_of block) (need_of_block block) v (usable_words (need_of_block block)))))
+
+  pub made-check :
+      (r total : ℕ) (block : B) → slice_index_or old.registers.items r None ≡ Some block → Done old.registers.items (outcome.Sum total)
+      → Sums called s (place_of block) (need_of_block block) total t → Makes place_of need_of_block owns called (op.Check r) s t old new
+  made-check r total block full done (words, all, total_is, leads) =
+      let made = found_from (place_of block) (need_of_block block) 0 words in
+      makes-of place_of need_of_block owns called s t old new (op.Check r) (outcome.Sum total) old.registers.items done (
+        made,
+        subst (λ h. MadeFor h (op.Check r) (outcome.Sum total) made) (sym (slot-full place_of need_of_block old.registers.items r block full))
+            (need_of_block block, refl, (words, all, total_is, refl)),
+        leads,
+      ) refl
+      (holds-still place_of need_of_block (owns s) (owns t) old.registers.items holds
+      (λ place need. leads-keep called owns keeps s t made place need leads
+      (leave-found place (place_of block) (need_of_block block) 0 words)))
+
+  -- an allocation
+  pub made-refused :
+      (r need v : ℕ) → slice_index_or old.registers.items r None ≡ None → Done old.registers.items outcome.Refused
+      → called s (alloc need) reply.Refused t → Makes place_of need_of_block owns called (op.Alloc r need v) s t old new
+  made-refused r need v empty done one =
+      let made : List Made = answered (alloc need) reply.Refused ∷ [] in
+      makes-of place_of need_of_block owns called s t old new (op.Alloc r need v) outcome.Refused old.registers.items done (
+        made,
+        subst (λ h. MadeFor h (op.Alloc r need v) outcome.Refused made) (sym (slot-empty place_of need_of_block old.registers.items r empty))
+            refl,
+        (t, one, refl),
+      ) refl
+      (holds-still place_of need_of_block (owns s) (owns t) old.registers.items holds
+      (λ place n owned. keeps s t (alloc need) reply.Refused place n one tt owned))
+
+  pub made-spent :
+      (r need v : ℕ) → slice_index_or old.registers.items r None ≡ None → Done old.registers.items outcome.Spent
+      → called s (alloc need) reply.Spent t → Makes place_of need_of_block owns called (op.Alloc r need v) s t old new
+  made-spent r need v empty done one =
+      let made : List Made = answered (alloc need) reply.Spent ∷ [] in
+      makes-of place_of need_of_block owns called s t old new (op.Alloc r need v) outcome.Spent old.registers.items done (
+        made,
+        subst (λ h. MadeFor h (op.Alloc r need v) outcome.Spent made) (sym (slot-empty place_of need_of_block old.registers.items r empty))
+            refl,
+        (t, one, refl),
+      ) refl
+      (holds-still place_of need_of_block (owns s) (owns t) old.registers.items holds
+      (λ place n owned. keeps s t (alloc need) reply.Spent place n one tt owned))
+
+  pub made-given :
+      (r need v words place : ℕ) (block : B) (m : S) → slice_index_or old.registers.items r None ≡ None
+      → Done (slice_set old.registers.items r (Some block)) (outcome.Given words place) → words ≡ usable_words (need_of_block block) → place ≡ place_of block
+      → called s (alloc need) (reply.Given (place_of block) (need_of_block block)) m → need_of_block block ≡ need_of need
+      → owns m (place_of block) (need_of_block block)
+      → ((other : ℕ) (had : Need) → owns s other had → other ≢ place_of block)
+      → LeadsBy called m (wrote (place_of block) (need_of_block block) v (usable_words (need_of_block block))) t
+      → Makes place_of need_of_block owns called (op.Alloc r need v) s t old new
+  made-given r need v words place block m empty done words_are place_is one serves mine apart leads =
+      let held : Held = held_by place_of need_of_block block in
+      let n = need_of_block block in
+      let done_so : Done (slice_set old.registers.items r (Some block)) (outcome.Given held.words held.place) =
+      subst (λ w. Done (slice_set old.registers.items r (Some block)) (outcome.Given w held.place)) words_are
+      (subst (λ p. Done (slice_set old.registers.items r (Some block)) (outcome.Given words p)) place_is done) in
+      let made : List Made = answered (alloc need) (reply.Given (place_of block) n) ∷ wrote (place_of block) n v (usable_words n) in
+      let later : (q : ℕ) (k : Need) → owns m q k → owns t q k =
+      λ q k. leads-keep called owns keeps m t (wrote (place_of block) n v (usable_words n)) q k leads (leave-wrote q (place_of block) n v (usable_words n)) in
+      let so : MadeFor None (op.Alloc r need v) (outcome.Given held.words held.place) made =
+      subst
+      (λ (k : Need). MadeFor None (op.Alloc r need v) (outcome.Given (usable_words k) (place_of block))
+      (answered (alloc need) (reply.Given (place_of block) k) ∷ wrote (place_of block) k v (usable_words k))) (sym serves) (refl, refl) in
+      makes-of place_of need_of_block owns called s t old new (op.Alloc r need v) (outcome.Given held.words held.place)
+      (slice_set old.registers.items r (Some block)) done_so (
+        made,
+        subst (λ h. MadeFor h (op.Alloc r need v) (outcome.Given held.words held.place) made)
+            (sym (slot-empty place_of need_of_block old.registers.items r empty)) so,
+        (m, one, leads),
+      )
+      (set-held place_of need_of_block old.registers.items r (Some block))
+      (holds-filled place_of need_of_block (owns s) (owns t) old.registers.items r block holds
+      (λ q k owned. later q k (keeps s m (alloc need) (reply.Given (place_of block) n) q k one tt owned)) (later (place_of block) n mine)
+      (λ q other differ there. apart (place_of other) (need_of_block other) (holds.owned q other there)))
+
+  -- a take
+  pub made-empty :
+      (r shelf : ℕ) → slice_index_or old.registers.items r None ≡ None → Done old.registers.items outcome.ShelfEmpty
+      → Takes place_of need_of_block called s shelf None t → Makes place_of need_of_block owns called (op.Take r shelf) s t old new
+  made-empty r shelf empty done (misses, are, leads) =
+      let made : List Made = misses ++ answered (take shelf) reply.Empty ∷ [] in
+      makes-of place_of need_of_block owns called s t old new (op.Take r shelf) outcome.ShelfEmpty old.registers.items done (
+        made,
+        subst (λ h. MadeFor h (op.Take r shelf) outcome.ShelfEmpty made) (sym (slot-empty place_of need_of_block old.registers.items r empty))
+            (misses, are, refl),
+        leads,
+      ) refl
+      (holds-still place_of need_of_block (owns s) (owns t) old.registers.items holds
+      (λ place need. leads-keep called owns keeps s t made place need leads (leave-takes place shelf misses reply.Empty are)))
+
+  pub made-got :
+      (r shelf words place : ℕ) (block : B) → slice_index_or old.registers.items r None ≡ None
+      → Done (slice_set old.registers.items r (Some block)) (outcome.Took words place) → words ≡ usable_words (need_of_block block) → place ≡ place_of block
+      → Takes place_of need_of_block called s shelf (Some block) t → owns t (place_of block) (need_of_block block)
+      → ((other : ℕ) (had : Need) → owns s other had → other ≢ place_of block)
+      → Makes place_of need_of_block owns called (op.Take r shelf) s t old new
+  made-got r shelf words place block empty done words_are place_is (misses, are, leads) mine apart =
+      let held : Held = held_by place_of need_of_block block in
+      let n = need_of_block block in
+      let done_so : Done (slice_set old.registers.items r (Some block)) (outcome.Took held.words held.place) =
+      subst (λ w. Done (slice_set old.registers.items r (Some block)) (outcome.Took w held.place)) words_are
+      (subst (λ p. Done (slice_set old.registers.items r (Some block)) (outcome.Took words p)) place_is done) in
+      let answer : Reply = reply.Got (place_of block) n in
+      let made : List Made = misses ++ answered (take shelf) answer ∷ [] in
+      makes-of place_of need_of_block owns called s t old new (op.Take r shelf) (outcome.Took held.words held.place)
+      (slice_set old.registers.items r (Some block)) done_so (
+        made,
+        subst (λ h. MadeFor h (op.Take r shelf) (outcome.Took held.words held.place) made)
+            (sym (slot-empty place_of need_of_block old.registers.items r empty)) (misses, are, n, refl, refl),
+        leads,
+      )
+      (set-held place_of need_of_block old.registers.items r (Some block))
+      (holds-filled place_of need_of_block (owns s) (owns t) old.registers.items r block holds
+      (λ q k owned. leads-keep called owns keeps s t made q k leads (leave-takes q shelf misses answer are) owned) mine
+      (λ q other differ there. apart (place_of other) (need_of_block other) (holds.owned q other there)))
+
+-- an operation that is skipped
+pub made-skip :
+    {B S : Type 0} (place_of : B → ℕ) (need_of_block : B → Need) (owns : S → ℕ → Need → Type 0) (called : S → Call → Reply → S → Type 0)
+    (s : S) (old new : LaneState B) (operation : Op) → HoldsBlocks place_of need_of_block (owns s) old.registers.items
+    → Skips (held_in (held_blocks place_of need_of_block old.registers.items) (register_of operation)) operation
+    → IsFinished place_of need_of_block old new old.registers.items outcome.Skipped
+    → Makes place_of need_of_block owns called operation s s old new
+made-skip place_of need_of_block owns called s old new operation holds skips done =
+    makes-of place_of need_of_block owns called s s old new operation outcome.Skipped old.registers.items done
+    ([], skip-for _ operation skips, refl) (skip-leaves _ operation) holds
+
+-- what the code reads in a register
+pub slot-read :
+    {B : Type 0} (blocks : List (Option B)) (r from : ℕ) (found slot : Option B) → from ≡ r → found ≡ slice_index_or blocks from found → found ≡ slot
+    → r < length blocks → slice_index_or blocks r None ≡ slot
+slot-read blocks r from found slot at found_is is within =
+    get_or_default blocks r None found within ∙ ap (λ k. slice_index_or blocks k found) (sym at) ∙ sym found_is ∙ is
+
+-- one operation more of a run
+drop-drop : {X : Type 0} (a b : ℕ) (xs : List X) → drop b (drop a xs) ≡ drop (a + b) xs
+drop-drop zero b xs = let none : 0 + b ≡ b = omega arith in ap (λ n. drop n xs) (sym none)
+drop-drop (suc a) b [] = drop-nil b ∙ sym (drop-nil (suc a + b))
+drop-drop (suc a) b (x ∷ xs) =
+    let more : suc a + b ≡ suc (a + b) = omega arith in drop-drop a b xs ∙ ap (λ n. drop n (x ∷ xs)) (sym more)
+
+pub run-none :
+    {B S : Type 0} (place_of : B → ℕ) (need_of_block : B → Need) (called : S → Call → Reply → S → Type 0) (operations : List Op) (s : S)
+    (lane : LaneState B) → HasRun place_of need_of_block called operations s s lane lane
+run-none place_of need_of_block called operations s lane = record {
+  results = [];
+  made = refl;
+  registers = refl;
+  outcomes = sym (append-nil lane.outcomes.items);
+  same_caller = refl;
+  between = λ is. is;
+  room = refl;
+}
+
+pub run-more :
+    {B S : Type 0} (place_of : B → ℕ) (need_of_block : B → Need) (owns : S → ℕ → Need → Type 0) (called : S → Call → Reply → S → Type 0)
+    (operations : List Op) (s t u : S) (old mid new : LaneState B) (operation : Op) → HasRun place_of need_of_block called operations s t old mid
+    → IsNext operations mid.outcomes.items operation → Makes place_of need_of_block owns called operation t u mid new
+    → HasRun place_of need_of_block called operations s u old new
+run-more place_of need_of_block owns called operations s t u old mid new operation ran (rest, next) makes =
+    let rs = held_blocks place_of need_of_block old.registers.items in
+    let begun = length old.outcomes.items in
+    let left = drop begun operations in
+    let count : begun + length ran.results ≡ length mid.outcomes.items =
+    sym (length-append old.outcomes.items ran.results) ∙ ap length (sym ran.outcomes) in
+    let here : drop (length ran.results) left ≡ operation ∷ rest =
+    drop-drop begun (length ran.results) operations ∙ ap (λ n. drop n operations) count ∙ next in
+    let one : OneMade called (registers_from rs left ran.results) operation makes.result t u =
+    subst (λ hs. OneMade called hs operation makes.result t u) ran.registers makes.made in
+    record {
+      results = ran.results ++ makes.result ∷ [];
+      made = all-more called rs left ran.results s t u operation makes.result rest here ran.made one;
+      registers =
+          makes.registers ∙ ap (λ hs. registers_after hs operation makes.result) ran.registers
+          ∙ sym (from-more rs left ran.results operation makes.result rest here);
+      outcomes =
+          makes.results ∙ ap (λ xs. xs ++ makes.result ∷ []) ran.outcomes ∙ append_assoc old.outcomes.items ran.results (makes.result ∷ []);
+      same_caller = makes.same_caller ∙ ran.same_caller;
+      between = λ is. makes.between;
+      room = makes.room ∙ ran.room;
+    }

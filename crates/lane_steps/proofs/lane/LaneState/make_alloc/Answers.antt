@@ -1,0 +1,58 @@
+use Rattle.std.proofs.Common.{◌≡◌, ◌≢◌, ℕ, Some, None, refl, sym, ap, ◌∙◌, subst}
+use Rattle.std.specs.Prelude.{slice_set}
+use Rattle.std.specs.List.{slice_index_or}
+use Rattle.heap_geometry.specs.declared.need.Need.{Need}
+use Rattle.heap_geometry.specs.Need.{usable_words}
+use Rattle.errand_steps.specs.Calls.{alloc, free, put, take}
+use Rattle.errand_steps.specs.declared.reply.Reply.TheVariants as reply
+use Rattle.trace_text.specs.declared.trace.Op.{Op}
+use Rattle.trace_text.specs.declared.trace.Op.TheVariants as op
+use Rattle.lane_outcomes.specs.declared.outcome.Outcome.TheVariants as outcome
+use Rattle.lane_steps.specs.Made.{Skips}
+use Rattle.lane_steps.proofs.LaneBegun.{emptied-empty, slot-none, slot-some}
+use Rattle.lane_steps.proofs.LaneParts.{slot-empty, slot-full}
+use Rattle.lane_steps.proofs.MadeLemmas.{made-given, made-refused, made-skip, made-spent}
+use Rattle.lane_steps.proofs.lane.LaneState.make_alloc.Goals as goal
+
+pub returns-in-Given-clause-made : goal.returns-in-Given-clause-made
+returns-in-Given-clause-made g c =
+    let f = c.finish-in-Given.ensures in
+    let block = c.in-Given.block in
+    let place = g.B.Token.place_of block in
+    let need = g.B.Token.need_of block in
+    let one = c.in-Given.ensures.called in
+    let empty = slot-none c.is_full.result (slice_index_or c.args.self.now.registers.items c.args.r None) c.is_full.ensures c.if-is_full.false in
+    made-given g.B.Token.place_of g.B.Token.need_of g.C.Calls.owns g.C.Calls.called g.met.C.Calls.keeps c.args.calls.now c.fill_words.new.calls c.args.self.now
+    c.finish-in-Given.new.self c.requires.holds c.args.r c.args.need c.args.v c.words-words.result c.place-place.result block c.allocate.new.self empty
+    (record { blocks_are = ap (λ v. v.items) f.registers ∙ c.put_in.ensures; results = f.outcomes; same_caller = f.caller; at = f.stage; room = f.room })
+    c.words-words.ensures c.place-place.ensures one
+    (g.met.C.Calls.serves c.args.calls.now c.allocate.new.self c.args.need place need one)
+    (g.met.C.Calls.hands c.args.calls.now c.allocate.new.self (alloc c.args.need) (reply.Given place need) place need one (refl, refl))
+    (λ other had. g.met.C.Calls.apart c.args.calls.now c.allocate.new.self (alloc c.args.need) (reply.Given place need) place other need had one (refl, refl))
+    c.fill_words.ensures.made
+
+pub returns-in-Refused-clause-made : goal.returns-in-Refused-clause-made
+returns-in-Refused-clause-made g c =
+    let f = c.finish-in-Refused.ensures in
+    let empty = slot-none c.is_full.result (slice_index_or c.args.self.now.registers.items c.args.r None) c.is_full.ensures c.if-is_full.false in
+    made-refused g.B.Token.place_of g.B.Token.need_of g.C.Calls.owns g.C.Calls.called g.met.C.Calls.keeps c.args.calls.now c.allocate.new.self c.args.self.now c.finish-in-Refused.new.self c.requires.holds c.args.r c.args.need c.args.v empty
+    (record { blocks_are = ap (λ v. v.items) f.registers; results = f.outcomes; same_caller = f.caller; at = f.stage; room = f.room })
+    c.in-Refused.ensures.called
+
+pub returns-in-Spent-clause-made : goal.returns-in-Spent-clause-made
+returns-in-Spent-clause-made g c =
+    let f = c.finish-in-Spent.ensures in
+    let empty = slot-none c.is_full.result (slice_index_or c.args.self.now.registers.items c.args.r None) c.is_full.ensures c.if-is_full.false in
+    made-spent g.B.Token.place_of g.B.Token.need_of g.C.Calls.owns g.C.Calls.called g.met.C.Calls.keeps c.args.calls.now c.allocate.new.self c.args.self.now c.finish-in-Spent.new.self c.requires.holds c.args.r c.args.need c.args.v empty
+    (record { blocks_are = ap (λ v. v.items) f.registers; results = f.outcomes; same_caller = f.caller; at = f.stage; room = f.room })
+    c.in-Spent.ensures.called
+
+pub returns-then-is_full-clause-made : goal.returns-then-is_full-clause-made
+returns-then-is_full-clause-made g c =
+    let f = c.finish.ensures in
+    let blocks = c.args.self.now.registers.items in
+    let full = slot-some c.is_full.result (slice_index_or blocks c.args.r None) c.is_full.ensures c.if-is_full.true in
+    made-skip g.B.Token.place_of g.B.Token.need_of g.C.Calls.owns g.C.Calls.called c.args.calls.now c.args.self.now c.finish.new.self
+    (op.Alloc c.args.r c.args.need c.args.v) c.requires.holds
+    (subst (λ h. Skips h (op.Alloc c.args.r c.args.need c.args.v)) (sym (slot-full g.B.Token.place_of g.B.Token.need_of blocks c.args.r full.0 full.1)) tt)
+    (record { blocks_are = ap (λ v. v.items) f.registers; results = f.outcomes; same_caller = f.caller; at = f.stage; room = f.room })

@@ -1,0 +1,37 @@
+use Rattle.std.proofs.Common.{◌<◌, ◌≡◌, ◌≢◌, ℕ, Some, None, refl, sym, ap, ◌∙◌, subst}
+use Rattle.std.specs.Prelude.{slice_set}
+use Rattle.std.specs.List.{slice_index_or}
+use Rattle.heap_geometry.specs.declared.need.Need.{Need}
+use Rattle.heap_geometry.specs.Need.{usable_words}
+use Rattle.errand_steps.specs.Calls.{alloc, free, put, take}
+use Rattle.errand_steps.specs.declared.reply.Reply.TheVariants as reply
+use Rattle.trace_text.specs.declared.trace.Op.{Op}
+use Rattle.trace_text.specs.declared.trace.Op.TheVariants as op
+use Rattle.lane_outcomes.specs.declared.outcome.Outcome.TheVariants as outcome
+use Rattle.lane_steps.specs.Made.{Skips}
+use Rattle.lane_steps.proofs.LaneBegun.{emptied-empty, slot-none, slot-some}
+use Rattle.lane_steps.proofs.LaneParts.{slot-empty, slot-full}
+use Rattle.lane_steps.proofs.MadeLemmas.{made-fill, made-skip, slot-read}
+use Rattle.lane_steps.proofs.lane.LaneState.make_fill.Goals as goal
+
+pub returns-in-Some-clause-made : goal.returns-in-Some-clause-made
+returns-in-Some-clause-made g c =
+    let f = c.finish.ensures in
+    made-fill g.B.Token.place_of g.B.Token.need_of g.C.Calls.owns g.C.Calls.called g.met.C.Calls.keeps c.args.calls.now c.fill_words.new.calls c.args.self.now
+    c.finish.new.self c.requires.holds c.args.r c.args.v c.in-Some.block
+    (slot-read c.args.self.now.registers.items c.args.r c.from.result c.index.result.now (Some c.in-Some.block) c.from.ensures c.index.ensures c.in-Some.is
+    (subst (λ n. c.args.r < n) (sym c.requires.holds.size) c.requires.register))
+    (record { blocks_are = ap (λ v. v.items) f.registers; results = f.outcomes; same_caller = f.caller; at = f.stage; room = f.room })
+    c.fill_words.ensures.made
+
+pub returns-in-None-clause-made : goal.returns-in-None-clause-made
+returns-in-None-clause-made g c =
+    let f = c.finish-in-None.ensures in
+    let blocks = c.args.self.now.registers.items in
+    let empty : slice_index_or blocks c.args.r None ≡ None =
+    slot-read blocks c.args.r c.from.result c.index.result.now None c.from.ensures c.index.ensures c.in-None.is
+    (subst (λ n. c.args.r < n) (sym c.requires.holds.size) c.requires.register) in
+    made-skip g.B.Token.place_of g.B.Token.need_of g.C.Calls.owns g.C.Calls.called c.args.calls.now c.args.self.now c.finish-in-None.new.self
+    (op.Fill c.args.r c.args.v) c.requires.holds
+    (subst (λ h. Skips h (op.Fill c.args.r c.args.v)) (sym (slot-empty g.B.Token.place_of g.B.Token.need_of blocks c.args.r empty)) tt)
+    (record { blocks_are = ap (λ v. v.items) f.registers; results = f.outcomes; same_caller = f.caller; at = f.stage; room = f.room })

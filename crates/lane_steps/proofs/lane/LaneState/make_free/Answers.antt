@@ -1,0 +1,39 @@
+use Rattle.std.proofs.Common.{◌≡◌, ◌≢◌, ℕ, Some, None, refl, sym, ap, ◌∙◌, subst}
+use Rattle.std.specs.Prelude.{slice_set}
+use Rattle.std.specs.List.{slice_index_or}
+use Rattle.heap_geometry.specs.declared.need.Need.{Need}
+use Rattle.heap_geometry.specs.Need.{usable_words}
+use Rattle.errand_steps.specs.Calls.{alloc, free, put, take}
+use Rattle.errand_steps.specs.declared.reply.Reply.TheVariants as reply
+use Rattle.trace_text.specs.declared.trace.Op.{Op}
+use Rattle.trace_text.specs.declared.trace.Op.TheVariants as op
+use Rattle.lane_outcomes.specs.declared.outcome.Outcome.TheVariants as outcome
+use Rattle.lane_steps.specs.Made.{Skips}
+use Rattle.lane_steps.proofs.LaneBegun.{emptied-empty, slot-none, slot-some}
+use Rattle.lane_steps.proofs.LaneParts.{slot-empty, slot-full}
+use Rattle.lane_steps.proofs.MadeLemmas.{made-free, made-skip}
+use Rattle.lane_steps.proofs.lane.LaneState.make_free.Goals as goal
+
+pub returns-in-Some-clause-made : goal.returns-in-Some-clause-made
+returns-in-Some-clause-made g c =
+    let f = c.finish.ensures in
+    made-free g.B.Token.place_of g.B.Token.need_of g.C.Calls.owns g.C.Calls.called g.met.C.Calls.keeps c.args.calls.now c.free.new.self c.args.self.now
+    c.finish.new.self c.requires.holds c.args.r c.in-Some.block (sym c.take_out.ensures.found ∙ c.in-Some.is)
+    (record { blocks_are = ap (λ v. v.items) f.registers ∙ c.take_out.ensures.emptied; results = f.outcomes; same_caller = f.caller; at = f.stage; room = f.room })
+    c.free.ensures.called
+
+pub returns-in-None-clause-made : goal.returns-in-None-clause-made
+returns-in-None-clause-made g c =
+    let f = c.finish-in-None.ensures in
+    let blocks = c.args.self.now.registers.items in
+    let empty : slice_index_or blocks c.args.r None ≡ None = sym c.take_out.ensures.found ∙ c.in-None.is in
+    made-skip g.B.Token.place_of g.B.Token.need_of g.C.Calls.owns g.C.Calls.called c.args.calls.now c.args.self.now c.finish-in-None.new.self
+    (op.Free c.args.r) c.requires.holds
+    (subst (λ h. Skips h (op.Free c.args.r)) (sym (slot-empty g.B.Token.place_of g.B.Token.need_of blocks c.args.r empty)) tt)
+    (record {
+      blocks_are = ap (λ v. v.items) f.registers ∙ c.take_out.ensures.emptied ∙ emptied-empty blocks c.args.r empty;
+      results = f.outcomes;
+      same_caller = f.caller;
+      at = f.stage;
+      room = f.room;
+    })

@@ -1,0 +1,265 @@
+//! A lane that makes whole calls.
+
+ghost use Rattle.std.specs.Prelude.{ℕ, ◌≡◌, ◌≢◌, ◌<◌, ◌≤◌, All, IfSome, length, vec_capacity};
+ghost use Rattle.heap_geometry.specs.declared.need.Need.{Need};
+ghost use Rattle.heap_geometry.specs.Need.{usable_words};
+ghost use Rattle.heap_geometry.specs.declared.limits.TheConstants.{LARGE_MOST, SHELVES};
+ghost use Rattle.trace_text.specs.declared.limits.TheConstants.{REGISTERS};
+ghost use Rattle.trace_text.specs.declared.trace.Op.TheVariants as op;
+ghost use Rattle.trace_text.specs.Traces.{IsOp};
+ghost use Rattle.lane_engine.specs.Whole.{LeadsBy};
+ghost use Rattle.lane_steps.specs.Made.{HasRun, HoldsBlocks, Makes, Sums, Takes, wrote};
+ghost use Rattle.lane_steps.specs.Paths.{FirstPassed};
+ghost use Rattle.lane_steps.specs.declared.stage.Stage.TheVariants as stage;
+
+use super::registers::{is_full, put_in, take_out};
+use super::{LaneState, number_of};
+use edge_io::gate::Gate;
+use lane_engine::calls::{Allocated, Calls, Taken};
+use lane_engine::engine::Token;
+use lane_outcomes::outcome::Outcome;
+use std::sync::Wait;
+use trace_text::trace::Op;
+
+/// Fills a block: word i with v + i, modulo 2^64.
+fn fill_words<B: Token, C: Calls<Held = B>>(calls: &mut C, block: &B, v: u64)
+    requires stands { C.stands calls.old }
+    requires owned { C.owns calls.old (B.place_of block.now) (B.need_of block.now) }
+    ensures stands { C.stands calls.new }
+    ensures base { C.runs_on calls.new ≡ C.runs_on calls.old }
+    ensures made { LeadsBy C.called calls.old
+        (wrote (B.place_of block.now) (B.need_of block.now) v (usable_words (B.need_of block.now))) calls.new }
+{
+    for i in 0..C::words(block) {
+        calls.write(block, i, v.wrapping_add(u64::from(i)));
+    }
+}
+
+/// The sum of a block's words, modulo 2^64.
+fn sum_words<B: Token, C: Calls<Held = B>>(calls: &mut C, block: &B) -> u64
+    requires stands { C.stands calls.old }
+    requires owned { C.owns calls.old (B.place_of block.now) (B.need_of block.now) }
+    ensures stands { C.stands calls.new }
+    ensures base { C.runs_on calls.new ≡ C.runs_on calls.old }
+    ensures made { Sums C.called calls.old (B.place_of block.now) (B.need_of block.now) result calls.new }
+{
+    let mut total = 0u64;
+    for i in 0..C::words(block) {
+        total = total.wrapping_add(calls.read(block, i));
+    }
+    total
+}
+
+/// Takes the block that lies on a shelf; where another caller changed the shelf in between it tries again.
+fn take_block<B: Token + Drop, R: Wait, C: Calls<Held = B>>(
+    rt: &R,
+    calls: &mut C,
+    shelf: u8,
+) -> Option<B>
+    requires stands { C.stands calls.old }
+    requires shelf { shelf < SHELVES }
+    ensures stands { C.stands calls.new }
+    ensures base { C.runs_on calls.new ≡ C.runs_on calls.old }
+    ensures made { Takes B.place_of B.need_of C.called calls.old shelf result calls.new }
+    ensures got { IfSome result (λ block. C.owns calls.new (B.place_of block) (B.need_of block)
+        × ((other : ℕ) (had : Need) → C.owns calls.old other had → other ≢ B.place_of block)) }
+{
+    for _ in rt.forever() {
+        match calls.take(shelf) {
+            Taken::Got(block) => return Some(block),
+            Taken::Empty => return None,
+            Taken::Missed => {}
+        }
+    }
+    unreachable!()
+}
+
+impl<B: Token + Drop> LaneState<B> {
+    /// Makes an operation: its whole calls, and its outcome.
+    fn make<R: Wait, C: Calls<Held = B>>(&mut self, rt: &R, calls: &mut C, operation: Op)
+        requires stands { C.stands calls.old }
+        requires operation { IsOp operation }
+        requires holds { HoldsBlocks B.place_of B.need_of (C.owns calls.old) self.old.registers.items }
+        requires room { length self.old.outcomes.items < vec_capacity self.old.outcomes }
+        ensures stands { C.stands calls.new }
+        ensures base { C.runs_on calls.new ≡ C.runs_on calls.old }
+        ensures made { Makes B.place_of B.need_of C.owns C.called operation calls.old calls.new self.old self.new }
+    {
+        match operation {
+            Op::Alloc { r, need, v } => self.make_alloc(rt, calls, r, need, v),
+            Op::Free { r } => self.make_free(rt, calls, r),
+            Op::Fill { r, v } => self.make_fill(calls, r, v),
+            Op::Check { r } => self.make_check(calls, r),
+            Op::Put { r, shelf } => self.make_put(calls, r, shelf),
+            Op::Take { r, shelf } => self.make_take(rt, calls, r, shelf),
+        }
+    }
+
+    /// An allocation into an empty register: the block that is given is filled.
+    fn make_alloc<R: Wait, C: Calls<Held = B>>(
+        &mut self,
+        rt: &R,
+        calls: &mut C,
+        r: u16,
+        need: u32,
+        v: u64,
+    )
+        requires stands { C.stands calls.old }
+        requires register { r < REGISTERS }
+        requires need { need ≤ LARGE_MOST }
+        requires holds { HoldsBlocks B.place_of B.need_of (C.owns calls.old) self.old.registers.items }
+        requires room { length self.old.outcomes.items < vec_capacity self.old.outcomes }
+        ensures stands { C.stands calls.new }
+        ensures base { C.runs_on calls.new ≡ C.runs_on calls.old }
+        ensures made { Makes B.place_of B.need_of C.owns C.called (op.Alloc r need v) calls.old calls.new self.old self.new }
+    {
+        if is_full(&self.registers, r) {
+            return self.finish(Outcome::Skipped);
+        }
+        match calls.allocate(rt, need) {
+            Allocated::Given(block) => {
+                fill_words(calls, &block, v);
+                let words = C::words(&block);
+                let place = C::place(&block);
+                put_in(&mut self.registers, r, block);
+                self.finish(Outcome::Given { words, place });
+            }
+            Allocated::Refused => self.finish(Outcome::Refused),
+            Allocated::Spent => self.finish(Outcome::Spent),
+        }
+    }
+
+    /// The free of a full register's block.
+    fn make_free<R: Wait, C: Calls<Held = B>>(&mut self, rt: &R, calls: &mut C, r: u16)
+        requires stands { C.stands calls.old }
+        requires register { r < REGISTERS }
+        requires holds { HoldsBlocks B.place_of B.need_of (C.owns calls.old) self.old.registers.items }
+        requires room { length self.old.outcomes.items < vec_capacity self.old.outcomes }
+        ensures stands { C.stands calls.new }
+        ensures base { C.runs_on calls.new ≡ C.runs_on calls.old }
+        ensures made { Makes B.place_of B.need_of C.owns C.called (op.Free r) calls.old calls.new self.old self.new }
+    {
+        match take_out(&mut self.registers, r) {
+            Some(block) => {
+                calls.free(rt, block);
+                self.finish(Outcome::Freed);
+            }
+            None => self.finish(Outcome::Skipped),
+        }
+    }
+
+    /// The fill of a full register's block.
+    fn make_fill<C: Calls<Held = B>>(&mut self, calls: &mut C, r: u16, v: u64)
+        requires stands { C.stands calls.old }
+        requires register { r < REGISTERS }
+        requires holds { HoldsBlocks B.place_of B.need_of (C.owns calls.old) self.old.registers.items }
+        requires room { length self.old.outcomes.items < vec_capacity self.old.outcomes }
+        ensures stands { C.stands calls.new }
+        ensures base { C.runs_on calls.new ≡ C.runs_on calls.old }
+        ensures made { Makes B.place_of B.need_of C.owns C.called (op.Fill r v) calls.old calls.new self.old self.new }
+    {
+        match &self.registers[usize::from(r)] {
+            Some(block) => {
+                fill_words(calls, block, v);
+                self.finish(Outcome::Filled);
+            }
+            None => self.finish(Outcome::Skipped),
+        }
+    }
+
+    /// The sum of a full register's block.
+    fn make_check<C: Calls<Held = B>>(&mut self, calls: &mut C, r: u16)
+        requires stands { C.stands calls.old }
+        requires register { r < REGISTERS }
+        requires holds { HoldsBlocks B.place_of B.need_of (C.owns calls.old) self.old.registers.items }
+        requires room { length self.old.outcomes.items < vec_capacity self.old.outcomes }
+        ensures stands { C.stands calls.new }
+        ensures base { C.runs_on calls.new ≡ C.runs_on calls.old }
+        ensures made { Makes B.place_of B.need_of C.owns C.called (op.Check r) calls.old calls.new self.old self.new }
+    {
+        match &self.registers[usize::from(r)] {
+            Some(block) => {
+                let total = sum_words(calls, block);
+                self.finish(Outcome::Sum(total));
+            }
+            None => self.finish(Outcome::Skipped),
+        }
+    }
+
+    /// Puts a full register's block on a shelf; where a block lies there it goes back into the register.
+    fn make_put<C: Calls<Held = B>>(&mut self, calls: &mut C, r: u16, shelf: u8)
+        requires stands { C.stands calls.old }
+        requires register { r < REGISTERS }
+        requires shelf { shelf < SHELVES }
+        requires holds { HoldsBlocks B.place_of B.need_of (C.owns calls.old) self.old.registers.items }
+        requires room { length self.old.outcomes.items < vec_capacity self.old.outcomes }
+        ensures stands { C.stands calls.new }
+        ensures base { C.runs_on calls.new ≡ C.runs_on calls.old }
+        ensures made { Makes B.place_of B.need_of C.owns C.called (op.Put r shelf) calls.old calls.new self.old self.new }
+    {
+        match take_out(&mut self.registers, r) {
+            Some(block) => match calls.put(block, shelf) {
+                None => self.finish(Outcome::Put),
+                Some(back) => {
+                    put_in(&mut self.registers, r, back);
+                    self.finish(Outcome::ShelfFull);
+                }
+            },
+            None => self.finish(Outcome::Skipped),
+        }
+    }
+
+    /// Takes a shelf's block into an empty register.
+    fn make_take<R: Wait, C: Calls<Held = B>>(&mut self, rt: &R, calls: &mut C, r: u16, shelf: u8)
+        requires stands { C.stands calls.old }
+        requires register { r < REGISTERS }
+        requires shelf { shelf < SHELVES }
+        requires holds { HoldsBlocks B.place_of B.need_of (C.owns calls.old) self.old.registers.items }
+        requires room { length self.old.outcomes.items < vec_capacity self.old.outcomes }
+        ensures stands { C.stands calls.new }
+        ensures base { C.runs_on calls.new ≡ C.runs_on calls.old }
+        ensures made { Makes B.place_of B.need_of C.owns C.called (op.Take r shelf) calls.old calls.new self.old self.new }
+    {
+        if is_full(&self.registers, r) {
+            return self.finish(Outcome::Skipped);
+        }
+        match take_block(rt, calls, shelf) {
+            Some(block) => {
+                let words = C::words(&block);
+                let place = C::place(&block);
+                put_in(&mut self.registers, r, block);
+                self.finish(Outcome::Took { words, place });
+            }
+            None => self.finish(Outcome::ShelfEmpty),
+        }
+    }
+
+    /// Runs a lane of which no operation is under way to its end. Each operation passes the gate before it
+    /// begins. A take that missed the shelf's block is tried again.
+    pub fn run<R: Wait, C: Calls<Held = B>, G: Gate>(
+        &mut self,
+        rt: &R,
+        calls: &mut C,
+        operations: &[Op],
+        gate: &G,
+    )
+        requires stands { C.stands calls.old }
+        requires operations { All IsOp operations.now }
+        requires between { self.old.stage ≡ stage.Between }
+        requires holds { HoldsBlocks B.place_of B.need_of (C.owns calls.old) self.old.registers.items }
+        requires room { length operations.now ≤ vec_capacity self.old.outcomes }
+        requires within { length self.old.outcomes.items ≤ length operations.now }
+        ensures stands { C.stands calls.new }
+        ensures base { C.runs_on calls.new ≡ C.runs_on calls.old }
+        ensures holds { HoldsBlocks B.place_of B.need_of (C.owns calls.new) self.new.registers.items }
+        ensures ran { HasRun B.place_of B.need_of C.called operations.now calls.old calls.new self.old self.new }
+        ensures ended { length self.new.outcomes.items ≡ length operations.now }
+        ensures passed { FirstPassed (G.passed gate.now) self.old.caller (length self.old.outcomes.items)
+            → FirstPassed (G.passed gate.now) self.old.caller (length operations.now) }
+    {
+        for op in self.outcomes.len()..operations.len() {
+            gate.pass(self.caller, number_of(op));
+            self.make(rt, calls, operations[op]);
+        }
+    }
+}
