@@ -14,7 +14,7 @@ use Rattle.word_plan.specs.Table.{Exists}
 use Rattle.hazard_parts.specs.declared.point.DescPoint.{DescPoint}
 use Rattle.hazard_parts.specs.declared.point.DescPoint.TheVariants.{LoadDescHead, StoreHazard, ReloadDescHead, LoadNextDesc, PopDesc, ClearAfterPop, ClearHazard, ReadHazard, LoadHeadToPush, StoreNextDesc, PushDesc, Got, Cleared, Scanned, Pushed}
 use Rattle.hazard_parts.specs.Fits.{IsScanOf, FitsDesc}
-use Rattle.hazard_parts.specs.Points.{plan_desc_of, settle_desc_of, link_in, after_head, after_next, after_hazard, after_top}
+use Rattle.hazard_parts.specs.Points.{plan_desc_of, settle_desc_of, link_in, named_in, after_head, after_next, after_hazard, after_top}
 
 -- the word that a point's action is on exists
 pub plan-exists :
@@ -70,8 +70,9 @@ fits-hazard :
     (g : Geometry) (caller : ℕ) (s : SeatFields) (held : List ℕ) (at word : ℕ) → IsScanOf g caller s held
     → FitsDesc g caller (after_hazard s held at word)
 fits-hazard g caller s held at word h =
-    let noted = slice_set held at word in
-    let scan : IsScanOf g caller s noted = record { seat = h.seat; words = length-set held at word ∙ h.words } in
+    let name = named_in s.geometry word in
+    let noted = slice_set held at name in
+    let scan : IsScanOf g caller s noted = record { seat = h.seat; words = length-set held at name ∙ h.words } in
     either g caller (nat_lt (at + 1) s.geometry.callers) (ReadHazard s noted (at + 1)) (Scanned s noted)
     (λ e. (scan, omega (arith, ltb-true (at + 1) s.geometry.callers e, ap (λ x. x.callers) h.seat.geometry)))
     (λ e. scan)

@@ -1,13 +1,16 @@
 -- What no hazard word names, and why there is one in a long list.
 use Rattle.std.proofs.Common.{ℕ, suc, true, false, Option, Some, None, ◌≡◌, ◌≢◌, ◌+◌, ◌<◌, ◌≤◌, ◌∙◌, List, [], ◌∷◌, length, get_or, set, arith, ap, sym, refl, length-set, get_or-set_other}
-use Rattle.std.specs.Prelude.{All, AllPairs, Contains, ◌==◌, not, count_by, nat_lt, is_some, IsSome, if◌then◌else◌}
-use Rattle.std.proofs.lemmas.Bool.{cond-true, cond-false, lt-ltb, true_from_ne_false, true≢false, cond_both, not-false, not-true, not_from_true, eqb-true, eq-eqb, both_ways}
+use Rattle.std.specs.Prelude.{All, AllPairs, Contains, ◌==◌, not, count_by, map, nat_le, nat_lt, is_some, IsSome, if◌then◌else◌}
+use Rattle.std.proofs.lemmas.Bool.{cond-true, cond-false, lt-ltb, true_from_ne_false, true≢false, cond_both, not-false, not-true, not_from_true, eqb-true, eq-eqb, leb-false, ne_eqb, both_ways}
 use Rattle.std.proofs.lemmas.Option.{none-some, same_Some}
 use Rattle.std.proofs.lemmas.List.{get_or_default}
 use Rattle.std.proofs.lemmas.List.Elements.{All-nil, All-cons, All-head, All-tail}
 use Rattle.std.proofs.lemmas.List.Folds.{Any-from_list_any, list_any_at}
 use Rattle.std.proofs.lemmas.List.Sums.{sum_by-set}
+use Rattle.heap_geometry.specs.declared.geometry.Geometry.{Geometry}
+use Rattle.word_plan.specs.Counts.{descriptor_count}
 use Rattle.hazard_parts.proofs.RemoveLemmas.{later}
+use Rattle.hazard_parts.specs.Points.{named_in}
 use Rattle.hazard_parts.specs.Retired.{is_held, first_unheld}
 
 -- a hazard word names the descriptor
@@ -105,3 +108,28 @@ pub some-picked :
 some-picked held ds apart more =
     true_from_ne_false (is_some (first_unheld held ds))
     (λ no. let few = named-few ds held apart (none-all held ds (none-from (first_unheld held ds) no)) in omega (arith, few, more))
+
+-- what a word names in the heap names one of the heap's descriptors where the word does
+named-same : (g : Geometry) (word d : ℕ) → d < descriptor_count g → (named_in g word == d + 1) ≡ (word == d + 1)
+named-same g word d has =
+    cond_both (nat_le word (descriptor_count g)) word 0 (λ n. (n == d + 1) ≡ (word == d + 1)) (λ within. refl)
+    (λ beyond.
+    let other : (word == d + 1) ≡ false = ne_eqb word (d + 1) (λ is. let bad : ⊥ = omega (arith, is, has, leb-false word (descriptor_count g) beyond) in bad) in
+    ne_eqb 0 (d + 1) (λ is. let bad : ⊥ = omega (arith, is) in bad) ∙ sym other)
+
+pub named-here : (g : Geometry) (word d : ℕ) → d < descriptor_count g → word ≡ d + 1 → named_in g word ≡ d + 1
+named-here g word d has is = eqb-true (named_in g word) (d + 1) (named-same g word d has ∙ eq-eqb word (d + 1) is)
+
+named-held : (g : Geometry) (words : List ℕ) (d : ℕ) → d < descriptor_count g → is_held (map (named_in g) words) d ≡ is_held words d
+named-held g [] d has = refl
+named-held g (word ∷ words) d has = rw (named-same g word d has, named-held g words d has) refl
+
+-- so what is picked of the heap's descriptors is the same
+pub named-picked :
+    (g : Geometry) (words ds : List ℕ) → All (λ d. d < descriptor_count g) ds
+    → first_unheld (map (named_in g) words) ds ≡ first_unheld words ds
+named-picked g words [] all = refl
+named-picked g words (d ∷ ds) all =
+    let here = named-held g words d (All-head (λ x. x < descriptor_count g) d ds all) in
+    let rest = named-picked g words ds (All-tail (λ x. x < descriptor_count g) d ds all) in
+    rw (here, rest) refl

@@ -6,7 +6,7 @@ use Rattle.word_plan.specs.declared.action.Found.{Found}
 use Rattle.word_plan.specs.Seats.{SeatFields, desc_named}
 use Rattle.hazard_parts.specs.declared.point.DescPoint.{DescPoint}
 use Rattle.hazard_parts.specs.declared.point.DescPoint.TheVariants.{LoadDescHead, StoreHazard, ReloadDescHead, LoadNextDesc, PopDesc, ClearAfterPop, ClearHazard, ReadHazard, LoadHeadToPush, StoreNextDesc, PushDesc, Got, Cleared, Scanned, Pushed}
-use Rattle.hazard_parts.specs.Points.{seat_of_desc, settle_desc_of, link_in, after_head, after_next, after_hazard, after_top}
+use Rattle.hazard_parts.specs.Points.{seat_of_desc, settle_desc_of, link_in, named_in, after_head, after_next, after_hazard, after_top}
 
 -- a choice of two points of one seat has that seat
 either : (s : SeatFields) (b : Bool) (x y : DescPoint) → seat_of_desc x ≡ s → seat_of_desc y ≡ s → seat_of_desc (if b then x else y) ≡ s
@@ -26,7 +26,7 @@ seat-top s d (Some top) = refl
 
 seat-hazard : (s : SeatFields) (held : List ℕ) (at word : ℕ) → seat_of_desc (after_hazard s held at word) ≡ s
 seat-hazard s held at word =
-    let noted = slice_set held at word in
+    let noted = slice_set held at (named_in s.geometry word) in
     either s (nat_lt (at + 1) s.geometry.callers) (ReadHazard s noted (at + 1)) (Scanned s noted) refl refl
 
 -- the point after a step has the seat of the point before it

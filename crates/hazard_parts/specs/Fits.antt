@@ -13,7 +13,7 @@ pub record IsLinkOf (g : Geometry) (caller : ℕ) (s : SeatFields) (d word : ℕ
   pub desc : IsDescOf g caller s d
   pub link : word ≤ descriptor_count g
 
--- a seat of this caller of this heap, and the hazard words that were read
+-- a seat of this caller of this heap, and what the hazard words named that were read
 pub record IsScanOf (g : Geometry) (caller : ℕ) (s : SeatFields) (held : List ℕ) : Type 0 where
   pub seat : IsSeatOf g caller s
   pub words : length held ≡ HELD_MOST

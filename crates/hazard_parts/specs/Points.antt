@@ -50,6 +50,10 @@ plan_desc_of (Pushed s d) = Load name.FrameHead
 abbrev pub link_in : Geometry → ℕ → Option ℕ
 link_in g word = if nat_le word (descriptor_count g) then Some word else None
 
+-- which descriptor that the heap has a hazard word names, by its index plus 1; 0 where it names none
+abbrev pub named_in : Geometry → ℕ → ℕ
+named_in g word = if nat_le word (descriptor_count g) then word else 0
+
 -- where the head leads; the point stays where it names no descriptor that the heap has
 abbrev pub after_head : SeatFields → Option ℕ → DescPoint
 after_head s None = LoadDescHead s
@@ -64,12 +68,12 @@ abbrev pub after_next : SeatFields → ℕ → Option ℕ → DescPoint
 after_next s d None = LoadNextDesc s d
 after_next s d (Some next) = PopDesc s d next
 
--- where a caller's hazard word leads: to the next caller's, until each is read
+-- where a caller's hazard word leads: to the next caller's, until each is read; what it names is noted
 abbrev pub after_hazard : SeatFields → List ℕ → ℕ → ℕ → DescPoint
 after_hazard s held at word =
     if nat_lt (at + 1) s.geometry.callers
-    then ReadHazard s (slice_set held at word) (at + 1)
-    else Scanned s (slice_set held at word)
+    then ReadHazard s (slice_set held at (named_in s.geometry word)) (at + 1)
+    else Scanned s (slice_set held at (named_in s.geometry word))
 
 -- where the head leads that is loaded for a push; the point stays where it is neither 0 nor such a name
 abbrev pub after_top : SeatFields → ℕ → Option ℕ → DescPoint

@@ -1,10 +1,10 @@
 //! Where a found word leads.
 
-ghost use Rattle.std.specs.Prelude.{◌≡◌, slice_set};
+ghost use Rattle.std.specs.Prelude.{◌≡◌};
 ghost use Rattle.word_plan.specs.Seats.{desc_named};
-ghost use Rattle.hazard_parts.specs.Points.{link_in, after_head, after_reload, after_next, after_hazard, after_top};
+ghost use Rattle.hazard_parts.specs.Points.{link_in, named_in, after_head, after_reload, after_next, after_hazard, after_top};
 
-use crate::limits::HELD_MOST;
+use crate::held::Held;
 use crate::point::DescPoint;
 use word_plan::name::name_of_desc;
 use word_plan::seat::Seat;
@@ -17,6 +17,17 @@ fn link_in(seat: Seat, word: u64) -> Option<u16>
         Some(word as u16)
     } else {
         None
+    }
+}
+
+/// The word of a descriptor that the heap has; 0 where it names none.
+pub fn named_in(seat: Seat, word: u64) -> u16
+    ensures { result ≡ named_in seat.geometry word }
+{
+    if word <= u64::from(seat.descriptors()) {
+        word as u16
+    } else {
+        0
     }
 }
 
@@ -52,10 +63,11 @@ pub fn after_next(seat: Seat, desc: u16, word: u64) -> DescPoint
 }
 
 /// From the hazard word of caller `at`.
-pub fn after_hazard(seat: Seat, held: [u64; HELD_MOST], at: u8, word: u64) -> DescPoint
+pub fn after_hazard(seat: Seat, held: Held, at: u8, word: u64) -> DescPoint
     ensures { result ≡ after_hazard seat held at word }
 {
-    let held = noted(held, at, word);
+    let mut held = held;
+    held.note(at, named_in(seat, word));
     if u32::from(at) + 1 < seat.geometry().callers {
         DescPoint::ReadHazard {
             seat,
@@ -65,16 +77,6 @@ pub fn after_hazard(seat: Seat, held: [u64; HELD_MOST], at: u8, word: u64) -> De
     } else {
         DescPoint::Scanned { seat, held }
     }
-}
-
-/// The hazard words that were read, with that of caller `at`.
-fn noted(mut held: [u64; HELD_MOST], at: u8, word: u64) -> [u64; HELD_MOST]
-    ensures { result ≡ slice_set held at word }
-{
-    if usize::from(at) < held.len() {
-        held[usize::from(at)] = word;
-    }
-    held
 }
 
 /// From the head, to push a descriptor.

@@ -1,14 +1,15 @@
 //! Laws of hazard words and retired descriptors: theorems about the definitions, on functions that
 //! do nothing.
 
-ghost use Rattle.std.specs.Prelude.{ℕ, List, ◌≡◌, ◌≢◌, ◌<◌, ◌+◌, ◌++◌, ◌∷◌, ◌^◌, ◌↔◌, Some, None, length, All, AllPairs, Contains, IsSome, count_by, nat_lt};
+ghost use Rattle.std.specs.Prelude.{ℕ, List, ◌≡◌, ◌≢◌, ◌<◌, ◌+◌, ◌++◌, ◌∷◌, ◌^◌, ◌↔◌, Some, None, length, All, AllPairs, Contains, IsSome, count_by, map, nat_lt};
 ghost use Rattle.heap_geometry.specs.declared.geometry.Geometry.{Geometry};
 ghost use Rattle.heap_geometry.specs.Geometry.{IsChecked};
 ghost use Rattle.word_plan.specs.declared.action.Found.{Found};
 ghost use Rattle.word_plan.specs.Actions.{name_of};
+ghost use Rattle.word_plan.specs.Counts.{descriptor_count};
 ghost use Rattle.word_plan.specs.Table.{Exists};
 ghost use Rattle.hazard_parts.specs.Fits.{FitsDesc};
-ghost use Rattle.hazard_parts.specs.Points.{plan_desc_of, seat_of_desc, settle_desc_of};
+ghost use Rattle.hazard_parts.specs.Points.{named_in, plan_desc_of, seat_of_desc, settle_desc_of};
 ghost use Rattle.hazard_parts.specs.Retired.{first_unheld, without};
 ghost use Rattle.hazard_parts.specs.declared.point.DescPoint.{DescPoint};
 
@@ -25,7 +26,8 @@ pub fn points_fit()
 
 /// What is picked is listed, and no hazard word names it. Nothing is picked exactly where each
 /// listed descriptor is named; and this can't be so where the listed descriptors are all different
-/// and more than the hazard words that are in use.
+/// and more than the hazard words that are in use. What is picked of a heap's descriptors is the same
+/// by what the hazard words name there as by the words themselves.
 pub fn picked_is_not_held()
     ensures listed { (held ds : List ℕ) (d : ℕ) → first_unheld held ds ≡ Some d → Contains ds d }
     ensures free { (held ds : List ℕ) (d : ℕ) → first_unheld held ds ≡ Some d
@@ -34,6 +36,8 @@ pub fn picked_is_not_held()
         → (first_unheld held ds ≡ None) ↔ All (λ d. Contains held (d + 1)) ds }
     ensures some { (held ds : List ℕ) → AllPairs (λ a b. a ≢ b) ds
         → count_by (λ word. nat_lt 0 word) held < length ds → IsSome (first_unheld held ds) }
+    ensures named { (g : Geometry) (words ds : List ℕ) → All (λ d. d < descriptor_count g) ds
+        → first_unheld (map (named_in g) words) ds ≡ first_unheld words ds }
 {}
 
 /// Taking a descriptor off a list joins what stood before it and what stood after it.

@@ -10,6 +10,7 @@
 #![tactic(auto)]
 
 mod follow;
+pub mod held;
 pub mod laws;
 pub mod limits;
 pub mod plan;

@@ -1,89 +1,43 @@
 //! The points at which a caller takes a descriptor, or gives one back.
 
-use crate::limits::HELD_MOST;
+use crate::held::Held;
 use word_plan::seat::Seat;
 
 /// A caller's next step at the stack of available descriptors or at the hazard words, or, in the
 /// last four, how it left.
 ///
 /// `next` and `top` name a descriptor by its index plus 1, or none by 0, as the words do. `held` is
-/// the hazard words that were read, that of caller 0 first; those that were not read are 0.
+/// what the hazard words named that were read.
 #[derive(Clone, Copy)]
 pub enum DescPoint {
     /// Load the head, to take the top descriptor.
-    LoadDescHead {
-        seat: Seat,
-    },
+    LoadDescHead { seat: Seat },
     /// Store the hazard word: the top descriptor is in use.
-    StoreHazard {
-        seat: Seat,
-        desc: u16,
-    },
+    StoreHazard { seat: Seat, desc: u16 },
     /// Load the head again, to see whether the descriptor was still the top one.
-    ReloadDescHead {
-        seat: Seat,
-        desc: u16,
-    },
+    ReloadDescHead { seat: Seat, desc: u16 },
     /// Load which descriptor is below it.
-    LoadNextDesc {
-        seat: Seat,
-        desc: u16,
-    },
+    LoadNextDesc { seat: Seat, desc: u16 },
     /// Make the one below it the top.
-    PopDesc {
-        seat: Seat,
-        desc: u16,
-        next: u16,
-    },
+    PopDesc { seat: Seat, desc: u16, next: u16 },
     /// Clear the hazard word: the descriptor is this caller's now.
-    ClearAfterPop {
-        seat: Seat,
-        desc: u16,
-    },
+    ClearAfterPop { seat: Seat, desc: u16 },
     /// Clear the hazard word.
-    ClearHazard {
-        seat: Seat,
-    },
+    ClearHazard { seat: Seat },
     /// Read the hazard word of caller `at`.
-    ReadHazard {
-        seat: Seat,
-        held: [u64; HELD_MOST],
-        at: u8,
-    },
+    ReadHazard { seat: Seat, held: Held, at: u8 },
     /// Load the head, to push a descriptor that no hazard word named.
-    LoadHeadToPush {
-        seat: Seat,
-        desc: u16,
-    },
+    LoadHeadToPush { seat: Seat, desc: u16 },
     /// Store which descriptor will be below it.
-    StoreNextDesc {
-        seat: Seat,
-        desc: u16,
-        top: u16,
-    },
+    StoreNextDesc { seat: Seat, desc: u16, top: u16 },
     /// Make it the top.
-    PushDesc {
-        seat: Seat,
-        desc: u16,
-        top: u16,
-    },
+    PushDesc { seat: Seat, desc: u16, top: u16 },
     /// The descriptor is taken.
-    Got {
-        seat: Seat,
-        desc: u16,
-    },
+    Got { seat: Seat, desc: u16 },
     /// The hazard word is 0.
-    Cleared {
-        seat: Seat,
-    },
+    Cleared { seat: Seat },
     /// Every hazard word was read.
-    Scanned {
-        seat: Seat,
-        held: [u64; HELD_MOST],
-    },
+    Scanned { seat: Seat, held: Held },
     /// The descriptor is available again.
-    Pushed {
-        seat: Seat,
-        desc: u16,
-    },
+    Pushed { seat: Seat, desc: u16 },
 }

@@ -1,12 +1,12 @@
 //! The descriptors that a caller retired.
 
 ghost use Rattle.std.specs.Prelude.{◌≡◌, ◌<◌, ◌≤◌, ◌++◌, ◌∷◌, ◌==◌, [], length, take, position, Contains};
-ghost use Rattle.hazard_parts.specs.Retired.{is_held, first_unheld, without};
-ghost use Rattle.hazard_parts.specs.declared.limits.TheConstants.{HELD_MOST, RETIRED_MOST};
+ghost use Rattle.hazard_parts.specs.Retired.{first_unheld, without};
+ghost use Rattle.hazard_parts.specs.declared.limits.TheConstants.{RETIRED_MOST};
 
-use crate::limits::{HELD_MOST, RETIRED_MOST};
+use crate::held::Held;
+use crate::limits::RETIRED_MOST;
 use std::marker::Model;
-use word_plan::name::name_of_desc;
 
 /// A list of retired descriptors, the longest retired first.
 #[derive(Drop)]
@@ -68,14 +68,11 @@ impl Retired {
 
     /// The first descriptor of the list that none of the hazard words names; `None` where each is
     /// named.
-    pub fn pick(&self, held: &[u64; HELD_MOST]) -> Option<u16>
+    pub fn pick(&self, held: &Held) -> Option<u16>
         ensures { result ≡ first_unheld held.now self.now }
     {
         let len = usize::from(self.len);
-        self.items[..len]
-            .iter()
-            .copied()
-            .find(|d| !is_held(held, *d))
+        self.items[..len].iter().copied().find(|d| !held.names(*d))
     }
 }
 
@@ -84,11 +81,4 @@ fn place_of(listed: &[u16], desc: u16) -> Option<usize>
     ensures { result ≡ position (λ d. d == desc) listed.now }
 {
     listed.iter().position(|d| *d == desc)
-}
-
-/// Whether one of the hazard words names the descriptor.
-fn is_held(held: &[u64; HELD_MOST], desc: u16) -> bool
-    ensures { result ≡ is_held held.now desc }
-{
-    held.iter().any(|word| *word == name_of_desc(desc))
 }

@@ -3,12 +3,12 @@
 ghost use Rattle.std.specs.Prelude.{◌≡◌, IsTrue, false, not};
 ghost use Rattle.hazard_parts.specs.Points.{settle_desc_of, has_left_desc, is_scan};
 
-use crate::follow::{after_head, after_next, after_reload, after_top};
+use crate::follow::{after_head, after_next, after_reload, after_top, named_in};
 use crate::point::DescPoint;
 use word_plan::action::Found;
 
 /// Goes on to the point after what the action found, where the caller stays in the part, and answers
-/// whether it does. Where it leaves, nothing changes. The hazard words that were read stay in place.
+/// whether it does. Where it leaves, nothing changes. What the hazard words named stays in place.
 pub fn stays_desc(point: &mut DescPoint, found: Found) -> bool
     ensures answer { result ≡ not (has_left_desc (settle_desc_of point.old found)) }
     ensures stays { IsTrue result → point.new ≡ settle_desc_of point.old found }
@@ -22,7 +22,7 @@ pub fn stays_desc(point: &mut DescPoint, found: Found) -> bool
         return false;
     }
     if let DescPoint::ReadHazard { held, .. } = point {
-        held[usize::from(at)] = found.value;
+        held.note(at, named_in(seat, found.value));
     }
     if let DescPoint::ReadHazard { at: next, .. } = point {
         *next = at + 1;

@@ -1,4 +1,4 @@
-use Rattle.hazard_parts.proofs.PickLemmas.{none-all, all-none, some-listed, some-free, some-picked}
+use Rattle.hazard_parts.proofs.PickLemmas.{none-all, all-none, some-listed, some-free, some-picked, named-picked}
 use Rattle.hazard_parts.proofs.laws.picked_is_not_held.Goals as goal
 
 pub returns-clause-listed : goal.returns-clause-listed
@@ -12,3 +12,6 @@ returns-clause-none c = λ held ds. (none-all held ds, all-none held ds)
 
 pub returns-clause-some : goal.returns-clause-some
 returns-clause-some c = some-picked
+
+pub returns-clause-named : goal.returns-clause-named
+returns-clause-named c = named-picked
