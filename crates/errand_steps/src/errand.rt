@@ -24,7 +24,7 @@ use crate::enter::{ending, ending_on_word, next_of, plan_point, resumed, stays};
 use crate::next::Next;
 use crate::point::Point;
 use crate::reply::{Offer, Progress, Reply};
-use hazard_parts::limits::HELD_MOST;
+use hazard_parts::held::Held;
 use hazard_parts::point::DescPoint;
 use hazard_parts::retired::Retired;
 use heap_geometry::geometry::Geometry;
@@ -278,7 +278,7 @@ impl Errand {
                     Next::desc(
                         DescPoint::ReadHazard {
                             seat,
-                            held: [0; HELD_MOST],
+                            held: Held::nothing(),
                             at: 0,
                         },
                         continuation,

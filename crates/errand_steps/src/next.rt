@@ -7,7 +7,7 @@ ghost use Rattle.errand_steps.specs.declared.point.Point.TheVariants.{Block, Sta
 use crate::continuation::Continuation;
 use crate::point::Point;
 use crate::reply::Reply;
-use hazard_parts::limits::HELD_MOST;
+use hazard_parts::held::Held;
 use hazard_parts::point::DescPoint;
 use large_parts::point::LargePoint;
 use partial_parts::point::PartialPoint;
@@ -37,10 +37,10 @@ pub enum Next {
         desc: u16,
         continuation: Continuation,
     },
-    /// A retired descriptor that none of these hazard words names is pushed.
+    /// A retired descriptor that none of the hazard words named is pushed.
     Pick {
         seat: Seat,
-        held: [u64; HELD_MOST],
+        held: Held,
         continuation: Continuation,
     },
     /// The descriptor is available again and no longer retired, and the caller goes on.

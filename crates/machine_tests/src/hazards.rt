@@ -4,7 +4,7 @@ ghost use Rattle.std.specs.Prelude.{[], ◌∷◌, ◌≡◌};
 
 use crate::heaps::seat_of;
 use crate::walk::{stay, walk};
-use hazard_parts::limits::HELD_MOST;
+use hazard_parts::held::Held;
 use hazard_parts::point::DescPoint;
 use hazard_parts::retired::Retired;
 use heap_geometry::geometry::Geometry;
@@ -72,24 +72,38 @@ fn a_push_begins_anew_where_it_is_lost(rt: HostRuntime) {
     assert!(rt; matches!(point, DescPoint::Pushed { desc: 7, .. }));
 }
 
-/// A scan reads each caller's hazard word, in the order of the callers, and remembers it.
-#[test]
-fn a_scan_reads_each_hazard_word(rt: HostRuntime) {
+/// What a scan has noted that reads these hazard words, in the order of the callers.
+fn scanned<R: Abort>(rt: &R, first: u64, second: u64) -> Held {
     let rows = [
-        (Action::Load(Hazard(0)), 5, true),
-        (Action::Load(Hazard(1)), 9, true),
+        (Action::Load(Hazard(0)), first, true),
+        (Action::Load(Hazard(1)), second, true),
     ];
-    let first = DescPoint::ReadHazard {
-        seat: seat(&rt),
-        held: [0; HELD_MOST],
+    let first_point = DescPoint::ReadHazard {
+        seat: seat(rt),
+        held: Held::nothing(),
         at: 0,
     };
-    let point = walk(&rt, first, &rows);
-    let read = match point {
+    match walk(rt, first_point, &rows) {
         DescPoint::Scanned { held, .. } => held,
-        _ => [0; HELD_MOST],
-    };
-    assert_eq!(rt; read, [5, 9, 0, 0, 0, 0, 0, 0, 0, 0, 0, 0, 0, 0, 0, 0]);
+        _ => Held::nothing(),
+    }
+}
+
+/// A scan reads each caller's hazard word, and notes which descriptor it names.
+#[test]
+fn a_scan_reads_each_hazard_word(rt: HostRuntime) {
+    let held = scanned(&rt, 5, 9);
+    for desc in 0..10 {
+        assert_eq!(rt; held.names(desc), desc == 4 || desc == 8);
+    }
+}
+
+/// The last descriptor's name is 66. A hazard word that names a later one names none.
+#[test]
+fn a_hazard_word_of_no_descriptor_is_not_noted(rt: HostRuntime) {
+    let held = scanned(&rt, 66, 67);
+    assert!(rt; held.names(65));
+    assert!(rt; !held.names(66));
 }
 
 /// Clearing the hazard word is one step.
@@ -123,10 +137,10 @@ fn the_last_descriptor_is_guarded(rt: HostRuntime) {
 }
 
 /// These hazard words, and none of the other callers.
-fn held(first: u64, second: u64) -> [u64; HELD_MOST] {
-    let mut held = [0; HELD_MOST];
-    held[0] = first;
-    held[1] = second;
+fn held(first: u16, second: u16) -> Held {
+    let mut held = Held::nothing();
+    held.note(0, first);
+    held.note(1, second);
     held
 }
 
@@ -142,7 +156,7 @@ fn three_retired() -> Retired
 }
 
 /// Where the callers hold this, that descriptor is picked.
-fn picks<R: Abort>(rt: &R, retired: &Retired, rows: &[(u64, u64, Option<u16>)]) {
+fn picks<R: Abort>(rt: &R, retired: &Retired, rows: &[(u16, u16, Option<u16>)]) {
     for row in rows {
         let (first, second, picked) = *row;
         assert_eq!(rt; retired.pick(&held(first, second)), picked);

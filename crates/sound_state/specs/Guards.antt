@@ -31,7 +31,7 @@ pub record Guards (s : State) (caller d : ℕ) : Type 0 where
   pub word : s.word (name.Hazard caller) ≡ d + 1
   pub guard : IsGuard (holds_of (s.errand caller).point).hazard
 
--- how many hazard words a caller's scan has passed, and what they said
+-- how many hazard words a caller's scan has passed, and what they named
 abbrev pub passed_by_desc : DescPoint → ℕ
 passed_by_desc (desc.ReadHazard s held at) = at
 passed_by_desc p = 0

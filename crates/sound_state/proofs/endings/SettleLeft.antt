@@ -17,7 +17,7 @@ use Rattle.stack_parts.specs.Points.{settle_stack_of}
 use Rattle.hazard_parts.specs.declared.point.DescPoint.{DescPoint}
 use Rattle.hazard_parts.specs.declared.point.DescPoint.TheVariants as desc
 use Rattle.hazard_parts.specs.Retired.{first_unheld}
-use Rattle.hazard_parts.specs.Points.{settle_desc_of, after_hazard}
+use Rattle.hazard_parts.specs.Points.{settle_desc_of, after_hazard, named_in}
 use Rattle.hazard_parts.proofs.PickLemmas.{some-picked}
 use Rattle.partial_parts.specs.Points.{settle_partial_of}
 use Rattle.large_parts.specs.Points.{settle_large_of}
@@ -93,13 +93,14 @@ retired-apart g s caller sound has =
 picks-some :
     (g : Geometry) (s : State) (caller : ℕ) (seat : SeatFields) (held : List ℕ) (i : ℕ) (o : Continuation) → IsSoundWithoutCounts g s → caller < g.callers
     → (s.errand caller).point ≡ point.Desc (desc.ReadHazard seat held i) o
-    → IsSome (first_unheld (slice_set held i (s.word (name.Hazard i))) (s.errand caller).retired)
+    → IsSome (first_unheld (slice_set held i (named_in seat.geometry (s.word (name.Hazard i)))) (s.errand caller).retired)
 picks-some g s caller seat held i o sound has stands =
     let fits = (fits-now g s caller (point.Desc (desc.ReadHazard seat held i) o) sound has stands).point in
-    let words = slice_set held i (s.word (name.Hazard i)) in
-    let few = few-used words (i + 1) (noted-unread g s sound.parts.0 caller seat held i o sound.parts.1 has stands) in
+    let new = named_in seat.geometry (s.word (name.Hazard i)) in
+    let noted = slice_set held i new in
+    let few = few-used noted (i + 1) (noted-unread g s sound.parts.0 caller seat held i o sound.parts.1 has stands new) in
     let full = sound.parts.1.guarded.full caller has (ap spare_of stands) in
-    some-picked words (s.errand caller).retired (retired-apart g s caller sound has) (omega (arith, few, full, fits.1))
+    some-picked noted (s.errand caller).retired (retired-apart g s caller sound has) (omega (arith, few, full, fits.1))
 
 -- a call that goes on after a retirement
 resumed-left :
@@ -151,14 +152,15 @@ no-pick-desc p x o plain = grind (arith, plain)
 -- a hazard word is read
 hazard-left :
     (g : Geometry) (e : ErrandFields) (s : SeatFields) (held : List ℕ) (i v : ℕ) (o : Continuation)
-    → IsSome (first_unheld (slice_set held i v) e.retired)
+    → IsSome (first_unheld (slice_set held i (named_in s.geometry v)) e.retired)
     → steps_left g (point_after (after_turn e (after_list e (enter_desc (after_hazard s held i v) o))))
     ≤ next_left g (enter_desc (after_hazard s held i v) o)
 unfolding steps_left
 hazard-left g e s held i v o some =
-    cond_both (nat_lt (i + 1) s.geometry.callers) (desc.ReadHazard s (slice_set held i v) (i + 1)) (desc.Scanned s (slice_set held i v))
+    let noted = slice_set held i (named_in s.geometry v) in
+    cond_both (nat_lt (i + 1) s.geometry.callers) (desc.ReadHazard s noted (i + 1)) (desc.Scanned s noted)
     (λ p. steps_left g (point_after (after_turn e (after_list e (enter_desc p o)))) ≤ next_left g (enter_desc p o))
-    (λ more. omega arith) (λ last. picked-left g e s o (first_unheld (slice_set held i v) e.retired) some)
+    (λ more. omega arith) (λ last. picked-left g e s o (first_unheld noted e.retired) some)
 
 -- where a step leads, and what is left there
 abbrev Settles : Geometry → State → ErrandFields → Point → Type 0

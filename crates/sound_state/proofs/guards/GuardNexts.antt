@@ -1,11 +1,12 @@
 -- What follows each point: what a scan has noted, what is pushed, and who stores to a hazard word.
-use Rattle.std.proofs.Common.{ℕ, Bool, true, false, Option, Some, None, ◌≡◌, ◌<◌, ◌+◌, List, refl, arith, ap, sym, inl, inr, ◌∙◌, length, length-set, get_or-set_other}
+use Rattle.std.proofs.Common.{ℕ, Bool, true, false, Option, Some, None, ◌≡◌, ◌<◌, ◌+◌, List, refl, arith, ap, sym, subst, inl, inr, ◌∙◌, length, length-set, get_or-set_other}
 use Rattle.std.specs.Prelude.{◌⊎◌, slice_index, slice_set, nat_lt}
 use Rattle.std.proofs.lemmas.Bool.{cases_eq, cond_both, true≢false, ltb-false}
 use Rattle.std.proofs.lemmas.Option.{none-some}
 use Rattle.std.proofs.lemmas.Grind.{get_or-set_at}
 use Rattle.heap_geometry.specs.declared.geometry.Geometry.{Geometry}
 use Rattle.heap_geometry.specs.Geometry.{IsChecked}
+use Rattle.word_plan.specs.Counts.{descriptor_count}
 use Rattle.word_plan.specs.declared.action.Action.{Action}
 use Rattle.word_plan.specs.declared.action.Action.TheVariants.{Store}
 use Rattle.word_plan.specs.declared.action.Found.{Found}
@@ -24,7 +25,8 @@ use Rattle.stack_parts.specs.Points.{settle_stack_of, plan_stack_of}
 use Rattle.hazard_parts.specs.declared.point.DescPoint.{DescPoint}
 use Rattle.hazard_parts.specs.declared.point.DescPoint.TheVariants as desc
 use Rattle.hazard_parts.specs.Fits.{FitsDesc}
-use Rattle.hazard_parts.specs.Points.{settle_desc_of, plan_desc_of, after_hazard}
+use Rattle.hazard_parts.specs.Points.{settle_desc_of, plan_desc_of, after_hazard, named_in}
+use Rattle.hazard_parts.proofs.PickLemmas.{named-here}
 use Rattle.partial_parts.specs.declared.point.PartialPoint.{PartialPoint}
 use Rattle.partial_parts.specs.Points.{settle_partial_of, plan_partial_of}
 use Rattle.large_parts.specs.declared.point.LargePoint.{LargePoint}
@@ -118,43 +120,47 @@ word-notes held i k d v room noted scans_on below =
 
 -- where a hazard word is read
 read-notes :
-    (g : Geometry) (caller k d : ℕ) (s : SeatFields) (held : List ℕ) (i : ℕ) (o : Continuation) (v : ℕ) → IsChecked g → k < g.callers
+    (g : Geometry) (caller k d : ℕ) (s : SeatFields) (held : List ℕ) (i : ℕ) (o : Continuation) (v : ℕ) → IsChecked g → k < g.callers → d < descriptor_count g
     → FitsDesc g caller (desc.ReadHazard s held i) → (k < i → slice_index held k ≡ d + 1) → (k ≡ i → v ≡ d + 1)
     → NextNotes k d (enter_desc (after_hazard s held i v) o)
-read-notes g caller k d s held i o v checked has fits noted scans_on =
+read-notes g caller k d s held i o v checked has exists fits noted scans_on =
     let room : i < length held = omega (arith, checked.callers.1, fits.0.words, fits.1) in
     let all = ap (λ (h : Geometry). h.callers) fits.0.seat.geometry in
-    let notes = word-notes held i k d v room noted scans_on in
-    cond_both (nat_lt (i + 1) s.geometry.callers) (desc.ReadHazard s (slice_set held i v) (i + 1)) (desc.Scanned s (slice_set held i v))
+    let new = named_in s.geometry v in
+    let named = named-here s.geometry v d (subst (λ (h : Geometry). d < descriptor_count h) (sym fits.0.seat.geometry) exists) in
+    let notes = word-notes held i k d new room noted (λ same. named (scans_on same)) in
+    let now = slice_set held i new in
+    cond_both (nat_lt (i + 1) s.geometry.callers) (desc.ReadHazard s now (i + 1)) (desc.Scanned s now)
     (λ p. NextNotes k d (enter_desc p o)) (λ more below. notes below)
     (λ last. (
-      omega (arith, has, checked.callers.1, fits.0.words, length-set held i v),
+      omega (arith, has, checked.callers.1, fits.0.words, length-set held i new),
       notes (omega (arith, has, all, ltb-false (i + 1) s.geometry.callers last)),
     ))
 
 -- at the descriptors or the hazard words
 desc-notes :
-    (g : Geometry) (caller k d : ℕ) (p : DescPoint) (o : Continuation) (x : Found) → IsChecked g → k < g.callers → FitsPoint g caller (point.Desc p o)
+    (g : Geometry) (caller k d : ℕ) (p : DescPoint) (o : Continuation) (x : Found) → IsChecked g → k < g.callers → d < descriptor_count g
+    → FitsPoint g caller (point.Desc p o)
     → (k < passed_by_desc p → slice_index (held_by_desc p) k ≡ d + 1) → (name_of (plan_desc_of p) ≡ name.Hazard k → x.value ≡ d + 1)
     → NextNotes k d (enter_desc (settle_desc_of p x) o)
-desc-notes g caller k d (desc.ReadHazard s held i) o x checked has fits noted scans_on =
-    read-notes g caller k d s held i o x.value checked has fits.point noted (λ same. scans_on (ap name.Hazard (sym same)))
-desc-notes g caller k d (desc.Scanned s held) o x checked has fits noted scans_on = absurd (true≢false fits.inside)
-desc-notes g caller k d p o x checked has fits noted scans_on =
+desc-notes g caller k d (desc.ReadHazard s held i) o x checked has exists fits noted scans_on =
+    read-notes g caller k d s held i o x.value checked has exists fits.point noted (λ same. scans_on (ap name.Hazard (sym same)))
+desc-notes g caller k d (desc.Scanned s held) o x checked has exists fits noted scans_on = absurd (true≢false fits.inside)
+desc-notes g caller k d p o x checked has exists fits noted scans_on =
     unread-notes k d (enter_desc (settle_desc_of p x) o) (reads-desc p x o refl)
 
 -- at each point: who has noted the word of k, or scans_on it now
 pub notes-next :
-    (g : Geometry) (caller k d : ℕ) (p : Point) (x : Found) → IsChecked g → k < g.callers → FitsPoint g caller p
+    (g : Geometry) (caller k d : ℕ) (p : Point) (x : Found) → IsChecked g → k < g.callers → d < descriptor_count g → FitsPoint g caller p
     → (k < passed_by p → slice_index (held_by p) k ≡ d + 1) → (name_of (plan_point_of p) ≡ name.Hazard k → x.value ≡ d + 1)
     → NextNotes k d (next_of p x)
 unfolding next_of plan_point_of
-notes-next g caller k d point.Idle x checked has fits noted scans_on = noted
-notes-next g caller k d (point.Block p o) x checked has fits noted scans_on = unread-notes k d _ (reads-block (settle_block_of p x) o)
-notes-next g caller k d (point.Stack p o) x checked has fits noted scans_on = unread-notes k d _ (reads-stack (settle_stack_of p x) o)
-notes-next g caller k d (point.Desc p o) x checked has fits noted scans_on = desc-notes g caller k d p o x checked has fits noted scans_on
-notes-next g caller k d (point.Partial p o) x checked has fits noted scans_on = unread-notes k d _ (reads-partial (settle_partial_of p x) o)
-notes-next g caller k d (point.Large p o) x checked has fits noted scans_on = unread-notes k d _ (reads-large (settle_large_of p x) o)
+notes-next g caller k d point.Idle x checked has exists fits noted scans_on = noted
+notes-next g caller k d (point.Block p o) x checked has exists fits noted scans_on = unread-notes k d _ (reads-block (settle_block_of p x) o)
+notes-next g caller k d (point.Stack p o) x checked has exists fits noted scans_on = unread-notes k d _ (reads-stack (settle_stack_of p x) o)
+notes-next g caller k d (point.Desc p o) x checked has exists fits noted scans_on = desc-notes g caller k d p o x checked has exists fits noted scans_on
+notes-next g caller k d (point.Partial p o) x checked has exists fits noted scans_on = unread-notes k d _ (reads-partial (settle_partial_of p x) o)
+notes-next g caller k d (point.Large p o) x checked has exists fits noted scans_on = unread-notes k d _ (reads-large (settle_large_of p x) o)
 
 -- an action at a hazard word leaves it, or is the store of the caller whose word it is
 abbrev pub MayStore : ℕ → ℕ → Action → ℕ → Type 0

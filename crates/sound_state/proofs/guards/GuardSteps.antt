@@ -14,7 +14,7 @@ use Rattle.sound_state.specs.Sound.{IsSoundWithoutCounts}
 use Rattle.sound_state.proofs.guards.GuardNexts.{NextNotes, may-store, notes-next}
 use Rattle.sound_state.proofs.guards.GuardSettles.{HasNoted, settled-notes, settled-pushes}
 use Rattle.sound_state.proofs.shared.CallerLemmas.{each-other}
-use Rattle.sound_state.proofs.shared.PointLemmas.{fits-now}
+use Rattle.sound_state.proofs.shared.PointLemmas.{fits-now, retired-exists}
 
 -- the hazard word stays
 hazard-stays :
@@ -39,7 +39,8 @@ step-notes :
     → Contains (s.errand other).retired d → NextNotes caller d (next_of (s.errand other).point (found_at s other))
 step-notes g s caller d other sound has has_other guarded listed =
     let p = (s.errand other).point in
-    notes-next g other caller d p (found_at s other) sound.checked has (fits-now g s other p sound has_other refl)
+    let exists = retired-exists g s sound.parts.0 other d sound.parts.1 has_other listed in
+    notes-next g other caller d p (found_at s other) sound.checked has exists (fits-now g s other p sound has_other refl)
     (guarded.passed other has_other listed) (λ is. ap s.word is ∙ guarded.word)
 
 pub guarded-stepped :

@@ -7,13 +7,15 @@ use Rattle.std.proofs.lemmas.List.{get_or_default}
 use Rattle.std.proofs.lemmas.Grind.{get_or-set_at}
 use Rattle.heap_geometry.specs.Geometry.{IsChecked}
 use Rattle.hazard_parts.specs.declared.limits.TheConstants.{HELD_MOST}
+use Rattle.hazard_parts.specs.Points.{named_in}
 use Rattle.hazard_parts.specs.Retired.{first_unheld}
-use Rattle.hazard_parts.proofs.PickLemmas.{some-listed, some-free}
+use Rattle.hazard_parts.proofs.PickLemmas.{some-listed, some-free, named-here}
 use Rattle.errand_steps.specs.declared.reply.Reply.TheVariants as reply
 use Rattle.std.proofs.lemmas.List.Elements.{All-nil}
 use Rattle.heap_geometry.specs.declared.geometry.Geometry.{Geometry}
 use Rattle.word_plan.specs.declared.name.WordName.TheVariants as name
 use Rattle.word_plan.specs.declared.seat.Site.{Site}
+use Rattle.word_plan.specs.Counts.{descriptor_count}
 use Rattle.word_plan.specs.Seats.{SeatFields}
 use Rattle.word_plan.specs.Occurs.{occurs}
 use Rattle.packed_words.specs.Anchor.{AnchorFields}
@@ -41,7 +43,7 @@ use Rattle.sound_state.proofs.hazards.HazardLemmas.{store-hazard, read-hazard, p
 use Rattle.sound_state.proofs.quiet.QuietDescs.{reload_desc_head_other-sound}
 use Rattle.sound_state.proofs.shared.GuardEffects.{available-unretired, bound-unretired}
 use Rattle.sound_state.proofs.shared.HasLemmas.{bound-away}
-use Rattle.sound_state.proofs.shared.PointLemmas.{fits-at, so-at, hazard-at, unread-at, noted-unread}
+use Rattle.sound_state.proofs.shared.PointLemmas.{fits-at, so-at, hazard-at, unread-at, noted-unread, retired-exists}
 use Rattle.sound_state.proofs.shared.ShownLemmas.{GuardsAnew}
 use Rattle.sound_state.proofs.shared.WordFacts.{name-below}
 
@@ -214,15 +216,21 @@ passed-at g s l caller p old has stands =
 noted-passed :
     (g : Geometry) (s : State) (l : Lists) (caller : ℕ) (seat : SeatFields) (held : List ℕ) (i : ℕ) (o : Continuation) → IsSoundWith g s l
     → caller < g.callers → (s.errand caller).point ≡ Desc (desc.ReadHazard seat held i) o → i < length held → (k d : ℕ) → k < g.callers → Guards s k d
-    → Contains (s.errand caller).retired d → k < i + 1 → slice_index (slice_set held i (s.word (name.Hazard i))) k ≡ d + 1
+    → Contains (s.errand caller).retired d → k < i + 1 → slice_index (slice_set held i (named_in seat.geometry (s.word (name.Hazard i)))) k ≡ d + 1
 noted-passed g s l caller seat held i o old has stands room k d has_k guards listed below =
+    let p = Desc (desc.ReadHazard seat held i) o in
+    let new = named_in seat.geometry (s.word (name.Hazard i)) in
     elim (cases_eq k i) [
       | inl same ↦
-          get_or-set_at held i k (s.word (name.Hazard i)) 0 same room ∙ ap (λ j. s.word (name.Hazard j)) (sym same) ∙ guards.word
+          let exists : d < descriptor_count seat.geometry =
+          subst (λ (h : Geometry). d < descriptor_count h) (sym (fits-at g s l caller p old has stands).point.0.seat.geometry)
+          (retired-exists g s l caller d old has listed) in
+          get_or-set_at held i k new 0 same room
+          ∙ named-here seat.geometry (s.word (name.Hazard i)) d exists (ap (λ j. s.word (name.Hazard j)) (sym same) ∙ guards.word)
       | inr differ ↦
           let less : k < i = omega (arith, below, differ) in
-          get_or-set_other held i k (s.word (name.Hazard i)) 0 differ
-          ∙ passed-at g s l caller (Desc (desc.ReadHazard seat held i) o) old has stands k d has_k guards listed less
+          get_or-set_other held i k new 0 differ
+          ∙ passed-at g s l caller p old has stands k d has_k guards listed less
     ]
 
 -- and goes on to the next one
@@ -231,8 +239,8 @@ pub read_hazard_next-sound :
     → caller < g.callers → (s.errand caller).point ≡ Desc (desc.ReadHazard seat held i) o → i + 1 < g.callers → Step s caller s' → IsSoundWithoutCounts g s'
 unfolding plan_point_of next_of event_of holds_of recalls_of
 read_hazard_next-sound g s caller s' seat held i o sound has stands more step =
-    let word = s.word (name.Hazard i) in
-    let noted = slice_set held i word in
+    let new = named_in seat.geometry (s.word (name.Hazard i)) in
+    let noted = slice_set held i new in
     let p = Desc (desc.ReadHazard seat held i) o in
     let q = Desc (desc.ReadHazard seat noted (i + 1)) o in
     let fits = (fits-at g s sound.parts.0 caller p sound.parts.1 has stands).point in
@@ -249,7 +257,7 @@ read_hazard_next-sound g s caller s' seat held i o sound has stands more step =
         guard = λ d is guard. absurd guard;
         pushed = λ k d has_k guards is. absurd (none-some d is);
         passed = noted-passed g s l caller seat held i o old has stands (held-room g held i sound.checked fits.0.words fits.1);
-        unread = noted-unread g s l caller seat held i o old has stands;
+        unread = noted-unread g s l caller seat held i o old has stands new;
       };
     })
     step
@@ -258,11 +266,12 @@ read_hazard_next-sound g s caller s' seat held i o sound has stands more step =
 read-picks :
     (g : Geometry) (s : State) (caller : ℕ) (s' : State) (seat : SeatFields) (held : List ℕ) (i : ℕ) (o : Continuation) (r : Option ℕ) → IsSoundWithoutCounts g s
     → caller < g.callers → (s.errand caller).point ≡ Desc (desc.ReadHazard seat held i) o → g.callers ≤ i + 1
-    → first_unheld (slice_set held i (s.word (name.Hazard i))) (s.errand caller).retired ≡ r → Step s caller s' → IsSoundWithoutCounts g s'
+    → first_unheld (slice_set held i (named_in seat.geometry (s.word (name.Hazard i)))) (s.errand caller).retired ≡ r → Step s caller s' → IsSoundWithoutCounts g s'
 unfolding plan_point_of next_of event_of holds_of recalls_of
 read-picks g s caller s' seat held i o None sound has stands last pick step =
     let p = Desc (desc.ReadHazard seat held i) o in
-    let noted = slice_set held i (s.word (name.Hazard i)) in
+    let new = named_in seat.geometry (s.word (name.Hazard i)) in
+    let noted = slice_set held i new in
     let fits = (fits-at g s sound.parts.0 caller p sound.parts.1 has stands).point in
     let ends : nat_lt (i + 1) seat.geometry.callers ≡ false =
     subst (λ h. nat_lt (i + 1) h.callers ≡ false) (sym fits.0.seat.geometry) (le-ltb (i + 1) g.callers last) in
@@ -284,7 +293,8 @@ read-picks g s caller s' seat held i o None sound has stands last pick step =
 read-picks g s caller s' seat held i o (Some d) sound has stands last pick step =
     let p = Desc (desc.ReadHazard seat held i) o in
     let q = Desc (desc.LoadHeadToPush seat d) o in
-    let noted = slice_set held i (s.word (name.Hazard i)) in
+    let new = named_in seat.geometry (s.word (name.Hazard i)) in
+    let noted = slice_set held i new in
     let fits = (fits-at g s sound.parts.0 caller p sound.parts.1 has stands).point in
     let room = held-room g held i sound.checked fits.0.words fits.1 in
     let ends : nat_lt (i + 1) seat.geometry.callers ≡ false =
@@ -305,7 +315,7 @@ read-picks g s caller s' seat held i o (Some d) sound has stands last pick step 
             let named : slice_index noted k ≡ d + 1 =
             noted-passed g s l caller seat held i o old has stands room k d has_k mine listed (omega (arith, has_k, last)) in
             let long : k < length noted =
-            omega (arith, length-set held i (s.word (name.Hazard i)), held-room g held k sound.checked fits.0.words has_k) in
+            omega (arith, length-set held i new, held-room g held k sound.checked fits.0.words has_k) in
             some-free noted (s.errand caller).retired d pick (k, long, get_or_default noted k (d + 1) 0 long ∙ named);
         passed = λ k e has_k guards in_list below. let bad : ⊥ = omega (arith, below) in absurd bad;
         unread = λ k from below. let bad : ⊥ = omega (arith, below) in absurd bad;
@@ -321,6 +331,7 @@ read_hazard-sound g s caller s' seat held i o sound has stands step =
     elim (cases_Bool (nat_lt (i + 1) g.callers)) [
       | inl more ↦ read_hazard_next-sound g s caller s' seat held i o sound has stands (ltb-true (i + 1) g.callers more) step
       | inr none ↦
-          read-picks g s caller s' seat held i o (first_unheld (slice_set held i (s.word (name.Hazard i))) (s.errand caller).retired) sound has stands
+          read-picks g s caller s' seat held i o
+          (first_unheld (slice_set held i (named_in seat.geometry (s.word (name.Hazard i)))) (s.errand caller).retired) sound has stands
           (ltb-false (i + 1) g.callers none) refl step
     ]

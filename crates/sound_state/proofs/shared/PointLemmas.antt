@@ -1,7 +1,7 @@
 -- Steps from a point that is known: what a sound state says of the caller there, and what its word and errand weigh.
 use Rattle.std.proofs.Common.{ℕ, false, None, ◌≡◌, ◌<◌, ◌≤◌, ◌+◌, ◌^◌, List, [], ◌∷◌, refl, arith, ap, sym, subst, inl, inr, ◌∙◌, ◌≢◌, length-set, get_or-set_other}
-use Rattle.std.specs.Prelude.{All, Any, IsSome, IsTrue, length, slice_index, slice_set}
-use Rattle.std.proofs.lemmas.List.Elements.{All-nil, All-cons, All-tail}
+use Rattle.std.specs.Prelude.{All, Any, Contains, IsSome, IsTrue, length, slice_index, slice_set}
+use Rattle.std.proofs.lemmas.List.Elements.{All-nil, All-cons, All-tail, All-contains}
 use Rattle.heap_geometry.specs.Need.{need_of}
 use Rattle.heap_geometry.specs.declared.geometry.Geometry.{Geometry}
 use Rattle.heap_geometry.specs.declared.need.Need.TheVariants as need
@@ -58,6 +58,15 @@ fits-at g s l caller p old has stands =
 pub fits-now :
     (g : Geometry) (s : State) (caller : ℕ) (p : Point) → IsSoundWithoutCounts g s → caller < g.callers → (s.errand caller).point ≡ p → FitsPoint g caller p
 fits-now g s caller p sound has stands = fits-at g s sound.parts.0 caller p sound.parts.1 has stands
+
+-- what a caller has retired is a descriptor that the heap has
+pub retired-exists :
+    (g : Geometry) (s : State) (l : Lists) (caller d : ℕ) → IsSoundWith g s l → caller < g.callers → Contains (s.errand caller).retired d
+    → d < descriptor_count g
+retired-exists g s l caller d old has listed =
+    let own = old.errands caller has in
+    All-contains (λ e. e < descriptor_count g) (s.errand caller).retired d
+    (subst (λ (h : Geometry). All (λ e. e < descriptor_count h) (s.errand caller).retired) own.geometry own.rule.listed) listed
 
 pub kept-at :
     (g : Geometry) (s : State) (l : Lists) (caller : ℕ) (p : Point) → IsSoundWith g s l → caller < g.callers → (s.errand caller).point ≡ p
@@ -344,10 +353,10 @@ unread-at g s l caller p old has stands =
 -- also when it has noted the next one
 pub noted-unread :
     (g : Geometry) (s : State) (l : Lists) (caller : ℕ) (seat : SeatFields) (held : List ℕ) (i : ℕ) (o : Continuation) → IsSoundWith g s l
-    → caller < g.callers → (s.errand caller).point ≡ Desc (desc.ReadHazard seat held i) o → (k : ℕ) → i + 1 ≤ k
-    → k < length (slice_set held i (s.word (name.Hazard i))) → slice_index (slice_set held i (s.word (name.Hazard i))) k ≡ 0
-noted-unread g s l caller seat held i o old has stands k from below =
+    → caller < g.callers → (s.errand caller).point ≡ Desc (desc.ReadHazard seat held i) o → (new k : ℕ) → i + 1 ≤ k
+    → k < length (slice_set held i new) → slice_index (slice_set held i new) k ≡ 0
+noted-unread g s l caller seat held i o old has stands new k from below =
     let differ : k ≢ i = λ same. let bad : ⊥ = omega (arith, same, from) in bad in
-    get_or-set_other held i k (s.word (name.Hazard i)) 0 differ
+    get_or-set_other held i k new 0 differ
     ∙ unread-at g s l caller (Desc (desc.ReadHazard seat held i) o) old has stands k (omega (arith, from))
-    (omega (arith, below, length-set held i (s.word (name.Hazard i))))
+    (omega (arith, below, length-set held i new))
