@@ -17,7 +17,7 @@ use Rattle.errand_steps.specs.declared.continuation.Continuation.{Continuation}
 use Rattle.errand_steps.specs.declared.continuation.Continuation.TheVariants as continuation
 use Rattle.errand_steps.specs.declared.point.Point.{Point}
 use Rattle.errand_steps.specs.declared.point.Point.TheVariants as point
-use Rattle.errand_steps.specs.Points.{asked}
+use Rattle.errand_steps.specs.Points.{asked, site_of}
 
 -- how far a call is: it asks for words of a class (and has looked, where it found no partial superblock in this turn), or for words of a run; it is refused, or given a block; it frees a block, or has freed it; it writes a usable word, or reads one; it puts a block on a shelf, or takes one from there; or there is no call
 pub data Stage : Type 0 where
@@ -58,7 +58,7 @@ block_stage p o = asking (asked o) (seat_of_block p).class false
 abbrev pub continuation_stage : Bool → SeatFields → Continuation → Stage
 continuation_stage looked s (continuation.Alloc words) = asking words s.class looked
 continuation_stage looked s (continuation.TakeFrame words d) = asking words s.class true
-continuation_stage looked s (continuation.GiveBlock words at i) = block_given at i
+continuation_stage looked s (continuation.GiveBlock words d frame i) = block_given (site_of s d frame) i
 continuation_stage looked s (continuation.Discard words d) = asking words s.class false
 continuation_stage looked s (continuation.Turn words) = asking words s.class false
 continuation_stage looked s (continuation.Look words) = asking words s.class false

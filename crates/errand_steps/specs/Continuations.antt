@@ -52,7 +52,7 @@ abbrev pub pushes : Pile → Continuation → Bool
 pushes Frames (Discard words d) = true
 pushes Frames (Remove d heap) = true
 pushes Frames o = false
-pushes Partials (GiveBlock words at i) = true
+pushes Partials (GiveBlock words d frame i) = true
 pushes Partials (Finish stored) = true
 pushes Partials EndFree = true
 pushes Partials (Retire d) = true
@@ -76,7 +76,7 @@ resumes o = false
 
 -- those where a superblock is put into a slot, and where its owner is looked for
 abbrev pub fills : Continuation → Bool
-fills (GiveBlock words at i) = true
+fills (GiveBlock words d frame i) = true
 fills (Finish stored) = true
 fills o = false
 

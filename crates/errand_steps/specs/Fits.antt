@@ -25,6 +25,7 @@ use Rattle.errand_steps.specs.declared.continuation.Continuation.{Continuation}
 use Rattle.errand_steps.specs.declared.continuation.Continuation.TheVariants.{Alloc, TakeFrame, GiveBlock, Discard, Turn, Look, Refuse, Free, Remove, Clear, ClearSecond, Retire, PushFirst, Finish, EndFree, Nothing}
 use Rattle.errand_steps.specs.declared.point.Point.{Point}
 use Rattle.errand_steps.specs.declared.point.Point.TheVariants as point
+use Rattle.errand_steps.specs.Points.{site_of}
 use Rattle.errand_steps.specs.Continuations.{goes_block, goes_stack, goes_desc, goes_partial, GoesLarge, has_left_block, has_left_stack, has_left_desc, has_left_partial, has_left_large}
 
 -- blocks of the class serve so many words
@@ -35,17 +36,16 @@ IsSmallFor s words = need_of words ≡ need.Small s.class
 abbrev pub IsAllocWith : Geometry → SeatFields → ℕ → ℕ → Type 0
 IsAllocWith g s words d = IsSmallFor s words × (d < descriptor_count g)
 
--- a block that waits to be handed out is one of the seat's class
-pub record IsWaiting (g : Geometry) (caller : ℕ) (s : SeatFields) (words : ℕ) (at : Site) (i : ℕ) : Type 0 where
-  pub asked : IsSmallFor s words
+-- a block that waits to be handed out is one of the superblock
+pub record IsWaiting (g : Geometry) (caller words : ℕ) (at : Site) (i : ℕ) : Type 0 where
+  pub asked : IsSmallFor at.seat words
   pub block : IsBlockOf g caller at i
-  pub seat : at.seat ≡ s
 
 -- everything that the continuation remembers exists in this heap, and its words are served by the seat's class
 abbrev pub FitsContinuation : Geometry → ℕ → SeatFields → Continuation → Type 0
 FitsContinuation g caller s (Alloc words) = IsSmallFor s words
 FitsContinuation g caller s (TakeFrame words d) = IsAllocWith g s words d
-FitsContinuation g caller s (GiveBlock words at i) = IsWaiting g caller s words at i
+FitsContinuation g caller s (GiveBlock words d frame i) = IsWaiting g caller words (site_of s d frame) i
 FitsContinuation g caller s (Discard words d) = IsAllocWith g s words d
 FitsContinuation g caller s (Turn words) = IsSmallFor s words
 FitsContinuation g caller s (Look words) = IsSmallFor s words

@@ -30,7 +30,7 @@ use Rattle.errand_steps.specs.declared.point.Point.TheVariants.{Idle, Block, Sta
 use Rattle.errand_steps.specs.declared.reply.Reply.TheVariants as reply
 use Rattle.errand_steps.specs.declared.next.Next.{Next}
 use Rattle.errand_steps.specs.declared.next.Next.TheVariants.{At, End, Turn, Retire, Pick, Unlist}
-use Rattle.errand_steps.specs.Points.{asked}
+use Rattle.errand_steps.specs.Points.{asked, site_of}
 
 -- the end of a free: it clears the hazard word where it stored it
 abbrev pub finish : SeatFields → Bool → Next
@@ -38,7 +38,7 @@ finish s stored = if stored then At (Desc (desc.ClearHazard s) continuation.EndF
 
 -- what was to be put away stands in its slot or on its stack
 abbrev pub put_away : SeatFields → Continuation → Next
-put_away s (continuation.GiveBlock need at i) = At (Block (block.StorePrefix at i) (continuation.Alloc need))
+put_away s (continuation.GiveBlock need d frame i) = At (Block (block.StorePrefix (site_of s d frame) i) (continuation.Alloc need))
 put_away s (continuation.Finish stored) = finish s stored
 put_away s (continuation.Discard need d) = Retire s d (continuation.Turn need)
 put_away s (continuation.Remove d heap) = At (Partial (partial.LoadHeldSlot s d heap) continuation.Free)
@@ -60,7 +60,7 @@ confirmed_empty s o = At (Desc (desc.LoadDescHead s) o)
 -- an index was popped: the frame of a new superblock, a partial superblock that is taken, or one that may be empty
 abbrev pub popped : SeatFields → ℕ → Continuation → Next
 popped s i (continuation.TakeFrame need d) =
-    At (Block (block.LinkBlock (record { seat = s; desc = d; frame = i }) 0) (continuation.Alloc need))
+    At (Block (block.LinkBlock (site_of s d i) 0) (continuation.Alloc need))
 popped s i (continuation.Alloc need) = At (Partial (partial.LoadTakenInfo s i) (continuation.Alloc need))
 popped s i o = At (Partial (partial.LoadListedAnchor s i) o)
 
@@ -84,7 +84,7 @@ listed_partial s d o = At (Stack (stack.LoadTop s Partials) (continuation.ClearS
 abbrev pub enter_block : BlockPoint → Continuation → Next
 enter_block (block.WantsPartial s) o = At (Partial (partial.LoadSlot s) o)
 enter_block (block.Returned at i) o =
-    At (Partial (partial.PutSlot at.seat at.desc (heap_of at.seat)) (continuation.GiveBlock (asked o) at i))
+    At (Partial (partial.PutSlot at.seat at.desc (heap_of at.seat)) (continuation.GiveBlock (asked o) at.desc at.frame i))
 enter_block (block.Discarded at) o =
     At (Stack (stack.LoadTopToPush at.seat Frames at.frame) (continuation.Discard (asked o) at.desc))
 enter_block (block.Given at i) o =

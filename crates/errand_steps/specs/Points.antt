@@ -3,6 +3,8 @@ use Rattle.std.specs.Prelude.{ℕ, Bool, true, false}
 use Rattle.word_plan.specs.declared.action.Action.{Action}
 use Rattle.word_plan.specs.declared.action.Action.TheVariants as action
 use Rattle.word_plan.specs.declared.name.WordName.TheVariants as name
+use Rattle.word_plan.specs.declared.seat.Site.{Site}
+use Rattle.word_plan.specs.Seats.{SeatFields}
 use Rattle.superblock_parts.specs.Points.{plan_block_of}
 use Rattle.stack_parts.specs.Points.{plan_stack_of}
 use Rattle.hazard_parts.specs.Points.{plan_desc_of}
@@ -13,11 +15,15 @@ use Rattle.errand_steps.specs.declared.continuation.Continuation.TheVariants.{Al
 use Rattle.errand_steps.specs.declared.point.Point.{Point}
 use Rattle.errand_steps.specs.declared.point.Point.TheVariants.{Idle, Block, Stack, Desc, Partial, Large}
 
+-- the superblock at hand for this seat, with this descriptor and this frame
+abbrev pub site_of : SeatFields → ℕ → ℕ → Site
+site_of s d frame = record { seat = s; desc = d; frame = frame }
+
 -- the usable words that an allocation asked for; 0 for other calls
 abbrev pub asked : Continuation → ℕ
 asked (Alloc need) = need
 asked (TakeFrame need d) = need
-asked (GiveBlock need at i) = need
+asked (GiveBlock need d frame i) = need
 asked (Discard need d) = need
 asked (Turn need) = need
 asked (Look need) = need

@@ -24,6 +24,7 @@ use Rattle.errand_steps.specs.declared.continuation.Continuation.{Continuation}
 use Rattle.errand_steps.specs.declared.continuation.Continuation.TheVariants as continuation
 use Rattle.errand_steps.specs.declared.point.Point.{Point}
 use Rattle.errand_steps.specs.declared.point.Point.TheVariants.{Idle, Block, Stack, Desc, Partial, Large}
+use Rattle.errand_steps.specs.Points.{site_of}
 
 -- in what state a descriptor is that a caller keeps
 pub data Status : Type 0 where
@@ -160,7 +161,7 @@ block_holds p = nothing
 -- what waits behind a part: a descriptor on its way, or partly used ones; the block that is handed out; the hazard word
 abbrev pub continuation_holds : SeatFields → Continuation → Holding
 continuation_holds s (continuation.TakeFrame words d) = record nothing { kept = keep d s.class on_its_way }
-continuation_holds s (continuation.GiveBlock words at i) = record nothing { hands = block_handed at i }
+continuation_holds s (continuation.GiveBlock words d frame i) = record nothing { hands = block_handed (site_of s d frame) i }
 continuation_holds s (continuation.Discard words d) = record nothing { kept = keep d s.class on_its_way }
 continuation_holds s (continuation.Remove d heap) = record nothing { hazard = guarded d }
 continuation_holds s (continuation.ClearSecond first) = record nothing { kept = keep first s.class partly_used }

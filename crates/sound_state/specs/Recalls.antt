@@ -40,6 +40,7 @@ use Rattle.errand_steps.specs.declared.continuation.Continuation.{Continuation}
 use Rattle.errand_steps.specs.declared.continuation.Continuation.TheVariants as continuation
 use Rattle.errand_steps.specs.declared.point.Point.{Point}
 use Rattle.errand_steps.specs.declared.point.Point.TheVariants as point
+use Rattle.errand_steps.specs.Points.{site_of}
 use Rattle.errand_steps.specs.Steps.{State}
 use Rattle.sound_state.specs.Lists.{Lists}
 use Rattle.sound_state.specs.Superblocks.{Superblock, superblock_of, free_chain, info_for, anchor_for, is_bound, errand_keeps}
@@ -112,7 +113,7 @@ block_recalls p = []
 -- what waits behind a part
 abbrev pub continuation_recalls : SeatFields → Continuation → List Recall
 continuation_recalls s (continuation.TakeFrame words d) = looked s.class ∷ []
-continuation_recalls s (continuation.GiveBlock words at i) = bound_here at
+continuation_recalls s (continuation.GiveBlock words d frame i) = bound_here (site_of s d frame)
 continuation_recalls s (continuation.Remove d heap) = emptied d ∷ []
 continuation_recalls s (continuation.Retire d) = emptied d ∷ []
 continuation_recalls s o = []

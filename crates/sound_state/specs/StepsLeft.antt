@@ -60,7 +60,7 @@ resumed_left g s o = 0
 
 -- what follows when something is put away
 abbrev pub put_left : Geometry → SeatFields → Continuation → ℕ
-put_left g s (continuation.GiveBlock words at i) = 1
+put_left g s (continuation.GiveBlock words d frame i) = 1
 put_left g s (continuation.Discard words d) = active_left g s + scan_left g
 put_left g s (continuation.Remove d heap) = held_left g
 put_left g s (continuation.Retire d) = scan_left g

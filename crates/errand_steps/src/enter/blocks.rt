@@ -93,7 +93,8 @@ fn returned(site: Site, index: u16, continuation: Continuation) -> Next
         },
         Continuation::GiveBlock {
             need: asked(continuation),
-            site,
+            desc: site.desc,
+            frame: site.frame,
             index,
         },
     )

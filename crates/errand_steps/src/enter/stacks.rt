@@ -101,7 +101,13 @@ pub fn put_away(seat: Seat, continuation: Continuation) -> Next
     ensures { result ≡ put_away seat continuation }
 {
     match continuation {
-        Continuation::GiveBlock { need, site, index } => {
+        Continuation::GiveBlock {
+            need,
+            desc,
+            frame,
+            index,
+        } => {
+            let site = Site { seat, desc, frame };
             Next::block(
                 BlockPoint::StorePrefix { site, index },
                 Continuation::Alloc { need },

@@ -304,7 +304,7 @@ record FillsSlot (seat : SeatFields) (d heap : ℕ) (o : Continuation) (n : Next
 filled-leads :
     (seat : SeatFields) (d heap : ℕ) (o : Continuation) → IsTrue (fills o) → FillsSlot seat d heap o (enter_partial (partial.SlotFilled seat) o)
 unfolding holds_of recalls_of
-filled-leads seat d heap (GiveBlock need site i) is = grind (arith)
+filled-leads seat d heap (GiveBlock need e frame i) is = grind (arith)
 filled-leads seat d heap (Finish true) is = grind (arith)
 filled-leads seat d heap (Finish false) is = grind (arith)
 filled-leads seat d heap o is = absurd (true≢false (sym is))

@@ -33,6 +33,7 @@ use Rattle.errand_steps.specs.declared.point.Point.{Point}
 use Rattle.errand_steps.specs.declared.point.Point.TheVariants as point
 use Rattle.errand_steps.specs.Fits.{FitsContinuation, FitsPoint}
 use Rattle.errand_steps.specs.Continuations.{clears, goes_desc}
+use Rattle.errand_steps.specs.Points.{site_of}
 use Rattle.errand_steps.specs.Steps.{State}
 use Rattle.sound_state.specs.Holdings.{Handed, Freed, reserve, holds_before_pop, holds_of, block_holds, continuation_holds, stack_holds, partial_holds}
 use Rattle.sound_state.specs.Lists.{Lists}
@@ -176,7 +177,8 @@ module _ (g : Geometry) (s : State) (l : Lists) (i d : ℕ) (off : OwnsNone g s 
   apart-continuation :
       (seat : SeatFields) (o : Continuation) → FitsContinuation g i seat o → OwnHands s i (continuation_holds seat o).hands
       → AllByRecursion (IsSo g s l i) (continuation_recalls seat o) → AllByRecursion (IsUnbound d) (continuation_recalls seat o)
-  apart-continuation seat (continuation.GiveBlock words at k) fit hands so = (off at k fit.block (its-handed _ hands) so.0, tt)
+  apart-continuation seat (continuation.GiveBlock words e frame k) fit hands so =
+      (off (site_of seat e frame) k fit.block (its-handed _ hands) so.0, tt)
   apart-continuation seat o fit hands so = grind (arith)
 
   -- at a stack

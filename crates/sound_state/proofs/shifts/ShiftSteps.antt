@@ -96,7 +96,7 @@ return-others status at i more d reserves partly = grind (arith, reserves, partl
 return-stands : (at : Site) (i more : ℕ) (a : AnchorFields) (o : Continuation) → StandsIn false (Block (block.ReturnCredits at i more a) o)
 return-stands at i more a o = grind (arith)
 
-put-stands : (at : Site) (heap i words : ℕ) → StandsIn false (Partial (partial.PutSlot at.seat at.desc heap) (continuation.GiveBlock words at i))
+put-stands : (at : Site) (heap i words : ℕ) → StandsIn false (Partial (partial.PutSlot at.seat at.desc heap) (continuation.GiveBlock words at.desc at.frame i))
 put-stands at heap i words = grind (arith)
 
 -- the anchor with the returned blocks
@@ -105,7 +105,7 @@ with_returned more a = record { avail = a.avail; count = a.count + more; state =
 
 -- where a return leads
 abbrev pub puts_away : Site → ℕ → Continuation → Point
-puts_away at i o = Partial (partial.PutSlot at.seat at.desc (heap_of at.seat)) (continuation.GiveBlock (asked o) at i)
+puts_away at i o = Partial (partial.PutSlot at.seat at.desc (heap_of at.seat)) (continuation.GiveBlock (asked o) at.desc at.frame i)
 
 -- reserved blocks and free ones are fewer than all blocks, since one is at hand
 return-fewer :

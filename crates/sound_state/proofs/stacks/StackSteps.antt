@@ -34,7 +34,7 @@ use Rattle.errand_steps.specs.declared.point.Point.TheVariants.{Idle, Block, Sta
 use Rattle.errand_steps.specs.Events.{event_of}
 use Rattle.errand_steps.specs.Nexts.{next_of, popped, put_away}
 use Rattle.errand_steps.specs.Continuations.{pops, pushes}
-use Rattle.errand_steps.specs.Points.{plan_point_of}
+use Rattle.errand_steps.specs.Points.{plan_point_of, site_of}
 use Rattle.errand_steps.specs.Steps.{State, Step}
 use Rattle.sound_state.specs.Holdings.{Holding, Kept, holds_of, partly_used}
 use Rattle.sound_state.specs.Keepers.{IsKeptAs, IsPartlyUsed}
@@ -413,7 +413,7 @@ push-leads-sound g s caller s' seat pile i h o q to sound has stands word step =
 
 -- the block is handed out; the hazard word is cleared; the first of two goes back, too; the superblock is looked for in its slot; or the call ends
 abbrev pushed_to : SeatFields → Continuation → Point
-pushed_to seat (continuation.GiveBlock words at k) = Block (block.StorePrefix at k) (continuation.Alloc words)
+pushed_to seat (continuation.GiveBlock words d frame k) = Block (block.StorePrefix (site_of seat d frame) k) (continuation.Alloc words)
 pushed_to seat (continuation.Finish true) = Desc (desc.ClearHazard seat) continuation.EndFree
 pushed_to seat (continuation.PushFirst first) = Stack (stack.LoadTopToPush seat Partials first) continuation.EndFree
 pushed_to seat (continuation.Remove d heap) = Partial (partial.LoadHeldSlot seat d heap) continuation.Free
@@ -429,7 +429,7 @@ push-leads :
     (seat : SeatFields) (pile : Pile) (i : ℕ) (h : HeadFields) (o : Continuation) → pushes pile o ≡ true → keeps_list o ≡ true
     → PushLeads seat pile i h o (pushed_to seat o)
 unfolding holds_of recalls_of
-push-leads seat Partials i h (continuation.GiveBlock words at k) is goes = grind (arith)
+push-leads seat Partials i h (continuation.GiveBlock words d frame k) is goes = grind (arith)
 push-leads seat Partials i h (continuation.Finish true) is goes = grind (arith)
 push-leads seat Partials i h (continuation.Finish false) is goes = grind (arith)
 push-leads seat Partials i h continuation.EndFree is goes = grind (arith)
