@@ -1,36 +1,33 @@
 -- A call that was made without an errand, and goes on by it.
-use Rattle.std.proofs.Common.{ℕ, ◌≡◌, ◌<◌, ◌-◌, Option, None, refl, sym, ap, ◌∙◌, subst, arith}
-use Rattle.atomic_table.specs.declared.shared.Seat.{Seat}
+use Rattle.std.proofs.Common.{ℕ, ◌≡◌, ◌<◌, ◌-◌, Option, None, Some, refl, sym, ap, ◌∙◌, subst, arith}
 use Rattle.word_plan.specs.declared.action.Found.{Found as Find}
 use Rattle.superblock_parts.specs.declared.point.BlockPoint.{BlockPoint}
 use Rattle.errand_steps.specs.declared.continuation.Continuation.{Continuation}
 use Rattle.errand_steps.specs.declared.reply.Progress.{Progress}
 use Rattle.errand_steps.specs.declared.reply.Progress.TheVariants.{Idle, More, Lost, Cleared, Done}
 use Rattle.errand_steps.specs.declared.reply.Reply.{Reply}
-use Rattle.errand_steps.specs.Calls.{Call}
 use Rattle.errand_steps.specs.Offers.{offered_at}
 use Rattle.errand_steps.specs.declared.reply.Offer.{Offer}
 use Rattle.errand_steps.specs.Errands.{ErrandFields, answer_of, settle_of}
 use Rattle.step_core.specs.Moments.{IsMoment}
+use Rattle.live_heap.specs.declared.answers.Ending.{Ending}
 use Rattle.live_heap.specs.declared.heap.Heap.{Heap}
 use Rattle.live_heap.specs.declared.pass.Pass.{Pass}
-use Rattle.live_heap.specs.declared.view.View.{View}
 use Rattle.live_heap.specs.Passes.{IsOf, seen, view}
 use Rattle.live_heap.specs.Sights.{TakesStep, found_in}
-use Rattle.live_heap.specs.Answers.{IsAnswerable}
-use Rattle.live_heap.specs.Calls.{EndsInTime, IsCalling}
-use Rattle.live_heap.specs.Going.{HasWalked, IsGoing, Rejoins, at_block, stands_at}
+use Rattle.live_heap.specs.Answers.{IsAnswerable, reply_of}
+use Rattle.live_heap.specs.Going.{HasGone, HasWalked, IsGoing, Rejoins, at_block, stands_at}
 use Rattle.live_heap.proofs.CallsCounts.{cleared-undone, goes-cleared, goes-lost, going-again, going-ends, going-further, lost-undone, never-idle}
 use Rattle.live_heap.proofs.Stepped.{still-of, took-step}
 use Rattle.live_heap.proofs.Told.{moment-answerable}
 
 -- the errand catches up
 pub rejoins :
-    (h : Heap) (start : Pass) (tries : ℕ) (e : ErrandFields) (at : BlockPoint) (goes : Continuation) (s : Seat ℕ View) (found : Find) (t : Seat ℕ View)
-    → HasWalked h start tries e at goes s found t → (f : ErrandFields) → f ≡ at_block e at goes
-    → Rejoins h start tries (stands_at s e at goes) found (record { seat = t; errand = f })
-rejoins h start tries e at goes s found t w f is =
+    (h : Heap) (start : Pass) (tries : ℕ) (p : BlockPoint) (o : Continuation) (x : Find) (r : Pass) → HasWalked h start tries p o x r
+    → (f : ErrandFields) → f ≡ at_block r.errand p o → Rejoins h start tries x (record { seat = r.seat; errand = f })
+rejoins h start tries p o x r w f is =
     record {
+      last = stands_at (record { seat = w.seat; errand = r.errand }) p o;
       of = w.walks.of;
       going = w.walks.going;
       stands = is;
@@ -42,8 +39,11 @@ rejoins h start tries e at goes s found t w f is =
 
 -- the pass after that
 module _
-    (h : Heap) (start : Pass) (tries : ℕ) (last : Pass) (found : Find) (p : Pass) (j : Rejoins h start tries last found p) (q : Pass)
+    (h : Heap) (start : Pass) (tries : ℕ) (found : Find) (p : Pass) (j : Rejoins h start tries found p) (q : Pass)
     (answer : Progress) (seat : q.seat ≡ p.seat) (is : q.errand ≡ settle_of p.errand found) (told : answer ≡ answer_of p.errand found) where
+  abbrev last : Pass
+  last = j.last
+
   settled : q.errand ≡ settle_of last.errand (found_in last.errand j.has.0)
   settled = is ∙ (ap (λ (e : ErrandFields). settle_of e found) j.stands ∙ j.has.2)
 
@@ -81,11 +81,13 @@ module _
   joins-never idle = never-idle last.errand q.errand (seen last) (seen q) (subst (IsMoment last.errand q.errand (seen last) (seen q)) idle joins-moment)
 
   pub joins-ends :
-      0 < tries → (r : Reply) → answer ≡ Done r → (first : Pass) (call : Call) (made : ℕ) → IsCalling first call made start
-      → EndsInTime first call made start tries r q
-  joins-ends some r done first call made c =
-      going-ends h start tries tries last q j.of some j.going r
-      (subst (IsMoment last.errand q.errand (seen last) (seen q)) done joins-moment) first call made c
+      0 < tries → (r : Reply) → answer ≡ Done r → (ending : Ending) → reply_of ending ≡ r → HasGone h start tries (Some ending) q
+  joins-ends some r done ending is =
+      record {
+        of = joins-of;
+        goes = going-ends h start tries tries last q j.of some j.going (reply_of ending)
+            (subst (IsMoment last.errand q.errand (seen last) (seen q)) (done ∙ ap Done (sym is)) joins-moment);
+      }
 
   pub joins-answerable : (r : Reply) → answer ≡ Done r → IsAnswerable None (Done r)
   joins-answerable r done =

@@ -1,6 +1,7 @@
--- Steps in a superblock that a call makes in a row.
-use Rattle.std.proofs.Common.{ℕ, false, ◌≡◌, refl, sym, ap, ◌∙◌, subst}
-use Rattle.atomic_table.specs.declared.shared.Seat.{Seat}
+-- The step that a call makes without its errand, where it is not lost.
+use Rattle.std.proofs.Common.{ℕ, true, false, not, Option, Some, ◌≡◌, ◌<◌, refl, sym, ap, ◌∙◌, subst}
+use Rattle.word_plan.specs.declared.action.Action.{Action}
+use Rattle.word_plan.specs.declared.action.Action.TheVariants.{And, Cas, Load, Store, Swap}
 use Rattle.word_plan.specs.declared.action.Found.{Found as Find}
 use Rattle.superblock_parts.specs.declared.point.BlockPoint.{BlockPoint}
 use Rattle.superblock_parts.specs.Points.{plan_block_of, settle_block_of}
@@ -9,106 +10,138 @@ use Rattle.errand_steps.specs.declared.next.Next.TheVariants as next
 use Rattle.errand_steps.specs.declared.point.Point.{Point}
 use Rattle.errand_steps.specs.declared.point.Point.TheVariants as point
 use Rattle.errand_steps.specs.declared.reply.Progress.TheVariants.{Done, More}
-use Rattle.errand_steps.specs.declared.reply.Reply.{Reply}
+use Rattle.errand_steps.specs.Begins.{IsIdle}
 use Rattle.errand_steps.specs.Calls.{Call}
 use Rattle.errand_steps.specs.Continuations.{has_left_block}
-use Rattle.errand_steps.specs.Errands.{ErrandFields, IsErrand, answer_of, counts_lost, counts_won, course_of, plan_of, raised, settle_of}
+use Rattle.errand_steps.specs.Errands.{ErrandFields, IsErrand, answer_of, counts_lost, counts_won, course_of, is_lost_exchange, plan_of, raised, settle_of}
 use Rattle.errand_steps.specs.Nexts.{next_of}
 use Rattle.errand_steps.specs.Points.{plan_point_of}
 use Rattle.errand_steps.proofs.StayLemmas.{ended_answer, ended_errand, stay_block}
+use Rattle.sound_state.specs.Runs.{MayBegin}
 use Rattle.sound_state.proofs.beginnings.BegunErrands.{idle-is}
+use Rattle.live_heap.specs.declared.answers.Ending.{Ending}
 use Rattle.live_heap.specs.declared.heap.Heap.{Heap}
 use Rattle.live_heap.specs.declared.pass.Pass.{Pass}
-use Rattle.live_heap.specs.declared.view.View.{View}
-use Rattle.live_heap.specs.Calls.{EndsInTime, IsCalling}
-use Rattle.live_heap.specs.Going.{HasWalked, IsWalking, at_block, stands_at}
-use Rattle.live_heap.specs.Passes.{IsOf}
-use Rattle.live_heap.specs.Sights.{found_in}
-use Rattle.live_heap.proofs.CallsCounts.{going-ends, going-further}
+use Rattle.live_heap.specs.Answers.{reply_in, reply_of}
+use Rattle.live_heap.specs.Calls.{GoesOn, IsCalling}
+use Rattle.live_heap.specs.Going.{EndsSo, HasGone, HasWalked, IsWalking, at_block, in_call, stands_at}
+use Rattle.live_heap.specs.Passes.{IsOf, seen}
+use Rattle.live_heap.specs.Sights.{after_events, found_in}
+use Rattle.live_heap.proofs.Begun.{begins-of}
+use Rattle.live_heap.proofs.CallsCounts.{going-ends, going-first, going-further}
 use Rattle.live_heap.proofs.Stepped.{still-of, took-step}
 
 pub planned-at : (e : ErrandFields) (p : BlockPoint) (o : Continuation) → plan_block_of p ≡ plan_of (at_block e p o)
 unfolding plan_point_of
 planned-at e p o = refl
 
--- a step that leads to another point of the superblock and raises no count
-pub record IsQuiet (p : BlockPoint) (o : Continuation) (x : Find) : Type 0 where
-  pub inside : has_left_block (settle_block_of p x) ≡ false
-  pub won : counts_won (plan_block_of p) x ≡ false
-  pub lost : counts_lost (point.Block p o) x ≡ false
+-- a step that is not lost
+won-kept : (action : Action) (x : Find) → x.won ≡ true → is_lost_exchange action x ≡ false
+won-kept (Load name) x won = refl
+won-kept (Store name new) x won = refl
+won-kept (Cas name expected new) x won = ap not won
+won-kept (Swap name new) x won = refl
+won-kept (And name mask) x won = refl
 
-stays-answer :
-    (e : ErrandFields) (p : BlockPoint) (o : Continuation) (x : Find) → has_left_block (settle_block_of p x) ≡ false
-    → counts_lost (point.Block p o) x ≡ false → More ≡ answer_of (at_block e p o) x
-unfolding answer_of course_of next_of
-stays-answer e p o x inside lost =
-    let to = stay_block (settle_block_of p x) o inside in
-    rw (to, lost) refl
+kept : (p : BlockPoint) (o : Continuation) (x : Find) → x.won ≡ true → counts_lost (point.Block p o) x ≡ false
+unfolding plan_point_of
+kept p o x won = won-kept (plan_block_of p) x won
 
 -- an errand with what a step wins counted
 abbrev pub counted : ErrandFields → BlockPoint → Find → ErrandFields
 counted e p x = record e { won = raised (counts_won (plan_block_of p) x) e.won }
 
-counts-at :
-    (e : ErrandFields) (p q : BlockPoint) (o : Continuation) (x : Find) → q ≡ settle_block_of p x → has_left_block (settle_block_of p x) ≡ false
-    → counts_lost (point.Block p o) x ≡ false → settle_of (at_block e p o) x ≡ at_block (counted e p x) q o
-unfolding settle_of course_of next_of plan_point_of
-counts-at e p q o x is inside lost =
+-- it leads to another point of the superblock
+stays-answer :
+    (e : ErrandFields) (p : BlockPoint) (o : Continuation) (x : Find) → has_left_block (settle_block_of p x) ≡ false → x.won ≡ true
+    → More ≡ answer_of (at_block e p o) x
+unfolding answer_of course_of next_of
+stays-answer e p o x inside won =
     let to = stay_block (settle_block_of p x) o inside in
-    rw (is, to, lost) refl
+    rw (to, kept p o x won) refl
 
--- the step from such a point
+stays-errand :
+    (e : ErrandFields) (p q : BlockPoint) (o : Continuation) (x : Find) → q ≡ settle_block_of p x → has_left_block (settle_block_of p x) ≡ false
+    → x.won ≡ true → settle_of (at_block e p o) x ≡ at_block (counted e p x) q o
+unfolding settle_of course_of next_of plan_point_of
+stays-errand e p q o x is inside won =
+    let to = stay_block (settle_block_of p x) o inside in
+    rw (is, to, kept p o x won) refl
+
+-- it ends the call
+ends-next : (p : BlockPoint) (o : Continuation) (x : Find) (ending : Ending) → EndsSo p x ending → next_of (point.Block p o) x ≡ next.End (reply_of ending)
+unfolding next_of
+ends-next p o x ending so = so.ends o
+
 module _
-    (h : Heap) (start : Pass) (tries : ℕ) (e : ErrandFields) (p : BlockPoint) (o : Continuation) (s : Seat ℕ View) (x : Find) (t : Seat ℕ View)
-    (w : HasWalked h start tries e p o s x t) where
+    (h : Heap) (start : Pass) (tries : ℕ) (p : BlockPoint) (o : Continuation) (x : Find) (r : Pass)
+    (w : HasWalked h start tries p o x r) where
   abbrev before : Pass
-  before = stands_at s e p o
+  before = stands_at (record { seat = w.seat; errand = r.errand }) p o
 
-  -- it leads to this point, where none is lost
-  pub walked-counted :
-      counts_lost (point.Block p o) x ≡ false → (q : BlockPoint) → q ≡ settle_block_of p x → has_left_block (settle_block_of p x) ≡ false
-      → (f : ErrandFields) → f ≡ counted e p x → IsWalking h start tries f q o t
-  walked-counted lost q is inside f counts =
-      let at : ErrandFields = counted e p x in
-      let after : Pass = stands_at t at q o in
-      let settled : after.errand ≡ settle_of before.errand (found_in before.errand w.has.0) = sym (counts-at e p q o x is inside lost) ∙ w.has.2 in
-      let told : More ≡ answer_of before.errand (found_in before.errand w.has.0) = stays-answer e p o x inside lost ∙ w.has.3 in
-      let goes : IsWalking h start tries at q o t =
+  abbrev n : ℕ
+  n = w.has.0
+
+  pub strides :
+      x.won ≡ true → (q : BlockPoint) → q ≡ settle_block_of p x → has_left_block q ≡ false → (f : ErrandFields) → f ≡ counted r.errand p x
+      → IsWalking h start tries q o (record { seat = r.seat; errand = f })
+  strides won q is inside f counts =
+      let at : ErrandFields = counted r.errand p x in
+      let after : Pass = stands_at (record { seat = r.seat; errand = at }) q o in
+      let left : has_left_block (settle_block_of p x) ≡ false = ap has_left_block (sym is) ∙ inside in
+      let settled : after.errand ≡ settle_of before.errand (found_in before.errand n) = sym (stays-errand r.errand p q o x is left won) ∙ w.has.2 in
+      let told : More ≡ answer_of before.errand (found_in before.errand n) = stays-answer r.errand p o x left won ∙ w.has.3 in
+      let goes : IsWalking h start tries q o (record { seat = r.seat; errand = at }) =
       record {
-        of = still-of h before after w.has.0 w.walks.of w.table w.empty settled w.has.1;
-        going = going-further h start tries tries before after w.walks.of w.walks.some w.walks.going (took-step before after w.has.0 More settled told w.has.1);
+        of = still-of h before after n w.walks.of w.table w.empty settled w.has.1;
+        going = going-further h start tries tries before after w.walks.of w.walks.some w.walks.going (took-step before after n More settled told w.has.1);
         idle = w.walks.idle;
         rule = subst IsErrand (sym settled) w.has.1.served.own_errand.rule;
         some = w.walks.some;
       } in
-      subst (λ d. IsWalking h start tries d q o t) (sym counts) goes
+      subst (λ d. IsWalking h start tries q o (record { seat = r.seat; errand = d })) (sym counts) goes
 
-  -- it raises no count, and leads to this point
-  pub walked-on : IsQuiet p o x → (q : BlockPoint) → q ≡ settle_block_of p x → IsWalking h start tries e q o t
-  walked-on quiet q is = walked-counted quiet.lost q is quiet.inside e (ap (λ b. record e { won = raised b e.won }) (sym quiet.won))
+  pub finishes :
+      (ending : Ending) → EndsSo p x ending → (f : ErrandFields) → f ≡ counted r.errand p x
+      → HasGone h start tries (Some ending) (record { seat = r.seat; errand = f })
+  finishes ending so f counts =
+      let after : Pass = record { seat = r.seat; errand = f } in
+      let at : ErrandFields = counted r.errand p x in
+      let ends = ends-next p o x ending so in
+      let idle : at ≡ record at { point = point.Idle } = ap (λ (i : Point). record at { point = i }) (idle-is r.errand.point w.walks.idle) in
+      let settled : after.errand ≡ settle_of before.errand (found_in before.errand n) =
+      counts ∙ (idle
+      ∙ (ended_errand before.errand x (reply_of ending) (plan_block_of p) at.won r.errand.lost r.errand.cleared ends (planned-at r.errand p o) refl
+      (ap (λ b. raised b r.errand.lost) (sym (kept p o x so.won))) refl
+      ∙ w.has.2)) in
+      let told : Done (reply_of ending) ≡ answer_of before.errand (found_in before.errand n) =
+      sym (ended_answer before.errand x (reply_of ending) ends) ∙ w.has.3 in
+      let moment = took-step before after n (Done (reply_of ending)) settled told w.has.1 in
+      record {
+        of = still-of h before after n w.walks.of w.table w.empty settled w.has.1;
+        goes = going-ends h start tries tries before after w.walks.of w.walks.some w.walks.going (reply_of ending) moment;
+      }
 
-  ends-errand :
-      counts_lost (point.Block p o) x ≡ false → (r : Reply) → next_of (point.Block p o) x ≡ next.End r
-      → counted e p x ≡ settle_of before.errand (found_in before.errand w.has.0)
-  ends-errand lost r ends =
-      ap (λ (i : Point). record (counted e p x) { point = i }) (idle-is e.point w.walks.idle)
-      ∙ (ended_errand before.errand x r (plan_block_of p) (counted e p x).won e.lost e.cleared ends (planned-at e p o) refl
-      (ap (λ b. raised b e.lost) (sym lost)) refl
-      ∙ w.has.2)
+-- a call that begins, and would stand at this point then
+module _
+    (p : Pass) (call : Call) (q : Pass) (first : BlockPoint) (o : Continuation) (same : stands_at q first o ≡ in_call p call) where
+  pub walk-begins :
+      (h : Heap) (tries : ℕ) → IsOf h p → IsIdle p.errand → MayBegin (after_events (seen p)) p.errand.caller call → IsIdle q.errand
+      → IsErrand (in_call p call).errand → 0 < tries → IsWalking h (stands_at q first o) tries first o q
+  walk-begins h tries of idle may idle_then rule some =
+      let still : IsOf h (stands_at q first o) = subst (IsOf h) (sym same) (begins-of h p (in_call p call) call of idle may refl refl) in
+      record {
+        of = still;
+        going = going-first h (stands_at q first o) tries still refl some;
+        idle = idle_then;
+        rule = subst IsErrand (ap (λ (b : Pass). b.errand) (sym same)) rule;
+        some = some;
+      }
 
-  -- it ends the call
-  pub walked-of :
-      counts_lost (point.Block p o) x ≡ false → (r : Reply) → next_of (point.Block p o) x ≡ next.End r → (f : ErrandFields) → f ≡ counted e p x
-      → IsOf h (record { seat = t; errand = f })
-  walked-of lost r ends f counts =
-      still-of h before (record { seat = t; errand = f }) w.has.0 w.walks.of w.table w.empty (counts ∙ ends-errand lost r ends) w.has.1
-
-  pub walked-ends :
-      counts_lost (point.Block p o) x ≡ false → (r : Reply) → next_of (point.Block p o) x ≡ next.End r → (f : ErrandFields) → f ≡ counted e p x
-      → (first : Pass) (call : Call) (made : ℕ) → IsCalling first call made start
-      → EndsInTime first call made start tries r (record { seat = t; errand = f })
-  walked-ends lost r ends f counts first call made calling =
-      let after : Pass = record { seat = t; errand = f } in
-      let told = sym (ended_answer before.errand x r ends) ∙ w.has.3 in
-      going-ends h start tries tries before after w.walks.of w.walks.some w.walks.going r
-      (took-step before after w.has.0 (Done r) (counts ∙ ends-errand lost r ends) told w.has.1) first call made calling
+  -- and it has gone on from there
+  pub walk-goes :
+      (h : Heap) (tries : ℕ) (told : Option Ending) (r : Pass) → IsCalling p call 0 (in_call p call)
+      → HasGone h (stands_at q first o) tries told r → GoesOn p call 0 (in_call p call) tries (reply_in told) r
+  walk-goes h tries told r calling gone =
+      subst (λ b. GoesOn p call 0 b tries (reply_in told) r) same
+      (gone.goes p call 0 (subst (IsCalling p call 0) (sym same) calling))

@@ -1,20 +1,25 @@
 -- A call that goes on, and one that was made so far without an errand.
-use Rattle.std.specs.Prelude.{ℕ, None, ◌≡◌, ◌<◌, ◌≤◌, ◌+◌, ◌*◌, ◌-◌, ◌^◌}
+use Rattle.std.specs.Prelude.{ℕ, Option, None, true, ◌≡◌, ◌<◌, ◌≤◌, ◌+◌, ◌*◌, ◌-◌, ◌^◌}
 use Rattle.heap_geometry.specs.declared.limits.TheConstants.{CALL_STEPS}
 use Rattle.atomic_table.specs.declared.shared.Seat.{Seat}
 use Rattle.word_plan.specs.declared.action.Found.{Found as Find}
 use Rattle.superblock_parts.specs.declared.point.BlockPoint.{BlockPoint}
+use Rattle.superblock_parts.specs.Points.{settle_block_of}
 use Rattle.errand_steps.specs.declared.continuation.Continuation.{Continuation}
+use Rattle.errand_steps.specs.declared.next.Next.TheVariants.{End}
 use Rattle.errand_steps.specs.declared.point.Point.TheVariants as point
 use Rattle.errand_steps.specs.Begins.{IsBusy, IsIdle}
 use Rattle.errand_steps.specs.Offers.{offered_at}
 use Rattle.errand_steps.specs.Calls.{Call, begun_by}
 use Rattle.errand_steps.specs.Errands.{ErrandFields, IsErrand, answer_of, settle_of}
+use Rattle.errand_steps.specs.Nexts.{enter_block}
 use Rattle.sound_state.specs.StepsLeft.{steps_left}
+use Rattle.live_heap.specs.declared.answers.Ending.{Ending}
 use Rattle.live_heap.specs.declared.heap.Heap.{Heap}
 use Rattle.live_heap.specs.declared.pass.Pass.{Pass}
 use Rattle.live_heap.specs.declared.view.View.{View}
-use Rattle.live_heap.specs.Calls.{IsCalling, tries_of}
+use Rattle.live_heap.specs.Answers.{reply_in, reply_of}
+use Rattle.live_heap.specs.Calls.{GoesOn, IsCalling, tries_of}
 use Rattle.live_heap.specs.Passes.{IsOf, view}
 use Rattle.live_heap.specs.Sights.{TakesStep, found_in}
 
@@ -38,34 +43,47 @@ pub record IsGoing (h : Heap) (p : Pass) (tries left : ℕ) (q : Pass) : Type 0 
   pub most : tries_of q.errand + left ≤ tries_of p.errand + tries
   pub spent : q.errand.lost < 2 ^ 64 - 1 → tries_of q.errand + left ≡ tries_of p.errand + tries
 
+-- a call that stood at `start` and is given so many tries has gone on to this answer
+pub record HasGone (h : Heap) (start : Pass) (tries : ℕ) (told : Option Ending) (q : Pass) : Type 0 where
+  pub of : IsOf h q
+  pub goes :
+      (first : Pass) (call : Call) (made : ℕ) → IsCalling first call made start → GoesOn first call made start tries (reply_in told) q
+
 -- an errand that stands at a point of a superblock, and a pass whose errand would
 abbrev pub at_block : ErrandFields → BlockPoint → Continuation → ErrandFields
 at_block e p o = record e { point = point.Block p o }
 
-abbrev pub stands_at : Seat ℕ View → ErrandFields → BlockPoint → Continuation → Pass
-stands_at s e p o = record { seat = s; errand = at_block e p o }
+abbrev pub stands_at : Pass → BlockPoint → Continuation → Pass
+stands_at q p o = record { seat = q.seat; errand = at_block q.errand p o }
 
 -- a call that stood at `start` and is given so many tries has come to this point, and none is lost; the pass's own errand is idle all the time
-pub record IsWalking (h : Heap) (start : Pass) (tries : ℕ) (e : ErrandFields) (p : BlockPoint) (o : Continuation) (s : Seat ℕ View) : Type 0 where
-  pub of : IsOf h (stands_at s e p o)
-  pub going : IsGoing h start tries tries (stands_at s e p o)
-  pub idle : IsIdle e
-  pub rule : IsErrand (at_block e p o)
+pub record IsWalking (h : Heap) (start : Pass) (tries : ℕ) (p : BlockPoint) (o : Continuation) (q : Pass) : Type 0 where
+  pub of : IsOf h (stands_at q p o)
+  pub going : IsGoing h start tries tries (stands_at q p o)
+  pub idle : IsIdle q.errand
+  pub rule : IsErrand (at_block q.errand p o)
   pub some : 0 < tries
 
 -- its seat has made the step from there and found this; its errand stands still
-pub record HasWalked (h : Heap) (start : Pass) (tries : ℕ) (e : ErrandFields) (p : BlockPoint) (o : Continuation) (s : Seat ℕ View) (x : Find) (t : Seat ℕ View) : Type 0 where
-  pub walks : IsWalking h start tries e p o s
-  pub has : HasFound (at_block e p o) x s.me.0 t.me.0
-  pub table : t.table_id ≡ s.table_id
-  pub empty : t.me.1 ≡ s.me.1
+pub record HasWalked (h : Heap) (start : Pass) (tries : ℕ) (p : BlockPoint) (o : Continuation) (x : Find) (q : Pass) : Type 0 where
+  pub seat : Seat ℕ View
+  pub walks : IsWalking h start tries p o (record { seat = seat; errand = q.errand })
+  pub has : HasFound (at_block q.errand p o) x seat.me.0 (view q)
+  pub table : q.seat.table_id ≡ seat.table_id
+  pub empty : q.seat.me.1 ≡ seat.me.1
 
--- a call that stood at `start` has come to `last`; the pass's seat has made the step from there and found this, and its errand stands there still
-pub record Rejoins (h : Heap) (start : Pass) (tries : ℕ) (last : Pass) (found : Find) (p : Pass) : Type 0 where
+-- a call that stood at `start` had come to a pass `last`; the seat of this one has made the step from there and found this, and its errand stands there still
+pub record Rejoins (h : Heap) (start : Pass) (tries : ℕ) (x : Find) (q : Pass) : Type 0 where
+  pub last : Pass
   pub of : IsOf h last
   pub going : IsGoing h start tries tries last
-  pub stands : p.errand ≡ last.errand
+  pub stands : q.errand ≡ last.errand
   pub offers : offered_at last.errand.point ≡ None
-  pub has : HasFound last.errand found (view last) (view p)
-  pub table : p.seat.table_id ≡ last.seat.table_id
-  pub empty : p.seat.me.1 ≡ last.seat.me.1
+  pub has : HasFound last.errand x (view last) (view q)
+  pub table : q.seat.table_id ≡ last.seat.table_id
+  pub empty : q.seat.me.1 ≡ last.seat.me.1
+
+-- a step that found this ends its call so, wherever that goes on, and is not lost
+pub record EndsSo (p : BlockPoint) (x : Find) (ending : Ending) : Type 0 where
+  pub won : x.won ≡ true
+  pub ends : (o : Continuation) → enter_block (settle_block_of p x) o ≡ End (reply_of ending)

@@ -179,17 +179,7 @@ impl Heap {
         ensures goes { (first : Pass) (call : Call) (made : ℕ) → IsCalling first call made pass.old
             → GoesOn first call made pass.old tries (reply_in result) pass.new }
     {
-        let mut left = tries;
-        while left > 0 {
-            match self.step(pass) {
-                Step::Idle => unreachable!(),
-                Step::More => {}
-                Step::Lost => left -= 1,
-                Step::Cleared => left -= 1,
-                Step::Done(ending) => return Some(ending),
-            }
-        }
-        None
+        self.drive(pass, tries, tries)
     }
 }
 

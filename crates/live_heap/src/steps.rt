@@ -1,16 +1,17 @@
 //! One atomic step of a pass.
 
-ghost use Rattle.std.specs.Prelude.{ℕ, ◌≡◌, Some, IsSomeAnd};
+ghost use Rattle.std.specs.Prelude.{◌≡◌, Some, IsSomeAnd};
 ghost use Rattle.heap_geometry.specs.Need.{IsNeed};
 ghost use Rattle.word_plan.specs.Actions.{name_of};
 ghost use Rattle.word_plan.specs.Table.{Exists};
 ghost use Rattle.errand_steps.specs.declared.reply.Progress.{Progress};
 ghost use Rattle.errand_steps.specs.Begins.{IsIdle, IsBusy};
-ghost use Rattle.errand_steps.specs.Errands.{plan_of, settle_of, answer_of};
+ghost use Rattle.errand_steps.specs.Errands.{plan_of};
 ghost use Rattle.live_heap.specs.declared.answers.Step.{Step};
 ghost use Rattle.live_heap.specs.Answers.{HasStepped, GivesBack, IsAnswerable, progress_of, reply_of};
+ghost use Rattle.live_heap.specs.Going.{HasFound};
 ghost use Rattle.live_heap.specs.Passes.{IsOf};
-ghost use Rattle.live_heap.specs.Sights.{IsSightOf, TakesStep, found_in};
+ghost use Rattle.live_heap.specs.Sights.{IsSightOf};
 
 use crate::answers::{Ending, Step};
 use crate::block::Block;
@@ -43,19 +44,22 @@ impl Heap {
         told(progress, offer)
     }
 
-    /// Makes the action of an errand, which `E` names for the proof, and answers what it found. A store
+    /// Makes the action of the errand that `E` names for the proof, and answers what it found. A store
     /// finds nothing that its errand would need.
-    fn act<E: Doing>(&self, seat: &mut Seat<u8, View>, errand: &Errand, action: Action) -> Found
+    #[inline(always)]
+    pub(crate) fn act<E: Doing>(
+        &self,
+        seat: &mut Seat<u8, View>,
+        _errand: &Errand,
+        action: Action,
+    ) -> Found
         requires table { seat.old.table_id ≡ self.now.table.shared.table_id }
-        requires named { errand.now ≡ E.errand }
-        requires busy { IsBusy errand.now }
-        requires planned { action ≡ plan_of errand.now }
+        requires busy { IsBusy E.errand }
+        requires planned { action ≡ plan_of E.errand }
         requires there { Exists self.now.layout (name_of action) }
-        requires sight { IsSightOf self.now.layout seat.old.me.0 errand.now }
+        requires sight { IsSightOf self.now.layout seat.old.me.0 E.errand }
         ensures seat { (seat.new.table_id ≡ seat.old.table_id) × (seat.new.me.1 ≡ seat.old.me.1) }
-        ensures step { (n : ℕ) × TakesStep errand.now n seat.old.me.0 seat.new.me.0
-            × (settle_of errand.now result ≡ settle_of errand.now (found_in errand.now n))
-            × (answer_of errand.now result ≡ answer_of errand.now (found_in errand.now n)) }
+        ensures step { HasFound E.errand result seat.old.me.0 seat.new.me.0 }
     {
         let shared = &self.table.shared;
         match action {

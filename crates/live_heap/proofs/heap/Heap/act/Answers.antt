@@ -1,4 +1,4 @@
-use Rattle.std.proofs.Common.{ap, ◌∙◌, sym, subst}
+use Rattle.std.proofs.Common.{ap, ◌∙◌, sym, subst, refl}
 use Rattle.word_plan.specs.declared.action.Action.{Action}
 use Rattle.word_plan.specs.Actions.{name_of, found_by}
 use Rattle.word_plan.specs.Table.{Exists}
@@ -17,8 +17,8 @@ load-value-requires g c =
     let h = c.args.self.now in (
       r.table,
       c.index.ensures.within,
-      may-load h.table.shared.key h.layout _ c.args.seat.now.id c.args.seat.now.me r.sight.before g.E.Doing.errand c.args.errand.now c.in-Load.name
-          c.index.result h.laid.2 r.named r.sight.one r.sight.begun r.busy c.index.ensures.number c.index.ensures.place (sym r.planned ∙ c.in-Load.is),
+      may-load h.table.shared.key h.layout _ c.args.seat.now.id c.args.seat.now.me r.sight.before g.E.Doing.errand g.E.Doing.errand c.in-Load.name
+          c.index.result h.laid.2 refl r.sight.one r.sight.begun r.busy c.index.ensures.number c.index.ensures.place (sym r.planned ∙ c.in-Load.is),
     )
 
 pub index-requires-in-Store : goal.index-requires-in-Store
@@ -30,8 +30,8 @@ store-requires g c =
     let h = c.args.self.now in (
       r.table,
       c.index-in-Store.ensures.within,
-      may-store h.table.shared.key h.layout _ c.args.seat.now.id c.args.seat.now.me r.sight.before g.E.Doing.errand c.args.errand.now c.in-Store.name
-          c.index-in-Store.result h.laid.2 r.named r.sight.one r.sight.begun r.busy c.index-in-Store.ensures.number c.index-in-Store.ensures.place c.in-Store.new (sym r.planned ∙ c.in-Store.is),
+      may-store h.table.shared.key h.layout _ c.args.seat.now.id c.args.seat.now.me r.sight.before g.E.Doing.errand g.E.Doing.errand c.in-Store.name
+          c.index-in-Store.result h.laid.2 refl r.sight.one r.sight.begun r.busy c.index-in-Store.ensures.number c.index-in-Store.ensures.place c.in-Store.new (sym r.planned ∙ c.in-Store.is),
     )
 
 pub index-requires-in-Cas : goal.index-requires-in-Cas
@@ -43,8 +43,8 @@ compare_exchange-value-requires g c =
     let h = c.args.self.now in (
       r.table,
       c.index-in-Cas.ensures.within,
-      may-exchange h.table.shared.key h.layout _ c.args.seat.now.id c.args.seat.now.me r.sight.before g.E.Doing.errand c.args.errand.now c.in-Cas.name
-          c.index-in-Cas.result h.laid.2 r.named r.sight.one r.sight.begun r.busy c.index-in-Cas.ensures.number c.index-in-Cas.ensures.place c.in-Cas.expected c.in-Cas.new (sym r.planned ∙ c.in-Cas.is),
+      may-exchange h.table.shared.key h.layout _ c.args.seat.now.id c.args.seat.now.me r.sight.before g.E.Doing.errand g.E.Doing.errand c.in-Cas.name
+          c.index-in-Cas.result h.laid.2 refl r.sight.one r.sight.begun r.busy c.index-in-Cas.ensures.number c.index-in-Cas.ensures.place c.in-Cas.expected c.in-Cas.new (sym r.planned ∙ c.in-Cas.is),
     )
 
 pub index-requires-in-Swap : goal.index-requires-in-Swap
@@ -56,8 +56,8 @@ swap-value-requires g c =
     let h = c.args.self.now in (
       r.table,
       c.index-in-Swap.ensures.within,
-      may-swap h.table.shared.key h.layout _ c.args.seat.now.id c.args.seat.now.me r.sight.before g.E.Doing.errand c.args.errand.now c.in-Swap.name
-          c.index-in-Swap.result h.laid.2 r.named r.sight.one r.sight.begun r.busy c.index-in-Swap.ensures.number c.index-in-Swap.ensures.place c.in-Swap.new (sym r.planned ∙ c.in-Swap.is),
+      may-swap h.table.shared.key h.layout _ c.args.seat.now.id c.args.seat.now.me r.sight.before g.E.Doing.errand g.E.Doing.errand c.in-Swap.name
+          c.index-in-Swap.result h.laid.2 refl r.sight.one r.sight.begun r.busy c.index-in-Swap.ensures.number c.index-in-Swap.ensures.place c.in-Swap.new (sym r.planned ∙ c.in-Swap.is),
     )
 
 pub index-requires-in-And : goal.index-requires-in-And
@@ -69,8 +69,8 @@ fetch_and-value-requires g c =
     let h = c.args.self.now in (
       r.table,
       c.index-in-And.ensures.within,
-      may-and h.table.shared.key h.layout _ c.args.seat.now.id c.args.seat.now.me r.sight.before g.E.Doing.errand c.args.errand.now c.in-And.name
-          c.index-in-And.result h.laid.2 r.named r.sight.one r.sight.begun r.busy c.index-in-And.ensures.number c.index-in-And.ensures.place c.in-And.mask (sym r.planned ∙ c.in-And.is),
+      may-and h.table.shared.key h.layout _ c.args.seat.now.id c.args.seat.now.me r.sight.before g.E.Doing.errand g.E.Doing.errand c.in-And.name
+          c.index-in-And.result h.laid.2 refl r.sight.one r.sight.begun r.busy c.index-in-And.ensures.number c.index-in-And.ensures.place c.in-And.mask (sym r.planned ∙ c.in-And.is),
     )
 
 pub returns-in-Store-clause-step : goal.returns-in-Store-clause-step
@@ -80,9 +80,9 @@ returns-in-Store-clause-step g c =
     let stores = sym r.planned ∙ c.in-Store.is in
     let S : ErrandFields → Type 0 = λ x. TakesStep x t.0 c.args.seat.now.me.0 c.store.new.seat.me.0 in (
       t.0,
-      subst S (sym r.named) t.1.0,
-      errand-blind c.args.errand.now c.in-Store.name c.in-Store.new _ _ stores,
-      answer-blind c.args.errand.now c.in-Store.name c.in-Store.new _ _ stores,
+      t.1.0,
+      errand-blind g.E.Doing.errand c.in-Store.name c.in-Store.new _ _ stores,
+      answer-blind g.E.Doing.errand c.in-Store.name c.in-Store.new _ _ stores,
     )
 
 pub returns-in-Cas-clause-step : goal.returns-in-Cas-clause-step
@@ -92,10 +92,10 @@ returns-in-Cas-clause-step g c =
     let t = c.compare_exchange-value.ensures.2.0 in
     let S : ErrandFields → Type 0 = λ e. TakesStep e x c.args.seat.now.me.0 c.compare_exchange-value.new.seat.me.0 in
     let found = λ (a : Action). found_by a x in
-    let e = c.args.errand.now in
+    let e = g.E.Doing.errand in
     let exchanges = sym c.in-Cas.is ∙ r.planned in (
       x,
-      subst S (sym r.named) t,
+      t,
       ap (λ (a : Action). settle_of e (found a)) exchanges,
       ap (λ (a : Action). answer_of e (found a)) exchanges,
     )

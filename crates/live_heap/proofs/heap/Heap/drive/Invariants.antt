@@ -1,17 +1,12 @@
 use Rattle.std.proofs.Common.{◌+◌, ◌*◌}
 use Rattle.heap_geometry.specs.declared.limits.TheConstants.{CALL_STEPS}
 use Rattle.sound_state.specs.StepsLeft.{steps_left}
-use Rattle.live_heap.specs.declared.pass.Pass.{Pass}
 use Rattle.live_heap.specs.Passes.{IsOf}
 use Rattle.live_heap.specs.Going.{IsGoing}
 use Rattle.live_heap.proofs.heap.Heap.drive.Given as goal
 
 abbrev pub invariant-loop-left : goal.invariant-loop-left
-invariant-loop-left l = record {
-  of : IsOf l.self l.pass;
-  under : (start : Pass) × IsGoing l.self start l._tries l.left l.pass;
-  going : (start : Pass) → IsGoing l.self start l._tries l.tries_left l.fn.pass → IsGoing l.self start l._tries l.left l.pass;
-}
+invariant-loop-left g l = record { of : IsOf l.self l.pass; going : IsGoing l.self g.start l._tries l.left l.pass }
 
 abbrev pub decreases-loop-left : goal.decreases-loop-left
-decreases-loop-left l = (CALL_STEPS + 1) * l.left + steps_left l.self.layout l.pass.errand.point
+decreases-loop-left g l = (CALL_STEPS + 1) * l.left + steps_left l.self.layout l.pass.errand.point

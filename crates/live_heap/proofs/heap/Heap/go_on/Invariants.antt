@@ -1,15 +1,4 @@
-use Rattle.std.proofs.Common.{◌+◌, ◌*◌}
-use Rattle.heap_geometry.specs.declared.limits.TheConstants.{CALL_STEPS}
-use Rattle.sound_state.specs.StepsLeft.{steps_left}
-use Rattle.live_heap.specs.Passes.{IsOf}
-use Rattle.live_heap.specs.Going.{IsGoing}
 use Rattle.live_heap.proofs.heap.Heap.go_on.Given as goal
 
-abbrev pub invariant-loop-left : goal.invariant-loop-left
-invariant-loop-left l = record {
-  of : IsOf l.self l.pass;
-  going : IsGoing l.self l.initial.pass l.tries l.left l.pass;
-}
-
-abbrev pub decreases-loop-left : goal.decreases-loop-left
-decreases-loop-left l = (CALL_STEPS + 1) * l.left + steps_left l.self.layout l.pass.errand.point
+abbrev pub ghost-drive : goal.ghost-drive
+ghost-drive a = a.pass.now

@@ -8,18 +8,18 @@ use Rattle.errand_steps.proofs.PlanLemmas.{plan-exists}
 use Rattle.live_heap.proofs.WalkLemmas.{planned-at}
 use Rattle.live_heap.proofs.heap.Heap.step_at.Goals as goal
 
-pub act_named-requires-clause-busy : goal.act_named-requires-clause-busy
-act_named-requires-clause-busy g c = subst IsBusy (sym c.requires.named) refl
+pub act-requires-clause-busy : goal.act-requires-clause-busy
+act-requires-clause-busy g c = subst IsBusy (sym c.requires.named) refl
 
-pub act_named-requires-clause-planned : goal.act_named-requires-clause-planned
-act_named-requires-clause-planned g c =
-    c.plan_block-action.ensures ∙ (planned-at c.args._errand.now c.args.at.now c.args._goes ∙ ap plan_of (sym c.requires.named))
+pub act-requires-clause-planned : goal.act-requires-clause-planned
+act-requires-clause-planned g c =
+    c.plan_block-action.ensures ∙ (planned-at c.args._errand.now c.args.at.now c.args._goes.now ∙ ap plan_of (sym c.requires.named))
 
-pub act_named-requires-clause-there : goal.act_named-requires-clause-there
-act_named-requires-clause-there g c =
+pub act-requires-clause-there : goal.act-requires-clause-there
+act-requires-clause-there g c =
     let r = c.requires in
     let e = g.E.Doing.errand in
     let there = plan-exists e.geometry e.caller e.point r.rule.geometry r.rule.caller r.rule.point in
     let at : Exists c.args.self.now.layout (name_of (plan_of e)) = subst (λ k. Exists k (name_of (plan_of e))) r.sight.laid there in
     subst (λ (a : Action). Exists c.args.self.now.layout (name_of a))
-    (ap plan_of r.named ∙ (sym (planned-at c.args._errand.now c.args.at.now c.args._goes) ∙ sym c.plan_block-action.ensures)) at
+    (ap plan_of r.named ∙ (sym (planned-at c.args._errand.now c.args.at.now c.args._goes.now) ∙ sym c.plan_block-action.ensures)) at

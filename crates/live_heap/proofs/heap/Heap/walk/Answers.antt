@@ -3,15 +3,20 @@ use Rattle.live_heap.proofs.Stepped.{of-sight}
 use Rattle.live_heap.proofs.heap.Heap.walk.Goals as goal
 
 pub step_at-requires-clause-table : goal.step_at-requires-clause-table
-step_at-requires-clause-table c = c.requires.walks.2.of.table
+step_at-requires-clause-table g c = c.requires.of.table
 
 pub step_at-requires-clause-rule : goal.step_at-requires-clause-rule
-step_at-requires-clause-rule c = c.requires.walks.2.rule
+step_at-requires-clause-rule g c = c.requires.rule
 
 pub step_at-requires-clause-sight : goal.step_at-requires-clause-sight
-step_at-requires-clause-sight c =
-    of-sight c.args.self.now (stands_at c.args.seat.now c.args.errand.now c.args.at.now c.args.goes) c.requires.walks.2.of
+step_at-requires-clause-sight g c = of-sight c.args.self.now (stands_at c.args.pass.now c.args.at.now c.args.goes.now) c.requires.of
 
 pub returns : goal.returns
-returns c =
-    record { walked = λ start tries w. record { walks = w; has = c.step_at.ensures.step; table = c.step_at.ensures.seat.0; empty = c.step_at.ensures.seat.1 } }
+returns g c =
+    record {
+      seat = c.args.pass.now.seat;
+      walks = c.requires;
+      has = c.step_at.ensures.step;
+      table = c.step_at.ensures.seat.0;
+      empty = c.step_at.ensures.seat.1;
+    }
