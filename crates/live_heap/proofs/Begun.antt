@@ -1,6 +1,7 @@
 -- What a call that begins makes of a pass.
-use Rattle.std.proofs.Common.{◌≡◌, inl, inr, List, sym, ap, ◌∙◌, subst, arith}
+use Rattle.std.proofs.Common.{ℕ, ◌≡◌, inl, inr, List, sym, ap, ◌∙◌, subst, arith}
 use Rattle.pool_model.specs.declared.event.Event.{Event}
+use Rattle.heap_geometry.specs.declared.need.Need.{Need}
 use Rattle.pool_model.specs.Pool.{pool_of}
 use Rattle.pool_model.specs.WellFormed.{IsWellFormed}
 use Rattle.pool_model.proofs.HistoryLemmas.{legal-weaker}
@@ -10,6 +11,7 @@ use Rattle.errand_steps.specs.Begins.{IsIdle, IsHeapBlock, alloc_begun, free_beg
 use Rattle.errand_steps.specs.Calls.{Call, begun_by}
 use Rattle.errand_steps.specs.Errands.{ErrandFields, IsErrand}
 use Rattle.sound_state.specs.Runs.{MayBegin}
+use Rattle.step_core.specs.Cores.{OwnsAfter}
 use Rattle.live_heap.specs.declared.block.Block.{Block}
 use Rattle.live_heap.specs.declared.heap.Heap.{Heap}
 use Rattle.live_heap.specs.declared.pass.Pass.{Pass}
@@ -65,16 +67,21 @@ begins-of h p q call of idle may seat is =
     })
 
 -- a block that a pass owns is one of its heap
-pub heap-block : (h : Heap) (p : Pass) (block : Block) → IsOf h p → Owns p block → IsHeapBlock p.errand.geometry block.place block.need
-heap-block h p block of owned =
+pub heap-at :
+    (h : Heap) (p : Pass) (place : ℕ) (need : Need) → IsOf h p → OwnsAfter (seen p) p.errand.caller place need
+    → IsHeapBlock p.errand.geometry place need
+heap-at h p place need of owned =
     let b = owned.0 in
     let live = owned.1 in
     let legal = legal-weaker h.layout (seen p) of.served.legal in
-    let formed = every-each (IsWellFormed h.layout) (pool_of (seen p)) (sound-of h.layout (seen p) legal).each block.place b live in
-    let at : b.place ≡ block.place = place-found block.place (pool_of (seen p)) b live in
-    subst (λ g. IsHeapBlock g block.place block.need) (sym (of-laid h p of))
-    (subst (λ m. IsHeapBlock h.layout block.place m) owned.3
+    let formed = every-each (IsWellFormed h.layout) (pool_of (seen p)) (sound-of h.layout (seen p) legal).each place b live in
+    let at : b.place ≡ place = place-found place (pool_of (seen p)) b live in
+    subst (λ g. IsHeapBlock g place need) (sym (of-laid h p of))
+    (subst (λ m. IsHeapBlock h.layout place m) owned.3
     (subst (λ q. IsHeapBlock h.layout q b.need) at (formed.need, formed.place)))
+
+pub heap-block : (h : Heap) (p : Pass) (block : Block) → IsOf h p → Owns p block → IsHeapBlock p.errand.geometry block.place block.need
+heap-block h p block = heap-at h p block.place block.need
 
 -- in no call the pass's errand keeps its rule
 rule-begun : (log : List Event) (before e : ErrandFields) → IsBegun log before e → IsIdle e → IsErrand before → IsErrand e

@@ -124,6 +124,17 @@ ended-hand kept h p q blocks call steps answer of of_new called leaves held =
       waits = λ busy. absurd (idle-free q.errand called.idle busy);
     }
 
+-- and so do calls that leave the pass each of its blocks
+pub kept-hand :
+    (h : Heap) (p q : Pass) (blocks : List Block) → IsOf h q → IsIdle q.errand → ((block : Block) → Owns p block → Owns q block)
+    → Holds p blocks → IsHand h q blocks
+kept-hand h p q blocks of idle keeps held =
+    record {
+      of = of;
+      holds = λ still. holds-kept (Owns p) p q (λ block owned. keeps block) blocks (holds-all p (Owns p) (λ block owns. owns) blocks held) held;
+      waits = λ busy. absurd (idle-free q.errand idle busy);
+    }
+
 -- a block that lies elsewhere is added to it
 pub brought-hand :
     (h : Heap) (q : Pass) (blocks : List Block) (block : Block) → IsIdle q.errand → Owns q block

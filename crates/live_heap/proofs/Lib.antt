@@ -16,6 +16,7 @@ pub mod LawsClosed
 pub mod LawsKept
 pub mod LawsServed
 pub mod Linked
+pub mod MadeLemmas
 pub mod Moves
 pub mod OneCaller
 pub mod RefusedPoints

@@ -1,5 +1,5 @@
 -- Calls on usable words, which are one step each.
-use Rattle.std.proofs.Common.{ℕ, ◌≡◌, ◌<◌, ◌+◌, ◌^◌, refl, sym, ap, arith}
+use Rattle.std.proofs.Common.{ℕ, ◌≡◌, ◌≢◌, ◌<◌, ◌+◌, ◌^◌, refl, sym, ap, arith}
 use Rattle.heap_geometry.specs.declared.geometry.Geometry.{Geometry}
 use Rattle.heap_geometry.specs.declared.need.Need.{Need}
 use Rattle.heap_geometry.specs.declared.need.Need.TheVariants.{Small, Large, TooLarge}
@@ -18,11 +18,12 @@ use Rattle.errand_steps.specs.declared.point.Point.TheVariants as point
 use Rattle.errand_steps.specs.declared.reply.Progress.TheVariants.{Done}
 use Rattle.errand_steps.specs.declared.reply.Reply.TheVariants as reply
 use Rattle.errand_steps.specs.Begins.{IsIdle, IsBusy, IsHeapBlock, write_begun, read_begun}
-use Rattle.errand_steps.specs.Calls.{Call, begun_by, write, read}
+use Rattle.errand_steps.specs.Calls.{Call, alloc, begun_by, write, read}
 use Rattle.errand_steps.specs.Errands.{ErrandFields, plan_of, settle_of, answer_of, course_of}
 use Rattle.errand_steps.specs.Nexts.{next_of}
 use Rattle.errand_steps.specs.Points.{plan_point_of}
 use Rattle.errand_steps.specs.Offers.{offered_at}
+use Rattle.call_events.specs.UnderWay.{IsAboutBlock}
 use Rattle.sound_state.specs.Runs.{MayBegin}
 use Rattle.sound_state.proofs.beginnings.BegunErrands.{idle-is}
 use Rattle.live_heap.specs.declared.answers.Ending.{Ending}
@@ -30,11 +31,13 @@ use Rattle.live_heap.specs.declared.answers.Step.TheVariants as step
 use Rattle.live_heap.specs.declared.heap.Heap.{Heap}
 use Rattle.live_heap.specs.declared.pass.Pass.{Pass}
 use Rattle.live_heap.specs.Answers.{GivesBack, HasStepped, reply_of}
+use Rattle.live_heap.specs.Calls.{HasCalled, IsCalling}
 use Rattle.live_heap.specs.Going.{in_call}
 use Rattle.live_heap.specs.Passes.{IsOf, seen, view}
 use Rattle.live_heap.specs.Sights.{IsSightOf, TakesStep, after_events, found_in}
 use Rattle.live_heap.proofs.Begun.{begins-of}
-use Rattle.live_heap.proofs.CallsOne.{end-answers, store-ends, load-ends}
+use Rattle.live_heap.proofs.CallsGrow.{other-calling}
+use Rattle.live_heap.proofs.CallsOne.{end-answers, ends-one, store-ends, load-ends}
 use Rattle.live_heap.proofs.Stepped.{of-sight, still-of, took-step}
 
 -- a usable word of a block lies in the arena
@@ -121,3 +124,27 @@ module _
       Done (reply_of end) ≡ answer_of (begun_by p.errand call) (found_in (begun_by p.errand call) n)
       → GivesBack (offered_at (begun_by p.errand call).point) (step.Done end) → HasStepped (in_call p call) q (step.Done end)
   one-stepped answers back = record { moment = took-step (in_call p call) q n (Done (reply_of end)) is answers s; back = back }
+
+-- it has ended so, and its pass is of the heap still
+pub record EndsAtOnce (h : Heap) (p : Pass) (call : Call) (end : Ending) (q : Pass) : Type 0 where
+  pub of : IsOf h q
+  pub calling : IsCalling p call 0 (in_call p call)
+  pub stepped : HasStepped (in_call p call) q (step.Done end)
+  pub called : HasCalled p call 0 (reply_of end) q
+
+pub ends-at_once :
+    (h : Heap) (p q : Pass) (call : Call) (n : ℕ) (end : Ending) → IsOf h p → IsIdle p.errand
+    → MayBegin (after_events (seen p)) p.errand.caller call → IsAboutBlock p.errand.geometry call → ((words : ℕ) → call ≢ alloc words)
+    → q.errand ≡ settle_of (begun_by p.errand call) (found_in (begun_by p.errand call) n)
+    → Done (reply_of end) ≡ answer_of (begun_by p.errand call) (found_in (begun_by p.errand call) n)
+    → GivesBack (offered_at (begun_by p.errand call).point) (step.Done end) → TakesStep (begun_by p.errand call) n (view p) (view q)
+    → q.seat.table_id ≡ p.seat.table_id → q.seat.me.1 ≡ p.seat.me.1 → EndsAtOnce h p call end q
+ends-at_once h p q call n end of idle may about other is answers back s table empty =
+    let stepped = one-stepped h p q call n end of idle may is s answers back in
+    let calling = other-calling p (in_call p call) call (record { seat = refl; errand = refl }) idle about other in
+    record {
+      of = one-of h p q call n end of idle may is s table empty;
+      calling = calling;
+      stepped = stepped;
+      called = ends-one p call 0 (in_call p call) q (step.Done end) end refl stepped calling;
+    }

@@ -5,9 +5,11 @@ pub mod Going
 pub mod Hands
 pub mod Holdings
 pub mod Linked
+pub mod Made
 pub mod Passes
 pub mod Refusals
 pub mod Rule
 pub mod Sights
 pub mod Views
 pub mod Whole
+pub mod Words

@@ -22,7 +22,6 @@ use crate::heap::Heap;
 use crate::pass::Pass;
 use errand_steps::reply::Begun;
 use heap_geometry::need::{Need, class_of};
-use std::marker::Brand;
 
 impl Heap {
     /// An allocation of so many usable words. It loses fewer exchanges, and clears fewer empty
@@ -116,7 +115,7 @@ impl Heap {
         ensures of { IsOf self.now pass.new }
         ensures called { HasCalled pass.old (write block.now.place block.now.need i v) 0 reply.Wrote pass.new }
     {
-        self.store_word::<Brand>(&mut pass.seat, &pass.errand, block, i, v);
+        self.write_word(pass, block.place, block.need, i, v);
     }
 
     /// Reads a usable word of the pass's block; `i` counts them from 0. It is what the block's owners last
@@ -130,7 +129,7 @@ impl Heap {
         ensures called { HasCalled pass.old (read block.now.place block.now.need i) 0 (reply.Word result) pass.new }
         ensures contents { IsContents pass.new block.now.place i result }
     {
-        self.load_word::<Brand>(&mut pass.seat, &pass.errand, block, i)
+        self.read_word(pass, block.place, block.need, i)
     }
 
     /// Puts the pass's block on a shelf, from where any pass may take it.

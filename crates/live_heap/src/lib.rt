@@ -11,6 +11,7 @@ mod begins;
 pub mod block;
 mod calls;
 pub mod closed;
+mod fills;
 pub mod heap;
 pub mod laws;
 mod opened;

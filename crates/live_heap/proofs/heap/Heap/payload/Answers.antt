@@ -10,6 +10,6 @@ use Rattle.live_heap.proofs.heap.Heap.payload.Goals as goal
 pub returns-clause-within : goal.returns-clause-within
 returns-clause-within c =
     let h = c.args.self.now in
-    let n = c.args.block.now.place + 1 + c.args.i in
+    let n = c.args.place + 1 + c.args.i in
     let below = place-within h.layout (word_index h.layout (Arena n)) (word_index-within h.layout (Arena n) c.requires) in
     subst (λ m. n < m) (sym h.laid.0) (subst (λ k. k < placed_count h.layout) (sym (start-place h.layout (Arena n) h.checked c.requires)) below)

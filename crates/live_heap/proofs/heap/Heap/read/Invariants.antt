@@ -1,5 +1,0 @@
-use Rattle.errand_steps.specs.Calls.{begun_by, read}
-use Rattle.live_heap.proofs.heap.Heap.read.Given as goal
-
-abbrev pub ghosts-load_word : goal.ghosts-load_word
-ghosts-load_word a = record { errand = begun_by a._errand.now (read a.block.now.place a.block.now.need a.i) }

@@ -1,0 +1,18 @@
+use Rattle.std.proofs.Common.{ℕ, List, length, ◌≡◌, ◌%◌, ◌^◌}
+use Rattle.std.specs.Prelude.{sum}
+use Rattle.errand_steps.specs.Begins.{IsIdle}
+use Rattle.live_heap.specs.declared.block.Block.{Block}
+use Rattle.live_heap.specs.Made.{LeadsBy, found_from}
+use Rattle.live_heap.specs.Passes.{IsOf, Owns}
+use Rattle.live_heap.specs.Words.{CallsOnWord}
+use Rattle.live_heap.proofs.heap.Heap.sum.Given as goal
+
+abbrev pub invariant-loop-i : goal.invariant-loop-i
+invariant-loop-i l = record {
+  of : IsOf l.self l.pass;
+  idle : IsIdle l.pass.errand;
+  keeps : (other : Block) → Owns l.fn.pass other → Owns l.pass other;
+  sums :
+      (words : List ℕ) × (length words ≡ l.i) × (l.total ≡ sum words % 2 ^ 64)
+      × LeadsBy (CallsOnWord l.self) l.fn.pass (found_from l.block.place l.block.need 0 words) l.pass;
+}
