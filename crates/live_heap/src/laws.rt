@@ -26,6 +26,7 @@ ghost use Rattle.live_heap.specs.Calls.{HasCalled, IsCalling, IsInterrupted};
 ghost use Rattle.live_heap.specs.Endings.{ClosedFields, IsResting, machine_of};
 ghost use Rattle.live_heap.specs.Passes.{IsOf, Owns, seen};
 ghost use Rattle.live_heap.specs.Refusals.{HasFoundNoFrame, HasFoundNoRun};
+ghost use Rattle.live_heap.specs.Whole.{Hands, IsWhole};
 
 /// What is so of every pass, whatever calls it has made: the events that it has seen are legal, and
 /// bound its turns, whether its errand is the one that its last step left or a call has begun since. With
@@ -46,6 +47,20 @@ pub fn passes_keep_their_blocks()
         → HasCalled p call steps (reply.Given place need) q → Owns p block → block.place ≢ place }
     ensures got { (h : Heap) (p q : Pass) (call : Call) (steps place : ℕ) (need : Need) (block : Block) → IsOf h p → IsOf h q
         → HasCalled p call steps (reply.Got place need) q → Owns p block → block.place ≢ place }
+{}
+
+/// What a whole call leaves and hands out, however often it was interrupted: the pass keeps the blocks
+/// that it owns, but for the one that a free or a put is about; a block that it is given or takes is its
+/// own and none of those that it had, and one that it is given serves what was asked for.
+pub fn whole_calls_keep_blocks()
+    ensures keeps { (h k : Heap) (p q : Pass) (call : Call) (answer : Reply) (place : ℕ) (need : Need) → IsWhole h p call answer k q
+        → Leaves call place → OwnsAfter (seen p) p.errand.caller place need → OwnsAfter (seen q) q.errand.caller place need }
+    ensures hands { (h k : Heap) (p q : Pass) (call : Call) (answer : Reply) (place : ℕ) (need : Need) → IsWhole h p call answer k q
+        → Hands answer place need → OwnsAfter (seen q) q.errand.caller place need }
+    ensures apart { (h k : Heap) (p q : Pass) (call : Call) (answer : Reply) (place other : ℕ) (need had : Need) → IsWhole h p call answer k q
+        → Hands answer place need → OwnsAfter (seen p) p.errand.caller other had → other ≢ place }
+    ensures serves { (h k : Heap) (p q : Pass) (words place : ℕ) (need : Need) → IsWhole h p (alloc words) (reply.Given place need) k q
+        → need ≡ need_of words }
 {}
 
 /// Why an allocation is refused. For a small need a step of the call found the class's list empty, a later
