@@ -9,9 +9,10 @@ use crate::alone::geometry;
 use errand_steps::reply::Begun;
 use heap_geometry::limits::SHELVES;
 use heap_geometry::need::Need;
-use lane_engine::engine::{Engine, Token};
+use lane_engine::engine::Engine;
 use lane_engine::over_core::Grip;
 use lane_engine::stepped::Stepped;
+use lane_engine::token::Token;
 use pool_model::owner::Owner;
 use std::alloc::AllocError;
 use std::process::Abort;
@@ -73,8 +74,8 @@ fn complete<B: Token + Drop, E: Engine<Held = B>>(
 {
     match request {
         Request::Free => engine.begin_free(caller, held),
-        Request::Write(i, v) if i < E::words(&held) => engine.begin_write(caller, &held, i, v),
-        Request::Read(i) if i < E::words(&held) => engine.begin_read(caller, &held, i),
+        Request::Write(i, v) if i < held.words() => engine.begin_write(caller, &held, i, v),
+        Request::Read(i) if i < held.words() => engine.begin_read(caller, &held, i),
         Request::Put(shelf) if shelf < SHELVES => engine.begin_put(caller, held, shelf),
         _ => return Ok(None),
     }
@@ -203,7 +204,7 @@ fn blocks_are_given_and_freed(rt: HostRuntime) -> Result<(), Fail> {
     ];
     come_to(&rt, &mut core, &rows)?;
     let second = grip(1024, Size::Widest);
-    assert_eq!(rt; (Core::words(&second), Core::place(&second)), (1023, 1024));
+    assert_eq!(rt; (second.words(), second.place()), (1023, 1024));
     Ok(())
 }
 

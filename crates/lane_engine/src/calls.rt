@@ -11,7 +11,7 @@ ghost use Rattle.step_core.specs.Keeping.{Leaves};
 ghost use Rattle.lane_engine.specs.Whole.{PutTells, TakeTells, allocated_as};
 ghost use Rattle.live_heap.specs.Whole.{Hands};
 
-use crate::engine::Token;
+use crate::token::Token;
 use std::sync::Wait;
 
 /// What an allocation came to.
@@ -55,14 +55,6 @@ pub trait Calls {
 
     /// A whole call led from one state to the other, and ended with this answer.
     ghost called: { Self → Call → Reply → Self → Type 0 };
-
-    /// The usable words of a block.
-    fn words(held: &Self::Held) -> u32
-        ensures { result ≡ usable_words (Self.Held.need_of held.now) };
-
-    /// The arena word of a block's prefix.
-    fn place(held: &Self::Held) -> u32
-        ensures { result ≡ Self.Held.place_of held.now };
 
     /// Allocates a block of so many usable words.
     fn allocate<R: Wait>(&mut self, rt: &R, need: u32) -> Allocated<Self::Held>

@@ -1,9 +1,8 @@
-//! The trait over which a lane is written once.
+//! The trait over which a lane goes step by step.
 
 ghost use Rattle.std.specs.Prelude.{ℕ, ◌≡◌, ◌≢◌, ◌<◌, List, IfOk, OnErr};
 ghost use Rattle.heap_geometry.specs.declared.geometry.Geometry.{Geometry};
 ghost use Rattle.heap_geometry.specs.declared.limits.TheConstants.{SHELVES};
-ghost use Rattle.heap_geometry.specs.declared.need.Need.{Need};
 ghost use Rattle.heap_geometry.specs.Need.{usable_words};
 ghost use Rattle.pool_model.specs.declared.event.Event.{Event};
 ghost use Rattle.errand_steps.specs.Begins.{IsIdle, IsBusy, alloc_answer};
@@ -17,17 +16,9 @@ ghost use Rattle.lane_engine.specs.Engines.{HasStepped};
 ghost use Rattle.lane_engine.specs.declared.stepped.Stepped.TheVariants as stepped;
 
 use crate::stepped::Stepped;
+use crate::token::Token;
 use errand_steps::reply::Begun;
 use std::alloc::AllocError;
-
-/// A block that a caller holds.
-pub trait Token {
-    /// The arena word of its prefix.
-    ghost place_of: { Self → ℕ };
-
-    /// What it serves.
-    ghost need_of: { Self → Need };
-}
 
 /// Something that serves callers, each named by its number: it begins their calls, and makes their
 /// steps one at a time.
@@ -61,14 +52,6 @@ pub trait Engine {
 
     /// A call that begins, or a step, leads from one state to the next.
     ghost moved: { Self → Move → Self → Type 0 };
-
-    /// The usable words of a block.
-    fn words(held: &Self::Held) -> u32
-        ensures { result ≡ usable_words (Self.Held.need_of held.now) };
-
-    /// The arena word of a block's prefix.
-    fn place(held: &Self::Held) -> u32
-        ensures { result ≡ Self.Held.place_of held.now };
 
     /// Begins an allocation of so many usable words. A small one takes a turn; where the caller has
     /// none left, or no block has so many words, nothing begins.

@@ -7,3 +7,4 @@ pub mod engine;
 pub mod over_core;
 pub mod over_pass;
 pub mod stepped;
+pub mod token;

@@ -5,8 +5,9 @@ ghost use Rattle.heap_geometry.specs.Need.{IsNeed};
 ghost use Rattle.lane_engine.specs.Engines.{IsTellable, Tells};
 ghost use Rattle.step_core.specs.Needs.{IsNeed-prop};
 
-use crate::engine::{Engine, Token};
+use crate::engine::Engine;
 use crate::stepped::Stepped;
+use crate::token::Token;
 use errand_steps::reply::{Begun, Offer, Progress, Reply};
 use heap_geometry::need::{Need, usable};
 use std::alloc::AllocError;
@@ -24,6 +25,14 @@ impl Token for Grip {
     ghost place_of = { λ grip. grip.place };
 
     ghost need_of = { λ grip. grip.need };
+
+    fn words(&self) -> u32 {
+        usable(self.need)
+    }
+
+    fn place(&self) -> u32 {
+        self.place
+    }
 }
 
 // `steps` tells what the type keeps of the machine that a call leaves, so that it serves its callers on.
@@ -51,14 +60,6 @@ impl Engine for Core {
     ghost may_fail = { Unit {0} };
 
     ghost moved = { MovesCore };
-
-    fn words(held: &Grip) -> u32 {
-        usable(held.need)
-    }
-
-    fn place(held: &Grip) -> u32 {
-        held.place
-    }
 
     fn begin_alloc(&mut self, caller: u32, need: u32) -> Begun {
         let begun = self.begin_alloc(caller, need);

@@ -9,7 +9,7 @@ ghost use Rattle.live_heap.specs.Passes.{IsOf};
 ghost use Rattle.live_heap.specs.Whole.{IsAtRest, ResumesTo};
 
 use crate::calls::{Allocated, Calls, Taken};
-use crate::engine::Token;
+use crate::token::Token;
 use live_heap::answers::{AllocAnswer, FreeAnswer, Resumed, Taken as Found};
 use live_heap::block::Block;
 use live_heap::heap::Heap;
@@ -21,6 +21,14 @@ impl Token for Block {
     ghost place_of = { λ block. block.place };
 
     ghost need_of = { λ block. block.need };
+
+    fn words(&self) -> u32 {
+        self.words()
+    }
+
+    fn place(&self) -> u32 {
+        self.place()
+    }
 }
 
 /// By how many lost exchanges and cleared superblocks, together, a pass's count grows between two yields.
@@ -88,7 +96,6 @@ impl<'a> PassCalls<'a> {
 
 impl<'a> Calls for PassCalls<'a> {
     ghost use Rattle.std.specs.Prelude.{◌≡◌, ℕ};
-    ghost use Rattle.heap_geometry.specs.Need.{usable_words};
     ghost use Rattle.live_heap.specs.declared.heap.Heap.{Heap};
     ghost use Rattle.step_core.specs.Cores.{OwnsAfter};
     ghost use Rattle.live_heap.specs.Passes.{IsOf, seen};
@@ -106,18 +113,6 @@ impl<'a> Calls for PassCalls<'a> {
     ghost runs_on = { λ e. (e.pass.ghost_name, e.heap.now) };
 
     ghost called = { λ e call answer f. IsWhole e.heap.now e.pass.now call answer f.heap.now f.pass.now };
-
-    fn words(held: &Block) -> u32
-        ensures { result ≡ usable_words held.now.need }
-    {
-        held.words()
-    }
-
-    fn place(held: &Block) -> u32
-        ensures { result ≡ held.now.place }
-    {
-        held.place()
-    }
 
     fn allocate<R: Wait>(&mut self, rt: &R, need: u32) -> Allocated<Block> {
         let tries = tries(self.pass, &mut self.last);

@@ -5,7 +5,7 @@ ghost use Rattle.trace_text.specs.Traces.{IsTrace};
 ghost use Rattle.lane_runner.specs.Running.{operations_in};
 ghost use Rattle.lane_steps.specs.States.{AreNew};
 
-use lane_engine::engine::Token;
+use lane_engine::token::Token;
 use lane_steps::lane::LaneState;
 use std::alloc::{AllocError, Global};
 use trace_text::trace::{Op, Trace};

@@ -1,4 +1,4 @@
-//! One lane of a trace over any engine, one atomic step after another.
+//! One lane of a trace, and how it goes on by one atomic step after another.
 
 ghost use Rattle.std.specs.Prelude.{ℕ, ◌≡◌, ◌≢◌, ◌<◌, ◌≤◌, ◌+◌, ◌-◌, ◌^◌, ◌↔◌, ◌++◌, ◌∷◌, [], None, Ok, IfOk, OnErr, All, length, min, true, false, replicate, IsTrue, List};
 ghost use Rattle.std.specs.Vec.{vec_len, vec_capacity};
@@ -19,8 +19,9 @@ mod registers;
 
 use crate::stage::Stage;
 use edge_io::gate::Gate;
-use lane_engine::engine::{Engine, Token};
+use lane_engine::engine::Engine;
 use lane_engine::stepped::Stepped;
+use lane_engine::token::Token;
 use lane_outcomes::outcome::Outcome;
 use std::alloc::{AllocError, Global};
 use trace_text::limits::REGISTERS;

@@ -24,7 +24,7 @@ ghost use Rattle.lane_steps.specs.declared.stage.Stage.{Stage};
 ghost use Rattle.lane_steps.specs.declared.stage.Stage.TheVariants.{Between};
 
 use crate::lane::LaneState;
-use lane_engine::engine::Token;
+use lane_engine::token::Token;
 
 /// A new lane stands where its caller is in no call and has no event, and it has begun no call.
 pub fn new_lanes_stand<B: Token>()

@@ -1,4 +1,4 @@
-//! A lane of a trace over any engine: each operation as its calls, each call as its atomic steps.
+//! A lane of a trace: each operation as its calls, each call as its atomic steps, or made as a whole.
 #![tactic(auto)]
 
 pub mod lane;

@@ -14,32 +14,33 @@ ghost use Rattle.lane_steps.specs.Advances.{MayAnswer, Answers, word_behind, tot
 use super::LaneState;
 use super::registers::put_in;
 use crate::stage::Stage;
-use lane_engine::engine::{Engine, Token};
+use lane_engine::engine::Engine;
 use lane_engine::stepped::Stepped;
+use lane_engine::token::Token;
 use lane_outcomes::outcome::Outcome;
 use trace_text::trace::Op;
 
 impl<B: Token + Drop> LaneState<B> {
     /// The usable words of a full register's block.
-    fn words_in<E: Engine<Held = B>>(&self, r: u16) -> u32
+    fn words_in(&self, r: u16) -> u32
         requires { r < length self.now.registers.items }
         ensures { (block : B) → slice_index_or self.now.registers.items r None ≡ Some block
             → result ≡ usable_words (B.need_of block) }
     {
         match &self.registers[usize::from(r)] {
-            Some(block) => E::words(block),
+            Some(block) => block.words(),
             None => 0,
         }
     }
 
     /// The place of a full register's block.
-    fn place_in<E: Engine<Held = B>>(&self, r: u16) -> u32
+    fn place_in(&self, r: u16) -> u32
         requires { r < length self.now.registers.items }
         ensures { (block : B) → slice_index_or self.now.registers.items r None ≡ Some block
             → result ≡ B.place_of block }
     {
         match &self.registers[usize::from(r)] {
-            Some(block) => E::place(block),
+            Some(block) => block.place(),
             None => 0,
         }
     }
@@ -111,8 +112,8 @@ impl<B: Token + Drop> LaneState<B> {
             Stepped::Refused => self.finish(Outcome::Refused),
             Stepped::Spent => self.finish(Outcome::Spent),
             Stepped::Wrote => {
-                let words = self.words_in::<E>(r);
-                let place = self.place_in::<E>(r);
+                let words = self.words_in(r);
+                let place = self.place_in(r);
                 match self.next_word(words) {
                     Some(next) => self.write_word(engine, r, v, next),
                     None => self.finish(Outcome::Given { words, place }),
@@ -150,7 +151,7 @@ impl<B: Token + Drop> LaneState<B> {
         let Stepped::Wrote = told else {
             return;
         };
-        let words = self.words_in::<E>(r);
+        let words = self.words_in(r);
         match self.next_word(words) {
             Some(next) => self.write_word(engine, r, v, next),
             None => self.finish(Outcome::Filled),
@@ -171,7 +172,7 @@ impl<B: Token + Drop> LaneState<B> {
             return;
         };
         let total = self.total_with(word);
-        let words = self.words_in::<E>(r);
+        let words = self.words_in(r);
         match self.next_word(words) {
             Some(next) => self.read_word(engine, r, next, total),
             None => self.finish(Outcome::Sum(total)),
@@ -217,8 +218,8 @@ impl<B: Token + Drop> LaneState<B> {
     {
         match told {
             Stepped::Got(block) => {
-                let words = E::words(&block);
-                let place = E::place(&block);
+                let words = block.words();
+                let place = block.place();
                 put_in(&mut self.registers, r, block);
                 self.finish(Outcome::Took { words, place });
             }

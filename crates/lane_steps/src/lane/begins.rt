@@ -18,7 +18,8 @@ use super::LaneState;
 use super::registers::{is_full, take_out};
 use crate::stage::Stage;
 use errand_steps::reply::Begun;
-use lane_engine::engine::{Engine, Token};
+use lane_engine::engine::Engine;
+use lane_engine::token::Token;
 use lane_outcomes::outcome::Outcome;
 use trace_text::trace::Op;
 

@@ -16,7 +16,7 @@ use super::registers::{is_full, put_in, take_out};
 use super::{LaneState, number_of};
 use edge_io::gate::Gate;
 use lane_engine::calls::{Allocated, Calls, Taken};
-use lane_engine::engine::Token;
+use lane_engine::token::Token;
 use lane_outcomes::outcome::Outcome;
 use std::sync::Wait;
 use trace_text::trace::Op;
@@ -30,7 +30,7 @@ fn fill_words<B: Token, C: Calls<Held = B>>(calls: &mut C, block: &B, v: u64)
     ensures made { LeadsBy C.called calls.old
         (wrote (B.place_of block.now) (B.need_of block.now) v (usable_words (B.need_of block.now))) calls.new }
 {
-    for i in 0..C::words(block) {
+    for i in 0..block.words() {
         calls.write(block, i, v.wrapping_add(u64::from(i)));
     }
 }
@@ -44,7 +44,7 @@ fn sum_words<B: Token, C: Calls<Held = B>>(calls: &mut C, block: &B) -> u64
     ensures made { Sums C.called calls.old (B.place_of block.now) (B.need_of block.now) result calls.new }
 {
     let mut total = 0u64;
-    for i in 0..C::words(block) {
+    for i in 0..block.words() {
         total = total.wrapping_add(calls.read(block, i));
     }
     total
@@ -119,8 +119,8 @@ impl<B: Token + Drop> LaneState<B> {
         match calls.allocate(rt, need) {
             Allocated::Given(block) => {
                 fill_words(calls, &block, v);
-                let words = C::words(&block);
-                let place = C::place(&block);
+                let words = block.words();
+                let place = block.place();
                 put_in(&mut self.registers, r, block);
                 self.finish(Outcome::Given { words, place });
             }
@@ -225,8 +225,8 @@ impl<B: Token + Drop> LaneState<B> {
         }
         match take_block(rt, calls, shelf) {
             Some(block) => {
-                let words = C::words(&block);
-                let place = C::place(&block);
+                let words = block.words();
+                let place = block.place();
                 put_in(&mut self.registers, r, block);
                 self.finish(Outcome::Took { words, place });
             }

@@ -1,4 +1,4 @@
-//! The registers of a lane over an engine.
+//! The registers of a lane.
 
 ghost use Rattle.std.specs.Prelude.{◌≡◌, ◌<◌, ◌↔◌, length, Some, None, slice_set, IsTrue, IsSome};
 ghost use Rattle.std.specs.List.{slice_index_or};
