@@ -1,5 +1,6 @@
 -- The outcomes of lanes that ran on threads fit the history of their closed heap.
-use Rattle.std.proofs.Common.{ℕ, ◌≡◌, ◌<◌, ◌≤◌, ◌+◌, List, [], ◌∷◌, ◌++◌, length, length-append, append_assoc, get_or, max, refl, sym, ap, ◌∙◌, subst, inl, inr, arith, zero-add}
+use Rattle.std.proofs.Common.{ℕ, zero, suc, ◌≡◌, ◌<◌, ◌≤◌, ◌+◌, Bool, true, List, [], ◌∷◌, ◌++◌, length, length-append, append_assoc, get_or, max, take, refl, sym, ap, ◌∙◌, subst, inl, inr, arith, zero-add}
+use Rattle.std.specs.Prelude.{Contains}
 use Rattle.std.specs.List.{AllByRecursion}
 use Rattle.std.proofs.lemmas.Bool.{cases_lt}
 use Rattle.std.proofs.lemmas.List.Elements.{All-get_or}
@@ -15,10 +16,14 @@ use Rattle.sound_state.specs.Sums.{callers_sum}
 use Rattle.sound_state.proofs.shared.SumLemmas.{term-sum}
 use Rattle.step_core.specs.Cores.{errand_at}
 use Rattle.step_core.specs.Moments.{HasSeenMore}
+use Rattle.trace_text.specs.declared.trace.Op.{Op}
 use Rattle.trace_text.specs.declared.trace.Trace.{Trace}
 use Rattle.trace_text.specs.Traces.{IsTrace}
 use Rattle.lane_outcomes.specs.declared.outcome.Outcome.{Outcome}
-use Rattle.lane_outcomes.specs.Fits.{Fits, OutcomesFit}
+use Rattle.lane_outcomes.specs.declared.outcome.Outcome.TheVariants as outcome
+use Rattle.lane_outcomes.specs.Fits.{Fits, OutcomesFit, Walks}
+use Rattle.lane_outcomes.specs.Lane.{Position, position_after, spent_after, start}
+use Rattle.lane_outcomes.specs.Rows.{Setting}
 use Rattle.lane_outcomes.specs.Standing.{setting_in}
 use Rattle.live_heap.specs.declared.heap.Heap.{Heap}
 use Rattle.live_heap.specs.declared.pass.Pass.{Pass}
@@ -27,7 +32,7 @@ use Rattle.live_heap.specs.Passes.{seen}
 use Rattle.live_heap.proofs.LawsClosed.{closed-legal}
 use Rattle.lane_steps.specs.declared.stage.Stage.TheVariants as stage
 use Rattle.lane_runner.specs.Running.{operations_in}
-use Rattle.lane_runner.specs.Threads.{HaveRun}
+use Rattle.lane_runner.specs.Threads.{HasEndedOver, HaveRun}
 use Rattle.lane_steps.proofs.BesideLemmas.{lane-beside}
 use Rattle.lane_runner.proofs.DrivenLemmas.{fits-all}
 use Rattle.lane_steps.proofs.EndedLemmas.{lane-fits}
@@ -65,6 +70,31 @@ events-below g count history before (event ∷ events) legal is none = (
 at-least-one : (n m : ℕ) → m ≡ max 1 n → n ≤ m
 at-least-one n m is = omega (arith, is)
 
+-- a lane that has no turn left has none later; and one that was told so has none at its end
+spent-on : (spent : Bool) (result : Outcome) → spent ≡ true → spent_after spent result ≡ true
+spent-on spent outcome.Spent is = refl
+spent-on spent result is = is
+
+stays-spent :
+    (setting : Setting) (from to : Position) (operations : List Op) (results : List Outcome) → Walks setting from operations results to
+    → from.spent ≡ true → to.spent ≡ true
+stays-spent setting from to [] [] walks is = ap (λ (p : Position). p.spent) walks ∙ is
+stays-spent setting from to [] (result ∷ results) walks is = absurd walks
+stays-spent setting from to (operation ∷ operations) [] walks is = absurd walks
+stays-spent setting from to (operation ∷ operations) (result ∷ results) (piece, row, walks) is =
+    stays-spent setting (position_after from operation result piece) to operations results walks (spent-on from.spent result is)
+
+told-spent :
+    (setting : Setting) (from to : Position) (operations : List Op) (results : List Outcome) (k : ℕ) → Walks setting from operations results to
+    → k < length results → get_or results k outcome.Spent ≡ outcome.Spent → to.spent ≡ true
+told-spent setting from to operations [] k walks lt is = absurd (omega (arith, lt))
+told-spent setting from to [] (result ∷ results) k walks lt is = absurd walks
+told-spent setting from to (operation ∷ operations) (result ∷ results) zero (piece, row, walks) lt is =
+    stays-spent setting (position_after from operation result piece) to operations results walks
+    (subst (λ r. spent_after from.spent r ≡ true) (sym is) refl)
+told-spent setting from to (operation ∷ operations) (result ∷ results) (suc k) (piece, row, walks) lt is =
+    told-spent setting (position_after from operation result piece) to operations results k walks (omega (arith, lt)) is
+
 module _ (trace : Trace) (h : Heap) (passes : List Pass) (outcomes : List (List Outcome)) (c : ClosedFields) (is : IsTrace trace) (laid : h.layout ≡ trace.heap) (run : HaveRun trace h passes outcomes) (closed : HasClosed h passes c) (rests : IsResting c) where
   layout : c.geometry ≡ trace.heap
   layout = closed.heap ∙ laid
@@ -78,31 +108,52 @@ module _ (trace : Trace) (h : Heap) (passes : List Pass) (outcomes : List (List 
   taken : (k : ℕ) (p : Pass) → k < length passes → p ≡ get_or passes k p → HasTakenIn c p
   taken k p lt there = subst (HasTakenIn c) (sym there) (All-get_or (HasTakenIn c) passes k p lt closed.each)
 
+  -- the pass of a lane that has ended, as the closed heap has taken it in
+  ended :
+      (lane : ℕ) → lane < length trace.lanes
+      → (p : Pass) × HasEndedOver h (operations_in trace lane) lane p (get_or outcomes lane []) × HasTakenIn c p × (errand_at c.errands lane ≡ p.errand)
+  ended lane lt =
+      let below : lane < length passes = omega (arith, lt, at-least-one (length trace.lanes) trace.heap.callers is.callers, run.all) in
+      let it = element_at passes lane below in
+      let e = run.each lane it.0 lt it.1 in
+      let t = taken lane it.0 below it.1 in
+      (it.0, e, t, ap (errand_at c.errands) (sym e.caller) ∙ t.errand)
+
   fits-at :
       (lane : ℕ) → lane < length trace.lanes
       → Fits (setting_in c.events (0 + lane) trace.heap.turn_limit lost_by) (get_or trace.lanes lane []) (get_or outcomes lane [])
   unfolding lost_by callers_sum
   fits-at lane lt =
-      let has : lane < trace.heap.callers = omega (arith, lt, at-least-one (length trace.lanes) trace.heap.callers is.callers) in
-      let below : lane < length passes = omega (arith, has, run.all) in
-      let it = element_at passes lane below in
+      let it = ended lane lt in
       let p = it.0 in
-      let e = run.each lane p lt it.1 in
-      let t = taken lane p below it.1 in
+      let e = it.1 in
+      let t = it.2 in
       let own_same : own lane c.events ≡ own lane (seen p) = subst (λ k. own k c.events ≡ own k (seen p)) e.caller t.events in
       let more = seen-all lane (seen p) c.events t.seen_before.0 t.seen_before.1 own_same in
       let now =
       lane-beside h.layout lane (seen p) c.events p.errand (operations_in trace lane) e.registers (get_or outcomes lane []) stage.Between e.rule more
       (subst (λ g. IsLegal g c.events) closed.heap legal) in
-      let here : errand_at c.errands lane ≡ p.errand = ap (errand_at c.errands) (sym e.caller) ∙ t.errand in
+      let has : lane < trace.heap.callers = omega (arith, lt, at-least-one (length trace.lanes) trace.heap.callers is.callers) in
       let most : (errand_at c.errands lane).lost ≤ lost_by =
       term-sum c.geometry.callers (λ k. lost_of (errand_at c.errands k)) lane
       (subst (λ (g : Geometry). lane < g.callers) (sym layout) has) in
       let fit =
       lane-fits h.layout lane c.events p.errand (operations_in trace lane) e.registers (get_or outcomes lane []) stage.Between lost_by now refl e.all
-      (subst (λ (e : ErrandFields). e.lost ≤ lost_by) here most) in
+      (subst (λ (e : ErrandFields). e.lost ≤ lost_by) it.3 most) in
       subst (λ k. Fits (setting_in c.events k trace.heap.turn_limit lost_by) (operations_in trace lane) (get_or outcomes lane [])) (sym (zero-add lane))
       (subst (λ (g : Geometry). Fits (setting_in c.events lane g.turn_limit lost_by) (operations_in trace lane) (get_or outcomes lane [])) laid fit)
+
+  -- a lane that was told to have no turn left has taken them all
+  pub all-taken :
+      (lane : ℕ) → lane < length trace.lanes → Contains (get_or outcomes lane []) outcome.Spent
+      → (errand_at c.errands lane).turns ≡ trace.heap.turn_limit
+  all-taken lane lt told =
+      let it = ended lane lt in
+      let e = it.1 in
+      let spent =
+      told-spent (setting_in (seen it.0) lane h.layout.turn_limit it.0.errand.lost) start e.rule.position
+      (take (length (get_or outcomes lane [])) (operations_in trace lane)) (get_or outcomes lane []) told.0 e.rule.walks told.1 told.2 in
+      ap (λ (f : ErrandFields). f.turns) it.3 ∙ e.rule.spent spent ∙ ap (λ (g : Geometry). g.turn_limit) laid
 
   none-from : (k : ℕ) → length trace.lanes ≤ k → k < c.geometry.callers → own k c.events ≡ []
   none-from k least has =

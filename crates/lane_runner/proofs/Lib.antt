@@ -10,3 +10,4 @@ pub mod WholeSteps
 pub mod WholeOps
 pub mod WholeWalks
 pub mod WholeLaws
+mod WholeScripts

@@ -19,37 +19,6 @@ use Rattle.lane_steps.specs.States.{IsLaneOf, IsNew}
 use Rattle.lane_runner.specs.Threads.{AreDone, AreEnded, AreReady, HasEndedOver, HasRunOver, IsDone, IsReady, StandsOver}
 use Rattle.lane_runner.proofs.ThreadLemmas.{done-ended, down-pop, down-push, ended-push, from-pop, ready}
 
--- a lane over an engine stands so over the pass
-pub over-after :
-    (h : Heap) (operations : List Op) (here : Heap) (p : Pass) (old new : LaneState Block) → here ≡ h
-    → IsOf here p × (old.caller ≡ p.errand.caller) → new.caller ≡ old.caller
-    → IsLaneOf (λ (block : Block). block.place) (λ (block : Block). block.need) here.layout (seen p) p.errand operations new
-    → StandsOver h operations p new
-over-after h operations here p old new is serves same lane = record {
-  of = subst (λ (k : Heap). IsOf k p) is serves.0;
-  caller = same ∙ serves.1;
-  stands =
-      subst (λ (k : Heap). IsLaneOf (λ (block : Block). block.place) (λ (block : Block). block.need) k.layout (seen p) p.errand operations new) is lane;
-}
-
--- one that has ended has passed the gate with all its operations
-pub run-over :
-    (passed : ℕ → ℕ → Type 0) (h : Heap) (operations : List Op) (old : LaneState Block) (p : Pass) (lane : LaneState Block)
-    → StandsOver h operations p lane → lane.caller ≡ old.caller → lane.stage ≡ stage.Between → length lane.outcomes.items ≡ length operations
-    → (FirstPassed passed old.caller (begun_count old.outcomes.items old.stage)
-    → FirstPassed passed old.caller (begun_count lane.outcomes.items lane.stage))
-    → HasRunOver passed h operations old p lane
-run-over passed h operations old p lane over same between all gate = record {
-  over = over;
-  same = same;
-  between = between;
-  all = all;
-  gate = λ gone.
-      let count : begun_count lane.outcomes.items lane.stage ≡ length operations =
-      ap (begun_count lane.outcomes.items) between ∙ omega (arith, all) in
-      subst (FirstPassed passed old.caller) count (gate gone);
-}
-
 -- new lanes, each with its number
 abbrev pub AreFresh : Trace → List (LaneState Block) → Type 0
 AreFresh trace lanes =

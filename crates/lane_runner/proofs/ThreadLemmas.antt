@@ -1,5 +1,5 @@
 -- Lanes on threads: how their elements are paired, run and taken back.
-use Rattle.std.proofs.Common.{ℕ, zero, suc, ◌≡◌, ◌<◌, ◌≤◌, ◌+◌, ◌↔◌, Bool, false, IsTrue, List, [], ◌∷◌, ◌++◌, Vec, Global, length, map, max, get_or, take, drop, refl, sym, ap, ◌∙◌, subst, inl, inr, arith}
+use Rattle.std.proofs.Common.{ℕ, zero, suc, ◌≡◌, ◌<◌, ◌≤◌, ◌+◌, ◌↔◌, Bool, false, IsTrue, None, List, [], ◌∷◌, ◌++◌, Vec, Global, length, map, max, get_or, take, drop, replicate, refl, sym, ap, ◌∙◌, subst, inl, inr, arith}
 use Rattle.std.specs.Prelude.{All}
 use Rattle.std.proofs.lemmas.Bool.{cases_eq, cases_lt, true≢false}
 use Rattle.std.proofs.lemmas.Grind.{common_steps}
@@ -10,6 +10,7 @@ use Rattle.crossbeam_utils.specs.declared.cache_padded.CachePadded.{CachePadded}
 use Rattle.crossbeam_utils.specs.Padded.{padded_value}
 use Rattle.pool_model.specs.Histories.{own}
 use Rattle.errand_steps.specs.Begins.{IsIdle}
+use Rattle.trace_text.specs.declared.limits.TheConstants.{REGISTERS}
 use Rattle.trace_text.specs.declared.trace.Op.{Op}
 use Rattle.trace_text.specs.declared.trace.Trace.{Trace}
 use Rattle.trace_text.specs.Traces.{IsTrace}
@@ -24,11 +25,12 @@ use Rattle.lane_runner.specs.declared.run_lanes.LaneThread.{LaneThread}
 use Rattle.lane_steps.specs.declared.stage.Stage.{Stage}
 use Rattle.lane_steps.specs.declared.stage.Stage.TheVariants as stage
 use Rattle.lane_steps.specs.Lanes.{IsLane}
+use Rattle.lane_steps.specs.Made.{AllMade}
 use Rattle.lane_steps.specs.Paths.{FirstPassed, begun_count, held_blocks}
 use Rattle.lane_runner.specs.Running.{operations_in}
 use Rattle.lane_steps.specs.States.{IsNew}
-use Rattle.lane_runner.specs.Threads.{AreDone, AreDown, AreEnded, AreReady, HasEndedOver, HasRunThrough, HaveRun, IsDone, IsReady, IsPaired, StandsOver}
-use Rattle.lane_steps.proofs.EndedLemmas.{lane-between, lane-new}
+use Rattle.lane_runner.specs.Threads.{AreDone, AreDown, AreEnded, AreReady, HasEndedOver, HasMadeCalls, HasRunThrough, HaveRun, IsDone, IsReady, IsPaired, StandsOver, WholeAt}
+use Rattle.lane_steps.proofs.EndedLemmas.{blocks-none, lane-between, lane-new}
 
 -- elements with their numbers: one more behind them, and the last one gone
 module _ {X : Type 0} (P : ℕ → X → Type 0) where
@@ -115,6 +117,8 @@ ready trace h k p lane has fresh caller new = record {
         lane-new (λ (block : Block). block.place) (λ (block : Block). block.need) h.layout k (seen p) p.errand (operations_in trace k) lane new
         (ap (own k) fresh.nothing_seen) (fresh-idle h p fresh);
   };
+  fresh = fresh;
+  empty = new.empty;
   none = new.none;
   between = new.between;
 }
@@ -126,6 +130,32 @@ ready-paired trace h k t is = record {
   between = is.between;
 }
 
+-- a lane that had begun nothing has made the calls of its whole script
+all-made :
+    (passed : ℕ → ℕ → Type 0) (trace : Trace) (h : Heap) (k : ℕ) (t u : LaneThread) → IsReady trace h k t → HasRunThrough passed trace h t u
+    → HasMadeCalls h (operations_in trace k) k u.lane.outcomes.items u.pass
+all-made passed trace h k t u is ran =
+    let place_of = λ (block : Block). block.place in
+    let block_need = λ (block : Block). block.need in
+    let none_held : held_blocks place_of block_need t.lane.registers.items ≡ replicate REGISTERS None =
+    ap (held_blocks place_of block_need) is.empty ∙ blocks-none place_of block_need REGISTERS in
+    let outcomes : u.lane.outcomes.items ≡ ran.results = ran.outcomes ∙ ap (λ (os : List Outcome). os ++ ran.results) is.none in
+    let from_empty =
+    subst (λ rs. AllMade (WholeAt h) rs (drop (length t.lane.outcomes.items) (operations_in trace t.lane.caller)) ran.results t.pass u.pass)
+    none_held ran.made in
+    let from_first =
+    subst
+    (λ (os : List Outcome). AllMade (WholeAt h) (replicate REGISTERS None) (drop (length os) (operations_in trace t.lane.caller)) ran.results t.pass u.pass)
+    is.none from_empty in
+    let of_lane =
+    subst (λ n. AllMade (WholeAt h) (replicate REGISTERS None) (operations_in trace n) ran.results t.pass u.pass) is.number from_first in
+    record {
+      first = t.pass;
+      fresh = is.fresh;
+      caller = sym is.over.caller ∙ is.number;
+      made = subst (λ os. AllMade (WholeAt h) (replicate REGISTERS None) (operations_in trace k) os t.pass u.pass) (sym outcomes) of_lane;
+    }
+
 -- its thread has run it
 pub ready-done :
     (passed : ℕ → ℕ → Type 0) (trace : Trace) (h : Heap) (k : ℕ) (t u : LaneThread) → IsReady trace h k t → HasRunThrough passed trace h t u
@@ -135,6 +165,7 @@ ready-done passed trace h k t u is ran = record {
   over = subst (λ n. StandsOver h (operations_in trace n) u.pass u.lane) is.number ran.over;
   between = ran.between;
   all = subst (λ n. length u.lane.outcomes.items ≡ length (operations_in trace n)) is.number ran.all;
+  calls = all-made passed trace h k t u is ran;
 }
 
 -- a new lane has begun nothing
@@ -205,6 +236,7 @@ done-ended trace h k t done =
           (subst (λ at. IsLane h.layout t.lane.caller (seen t.pass) t.pass.errand (operations_in trace k) registers t.lane.outcomes.items at)
           done.between o.stands.stands);
       all = done.all;
+      calls = done.calls;
     }
 
 -- one more has ended

@@ -36,9 +36,10 @@ use Rattle.lane_steps.specs.Lanes.{IsLane}
 use Rattle.lane_steps.specs.Made.{AllMade, HasRun, HoldsBlocks, MadeFor, Skips, answered, found_from, register_of, wrote}
 use Rattle.lane_steps.specs.declared.lane.LaneState.{LaneState}
 use Rattle.lane_steps.specs.Paths.{FirstPassed, begun_count, held_blocks, held_by}
-use Rattle.lane_runner.specs.Threads.{HasRunOver, StandsOver}
+use Rattle.lane_runner.specs.Threads.{HasRunOver, StandsOver, WholeAt}
 use Rattle.lane_steps.proofs.EndedLemmas.{lane-between}
 use Rattle.lane_steps.proofs.LaneParts.{blocks-size, slot-full}
+use Rattle.lane_steps.proofs.MadeLemmas.{skip-leaves}
 use Rattle.step_core.specs.Cores.{OwnsAfter}
 use Rattle.live_heap.specs.declared.block.Block.{Block}
 use Rattle.lane_steps.specs.Scripts.{registers_from}
@@ -46,7 +47,7 @@ use Rattle.lane_steps.proofs.BeginLemmas.{IsSkipped, begin-alloc, begin-check, b
 use Rattle.lane_steps.proofs.LaneAnswers.{alloc-given_so, held-here}
 use Rattle.lane_runner.proofs.WholeOps.{StandsAt, begun, begun-at, free-stands, last-in, put-stands, put_full-stands, refused-stands, served-last, serves-held, spent-stands, spent_at_once-stands, step-of, to-pass}
 use Rattle.lane_runner.proofs.WholeSteps.{alloc-started, doing-in, need_in, place_in}
-use Rattle.lane_runner.proofs.WholeWalks.{BegunAt, WholeAt, check-walk, fill-walk, given-walk, steps-of, take_empty-stands, take_got-stands}
+use Rattle.lane_runner.proofs.WholeWalks.{BegunAt, check-walk, fill-walk, given-walk, steps-of, take_empty-stands, take_got-stands}
 
 -- calls over a struct with its pass are calls of the pass
 abbrev pub by_pass : PassCalls → Call → Reply → PassCalls → Type 0
@@ -81,14 +82,6 @@ skipped-so registers (op.Fill r v) (Some held) is skips = absurd skips
 skipped-so registers (op.Check r) (Some held) is skips = absurd skips
 skipped-so registers (op.Put r shelf) (Some held) is skips = absurd skips
 
-skip-same : (registers : List (Option Held)) (operation : Op) → registers ≡ registers_after registers operation outcome.Skipped
-skip-same registers (op.Alloc r need v) = refl
-skip-same registers (op.Free r) = refl
-skip-same registers (op.Fill r v) = refl
-skip-same registers (op.Check r) = refl
-skip-same registers (op.Put r shelf) = refl
-skip-same registers (op.Take r shelf) = refl
-
 given-steps : (p q : Pass) (call : Call) (place : ℕ) (need : Need) → MadeByPass p call (reply.Given place need) q
     → (steps : ℕ) × HasCalled p call steps (reply.Given place need) q
 given-steps p q call place need (by_steps ended) = ended
@@ -103,7 +96,7 @@ less-suc (suc n) some = (n, refl)
 
 module _ (h : Heap) (operations rest : List Op) (results : List Outcome) (registers : List (Option Held)) (p q : Pass) (rests : IsAtRest h p) (lane : StandsAt h p operations registers results) where
   -- a held block has a word
-  some-words : (r : ℕ) (held : Held) → held_in registers r ≡ Some held → (n : ℕ) × (suc n ≡ held.words)
+  pub some-words : (r : ℕ) (held : Held) → held_in registers r ≡ Some held → (n : ℕ) × (suc n ≡ held.words)
   some-words r held full =
       let owns : OwnsWords (pool_of (seen p)) p.errand.caller held.place held.words = lane.holds.owned r held full in
       let some = owned-words h.layout (seen p) p.errand.caller held.place owns.block.need (pass-served h p rests.0).legal (owns.block, owns.live, owns.owned, refl) in
@@ -115,7 +108,7 @@ module _ (h : Heap) (operations rest : List Op) (results : List Outcome) (regist
   skips : (operation : Op) (slot : Option Held) → drop (length results) operations ≡ operation ∷ rest → held_in registers (register_of operation) ≡ slot
       → Skips slot operation → q ≡ p → StandsAt h q operations (registers_after registers operation outcome.Skipped) (results ++ outcome.Skipped ∷ [])
   skips operation slot next is skip same =
-      subst (λ rs. StandsAt h q operations rs (results ++ outcome.Skipped ∷ [])) (skip-same registers operation)
+      subst (λ rs. StandsAt h q operations rs (results ++ outcome.Skipped ∷ [])) (skip-leaves registers operation)
       (subst (λ (x : Pass). StandsAt h x operations registers (results ++ outcome.Skipped ∷ [])) (sym same)
       (begin-skips h.layout (seen p) p.errand operations registers results operation rest lane next (pass-served h p rests.0)
       (skipped-so registers operation slot is skip)))
@@ -265,12 +258,12 @@ module _ (h : Heap) (operations rest : List Op) (results : List Outcome) (regist
   op-stands (op.Take r shelf) result (Some held) made is_op next is calls leads = absurd calls
 
 -- the operations that are left, behind one of them
-drop-next : {X : Type 0} (n : ℕ) (xs rest : List X) (x : X) → drop n xs ≡ x ∷ rest → drop (suc n) xs ≡ rest
+pub drop-next : {X : Type 0} (n : ℕ) (xs rest : List X) (x : X) → drop n xs ≡ x ∷ rest → drop (suc n) xs ≡ rest
 drop-next {X = X} n [] rest x is = absurd (let none = drop-nil {A = X} n in let both : [] ≡ x ∷ rest = sym none ∙ is in cc)
 drop-next zero (y ∷ xs) rest x is = let both : y ∷ xs ≡ x ∷ rest = is in cc
 drop-next (suc n) (y ∷ xs) rest x is = drop-next n xs rest x is
 
-here-is : {X : Type 0} (n : ℕ) (xs rest : List X) (x : X) → drop n xs ≡ x ∷ rest → (n < length xs) × (slice_index_or xs n x ≡ x)
+pub here-is : {X : Type 0} (n : ℕ) (xs rest : List X) (x : X) → drop n xs ≡ x ∷ rest → (n < length xs) × (slice_index_or xs n x ≡ x)
 here-is {X = X} n [] rest x is = absurd (let none = drop-nil {A = X} n in let both : [] ≡ x ∷ rest = sym none ∙ is in cc)
 here-is zero (y ∷ xs) rest x is = (omega arith, let both : y ∷ xs ≡ x ∷ rest = is in cc)
 here-is (suc n) (y ∷ xs) rest x is = let more = here-is n xs rest x is in (omega (arith, more.0), more.1)
@@ -335,7 +328,7 @@ pub whole-run :
     → HasRun (λ (block : Block). block.place) (λ (block : Block). block.need) by_pass operations e f old new
     → length new.outcomes.items ≡ length operations
     → (FirstPassed passed old.caller (length old.outcomes.items) → FirstPassed passed old.caller (length operations))
-    → HasRunOver passed h operations old f.pass.now new
+    → HasRunOver passed h operations p old f.pass.now new
 whole-run passed h operations e f p old new ops over between same_pass same_heap rests holds ran all gate =
     let place_of = λ (block : Block). block.place in
     let block_need = λ (block : Block). block.need in
@@ -375,6 +368,9 @@ whole-run passed h operations e f p old new ops over between same_pass same_heap
       same = ran.same_caller;
       between = still;
       all = all;
+      results = ran.results;
+      outcomes = ran.outcomes;
+      made = all_made;
       gate = λ first.
           gate
           (let none : begun_count old.outcomes.items stage.Between ≡ length old.outcomes.items = omega arith in

@@ -32,6 +32,7 @@ use Rattle.lane_steps.specs.Lanes.{IsLane}
 use Rattle.lane_steps.specs.Made.{AreMisses, answered, found_from}
 use Rattle.lane_steps.specs.Operations.{Serves}
 use Rattle.lane_steps.specs.Paths.{held_by}
+use Rattle.lane_runner.specs.Threads.{WholeAt}
 use Rattle.lane_steps.proofs.AnswerLemmas.{HasBegun, told-of_read}
 use Rattle.lane_steps.proofs.BeginLemmas.{begin-take}
 use Rattle.lane_steps.proofs.CheckPutTake.{take-finds, take-gets, take-misses}
@@ -39,10 +40,6 @@ use Rattle.lane_steps.proofs.EndsLemmas.{check-ends_lane, check-on_lane}
 use Rattle.lane_steps.proofs.LaneAnswers.{alloc-ends_given, alloc-goes_so, fill-ends_so, fill-goes_so, held-here}
 use Rattle.lane_runner.proofs.WholeOps.{StandsAt, begun-at, last-in, serves-held, served-last, step-of, to-pass}
 use Rattle.lane_runner.proofs.WholeSteps.{doing-in, need_in, place_in}
-
--- a whole call of a pass of this heap
-abbrev pub WholeAt : Heap → Pass → Call → Reply → Pass → Type 0
-WholeAt h p call answer q = MadeByPass p call answer q × OwnsFor p call × IsAtRest h q
 
 -- one that is no allocation made steps
 pub steps-of :

@@ -1,4 +1,5 @@
 pub mod Driven
 pub mod Orders
 pub mod Running
+pub mod Shared
 pub mod Threads

@@ -1,9 +1,12 @@
 -- Lanes on threads, each with a pass of one heap.
-use Rattle.std.specs.Prelude.{ℕ, suc, ◌≡◌, ◌<◌, ◌≤◌, ◌+◌, List, [], ◌∷◌, Option, Vec, length, vec_capacity}
+use Rattle.std.specs.Prelude.{ℕ, suc, ◌≡◌, ◌<◌, ◌≤◌, ◌+◌, List, [], ◌∷◌, ◌++◌, Option, None, Vec, drop, length, replicate, vec_capacity}
 use Rattle.std.specs.declared.alloc.Global.{Global}
 use Rattle.std.specs.List.{slice_index_or}
 use Rattle.crossbeam_utils.specs.declared.cache_padded.CachePadded.{CachePadded}
 use Rattle.crossbeam_utils.specs.Padded.{padded_value}
+use Rattle.errand_steps.specs.Calls.{Call}
+use Rattle.errand_steps.specs.declared.reply.Reply.{Reply}
+use Rattle.trace_text.specs.declared.limits.TheConstants.{REGISTERS}
 use Rattle.trace_text.specs.declared.trace.Op.{Op}
 use Rattle.trace_text.specs.declared.trace.Trace.{Trace}
 use Rattle.lane_outcomes.specs.declared.outcome.Outcome.{Outcome}
@@ -12,14 +15,27 @@ use Rattle.live_heap.specs.declared.block.Block.{Block}
 use Rattle.live_heap.specs.declared.heap.Heap.{Heap}
 use Rattle.live_heap.specs.declared.pass.Pass.{Pass}
 use Rattle.live_heap.specs.Passes.{IsFresh, IsOf, seen}
+use Rattle.live_heap.specs.Whole.{IsAtRest, MadeByPass, OwnsFor}
 use Rattle.lane_steps.specs.declared.lane.LaneState.{LaneState}
 use Rattle.lane_runner.specs.declared.run_lanes.LaneThread.{LaneThread}
 use Rattle.lane_runner.specs.declared.run_lanes.Reserved.{Reserved}
 use Rattle.lane_steps.specs.declared.stage.Stage.TheVariants as stage
 use Rattle.lane_steps.specs.Lanes.{IsLane}
-use Rattle.lane_steps.specs.Paths.{FirstPassed, begun_count}
+use Rattle.lane_steps.specs.Made.{AllMade}
+use Rattle.lane_steps.specs.Paths.{FirstPassed, begun_count, held_blocks}
 use Rattle.lane_runner.specs.Running.{operations_in}
 use Rattle.lane_steps.specs.States.{AreNew, IsLaneOf}
+
+-- a whole call of a pass of this heap, which leaves it in no call
+abbrev pub WholeAt : Heap → Pass → Call → Reply → Pass → Type 0
+WholeAt h p call answer q = MadeByPass p call answer q × OwnsFor p call × IsAtRest h q
+
+-- since it was new, the pass of this lane has made the whole calls of these operations with these outcomes, in the script's order, each with its answer, and no other
+pub record HasMadeCalls (h : Heap) (operations : List Op) (lane : ℕ) (outcomes : List Outcome) (p : Pass) : Type 0 where
+  pub first : Pass
+  pub fresh : IsFresh h first
+  pub caller : first.errand.caller ≡ lane
+  pub made : AllMade (WholeAt h) (replicate REGISTERS None) operations outcomes first p
 
 -- a pass whose lane has ended with these outcomes
 pub record HasEndedOver (h : Heap) (operations : List Op) (lane : ℕ) (p : Pass) (outcomes : List Outcome) : Type 0 where
@@ -28,6 +44,7 @@ pub record HasEndedOver (h : Heap) (operations : List Op) (lane : ℕ) (p : Pass
   pub registers : List (Option Held)
   pub rule : IsLane h.layout lane (seen p) p.errand operations registers outcomes stage.Between
   pub all : length outcomes ≡ length operations
+  pub calls : HasMadeCalls h operations lane outcomes p
 
 -- all lanes of a trace have ended; a pass without a lane has made no step
 pub record HaveRun (trace : Trace) (h : Heap) (passes : List Pass) (outcomes : List (List Outcome)) : Type 0 where
@@ -45,12 +62,17 @@ pub record StandsOver (h : Heap) (operations : List Op) (p : Pass) (lane : LaneS
   pub caller : lane.caller ≡ p.errand.caller
   pub stands : IsLaneOf (λ (block : Block). block.place) (λ (block : Block). block.need) h.layout (seen p) p.errand operations lane
 
--- the lane has ended over the pass, and its operations have passed the gate, if those had that it had begun before
-pub record HasRunOver (passed : ℕ → ℕ → Type 0) (h : Heap) (operations : List Op) (old : LaneState Block) (p : Pass) (lane : LaneState Block) : Type 0 where
+-- the lane has ended over the pass, which stood as `before` and has made the calls of the operations that were left; and they have passed the gate, if those had that it had begun before
+pub record HasRunOver (passed : ℕ → ℕ → Type 0) (h : Heap) (operations : List Op) (before : Pass) (old : LaneState Block) (p : Pass) (lane : LaneState Block) : Type 0 where
   pub over : StandsOver h operations p lane
   pub same : lane.caller ≡ old.caller
   pub between : lane.stage ≡ stage.Between
   pub all : length lane.outcomes.items ≡ length operations
+  pub results : List Outcome
+  pub outcomes : lane.outcomes.items ≡ old.outcomes.items ++ results
+  pub made :
+      AllMade (WholeAt h) (held_blocks (λ (block : Block). block.place) (λ (block : Block). block.need) old.registers.items)
+      (drop (length old.outcomes.items) operations) results before p
   pub gate : FirstPassed passed old.caller (begun_count old.outcomes.items old.stage) → FirstPassed passed old.caller (length operations)
 
 -- a lane of a trace and the pass of its caller, as a thread has them
@@ -61,13 +83,16 @@ pub record IsPaired (trace : Trace) (h : Heap) (t : LaneThread) : Type 0 where
 
 -- its thread has run it to its end
 abbrev pub HasRunThrough : (ℕ → ℕ → Type 0) → Trace → Heap → LaneThread → LaneThread → Type 0
-HasRunThrough passed trace h before after = HasRunOver passed h (operations_in trace before.lane.caller) before.lane after.pass after.lane
+HasRunThrough passed trace h before after =
+    HasRunOver passed h (operations_in trace before.lane.caller) before.pass before.lane after.pass after.lane
 
--- the lane of this number is before its first operation
+-- the lane of this number is before its first operation, and its pass is new
 pub record IsReady (trace : Trace) (h : Heap) (lane : ℕ) (t : LaneThread) : Type 0 where
   pub number : t.lane.caller ≡ lane
   pub has : lane < length trace.lanes
   pub over : StandsOver h (operations_in trace lane) t.pass t.lane
+  pub fresh : IsFresh h t.pass
+  pub empty : t.lane.registers.items ≡ replicate REGISTERS None
   pub none : t.lane.outcomes.items ≡ []
   pub between : t.lane.stage ≡ stage.Between
 
@@ -77,6 +102,7 @@ pub record IsDone (trace : Trace) (h : Heap) (lane : ℕ) (t : LaneThread) : Typ
   pub over : StandsOver h (operations_in trace lane) t.pass t.lane
   pub between : t.lane.stage ≡ stage.Between
   pub all : length t.lane.outcomes.items ≡ length (operations_in trace lane)
+  pub calls : HasMadeCalls h (operations_in trace lane) lane t.lane.outcomes.items t.pass
 
 module _ {X : Type 0} (P : ℕ → X → Type 0) where
   -- this is so of each element and its number: the last one has this number, and each other one the next number after the one behind it

@@ -1,9 +1,12 @@
 //! Laws of lanes, on functions that do nothing.
 
-ghost use Rattle.std.specs.Prelude.{◌≡◌, List};
+ghost use Rattle.std.specs.Prelude.{ℕ, ◌≡◌, ◌<◌, [], List, None, All, Contains, length, replicate, slice_index_or};
+ghost use Rattle.trace_text.specs.declared.limits.TheConstants.{REGISTERS};
+ghost use Rattle.trace_text.specs.declared.trace.Op.{Op};
 ghost use Rattle.trace_text.specs.declared.trace.Trace.{Trace};
-ghost use Rattle.trace_text.specs.Traces.{IsTrace};
+ghost use Rattle.trace_text.specs.Traces.{IsOp, IsTrace};
 ghost use Rattle.lane_outcomes.specs.declared.outcome.Outcome.{Outcome};
+ghost use Rattle.lane_outcomes.specs.declared.outcome.Outcome.TheVariants.{Spent};
 ghost use Rattle.lane_outcomes.specs.Fits.{OutcomesFit};
 ghost use Rattle.sound_state.specs.Contention.{lost_of};
 ghost use Rattle.sound_state.specs.Sums.{callers_sum};
@@ -11,7 +14,11 @@ ghost use Rattle.step_core.specs.Cores.{errand_at};
 ghost use Rattle.live_heap.specs.declared.heap.Heap.{Heap};
 ghost use Rattle.live_heap.specs.declared.pass.Pass.{Pass};
 ghost use Rattle.live_heap.specs.Endings.{ClosedFields, HasClosed, IsResting};
-ghost use Rattle.lane_runner.specs.Threads.{HaveRun};
+ghost use Rattle.lane_engine.specs.Whole.{Made, LeadsBy};
+ghost use Rattle.lane_steps.specs.Made.{calls_made};
+ghost use Rattle.lane_steps.specs.Scripts.{Scripts};
+ghost use Rattle.lane_runner.specs.Shared.{IsShared};
+ghost use Rattle.lane_runner.specs.Threads.{HasMadeCalls, HaveRun, WholeAt};
 
 /// The outcomes of lanes that ran on threads fit the one history of their heap, once it is closed, and
 /// however many exchanges all callers lost in it.
@@ -19,4 +26,20 @@ pub fn closed_lanes_fit()
     ensures { (trace : Trace) (h : Heap) (passes : List Pass) (outcomes : List (List Outcome)) (c : ClosedFields) → IsTrace trace
         → h.layout ≡ trace.heap → HaveRun trace h passes outcomes → HasClosed h passes c → IsResting c
         → OutcomesFit trace.heap c.events (callers_sum c.geometry lost_of (errand_at c.errands)) trace.lanes outcomes }
+{}
+
+/// The whole calls that a lane on threads has made are, in their order, those that a lane which goes step
+/// by step begins for the same outcomes.
+pub fn threads_make_the_calls_of_their_script()
+    ensures { (h : Heap) (operations : List Op) (lane : ℕ) (outcomes : List Outcome) (p : Pass) → All IsOp operations
+        → (calls : HasMadeCalls h operations lane outcomes p)
+        → (made : List Made) × LeadsBy (WholeAt h) calls.first made p
+        × Scripts (replicate REGISTERS None) operations outcomes (calls_made made) }
+{}
+
+/// A lane on threads that was told to have no turn left has itself taken as many as the limit.
+pub fn spent_lanes_took_their_turns()
+    ensures { (trace : Trace) (c : ClosedFields) (outcomes : List (List Outcome)) (lane : ℕ) → IsTrace trace → IsShared trace c outcomes
+        → lane < length trace.lanes → Contains (slice_index_or outcomes lane []) Spent
+        → (errand_at c.errands lane).turns ≡ trace.heap.turn_limit }
 {}

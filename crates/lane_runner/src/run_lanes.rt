@@ -38,7 +38,7 @@ fn run_lane<R: Wait, G: Gate>(
     requires operations { All IsOp operations.now }
     requires stands { StandsOver heap.now operations.now pass.old lane.old }
     requires between { lane.old.stage ≡ stage.Between }
-    ensures ran { HasRunOver (G.passed gate.now) heap.now operations.now lane.old pass.new lane.new }
+    ensures ran { HasRunOver (G.passed gate.now) heap.now operations.now pass.old lane.old pass.new lane.new }
 {
     let mut calls = PassCalls::new(heap, pass);
     lane.run(rt, &mut calls, operations, gate);

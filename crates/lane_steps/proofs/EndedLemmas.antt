@@ -53,7 +53,7 @@ lane-fits g caller events e operations registers results at lost lane between en
     }
 
 -- registers that hold nothing hold no block
-blocks-none :
+pub blocks-none :
     {B : Type 0} (place_of : B → ℕ) (need_of : B → Need) (n : ℕ) → held_blocks place_of need_of (replicate n None) ≡ replicate n None
 blocks-none place_of need_of zero = refl
 blocks-none place_of need_of (suc n) = ap (λ xs. None ∷ xs) (blocks-none place_of need_of n)
@@ -63,7 +63,24 @@ none-at zero r = refl
 none-at (suc n) zero = refl
 none-at (suc n) (suc r) = none-at n r
 
--- a new lane stands where its caller is idle and has no events
+-- a lane stands before its first operation where its caller is idle and has no events
+pub lane-start :
+    (g : Geometry) (caller : ℕ) (events : List Event) (e : ErrandFields) (operations : List Op) → own caller events ≡ [] → IsIdle e
+    → IsLane g caller events e operations empty [] stage.Between
+lane-start g caller events e operations none idle = record {
+  position = start;
+  within = omega arith;
+  walks = refl;
+  added = [];
+  own_events = none;
+  stands = (idle, refl, refl);
+  size = length-replicate {A = Option Held} REGISTERS None;
+  holds = holds-nothing (pool_of events) caller REGISTERS;
+  answered = refl;
+  spent = λ is. absurd (true≢false (sym is));
+}
+
+-- so does a new one
 pub lane-new :
     {B : Type 0} (place_of : B → ℕ) (need_of : B → Need) (g : Geometry) (caller : ℕ) (events : List Event) (e : ErrandFields)
     (operations : List Op) (lane : LaneState B) → IsNew caller (length operations) lane → own caller events ≡ [] → IsIdle e
@@ -71,19 +88,7 @@ pub lane-new :
 lane-new {B = B} place_of need_of g caller events e operations lane new none idle =
     let held : held_blocks place_of need_of lane.registers.items ≡ empty =
     ap (held_blocks place_of need_of) new.empty ∙ blocks-none place_of need_of REGISTERS in
-    let stands : IsLane g caller events e operations empty [] stage.Between =
-    record {
-      position = start;
-      within = omega arith;
-      walks = refl;
-      added = [];
-      own_events = none;
-      stands = (idle, refl, refl);
-      size = length-replicate {A = Option Held} REGISTERS None;
-      holds = holds-nothing (pool_of events) caller REGISTERS;
-      answered = refl;
-      spent = λ is. absurd (true≢false (sym is));
-    } in
+    let stands = lane-start g caller events e operations none idle in
     record {
       stands =
           subst (λ k. IsLane g k events e operations (held_blocks place_of need_of lane.registers.items) lane.outcomes.items lane.stage)

@@ -250,7 +250,7 @@ skip-for None (op.Put r shelf) is = (tt, refl)
 skip-for None (op.Alloc r need v) is = absurd is
 skip-for None (op.Take r shelf) is = absurd is
 
-skip-leaves : (registers : List (Option Held)) (operation : Op) → registers ≡ registers_after registers operation outcome.Skipped
+pub skip-leaves : (registers : List (Option Held)) (operation : Op) → registers ≡ registers_after registers operation outcome.Skipped
 skip-leaves registers (op.Alloc r need v) = refl
 skip-leaves registers (op.Free r) = refl
 skip-leaves registers (op.Fill r v) = refl

@@ -23,6 +23,10 @@ use Rattle.lane_steps.specs.Scripts.{registers_from}
 abbrev pub answered : Call → Reply → Made
 answered call answer = record { call = call; answer = answer }
 
+-- calls without their answers
+abbrev pub calls_made : List Made → List Call
+calls_made made = map (λ m. m.call) made
+
 -- a write for each of the first words of a block, in their order: word i with v + i
 abbrev pub wrote : ℕ → Need → ℕ → ℕ → List Made
 wrote place need v words = map (λ i. answered (write place need i ((v + i) % 2 ^ 64)) reply.Wrote) (range_with_len 0 words)

@@ -28,7 +28,7 @@ use Rattle.roomy_traces.proofs.ReportLemmas.{live-left, one-report}
 use Rattle.roomy_traces.proofs.SerialLemmas.{outcomes-serial}
 use Rattle.trace_commands.specs.Answers.{IsRun, IsTold, make_text, replay_text, serial_make, serial_replay}
 use Rattle.command_parts.specs.Summaries.{summary_with, trace_of}
-use Rattle.trace_commands.specs.Closings.{IsDrivenIn, IsShared, history_of, lost_by_threads, lost_of}
+use Rattle.trace_commands.specs.Closings.{IsDrivenIn, IsSharedIn, history_of, lost_by_threads, lost_of}
 use Rattle.trace_commands.specs.declared.closing.Closing.{Closing}
 use Rattle.trace_commands.specs.declared.closing.Closing.TheVariants.{Ran, Stepped}
 use Rattle.command_parts.specs.declared.command.Workload.{Workload}
@@ -52,23 +52,23 @@ run-of passed trace core outcomes is_core driven all_passed =
 pub shared-run :
     (passed : ℕ → ℕ → Type 0) (trace : Trace) (h : Heap) (passes : List Pass) (closed : ClosedFields) (outcomes : List (List Outcome))
     → IsTrace trace → h.layout ≡ trace.heap → HaveRun trace h passes outcomes → HasClosed h passes closed → IsResting closed
-    → AllPassed passed trace.lanes → IsRun passed trace IsShared (Ran closed) outcomes
+    → AllPassed passed trace.lanes → IsRun passed trace (IsSharedIn trace) (Ran closed) outcomes
 shared-run passed trace h passes closed outcomes named laid run has_closed rests all_passed =
     record {
       heap = has_closed.heap ∙ laid;
       fit = closed-fit trace h passes outcomes closed named laid run has_closed rests;
       legal = let P : Geometry → Type 0 = λ g. IsLegal g closed.events in subst P (has_closed.heap ∙ laid) (closed-legal closed rests);
       all_passed = all_passed;
-      kept_so = rests;
+      kept_so = record { rests = rests; heap = h; laid = laid; passes = passes; ran = run; closed = has_closed };
     }
 
 -- what `replay` tells
 pub replay-told :
     (passed : ℕ → ℕ → Type 0) (trace : Trace) (closed : ClosedFields) (outcomes : List (List Outcome)) (text : List ℕ)
-    → IsTrace trace → IsRun passed trace IsShared (Ran closed) outcomes
+    → IsTrace trace → IsRun passed trace (IsSharedIn trace) (Ran closed) outcomes
     → ((history : List Event) (lost : ℕ) → IsLegal trace.heap history → OutcomesFit trace.heap history lost trace.lanes outcomes
     → text ≡ report_of trace outcomes history)
-    → IsTold passed trace IsShared (replay_text trace) (serial_replay trace) (Some (Ran closed)) text
+    → IsTold passed trace (IsSharedIn trace) (replay_text trace) (serial_replay trace) (Some (Ran closed)) text
 replay-told passed trace closed outcomes text named run reports =
     let told = reports closed.events (lost_by_threads closed) run.legal run.fit in
     record {
@@ -116,21 +116,21 @@ fit-lanes g history lost lane (operations ∷ lanes) (results ∷ outcomes) fit 
 
 pub few-outcomes :
     (passed : ℕ → ℕ → Type 0) (trace : Trace) (closed : ClosedFields) (outcomes : List (List Outcome))
-    → IsTrace trace → IsRun passed trace IsShared (Ran closed) outcomes → length outcomes ≤ MAX_LANES
+    → IsTrace trace → IsRun passed trace (IsSharedIn trace) (Ran closed) outcomes → length outcomes ≤ MAX_LANES
 few-outcomes passed trace closed outcomes named run =
     omega (arith, named.few_lanes, fit-lanes trace.heap closed.events (lost_by_threads closed) 0 trace.lanes outcomes run.fit.lanes_fit)
 
 -- what `make` tells
 pub make-told :
     (passed : ℕ → ℕ → Type 0) (workload : Workload) (trace : Trace) (closed : ClosedFields) (outcomes : List (List Outcome)) (live words : ℕ)
-    (text : List ℕ) → trace ≡ trace_of workload → IsTrace trace → IsRun passed trace IsShared (Ran closed) outcomes
+    (text : List ℕ) → trace ≡ trace_of workload → IsTrace trace → IsRun passed trace (IsSharedIn trace) (Ran closed) outcomes
     → ((history : List Event) (lost : ℕ) → IsTrace trace → IsLegalWithoutCounts trace.heap history
     → OutcomesFit trace.heap history lost trace.lanes outcomes
     → (live ≡ length (pool_of history)) × (words ≡ live_words (pool_of history)))
     → text ≡ summary_with workload trace.lanes outcomes live words
-    → IsTold passed (trace_of workload) IsShared (make_text workload) (serial_make workload) (Some (Ran closed)) text
+    → IsTold passed (trace_of workload) (IsSharedIn (trace_of workload)) (make_text workload) (serial_make workload) (Some (Ran closed)) text
 make-told passed workload trace closed outcomes live words text is named run counts text_is =
-    let P : Trace → Type 0 = λ t. IsRun passed t IsShared (Ran closed) outcomes in
+    let P : Trace → Type 0 = λ t. IsRun passed t (IsSharedIn t) (Ran closed) outcomes in
     let made = trace_of workload in
     let made_run = subst P is run in
     let made_named = subst IsTrace is named in

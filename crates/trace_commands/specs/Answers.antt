@@ -14,7 +14,7 @@ use Rattle.roomy_traces.specs.Serial.{serial_report_of}
 use Rattle.heap_census.specs.declared.census.Census.{Census as Counts}
 use Rattle.workloads.specs.declared.kind.Kind.TheVariants.{Pipeline}
 use Rattle.trace_commands.specs.Censuses.{IsCensusOf, census_text}
-use Rattle.trace_commands.specs.Closings.{IsDrivenIn, IsShared, geometry_of, history_of, lost_of, steps_of}
+use Rattle.trace_commands.specs.Closings.{IsDrivenIn, IsSharedIn, geometry_of, history_of, lost_of, steps_of}
 use Rattle.command_parts.specs.Command.{has_input}
 use Rattle.command_parts.specs.Summaries.{serial_summary_of, summary_of, trace_of}
 use Rattle.trace_commands.specs.declared.closing.Closing.{Closing}
@@ -79,15 +79,15 @@ HasOneSummary workload text = workload.kind ≢ Pipeline → text ≡ serial_sum
 -- of its workload on threads; `print` runs none
 abbrev pub IsReport : (ℕ → ℕ → Type 0) → Command → List ℕ → Option Closing → List ℕ → Type 0
 IsReport passed Replay bytes closed text =
-    (trace : Trace) × (reading_of bytes ≡ Read trace) × IsTold passed trace IsShared (replay_text trace) (serial_replay trace) closed text
+    (trace : Trace) × (reading_of bytes ≡ Read trace) × IsTold passed trace (IsSharedIn trace) (replay_text trace) (serial_replay trace) closed text
 IsReport passed Schedule bytes closed text =
     (trace : Trace) × (reading_of bytes ≡ Read trace)
     × IsTold passed trace (IsDrivenIn trace trace.orders) (schedule_text trace) (serial_schedule trace) closed text
 IsReport passed Census bytes closed text =
     (trace : Trace) × (reading_of bytes ≡ Read trace) × (counts : Counts) × IsCensusOf closed counts
-    × IsTold passed trace IsShared (counted_text trace counts) (serial_counted trace counts) closed text
+    × IsTold passed trace (IsSharedIn trace) (counted_text trace counts) (serial_counted trace counts) closed text
 IsReport passed (Make workload) bytes closed text =
-    IsTold passed (trace_of workload) IsShared (make_text workload) (serial_make workload) closed text × HasOneSummary workload text
+    IsTold passed (trace_of workload) (IsSharedIn (trace_of workload)) (make_text workload) (serial_make workload) closed text × HasOneSummary workload text
 IsReport passed (Print workload) bytes closed text = (closed ≡ None) × (text ≡ canonical_of (trace_of workload))
 
 -- the line that tells where a text is refused, and for which cause

@@ -12,8 +12,9 @@ use Rattle.trace_text.specs.declared.trace.OrderRun.{OrderRun}
 use Rattle.trace_text.specs.declared.trace.Trace.{Trace}
 use Rattle.lane_outcomes.specs.declared.outcome.Outcome.{Outcome}
 use Rattle.lane_runner.specs.Driven.{IsDriven, lost_by_all}
+use Rattle.lane_runner.specs.Shared.{IsShared}
 use Rattle.trace_commands.specs.declared.closing.Closing.{Closing}
-use Rattle.live_heap.specs.Endings.{ClosedFields, IsResting}
+use Rattle.live_heap.specs.Endings.{ClosedFields}
 use Rattle.trace_commands.specs.declared.closing.Closing.TheVariants.{Plain, Stepped, Ran}
 
 -- the numbers that the heap was opened with
@@ -45,11 +46,12 @@ IsDrivenIn trace orders (Plain pool) outcomes = ⊥
 IsDrivenIn trace orders (Stepped core) outcomes = IsDriven trace orders core outcomes
 IsDrivenIn trace orders (Ran closed) outcomes = ⊥
 
--- threads shared the heap: moves of its callers led to it from its opening on, in the order that the hardware made, and all callers are in no call
-abbrev pub IsShared : Closing → List (List Outcome) → Type 0
-IsShared (Plain pool) outcomes = ⊥
-IsShared (Stepped core) outcomes = ⊥
-IsShared (Ran closed) outcomes = IsResting closed
+-- threads shared the heap: each lane of the trace ran on one, from the heap's opening on, in the order that the hardware made,
+-- by the whole calls of its script, and had these outcomes
+abbrev pub IsSharedIn : Trace → Closing → List (List Outcome) → Type 0
+IsSharedIn trace (Plain pool) outcomes = ⊥
+IsSharedIn trace (Stepped core) outcomes = ⊥
+IsSharedIn trace (Ran closed) outcomes = IsShared trace closed outcomes
 
 -- what all callers of a machine cleared, as a whole number
 abbrev pub cleared_of : ErrandFields → ℕ

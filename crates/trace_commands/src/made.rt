@@ -3,7 +3,7 @@
 ghost use Rattle.std.specs.Prelude.{◌≡◌, IfOk, Some};
 ghost use Rattle.trace_text.specs.Text.{canonical_of};
 ghost use Rattle.trace_commands.specs.Answers.{HasOneSummary, IsTold, make_text, serial_make};
-ghost use Rattle.trace_commands.specs.Closings.{IsShared};
+ghost use Rattle.trace_commands.specs.Closings.{IsSharedIn};
 ghost use Rattle.command_parts.specs.Command.{IsWorkload};
 ghost use Rattle.command_parts.specs.Summaries.{trace_of};
 
@@ -29,7 +29,8 @@ pub fn make<R: Threads + Wait + Sync, G: Gate + Sync>(
 ) -> Result<Told, AllocError>
     requires { IsWorkload workload }
     ensures { IfOk result (λ told.
-        IsTold (G.passed gate.now) (trace_of workload) IsShared (make_text workload) (serial_make workload) (Some told.closing) told.text.items
+        IsTold (G.passed gate.now) (trace_of workload) (IsSharedIn (trace_of workload)) (make_text workload) (serial_make workload)
+        (Some told.closing) told.text.items
         × HasOneSummary workload told.text.items) }
 {
     let trace = make_trace(alloc, workload.kind, workload.size, workload.start)?;

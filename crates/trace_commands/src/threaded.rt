@@ -3,7 +3,7 @@
 ghost use Rattle.std.specs.Prelude.{IfOk, map};
 ghost use Rattle.trace_text.specs.Traces.{IsTrace};
 ghost use Rattle.trace_commands.specs.Answers.{IsRun};
-ghost use Rattle.trace_commands.specs.Closings.{IsShared};
+ghost use Rattle.trace_commands.specs.Closings.{IsSharedIn};
 
 use crate::closing::Closing;
 use edge_io::gate::Gate;
@@ -32,7 +32,7 @@ pub fn run_on_threads<R: Threads + Wait + Sync, G: Gate + Sync>(
     trace: &Trace,
 ) -> Result<ThreadedRun, AllocError>
     requires { IsTrace trace.now }
-    ensures { IfOk result (λ run. IsRun (G.passed gate.now) trace.now IsShared (Closing.Ran run.closed)
+    ensures { IfOk result (λ run. IsRun (G.passed gate.now) trace.now (IsSharedIn trace.now) (Closing.Ran run.closed)
         (map (λ lane. lane.items) run.outcomes.items)) }
 {
     let (heap, passes) = Heap::open(alloc, trace.heap)?;

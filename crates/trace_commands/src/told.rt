@@ -9,7 +9,7 @@ ghost use Rattle.lane_outcomes.specs.Report.{report_of};
 ghost use Rattle.heap_census.specs.declared.census.Census.{Census as Counts};
 ghost use Rattle.trace_commands.specs.Answers.{IsTold, counted_text, replay_text, schedule_text, serial_counted, serial_replay, serial_schedule};
 ghost use Rattle.trace_commands.specs.Censuses.{IsCensusOf};
-ghost use Rattle.trace_commands.specs.Closings.{IsDrivenIn, IsShared};
+ghost use Rattle.trace_commands.specs.Closings.{IsDrivenIn, IsSharedIn};
 
 use crate::census::census_lines;
 use crate::closing::Closing;
@@ -53,7 +53,7 @@ pub fn replay<R: Threads + Wait + Sync, G: Gate + Sync>(
 ) -> Result<Told, AllocError>
     requires { IsTrace trace.now }
     ensures { IfOk result (λ told.
-        IsTold (G.passed gate.now) trace.now IsShared (replay_text trace.now) (serial_replay trace.now) (Some told.closing) told.text.items) }
+        IsTold (G.passed gate.now) trace.now (IsSharedIn trace.now) (replay_text trace.now) (serial_replay trace.now) (Some told.closing) told.text.items) }
 {
     let ThreadedRun { closed, outcomes } = run_on_threads(rt, alloc, gate, trace)?;
     let text = report_on(alloc, trace, outcomes.as_slice())?;
@@ -85,7 +85,7 @@ pub fn counted<R: Threads + Wait + Sync, G: Gate + Sync>(
 ) -> Result<Told, AllocError>
     requires { IsTrace trace.now }
     ensures { IfOk result (λ told. (counts : Counts) × IsCensusOf (Some told.closing) counts
-        × IsTold (G.passed gate.now) trace.now IsShared (counted_text trace.now counts) (serial_counted trace.now counts)
+        × IsTold (G.passed gate.now) trace.now (IsSharedIn trace.now) (counted_text trace.now counts) (serial_counted trace.now counts)
         (Some told.closing) told.text.items) }
 {
     let ThreadedRun { closed, outcomes } = run_on_threads(rt, alloc, gate, trace)?;

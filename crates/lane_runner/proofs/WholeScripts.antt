@@ -1,0 +1,174 @@
+-- The whole calls of a lane are the calls of its script.
+use Rattle.std.proofs.Common.{ℕ, zero, suc, ◌≡◌, ◌+◌, ◌%◌, ◌^◌, ◌∷◌, ◌++◌, List, [], Option, Some, None, drop, length, map, replicate, refl, sym, ap, ◌∙◌, subst, arith}
+use Rattle.std.specs.Prelude.{All}
+use Rattle.std.specs.List.{range_with_len, slice_index_or}
+use Rattle.std.proofs.lemmas.List.{length-append, map-append}
+use Rattle.heap_geometry.specs.declared.need.Need.{Need}
+use Rattle.heap_geometry.specs.Need.{need_of, usable_words}
+use Rattle.errand_steps.specs.Calls.{Call, alloc, free, write, read, put, take}
+use Rattle.errand_steps.specs.declared.reply.Reply.{Reply}
+use Rattle.errand_steps.specs.declared.reply.Reply.TheVariants as reply
+use Rattle.pool_model.specs.Histories.{own}
+use Rattle.trace_text.specs.declared.limits.TheConstants.{REGISTERS}
+use Rattle.trace_text.specs.declared.trace.Op.{Op}
+use Rattle.trace_text.specs.declared.trace.Op.TheVariants as op
+use Rattle.trace_text.specs.Traces.{IsOp}
+use Rattle.live_heap.specs.declared.heap.Heap.{Heap}
+use Rattle.live_heap.specs.declared.pass.Pass.{Pass}
+use Rattle.live_heap.specs.Passes.{seen}
+use Rattle.live_heap.specs.Whole.{IsAtRest}
+use Rattle.lane_engine.specs.Whole.{Made, LeadsBy}
+use Rattle.lane_outcomes.specs.declared.registers.Held.{Held}
+use Rattle.lane_outcomes.specs.declared.outcome.Outcome.{Outcome}
+use Rattle.lane_outcomes.specs.declared.outcome.Outcome.TheVariants as outcome
+use Rattle.lane_outcomes.specs.Lane.{held_in, registers_after}
+use Rattle.lane_steps.specs.Made.{AllMade, AreMisses, MadeFor, answered, calls_made, found_from, register_of, wrote}
+use Rattle.lane_steps.specs.Operations.{Serves}
+use Rattle.lane_steps.specs.Scripts.{CallsOf, OnHeld, Scripts, reads_of, writes_of}
+use Rattle.lane_steps.proofs.EndedLemmas.{lane-start}
+use Rattle.lane_steps.proofs.MadeLemmas.{leads-then}
+use Rattle.lane_runner.specs.Threads.{HasMadeCalls, WholeAt}
+use Rattle.lane_runner.proofs.ThreadLemmas.{fresh-idle}
+use Rattle.lane_runner.proofs.WholeLaws.{drop-next, here-is, leads-rest, op-stands, some-words}
+use Rattle.lane_runner.proofs.WholeOps.{StandsAt, serves-held}
+
+-- writes, reads and takes without their answers
+wrote-calls :
+    (held : Held) (need : Need) (v : ℕ) (is : List ℕ)
+    → calls_made (map (λ i. answered (write held.place need i ((v + i) % 2 ^ 64)) reply.Wrote) is)
+    ≡ map (λ i. write held.place need i ((v + i) % 2 ^ 64)) is
+wrote-calls held need v [] = refl
+wrote-calls held need v (i ∷ is) = ap (λ calls. write held.place need i ((v + i) % 2 ^ 64) ∷ calls) (wrote-calls held need v is)
+
+wrote-script : (held : Held) (need : Need) (v : ℕ) → calls_made (wrote held.place need v held.words) ≡ writes_of held need v
+wrote-script held need v = wrote-calls held need v (range_with_len 0 held.words)
+
+found-calls :
+    (place : ℕ) (need : Need) (i : ℕ) (words : List ℕ)
+    → calls_made (found_from place need i words) ≡ map (λ j. read place need j) (range_with_len i (length words))
+found-calls place need i [] = refl
+found-calls place need i (word ∷ words) =
+    let next : suc i ≡ i + 1 = omega arith in
+    ap (λ calls. read place need i ∷ calls)
+    (found-calls place need (suc i) words ∙ ap (λ k. map (λ j. read place need j) (range_with_len k (length words))) next)
+
+misses-script :
+    (shelf : ℕ) (misses : List Made) (answer : Reply) → AreMisses shelf misses
+    → calls_made (misses ++ answered (take shelf) answer ∷ []) ≡ replicate (suc (length misses)) (take shelf)
+misses-script shelf [] answer are = refl
+misses-script shelf (m ∷ misses) answer are =
+    ap (λ (x : Made). x.call ∷ calls_made (misses ++ answered (take shelf) answer ∷ [])) are.2
+    ∙ ap (λ calls. take shelf ∷ calls) (misses-script shelf misses answer are.3)
+
+-- so the calls of an operation are those of its script
+module _ (h : Heap) (operations rest : List Op) (results : List Outcome) (registers : List (Option Held)) (p q : Pass) (rests : IsAtRest h p) (lane : StandsAt h p operations registers results) where
+  on-held :
+      (r : ℕ) (held : Held) (need : Need) (calls_on : Held → Need → List Call) (made : List Made) → held_in registers r ≡ Some held
+      → Serves held need → calls_made made ≡ calls_on held need → OnHeld (held_in registers r) calls_on (calls_made made)
+  on-held r held need calls_on made is serves calls =
+      subst (λ slot. OnHeld slot calls_on (calls_made made)) (sym is) (need, serves, calls)
+
+  filled-script :
+      (r v : ℕ) (held : Held) (need : Need) (made : List Made) → held_in registers r ≡ Some held → held.words ≡ usable_words need
+      → made ≡ wrote held.place need v held.words → LeadsBy (WholeAt h) p made q
+      → OnHeld (held_in registers r) (λ held need. writes_of held need v) (calls_made made)
+  filled-script r v held need made is words calls leads =
+      let some = some-words h operations rest results registers p q rests lane r held is in
+      let so : LeadsBy (WholeAt h) p (wrote held.place need v (suc some.0)) q =
+      subst (λ n. LeadsBy (WholeAt h) p (wrote held.place need v n) q) (sym some.1) (subst (λ ms. LeadsBy (WholeAt h) p ms q) calls leads) in
+      on-held r held need (λ held need. writes_of held need v) made is (serves-held h p held need rests so.1.1 words)
+      (ap calls_made calls ∙ wrote-script held need v)
+
+  checked-script :
+      (r : ℕ) (held : Held) (need : Need) (words : List ℕ) (made : List Made) → held_in registers r ≡ Some held → held.words ≡ usable_words need
+      → length words ≡ held.words → made ≡ found_from held.place need 0 words → LeadsBy (WholeAt h) p made q
+      → OnHeld (held_in registers r) reads_of (calls_made made)
+  checked-script r held need [] made is words_are all calls leads =
+      let some = some-words h operations rest results registers p q rests lane r held is in absurd (omega (arith, all, some.1))
+  checked-script r held need (word ∷ words) made is words_are all calls leads =
+      let so = subst (λ ms. LeadsBy (WholeAt h) p ms q) calls leads in
+      on-held r held need reads_of made is (serves-held h p held need rests so.1.1 words_are)
+      (ap calls_made calls ∙ found-calls held.place need 0 (word ∷ words)
+      ∙ ap (λ n. map (λ i. read held.place need i) (range_with_len 0 n)) all)
+
+  one-script :
+      (r : ℕ) (held : Held) (need : Need) (call : Held → Need → Call) (answer : Reply) (made : List Made) → held_in registers r ≡ Some held
+      → Serves held need → made ≡ answered (call held need) answer ∷ []
+      → OnHeld (held_in registers r) (λ held need. call held need ∷ []) (calls_made made)
+  one-script r held need call answer made is serves calls =
+      on-held r held need (λ held need. call held need ∷ []) made is serves (ap calls_made calls)
+
+  pub op-script :
+      (operation : Op) (result : Outcome) (slot : Option Held) (made : List Made) → held_in registers (register_of operation) ≡ slot
+      → MadeFor slot operation result made → LeadsBy (WholeAt h) p made q → CallsOf registers operation result (calls_made made)
+  op-script operation outcome.Skipped slot made is (skip, none) leads = ap calls_made none
+  op-script (op.Alloc r need v) (outcome.Given words place) None made is (words_are, calls) leads =
+      ap calls_made calls ∙ ap (λ cs. alloc need ∷ cs) (wrote-script (record { place = place; words = words }) (need_of need) v)
+  op-script (op.Alloc r need v) outcome.Refused None made is calls leads = ap calls_made calls
+  op-script (op.Alloc r need v) outcome.Spent None made is calls leads = ap calls_made calls
+  op-script (op.Free r) outcome.Freed (Some held) made is (need, words, calls) leads =
+      let so = subst (λ ms. LeadsBy (WholeAt h) p ms q) calls leads in
+      one-script r held need (λ held need. free held.place need) reply.Freed made is (serves-held h p held need rests so.1.1 words) calls
+  op-script (op.Fill r v) outcome.Filled (Some held) made is (need, words, calls) leads = filled-script r v held need made is words calls leads
+  op-script (op.Check r) (outcome.Sum total) (Some held) made is (need, words_are, (words, all, total_is, calls)) leads =
+      checked-script r held need words made is words_are all calls leads
+  op-script (op.Put r shelf) outcome.Put (Some held) made is (need, words, calls) leads =
+      let so = subst (λ ms. LeadsBy (WholeAt h) p ms q) calls leads in
+      one-script r held need (λ held need. put held.place need shelf) reply.Put made is (serves-held h p held need rests so.1.1 words) calls
+  op-script (op.Put r shelf) outcome.ShelfFull (Some held) made is (need, words, (found, calls)) leads =
+      let so = subst (λ ms. LeadsBy (WholeAt h) p ms q) calls leads in
+      one-script r held need (λ held need. put held.place need shelf) (reply.Full found) made is (serves-held h p held need rests so.1.1 words) calls
+  op-script (op.Take r shelf) (outcome.Took words place) None made is (misses, are, need, words_are, calls) leads =
+      (length misses, ap calls_made calls ∙ misses-script shelf misses (reply.Got place need) are)
+  op-script (op.Take r shelf) outcome.ShelfEmpty None made is (misses, are, calls) leads =
+      (length misses, ap calls_made calls ∙ misses-script shelf misses reply.Empty are)
+  op-script (op.Alloc r need v) result None made is calls leads = absurd calls
+  op-script (op.Alloc r need v) result (Some held) made is calls leads = absurd calls
+  op-script (op.Free r) result None made is calls leads = absurd calls
+  op-script (op.Free r) result (Some held) made is calls leads = absurd calls
+  op-script (op.Fill r v) result None made is calls leads = absurd calls
+  op-script (op.Fill r v) result (Some held) made is calls leads = absurd calls
+  op-script (op.Check r) result None made is calls leads = absurd calls
+  op-script (op.Check r) result (Some held) made is calls leads = absurd calls
+  op-script (op.Put r shelf) result None made is calls leads = absurd calls
+  op-script (op.Put r shelf) result (Some held) made is calls leads = absurd calls
+  op-script (op.Take r shelf) result None made is calls leads = absurd calls
+  op-script (op.Take r shelf) result (Some held) made is calls leads = absurd calls
+
+-- and those of a lane are those of the whole script
+module _ (h : Heap) (operations : List Op) (ops : All IsOp operations) where
+  all-script :
+      (left : List Op) (outs results : List Outcome) (registers : List (Option Held)) (p q : Pass) → drop (length results) operations ≡ left
+      → IsAtRest h p → StandsAt h p operations registers results → AllMade (WholeAt h) registers left outs p q
+      → (made : List Made) × LeadsBy (WholeAt h) p made q × Scripts registers left outs (calls_made made)
+  all-script left [] results registers p q next rests lane same = ([], same, refl)
+  all-script [] (r ∷ outs) results registers p q next rests lane all = absurd all
+  all-script (o ∷ left) (r ∷ outs) results registers p q next rests lane (t, (made, for, leads), all) =
+      let here = here-is (length results) operations left o next in
+      let is_op : IsOp o = subst IsOp here.1 (ops (length results) o here.0) in
+      let slot = held_in registers (register_of o) in
+      let stands = op-stands h operations left results registers p t rests lane o r slot made is_op next refl for leads in
+      let count : length (results ++ r ∷ []) ≡ suc (length results) = length-append results (r ∷ []) ∙ omega arith in
+      let later : drop (length (results ++ r ∷ [])) operations ≡ left =
+      ap (λ n. drop n operations) count ∙ drop-next (length results) operations left o next in
+      let more =
+      all-script left outs (results ++ r ∷ []) (registers_after registers o r) t q later (leads-rest h p t made rests leads) stands all in (
+        made ++ more.0,
+        leads-then (WholeAt h) p t q made more.0 leads more.1,
+        (
+          calls_made made,
+          calls_made more.0,
+          map-append (λ (m : Made). m.call) made more.0,
+          op-script h operations left results registers p t rests lane o r slot made refl for leads,
+          more.2,
+        ),
+      )
+
+  pub made-script :
+      (lane : ℕ) (outcomes : List Outcome) (p : Pass) (calls : HasMadeCalls h operations lane outcomes p)
+      → (made : List Made) × LeadsBy (WholeAt h) calls.first made p × Scripts (replicate REGISTERS None) operations outcomes (calls_made made)
+  made-script lane outcomes p calls =
+      let first = calls.first in
+      let idle = fresh-idle h first calls.fresh in
+      all-script operations outcomes [] (replicate REGISTERS None) first p refl (calls.fresh.of, idle)
+      (lane-start h.layout first.errand.caller (seen first) first.errand operations (ap (own first.errand.caller) calls.fresh.nothing_seen) idle) calls.made
