@@ -1,5 +1,5 @@
 -- A call of a pass that was interrupted, and goes on to its end.
-use Rattle.std.proofs.Common.{ℕ, ◌≡◌, ◌≢◌, ◌⊎◌, inl, inr, refl, sym, subst}
+use Rattle.std.proofs.Common.{ℕ, ◌≡◌, ◌≢◌, ◌⊎◌, ◌∷◌, List, [], inl, inr, refl, sym, ap, subst}
 use Rattle.std.proofs.lemmas.Option.{none-some}
 use Rattle.heap_geometry.specs.declared.need.Need.{Need}
 use Rattle.errand_steps.specs.declared.reply.Reply.{Reply}
@@ -13,7 +13,11 @@ use Rattle.live_heap.specs.declared.pass.Pass.{Pass}
 use Rattle.live_heap.specs.Answers.{AllocTells, IsResumable, IsSpentAtOnce, ResumeTells}
 use Rattle.live_heap.specs.declared.answers.AllocAnswer.TheVariants as answer
 use Rattle.live_heap.specs.Calls.{IsCalling}
-use Rattle.live_heap.specs.Whole.{HasEndedCall, MadeByPass, by_steps, at_once, ResumesTo}
+use Rattle.live_heap.specs.Made.{LeadsBy, Made}
+use Rattle.live_heap.specs.Whole.{HasEndedCall, IsWhole, MadeByPass, by_steps, at_once, ResumesTo}
+use Rattle.live_heap.specs.Words.{CallsOnWord}
+use Rattle.live_heap.proofs.MadeLemmas.{word-whole}
+use Rattle.lane_engine.specs.declared.over_pass.PassCalls.{PassCalls}
 
 -- it can be resumed still
 pub resumable-on :
@@ -68,3 +72,15 @@ spent-made p words tries q (inr ended) = by_steps (ended.0.steps, ended.0.called
 pub made-idle : (p : Pass) (call : Call) (answer : Reply) (q : Pass) → IsIdle p.errand → MadeByPass p call answer q → IsIdle q.errand
 made-idle p call answer q idle (by_steps ended) = ended.1.idle
 made-idle p call answer q idle (at_once words is_alloc spent once) = subst (λ (r : Pass). IsIdle r.errand) (sym once.same) idle
+
+-- the struct when its pass stands so
+abbrev pub with_pass : PassCalls → Pass → PassCalls
+with_pass e p = record e { pass = record e.pass { now = p } }
+
+-- calls of its pass on words are whole calls of its own
+pub words-lead :
+    (e : PassCalls) (p q : Pass) (made : List Made) → LeadsBy (CallsOnWord e.heap.now) p made q
+    → LeadsBy (λ f call answer g. IsWhole f.heap.now f.pass.now call answer g.heap.now g.pass.now) (with_pass e p) made (with_pass e q)
+words-lead e p q [] leads = ap (with_pass e) leads
+words-lead e p q (m ∷ made) (t, one, leads) =
+    (with_pass e t, word-whole e.heap.now p t m.call m.answer one, words-lead e t q made leads)

@@ -1,23 +1,12 @@
 -- What whole calls answer, whoever makes them.
-use Rattle.std.specs.Prelude.{ℕ, ◌≡◌, ◌∷◌, List, [], Option, Some, None}
+use Rattle.std.specs.Prelude.{ℕ, ◌≡◌, Option, Some, None}
 use Rattle.heap_geometry.specs.declared.need.Need.{Need}
 use Rattle.errand_steps.specs.declared.reply.Reply.{Reply}
 use Rattle.errand_steps.specs.declared.reply.Reply.TheVariants as reply
-use Rattle.errand_steps.specs.Calls.{Call}
 use Rattle.lane_engine.specs.declared.calls.Allocated.{Allocated}
 use Rattle.lane_engine.specs.declared.calls.Allocated.TheVariants as allocated
 use Rattle.lane_engine.specs.declared.calls.Taken.{Taken}
 use Rattle.lane_engine.specs.declared.calls.Taken.TheVariants as taken
-
--- a whole call with its answer
-pub record Made : Type 0 where
-  pub call : Call
-  pub answer : Reply
-
--- whole calls lead from one state to another, one after the other
-abbrev pub LeadsBy : {S : Type 0} → (S → Call → Reply → S → Type 0) → S → List Made → S → Type 0
-LeadsBy called before [] after = after ≡ before
-LeadsBy called before (made ∷ rest) after = (next : _) × called before made.call made.answer next × LeadsBy called next rest after
 
 module _ {B : Type 0} (place_of : B → ℕ) (need_of : B → Need) where
   -- the answer of an allocation

@@ -6,9 +6,10 @@ ghost use Rattle.heap_geometry.specs.declared.need.Need.{Need};
 ghost use Rattle.heap_geometry.specs.Need.{need_of, usable_words};
 ghost use Rattle.errand_steps.specs.declared.reply.Reply.{Reply};
 ghost use Rattle.errand_steps.specs.declared.reply.Reply.TheVariants as reply;
-ghost use Rattle.errand_steps.specs.Calls.{Call, alloc, free, write, read, put, take};
+ghost use Rattle.errand_steps.specs.Calls.{Call, alloc, free, put, take};
 ghost use Rattle.step_core.specs.Keeping.{Leaves};
 ghost use Rattle.lane_engine.specs.Whole.{PutTells, TakeTells, allocated_as};
+ghost use Rattle.live_heap.specs.Made.{LeadsBy, Sums, wrote};
 ghost use Rattle.live_heap.specs.Whole.{Hands};
 
 use crate::token::Token;
@@ -72,23 +73,22 @@ pub trait Calls {
         ensures base { runs_on self.new ≡ runs_on self.old }
         ensures called { called self.old (free (Self.Held.place_of held) (Self.Held.need_of held)) reply.Freed self.new };
 
-    /// Writes a usable word of the caller's block; `i` counts them from 0.
-    fn write(&mut self, held: &Self::Held, i: u32, v: u64)
+    /// Fills the caller's block: word i with from + i, modulo 2^64.
+    fn fill(&mut self, held: &Self::Held, from: u64)
         requires stands { stands self.old }
         requires owned { owns self.old (Self.Held.place_of held.now) (Self.Held.need_of held.now) }
-        requires word { i < usable_words (Self.Held.need_of held.now) }
         ensures stands { stands self.new }
         ensures base { runs_on self.new ≡ runs_on self.old }
-        ensures called { called self.old (write (Self.Held.place_of held.now) (Self.Held.need_of held.now) i v) reply.Wrote self.new };
+        ensures called { LeadsBy called self.old
+            (wrote (Self.Held.place_of held.now) (Self.Held.need_of held.now) from (usable_words (Self.Held.need_of held.now))) self.new };
 
-    /// Reads a usable word of the caller's block; `i` counts them from 0.
-    fn read(&mut self, held: &Self::Held, i: u32) -> u64
+    /// The sum of the words of the caller's block, modulo 2^64.
+    fn sum(&mut self, held: &Self::Held) -> u64
         requires stands { stands self.old }
         requires owned { owns self.old (Self.Held.place_of held.now) (Self.Held.need_of held.now) }
-        requires word { i < usable_words (Self.Held.need_of held.now) }
         ensures stands { stands self.new }
         ensures base { runs_on self.new ≡ runs_on self.old }
-        ensures called { called self.old (read (Self.Held.place_of held.now) (Self.Held.need_of held.now) i) (reply.Word result) self.new };
+        ensures called { Sums called self.old (Self.Held.place_of held.now) (Self.Held.need_of held.now) result self.new };
 
     /// Puts the caller's block on a shelf; where a block lies there already it comes back.
     fn put(&mut self, held: Self::Held, shelf: u8) -> Option<Self::Held>

@@ -140,12 +140,12 @@ impl<'a> Calls for PassCalls<'a> {
         }
     }
 
-    fn write(&mut self, held: &Block, i: u32, v: u64) {
-        self.heap.write(self.pass, held, i, v);
+    fn fill(&mut self, held: &Block, from: u64) {
+        self.heap.fill(self.pass, held, from);
     }
 
-    fn read(&mut self, held: &Block, i: u32) -> u64 {
-        self.heap.read(self.pass, held, i)
+    fn sum(&mut self, held: &Block) -> u64 {
+        self.heap.sum(self.pass, held)
     }
 
     fn put(&mut self, held: Block, shelf: u8) -> Option<Block> {

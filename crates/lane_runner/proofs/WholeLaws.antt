@@ -23,7 +23,7 @@ use Rattle.trace_text.specs.declared.limits.TheConstants.{REGISTERS}
 use Rattle.trace_text.specs.declared.trace.Op.{Op}
 use Rattle.trace_text.specs.declared.trace.Op.TheVariants as op
 use Rattle.trace_text.specs.Traces.{IsOp}
-use Rattle.lane_engine.specs.Whole.{Made, LeadsBy}
+use Rattle.live_heap.specs.Made.{LeadsBy, Made, answered, found_from, wrote}
 use Rattle.lane_engine.specs.declared.over_pass.PassCalls.{PassCalls}
 use Rattle.lane_engine.specs.declared.stepped.Stepped.TheVariants as stepped
 use Rattle.lane_outcomes.specs.declared.registers.Held.{Held}
@@ -33,7 +33,7 @@ use Rattle.lane_outcomes.specs.Lane.{held_in, registers_after}
 use Rattle.lane_outcomes.specs.Standing.{OwnsWords}
 use Rattle.lane_steps.specs.declared.stage.Stage.TheVariants as stage
 use Rattle.lane_steps.specs.Lanes.{IsLane}
-use Rattle.lane_steps.specs.Made.{AllMade, HasRun, HoldsBlocks, MadeFor, Skips, answered, found_from, register_of, wrote}
+use Rattle.lane_steps.specs.Made.{AllMade, HasRun, HoldsBlocks, MadeFor, Skips, register_of}
 use Rattle.lane_steps.specs.declared.lane.LaneState.{LaneState}
 use Rattle.lane_steps.specs.Paths.{FirstPassed, begun_count, held_blocks, held_by}
 use Rattle.lane_runner.specs.Threads.{HasRunOver, StandsOver, WholeAt}

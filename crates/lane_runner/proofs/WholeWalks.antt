@@ -20,7 +20,7 @@ use Rattle.live_heap.proofs.LawsServed.{pass-served}
 use Rattle.trace_text.specs.declared.limits.TheConstants.{REGISTERS}
 use Rattle.trace_text.specs.declared.trace.Op.{Op}
 use Rattle.trace_text.specs.declared.trace.Op.TheVariants as op
-use Rattle.lane_engine.specs.Whole.{Made, LeadsBy}
+use Rattle.live_heap.specs.Made.{LeadsBy, Made, answered, found_from}
 use Rattle.lane_engine.specs.declared.stepped.Stepped.TheVariants as stepped
 use Rattle.lane_outcomes.specs.declared.registers.Held.{Held}
 use Rattle.lane_outcomes.specs.declared.outcome.Outcome.{Outcome}
@@ -29,7 +29,7 @@ use Rattle.lane_outcomes.specs.Lane.{held_in}
 use Rattle.lane_steps.specs.declared.stage.Stage.{Stage}
 use Rattle.lane_steps.specs.declared.stage.Stage.TheVariants as stage
 use Rattle.lane_steps.specs.Lanes.{IsLane}
-use Rattle.lane_steps.specs.Made.{AreMisses, answered, found_from}
+use Rattle.lane_steps.specs.Made.{AreMisses}
 use Rattle.lane_steps.specs.Operations.{Serves}
 use Rattle.lane_steps.specs.Paths.{held_by}
 use Rattle.lane_runner.specs.Threads.{WholeAt}

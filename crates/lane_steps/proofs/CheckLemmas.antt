@@ -4,8 +4,6 @@ use Rattle.std.specs.List.{AllZip, slice_index_or}
 use Rattle.std.proofs.lemmas.Bool.{cases_lt}
 use Rattle.std.proofs.lemmas.List.{get_or_append_left, length-append}
 use Rattle.std.proofs.Math.Seq.{get_or-append_seam}
-use Rattle.std.proofs.lemmas.List.Sums.{sum_by_push}
-use Rattle.std.proofs.Math.Nat.{mod-add-mod}
 use Rattle.heap_geometry.specs.declared.geometry.Geometry.{Geometry}
 use Rattle.heap_geometry.specs.declared.need.Need.{Need}
 use Rattle.pool_model.specs.Legal.{IsLegal}
@@ -20,6 +18,7 @@ use Rattle.errand_steps.specs.declared.point.Point.{Point}
 use Rattle.errand_steps.specs.Calls as call
 use Rattle.call_events.specs.UnderWay.{IsUnderWay}
 use Rattle.step_core.specs.Moments.{HasSeenMore}
+use Rattle.live_heap.proofs.MadeLemmas.{sum-one}
 use Rattle.lane_outcomes.specs.declared.registers.Held.{Held}
 use Rattle.lane_outcomes.specs.Rows.{IsSumOf, IsWord}
 use Rattle.lane_outcomes.specs.Standing.{OwnsWords}
@@ -96,10 +95,6 @@ word-each contents words next word all each last i below =
           subst (λ k. IsWord (slice_index_or contents k None) (slice_index_or (words ++ word ∷ []) k 0)) same
           (subst (IsWord (slice_index_or contents next None)) (sym found) last)
     ]
-
-pub sum-one : (words : List ℕ) (total word : ℕ) → total ≡ sum words % 2 ^ 64 → (total + word) % 2 ^ 64 ≡ sum (words ++ word ∷ []) % 2 ^ 64
-sum-one words total word is =
-    ap (λ n. (n + word) % 2 ^ 64) is ∙ mod-add-mod (sum words) (2 ^ 64) word ∙ ap (λ n. n % 2 ^ 64) (sym (sum_by_push (λ n. n) words word))
 
 pub summed-more :
     (g : Geometry) (caller : ℕ) (before after : List Event) (held : Held) (next total : ℕ) (e f : ErrandFields) (word : ℕ) (added : List Event)

@@ -1,12 +1,11 @@
 -- Whole calls one after the other, and what they leave in the registers of their lane.
 use Rattle.std.proofs.Common.{ℕ, zero, suc, ◌≡◌, ◌≢◌, ◌<◌, ◌≤◌, ◌+◌, ◌%◌, ◌^◌, ◌∷◌, ◌++◌, List, [], Option, Some, None, length, map, drop, refl, sym, ap, ◌∙◌, subst, inl, inr, arith, append_assoc, append-nil, vec_capacity}
-use Rattle.std.specs.Prelude.{slice_set, sum}
+use Rattle.std.specs.Prelude.{slice_set}
 use Rattle.std.specs.List.{range_with_len, slice_index_or}
 use Rattle.std.specs.Option.{option_map}
 use Rattle.std.proofs.lemmas.Bool.{cases_eq, cases_lt}
 use Rattle.std.proofs.lemmas.List.{get_or_default, length-append, length-set}
 use Rattle.std.proofs.Math.Seq.{drop-nil}
-use Rattle.std.proofs.lemmas.List.FromFn.{map-range_with_len_more}
 use Rattle.heap_geometry.specs.declared.need.Need.{Need}
 use Rattle.heap_geometry.specs.Need.{need_of, usable_words}
 use Rattle.errand_steps.specs.declared.reply.Reply.{Reply}
@@ -16,33 +15,20 @@ use Rattle.step_core.specs.Keeping.{Leaves}
 use Rattle.trace_text.specs.declared.limits.TheConstants.{REGISTERS}
 use Rattle.trace_text.specs.declared.trace.Op.{Op}
 use Rattle.trace_text.specs.declared.trace.Op.TheVariants as op
-use Rattle.lane_engine.specs.Whole.{Made, LeadsBy}
+use Rattle.live_heap.specs.Made.{LeadsBy, Made, Sums, answered, found_from, wrote}
 use Rattle.lane_outcomes.specs.declared.registers.Held.{Held}
 use Rattle.lane_outcomes.specs.declared.outcome.Outcome.{Outcome}
 use Rattle.lane_outcomes.specs.declared.outcome.Outcome.TheVariants as outcome
 use Rattle.lane_outcomes.specs.Lane.{held_in, registers_after}
 use Rattle.lane_steps.specs.declared.lane.LaneState.{LaneState}
 use Rattle.lane_steps.specs.Advances.{IsNext}
-use Rattle.lane_steps.specs.Made.{AllMade, AreMisses, HasRun, HoldsBlocks, MadeFor, Makes, OneMade, Skips, Sums, Takes, answered, found_from, register_of, wrote}
+use Rattle.lane_steps.specs.Made.{AllMade, AreMisses, HasRun, HoldsBlocks, MadeFor, Makes, OneMade, Skips, Takes, register_of}
 use Rattle.lane_steps.specs.declared.stage.Stage.TheVariants as stage
 use Rattle.lane_steps.specs.Paths.{held_by, held_blocks}
 use Rattle.lane_steps.specs.Scripts.{registers_from}
 use Rattle.lane_steps.proofs.LaneParts.{set-held, slot-empty, slot-full}
 
--- one write more, one read more, one miss more
-pub wrote-more :
-    (place : ℕ) (need : Need) (v i : ℕ)
-    → wrote place need v (i + 1) ≡ wrote place need v i ++ answered (write place need i ((v + i) % 2 ^ 64)) reply.Wrote ∷ []
-wrote-more place need v i =
-    map-range_with_len_more (λ i. answered (write place need i ((v + i) % 2 ^ 64)) reply.Wrote) 0 i i (omega arith)
-
-pub found-more :
-    (place : ℕ) (need : Need) (i : ℕ) (words : List ℕ) (word j : ℕ) → j ≡ i + length words
-    → found_from place need i (words ++ word ∷ []) ≡ found_from place need i words ++ answered (read place need j) (reply.Word word) ∷ []
-found-more place need i [] word j is = ap (λ k. answered (read place need k) (reply.Word word) ∷ []) (omega (arith, is))
-found-more place need i (w ∷ words) word j is =
-    ap (λ ms. answered (read place need i) (reply.Word w) ∷ ms) (found-more place need (suc i) words word j (omega (arith, is)))
-
+-- one miss more
 pub misses-more :
     (shelf : ℕ) (misses : List Made) (expected found : ℕ) → AreMisses shelf misses
     → AreMisses shelf (misses ++ answered (take shelf) (reply.Missed expected found) ∷ [])
@@ -50,13 +36,6 @@ misses-more shelf [] expected found are = (expected, found, refl, tt)
 misses-more shelf (m ∷ misses) expected found are = (are.0, are.1, are.2, misses-more shelf misses expected found are.3)
 
 module _ {S : Type 0} (called : S → Call → Reply → S → Type 0) where
-  -- one call more
-  pub leads-more :
-      (s t u : S) (made : List Made) (call : Call) (answer : Reply) → LeadsBy called s made t → called t call answer u
-      → LeadsBy called s (made ++ answered call answer ∷ []) u
-  leads-more s t u [] call answer leads one = (u, subst (λ x. called x call answer u) leads one, refl)
-  leads-more s t u (m ∷ made) call answer leads one = (leads.0, leads.1, leads-more leads.0 t u made call answer leads.2 one)
-
   -- calls and then others
   pub leads-then :
       (s t u : S) (made more : List Made) → LeadsBy called s made t → LeadsBy called t more u → LeadsBy called s (made ++ more) u

@@ -1,15 +1,15 @@
 -- The whole calls that a lane has made: those of its operations with their outcomes, in the script's order, each with its answer.
-use Rattle.std.specs.Prelude.{ℕ, suc, ◌≡◌, ◌≢◌, ◌≤◌, ◌+◌, ◌%◌, ◌^◌, ◌∷◌, ◌++◌, List, [], Option, Some, None, map, sum, length, drop, vec_capacity}
-use Rattle.std.specs.List.{range_with_len, slice_index_or}
+use Rattle.std.specs.Prelude.{ℕ, ◌≡◌, ◌≢◌, ◌≤◌, ◌+◌, ◌%◌, ◌^◌, ◌∷◌, ◌++◌, List, [], Option, Some, None, map, sum, length, drop, vec_capacity}
+use Rattle.std.specs.List.{slice_index_or}
 use Rattle.heap_geometry.specs.declared.need.Need.{Need}
 use Rattle.heap_geometry.specs.Need.{need_of, usable_words}
 use Rattle.errand_steps.specs.declared.reply.Reply.{Reply}
 use Rattle.errand_steps.specs.declared.reply.Reply.TheVariants as reply
-use Rattle.errand_steps.specs.Calls.{Call, alloc, free, write, read, put, take}
+use Rattle.errand_steps.specs.Calls.{Call, alloc, free, put, take}
 use Rattle.trace_text.specs.declared.limits.TheConstants.{REGISTERS}
 use Rattle.trace_text.specs.declared.trace.Op.{Op}
 use Rattle.trace_text.specs.declared.trace.Op.TheVariants as op
-use Rattle.lane_engine.specs.Whole.{Made, LeadsBy}
+use Rattle.live_heap.specs.Made.{LeadsBy, Made, answered, found_from, wrote}
 use Rattle.lane_outcomes.specs.declared.registers.Held.{Held}
 use Rattle.lane_outcomes.specs.declared.outcome.Outcome.{Outcome}
 use Rattle.lane_outcomes.specs.declared.outcome.Outcome.TheVariants as outcome
@@ -19,22 +19,9 @@ use Rattle.lane_steps.specs.declared.stage.Stage.TheVariants as stage
 use Rattle.lane_steps.specs.Paths.{held_blocks}
 use Rattle.lane_steps.specs.Scripts.{registers_from}
 
--- a call with its answer
-abbrev pub answered : Call → Reply → Made
-answered call answer = record { call = call; answer = answer }
-
 -- calls without their answers
 abbrev pub calls_made : List Made → List Call
 calls_made made = map (λ m. m.call) made
-
--- a write for each of the first words of a block, in their order: word i with v + i
-abbrev pub wrote : ℕ → Need → ℕ → ℕ → List Made
-wrote place need v words = map (λ i. answered (write place need i ((v + i) % 2 ^ 64)) reply.Wrote) (range_with_len 0 words)
-
--- a read for each, from word i on, with the word that it found
-abbrev pub found_from : ℕ → Need → ℕ → List ℕ → List Made
-found_from place need i [] = []
-found_from place need i (word ∷ words) = answered (read place need i) (reply.Word word) ∷ found_from place need (suc i) words
 
 -- takes that missed the shelf's block
 abbrev pub AreMisses : ℕ → List Made → Type 0
@@ -109,12 +96,6 @@ pub record HoldsBlocks {B : Type 0} (place_of : B → ℕ) (need_of : B → Need
   pub once :
       (r q : ℕ) (block other : B) → slice_index_or registers r None ≡ Some block → slice_index_or registers q None ≡ Some other → r ≢ q
       → place_of block ≢ place_of other
-
--- reads of a block's usable words, one after the other, led from one state to another; they add up to this
-abbrev pub Sums : {S : Type 0} → (S → Call → Reply → S → Type 0) → S → ℕ → Need → ℕ → S → Type 0
-Sums called before place need total after =
-    (words : List ℕ) × (length words ≡ usable_words need) × (total ≡ sum words % 2 ^ 64)
-    × LeadsBy called before (found_from place need 0 words) after
 
 module _ {B S : Type 0} (place_of : B → ℕ) (need_of : B → Need) where
   -- takes that missed, and one that got this block or found none

@@ -2,13 +2,11 @@
 
 ghost use Rattle.std.specs.Prelude.{ℕ, ◌≡◌, ◌≢◌, ◌<◌, ◌≤◌, All, IfSome, length, vec_capacity};
 ghost use Rattle.heap_geometry.specs.declared.need.Need.{Need};
-ghost use Rattle.heap_geometry.specs.Need.{usable_words};
 ghost use Rattle.heap_geometry.specs.declared.limits.TheConstants.{LARGE_MOST, SHELVES};
 ghost use Rattle.trace_text.specs.declared.limits.TheConstants.{REGISTERS};
 ghost use Rattle.trace_text.specs.declared.trace.Op.TheVariants as op;
 ghost use Rattle.trace_text.specs.Traces.{IsOp};
-ghost use Rattle.lane_engine.specs.Whole.{LeadsBy};
-ghost use Rattle.lane_steps.specs.Made.{HasRun, HoldsBlocks, Makes, Sums, Takes, wrote};
+ghost use Rattle.lane_steps.specs.Made.{HasRun, HoldsBlocks, Makes, Takes};
 ghost use Rattle.lane_steps.specs.Paths.{FirstPassed};
 ghost use Rattle.lane_steps.specs.declared.stage.Stage.TheVariants as stage;
 
@@ -20,35 +18,6 @@ use lane_engine::token::Token;
 use lane_outcomes::outcome::Outcome;
 use std::sync::Wait;
 use trace_text::trace::Op;
-
-/// Fills a block: word i with v + i, modulo 2^64.
-fn fill_words<B: Token, C: Calls<Held = B>>(calls: &mut C, block: &B, v: u64)
-    requires stands { C.stands calls.old }
-    requires owned { C.owns calls.old (B.place_of block.now) (B.need_of block.now) }
-    ensures stands { C.stands calls.new }
-    ensures base { C.runs_on calls.new ≡ C.runs_on calls.old }
-    ensures made { LeadsBy C.called calls.old
-        (wrote (B.place_of block.now) (B.need_of block.now) v (usable_words (B.need_of block.now))) calls.new }
-{
-    for i in 0..block.words() {
-        calls.write(block, i, v.wrapping_add(u64::from(i)));
-    }
-}
-
-/// The sum of a block's words, modulo 2^64.
-fn sum_words<B: Token, C: Calls<Held = B>>(calls: &mut C, block: &B) -> u64
-    requires stands { C.stands calls.old }
-    requires owned { C.owns calls.old (B.place_of block.now) (B.need_of block.now) }
-    ensures stands { C.stands calls.new }
-    ensures base { C.runs_on calls.new ≡ C.runs_on calls.old }
-    ensures made { Sums C.called calls.old (B.place_of block.now) (B.need_of block.now) result calls.new }
-{
-    let mut total = 0u64;
-    for i in 0..block.words() {
-        total = total.wrapping_add(calls.read(block, i));
-    }
-    total
-}
 
 /// Takes the block that lies on a shelf; where another caller changed the shelf in between it tries again.
 fn take_block<B: Token + Drop, R: Wait, C: Calls<Held = B>>(
@@ -118,7 +87,7 @@ impl<B: Token + Drop> LaneState<B> {
         }
         match calls.allocate(rt, need) {
             Allocated::Given(block) => {
-                fill_words(calls, &block, v);
+                calls.fill(&block, v);
                 let words = block.words();
                 let place = block.place();
                 put_in(&mut self.registers, r, block);
@@ -160,7 +129,7 @@ impl<B: Token + Drop> LaneState<B> {
     {
         match &self.registers[usize::from(r)] {
             Some(block) => {
-                fill_words(calls, block, v);
+                calls.fill(block, v);
                 self.finish(Outcome::Filled);
             }
             None => self.finish(Outcome::Skipped),
@@ -179,7 +148,7 @@ impl<B: Token + Drop> LaneState<B> {
     {
         match &self.registers[usize::from(r)] {
             Some(block) => {
-                let total = sum_words(calls, block);
+                let total = calls.sum(block);
                 self.finish(Outcome::Sum(total));
             }
             None => self.finish(Outcome::Skipped),

@@ -1,8 +1,9 @@
 use Rattle.std.proofs.Common.{◌++◌, ◌∷◌, [], refl, ◌∙◌}
 use Rattle.errand_steps.specs.declared.reply.Reply.TheVariants as reply
 use Rattle.errand_steps.specs.Calls.{take}
-use Rattle.lane_steps.specs.Made.{answered}
-use Rattle.lane_steps.proofs.MadeLemmas.{leads-keep, leads-more, leave-misses, misses-more}
+use Rattle.live_heap.specs.Made.{answered}
+use Rattle.live_heap.proofs.MadeLemmas.{leads-more}
+use Rattle.lane_steps.proofs.MadeLemmas.{leads-keep, leave-misses, misses-more}
 use Rattle.lane_steps.proofs.lane.calls.take_block.Goals as goal
 
 pub returns-in-Got-clause-made : goal.returns-in-Got-clause-made

@@ -1,5 +1,5 @@
 use Rattle.std.proofs.Common.{List, ◌≡◌}
-use Rattle.lane_engine.specs.Whole.{LeadsBy, Made}
+use Rattle.live_heap.specs.Made.{LeadsBy, Made}
 use Rattle.lane_steps.specs.Made.{AreMisses}
 use Rattle.lane_steps.proofs.lane.calls.take_block.Given as goal
 

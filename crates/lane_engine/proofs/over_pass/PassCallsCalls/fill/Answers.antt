@@ -1,0 +1,10 @@
+use Rattle.heap_geometry.specs.Need.{usable_words}
+use Rattle.live_heap.specs.Made.{wrote}
+use Rattle.lane_engine.proofs.WholeLemmas.{words-lead}
+use Rattle.lane_engine.proofs.over_pass.PassCallsCalls.fill.Goals as goal
+
+pub returns-clause-called : goal.returns-clause-called
+returns-clause-called c =
+    let e = c.args.self.now in
+    let b = c.args.held.now in
+    words-lead e e.pass.now c.fill.new.pass (wrote b.place b.need c.args.from (usable_words b.need)) c.fill.ensures.wrote
