@@ -17,12 +17,12 @@ use Rattle.live_heap.specs.declared.heap.Heap.{Heap}
 use Rattle.live_heap.specs.declared.pass.Pass.{Pass}
 use Rattle.live_heap.specs.Passes.{seen}
 use Rattle.live_heap.specs.Whole.{IsAtRest}
-use Rattle.lane_engine.specs.Whole.{Made, LeadsBy}
+use Rattle.live_heap.specs.Made.{LeadsBy, Made, answered, found_from, wrote}
 use Rattle.lane_outcomes.specs.declared.registers.Held.{Held}
 use Rattle.lane_outcomes.specs.declared.outcome.Outcome.{Outcome}
 use Rattle.lane_outcomes.specs.declared.outcome.Outcome.TheVariants as outcome
 use Rattle.lane_outcomes.specs.Lane.{held_in, registers_after}
-use Rattle.lane_steps.specs.Made.{AllMade, AreMisses, MadeFor, answered, calls_made, found_from, register_of, wrote}
+use Rattle.lane_steps.specs.Made.{AllMade, AreMisses, MadeFor, calls_made, register_of}
 use Rattle.lane_steps.specs.Operations.{Serves}
 use Rattle.lane_steps.specs.Scripts.{CallsOf, OnHeld, Scripts, reads_of, writes_of}
 use Rattle.lane_steps.proofs.EndedLemmas.{lane-start}
