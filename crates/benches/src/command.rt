@@ -19,6 +19,10 @@ pub enum Task {
     Hold,
     /// Allocations of one word, each with its free behind it.
     Pairs,
+    /// A block of 31 words that is filled and checked again and again.
+    Words,
+    /// Allocations of 31 words that are filled, checked and freed.
+    Blocks,
     /// Calls of all kinds on blocks that are filled and checked.
     Stress,
 }
@@ -65,6 +69,8 @@ fn bench_of(place: &str, mode: &str) -> Option<Bench> {
         ("heap", "steps") => Some(Bench::Heap(Task::Steps)),
         ("heap", "hold") => Some(Bench::Heap(Task::Hold)),
         ("heap", "pairs") => Some(Bench::Heap(Task::Pairs)),
+        ("heap", "words") => Some(Bench::Heap(Task::Words)),
+        ("heap", "blocks") => Some(Bench::Heap(Task::Blocks)),
         ("heap", "stress") => Some(Bench::Heap(Task::Stress)),
         ("machine", "bare") => Some(Bench::Accesses),
         ("machine", "hold") => Some(Bench::Machine(Mix::Hold)),

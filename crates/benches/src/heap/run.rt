@@ -8,7 +8,7 @@ ghost use Rattle.benches.specs.declared.heap.worker.Worker.{Worker};
 ghost use Rattle.benches.specs.Hands.{IsReady, Rests};
 
 use crate::command::{Command, Task};
-use crate::heap::steps::{make_pairs, make_steps};
+use crate::heap::steps::{make_blocks, make_pairs, make_steps, make_words};
 use crate::heap::tally::Tally;
 use crate::heap::worker::{MOST_HELD, Worker};
 use crate::random::Random;
@@ -125,6 +125,8 @@ fn work<R: Wait>(rt: &R, heap: &Heap, worker: &mut Worker, task: Task, count: u6
         Task::Steps => make_steps(rt, heap, &mut worker.pass, count, true, &mut worker.tally),
         Task::Hold => make_steps(rt, heap, &mut worker.pass, count, false, &mut worker.tally),
         Task::Pairs => make_pairs(rt, heap, &mut worker.pass, count, &mut worker.tally),
+        Task::Words => make_words(rt, heap, &mut worker.pass, count, &mut worker.tally),
+        Task::Blocks => make_blocks(rt, heap, &mut worker.pass, count, &mut worker.tally),
         Task::Stress => worker.stress(rt, heap, count),
     }
 }

@@ -1,11 +1,13 @@
 //! Steps in a row, and pairs of calls.
 
-ghost use Rattle.live_heap.specs.Passes.{IsOf};
-ghost use Rattle.benches.specs.Hands.{Rests};
+ghost use Rattle.live_heap.specs.Passes.{IsOf, Owns};
+ghost use Rattle.benches.specs.Hands.{Keeps, Rests};
 
 use crate::heap::calls::{allocate, release};
+use crate::heap::stamps::{fill, wrong_words};
 use crate::heap::tally::{Tally, count};
 use live_heap::answers::{Ending, Step};
+use live_heap::block::Block;
 use live_heap::heap::Heap;
 use live_heap::pass::Pass;
 use std::sync::Wait;
@@ -64,5 +66,44 @@ pub fn make_pairs<R: Wait>(rt: &R, heap: &Heap, pass: &mut Pass, pairs: u64, tal
         if let Some(block) = allocate(rt, heap, pass, 1, tally) {
             release(rt, heap, pass, block, tally);
         }
+    }
+}
+
+/// How many usable words the blocks have that are filled and checked.
+const WORDS: u32 = 31;
+
+/// Fills a block and checks it, so many times.
+pub fn make_words<R: Wait>(rt: &R, heap: &Heap, pass: &mut Pass, rounds: u64, tally: &mut Tally)
+    requires { Rests heap.now pass.old }
+    ensures { Rests heap.now pass.new }
+{
+    if let Some(block) = allocate(rt, heap, pass, WORDS, tally) {
+        turn_over(heap, pass, &block, rounds, tally);
+        release(rt, heap, pass, block, tally);
+    }
+}
+
+/// The rounds of one block.
+fn turn_over(heap: &Heap, pass: &mut Pass, block: &Block, rounds: u64, tally: &mut Tally)
+    requires rests { Rests heap.now pass.old }
+    requires owned { Owns pass.old block.now }
+    ensures rests { Rests heap.now pass.new }
+    ensures keeps { Keeps pass.old pass.new }
+{
+    for round in 0..rounds {
+        count(&mut tally.made);
+        fill(heap, pass, block, round);
+        let wrong = wrong_words(heap, pass, block, round);
+        tally.wrong = tally.wrong.saturating_add(wrong);
+    }
+}
+
+/// So many allocations that are filled, checked and freed.
+pub fn make_blocks<R: Wait>(rt: &R, heap: &Heap, pass: &mut Pass, rounds: u64, tally: &mut Tally)
+    requires { Rests heap.now pass.old }
+    ensures { Rests heap.now pass.new }
+{
+    for _ in 0..rounds {
+        make_words(rt, heap, pass, 1, tally);
     }
 }
