@@ -13,10 +13,10 @@ COLOURS = [LIVE, STRONG, FREE, HELD, "#d9d0ea", "#f2d3d8"]
 
 # A picture: the heading above the table, the title, the columns that are drawn, and what a bar is.
 PLOTS = [
-    ("pairs.svg", "A pair by threads", "An allocation of one word with its free",
-     ["before", "balloc", "twin", "glibc"], "nanoseconds of processor time"),
-    ("whole_runs.svg", "Whole runs beside malloc", "Whole runs of traces",
-     ["balloc", "glibc", "jemalloc", "mimalloc", "tcmalloc"], "milliseconds by the clock"),
+    ("calls.svg", "A pair, a word, a block", "Calls on the heap, and the same words and atomic actions in plain C",
+     ["balloc", "twin"], "nanoseconds of processor time, all threads together"),
+    ("whole_runs.svg", "The program beside malloc", "Whole runs of traces",
+     ["balloc", "glibc", "jemalloc", "mimalloc", "tcmalloc"], "milliseconds by the clock on the wall"),
 ]
 
 
