@@ -13,7 +13,7 @@ COLOURS = [LIVE, STRONG, FREE, HELD, "#d9d0ea", "#f2d3d8"]
 
 # A picture: the heading above the table, the title, the columns that are drawn, and what a bar is.
 PLOTS = [
-    ("calls.svg", "A pair, a word, a block", "Calls on the heap, and the same words and atomic actions in plain C",
+    ("calls.svg", "A pair, a word, a block", "Calls on the heap beside plain C",
      ["balloc", "twin"], "nanoseconds of processor time, all threads together"),
     ("whole_runs.svg", "The program beside malloc", "Whole runs of traces",
      ["balloc", "glibc", "jemalloc", "mimalloc", "tcmalloc"], "milliseconds by the clock on the wall"),
