@@ -45,6 +45,8 @@ pub enum Bench {
     Atomics,
     /// A heap at work, on threads.
     Heap(Task),
+    /// Calls of a script on two heaps, on one thread.
+    Script,
     /// Memory accesses alone, on one thread.
     Accesses,
     /// Steps of the machine, on one thread.
@@ -72,6 +74,7 @@ fn bench_of(place: &str, mode: &str) -> Option<Bench> {
         ("heap", "words") => Some(Bench::Heap(Task::Words)),
         ("heap", "blocks") => Some(Bench::Heap(Task::Blocks)),
         ("heap", "stress") => Some(Bench::Heap(Task::Stress)),
+        ("heap", "script") => Some(Bench::Script),
         ("machine", "bare") => Some(Bench::Accesses),
         ("machine", "hold") => Some(Bench::Machine(Mix::Hold)),
         ("machine", "all") => Some(Bench::Machine(Mix::All)),

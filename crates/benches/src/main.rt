@@ -1,18 +1,23 @@
 //! Benches, for a clock beside them: calls on one heap from many threads, and steps of the machine in a
-//! row on one thread, each beside bare accesses of the same kind as many; and puts the heap under stress.
+//! row on one thread, each beside bare accesses of the same kind as many; puts the heap under stress; and
+//! makes whole calls and their steps beside each other.
 //!
 //! `benches PLACE MODE SEED COUNT CALLERS FRAMES HEAPS UNITS ..`: one bench or more, of eight words each.
 //! Where the place is `heap`, each of CALLERS threads (1 to 16) makes COUNT atomic accesses at random
 //! places of a table of as many words as the heap has (`bare`), or has a pass of the heap and makes
 //! COUNT steps of allocations of one word with their frees (`steps`) or without (`hold`), COUNT
-//! allocations of one word with their frees (`pairs`), or COUNT rounds of calls of all kinds on blocks
-//! that it fills and checks (`stress`). Where it is `machine`, one thread loads a word, compares it and
-//! stores it, COUNT times, at random places of such a table (`bare`), or makes COUNT steps of a machine
-//! on which calls of a mix are begun (`hold`, `all`, `mingled`).
+//! allocations of one word with their frees (`pairs`), COUNT rounds in which it fills and checks the words
+//! of a block that it keeps (`words`) or allocates for them (`blocks`), or COUNT rounds of calls of all
+//! kinds on blocks that it fills and checks (`stress`); or one thread makes COUNT calls of a random script
+//! for CALLERS callers of two heaps, on the one as wholes and on the other step by step (`script`).
+//! Where it is `machine`, one thread loads a word, compares it and stores it, COUNT times, at random places
+//! of such a table (`bare`), or makes COUNT steps of a machine on which calls of a mix are begun (`hold`,
+//! `all`, `mingled`).
 //!
 //! It prints a line of counts for each bench, so that tools/bench_heap.py and tools/bench_steps.py can
-//! time it. All words are read before a bench begins, and a bench that does not end well is the last:
-//! with the exit status 1 where a word of a block was not what its owner had written there.
+//! time it, and tools/try_calls.py can compare them. All words are read before a bench begins, and a bench
+//! that does not end well is the last: with the exit status 1 where a word of a block was not what its
+//! owner had written there, or a whole call came to another thing than its steps.
 #![tactic(auto)]
 
 ghost use Rattle.std.specs.Prelude.{All};
@@ -30,9 +35,9 @@ use std::{env, io};
 mod command;
 mod heap;
 mod machine;
-mod random;
+mod script;
 
-/// The exit status where a word was wrong.
+/// The exit status where something was wrong.
 const WRONG: u8 = 1;
 
 /// The exit status where the words behind the program's name are no commands.
@@ -50,7 +55,7 @@ fn words<R: Env + AllocGlobal>(rt: &R, alloc: Global) -> io::Result<Vec<String>>
     Ok(words)
 }
 
-/// Does what the command says, prints the counts, and answers how many words were wrong.
+/// Does what the command says, prints the counts, and answers how much was wrong.
 fn print_counts<R: Print + Threads + Wait + Sync>(
     rt: &R,
     alloc: Global,
@@ -61,6 +66,7 @@ fn print_counts<R: Print + Threads + Wait + Sync>(
     match command.bench {
         Bench::Atomics => heap::print_accesses(rt, alloc, command)?,
         Bench::Heap(task) => return heap::print_counts(rt, alloc, task, command),
+        Bench::Script => return script::print_sums(rt, alloc, command),
         Bench::Accesses => machine::print_accesses(rt, alloc, command)?,
         Bench::Machine(mix) => machine::print_counts(rt, alloc, mix, command)?,
     }

@@ -5,10 +5,12 @@ ghost use Rattle.live_heap.specs.Hands.{IsHand};
 ghost use Rattle.live_heap.specs.Passes.{IsOf};
 
 use crate::alone::{close_alone, geometry, open_alone};
-use crate::hand::{self, Request as Asked, Told, come_to};
+use crate::hand::come_to;
 use errand_steps::reply::Begun;
 use heap_geometry::geometry::Geometry;
 use heap_geometry::limits::{CLASSES, SHELVES};
+use heap_scripts::request::{Request as Asked, Told};
+use heap_scripts::whole;
 use live_heap::answers::{Ending, Step};
 use live_heap::block::Block;
 use live_heap::closed::Closed;
@@ -133,8 +135,8 @@ fn call_by_steps(
 /// The same on a new heap, whose caller has a block of 3 words, in the first of which stands 8.
 fn call_on_eight(alloc: Global, request: Request) -> Result<Option<(u64, Step)>, AllocError> {
     let (heap, mut pass, mut blocks) = open_alone(alloc, 4, 0, 9)?;
-    let _ = hand::alloc(&heap, &mut pass, &mut blocks, 3, 1)?;
-    let _ = hand::write(&heap, &mut pass, blocks.as_slice(), 0, 0, 8);
+    let _ = whole::make(&heap, &mut pass, &mut blocks, Asked::Alloc(3), 1)?;
+    let _ = whole::make(&heap, &mut pass, &mut blocks, Asked::Write(0, 0, 8), 1)?;
     Ok(call_by_steps(&heap, &mut pass, blocks, request))
 }
 

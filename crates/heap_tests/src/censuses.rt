@@ -2,9 +2,10 @@
 //! written apart from it.
 
 use crate::alone::{close_alone, open_alone};
-use crate::hand::{Request, Told, come_to};
+use crate::hand::come_to;
 use heap_census::census::{Census, ClassCount};
 use heap_census::counting::census;
+use heap_scripts::request::{Request, Told};
 use std::test::Fail;
 
 fn class(blocks: u64, free: u64, reserved: u64, live: u64) -> ClassCount {

@@ -5,6 +5,8 @@
 #[cfg(test)]
 mod alone;
 #[cfg(test)]
+mod both_ways;
+#[cfg(test)]
 mod calls;
 #[cfg(test)]
 mod censuses;

@@ -6,9 +6,9 @@ ghost use Rattle.crossbeam_utils.specs.Padded.{padded_value};
 ghost use Rattle.benches.specs.declared.heap.bare.Walker.{Walker};
 
 use crate::command::Command;
-use crate::random::Random;
 use atomic_table::{Play, Seat, Split, Table, TableRule};
 use crossbeam_utils::CachePadded;
+use heap_scripts::random::Random;
 use std::alloc::{AllocError, Global};
 use std::thread;
 use std::thread::Threads;

@@ -1,4 +1,4 @@
-//! Whole calls of a pass, which are gone on with until they have ended.
+//! Whole calls of a pass, which are gone on with until they have ended, with so many tries each time.
 
 ghost use Rattle.std.specs.Prelude.{ℕ, ◌≡◌, ◌<◌, None};
 ghost use Rattle.heap_geometry.specs.declared.limits.TheConstants.{SHELVES};
@@ -17,29 +17,28 @@ use live_heap::laws::passes_keep_their_blocks;
 use live_heap::pass::Pass;
 use std::sync::Wait;
 
-/// How many tries a call has until it is interrupted.
-const TRIES: u32 = 4;
-
 /// An allocation of so many usable words.
 pub fn allocate<R: Wait>(
     rt: &R,
     heap: &Heap,
     pass: &mut Pass,
     need: u32,
+    tries: u32,
     tally: &mut Tally,
 ) -> Option<Block>
-    requires { Rests heap.now pass.old }
+    requires rests { Rests heap.now pass.old }
+    requires tries { 0 < tries }
     ensures { HasMade heap.now pass.old (alloc need) result pass.new }
 {
     passes_keep_their_blocks();
-    match heap.alloc(pass, need, TRIES) {
+    match heap.alloc(pass, need, tries) {
         AllocAnswer::Given(block) => {
             count(&mut tally.given);
             Some(block)
         }
         AllocAnswer::Busy => {
             count(&mut tally.busy);
-            finish(rt, heap, pass, tally)
+            finish(rt, heap, pass, tries, tally)
         }
         AllocAnswer::Refused => {
             count(&mut tally.refused);
@@ -57,31 +56,46 @@ pub fn allocate<R: Wait>(
 }
 
 /// Frees the pass's block.
-pub fn release<R: Wait>(rt: &R, heap: &Heap, pass: &mut Pass, block: Block, tally: &mut Tally)
+pub fn release<R: Wait>(
+    rt: &R,
+    heap: &Heap,
+    pass: &mut Pass,
+    block: Block,
+    tries: u32,
+    tally: &mut Tally,
+)
     requires rests { Rests heap.now pass.old }
     requires owned { Owns pass.old block }
+    requires tries { 0 < tries }
     ensures { HasMade heap.now pass.old (free block.place block.need) None pass.new }
 {
     passes_keep_their_blocks();
-    match heap.free(pass, block, TRIES) {
+    match heap.free(pass, block, tries) {
         FreeAnswer::Freed => count(&mut tally.freed),
         FreeAnswer::Busy => {
             count(&mut tally.busy);
-            let _ = finish(rt, heap, pass, tally);
+            let _ = finish(rt, heap, pass, tries, tally);
         }
     }
 }
 
 /// Goes on with an allocation or a free to its end, and answers the block that it got.
-fn finish<R: Wait>(rt: &R, heap: &Heap, pass: &mut Pass, tally: &mut Tally) -> Option<Block>
+fn finish<R: Wait>(
+    rt: &R,
+    heap: &Heap,
+    pass: &mut Pass,
+    tries: u32,
+    tally: &mut Tally,
+) -> Option<Block>
     requires of { IsOf heap.now pass.old }
     requires under_way { IsResumable pass.old }
+    requires tries { 0 < tries }
     ensures { (first : Pass) (call : Call) (made : ℕ) → IsOf heap.now first → IsCalling first call made pass.old
         → HasMade heap.now first call result pass.new }
 {
     passes_keep_their_blocks();
     for _ in rt.forever() {
-        match heap.resume(pass, TRIES) {
+        match heap.resume(pass, tries) {
             Resumed::Busy => count(&mut tally.busy),
             Resumed::Given(block) => {
                 count(&mut tally.given);
@@ -111,11 +125,13 @@ pub fn shelve<R: Wait>(
     pass: &mut Pass,
     block: Block,
     shelf: u8,
+    tries: u32,
     tally: &mut Tally,
 )
     requires rests { Rests heap.now pass.old }
     requires owned { Owns pass.old block }
     requires shelf { shelf < SHELVES }
+    requires tries { 0 < tries }
     ensures { HasMade heap.now pass.old (put block.place block.need shelf) None pass.new }
 {
     passes_keep_their_blocks();
@@ -123,7 +139,7 @@ pub fn shelve<R: Wait>(
         Ok(()) => count(&mut tally.put),
         Err(full) => {
             count(&mut tally.missed);
-            release(rt, heap, pass, full.block, tally);
+            release(rt, heap, pass, full.block, tries, tally);
         }
     }
 }

@@ -12,6 +12,12 @@ use live_heap::heap::Heap;
 use live_heap::pass::Pass;
 use std::sync::Wait;
 
+/// How many tries a call has until it is interrupted.
+const TRIES: u32 = 4;
+
+/// How many usable words the blocks have that are filled and checked.
+const WORDS: u32 = 31;
+
 /// Makes so many steps, and those that end the last call: allocations of one word, and where `frees` says
 /// so the free of each block behind its allocation.
 pub fn make_steps<R: Wait>(
@@ -63,23 +69,20 @@ pub fn make_pairs<R: Wait>(rt: &R, heap: &Heap, pass: &mut Pass, pairs: u64, tal
 {
     for _ in 0..pairs {
         count(&mut tally.made);
-        if let Some(block) = allocate(rt, heap, pass, 1, tally) {
-            release(rt, heap, pass, block, tally);
+        if let Some(block) = allocate(rt, heap, pass, 1, TRIES, tally) {
+            release(rt, heap, pass, block, TRIES, tally);
         }
     }
 }
-
-/// How many usable words the blocks have that are filled and checked.
-const WORDS: u32 = 31;
 
 /// Fills a block and checks it, so many times.
 pub fn make_words<R: Wait>(rt: &R, heap: &Heap, pass: &mut Pass, rounds: u64, tally: &mut Tally)
     requires { Rests heap.now pass.old }
     ensures { Rests heap.now pass.new }
 {
-    if let Some(block) = allocate(rt, heap, pass, WORDS, tally) {
+    if let Some(block) = allocate(rt, heap, pass, WORDS, TRIES, tally) {
         turn_over(heap, pass, &block, rounds, tally);
-        release(rt, heap, pass, block, tally);
+        release(rt, heap, pass, block, TRIES, tally);
     }
 }
 

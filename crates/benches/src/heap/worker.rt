@@ -7,8 +7,8 @@ ghost use Rattle.live_heap.specs.Passes.{Owns};
 use crate::heap::calls::{allocate, fetch, release, shelve};
 use crate::heap::stamps::{fill, first_word, wrong_words};
 use crate::heap::tally::{Tally, count};
-use crate::random::Random;
 use heap_geometry::limits::{CLASSES, SMALL_MOST};
+use heap_scripts::random::Random;
 use live_heap::block::Block;
 use live_heap::heap::Heap;
 use live_heap::pass::Pass;
@@ -58,6 +58,18 @@ fn next_shelf(random: &mut Random) -> u8
     random.below(USED_SHELVES) as u8
 }
 
+/// How many tries the next call has: one, so that it goes on after its first lost exchange by itself, or
+/// more.
+fn next_tries(random: &mut Random) -> u32
+    ensures { 0 < result }
+{
+    match random.below(4) {
+        0 | 1 => 1,
+        2 => 2,
+        _ => 64,
+    }
+}
+
 impl Worker {
     ghost use Rattle.std.specs.Prelude.{◌∷◌, ◌≢◌, All, vec_len, vec_capacity};
     ghost use Rattle.live_heap.specs.Holdings.{Holds};
@@ -97,7 +109,8 @@ impl Worker {
             return;
         }
         let need = next_need(&mut self.random);
-        if let Some(block) = allocate(rt, heap, &mut self.pass, need, &mut self.tally) {
+        let tries = next_tries(&mut self.random);
+        if let Some(block) = allocate(rt, heap, &mut self.pass, need, tries, &mut self.tally) {
             let stamp = self.next_stamp();
             fill(heap, &mut self.pass, &block, stamp);
             self.hold(block, stamp);
@@ -176,7 +189,8 @@ impl Worker {
     {
         let Held { block, stamp } = held;
         self.check(heap, &block, stamp);
-        release(rt, heap, &mut self.pass, block, &mut self.tally);
+        let tries = next_tries(&mut self.random);
+        release(rt, heap, &mut self.pass, block, tries, &mut self.tally);
     }
 
     /// Checks a block from the hand, and puts it on a shelf.
@@ -188,7 +202,16 @@ impl Worker {
         let Held { block, stamp } = held;
         self.check(heap, &block, stamp);
         let shelf = next_shelf(&mut self.random);
-        shelve(rt, heap, &mut self.pass, block, shelf, &mut self.tally);
+        let tries = next_tries(&mut self.random);
+        shelve(
+            rt,
+            heap,
+            &mut self.pass,
+            block,
+            shelf,
+            tries,
+            &mut self.tally,
+        );
     }
 
     /// Counts the words of a block that are another number than its stamp.

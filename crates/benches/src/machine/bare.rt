@@ -2,8 +2,8 @@
 
 ghost use Rattle.heap_geometry.specs.Geometry.{IsChecked};
 
-use crate::random::Random;
 use heap_geometry::geometry::Geometry;
+use heap_scripts::random::Random;
 use std::alloc::{AllocError, Global};
 use word_plan::layout::Layout;
 

@@ -6,9 +6,9 @@ ghost use Rattle.errand_steps.specs.Begins.{IsIdle};
 ghost use Rattle.step_core.specs.Cores.{errand_at};
 
 use crate::command::Mix;
-use crate::random::Random;
 use heap_geometry::limits::{CLASSES, SMALL_MOST};
 use heap_geometry::need::usable;
+use heap_scripts::random::Random;
 use pool_model::owner::Owner;
 use std::alloc::{AllocError, Global};
 use step_core::machine::Core;

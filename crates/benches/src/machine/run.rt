@@ -5,9 +5,9 @@ ghost use Rattle.heap_geometry.specs.Geometry.{IsChecked};
 
 use crate::command::Mix;
 use crate::machine::mix::{Hands, begin};
-use crate::random::Random;
 use errand_steps::reply::{Progress, Reply};
 use heap_geometry::geometry::Geometry;
+use heap_scripts::random::Random;
 use std::alloc::{AllocError, Global};
 use step_core::machine::Core;
 

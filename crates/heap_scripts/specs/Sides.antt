@@ -1,0 +1,19 @@
+-- A heap with a hand for each caller.
+use Rattle.std.specs.Prelude.{List, All}
+use Rattle.live_heap.specs.declared.heap.Heap.{Heap}
+use Rattle.live_heap.specs.Hands.{IsHand}
+use Rattle.heap_scripts.specs.declared.compare.Twins.{Twins}
+use Rattle.heap_scripts.specs.declared.side.Hand.{Hand}
+use Rattle.heap_scripts.specs.declared.side.Side.{Side}
+
+-- the hands are of this heap
+abbrev pub AreHands : Heap → List Hand → Type 0
+AreHands h hands = All (λ hand. IsHand h hand.pass hand.blocks.items) hands
+
+-- so they are of a side's own
+abbrev pub IsSide : Side → Type 0
+IsSide side = AreHands side.heap side.hands.items
+
+-- and those of both heaps
+abbrev pub AreSides : Twins → Type 0
+AreSides twins = IsSide twins.whole × IsSide twins.stepped
