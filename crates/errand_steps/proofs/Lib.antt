@@ -1,5 +1,6 @@
 pub mod AnswerLemmas
 pub mod BeginLemmas
+pub mod BegunErrands
 pub mod BlindLemmas
 pub mod EnterLemmas
 pub mod ErrandLemmas

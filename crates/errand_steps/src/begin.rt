@@ -48,7 +48,7 @@ impl Errand {
             Need::Large(units) => {
                 self.point = Point::Large {
                     at: LargePoint::LoadUnits {
-                        want: Want::new(self.geometry, units),
+                        want: Want::new(self.seat.geometry(), units),
                     },
                     continuation: Continuation::Alloc { need },
                 };
@@ -114,7 +114,7 @@ impl Errand {
                 };
             }
             Need::Large(units) => {
-                let first = place / UNIT_WORDS - self.geometry.frames;
+                let first = place / UNIT_WORDS - self.seat.geometry().frames;
                 self.point = last(LargePoint::LoadRunPrefix {
                     place,
                     run: Run::new(first as u8, units),
@@ -177,7 +177,7 @@ impl Errand {
         requires { class < CLASSES }
         ensures { result ≡ seat_of self.now class }
     {
-        Seat::new(self.geometry, self.caller, class)
+        self.seat.of_class(class)
     }
 }
 

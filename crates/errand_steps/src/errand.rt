@@ -35,12 +35,12 @@ use superblock_parts::point::BlockPoint;
 use word_plan::action::{Action, Found};
 use word_plan::seat::Seat;
 
-/// One caller's state between two steps: where it stands, the descriptors that it retired, and its
-/// counts.
+/// One caller's state between two steps: who it is, where it stands, the descriptors that it retired, and
+/// its counts.
 #[derive(Drop)]
 pub struct Errand {
-    pub(crate) caller: u8,
-    pub(crate) geometry: Geometry,
+    /// The caller of the heap. It is given its class where a call begins.
+    pub(crate) seat: Seat,
     pub(crate) point: Point,
     retired: Retired,
     pub(crate) turns: u64,
@@ -54,9 +54,9 @@ impl Model for Errand {
 
     ghost Value = { ErrandFields };
 
-    ghost view = { λ e. record { caller = e.caller; geometry = e.geometry; point = e.point; retired = e.retired; turns = e.turns; won = e.won; lost = e.lost; cleared = e.cleared } };
+    ghost view = { λ e. record { caller = e.seat.caller; geometry = e.seat.geometry; point = e.point; retired = e.retired; turns = e.turns; won = e.won; lost = e.lost; cleared = e.cleared } };
 
-    ghost invariant = { λ e. IsErrand (record { caller = e.caller; geometry = e.geometry; point = e.point; retired = e.retired; turns = e.turns; won = e.won; lost = e.lost; cleared = e.cleared }) };
+    ghost invariant = { λ e. IsErrand (record { caller = e.seat.caller; geometry = e.seat.geometry; point = e.point; retired = e.retired; turns = e.turns; won = e.won; lost = e.lost; cleared = e.cleared }) };
 }
 
 impl Errand {
@@ -67,8 +67,7 @@ impl Errand {
         ensures { result ≡ open_errand caller geometry }
     {
         Errand {
-            caller: caller as u8,
-            geometry,
+            seat: Seat::new(geometry, caller as u8, 0),
             point: Point::Idle,
             retired: Retired::new(),
             turns: 0,
@@ -84,7 +83,7 @@ impl Errand {
         ensures value { result ≡ self.now.caller }
         ensures within { result < self.now.geometry.callers }
     {
-        u32::from(self.caller)
+        u32::from(self.seat.caller())
     }
 
     /// Whether the caller is in no call.
@@ -304,7 +303,7 @@ impl Errand {
     fn is_full(&self) -> bool
         ensures { result ≡ is_full self.now }
     {
-        self.geometry.callers <= self.retired.len()
+        self.seat.geometry().callers <= self.retired.len()
     }
 
     /// The picked descriptor is pushed; where there is none the point stays.
@@ -345,7 +344,7 @@ impl Errand {
     pub fn is_spent(&self) -> bool
         ensures { result ≡ is_spent self.now }
     {
-        self.turns == self.geometry.turn_limit
+        self.turns == self.seat.geometry().turn_limit
     }
 
     /// Whether a turn begins.

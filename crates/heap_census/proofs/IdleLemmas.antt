@@ -12,7 +12,7 @@ use Rattle.sound_state.specs.Lists.{Lists}
 use Rattle.sound_state.specs.Sound.{IsSoundWith, IsSoundWithoutCounts}
 use Rattle.sound_state.specs.Sums.{words_sum, callers_sum}
 use Rattle.sound_state.specs.Superblocks.{word_reserves, reserved_among, errand_reserves, reserved_of, kept_among, errand_keeps, waiting_of, errand_away}
-use Rattle.sound_state.proofs.beginnings.BegunErrands.{idle-is}
+use Rattle.errand_steps.proofs.BegunErrands.{idle-is}
 use Rattle.sound_state.proofs.shared.SumLemmas.{sum-same, callers-none}
 
 -- a sound state, with the lists that show it, whose callers are all idle

@@ -1,5 +1,5 @@
--- The allocation of a block of a superblock, as it begins.
-use Rattle.std.proofs.Common.{ℕ, false, ◌≡◌, refl}
+-- The allocation of a block of a superblock, as it begins and ends.
+use Rattle.std.proofs.Common.{ℕ, Option, None, Some, false, ◌≡◌, ◌≢◌, refl, arith}
 use Rattle.heap_geometry.specs.Need.{need_of}
 use Rattle.heap_geometry.specs.declared.need.Need.TheVariants.{Small}
 use Rattle.superblock_parts.specs.declared.point.BlockPoint.{BlockPoint}
@@ -9,9 +9,13 @@ use Rattle.errand_steps.specs.declared.reply.Begun.TheVariants as begun
 use Rattle.errand_steps.specs.Begins.{IsIdle, alloc_answer, alloc_begun, seat_of}
 use Rattle.errand_steps.specs.Calls.{alloc}
 use Rattle.errand_steps.specs.Errands.{ErrandFields, is_spent, one_more}
+use Rattle.live_heap.specs.declared.answers.AllocAnswer.TheVariants as alloc_answers
+use Rattle.live_heap.specs.declared.answers.Ending.{Ending}
 use Rattle.live_heap.specs.declared.pass.Pass.{Pass}
-use Rattle.live_heap.specs.Calls.{IsCalling}
+use Rattle.live_heap.specs.Answers.{AllocTells, alloc_answer_in, reply_in}
+use Rattle.live_heap.specs.Calls.{GoesOn, IsCalling}
 use Rattle.live_heap.specs.Going.{in_call, stands_at}
+use Rattle.live_heap.proofs.CallsAnswers.{alloc-tells, ended-not_too_large, ends-since, interrupted-since}
 use Rattle.live_heap.proofs.CallsGrow.{alloc-calling}
 
 -- it has taken a turn, and would stand at its first point
@@ -29,3 +33,17 @@ pub alloc-call : (p : Pass) (words class : ℕ) → IsIdle p.errand → need_of 
     → IsCalling p (alloc words) 0 (in_call p (alloc words))
 alloc-call p words class idle small left =
     alloc-calling p (in_call p (alloc words)) words (record { seat = refl; errand = refl }) idle (alloc-started p.errand words class small left)
+
+-- what it tells where it has gone on so since
+pub alloc-answers :
+    (p : Pass) (words tries : ℕ) (told : Option Ending) (q : Pass)
+    → GoesOn p (alloc words) 0 (in_call p (alloc words)) tries (reply_in told) q → AllocTells p words tries (alloc_answer_in told) q
+alloc-answers p words tries None q over =
+    interrupted-since p (in_call p (alloc words)) (alloc words) tries q (record { seat = refl; errand = refl }) over
+alloc-answers p words tries (Some told) q ends =
+    alloc-tells p words tries told q
+    (ends-since p (in_call p (alloc words)) (alloc words) tries q (record { seat = refl; errand = refl }) _ ends)
+
+pub answer-fits : (told : Option Ending) → alloc_answer_in told ≢ alloc_answers.TooLarge
+answer-fits None is = grind (arith)
+answer-fits (Some told) is = ended-not_too_large told is

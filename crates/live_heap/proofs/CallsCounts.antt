@@ -21,7 +21,7 @@ use Rattle.errand_steps.specs.Errands.{ErrandFields, settle_of, answer_of, count
 use Rattle.errand_steps.specs.Points.{is_idle}
 use Rattle.errand_steps.proofs.AnswerLemmas.{lost-told, cleared-told}
 use Rattle.sound_state.specs.StepsLeft.{steps_left}
-use Rattle.sound_state.proofs.beginnings.BegunErrands.{idle-is}
+use Rattle.errand_steps.proofs.BegunErrands.{idle-is}
 use Rattle.sound_state.proofs.endings.LeftMost.{left-most}
 use Rattle.step_core.specs.Moments.{IsMoment}
 use Rattle.live_heap.specs.declared.heap.Heap.{Heap}

@@ -36,7 +36,7 @@ use Rattle.call_events.specs.UnderWay.{IsUnderWay}
 use Rattle.call_events.proofs.OfferLemmas.{put-offers}
 use Rattle.sound_state.specs.Answers.{StandsAt}
 use Rattle.sound_state.specs.StepsLeft.{steps_left}
-use Rattle.sound_state.proofs.beginnings.BegunErrands.{idle-is}
+use Rattle.errand_steps.proofs.BegunErrands.{idle-is}
 use Rattle.step_core.specs.Cores.{OwnsAfter}
 use Rattle.step_core.specs.Moments.{IsMoment}
 use Rattle.step_core.specs.Needs.{IsNeed-prop}

@@ -1,5 +1,5 @@
--- The free of a block of a superblock, as it begins.
-use Rattle.std.proofs.Common.{ℕ, ◌≡◌, refl}
+-- The free of a block of a superblock, as it begins and ends.
+use Rattle.std.proofs.Common.{ℕ, Option, None, Some, ◌≡◌, refl}
 use Rattle.heap_geometry.specs.Place.{frame_of, index_of}
 use Rattle.heap_geometry.specs.declared.need.Need.TheVariants.{Small}
 use Rattle.superblock_parts.specs.declared.point.BlockPoint.{BlockPoint}
@@ -7,9 +7,13 @@ use Rattle.superblock_parts.specs.declared.point.BlockPoint.TheVariants.{LoadPre
 use Rattle.errand_steps.specs.declared.continuation.Continuation.TheVariants.{Free}
 use Rattle.errand_steps.specs.Begins.{IsHeapBlock, IsIdle, free_begun, seat_of}
 use Rattle.errand_steps.specs.Calls.{free}
+use Rattle.live_heap.specs.declared.answers.Ending.{Ending}
+use Rattle.live_heap.specs.declared.block.Block.{Block}
 use Rattle.live_heap.specs.declared.pass.Pass.{Pass}
-use Rattle.live_heap.specs.Calls.{IsCalling}
+use Rattle.live_heap.specs.Answers.{FreeTells, free_answer_in, reply_in}
+use Rattle.live_heap.specs.Calls.{GoesOn, IsCalling}
 use Rattle.live_heap.specs.Going.{in_call, stands_at}
+use Rattle.live_heap.proofs.CallsAnswers.{ends-since, free-tells, interrupted-since}
 use Rattle.live_heap.proofs.CallsGrow.{other-calling}
 
 -- it would stand at its first point
@@ -23,3 +27,14 @@ pub free-calling : (p : Pass) (place class : ℕ) → IsIdle p.errand → IsHeap
     → IsCalling p (free place (Small class)) 0 (in_call p (free place (Small class)))
 free-calling p place class idle block =
     other-calling p (in_call p (free place (Small class))) (free place (Small class)) (record { seat = refl; errand = refl }) idle block (λ words is. cc)
+
+-- what a free tells where it has gone on so since it began
+pub free-answers :
+    (p : Pass) (block : Block) (tries : ℕ) (told : Option Ending) (q : Pass)
+    → GoesOn p (free block.place block.need) 0 (in_call p (free block.place block.need)) tries (reply_in told) q
+    → FreeTells p block tries (free_answer_in told) q
+free-answers p block tries None q over =
+    interrupted-since p (in_call p (free block.place block.need)) (free block.place block.need) tries q (record { seat = refl; errand = refl }) over
+free-answers p block tries (Some told) q ends =
+    free-tells p block tries told q
+    (ends-since p (in_call p (free block.place block.need)) (free block.place block.need) tries q (record { seat = refl; errand = refl }) _ ends)

@@ -20,7 +20,7 @@ use Rattle.sound_state.specs.Recalls.{IsOwned}
 use Rattle.sound_state.specs.Runs.{MayBegin}
 use Rattle.sound_state.specs.TurnStages.{turn_stage_of, lacks_answer}
 use Rattle.sound_state.specs.Turns.{one_if, turn_unanswered}
-use Rattle.sound_state.proofs.beginnings.BegunErrands.{idle-is, alloc-errand, free-errand, write-errand, read-errand, put-errand, take-errand}
+use Rattle.errand_steps.proofs.BegunErrands.{idle-is, alloc-errand, free-errand, write-errand, read-errand, put-errand, take-errand}
 use Rattle.step_core.specs.Moments.{IsServed}
 use Rattle.live_heap.specs.declared.heap.Heap.{Heap}
 use Rattle.live_heap.specs.declared.pass.Pass.{Pass}

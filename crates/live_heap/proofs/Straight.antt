@@ -25,7 +25,7 @@ use Rattle.errand_steps.specs.Points.{plan_point_of}
 use Rattle.errand_steps.specs.Offers.{offered_at}
 use Rattle.call_events.specs.UnderWay.{IsAboutBlock}
 use Rattle.sound_state.specs.Runs.{MayBegin}
-use Rattle.sound_state.proofs.beginnings.BegunErrands.{idle-is}
+use Rattle.errand_steps.proofs.BegunErrands.{idle-is}
 use Rattle.live_heap.specs.declared.answers.Ending.{Ending}
 use Rattle.live_heap.specs.declared.answers.Step.TheVariants as step
 use Rattle.live_heap.specs.declared.heap.Heap.{Heap}

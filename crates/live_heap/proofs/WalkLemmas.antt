@@ -18,7 +18,7 @@ use Rattle.errand_steps.specs.Nexts.{next_of}
 use Rattle.errand_steps.specs.Points.{plan_point_of}
 use Rattle.errand_steps.proofs.StayLemmas.{ended_answer, ended_errand, stay_block}
 use Rattle.sound_state.specs.Runs.{MayBegin}
-use Rattle.sound_state.proofs.beginnings.BegunErrands.{idle-is}
+use Rattle.errand_steps.proofs.BegunErrands.{idle-is}
 use Rattle.live_heap.specs.declared.answers.Ending.{Ending}
 use Rattle.live_heap.specs.declared.heap.Heap.{Heap}
 use Rattle.live_heap.specs.declared.pass.Pass.{Pass}

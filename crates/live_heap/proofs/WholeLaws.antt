@@ -1,5 +1,5 @@
 -- What whole calls of a pass leave and hand out.
-use Rattle.std.proofs.Common.{ℕ, ◌≡◌, ◌≢◌, inl, inr, refl, sym, ap, ◌∙◌, subst}
+use Rattle.std.proofs.Common.{ℕ, ◌≡◌, ◌≢◌, refl, sym, subst}
 use Rattle.heap_geometry.specs.declared.need.Need.{Need}
 use Rattle.heap_geometry.specs.Need.{need_of}
 use Rattle.errand_steps.specs.declared.reply.Progress.TheVariants as progress
@@ -10,11 +10,11 @@ use Rattle.step_core.specs.Cores.{OwnsAfter}
 use Rattle.step_core.specs.Keeping.{Leaves}
 use Rattle.live_heap.specs.declared.heap.Heap.{Heap}
 use Rattle.live_heap.specs.declared.pass.Pass.{Pass}
-use Rattle.live_heap.specs.Passes.{IsOf, seen}
+use Rattle.live_heap.specs.Passes.{seen}
 use Rattle.live_heap.proofs.CallsAnswers.{moment-owns}
 use Rattle.live_heap.proofs.Told.{moment-meant}
 use Rattle.live_heap.proofs.LawsKept.{called-adds, ended-spares, given-apart, got-apart, owns-on}
-use Rattle.live_heap.specs.Whole.{Hands, IsAtRest, IsWhole, MadeByPass, by_steps, at_once}
+use Rattle.live_heap.specs.Whole.{Hands, IsWhole, by_steps, at_once}
 
 abbrev OwnsAt : Pass → ℕ → Need → Type 0
 OwnsAt p place need = OwnsAfter (seen p) p.errand.caller place need

@@ -176,6 +176,15 @@ alloc_ended ending.Refused = alloc_answer.Refused
 alloc_ended ending.Spent = alloc_answer.Spent
 alloc_ended told = alloc_answer.Busy
 
+-- and where it may be under way still
+abbrev pub alloc_answer_in : Option Ending → AllocAnswer
+alloc_answer_in None = alloc_answer.Busy
+alloc_answer_in (Some told) = alloc_ended told
+
+abbrev pub free_answer_in : Option Ending → FreeAnswer
+free_answer_in None = free_answer.Busy
+free_answer_in (Some told) = free_answer.Freed
+
 abbrev pub resumed_ended : Ending → Resumed
 resumed_ended (ending.Given block) = resumed.Given block
 resumed_ended ending.Freed = resumed.Freed

@@ -14,11 +14,13 @@ use Rattle.errand_steps.specs.Calls.{Call, begun_by}
 use Rattle.errand_steps.specs.Errands.{ErrandFields, IsErrand, answer_of, settle_of}
 use Rattle.errand_steps.specs.Nexts.{enter_block}
 use Rattle.sound_state.specs.StepsLeft.{steps_left}
+use Rattle.live_heap.specs.declared.answers.AllocAnswer.{AllocAnswer}
 use Rattle.live_heap.specs.declared.answers.Ending.{Ending}
+use Rattle.live_heap.specs.declared.answers.FreeAnswer.{FreeAnswer}
 use Rattle.live_heap.specs.declared.heap.Heap.{Heap}
 use Rattle.live_heap.specs.declared.pass.Pass.{Pass}
 use Rattle.live_heap.specs.declared.view.View.{View}
-use Rattle.live_heap.specs.Answers.{reply_in, reply_of}
+use Rattle.live_heap.specs.Answers.{alloc_answer_in, free_answer_in, reply_in, reply_of}
 use Rattle.live_heap.specs.Calls.{GoesOn, IsCalling, tries_of}
 use Rattle.live_heap.specs.Passes.{IsOf, view}
 use Rattle.live_heap.specs.Sights.{TakesStep, found_in}
@@ -48,6 +50,13 @@ pub record HasGone (h : Heap) (start : Pass) (tries : ℕ) (told : Option Ending
   pub of : IsOf h q
   pub goes :
       (first : Pass) (call : Call) (made : ℕ) → IsCalling first call made start → GoesOn first call made start tries (reply_in told) q
+
+-- an allocation has gone on so, and answers so; and a free
+abbrev pub HasAllocated : Heap → Pass → ℕ → AllocAnswer → Pass → Type 0
+HasAllocated h start tries answer q = (told : Option Ending) × HasGone h start tries told q × (answer ≡ alloc_answer_in told)
+
+abbrev pub HasFreed : Heap → Pass → ℕ → FreeAnswer → Pass → Type 0
+HasFreed h start tries answer q = (told : Option Ending) × HasGone h start tries told q × (answer ≡ free_answer_in told)
 
 -- an errand that stands at a point of a superblock, and a pass whose errand would
 abbrev pub at_block : ErrandFields → BlockPoint → Continuation → ErrandFields

@@ -1,5 +1,4 @@
 -- Calls on the usable words of a block.
-use Rattle.std.specs.Prelude.{ℕ}
 use Rattle.errand_steps.specs.declared.reply.Reply.{Reply}
 use Rattle.errand_steps.specs.declared.reply.Reply.TheVariants as reply
 use Rattle.errand_steps.specs.Calls.{Call, read}

@@ -38,16 +38,14 @@ impl Heap {
     {
         match class_of(need) {
             Need::Small(class) if !pass.errand.is_spent() => {
-                match self.alloc_small(pass, need, class, tries) {
-                    Some(ending) => alloc_ended(ending),
-                    None => AllocAnswer::Busy,
-                }
+                self.alloc_small(pass, need, class, tries)
             }
             _ => self.alloc_begun(pass, need, tries),
         }
     }
 
     /// An allocation by its errand, from its begin on.
+    #[inline(never)]
     fn alloc_begun(&self, pass: &mut Pass, need: u32, tries: u32) -> AllocAnswer
         requires of { IsOf self.now pass.old }
         requires idle { IsIdle pass.old.errand }
@@ -77,17 +75,25 @@ impl Heap {
         ensures tells { FreeTells pass.old block tries result pass.new }
     {
         match block.need {
-            Need::Small(class) => match self.free_small(pass, block.place, class, tries) {
-                Some(_) => FreeAnswer::Freed,
-                None => FreeAnswer::Busy,
-            },
-            _ => {
-                self.begin_free(pass, block);
-                match self.go_on(pass, tries) {
-                    Some(_) => FreeAnswer::Freed,
-                    None => FreeAnswer::Busy,
-                }
-            }
+            Need::Small(class) => self.free_small(pass, block, class, tries),
+            _ => self.free_begun(pass, block, tries),
+        }
+    }
+
+    /// The free of a block by its errand, from its begin on.
+    #[inline(never)]
+    fn free_begun(&self, pass: &mut Pass, block: Block, tries: u32) -> FreeAnswer
+        requires of { IsOf self.now pass.old }
+        requires idle { IsIdle pass.old.errand }
+        requires owned { Owns pass.old block }
+        requires tries { 0 < tries }
+        ensures of { IsOf self.now pass.new }
+        ensures tells { FreeTells pass.old block tries result pass.new }
+    {
+        self.begin_free(pass, block);
+        match self.go_on(pass, tries) {
+            Some(_) => FreeAnswer::Freed,
+            None => FreeAnswer::Busy,
         }
     }
 
@@ -183,7 +189,8 @@ impl Heap {
 }
 
 /// The answer of an allocation that has ended so.
-fn alloc_ended(ending: Ending) -> AllocAnswer
+#[inline(always)]
+pub(crate) fn alloc_ended(ending: Ending) -> AllocAnswer
     requires { IsAllocEnding ending }
     ensures { result ≡ alloc_ended ending }
 {

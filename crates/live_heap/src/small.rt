@@ -1,130 +1,145 @@
 //! Calls on blocks of a superblock, the common ways by strides.
 
-ghost use Rattle.std.specs.Prelude.{◌≡◌, ◌<◌, IfErr, IfOk, false};
+ghost use Rattle.std.specs.Prelude.{◌≡◌, ◌≢◌, ◌<◌, IfErr, IfOk, Some, false};
 ghost use Rattle.heap_geometry.specs.Need.{need_of};
 ghost use Rattle.heap_geometry.specs.declared.limits.TheConstants.{CLASSES};
 ghost use Rattle.heap_geometry.specs.declared.need.Need.TheVariants.{Small};
-ghost use Rattle.superblock_parts.specs.declared.point.BlockPoint.TheVariants as block_point;
 ghost use Rattle.errand_steps.specs.Begins.{IsHeapBlock, IsIdle};
 ghost use Rattle.errand_steps.specs.Calls.{alloc, free};
 ghost use Rattle.errand_steps.specs.Errands.{is_spent};
 ghost use Rattle.errand_steps.specs.declared.continuation.Continuation.TheVariants as continuation;
 ghost use Rattle.sound_state.specs.Runs.{MayBegin};
 ghost use Rattle.live_heap.specs.declared.pass.Pass.{Pass};
-ghost use Rattle.live_heap.specs.Answers.{reply_in};
-ghost use Rattle.live_heap.specs.Calls.{GoesOn};
-ghost use Rattle.live_heap.specs.Going.{HasGone, IsWalking, in_call};
+ghost use Rattle.live_heap.specs.declared.answers.AllocAnswer.{AllocAnswer};
+ghost use Rattle.live_heap.specs.Answers.{AllocTells, FreeTells};
+ghost use Rattle.live_heap.specs.Calls.{IsCalling};
+ghost use Rattle.live_heap.specs.Going.{HasAllocated, HasFreed, HasGone, IsWalking, Rejoins};
 ghost use Rattle.live_heap.specs.Passes.{IsOf, seen};
 ghost use Rattle.live_heap.specs.Sights.{after_events};
 
-use crate::answers::Ending;
+use crate::answers::{AllocAnswer, Ending, FreeAnswer};
+use crate::block::Block;
+use crate::calls::alloc_ended;
 use crate::heap::Heap;
 use crate::pass::Pass;
 use errand_steps::continuation::Continuation;
-use packed_words::anchor::Anchor;
 use superblock_parts::point::BlockPoint;
-use word_plan::seat::Site;
+use word_plan::action::Found;
 
 impl Heap {
     /// The free of a block of a superblock.
+    #[inline(always)]
     pub(crate) fn free_small(
         &self,
         pass: &mut Pass,
-        place: u32,
+        block: Block,
         class: u8,
         tries: u32,
-    ) -> Option<Ending>
+    ) -> FreeAnswer
         requires of { IsOf self.now pass.old }
         requires idle { IsIdle pass.old.errand }
-        requires may { MayBegin (after_events (seen pass.old)) pass.old.errand.caller (free place (Small class)) }
-        requires block { IsHeapBlock pass.old.errand.geometry place (Small class) }
+        requires small { block.need ≡ Small class }
+        requires may { MayBegin (after_events (seen pass.old)) pass.old.errand.caller (free block.place (Small class)) }
+        requires block { IsHeapBlock pass.old.errand.geometry block.place (Small class) }
         requires tries { 0 < tries }
         ensures of { IsOf self.now pass.new }
-        ensures goes { GoesOn pass.old (free place (Small class)) 0 (in_call pass.old (free place (Small class))) tries (reply_in result) pass.new }
+        ensures tells { FreeTells pass.old block tries result pass.new }
     {
-        let prefix = pass.errand.free_from(place, class);
-        match self.free_on(pass, prefix, tries) {
-            Ok(told) => told,
-            Err(told) => told,
+        let prefix = pass.errand.free_from(block.place, class);
+        self.free_on(pass, prefix, tries)
+    }
+
+    /// The same from its first point.
+    #[inline(always)]
+    fn free_on(&self, pass: &mut Pass, prefix: BlockPoint, tries: u32) -> FreeAnswer
+        ghost start: { Pass }
+        requires { IsWalking self.now start tries prefix continuation.Free pass.old }
+        ensures { HasFreed self.now start tries result pass.new }
+    {
+        match self.free_straight(pass, prefix, tries) {
+            Ok(_) => FreeAnswer::Freed,
+            Err(found) => self.free_away(pass, found.value, found.won, tries),
         }
     }
 
-    /// The same from its first point. A superblock that it makes empty goes another way.
+    /// Goes on with a free whose way is not straight, from a step that found this. The answer is the one of
+    /// `free` itself, so that the straight way keeps no room for what another way comes to.
+    #[cold]
+    #[inline(never)]
+    fn free_away(&self, pass: &mut Pass, value: u64, won: bool, tries: u32) -> FreeAnswer
+        ghost start: { Pass }
+        requires tries { 0 < tries }
+        requires joins { Rejoins self.now start tries (record { value = value; won = won }) pass.old }
+        ensures { HasFreed self.now start tries result pass.new }
+    {
+        match self.rejoin(pass, Found { value, won }, tries) {
+            Some(_) => FreeAnswer::Freed,
+            None => FreeAnswer::Busy,
+        }
+    }
+
+    /// The same by strides.
     #[inline(always)]
-    fn free_on(
+    fn free_straight(
         &self,
         pass: &mut Pass,
         prefix: BlockPoint,
         tries: u32,
-    ) -> Result<Option<Ending>, Option<Ending>>
+    ) -> Result<Ending, Found>
         ghost start: { Pass }
         requires { IsWalking self.now start tries prefix continuation.Free pass.old }
-        ensures on { IfOk result (λ told. HasGone self.now start tries told pass.new) }
-        ensures gone { IfErr result (λ told. HasGone self.now start tries told pass.new) }
+        ensures ends { IfOk result (λ ending. HasGone self.now start tries (Some ending) pass.new) }
+        ensures off { IfErr result (λ found. Rejoins self.now start tries found pass.new) }
     {
         let anchor = self.stride(pass, &prefix, &Continuation::Free, tries, |at| {
             matches!(*at, BlockPoint::LoadPushAnchor { .. })
         })?;
-        let link = self.stride(pass, &anchor, &Continuation::Free, tries, |at| {
+        let seen = self.stride(pass, &anchor, &Continuation::Free, tries, |at| {
             matches!(
                 *at,
                 BlockPoint::StoreLink { .. } | BlockPoint::StoreGuard { .. }
             )
         })?;
-        if let BlockPoint::StoreGuard {
-            site,
-            index,
-            anchor,
-        } = link
-        {
-            return self.free_last(pass, site, index, anchor, tries);
-        }
+        let link = self.guard_last(pass, seen, tries)?;
         let push = self.stride(pass, &link, &Continuation::Free, tries, |at| {
             matches!(*at, BlockPoint::PushBlock { .. })
         })?;
-        Ok(self.finish(pass, &push, &Continuation::Free, tries))
+        self.finish(pass, &push, &Continuation::Free, tries)
     }
 
-    /// The same from where it is found that this block is the last one in use.
-    #[inline(never)]
-    fn free_last(
+    /// Guards the superblock where the block is the last one of it in use.
+    #[inline(always)]
+    fn guard_last(
         &self,
         pass: &mut Pass,
-        site: Site,
-        index: u16,
-        anchor: Anchor,
+        at: BlockPoint,
         tries: u32,
-    ) -> Result<Option<Ending>, Option<Ending>>
+    ) -> Result<BlockPoint, Found>
         ghost start: { Pass }
-        requires { IsWalking self.now start tries (block_point.StoreGuard site index anchor) continuation.Free pass.old }
-        ensures on { IfOk result (λ told. HasGone self.now start tries told pass.new) }
-        ensures gone { IfErr result (λ told. HasGone self.now start tries told pass.new) }
+        requires { IsWalking self.now start tries at continuation.Free pass.old }
+        ensures on { IfOk result (λ next. IsWalking self.now start tries next continuation.Free pass.new) }
+        ensures off { IfErr result (λ found. Rejoins self.now start tries found pass.new) }
     {
-        let guard = BlockPoint::StoreGuard {
-            site,
-            index,
-            anchor,
-        };
-        let owner = self.stride(pass, &guard, &Continuation::Free, tries, |at| {
+        if !matches!(at, BlockPoint::StoreGuard { .. }) {
+            return Ok(at);
+        }
+        let owner = self.stride(pass, &at, &Continuation::Free, tries, |at| {
             matches!(*at, BlockPoint::LoadOwner { .. })
         })?;
-        let link = self.stride(pass, &owner, &Continuation::Free, tries, |at| {
+        self.stride(pass, &owner, &Continuation::Free, tries, |at| {
             matches!(*at, BlockPoint::StoreLink { .. })
-        })?;
-        let push = self.stride(pass, &link, &Continuation::Free, tries, |at| {
-            matches!(*at, BlockPoint::PushBlock { .. })
-        })?;
-        Ok(self.finish(pass, &push, &Continuation::Free, tries))
+        })
     }
 
     /// The allocation of a block of a superblock.
+    #[inline(always)]
     pub(crate) fn alloc_small(
         &self,
         pass: &mut Pass,
         need: u32,
         class: u8,
         tries: u32,
-    ) -> Option<Ending>
+    ) -> AllocAnswer
         requires of { IsOf self.now pass.old }
         requires idle { IsIdle pass.old.errand }
         requires class { need_of need ≡ Small class }
@@ -132,17 +147,15 @@ impl Heap {
         requires left { is_spent pass.old.errand ≡ false }
         requires tries { 0 < tries }
         ensures of { IsOf self.now pass.new }
-        ensures goes { GoesOn pass.old (alloc need) 0 (in_call pass.old (alloc need)) tries (reply_in result) pass.new }
+        ensures fits { result ≢ AllocAnswer.TooLarge }
+        ensures tells { AllocTells pass.old need tries result pass.new }
     {
         let active = pass.errand.alloc_from(class);
         pass.errand.take_turn();
-        match self.alloc_on(pass, active, need, tries) {
-            Ok(told) => told,
-            Err(told) => told,
-        }
+        self.alloc_on(pass, active, need, tries)
     }
 
-    /// The same from its first point. Where it offers new credits it goes another way.
+    /// The same from its first point.
     #[inline(always)]
     fn alloc_on(
         &self,
@@ -150,11 +163,54 @@ impl Heap {
         active: BlockPoint,
         need: u32,
         tries: u32,
-    ) -> Result<Option<Ending>, Option<Ending>>
+    ) -> AllocAnswer
+        ghost start: { Pass }
+        requires walks { IsWalking self.now start tries active (continuation.Alloc need) pass.old }
+        requires calling { (first : Pass) × IsCalling first (alloc need) 0 start }
+        ensures { HasAllocated self.now start tries result pass.new }
+    {
+        match self.alloc_straight(pass, active, need, tries) {
+            Ok(ending) => alloc_ended(ending),
+            Err(found) => self.alloc_away(pass, found.value, found.won, need, tries),
+        }
+    }
+
+    /// Goes on with an allocation whose way is not straight, as `free_away` does with a free.
+    #[cold]
+    #[inline(never)]
+    fn alloc_away(
+        &self,
+        pass: &mut Pass,
+        value: u64,
+        won: bool,
+        _need: u32,
+        tries: u32,
+    ) -> AllocAnswer
+        ghost start: { Pass }
+        requires tries { 0 < tries }
+        requires calling { (first : Pass) × IsCalling first (alloc _need) 0 start }
+        requires joins { Rejoins self.now start tries (record { value = value; won = won }) pass.old }
+        ensures { HasAllocated self.now start tries result pass.new }
+    {
+        match self.rejoin(pass, Found { value, won }, tries) {
+            Some(ending) => alloc_ended(ending),
+            None => AllocAnswer::Busy,
+        }
+    }
+
+    /// The same by strides.
+    #[inline(always)]
+    fn alloc_straight(
+        &self,
+        pass: &mut Pass,
+        active: BlockPoint,
+        need: u32,
+        tries: u32,
+    ) -> Result<Ending, Found>
         ghost start: { Pass }
         requires { IsWalking self.now start tries active (continuation.Alloc need) pass.old }
-        ensures on { IfOk result (λ told. HasGone self.now start tries told pass.new) }
-        ensures gone { IfErr result (λ told. HasGone self.now start tries told pass.new) }
+        ensures ends { IfOk result (λ ending. HasGone self.now start tries (Some ending) pass.new) }
+        ensures off { IfErr result (λ found. Rejoins self.now start tries found pass.new) }
     {
         let goes = Continuation::Alloc { need };
         let credit = self.stride(pass, &active, &goes, tries, |at| {
@@ -178,33 +234,29 @@ impl Heap {
                 BlockPoint::StorePrefix { .. } | BlockPoint::InstallCredits { .. }
             )
         })?;
-        if let BlockPoint::InstallCredits { site, index, more } = popped {
-            return self.offer(pass, site, index, more, need, tries);
-        }
-        Ok(self.finish(pass, &popped, &goes, tries))
+        let store = self.offer_credits(pass, popped, &goes, tries)?;
+        self.finish(pass, &store, &goes, tries)
     }
 
-    /// The same from where it has reserved so many blocks more, and offers them.
-    #[inline(never)]
-    fn offer(
+    /// Offers the blocks that were reserved behind a pop, where there are any.
+    #[inline(always)]
+    fn offer_credits(
         &self,
         pass: &mut Pass,
-        site: Site,
-        index: u16,
-        more: u8,
-        need: u32,
+        at: BlockPoint,
+        goes: &Continuation,
         tries: u32,
-    ) -> Result<Option<Ending>, Option<Ending>>
+    ) -> Result<BlockPoint, Found>
         ghost start: { Pass }
-        requires { IsWalking self.now start tries (block_point.InstallCredits site index more) (continuation.Alloc need) pass.old }
-        ensures on { IfOk result (λ told. HasGone self.now start tries told pass.new) }
-        ensures gone { IfErr result (λ told. HasGone self.now start tries told pass.new) }
+        requires { IsWalking self.now start tries at goes.now pass.old }
+        ensures on { IfOk result (λ next. IsWalking self.now start tries next goes.now pass.new) }
+        ensures off { IfErr result (λ found. Rejoins self.now start tries found pass.new) }
     {
-        let goes = Continuation::Alloc { need };
-        let install = BlockPoint::InstallCredits { site, index, more };
-        let stores = self.stride(pass, &install, &goes, tries, |at| {
+        if !matches!(at, BlockPoint::InstallCredits { .. }) {
+            return Ok(at);
+        }
+        self.stride(pass, &at, goes, tries, |at| {
             matches!(*at, BlockPoint::StorePrefix { .. })
-        })?;
-        Ok(self.finish(pass, &stores, &goes, tries))
+        })
     }
 }

@@ -1,10 +1,10 @@
 //! Strides: steps in a superblock where nothing is lost and the next point is the one that the call expects.
-//! In every other case the call goes on by its errand.
+//! In every other case the errand is put at the point, and the call goes on by it from what the step found.
 
-ghost use Rattle.std.specs.Prelude.{◌≡◌, IfErr, IfOk, IfSome, IsTrue, true, false};
+ghost use Rattle.std.specs.Prelude.{◌≡◌, IfErr, IfOk, IfSome, IsTrue, Some, true, false};
 ghost use Rattle.superblock_parts.specs.Points.{has_left_block};
 ghost use Rattle.live_heap.specs.declared.pass.Pass.{Pass};
-ghost use Rattle.live_heap.specs.Going.{EndsSo, HasGone, IsWalking};
+ghost use Rattle.live_heap.specs.Going.{EndsSo, HasGone, IsWalking, Rejoins};
 
 use crate::answers::Ending;
 use crate::block::Block;
@@ -18,8 +18,8 @@ use superblock_parts::settle::settle_block;
 use word_plan::action::Found;
 
 impl Heap {
-    /// Makes the step of a point, and answers the next one, where that is as expected; else how the call has
-    /// gone on.
+    /// Makes the step of a point, and answers the next one, where that is as expected; else what the step
+    /// found.
     #[inline(always)]
     pub(crate) fn stride<F: Fn(&BlockPoint) -> bool>(
         &self,
@@ -28,23 +28,25 @@ impl Heap {
         goes: &Continuation,
         tries: u32,
         expects: F,
-    ) -> Result<BlockPoint, Option<Ending>>
+    ) -> Result<BlockPoint, Found>
         ghost start: { Pass }
         requires callable { F.IsAlwaysCallable expects }
         requires walks { IsWalking self.now start tries at.now goes.now pass.old }
         ensures on { IfOk result (λ next. IsWalking self.now start tries next goes.now pass.new) }
-        ensures gone { IfErr result (λ told. HasGone self.now start tries told pass.new) }
+        ensures off { IfErr result (λ found. Rejoins self.now start tries found pass.new) }
     {
-        let found = self.walk(pass, at, goes, tries);
+        let action = plan_block(at);
+        let found = self.walk(pass, action, at, goes, tries);
         let next = settle_block(*at, found);
         if stays(found, &next) && expects(&next) {
-            pass.errand.count(plan_block(at), found);
+            pass.errand.count(action, found);
             return Ok(next);
         }
-        Err(self.join(pass, at, goes, found, tries))
+        pass.errand.stand_at(*at, *goes);
+        Err(found)
     }
 
-    /// Makes the step of a point at which the call is to end, and answers how it has.
+    /// Makes the step of a point at which the call is to end, and answers how it has; else what the step found.
     #[inline(always)]
     pub(crate) fn finish(
         &self,
@@ -52,17 +54,20 @@ impl Heap {
         at: &BlockPoint,
         goes: &Continuation,
         tries: u32,
-    ) -> Option<Ending>
+    ) -> Result<Ending, Found>
         ghost start: { Pass }
         requires { IsWalking self.now start tries at.now goes.now pass.old }
-        ensures { HasGone self.now start tries result pass.new }
+        ensures ends { IfOk result (λ ending. HasGone self.now start tries (Some ending) pass.new) }
+        ensures off { IfErr result (λ found. Rejoins self.now start tries found pass.new) }
     {
-        let found = self.walk(pass, at, goes, tries);
+        let action = plan_block(at);
+        let found = self.walk(pass, action, at, goes, tries);
         if let Some(ending) = ending_of(at, found) {
-            pass.errand.count(plan_block(at), found);
-            return Some(ending);
+            pass.errand.count(action, found);
+            return Ok(ending);
         }
-        self.join(pass, at, goes, found, tries)
+        pass.errand.stand_at(*at, *goes);
+        Err(found)
     }
 }
 

@@ -2,6 +2,7 @@
 //! by it.
 
 ghost use Rattle.std.specs.Prelude.{◌≡◌, ◌<◌};
+ghost use Rattle.superblock_parts.specs.Points.{plan_block_of};
 ghost use Rattle.errand_steps.specs.Errands.{IsErrand};
 ghost use Rattle.errand_steps.specs.declared.point.Point.TheVariants as point;
 ghost use Rattle.live_heap.specs.declared.pass.Pass.{Pass};
@@ -20,28 +21,29 @@ use errand_steps::continuation::Continuation;
 use errand_steps::errand::{Errand, plan};
 use errand_steps::reply::Progress;
 use std::marker::Brand;
-use superblock_parts::plan::plan_block;
 use superblock_parts::point::BlockPoint;
-use word_plan::action::Found;
+use word_plan::action::{Action, Found};
 
 impl Heap {
-    /// Makes the step of a point of a superblock, in the errand that stands there with this one's counts.
+    /// Makes the step of a point of a superblock by its action, in the errand that stands there with this one's
+    /// counts.
     #[inline(always)]
     fn step_at<E: Doing>(
         &self,
         seat: &mut Seat<u8, View>,
         _errand: &Errand,
-        at: &BlockPoint,
+        action: Action,
+        _at: &BlockPoint,
         _goes: &Continuation,
     ) -> Found
         requires table { seat.old.table_id ≡ self.now.table.shared.table_id }
-        requires named { E.errand ≡ record _errand.now { point = point.Block at.now _goes.now } }
+        requires named { E.errand ≡ record _errand.now { point = point.Block _at.now _goes.now } }
+        requires planned { action ≡ plan_block_of _at.now }
         requires rule { IsErrand E.errand }
         requires sight { IsSightOf self.now.layout seat.old.me.0 E.errand }
         ensures seat { (seat.new.table_id ≡ seat.old.table_id) × (seat.new.me.1 ≡ seat.old.me.1) }
         ensures step { HasFound E.errand result seat.old.me.0 seat.new.me.0 }
     {
-        let action = plan_block(at);
         self.act::<E>(seat, _errand, action)
     }
 
@@ -50,47 +52,28 @@ impl Heap {
     pub(crate) fn walk(
         &self,
         pass: &mut Pass,
+        action: Action,
         at: &BlockPoint,
         goes: &Continuation,
         _tries: u32,
     ) -> Found
         ghost start: { Pass }
-        requires { IsWalking self.now start _tries at.now goes.now pass.old }
+        requires planned { action ≡ plan_block_of at.now }
+        requires walks { IsWalking self.now start _tries at.now goes.now pass.old }
         ensures { HasWalked self.now start _tries at.now goes.now result pass.new }
     {
-        self.step_at::<Brand>(&mut pass.seat, &pass.errand, at, goes)
+        self.step_at::<Brand>(&mut pass.seat, &pass.errand, action, at, goes)
     }
 
-    /// Goes on from the step that found this at a point of a superblock, by the errand.
-    #[inline(always)]
-    pub(crate) fn join(
-        &self,
-        pass: &mut Pass,
-        at: &BlockPoint,
-        goes: &Continuation,
-        found: Found,
-        tries: u32,
-    ) -> Option<Ending>
-        ghost start: { Pass }
-        requires { HasWalked self.now start tries at.now goes.now found pass.old }
-        ensures { HasGone self.now start tries result pass.new }
-    {
-        pass.errand.stand_at(*at, *goes);
-        self.rejoin(pass, found.value, found.won, tries)
-    }
-
-    /// The same, where the errand stands at that point. What was found comes as two numbers, and the point in
-    /// the errand, so that the common way has nothing to keep in memory.
-    #[cold]
-    #[inline(never)]
-    fn rejoin(&self, pass: &mut Pass, value: u64, won: bool, tries: u32) -> Option<Ending>
+    /// Goes on from a step that found this, by the errand, which stands at its point.
+    pub(crate) fn rejoin(&self, pass: &mut Pass, found: Found, tries: u32) -> Option<Ending>
         ghost start: { Pass }
         requires tries { 0 < tries }
-        requires joins { Rejoins self.now start tries (record { value = value; won = won }) pass.old }
+        requires joins { Rejoins self.now start tries found pass.old }
         ensures { HasGone self.now start tries result pass.new }
     {
         let action = plan(&pass.errand);
-        match pass.errand.go_on(action, Found { value, won }) {
+        match pass.errand.go_on(action, found) {
             Progress::Idle => unreachable!(),
             Progress::More => self.drive(pass, tries, tries),
             Progress::Lost => self.drive(pass, tries, tries - 1),

@@ -1,7 +1,7 @@
 //! The anchor word of a superblock.
 
 ghost use Rattle.std.specs.Prelude.{◌≡◌, ◌^◌, ◌<◌};
-ghost use Rattle.packed_words.specs.Anchor.{AnchorFields, IsAnchor, anchor_word, anchor_of, state_code, state_of};
+ghost use Rattle.packed_words.specs.Anchor.{IsAnchor, anchor_word, anchor_of, state_code, state_of};
 ghost use Rattle.packed_words.specs.declared.widths.TheConstants.{AVAIL_BITS, COUNT_BITS, TAG_BITS};
 
 use crate::widths::{AVAIL_BITS, COUNT_AT, COUNT_BITS, STATE_AT, STATE_BITS, TAG_AT};
@@ -26,23 +26,27 @@ pub enum State {
     Empty,
 }
 
-/// The anchor of a superblock.
+/// The anchor of a superblock. It is kept as its word, which a call reads and exchanges far more often than
+/// it looks at all fields.
 #[derive(Clone, Copy, Debug, PartialEq, Eq)]
 pub struct Anchor {
-    avail: u16,
-    count: u16,
-    state: State,
-    tag: u64,
+    word: u64,
 }
 
 impl Model for Anchor {
+    ghost use Rattle.std.specs.Prelude.{◌≡◌};
+    ghost use Rattle.std.proofs.Common.{ap};
+    ghost use Rattle.packed_words.specs.Anchor.{AnchorFields, anchor_of, anchor_word};
+
     ghost Value = { AnchorFields };
 
-    ghost view = { λ a. record { avail = a.avail; count = a.count; state = a.state; tag = a.tag } };
+    ghost view = { λ a. anchor_of a.word };
 
-    ghost invariant = { λ a. IsAnchor (record { avail = a.avail; count = a.count; state = a.state; tag = a.tag }) };
+    ghost invariant = { λ a. anchor_word (anchor_of a.word) ≡ a.word };
 
-    ghost inverse = { λ a. record { avail = a.avail; count = a.count; state = a.state; tag = a.tag } };
+    ghost inverse = { λ a. record { word = anchor_word a } };
+
+    ghost inverse_ok = { λ a whole. ap (λ word. record { word = word }) whole };
 }
 
 impl Anchor {
@@ -55,10 +59,7 @@ impl Anchor {
         ensures { result ≡ record { avail = avail; count = count; state = state; tag = tag } }
     {
         Anchor {
-            avail,
-            count,
-            state,
-            tag,
+            word: anchor_word(avail, count, state, tag),
         }
     }
 
@@ -67,7 +68,7 @@ impl Anchor {
         ensures value { result ≡ self.avail }
         ensures fits { result < 2 ^ AVAIL_BITS }
     {
-        self.avail
+        (self.word & AVAIL_MASK) as u16
     }
 
     /// How many free blocks nobody has reserved.
@@ -75,14 +76,14 @@ impl Anchor {
         ensures value { result ≡ self.count }
         ensures fits { result < 2 ^ COUNT_BITS }
     {
-        self.count
+        ((self.word >> COUNT_AT) & COUNT_MASK) as u16
     }
 
     /// The state of the superblock.
     pub fn state(self) -> State
         ensures { result ≡ self.state }
     {
-        self.state
+        state_of((self.word >> STATE_AT) & STATE_MASK)
     }
 
     /// How often a block was popped, cut to its bits.
@@ -90,7 +91,7 @@ impl Anchor {
         ensures value { result ≡ self.tag }
         ensures fits { result < 2 ^ TAG_BITS }
     {
-        self.tag
+        self.word >> TAG_AT
     }
 
     /// The anchor's word.
@@ -98,26 +99,30 @@ impl Anchor {
         ensures word { result ≡ anchor_word self }
         ensures back { anchor_of result ≡ self }
     {
-        u64::from(self.avail)
-            | u64::from(self.count) << COUNT_AT
-            | state_code(self.state) << STATE_AT
-            | self.tag << TAG_AT
+        self.word
     }
 
     /// The anchor that a word says. Every word says one.
-    #[tactic(auto, unfolding(crate::specs::Anchor::anchor_word, crate::specs::Anchor::anchor_of))]
     pub fn unpack(word: u64) -> Anchor
         ensures value { result ≡ anchor_of word }
         ensures rule { IsAnchor result }
         ensures back { anchor_word result ≡ word }
     {
-        Anchor {
-            avail: (word & AVAIL_MASK) as u16,
-            count: ((word >> COUNT_AT) & COUNT_MASK) as u16,
-            state: state_of((word >> STATE_AT) & STATE_MASK),
-            tag: word >> TAG_AT,
-        }
+        Anchor { word }
     }
+}
+
+/// The word of an anchor with these fields.
+fn anchor_word(avail: u16, count: u16, state: State, tag: u64) -> u64
+    requires avail { avail < 2 ^ AVAIL_BITS }
+    requires count { count < 2 ^ COUNT_BITS }
+    requires tag { tag < 2 ^ TAG_BITS }
+    ensures { result ≡ anchor_word (record { avail = avail; count = count; state = state; tag = tag }) }
+{
+    u64::from(avail)
+        | u64::from(count) << COUNT_AT
+        | state_code(state) << STATE_AT
+        | tag << TAG_AT
 }
 
 /// The code of a state.

@@ -1,4 +1,3 @@
-pub mod BegunErrands
 pub mod BegunLemmas
 pub mod FirstLemmas
 pub mod InstalledLemmas

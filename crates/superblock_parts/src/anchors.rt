@@ -13,6 +13,7 @@ use word_plan::limits::MOST_CREDITS;
 use word_plan::seat::Seat;
 
 /// The anchor after a pop, whose popped block had this prefix word.
+#[inline(always)]
 pub fn popped(share: Share, anchor: Anchor, prefix: u64) -> Anchor
     ensures { result ≡ popped share anchor (link_of prefix) }
 {
@@ -25,6 +26,7 @@ pub fn popped(share: Share, anchor: Anchor, prefix: u64) -> Anchor
 }
 
 /// The free blocks that a pop takes off the count.
+#[inline(always)]
 fn taken_off(share: Share, anchor: Anchor) -> u16
     ensures value { result ≡ taken_off share anchor }
     ensures within { result ≤ anchor.count }
@@ -36,6 +38,7 @@ fn taken_off(share: Share, anchor: Anchor) -> u16
 }
 
 /// The state after a pop.
+#[inline(always)]
 fn popped_state(share: Share, anchor: Anchor) -> State
     ensures { result ≡ popped_state share anchor }
 {
@@ -46,29 +49,31 @@ fn popped_state(share: Share, anchor: Anchor) -> State
 }
 
 /// How many reserved blocks wait to be offered after a pop.
-pub fn more_of(share: Share, anchor: Anchor) -> u8
+#[inline(always)]
+pub fn more_of(share: Share, anchor: Anchor) -> u16
     ensures { result ≡ more_of share anchor }
 {
     match share {
         Share::Credit => 0,
-        Share::LastCredit => anchor.count().min(MOST_CREDITS) as u8,
-        Share::Grant { more } => more,
+        Share::LastCredit => anchor.count().min(MOST_CREDITS),
+        Share::Grant { more } => u16::from(more),
     }
 }
 
 /// The anchor after reserved blocks are returned.
-pub fn returned(more: u8, anchor: Anchor) -> Anchor
+pub fn returned(more: u16, anchor: Anchor) -> Anchor
     ensures { result ≡ returned more anchor }
 {
     Anchor::new(
         anchor.avail(),
-        (anchor.count() + u16::from(more)) % (1 << COUNT_BITS),
+        ((u32::from(anchor.count()) + u32::from(more)) % (1 << COUNT_BITS)) as u16,
         State::Partial,
         anchor.tag(),
     )
 }
 
 /// Whether a push makes the superblock empty.
+#[inline(always)]
 pub fn is_last(seat: Seat, anchor: Anchor) -> bool
     ensures { result ≡ is_last seat.class anchor }
 {
@@ -76,6 +81,7 @@ pub fn is_last(seat: Seat, anchor: Anchor) -> bool
 }
 
 /// The anchor after a push of this block.
+#[inline(always)]
 pub fn pushed(seat: Seat, index: u16, anchor: Anchor) -> Anchor
     ensures { result ≡ pushed seat.class index anchor }
 {
@@ -89,6 +95,7 @@ pub fn pushed(seat: Seat, index: u16, anchor: Anchor) -> Anchor
 }
 
 /// The state after a push that leaves the superblock with live or reserved blocks.
+#[inline(always)]
 fn pushed_state(state: State) -> State
     ensures { result ≡ pushed_state state }
 {

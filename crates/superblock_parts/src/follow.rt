@@ -72,7 +72,7 @@ pub fn after_anchor(site: Site, share: Share, word: u64) -> BlockPoint
 
 /// From a pop of this block.
 #[inline(always)]
-pub fn after_pop(site: Site, index: u16, more: u8) -> BlockPoint
+pub fn after_pop(site: Site, index: u16, more: u16) -> BlockPoint
     ensures { result ≡ after_pop site index more }
 {
     if more > 0 {
@@ -83,7 +83,7 @@ pub fn after_pop(site: Site, index: u16, more: u8) -> BlockPoint
 }
 
 /// From an anchor, to return what could not be offered.
-pub fn after_return_anchor(site: Site, index: u16, more: u8, word: u64) -> BlockPoint
+pub fn after_return_anchor(site: Site, index: u16, more: u16, word: u64) -> BlockPoint
     ensures { result ≡ after_return_anchor site index more (anchor_in site.seat.class word) }
 {
     match site.seat.anchor(word) {

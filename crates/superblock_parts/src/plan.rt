@@ -24,7 +24,7 @@ pub fn plan_block(point: &BlockPoint) -> Action
             credits,
         } => Action::Cas(
             active_name(seat),
-            held_word(desc, credits),
+            held_word(desc, u16::from(credits)),
             credit_taken(desc, credits),
         ),
         BlockPoint::LoadInfo { desc, .. } => Action::Load(WordName::Info(desc)),
@@ -56,7 +56,7 @@ pub fn plan_block(point: &BlockPoint) -> Action
         BlockPoint::InstallSuperblock { site } => Action::Cas(
             active_name(site.seat),
             null_word(),
-            held_word(site.desc, new_credits(site.seat)),
+            held_word(site.desc, u16::from(new_credits(site.seat))),
         ),
         BlockPoint::ReturnCredits {
             site,

@@ -64,7 +64,7 @@ pub enum BlockPoint {
     InstallCredits {
         site: Site,
         index: u16,
-        more: u8,
+        more: u16,
     },
     /// Make a new superblock the active one, where there is none.
     InstallSuperblock {
@@ -74,13 +74,13 @@ pub enum BlockPoint {
     LoadReturn {
         site: Site,
         index: u16,
-        more: u8,
+        more: u16,
     },
     /// Return it to the count.
     ReturnCredits {
         site: Site,
         index: u16,
-        more: u8,
+        more: u16,
         anchor: Anchor,
     },
     /// Load the prefix word of the block that is freed.

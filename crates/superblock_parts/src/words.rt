@@ -37,7 +37,7 @@ pub fn null_word() -> u64
 
 /// The active word that offers so many blocks, and one more.
 #[tactic(auto, unfolding(packed_words::specs::Active::active_word))]
-pub fn held_word(desc: u16, credits: u8) -> u64
+pub fn held_word(desc: u16, credits: u16) -> u64
     ensures { result ≡ active_word (ActiveWord.Held desc credits) }
 {
     u64::from(credits) + (u64::from(desc) + 1) * (1 << CREDIT_BITS)
@@ -51,7 +51,7 @@ pub fn credit_taken(desc: u16, credits: u8) -> u64
     if credits == 0 {
         null_word()
     } else {
-        held_word(desc, credits - 1)
+        held_word(desc, u16::from(credits) - 1)
     }
 }
 

@@ -23,7 +23,7 @@ use packed_words::widths::{CLASS_AT, HEAP_AT};
 use std::marker::Model;
 
 /// A caller of a heap, at work on blocks of one size class. The heap's numbers are kept in few bytes,
-/// since every point has a seat.
+/// since every point has a seat; the caller's processor heap is kept beside them, since each call asks for it.
 #[derive(Clone, Copy)]
 pub struct Seat {
     turn_limit: u64,
@@ -32,19 +32,24 @@ pub struct Seat {
     units: u8,
     callers: u8,
     caller: u8,
+    heap: u8,
     class: u8,
 }
 
 impl Model for Seat {
-    ghost use Rattle.word_plan.specs.Seats.{SeatFields, IsSeat};
+    ghost use Rattle.std.specs.Prelude.{◌≡◌, ◌%◌};
+    ghost use Rattle.std.proofs.Common.{ap, sym};
+    ghost use Rattle.word_plan.specs.Seats.{SeatFields, IsSeat, heap_of};
 
     ghost Value = { SeatFields };
 
     ghost view = { λ s. record { geometry = record { frames = s.frames; heaps = s.heaps; units = s.units; callers = s.callers; turn_limit = s.turn_limit }; caller = s.caller; class = s.class } };
 
-    ghost invariant = { λ s. IsSeat (record { geometry = record { frames = s.frames; heaps = s.heaps; units = s.units; callers = s.callers; turn_limit = s.turn_limit }; caller = s.caller; class = s.class }) };
+    ghost invariant = { λ s. IsSeat (record { geometry = record { frames = s.frames; heaps = s.heaps; units = s.units; callers = s.callers; turn_limit = s.turn_limit }; caller = s.caller; class = s.class }) × (s.heap ≡ s.caller % s.heaps) };
 
-    ghost inverse = { λ s. record { turn_limit = s.geometry.turn_limit; frames = s.geometry.frames; heaps = s.geometry.heaps; units = s.geometry.units; callers = s.geometry.callers; caller = s.caller; class = s.class } };
+    ghost inverse = { λ s. record { turn_limit = s.geometry.turn_limit; frames = s.geometry.frames; heaps = s.geometry.heaps; units = s.geometry.units; callers = s.geometry.callers; caller = s.caller; heap = heap_of s; class = s.class } };
+
+    ghost inverse_ok = { λ s h. ap (λ heap. record { turn_limit = s.turn_limit; frames = s.frames; heaps = s.heaps; units = s.units; callers = s.callers; caller = s.caller; heap = heap; class = s.class }) (sym h.1) };
 }
 
 impl Seat {
@@ -60,8 +65,19 @@ impl Seat {
             units: geometry.units as u8,
             callers: geometry.callers as u8,
             caller,
+            heap: caller % geometry.heaps as u8,
             class,
         }
+    }
+
+    /// The same caller, at work on blocks of this class.
+    pub fn of_class(self, class: u8) -> Seat
+        requires { class < CLASSES }
+        ensures { result ≡ record self { class = class } }
+    {
+        let mut seat = self;
+        seat.class = class;
+        seat
     }
 
     /// The heap's numbers.
@@ -99,7 +115,7 @@ impl Seat {
         ensures value { result ≡ heap_of self }
         ensures within { result < self.geometry.heaps }
     {
-        self.caller % self.heaps
+        self.heap
     }
 
     /// How many descriptors the heap has.

@@ -21,7 +21,7 @@ use Rattle.sound_state.specs.TurnStages.{turn_stage_of, is_seeking}
 use Rattle.sound_state.specs.Turns.{gives_small, refuses_small, turn_unanswered, errand_discards}
 use Rattle.sound_state.specs.Wins.{Wins}
 use Rattle.sound_state.specs.Won.{IsWon}
-use Rattle.sound_state.proofs.beginnings.BegunErrands.{idle-is}
+use Rattle.errand_steps.proofs.BegunErrands.{idle-is}
 use Rattle.sound_state.proofs.shared.ShownLemmas.{each-caller}
 use Rattle.sound_state.proofs.shared.SumLemmas.{callers-moved}
 

@@ -6,8 +6,8 @@ pub returns-in-Small : goal.returns-in-Small
 returns-in-Small c =
     let e : ErrandFields =
     record {
-      caller = c.self.inside.caller;
-      geometry = c.self.inside.geometry;
+      caller = c.self.inside.seat.caller;
+      geometry = c.self.inside.seat.geometry;
       point = c.self.inside.point;
       retired = c.self.inside.retired;
       turns = c.self.inside.turns;

@@ -10,8 +10,8 @@ pub invariant_of-self : goal.invariant_of-self
 invariant_of-self c =
     let before : ErrandFields =
     record {
-      caller = c.self.inside.caller;
-      geometry = c.self.inside.geometry;
+      caller = c.self.inside.seat.caller;
+      geometry = c.self.inside.seat.geometry;
       point = c.self.inside.point;
       retired = c.self.inside.retired;
       turns = c.self.inside.turns;
@@ -31,8 +31,8 @@ pub returns-clause-errand : goal.returns-clause-errand
 returns-clause-errand c =
     let before : ErrandFields =
     record {
-      caller = c.self.inside.caller;
-      geometry = c.self.inside.geometry;
+      caller = c.self.inside.seat.caller;
+      geometry = c.self.inside.seat.geometry;
       point = c.self.inside.point;
       retired = c.self.inside.retired;
       turns = c.self.inside.turns;
@@ -52,8 +52,8 @@ pub returns-clause-answer : goal.returns-clause-answer
 returns-clause-answer c =
     let before : ErrandFields =
     record {
-      caller = c.self.inside.caller;
-      geometry = c.self.inside.geometry;
+      caller = c.self.inside.seat.caller;
+      geometry = c.self.inside.seat.geometry;
       point = c.self.inside.point;
       retired = c.self.inside.retired;
       turns = c.self.inside.turns;

@@ -8,8 +8,8 @@ pub invariant_of-self : goal.invariant_of-self
 invariant_of-self c =
     let before : ErrandFields =
     record {
-      caller = c.self.inside.caller;
-      geometry = c.self.inside.geometry;
+      caller = c.self.inside.seat.caller;
+      geometry = c.self.inside.seat.geometry;
       point = c.self.inside.point;
       retired = c.self.inside.retired;
       turns = c.self.inside.turns;
@@ -25,8 +25,8 @@ pub returns-in-Some-clause-errand : goal.returns-in-Some-clause-errand
 returns-in-Some-clause-errand c =
     let before : ErrandFields =
     record {
-      caller = c.self.inside.caller;
-      geometry = c.self.inside.geometry;
+      caller = c.self.inside.seat.caller;
+      geometry = c.self.inside.seat.geometry;
       point = c.self.inside.point;
       retired = c.self.inside.retired;
       turns = c.self.inside.turns;
@@ -41,8 +41,8 @@ pub returns-in-Some-clause-answer : goal.returns-in-Some-clause-answer
 returns-in-Some-clause-answer c =
     let before : ErrandFields =
     record {
-      caller = c.self.inside.caller;
-      geometry = c.self.inside.geometry;
+      caller = c.self.inside.seat.caller;
+      geometry = c.self.inside.seat.geometry;
       point = c.self.inside.point;
       retired = c.self.inside.retired;
       turns = c.self.inside.turns;
@@ -57,8 +57,8 @@ pub invariant_of-self-then-stays : goal.invariant_of-self-then-stays
 invariant_of-self-then-stays c =
     let before : ErrandFields =
     record {
-      caller = c.self.inside.caller;
-      geometry = c.self.inside.geometry;
+      caller = c.self.inside.seat.caller;
+      geometry = c.self.inside.seat.geometry;
       point = c.self.inside.point;
       retired = c.self.inside.retired;
       turns = c.self.inside.turns;
@@ -77,8 +77,8 @@ pub returns-then-stays-clause-errand : goal.returns-then-stays-clause-errand
 returns-then-stays-clause-errand c =
     let before : ErrandFields =
     record {
-      caller = c.self.inside.caller;
-      geometry = c.self.inside.geometry;
+      caller = c.self.inside.seat.caller;
+      geometry = c.self.inside.seat.geometry;
       point = c.self.inside.point;
       retired = c.self.inside.retired;
       turns = c.self.inside.turns;
@@ -97,8 +97,8 @@ pub returns-then-stays-clause-answer : goal.returns-then-stays-clause-answer
 returns-then-stays-clause-answer c =
     let before : ErrandFields =
     record {
-      caller = c.self.inside.caller;
-      geometry = c.self.inside.geometry;
+      caller = c.self.inside.seat.caller;
+      geometry = c.self.inside.seat.geometry;
       point = c.self.inside.point;
       retired = c.self.inside.retired;
       turns = c.self.inside.turns;

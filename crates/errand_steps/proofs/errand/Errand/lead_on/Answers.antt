@@ -8,8 +8,8 @@ unfolding settle_of course_of
 invariant_of-self c =
     let before : ErrandFields =
     record {
-      caller = c.self.inside.caller;
-      geometry = c.self.inside.geometry;
+      caller = c.self.inside.seat.caller;
+      geometry = c.self.inside.seat.geometry;
       point = c.self.inside.point;
       retired = c.self.inside.retired;
       turns = c.self.inside.turns;

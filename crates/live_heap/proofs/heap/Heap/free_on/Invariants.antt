@@ -1,16 +1,7 @@
 use Rattle.live_heap.proofs.heap.Heap.free_on.Given as goal
 
-abbrev pub ghost-stride : goal.ghost-stride
-ghost-stride g a = g.start
+abbrev pub ghost-free_straight : goal.ghost-free_straight
+ghost-free_straight g a = g.start
 
-abbrev pub ghost-stride-2 : goal.ghost-stride-2
-ghost-stride-2 g a = g.start
-
-abbrev pub ghost-stride-3 : goal.ghost-stride-3
-ghost-stride-3 g a = g.start
-
-abbrev pub ghost-finish : goal.ghost-finish
-ghost-finish g a = g.start
-
-abbrev pub ghost-free_last : goal.ghost-free_last
-ghost-free_last g a = g.start
+abbrev pub ghost-free_away : goal.ghost-free_away
+ghost-free_away g a = g.start

@@ -1,9 +1,14 @@
+use Rattle.std.proofs.Common.{subst, sym}
+use Rattle.heap_geometry.specs.declared.need.Need.{Need}
 use Rattle.heap_geometry.specs.declared.need.Need.TheVariants.{Small}
 use Rattle.errand_steps.specs.declared.continuation.Continuation.TheVariants.{Free}
 use Rattle.errand_steps.specs.Calls.{Call, free}
-use Rattle.sound_state.proofs.beginnings.BegunErrands.{free-errand}
+use Rattle.errand_steps.proofs.BegunErrands.{free-errand}
+use Rattle.live_heap.specs.Answers.{FreeTells, reply_in}
+use Rattle.live_heap.specs.Calls.{GoesOn}
+use Rattle.live_heap.specs.Going.{in_call}
 use Rattle.live_heap.proofs.Begun.{of-rule}
-use Rattle.live_heap.proofs.FreeLemmas.{free-calling, frees-from}
+use Rattle.live_heap.proofs.FreeLemmas.{free-answers, free-calling, frees-from}
 use Rattle.live_heap.proofs.WalkLemmas.{walk-begins, walk-goes}
 use Rattle.live_heap.proofs.heap.Heap.free_small.Goals as goal
 
@@ -11,23 +16,25 @@ pub free_on-requires : goal.free_on-requires
 free_on-requires c =
     let r = c.requires in
     let p = c.args.pass.now in
-    let call : Call = free c.args.place (Small c.args.class) in
-    let same = frees-from p c.args.place c.args.class c.free_from-prefix.result c.free_from-prefix.ensures in
-    let rule = free-errand p.errand c.args.place (Small c.args.class) r.block (of-rule c.args.self.now p r.of r.idle) r.idle in
+    let place = c.args.block.place in
+    let call : Call = free place (Small c.args.class) in
+    let same = frees-from p place c.args.class c.free_from-prefix.result c.free_from-prefix.ensures in
+    let rule = free-errand p.errand place (Small c.args.class) r.block (of-rule c.args.self.now p r.of r.idle) r.idle in
     walk-begins p call p c.free_from-prefix.result Free same c.args.self.now c.args.tries r.of r.idle r.may r.idle rule r.tries
 
-pub returns-in-Ok-clause-goes : goal.returns-in-Ok-clause-goes
-returns-in-Ok-clause-goes c =
-    let p = c.args.pass.now in
-    let call : Call = free c.args.place (Small c.args.class) in
-    let same = frees-from p c.args.place c.args.class c.free_from-prefix.result c.free_from-prefix.ensures in
-    walk-goes p call p c.free_from-prefix.result Free same c.args.self.now c.args.tries c.in-Ok.told c.free_on.new.pass
-    (free-calling p c.args.place c.args.class c.requires.idle c.requires.block) c.in-Ok.ensures.on
+pub returns-clause-of : goal.returns-clause-of
+returns-clause-of c = c.free_on.ensures.1.of
 
-pub returns-in-Err-clause-goes : goal.returns-in-Err-clause-goes
-returns-in-Err-clause-goes c =
+pub returns-clause-tells : goal.returns-clause-tells
+returns-clause-tells c =
     let p = c.args.pass.now in
-    let call : Call = free c.args.place (Small c.args.class) in
-    let same = frees-from p c.args.place c.args.class c.free_from-prefix.result c.free_from-prefix.ensures in
-    walk-goes p call p c.free_from-prefix.result Free same c.args.self.now c.args.tries c.in-Err.told c.free_on.new.pass
-    (free-calling p c.args.place c.args.class c.requires.idle c.requires.block) c.in-Err.ensures.gone
+    let q = c.free_on.new.pass in
+    let block = c.args.block in
+    let call : Call = free block.place (Small c.args.class) in
+    let same = frees-from p block.place c.args.class c.free_from-prefix.result c.free_from-prefix.ensures in
+    let (told, gone, answers) = c.free_on.ensures in
+    let goes = walk-goes p call p c.free_from-prefix.result Free same c.args.self.now c.args.tries told q
+    (free-calling p block.place c.args.class c.requires.idle c.requires.block) gone in
+    subst (λ a. FreeTells p block c.args.tries a q) (sym answers)
+    (free-answers p block c.args.tries told q
+    (subst (λ (n : Need). GoesOn p (free block.place n) 0 (in_call p (free block.place n)) c.args.tries (reply_in told) q) (sym c.requires.small) goes))

@@ -13,7 +13,7 @@ act-requires-clause-busy g c = subst IsBusy (sym c.requires.named) refl
 
 pub act-requires-clause-planned : goal.act-requires-clause-planned
 act-requires-clause-planned g c =
-    c.plan_block-action.ensures ∙ (planned-at c.args._errand.now c.args.at.now c.args._goes.now ∙ ap plan_of (sym c.requires.named))
+    c.requires.planned ∙ (planned-at c.args._errand.now c.args._at.now c.args._goes.now ∙ ap plan_of (sym c.requires.named))
 
 pub act-requires-clause-there : goal.act-requires-clause-there
 act-requires-clause-there g c =
@@ -22,4 +22,4 @@ act-requires-clause-there g c =
     let there = plan-exists e.geometry e.caller e.point r.rule.geometry r.rule.caller r.rule.point in
     let at : Exists c.args.self.now.layout (name_of (plan_of e)) = subst (λ k. Exists k (name_of (plan_of e))) r.sight.laid there in
     subst (λ (a : Action). Exists c.args.self.now.layout (name_of a))
-    (ap plan_of r.named ∙ (sym (planned-at c.args._errand.now c.args.at.now c.args._goes.now) ∙ sym c.plan_block-action.ensures)) at
+    (ap plan_of r.named ∙ (sym (planned-at c.args._errand.now c.args._at.now c.args._goes.now) ∙ sym c.requires.planned)) at

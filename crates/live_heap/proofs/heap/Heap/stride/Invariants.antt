@@ -2,6 +2,3 @@ use Rattle.live_heap.proofs.heap.Heap.stride.Given as goal
 
 abbrev pub ghost-walk : goal.ghost-walk
 ghost-walk g a = g.start
-
-abbrev pub ghost-join : goal.ghost-join
-ghost-join g a = g.start

@@ -1,12 +1,11 @@
-use Rattle.std.proofs.Common.{arith}
-use Rattle.std.proofs.lemmas.Grind.{common_steps}
-use Rattle.packed_words.specs.Anchor.{anchor_of, anchor_word}
+use Rattle.packed_words.proofs.AnchorLemmas.{IsAnchor-anchor_of, anchor_word-anchor_of}
 use Rattle.packed_words.proofs.anchor.Anchor.unpack.Goals as goal
 
-pub returns-clause-value : goal.returns-clause-value
-unfolding anchor_word anchor_of
-returns-clause-value c = grind (arith, common_steps)
+pub invariant_of-result : goal.invariant_of-result
+invariant_of-result c = anchor_word-anchor_of c.args.word c.ranges.word.fits
+
+pub returns-clause-rule : goal.returns-clause-rule
+returns-clause-rule c = IsAnchor-anchor_of c.args.word
 
 pub returns-clause-back : goal.returns-clause-back
-unfolding anchor_word anchor_of
-returns-clause-back c = grind (arith, common_steps)
+returns-clause-back c = anchor_word-anchor_of c.args.word c.ranges.word.fits

@@ -1,4 +1,4 @@
-use Rattle.live_heap.proofs.heap.Heap.free_last.Given as goal
+use Rattle.live_heap.proofs.heap.Heap.free_straight.Given as goal
 
 abbrev pub ghost-stride : goal.ghost-stride
 ghost-stride g a = g.start
@@ -11,3 +11,6 @@ ghost-stride-3 g a = g.start
 
 abbrev pub ghost-finish : goal.ghost-finish
 ghost-finish g a = g.start
+
+abbrev pub ghost-guard_last : goal.ghost-guard_last
+ghost-guard_last g a = g.start

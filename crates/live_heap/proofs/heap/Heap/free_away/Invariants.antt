@@ -1,0 +1,4 @@
+use Rattle.live_heap.proofs.heap.Heap.free_away.Given as goal
+
+abbrev pub ghost-rejoin : goal.ghost-rejoin
+ghost-rejoin g a = g.start
