@@ -9,6 +9,7 @@ use crate::hand::come_to;
 use errand_steps::reply::Begun;
 use heap_geometry::geometry::Geometry;
 use heap_geometry::limits::{CLASSES, SHELVES};
+use heap_geometry::need::Need;
 use heap_scripts::request::{Request as Asked, Told};
 use heap_scripts::whole;
 use live_heap::answers::{Ending, Step};
@@ -170,8 +171,10 @@ fn the_first_block_makes_its_superblock_the_active_one(rt: HostRuntime) -> Resul
     let (heap, mut pass, mut blocks) = open_alone(rt.alloc(), 1, 0, 9)?;
     let rows = [(Asked::Alloc(1023), Told::Given(0))];
     come_to(&rt, &heap, &mut pass, &mut blocks, &rows)?;
-    let block = blocks.first().map(|block| (block.place(), block.words()));
-    assert_eq!(rt; block, Some((0, 1023)));
+    let block = blocks
+        .first()
+        .map(|block| (block.place(), block.words(), block.need()));
+    assert_eq!(rt; block, Some((0, 1023, Need::Small(9))));
     let closed = close_alone(rt.alloc(), heap, pass)?;
     let expected = (geometry(1, 0, 1, 9), Some(1), Some(64), 3, 0);
     assert_eq!(rt; closed.as_ref().map(seen), Some(expected));

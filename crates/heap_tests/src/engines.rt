@@ -204,7 +204,10 @@ fn blocks_are_given_and_freed(rt: HostRuntime) -> Result<(), Fail> {
     ];
     come_to(&rt, &mut core, &rows)?;
     let second = grip(1024, Size::Widest);
-    assert_eq!(rt; (second.words(), second.place()), (1023, 1024));
+    assert_eq!(rt;
+        (second.words(), second.place(), second.need()),
+        (1023, 1024, Need::Small(9))
+    );
     Ok(())
 }
 

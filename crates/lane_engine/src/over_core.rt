@@ -30,6 +30,10 @@ impl Token for Grip {
         usable(self.need)
     }
 
+    fn need(&self) -> Need {
+        self.need
+    }
+
     fn place(&self) -> u32 {
         self.place
     }

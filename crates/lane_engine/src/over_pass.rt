@@ -10,6 +10,7 @@ ghost use Rattle.live_heap.specs.Whole.{IsAtRest, ResumesTo};
 
 use crate::calls::{Allocated, Calls, Taken};
 use crate::token::Token;
+use heap_geometry::need::Need;
 use live_heap::answers::{AllocAnswer, FreeAnswer, Resumed, Taken as Found};
 use live_heap::block::Block;
 use live_heap::heap::Heap;
@@ -24,6 +25,10 @@ impl Token for Block {
 
     fn words(&self) -> u32 {
         self.words()
+    }
+
+    fn need(&self) -> Need {
+        self.need()
     }
 
     fn place(&self) -> u32 {

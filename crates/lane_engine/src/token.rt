@@ -4,6 +4,8 @@ ghost use Rattle.std.specs.Prelude.{ℕ, ◌≡◌};
 ghost use Rattle.heap_geometry.specs.declared.need.Need.{Need};
 ghost use Rattle.heap_geometry.specs.Need.{usable_words};
 
+use heap_geometry::need::Need;
+
 /// A block that a caller holds.
 pub trait Token {
     /// The arena word of its prefix.
@@ -15,6 +17,10 @@ pub trait Token {
     /// Its usable words.
     fn words(&self) -> u32
         ensures { result ≡ usable_words (need_of self.now) };
+
+    /// What it serves.
+    fn need(&self) -> Need
+        ensures { result ≡ need_of self.now };
 
     /// The arena word of its prefix.
     fn place(&self) -> u32

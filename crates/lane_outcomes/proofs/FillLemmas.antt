@@ -6,7 +6,8 @@ use Rattle.pool_model.specs.declared.event.Event.{Event}
 use Rattle.pool_model.specs.declared.event.Event.TheVariants.{Write}
 use Rattle.pool_model.specs.Pool.{Pool, block_at, pool_after, written}
 use Rattle.pool_model.proofs.PoolLemmas.{block_at-changed_other, block_at-changed_same}
-use Rattle.lane_outcomes.specs.Standing.{OwnsWords}
+use Rattle.lane_outcomes.specs.declared.registers.Held.{Held}
+use Rattle.lane_outcomes.specs.Standing.{OwnsHeld}
 
 -- writes of words from `first` on
 abbrev pub writes : ℕ → ℕ → ℕ → ℕ → ℕ → List Event
@@ -14,20 +15,22 @@ writes caller place v first count = map (λ i. Write caller place i ((v + i) % 2
 
 -- a caller's block is still its own after a write of some block, and has as many words
 pub owns-written :
-    (pool : Pool) (caller other words writer place i v : ℕ) → OwnsWords pool caller other words
-    → OwnsWords (pool_after pool (Write writer place i v)) caller other words
-owns-written pool caller other words writer place i v h =
-    elim (cases_eq other place) [
+    (pool : Pool) (caller : ℕ) (held : Held) (writer place i v : ℕ) → OwnsHeld pool caller held
+    → OwnsHeld (pool_after pool (Write writer place i v)) caller held
+owns-written pool caller held writer place i v h =
+    elim (cases_eq held.place place) [
       | inl same ↦ record {
         block = written i v h.block;
         live = rw same (block_at-changed_same place (written i v) pool h.block (λ b. refl) (ap (λ (p : ℕ). block_at p pool) (sym same) ∙ h.live));
         owned = h.owned;
+        need_is = h.need_is;
         words_are = h.words_are;
       }
       | inr differ ↦ record {
         block = h.block;
-        live = block_at-changed_other place other (written i v) pool (λ b. refl) differ ∙ h.live;
+        live = block_at-changed_other place held.place (written i v) pool (λ b. refl) differ ∙ h.live;
         owned = h.owned;
+        need_is = h.need_is;
         words_are = h.words_are;
       }
     ]

@@ -71,8 +71,8 @@ put-later setting rest lost position shelf held result piece row = row
 take-later :
     (setting : Setting) (rest : List Event) (lost : ℕ) (position : Position) (shelf : ℕ) (held : Option Held) (result : Outcome) (piece : List Event)
     → TakeRow setting position shelf held result piece → TakeRow (later setting rest lost) position shelf held result piece
-take-later setting rest lost position shelf None (outcome.Took words place) piece row =
-    (row.0, moment-later setting rest lost position.done row.1, row.2, begins-longer (row.1.before ++ piece) setting.history rest row.3, row.4, row.5)
+take-later setting rest lost position shelf None (outcome.Took words place need) piece row =
+    (row.0, moment-later setting rest lost position.done row.1, row.2, begins-longer (row.1.before ++ piece) setting.history rest row.3, row.4, row.5, row.6)
 take-later setting rest lost position shelf held result piece row = row
 
 -- a row that fits still fits

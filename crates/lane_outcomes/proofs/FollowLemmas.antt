@@ -133,10 +133,11 @@ follows-others f g caller before rest registers given freed legal none h =
     let no_frees = tally-none (free_at f) caller (pool_of before) rest none in
     record {
       holds = holds-still (pool_of before) (pool_of (before ++ rest)) caller registers
-          (λ place words owns. record {
+          (λ held owns. record {
             block = owns.block;
-            live = others-keep_all g before rest caller place owns.block legal none owns.live owns.owned;
+            live = others-keep_all g before rest caller held.place owns.block legal none owns.live owns.owned;
             owned = owns.owned;
+            need_is = owns.need_is;
             words_are = owns.words_are;
           })
           h.holds;
@@ -227,7 +228,7 @@ still-holds caller before (Refuse other need) registers still h = rw (pool_of-pu
 still-holds caller before (Free other place) registers still h = absurd still
 still-holds caller before (Write other place i v) registers still h =
     rw (pool_of-push before (Write other place i v))
-    (holds-still (pool_of before) _ caller registers (λ at words. owns-written (pool_of before) caller at words other place i v) h)
+    (holds-still (pool_of before) _ caller registers (λ held. owns-written (pool_of before) caller held other place i v) h)
 still-holds caller before (Put other place shelf) registers still h = absurd still
 still-holds caller before (Take other shelf place) registers still h = absurd still
 still-holds caller before (TakeNone other shelf) registers still h = rw (pool_of-push before (TakeNone other shelf)) h

@@ -10,7 +10,6 @@ use Rattle.pool_model.specs.declared.event.Event.TheVariants.{Alloc, Free, Put, 
 use Rattle.pool_model.specs.declared.owner.Owner.{Owner}
 use Rattle.pool_model.specs.declared.owner.Owner.TheVariants.{Caller, Shelf}
 use Rattle.pool_model.specs.Pool.{Block, Pool, Owns, block_at, pool_of, fresh_block, handed_to, with_changed}
-use Rattle.pool_model.specs.Plain.{HasWords}
 use Rattle.pool_model.proofs.OwnerLemmas.{owner-one}
 use Rattle.pool_model.specs.Legal.{IsLegalWithoutCounts}
 use Rattle.pool_model.proofs.HistoryLemmas.{pool_of-push}
@@ -18,7 +17,7 @@ use Rattle.pool_model.proofs.PoolLemmas.{block_at-here, block_at-past, block_at-
 use Rattle.pool_model.proofs.WellFormedLemmas.{sound-differ, sound-of}
 use Rattle.lane_outcomes.specs.declared.registers.Held.{Held}
 use Rattle.lane_outcomes.specs.Lane.{held_in}
-use Rattle.lane_outcomes.specs.Standing.{OwnsWords, HoldsOwn}
+use Rattle.lane_outcomes.specs.Standing.{OwnsHeld, HoldsOwn}
 
 -- a register that is set holds what it was set to, and the others hold what they held
 pub held-set :
@@ -44,7 +43,7 @@ fresh-differs g history caller need place other block legal found =
 -- the caller owns the block that it was given
 pub owns-fresh :
     (history : List Event) (caller need place words : ℕ) → words ≡ usable_words (need_of need)
-    → OwnsWords (pool_of (history ++ Alloc caller need place ∷ [])) caller place words
+    → OwnsHeld (pool_of (history ++ Alloc caller need place ∷ [])) caller (record { place = place; words = words; need = need_of need })
 owns-fresh history caller need place words is =
     record {
       block = fresh_block caller need place;
@@ -52,58 +51,67 @@ owns-fresh history caller need place words is =
           rw (pool_of-push history (Alloc caller need place))
           (block_at-here place (fresh_block caller need place) (pool_of history) refl);
       owned = refl;
+      need_is = refl;
       words_are = is;
     }
 
 -- a block elsewhere is still owned after an allocation, after a free, and after a block was handed over
 pub owns-past :
-    (history : List Event) (caller other words giver need place : ℕ) → other ≢ place → OwnsWords (pool_of history) caller other words
-    → OwnsWords (pool_of (history ++ Alloc giver need place ∷ [])) caller other words
-owns-past history caller other words giver need place differ h =
+    (history : List Event) (caller : ℕ) (held : Held) (giver need place : ℕ) → held.place ≢ place → OwnsHeld (pool_of history) caller held
+    → OwnsHeld (pool_of (history ++ Alloc giver need place ∷ [])) caller held
+owns-past history caller held giver need place differ h =
     record {
       block = h.block;
       live =
           rw (pool_of-push history (Alloc giver need place))
-          (block_at-past other (fresh_block giver need place) (pool_of history) (λ e. differ (sym e)) ∙ h.live);
+          (block_at-past held.place (fresh_block giver need place) (pool_of history) (λ e. differ (sym e)) ∙ h.live);
       owned = h.owned;
+      need_is = h.need_is;
       words_are = h.words_are;
     }
 
 pub owns-freed :
-    (history : List Event) (caller other words giver place : ℕ) → other ≢ place → OwnsWords (pool_of history) caller other words
-    → OwnsWords (pool_of (history ++ Free giver place ∷ [])) caller other words
-owns-freed history caller other words giver place differ h =
+    (history : List Event) (caller : ℕ) (held : Held) (giver place : ℕ) → held.place ≢ place → OwnsHeld (pool_of history) caller held
+    → OwnsHeld (pool_of (history ++ Free giver place ∷ [])) caller held
+owns-freed history caller held giver place differ h =
     record {
       block = h.block;
       live =
-          rw (pool_of-push history (Free giver place)) (block_at-without_other place other (pool_of history) differ ∙ h.live);
+          rw (pool_of-push history (Free giver place)) (block_at-without_other place held.place (pool_of history) differ ∙ h.live);
       owned = h.owned;
+      need_is = h.need_is;
       words_are = h.words_are;
     }
 
 pub owns-handed :
-    (pool : Pool) (caller other words place : ℕ) (to : Owner) → other ≢ place → OwnsWords pool caller other words
-    → OwnsWords (with_changed place (handed_to to) pool) caller other words
-owns-handed pool caller other words place to differ h =
+    (pool : Pool) (caller : ℕ) (held : Held) (place : ℕ) (to : Owner) → held.place ≢ place → OwnsHeld pool caller held
+    → OwnsHeld (with_changed place (handed_to to) pool) caller held
+owns-handed pool caller held place to differ h =
     record {
       block = h.block;
-      live = block_at-changed_other place other (handed_to to) pool (λ b. refl) differ ∙ h.live;
+      live = block_at-changed_other place held.place (handed_to to) pool (λ b. refl) differ ∙ h.live;
       owned = h.owned;
+      need_is = h.need_is;
       words_are = h.words_are;
     }
 
+-- a block as a register's
+abbrev pub held_of : ℕ → Block → Held
+held_of place block = record { place = place; words = usable_words block.need; need = block.need }
+
 -- the caller owns the block that it took from a shelf
 pub owns-taken :
-    (history : List Event) (caller shelf place words : ℕ) → HasWords (pool_of history) place words
-    → OwnsWords (pool_of (history ++ Take caller shelf place ∷ [])) caller place words
-owns-taken history caller shelf place words has =
+    (history : List Event) (caller shelf place : ℕ) (block : Block) → block_at place (pool_of history) ≡ Some block
+    → OwnsHeld (pool_of (history ++ Take caller shelf place ∷ [])) caller (held_of place block)
+owns-taken history caller shelf place block live =
     record {
-      block = handed_to (Caller caller) has.0;
+      block = handed_to (Caller caller) block;
       live =
           rw (pool_of-push history (Take caller shelf place))
-          (block_at-changed_same place (handed_to (Caller caller)) (pool_of history) has.0 (λ b. refl) has.1);
+          (block_at-changed_same place (handed_to (Caller caller)) (pool_of history) block (λ b. refl) live);
       owned = refl;
-      words_are = has.2;
+      need_is = refl;
+      words_are = refl;
     }
 
 -- no two registers hold the same block
@@ -128,14 +136,14 @@ holds-nothing pool caller n =
 -- a register is set to a block of the caller's that no register holds
 holds-inside :
     (pool : Pool) (caller r : ℕ) (new : Held) (registers : List (Option Held)) → r < length registers
-    → OwnsWords pool caller new.place new.words
-    → ((q : ℕ) (held : Held) → held_in registers q ≡ Some held → (held.place ≢ new.place) × OwnsWords pool caller held.place held.words)
+    → OwnsHeld pool caller new
+    → ((q : ℕ) (held : Held) → held_in registers q ≡ Some held → (held.place ≢ new.place) × OwnsHeld pool caller held)
     → HoldsOnce registers → HoldsOwn pool caller (slice_set registers r (Some new))
 holds-inside pool caller r new registers within owns others once =
     record {
       owned = λ q held eq. elim (held-set registers r q (Some new) within) [
         | inl here ↦ let same : new ≡ held = let e : Some new ≡ Some held = sym here.1 ∙ eq in cc in
-            subst (λ (x : Held). OwnsWords pool caller x.place x.words) same owns
+            subst (λ (x : Held). OwnsHeld pool caller x) same owns
         | inr there ↦ (others q held (sym there.1 ∙ eq)).1
       ];
       once = λ p q held other at_p at_q differ. elim (held-set registers r p (Some new) within) [
@@ -153,8 +161,8 @@ holds-inside pool caller r new registers within owns others once =
     }
 
 pub holds-set :
-    (pool : Pool) (caller r : ℕ) (new : Held) (registers : List (Option Held)) → OwnsWords pool caller new.place new.words
-    → ((q : ℕ) (held : Held) → held_in registers q ≡ Some held → (held.place ≢ new.place) × OwnsWords pool caller held.place held.words)
+    (pool : Pool) (caller r : ℕ) (new : Held) (registers : List (Option Held)) → OwnsHeld pool caller new
+    → ((q : ℕ) (held : Held) → held_in registers q ≡ Some held → (held.place ≢ new.place) × OwnsHeld pool caller held)
     → HoldsOnce registers → HoldsOwn pool caller (slice_set registers r (Some new))
 holds-set pool caller r new registers owns others once =
     elim (cases_lt r (length registers)) [
@@ -175,7 +183,7 @@ held-inside registers r held full =
 -- a register is emptied
 pub holds-emptied :
     (pool : Pool) (caller r : ℕ) (registers : List (Option Held)) → r < length registers
-    → ((q : ℕ) (held : Held) → q ≢ r → held_in registers q ≡ Some held → OwnsWords pool caller held.place held.words)
+    → ((q : ℕ) (held : Held) → q ≢ r → held_in registers q ≡ Some held → OwnsHeld pool caller held)
     → HoldsOnce registers → HoldsOwn pool caller (slice_set registers r None)
 holds-emptied pool caller r registers within others once =
     record {
@@ -195,24 +203,25 @@ holds-emptied pool caller r registers within others once =
 -- blocks that stay the caller's are held as before
 pub holds-still :
     (old new : Pool) (caller : ℕ) (registers : List (Option Held))
-    → ((place words : ℕ) → OwnsWords old caller place words → OwnsWords new caller place words)
+    → ((held : Held) → OwnsHeld old caller held → OwnsHeld new caller held)
     → HoldsOwn old caller registers → HoldsOwn new caller registers
 holds-still old new caller registers keep h =
-    record { owned = λ r held eq. keep held.place held.words (h.owned r held eq); once = h.once }
+    record { owned = λ r held eq. keep held (h.owned r held eq); once = h.once }
 
 -- after an allocation, the registers hold the caller's blocks, the new one among them
 pub holds-fresh :
     (g : Geometry) (history : List Event) (caller need place words r : ℕ) (registers : List (Option Held))
     → IsLegalWithoutCounts g (history ++ Alloc caller need place ∷ []) → words ≡ usable_words (need_of need)
     → HoldsOwn (pool_of history) caller registers
-    → HoldsOwn (pool_of (history ++ Alloc caller need place ∷ [])) caller (slice_set registers r (Some (record { place = place; words = words })))
+    → HoldsOwn (pool_of (history ++ Alloc caller need place ∷ [])) caller
+    (slice_set registers r (Some (record { place = place; words = words; need = need_of need })))
 holds-fresh g history caller need place words r registers legal is h =
-    holds-set _ caller r (record { place = place; words = words }) registers
+    holds-set _ caller r (record { place = place; words = words; need = need_of need }) registers
     (owns-fresh history caller need place words is)
     (λ q held eq.
     let owns = h.owned q held eq in
     let differ = fresh-differs g history caller need place held.place owns.block legal owns.live in
-    (differ, owns-past history caller held.place held.words caller need place differ owns))
+    (differ, owns-past history caller held caller need place differ owns))
     h.once
 
 -- after a free, the other registers hold the caller's blocks
@@ -223,7 +232,7 @@ pub holds-freed :
 holds-freed history caller r freed registers holds h =
     holds-emptied _ caller r registers (held-inside registers r freed holds)
     (λ q held other eq.
-    owns-freed history caller held.place held.words caller freed.place (h.once q r held freed eq holds other) (h.owned q held eq))
+    owns-freed history caller held caller freed.place (h.once q r held freed eq holds other) (h.owned q held eq))
     h.once
 
 -- after a put, the other registers hold the caller's blocks
@@ -235,23 +244,23 @@ holds-put history caller r shelf held registers holds h =
     holds-emptied _ caller r registers (held-inside registers r held holds)
     (λ q other differ eq.
     rw (pool_of-push history (Put caller held.place shelf))
-    (owns-handed (pool_of history) caller other.place other.words held.place (Shelf shelf) (h.once q r other held eq holds differ) (h.owned q other eq)))
+    (owns-handed (pool_of history) caller other held.place (Shelf shelf) (h.once q r other held eq holds differ) (h.owned q other eq)))
     h.once
 
 -- after a take, the registers hold the caller's blocks, the one taken among them
 pub holds-taken :
-    (history : List Event) (caller r shelf place words : ℕ) (registers : List (Option Held))
-    → Owns (pool_of history) (Shelf shelf) place → HasWords (pool_of history) place words → HoldsOwn (pool_of history) caller registers
-    → HoldsOwn (pool_of (history ++ Take caller shelf place ∷ [])) caller (slice_set registers r (Some (record { place = place; words = words })))
-holds-taken history caller r shelf place words registers shelved has h =
-    holds-set _ caller r (record { place = place; words = words }) registers
-    (owns-taken history caller shelf place words has)
+    (history : List Event) (caller r shelf place : ℕ) (block : Block) (registers : List (Option Held))
+    → Owns (pool_of history) (Shelf shelf) place → block_at place (pool_of history) ≡ Some block → HoldsOwn (pool_of history) caller registers
+    → HoldsOwn (pool_of (history ++ Take caller shelf place ∷ [])) caller (slice_set registers r (Some (held_of place block)))
+holds-taken history caller r shelf place block registers shelved live h =
+    holds-set _ caller r (held_of place block) registers
+    (owns-taken history caller shelf place block live)
     (λ q held eq.
     let owns = h.owned q held eq in
     let differ = owner-one (pool_of history) (Caller caller) (Shelf shelf) place held.place owns.block shelved owns.live owns.owned
     (λ e. let s : Shelf shelf ≡ Caller caller = e in cc) in (
       differ,
       rw (pool_of-push history (Take caller shelf place))
-          (owns-handed (pool_of history) caller held.place held.words place (Caller caller) differ owns),
+          (owns-handed (pool_of history) caller held place (Caller caller) differ owns),
     ))
     h.once

@@ -9,8 +9,7 @@ use Rattle.heap_geometry.specs.Need.{need_of, usable_words}
 use Rattle.pool_model.specs.declared.event.Event.{Event}
 use Rattle.pool_model.specs.declared.event.Event.TheVariants.{Alloc, Free, Put, Take}
 use Rattle.pool_model.specs.Calls.{IsGiving, IsRefusing, IsSpending, looks}
-use Rattle.pool_model.specs.Pool.{pool_of}
-use Rattle.pool_model.specs.Plain.{HasWords}
+use Rattle.pool_model.specs.Pool.{block_at, pool_of}
 use Rattle.pool_model.specs.Legal.{IsLegalWithoutCounts}
 use Rattle.pool_model.proofs.HistoryLemmas.{push-append}
 use Rattle.trace_text.specs.declared.trace.Op.{Op}
@@ -22,9 +21,9 @@ use Rattle.lane_outcomes.specs.Lane.{Position, held_in, registers_after, positio
 use Rattle.lane_outcomes.specs.Rows.{Setting, IsSpent, AllocRow, FreeRow, FillRow, CheckRow, PutRow, TakeRow, FitsRow}
 use Rattle.lane_outcomes.specs.Fits.{Walks}
 use Rattle.lane_outcomes.specs.LaneCounts.{words_given, words_freed, count_with, lane_given, lane_freed}
-use Rattle.lane_outcomes.specs.Standing.{OwnsWords}
+use Rattle.lane_outcomes.specs.Standing.{HoldsOwn, OwnsHeld}
 use Rattle.lane_outcomes.proofs.FillLemmas.{writes}
-use Rattle.lane_outcomes.proofs.HoldLemmas.{holds-fresh, holds-freed, holds-put, holds-taken}
+use Rattle.lane_outcomes.proofs.HoldLemmas.{held_of, holds-fresh, holds-freed, holds-put, holds-taken}
 use Rattle.lane_outcomes.proofs.FollowLemmas.{FollowsAt, IsStill, at-step, at-stills, at-as, same-moment}
 use Rattle.lane_outcomes.proofs.MeasureLemmas.{block_with}
 
@@ -100,11 +99,12 @@ given-after :
     (f : ℕ → ℕ) (g : Geometry) (setting : Setting) (position : Position) (r need v words place : ℕ) (calls piece : List Event) (given freed : ℕ)
     → IsLegalWithoutCounts g setting.history → words ≡ usable_words (need_of need) → IsGiven setting.caller need place calls
     → piece ≡ calls ++ filling setting.caller place words v → Before f setting position given freed
-    → FollowsAt f setting.history setting.caller (position.done ++ piece) (slice_set position.registers r (Some (record { place = place; words = words }))) (given + f words) (freed + 0)
+    → FollowsAt f setting.history setting.caller (position.done ++ piece)
+    (slice_set position.registers r (Some (record { place = place; words = words; need = need_of need }))) (given + f words) (freed + 0)
 given-after f g setting position r need v words place calls piece given freed legal words_are is piece_is at =
     let caller = setting.caller in
     let looked : List Event = position.done ++ is.looked in
-    let set : List (Option Held) = slice_set position.registers r (Some (record { place = place; words = words })) in
+    let set : List (Option Held) = slice_set position.registers r (Some (record { place = place; words = words; need = need_of need })) in
     let at_looked = at-stills f g setting.history caller position.done is.looked position.registers given freed legal is.stills at in
     let at_alloc : FollowsAt f setting.history caller (looked ++ Alloc caller need place ∷ []) set (given + f words) (freed + 0) =
     at-step f g setting.history caller looked (Alloc caller need place) position.registers set given freed (given + f words) (freed + 0) legal refl
@@ -150,7 +150,7 @@ free-after f g setting position r (Some held) outcome.Freed piece given freed le
     (at-step f g setting.history caller position.done (Free caller held.place) position.registers (slice_set position.registers r None) given freed (given + 0)
     (freed + f held.words) legal refl
     (λ before legal_here begins own_is holds.
-    let owns : OwnsWords (pool_of before) caller held.place held.words = holds.owned r held full in
+    let owns : OwnsHeld (pool_of before) caller held = holds.owned r held full in
     record {
       holds = holds-freed before caller r held position.registers full holds;
       given_is = refl;
@@ -205,22 +205,26 @@ take-after f g setting position r shelf (Some held) outcome.Skipped piece given 
     quiet f g setting position piece given freed legal (none-still setting.caller piece row) at
 take-after f g setting position r shelf None outcome.ShelfEmpty piece given freed legal row at =
     quiet f g setting position piece given freed legal (rw row (refl, tt)) at
-take-after f g setting position r shelf None (outcome.Took words place) piece given freed legal row at =
+take-after f g setting position r shelf None (outcome.Took words place need) piece given freed legal row at =
     let event : Event = Take setting.caller shelf place in
     rw row.0
     (at-step f g setting.history setting.caller position.done event position.registers
-    (slice_set position.registers r (Some (record { place = place; words = words }))) given freed (given + 0) (freed + 0) legal refl
+    (slice_set position.registers r (Some (record { place = place; words = words; need = need }))) given freed (given + 0) (freed + 0) legal refl
     (λ before legal_here begins own_is holds.
     let there : setting.history ≡ row.1.before ++ event ∷ row.3.0 =
     row.3.1 ∙ ap (λ xs. (row.1.before ++ xs) ++ row.3.0) row.0 ∙ push-append row.1.before row.3.0 event in
     let here : setting.history ≡ before ++ event ∷ begins.0 = begins.1 ∙ push-append before begins.0 event in
     let same : row.1.before ≡ before =
     same-moment setting.caller event row.1.before before row.3.0 begins.0 refl (sym there ∙ here) (row.1.own_done ∙ sym own_is) in
-    let has : HasWords (pool_of before) place words =
-    subst (λ (h : List Event). HasWords (pool_of h) place words) same (row.2, row.4, row.5) in
+    let live : block_at place (pool_of before) ≡ Some row.2 = subst (λ (h : List Event). block_at place (pool_of h) ≡ Some row.2) same row.4 in
+    let held_same : held_of place row.2 ≡ record { place = place; words = words; need = need } =
+    ap (λ w. record { place = place; words = w; need = row.2.need }) (sym row.5)
+    ∙ ap (λ (n : Need). record { place = place; words = words; need = n }) (sym row.6) in
     let allowed = (legal_here before [] event refl).1 in
     record {
-      holds = holds-taken before setting.caller r shelf place words position.registers allowed.0 has holds;
+      holds =
+          subst (λ (h : Held). HoldsOwn (pool_of (before ++ event ∷ [])) setting.caller (slice_set position.registers r (Some h))) held_same
+          (holds-taken before setting.caller r shelf place row.2 position.registers allowed.0 live holds);
       given_is = refl;
       freed_is = refl;
     }) at)

@@ -31,8 +31,10 @@ held_in registers r = slice_index_or registers r None
 
 -- the registers after an operation with its outcome
 abbrev pub registers_after : List (Option Held) → Op → Outcome → List (Option Held)
-registers_after registers (op.Alloc r need v) (outcome.Given words place) = slice_set registers r (Some (record { place = place; words = words }))
-registers_after registers (op.Take r shelf) (outcome.Took words place) = slice_set registers r (Some (record { place = place; words = words }))
+registers_after registers (op.Alloc r need v) (outcome.Given words place) =
+    slice_set registers r (Some (record { place = place; words = words; need = need_of need }))
+registers_after registers (op.Take r shelf) (outcome.Took words place need) =
+    slice_set registers r (Some (record { place = place; words = words; need = need }))
 registers_after registers (op.Free r) outcome.Freed = slice_set registers r None
 registers_after registers (op.Put r shelf) outcome.Put = slice_set registers r None
 registers_after registers operation result = registers

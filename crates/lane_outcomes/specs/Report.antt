@@ -19,7 +19,7 @@ outcome_fields Filled = codes "filled" ∷ []
 outcome_fields (Sum total) = codes "sum" ∷ decimal total ∷ []
 outcome_fields Put = codes "put" ∷ []
 outcome_fields ShelfFull = codes "shelf" ∷ codes "full" ∷ []
-outcome_fields (Took words place) = codes "took" ∷ decimal words ∷ []
+outcome_fields (Took words place need) = codes "took" ∷ decimal words ∷ []
 outcome_fields ShelfEmpty = codes "shelf" ∷ codes "empty" ∷ []
 outcome_fields Skipped = codes "skipped" ∷ []
 

@@ -106,10 +106,11 @@ PutRow setting position shelf held result piece = ⊥
 -- a take gets the block that lies on the shelf at that moment, or finds none
 abbrev pub TakeRow : Setting → Position → ℕ → Option Held → Outcome → List Event → Type 0
 TakeRow setting position shelf (Some held) outcome.Skipped piece = piece ≡ []
-TakeRow setting position shelf None (outcome.Took words place) piece =
+TakeRow setting position shelf None (outcome.Took words place need) piece =
     (piece ≡ Take setting.caller shelf place ∷ []) × (moment : Moment setting position.done) × (block : Block)
     × Begins (moment.before ++ piece) setting.history
     × (block_at place (pool_of moment.before) ≡ Some block) × (words ≡ usable_words block.need)
+    × (need ≡ block.need)
 TakeRow setting position shelf None outcome.ShelfEmpty piece = piece ≡ TakeNone setting.caller shelf ∷ []
 TakeRow setting position shelf held result piece = ⊥
 

@@ -8,16 +8,17 @@ use Rattle.lane_outcomes.specs.declared.registers.Held.{Held}
 use Rattle.lane_outcomes.specs.Lane.{held_in}
 use Rattle.lane_outcomes.specs.Rows.{Setting}
 
--- the caller owns a live block with so many usable words at the place
-pub record OwnsWords (pool : Pool) (caller place words : ℕ) : Type 0 where
+-- the block that a register holds is live, with its need and its usable words, and the caller owns it
+pub record OwnsHeld (pool : Pool) (caller : ℕ) (held : Held) : Type 0 where
   pub block : Block
-  pub live : block_at place pool ≡ Some block
+  pub live : block_at held.place pool ≡ Some block
   pub owned : block.owner ≡ Caller caller
-  pub words_are : words ≡ usable_words block.need
+  pub need_is : held.need ≡ block.need
+  pub words_are : held.words ≡ usable_words block.need
 
 -- each full register holds a block of the caller's, and no two hold the same one
 pub record HoldsOwn (pool : Pool) (caller : ℕ) (registers : List (Option Held)) : Type 0 where
-  pub owned : (r : ℕ) (held : Held) → held_in registers r ≡ Some held → OwnsWords pool caller held.place held.words
+  pub owned : (r : ℕ) (held : Held) → held_in registers r ≡ Some held → OwnsHeld pool caller held
   pub once :
       (r q : ℕ) (held other : Held) → held_in registers r ≡ Some held → held_in registers q ≡ Some other → r ≢ q
       → held.place ≢ other.place

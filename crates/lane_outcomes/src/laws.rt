@@ -21,7 +21,7 @@ pub fn outcomes_fit_on()
 {}
 
 /// Whatever other callers did in between: at each moment at which a lane has made exactly its events so
-/// far, its full registers hold blocks that it owns, each with its words, and no two the same block.
+/// far, its full registers hold blocks that it owns, each with its need and its words, and no two the same block.
 pub fn registers_hold_own_blocks()
     ensures { (g : Geometry) (setting : Setting) (operations : List Op) (outcomes : List Outcome) (position : Position)
         → IsLegalWithoutCounts g setting.history → Walks setting start operations outcomes position

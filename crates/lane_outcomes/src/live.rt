@@ -12,6 +12,7 @@ ghost use Rattle.lane_outcomes.specs.LaneCounts.{words_given, words_freed, count
 
 use crate::outcome::Outcome;
 use crate::registers::{Held, Registers};
+use heap_geometry::need::class_of;
 use trace_text::trace::{Op, Trace};
 
 /// Some blocks: how many they are, and their usable words together.
@@ -77,11 +78,12 @@ fn follow(registers: &mut Registers, operation: Op, outcome: Outcome)
     ensures { registers.new ≡ registers_after registers.old operation outcome }
 {
     match (operation, outcome) {
-        (Op::Alloc { r, .. }, Outcome::Given { words, place }) => {
-            registers.set(r, Some(Held { place, words }));
+        (Op::Alloc { r, need, .. }, Outcome::Given { words, place }) => {
+            let need = class_of(need);
+            registers.set(r, Some(Held { place, words, need }));
         }
-        (Op::Take { r, .. }, Outcome::Took { words, place }) => {
-            registers.set(r, Some(Held { place, words }));
+        (Op::Take { r, .. }, Outcome::Took { words, place, need }) => {
+            registers.set(r, Some(Held { place, words, need }));
         }
         (Op::Free { r }, Outcome::Freed) => registers.set(r, None),
         (Op::Put { r, .. }, Outcome::Put) => registers.set(r, None),

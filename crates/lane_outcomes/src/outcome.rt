@@ -1,7 +1,9 @@
 //! What became of each operation of a lane.
 
+use heap_geometry::need::Need;
+
 /// What became of an operation. Places are told beside what the report prints, since a history names
-/// its blocks by their places.
+/// its blocks by their places; and the need of a block that was taken, which its usable words don't tell.
 #[derive(Clone, Copy, Debug, PartialEq, Eq)]
 pub enum Outcome {
     /// A block of `words` usable words was given, and filled.
@@ -20,8 +22,8 @@ pub enum Outcome {
     Put,
     /// The shelf held a block, and the lane keeps its own.
     ShelfFull,
-    /// The block of `words` usable words was taken from the shelf.
-    Took { words: u32, place: u32 },
+    /// A block of this need, which has `words` usable words, was taken from the shelf.
+    Took { words: u32, place: u32, need: Need },
     /// The shelf held nothing.
     ShelfEmpty,
     /// The register was full where the operation wants an empty one, or the other way round.

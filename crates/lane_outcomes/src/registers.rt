@@ -4,6 +4,7 @@ ghost use Rattle.std.specs.Prelude.{◌≡◌, None, replicate, slice_set};
 ghost use Rattle.trace_text.specs.declared.limits.TheConstants.{REGISTERS};
 ghost use Rattle.lane_outcomes.specs.Lane.{held_in};
 
+use heap_geometry::need::Need;
 use std::marker::Model;
 use trace_text::limits::REGISTERS;
 
@@ -14,6 +15,8 @@ pub struct Held {
     pub place: u32,
     /// The block's usable words.
     pub words: u32,
+    /// What the block serves.
+    pub need: Need,
 }
 
 /// What each register of a lane holds.

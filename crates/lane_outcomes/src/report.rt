@@ -41,7 +41,7 @@ fn write_outcome(text: &mut Text, outcome: Outcome) -> Result<(), AllocError>
         Outcome::Sum(total) => text.line_with("sum", total),
         Outcome::Put => text.line("put"),
         Outcome::ShelfFull => text.line("shelf full"),
-        Outcome::Took { words, place: _ } => text.line_with("took", u64::from(words)),
+        Outcome::Took { words, .. } => text.line_with("took", u64::from(words)),
         Outcome::ShelfEmpty => text.line("shelf empty"),
         Outcome::Skipped => text.line("skipped"),
     }

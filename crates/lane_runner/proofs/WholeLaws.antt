@@ -30,7 +30,7 @@ use Rattle.lane_outcomes.specs.declared.registers.Held.{Held}
 use Rattle.lane_outcomes.specs.declared.outcome.Outcome.{Outcome}
 use Rattle.lane_outcomes.specs.declared.outcome.Outcome.TheVariants as outcome
 use Rattle.lane_outcomes.specs.Lane.{held_in, registers_after}
-use Rattle.lane_outcomes.specs.Standing.{OwnsWords}
+use Rattle.lane_outcomes.specs.Standing.{OwnsHeld}
 use Rattle.lane_steps.specs.declared.stage.Stage.TheVariants as stage
 use Rattle.lane_steps.specs.Lanes.{IsLane}
 use Rattle.lane_steps.specs.Made.{AllMade, HasRun, HoldsBlocks, MadeFor, Skips, register_of}
@@ -45,7 +45,7 @@ use Rattle.live_heap.specs.declared.block.Block.{Block}
 use Rattle.lane_steps.specs.Scripts.{registers_from}
 use Rattle.lane_steps.proofs.BeginLemmas.{IsSkipped, begin-alloc, begin-check, begin-fill, begin-skips, owned-words}
 use Rattle.lane_steps.proofs.LaneAnswers.{alloc-given_so, held-here}
-use Rattle.lane_runner.proofs.WholeOps.{StandsAt, begun, begun-at, free-stands, last-in, put-stands, put_full-stands, refused-stands, served-last, serves-held, spent-stands, spent_at_once-stands, step-of, to-pass}
+use Rattle.lane_runner.proofs.WholeOps.{HasNeed, StandsAt, begun, begun-at, free-stands, last-in, put-stands, put_full-stands, refused-stands, served-last, serves-held, spent-stands, spent_at_once-stands, step-of, to-pass}
 use Rattle.lane_runner.proofs.WholeSteps.{alloc-started, doing-in, need_in, place_in}
 use Rattle.lane_runner.proofs.WholeWalks.{BegunAt, check-walk, fill-walk, given-walk, steps-of, take_empty-stands, take_got-stands}
 
@@ -98,7 +98,7 @@ module _ (h : Heap) (operations rest : List Op) (results : List Outcome) (regist
   -- a held block has a word
   pub some-words : (r : ℕ) (held : Held) → held_in registers r ≡ Some held → (n : ℕ) × (suc n ≡ held.words)
   some-words r held full =
-      let owns : OwnsWords (pool_of (seen p)) p.errand.caller held.place held.words = lane.holds.owned r held full in
+      let owns : OwnsHeld (pool_of (seen p)) p.errand.caller held = lane.holds.owned r held full in
       let some = owned-words h.layout (seen p) p.errand.caller held.place owns.block.need (pass-served h p rests.0).legal (owns.block, owns.live, owns.owned, refl) in
       less-suc held.words (subst (λ n. 0 < n) (sym owns.words_are) some)
 
@@ -114,7 +114,7 @@ module _ (h : Heap) (operations rest : List Op) (results : List Outcome) (regist
       (skipped-so registers operation slot is skip)))
 
   freed : (r : ℕ) (held : Held) (need : Need) → drop (length results) operations ≡ op.Free r ∷ rest → held_in registers r ≡ Some held
-      → held.words ≡ usable_words need → LeadsBy (WholeAt h) p (answered (free held.place need) reply.Freed ∷ []) q
+      → HasNeed held need → LeadsBy (WholeAt h) p (answered (free held.place need) reply.Freed ∷ []) q
       → StandsAt h q operations (slice_set registers r None) (results ++ outcome.Freed ∷ [])
   freed r held need next full words leads =
       let one = one-call (free held.place need) reply.Freed leads in
@@ -122,7 +122,7 @@ module _ (h : Heap) (operations rest : List Op) (results : List Outcome) (regist
       free-stands h operations rest results registers r held need p q made.0 next rests one.2.0 lane full words one.1 made.1
 
   put_down : (r shelf : ℕ) (held : Held) (need : Need) → drop (length results) operations ≡ op.Put r shelf ∷ rest → held_in registers r ≡ Some held
-      → held.words ≡ usable_words need → LeadsBy (WholeAt h) p (answered (put held.place need shelf) reply.Put ∷ []) q
+      → HasNeed held need → LeadsBy (WholeAt h) p (answered (put held.place need shelf) reply.Put ∷ []) q
       → StandsAt h q operations (slice_set registers r None) (results ++ outcome.Put ∷ [])
   put_down r shelf held need next full words leads =
       let one = one-call (put held.place need shelf) reply.Put leads in
@@ -130,7 +130,7 @@ module _ (h : Heap) (operations rest : List Op) (results : List Outcome) (regist
       put-stands h operations rest results registers r shelf held need p q made.0 next rests one.2.0 lane full words one.1 made.1
 
   put_back : (r shelf found : ℕ) (held : Held) (need : Need) → drop (length results) operations ≡ op.Put r shelf ∷ rest → held_in registers r ≡ Some held
-      → held.words ≡ usable_words need → LeadsBy (WholeAt h) p (answered (put held.place need shelf) (reply.Full found) ∷ []) q
+      → HasNeed held need → LeadsBy (WholeAt h) p (answered (put held.place need shelf) (reply.Full found) ∷ []) q
       → StandsAt h q operations registers (results ++ outcome.ShelfFull ∷ [])
   put_back r shelf found held need next full words leads =
       let one = one-call (put held.place need shelf) (reply.Full found) leads in
@@ -152,7 +152,7 @@ module _ (h : Heap) (operations rest : List Op) (results : List Outcome) (regist
       spent_at_once-stands h operations rest results registers r need v p q next rests lane empty (subst (λ n. IsSpentAtOnce p n q) same once)
 
   filled : (r v : ℕ) (held : Held) (need : Need) → drop (length results) operations ≡ op.Fill r v ∷ rest → held_in registers r ≡ Some held
-      → r < REGISTERS → held.words ≡ usable_words need → LeadsBy (WholeAt h) p (wrote held.place need v held.words) q
+      → r < REGISTERS → HasNeed held need → LeadsBy (WholeAt h) p (wrote held.place need v held.words) q
       → StandsAt h q operations registers (results ++ outcome.Filled ∷ [])
   filled r v held need next full within words leads =
       let some = some-words r held full in
@@ -165,7 +165,7 @@ module _ (h : Heap) (operations rest : List Op) (results : List Outcome) (regist
       serves (begun-at h p call rests so.1.1)) so
 
   checked : (r total : ℕ) (held : Held) (need : Need) (words : List ℕ) → drop (length results) operations ≡ op.Check r ∷ rest
-      → held_in registers r ≡ Some held → r < REGISTERS → held.words ≡ usable_words need → length words ≡ held.words → total ≡ sum words % 2 ^ 64
+      → held_in registers r ≡ Some held → r < REGISTERS → HasNeed held need → length words ≡ held.words → total ≡ sum words % 2 ^ 64
       → LeadsBy (WholeAt h) p (found_from held.place need 0 words) q → StandsAt h q operations registers (results ++ outcome.Sum total ∷ [])
   checked r total held need [] next full within words_are all total_is leads =
       let some = some-words r held full in absurd (omega (arith, all, some.1))
@@ -179,7 +179,7 @@ module _ (h : Heap) (operations rest : List Op) (results : List Outcome) (regist
       subst (λ s. StandsAt h q operations registers (results ++ outcome.Sum s ∷ [])) (ap (λ n. n % 2 ^ 64) none ∙ sym total_is) walk
 
   given : (r need v : ℕ) (held : Held) → drop (length results) operations ≡ op.Alloc r need v ∷ rest → held_in registers r ≡ None
-      → r < REGISTERS → held.words ≡ usable_words (need_of need)
+      → r < REGISTERS → HasNeed held (need_of need)
       → LeadsBy (WholeAt h) p (answered (alloc need) (reply.Given held.place (need_of need)) ∷ wrote held.place (need_of need) v held.words) q
       → StandsAt h q operations (slice_set registers r (Some held)) (results ++ outcome.Given held.words held.place ∷ [])
   given r need v held next empty within words (t, one, leads) =
@@ -194,7 +194,7 @@ module _ (h : Heap) (operations rest : List Op) (results : List Outcome) (regist
       let i = last-in h operations o rest results next p t rests of (alloc need) made.0 answer tt made.1 registers stage.Calling lane0 in
       let block : Offer = record { place = held.place; need = n } in
       let owned = pass-hands h h p t (alloc need) answer held.place n (one.0, tt, refl, one.2) (refl, refl) in
-      let some = less-suc held.words (subst (λ m. 0 < m) (sym words) (owned-words h.layout (seen t) t.errand.caller held.place n (pass-served h t of).legal owned)) in
+      let some = less-suc held.words (subst (λ m. 0 < m) (sym words.0) (owned-words h.layout (seen t) t.errand.caller held.place n (pass-served h t of).legal owned)) in
       let so_many : LeadsBy (WholeAt h) t (wrote held.place n v (suc some.0)) q =
       subst (λ m. LeadsBy (WholeAt h) t (wrote held.place n v m) q) (sym some.1) leads in
       let call = write held.place n 0 ((v + 0) % 2 ^ 64) in
@@ -203,7 +203,9 @@ module _ (h : Heap) (operations rest : List Op) (results : List Outcome) (regist
       i.lane next (doing-in h.layout operations o rest results next made.1.last made.1.sight registers stage.Calling i)
       (step-of h operations o rest results next p t rests of (alloc need) made.0 answer tt made.1 (stepped.Given block) (refl, refl)) within
       (begun-at h t call one.2 owned) in
-      let held_same : held_by place_in need_in block ≡ held = ap (λ m. record { place = held.place; words = m }) (sym words) in
+      let held_same : held_by place_in need_in block ≡ held =
+      ap (λ m. record { place = held.place; words = m; need = n }) (sym words.0)
+      ∙ ap (λ (k : Need). record { place = held.place; words = held.words; need = k }) (sym words.1) in
       let now = slice_set registers r (Some held) in
       let at_word : BegunAt h t call operations now results (stage.Filling 0) =
       subst (λ x. BegunAt h t call operations (slice_set registers r (Some x)) results (stage.Filling 0)) held_same
@@ -220,24 +222,24 @@ module _ (h : Heap) (operations rest : List Op) (results : List Outcome) (regist
   op-stands operation outcome.Skipped slot made is_op next is (skip, none) leads =
       skips operation slot next is skip (subst (λ ms. LeadsBy (WholeAt h) p ms q) none leads)
   op-stands (op.Alloc r need v) (outcome.Given words place) None made is_op next is (words_are, calls) leads =
-      given r need v (record { place = place; words = words }) next is is_op.0 words_are (subst (λ ms. LeadsBy (WholeAt h) p ms q) calls leads)
+      given r need v (record { place = place; words = words; need = need_of need }) next is is_op.0 (words_are, refl) (subst (λ ms. LeadsBy (WholeAt h) p ms q) calls leads)
   op-stands (op.Alloc r need v) outcome.Refused None made is_op next is calls leads =
       refused-by r need v next is (one-call (alloc need) reply.Refused (subst (λ ms. LeadsBy (WholeAt h) p ms q) calls leads))
   op-stands (op.Alloc r need v) outcome.Spent None made is_op next is calls leads =
       spent-by r need v next is (one-call (alloc need) reply.Spent (subst (λ ms. LeadsBy (WholeAt h) p ms q) calls leads))
-  op-stands (op.Free r) outcome.Freed (Some held) made is_op next is (need, words, calls) leads =
-      freed r held need next is words (subst (λ ms. LeadsBy (WholeAt h) p ms q) calls leads)
-  op-stands (op.Fill r v) outcome.Filled (Some held) made is_op next is (need, words, calls) leads =
-      filled r v held need next is is_op.0 words (subst (λ ms. LeadsBy (WholeAt h) p ms q) calls leads)
-  op-stands (op.Check r) (outcome.Sum total) (Some held) made is_op next is (need, words_are, (words, all, total_is, calls)) leads =
-      checked r total held need words next is is_op words_are all total_is (subst (λ ms. LeadsBy (WholeAt h) p ms q) calls leads)
-  op-stands (op.Put r shelf) outcome.Put (Some held) made is_op next is (need, words, calls) leads =
-      put_down r shelf held need next is words (subst (λ ms. LeadsBy (WholeAt h) p ms q) calls leads)
-  op-stands (op.Put r shelf) outcome.ShelfFull (Some held) made is_op next is (need, words, (found, calls)) leads =
-      put_back r shelf found held need next is words (subst (λ ms. LeadsBy (WholeAt h) p ms q) calls leads)
-  op-stands (op.Take r shelf) (outcome.Took words place) None made is_op next is (misses, are, need, words_are, calls) leads =
+  op-stands (op.Free r) outcome.Freed (Some held) made is_op next is (words, calls) leads =
+      freed r held held.need next is (words, refl) (subst (λ ms. LeadsBy (WholeAt h) p ms q) calls leads)
+  op-stands (op.Fill r v) outcome.Filled (Some held) made is_op next is (words, calls) leads =
+      filled r v held held.need next is is_op.0 (words, refl) (subst (λ ms. LeadsBy (WholeAt h) p ms q) calls leads)
+  op-stands (op.Check r) (outcome.Sum total) (Some held) made is_op next is (words_are, (words, all, total_is, calls)) leads =
+      checked r total held held.need words next is is_op (words_are, refl) all total_is (subst (λ ms. LeadsBy (WholeAt h) p ms q) calls leads)
+  op-stands (op.Put r shelf) outcome.Put (Some held) made is_op next is (words, calls) leads =
+      put_down r shelf held held.need next is (words, refl) (subst (λ ms. LeadsBy (WholeAt h) p ms q) calls leads)
+  op-stands (op.Put r shelf) outcome.ShelfFull (Some held) made is_op next is (words, (found, calls)) leads =
+      put_back r shelf found held held.need next is (words, refl) (subst (λ ms. LeadsBy (WholeAt h) p ms q) calls leads)
+  op-stands (op.Take r shelf) (outcome.Took words place need) None made is_op next is (misses, are, words_are, calls) leads =
       subst
-      (λ n. StandsAt h q operations (slice_set registers r (Some (record { place = place; words = n }))) (results ++ outcome.Took n place ∷ []))
+      (λ n. StandsAt h q operations (slice_set registers r (Some (record { place = place; words = n; need = need }))) (results ++ outcome.Took n place need ∷ []))
       (sym words_are)
       (take_got-stands h operations rest results registers r shelf place need misses p q next are rests lane is
       (subst (λ ms. LeadsBy (WholeAt h) p ms q) calls leads))

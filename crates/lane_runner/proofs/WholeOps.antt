@@ -90,16 +90,20 @@ module _ (h : Heap) (operations : List Op) (operation : Op) (rest : List Op) (re
         → HasStepped place_in need_in called.last q.errand called.sight (seen q) told
     step-of told tells = record { answer = progress.Done answer; moment = called.moment; tells = tells }
 
+-- a register's block is one of this need, and has as many words
+abbrev pub HasNeed : Held → Need → Type 0
+HasNeed held need = (held.words ≡ usable_words need) × (held.need ≡ need)
+
 pub serves-held : (h : Heap) (p : Pass) (held : Held) (need : Need) → IsAtRest h p → OwnsAfter (seen p) p.errand.caller held.place need
-    → held.words ≡ usable_words need → Serves held need
-serves-held h p held need rests owned words =
-    (owned-need h.layout (seen p) p.errand.caller held.place need (pass-served h p rests.0).legal owned, words)
+    → HasNeed held need → Serves held need
+serves-held h p held need rests owned has =
+    (owned-need h.layout (seen p) p.errand.caller held.place need (pass-served h p rests.0).legal owned, has.0, has.1)
 
 -- a free
 pub free-stands :
     (h : Heap) (operations rest : List Op) (results : List Outcome) (registers : List (Option Held)) (r : ℕ) (held : Held) (need : Need) (p q : Pass) (steps : ℕ)
     → drop (length results) operations ≡ op.Free r ∷ rest → IsAtRest h p → IsOf h q → StandsAt h p operations registers results
-    → held_in registers r ≡ Some held → held.words ≡ usable_words need → OwnsFor p (free held.place need)
+    → held_in registers r ≡ Some held → HasNeed held need → OwnsFor p (free held.place need)
     → HasCalled p (free held.place need) steps reply.Freed q
     → StandsAt h q operations (slice_set registers r None) (results ++ outcome.Freed ∷ [])
 free-stands h operations rest results registers r held need p q steps next rests of lane full words owned called =
@@ -120,7 +124,7 @@ free-stands h operations rest results registers r held need p q steps next rests
 pub put-stands :
     (h : Heap) (operations rest : List Op) (results : List Outcome) (registers : List (Option Held)) (r shelf : ℕ) (held : Held) (need : Need) (p q : Pass) (steps : ℕ)
     → drop (length results) operations ≡ op.Put r shelf ∷ rest → IsAtRest h p → IsOf h q → StandsAt h p operations registers results
-    → held_in registers r ≡ Some held → held.words ≡ usable_words need → OwnsFor p (put held.place need shelf)
+    → held_in registers r ≡ Some held → HasNeed held need → OwnsFor p (put held.place need shelf)
     → HasCalled p (put held.place need shelf) steps reply.Put q
     → StandsAt h q operations (slice_set registers r None) (results ++ outcome.Put ∷ [])
 put-stands h operations rest results registers r shelf held need p q steps next rests of lane full words owned called =
@@ -147,7 +151,7 @@ set-back (x ∷ registers) (suc r) held full = ap (λ ys. x ∷ ys) (set-back re
 pub put_full-stands :
     (h : Heap) (operations rest : List Op) (results : List Outcome) (registers : List (Option Held)) (r shelf found : ℕ) (held : Held) (need : Need) (p q : Pass) (steps : ℕ)
     → drop (length results) operations ≡ op.Put r shelf ∷ rest → IsAtRest h p → IsOf h q → StandsAt h p operations registers results
-    → held_in registers r ≡ Some held → held.words ≡ usable_words need → OwnsFor p (put held.place need shelf)
+    → held_in registers r ≡ Some held → HasNeed held need → OwnsFor p (put held.place need shelf)
     → HasCalled p (put held.place need shelf) steps (reply.Full found) q
     → StandsAt h q operations registers (results ++ outcome.ShelfFull ∷ [])
 put_full-stands h operations rest results registers r shelf found held need p q steps next rests of lane full words owned called =
@@ -168,7 +172,9 @@ put_full-stands h operations rest results registers r shelf found held need p q 
     (served-last h operations o rest results next p q rests of call steps answer owned called).legal rest r shelf block stage.Calling i.lane next
     (doing-in h.layout operations o rest results next called.last called.sight now stage.Calling i)
     (step-of h operations o rest results next p q rests of call steps answer owned called (stepped.Full block) offers) in
-    let held_same : held_by place_in need_in block ≡ held = ap (λ n. record { place = held.place; words = n }) (sym words) in
+    let held_same : held_by place_in need_in block ≡ held =
+    ap (λ w. record { place = held.place; words = w; need = need }) (sym words.0)
+    ∙ ap (λ (n : Need). record { place = held.place; words = held.words; need = n }) (sym words.1) in
     let back : slice_set now r (Some (held_by place_in need_in block)) ≡ registers =
     ap (λ x. slice_set now r (Some x)) held_same ∙ set-back registers r held full in
     subst (λ rs. IsLane h.layout q.errand.caller (seen q) q.errand operations rs (results ++ outcome.ShelfFull ∷ []) stage.Between) back

@@ -30,7 +30,7 @@ use Rattle.lane_steps.proofs.MadeLemmas.{leads-then}
 use Rattle.lane_runner.specs.Threads.{HasMadeCalls, WholeAt}
 use Rattle.lane_runner.proofs.ThreadLemmas.{fresh-idle}
 use Rattle.lane_runner.proofs.WholeLaws.{drop-next, here-is, leads-rest, op-stands, some-words}
-use Rattle.lane_runner.proofs.WholeOps.{StandsAt, serves-held}
+use Rattle.lane_runner.proofs.WholeOps.{HasNeed, StandsAt, serves-held}
 
 -- writes, reads and takes without their answers
 wrote-calls :
@@ -66,10 +66,11 @@ module _ (h : Heap) (operations rest : List Op) (results : List Outcome) (regist
       (r : ℕ) (held : Held) (need : Need) (calls_on : Held → Need → List Call) (made : List Made) → held_in registers r ≡ Some held
       → Serves held need → calls_made made ≡ calls_on held need → OnHeld (held_in registers r) calls_on (calls_made made)
   on-held r held need calls_on made is serves calls =
-      subst (λ slot. OnHeld slot calls_on (calls_made made)) (sym is) (need, serves, calls)
+      subst (λ slot. OnHeld slot calls_on (calls_made made)) (sym is)
+      (subst (λ (n : Need). Serves held n × (calls_made made ≡ calls_on held n)) (sym serves.2) (serves, calls))
 
   filled-script :
-      (r v : ℕ) (held : Held) (need : Need) (made : List Made) → held_in registers r ≡ Some held → held.words ≡ usable_words need
+      (r v : ℕ) (held : Held) (need : Need) (made : List Made) → held_in registers r ≡ Some held → HasNeed held need
       → made ≡ wrote held.place need v held.words → LeadsBy (WholeAt h) p made q
       → OnHeld (held_in registers r) (λ held need. writes_of held need v) (calls_made made)
   filled-script r v held need made is words calls leads =
@@ -80,7 +81,7 @@ module _ (h : Heap) (operations rest : List Op) (results : List Outcome) (regist
       (ap calls_made calls ∙ wrote-script held need v)
 
   checked-script :
-      (r : ℕ) (held : Held) (need : Need) (words : List ℕ) (made : List Made) → held_in registers r ≡ Some held → held.words ≡ usable_words need
+      (r : ℕ) (held : Held) (need : Need) (words : List ℕ) (made : List Made) → held_in registers r ≡ Some held → HasNeed held need
       → length words ≡ held.words → made ≡ found_from held.place need 0 words → LeadsBy (WholeAt h) p made q
       → OnHeld (held_in registers r) reads_of (calls_made made)
   checked-script r held need [] made is words_are all calls leads =
@@ -103,22 +104,24 @@ module _ (h : Heap) (operations rest : List Op) (results : List Outcome) (regist
       → MadeFor slot operation result made → LeadsBy (WholeAt h) p made q → CallsOf registers operation result (calls_made made)
   op-script operation outcome.Skipped slot made is (skip, none) leads = ap calls_made none
   op-script (op.Alloc r need v) (outcome.Given words place) None made is (words_are, calls) leads =
-      ap calls_made calls ∙ ap (λ cs. alloc need ∷ cs) (wrote-script (record { place = place; words = words }) (need_of need) v)
+      ap calls_made calls ∙ ap (λ cs. alloc need ∷ cs) (wrote-script (record { place = place; words = words; need = need_of need }) (need_of need) v)
   op-script (op.Alloc r need v) outcome.Refused None made is calls leads = ap calls_made calls
   op-script (op.Alloc r need v) outcome.Spent None made is calls leads = ap calls_made calls
-  op-script (op.Free r) outcome.Freed (Some held) made is (need, words, calls) leads =
+  op-script (op.Free r) outcome.Freed (Some held) made is (words, calls) leads =
       let so = subst (λ ms. LeadsBy (WholeAt h) p ms q) calls leads in
-      one-script r held need (λ held need. free held.place need) reply.Freed made is (serves-held h p held need rests so.1.1 words) calls
-  op-script (op.Fill r v) outcome.Filled (Some held) made is (need, words, calls) leads = filled-script r v held need made is words calls leads
-  op-script (op.Check r) (outcome.Sum total) (Some held) made is (need, words_are, (words, all, total_is, calls)) leads =
-      checked-script r held need words made is words_are all calls leads
-  op-script (op.Put r shelf) outcome.Put (Some held) made is (need, words, calls) leads =
+      one-script r held held.need (λ held need. free held.place need) reply.Freed made is (serves-held h p held held.need rests so.1.1 (words, refl)) calls
+  op-script (op.Fill r v) outcome.Filled (Some held) made is (words, calls) leads = filled-script r v held held.need made is (words, refl) calls leads
+  op-script (op.Check r) (outcome.Sum total) (Some held) made is (words_are, (words, all, total_is, calls)) leads =
+      checked-script r held held.need words made is (words_are, refl) all calls leads
+  op-script (op.Put r shelf) outcome.Put (Some held) made is (words, calls) leads =
       let so = subst (λ ms. LeadsBy (WholeAt h) p ms q) calls leads in
-      one-script r held need (λ held need. put held.place need shelf) reply.Put made is (serves-held h p held need rests so.1.1 words) calls
-  op-script (op.Put r shelf) outcome.ShelfFull (Some held) made is (need, words, (found, calls)) leads =
+      one-script r held held.need (λ held need. put held.place need shelf) reply.Put made is
+      (serves-held h p held held.need rests so.1.1 (words, refl)) calls
+  op-script (op.Put r shelf) outcome.ShelfFull (Some held) made is (words, (found, calls)) leads =
       let so = subst (λ ms. LeadsBy (WholeAt h) p ms q) calls leads in
-      one-script r held need (λ held need. put held.place need shelf) (reply.Full found) made is (serves-held h p held need rests so.1.1 words) calls
-  op-script (op.Take r shelf) (outcome.Took words place) None made is (misses, are, need, words_are, calls) leads =
+      one-script r held held.need (λ held need. put held.place need shelf) (reply.Full found) made is
+      (serves-held h p held held.need rests so.1.1 (words, refl)) calls
+  op-script (op.Take r shelf) (outcome.Took words place need) None made is (misses, are, words_are, calls) leads =
       (length misses, ap calls_made calls ∙ misses-script shelf misses (reply.Got place need) are)
   op-script (op.Take r shelf) outcome.ShelfEmpty None made is (misses, are, calls) leads =
       (length misses, ap calls_made calls ∙ misses-script shelf misses reply.Empty are)

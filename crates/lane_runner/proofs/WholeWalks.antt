@@ -38,7 +38,7 @@ use Rattle.lane_steps.proofs.BeginLemmas.{begin-take}
 use Rattle.lane_steps.proofs.CheckPutTake.{take-finds, take-gets, take-misses}
 use Rattle.lane_steps.proofs.EndsLemmas.{check-ends_lane, check-on_lane}
 use Rattle.lane_steps.proofs.LaneAnswers.{alloc-ends_given, alloc-goes_so, fill-ends_so, fill-goes_so, held-here}
-use Rattle.lane_runner.proofs.WholeOps.{StandsAt, begun-at, last-in, serves-held, served-last, step-of, to-pass}
+use Rattle.lane_runner.proofs.WholeOps.{HasNeed, StandsAt, begun-at, last-in, serves-held, served-last, step-of, to-pass}
 use Rattle.lane_runner.proofs.WholeSteps.{doing-in, need_in, place_in}
 
 -- one that is no allocation made steps
@@ -117,8 +117,8 @@ module _ (h : Heap) (operations rest : List Op) (results : List Outcome) (regist
       (r shelf place : ℕ) (need : Need) (misses : List Made) (p q : Pass) → drop (length results) operations ≡ op.Take r shelf ∷ rest
       → AreMisses shelf misses → IsAtRest h p → StandsAt h p operations registers results → held_in registers r ≡ None
       → LeadsBy (WholeAt h) p (misses ++ answered (take shelf) (reply.Got place need) ∷ []) q
-      → StandsAt h q operations (slice_set registers r (Some (record { place = place; words = usable_words need })))
-      (results ++ outcome.Took (usable_words need) place ∷ [])
+      → StandsAt h q operations (slice_set registers r (Some (record { place = place; words = usable_words need; need = need })))
+      (results ++ outcome.Took (usable_words need) place need ∷ [])
   take_got-stands r shelf place need misses p q next are rests lane empty leads =
       let o : Op = op.Take r shelf in
       let call = take shelf in
@@ -133,13 +133,13 @@ module _ (h : Heap) (operations rest : List Op) (results : List Outcome) (regist
       (doing-in h.layout operations o rest results next w.called.last w.called.sight registers stage.Calling i)
       (step-of h operations o rest results next w.p q w.rests w.of call w.steps answer tt w.called (stepped.Got block) (refl, refl)) in
       to-pass h operations o rest results next w.p q w.rests w.of call w.steps answer tt w.called q.errand
-      (slice_set registers r (Some (held_by place_in need_in block))) (results ++ outcome.Took (usable_words need) place ∷ []) stage.Between so.ends.stands
+      (slice_set registers r (Some (held_by place_in need_in block))) (results ++ outcome.Took (usable_words need) place need ∷ []) stage.Between so.ends.stands
 
   -- the words of a block
   abbrev pub writes_from : ℕ → Need → ℕ → ℕ → ℕ → List Made
   writes_from place need v i n = map (λ i. answered (write place need i ((v + i) % 2 ^ 64)) reply.Wrote) (range_with_len i n)
 
-  module _ (held : Held) (need : Need) (words_are : held.words ≡ usable_words need) (r : ℕ) (full : held_in registers r ≡ Some held) (size : length registers ≡ REGISTERS) (within : r < REGISTERS) where
+  module _ (held : Held) (need : Need) (words_are : HasNeed held need) (r : ℕ) (full : held_in registers r ≡ Some held) (size : length registers ≡ REGISTERS) (within : r < REGISTERS) where
     abbrev write_at : ℕ → ℕ → Call
     write_at v i = write held.place need i ((v + i) % 2 ^ 64)
 

@@ -24,7 +24,7 @@ use Rattle.lane_outcomes.specs.declared.outcome.Outcome.{Outcome}
 use Rattle.lane_outcomes.specs.declared.outcome.Outcome.TheVariants as outcome
 use Rattle.lane_outcomes.specs.Lane.{Position, held_in, registers_after}
 use Rattle.lane_outcomes.specs.Rows.{AllocRow, CheckRow, FillRow, FitsRow, FreeRow, PutRow, Setting, TakeRow}
-use Rattle.lane_outcomes.specs.Standing.{HoldsOwn, OwnsWords, setting_in}
+use Rattle.lane_outcomes.specs.Standing.{HoldsOwn, OwnsHeld, setting_in}
 use Rattle.lane_outcomes.proofs.HoldLemmas.{held-inside, held-set, holds-emptied}
 use Rattle.lane_steps.specs.declared.stage.Stage.{Stage}
 use Rattle.lane_steps.specs.declared.stage.Stage.TheVariants as stage
@@ -44,9 +44,9 @@ pub owned-words :
 owned-words g events caller place need legal owned = need-some g place need (heap-block g events caller place need legal owned)
 
 held-words :
-    (g : Geometry) (events : List Event) (caller place words : ℕ) → IsLegal g events → OwnsWords (pool_of events) caller place words → 0 < words
-held-words g events caller place words legal owns =
-    let some = owned-words g events caller place owns.block.need legal (owns.block, owns.live, owns.owned, refl) in
+    (g : Geometry) (events : List Event) (caller : ℕ) (held : Held) → IsLegal g events → OwnsHeld (pool_of events) caller held → 0 < held.words
+held-words g events caller held legal owns =
+    let some = owned-words g events caller held.place owns.block.need legal (owns.block, owns.live, owns.owned, refl) in
     omega (arith, owns.words_are)
 
 -- a register's block leaves it: the others hold the caller's blocks, and none of them that one
@@ -208,7 +208,7 @@ module _ (g : Geometry) (events : List Event) (e f : ErrandFields) (operations :
   begin-fill r v held need next full serves has_begun =
       let operation : Op = op.Fill r v in
       let same = stood g events e operations registers results operation rest lane next served in
-      let some = held-words g events e.caller held.place held.words served.legal (lane.holds.owned r held full) in
+      let some = held-words g events e.caller held served.legal (lane.holds.owned r held full) in
       lane-begins g events e operations registers results operation rest lane next served f (write held.place need 0 ((v + 0) % 2 ^ 64)) registers
       (stage.Filling 0) has_begun (
         operation,
@@ -226,7 +226,7 @@ module _ (g : Geometry) (events : List Event) (e f : ErrandFields) (operations :
       let operation : Op = op.Check r in
       let same = stood g events e operations registers results operation rest lane next served in
       let owns = lane.holds.owned r held full in
-      let some = held-words g events e.caller held.place held.words served.legal owns in
+      let some = held-words g events e.caller held served.legal owns in
       lane-begins g events e operations registers results operation rest lane next served f (read held.place need 0) registers (stage.Summing 0 0)
       has_begun (
         operation,

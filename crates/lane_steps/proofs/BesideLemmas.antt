@@ -19,7 +19,7 @@ use Rattle.lane_outcomes.specs.declared.registers.Held.{Held}
 use Rattle.lane_outcomes.specs.declared.outcome.Outcome.{Outcome}
 use Rattle.lane_outcomes.specs.Lane.{Position, start}
 use Rattle.lane_outcomes.specs.Fits.{Walks}
-use Rattle.lane_outcomes.specs.Standing.{HoldsOwn, OwnsWords, setting_in}
+use Rattle.lane_outcomes.specs.Standing.{HoldsOwn, OwnsHeld, setting_in}
 use Rattle.lane_outcomes.proofs.FitLemmas.{walks-later}
 use Rattle.lane_outcomes.proofs.HoldLemmas.{holds-still}
 use Rattle.lane_steps.specs.declared.lane.LaneState.{LaneState}
@@ -55,13 +55,14 @@ block-beside g caller before after place block b live owned =
     (others-keep_all g before b.more caller place block b.legal b.not_own live owned)
 
 words-beside :
-    (g : Geometry) (caller : ℕ) (before after : List Event) → IsBeside g caller before after → (place words : ℕ)
-    → OwnsWords (pool_of before) caller place words → OwnsWords (pool_of after) caller place words
-words-beside g caller before after b place words owns =
+    (g : Geometry) (caller : ℕ) (before after : List Event) → IsBeside g caller before after → (held : Held)
+    → OwnsHeld (pool_of before) caller held → OwnsHeld (pool_of after) caller held
+words-beside g caller before after b held owns =
     record {
       block = owns.block;
-      live = block-beside g caller before after place owns.block b owns.live owns.owned;
+      live = block-beside g caller before after held.place owns.block b owns.live owns.owned;
       owned = owns.owned;
+      need_is = owns.need_is;
       words_are = owns.words_are;
     }
 
@@ -73,7 +74,7 @@ live-seen g caller before after place block seen legal = block-beside g caller b
 -- so does the block whose words are read
 summing-beside :
     (g : Geometry) (caller : ℕ) (before after : List Event) (point : Point) (held : Held) (next total : ℕ) → IsBeside g caller before after
-    → OwnsWords (pool_of before) caller held.place held.words → IsSumming caller point (pool_of before) held next total
+    → OwnsHeld (pool_of before) caller held → IsSumming caller point (pool_of before) held next total
     → IsSumming caller point (pool_of after) held next total
 summing-beside g caller before after point held next total b owns s =
     let same : owns.block ≡ s.block = let both : Some owns.block ≡ Some s.block = sym owns.live ∙ s.live in cc in

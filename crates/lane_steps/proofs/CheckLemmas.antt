@@ -21,7 +21,7 @@ use Rattle.step_core.specs.Moments.{HasSeenMore}
 use Rattle.live_heap.proofs.MadeLemmas.{sum-one}
 use Rattle.lane_outcomes.specs.declared.registers.Held.{Held}
 use Rattle.lane_outcomes.specs.Rows.{IsSumOf, IsWord}
-use Rattle.lane_outcomes.specs.Standing.{OwnsWords}
+use Rattle.lane_outcomes.specs.Standing.{OwnsHeld}
 use Rattle.lane_steps.specs.Operations.{IsSumming, Serves}
 use Rattle.lane_steps.proofs.AnswerLemmas.{EndsRead, HasMovedOn}
 use Rattle.lane_steps.proofs.BesideLemmas.{live-seen}
@@ -58,7 +58,7 @@ summing-of caller point pool held next total need s serves inside way =
     }
 
 -- before the first word
-pub summed-none : (pool : Pool) (caller : ℕ) (held : Held) → OwnsWords pool caller held.place held.words → IsSummed pool held 0 0
+pub summed-none : (pool : Pool) (caller : ℕ) (held : Held) → OwnsHeld pool caller held → IsSummed pool held 0 0
 summed-none pool caller held owns =
     record {
       block = owns.block;
@@ -98,7 +98,7 @@ word-each contents words next word all each last i below =
 
 pub summed-more :
     (g : Geometry) (caller : ℕ) (before after : List Event) (held : Held) (next total : ℕ) (e f : ErrandFields) (word : ℕ) (added : List Event)
-    → HasSeenMore caller before after → IsLegal g after → OwnsWords (pool_of before) caller held.place held.words
+    → HasSeenMore caller before after → IsLegal g after → OwnsHeld (pool_of before) caller held
     → IsSummed (pool_of before) held next total → EndsRead e f held.place next word before after added
     → IsSummed (pool_of after) held (next + 1) ((total + word) % 2 ^ 64)
 summed-more g caller before after held next total e f word added seen legal owns s read =
@@ -131,7 +131,7 @@ zip-of (content ∷ contents) (word ∷ words) same each = (
 
 pub summed-whole :
     (g : Geometry) (caller : ℕ) (events : List Event) (held : Held) (next total : ℕ) (s : IsSummed (pool_of events) held next total)
-    → IsLegal g events → OwnsWords (pool_of events) caller held.place held.words → next ≡ held.words → IsSumOf s.block.contents total
+    → IsLegal g events → OwnsHeld (pool_of events) caller held → next ≡ held.words → IsSumOf s.block.contents total
 summed-whole g caller events held next total s legal owns whole =
     let old : owns.block ≡ s.block = let both : Some owns.block ≡ Some s.block = sym owns.live ∙ s.live in cc in
     let well : IsWellFormed g owns.block =

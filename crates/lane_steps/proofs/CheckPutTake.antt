@@ -143,7 +143,7 @@ module _ {B : Type 0} (place_of : B → ℕ) (need_of : B → Need) (g : Geometr
       → drop (length results) operations ≡ op.Take r shelf ∷ rest
       → IsDoing e.caller (pool_of before) e.point lane.position registers (op.Take r shelf) at lane.added
       → HasStepped place_of need_of e f before events (stepped.Got block)
-      → EndsWithBlock at r block (outcome.Took (usable_words (need_of block)) (place_of block))
+      → EndsWithBlock at r block (outcome.Took (usable_words (need_of block)) (place_of block) (need_of block))
   take-gets r shelf block stage.Calling lane next doing step =
       let got = told-of_take place_of need_of e f before events lane.added shelf (stepped.Got block) step doing.2 in
       record {

@@ -95,15 +95,17 @@ module _ (g : Geometry) (e f : ErrandFields) (before events : List Event) (opera
       (r shelf back : ℕ) (back_need : Need) → drop (length results) operations ≡ op.Put r shelf ∷ rest
       → (doing : IsDoing e.caller (pool_of before) e.point lane.position registers (op.Put r shelf) stage.Calling lane.added)
       → EndsFull e f doing.held.place doing.need shelf back back_need before events lane.added
-      → IsLane g e.caller events f operations (slice_set registers r (Some (record { place = back; words = usable_words back_need })))
+      → IsLane g e.caller events f operations (slice_set registers r (Some (record { place = back; words = usable_words back_need; need = back_need })))
       (results ++ outcome.ShelfFull ∷ []) stage.Between
   put-full_lane r shelf back back_need next doing full =
       let ends = full.ends in
-      let given_back : Held = record { place = back; words = usable_words back_need } in
+      let given_back : Held = record { place = back; words = usable_words back_need; need = back_need } in
       let words : usable_words back_need ≡ doing.held.words = ap usable_words full.same_need ∙ sym doing.serves.1 in
+      let need : back_need ≡ doing.held.need = full.same_need ∙ sym doing.serves.2 in
       let same : given_back ≡ doing.held =
-      ap (λ (p : ℕ). record { place = p; words = usable_words back_need }) full.same_place
-      ∙ ap (λ (w : ℕ). record { place = doing.held.place; words = w }) words in
+      ap (λ (p : ℕ). record { place = p; words = usable_words back_need; need = back_need }) full.same_place
+      ∙ ap (λ (w : ℕ). record { place = doing.held.place; words = w; need = back_need }) words
+      ∙ ap (λ (n : Need). record { place = doing.held.place; words = doing.held.words; need = n }) need in
       let now_is : slice_set registers r (Some given_back) ≡ lane.position.registers =
       ap (λ rs. slice_set rs r (Some given_back)) doing.emptied ∙ ap (λ h. slice_set (slice_set lane.position.registers r None) r (Some h)) same
       ∙ set-back lane.position.registers r doing.held doing.was in
@@ -120,8 +122,8 @@ module _ (g : Geometry) (e f : ErrandFields) (before events : List Event) (opera
       (r shelf place : ℕ) (need : Need) → drop (length results) operations ≡ op.Take r shelf ∷ rest
       → IsDoing e.caller (pool_of before) e.point lane.position registers (op.Take r shelf) stage.Calling lane.added
       → EndsGot e f shelf place need before events lane.added
-      → IsLane g e.caller events f operations (slice_set registers r (Some (record { place = place; words = usable_words need })))
-      (results ++ outcome.Took (usable_words need) place ∷ []) stage.Between
+      → IsLane g e.caller events f operations (slice_set registers r (Some (record { place = place; words = usable_words need; need = need })))
+      (results ++ outcome.Took (usable_words need) place need ∷ []) stage.Between
   take-got_lane r shelf place need next doing got =
       let ends = got.ends in
       let words = usable_words need in
@@ -132,17 +134,18 @@ module _ (g : Geometry) (e f : ErrandFields) (before events : List Event) (opera
       own-append e.caller before got.between ∙ ap (λ xs. own e.caller before ++ xs) got.not_own ∙ append-nil (own e.caller before)
       ∙ lane.own_events ∙ ap (λ xs. lane.position.done ++ xs) none ∙ append-nil lane.position.done in
       let empty : held_in lane.position.registers r ≡ None = ap (λ rs. held_in rs r) (sym doing.0) ∙ doing.1 in
-      lane-ends g e.caller before events e f operations registers (slice_set registers r (Some (record { place = place; words = words }))) results
-      stage.Calling (op.Take r shelf) rest (outcome.Took words place) piece lane next
+      lane-ends g e.caller before events e f operations registers (slice_set registers r (Some (record { place = place; words = words; need = need }))) results
+      stage.Calling (op.Take r shelf) rest (outcome.Took words place need) piece lane next
       (later-moved g e f before events ends.more ends.moved_on heap legal) ends.idle (own-now ends.more ends.moved_on)
-      (subst (λ h. TakeRow (setting_in events e.caller g.turn_limit f.lost) lane.position shelf h (outcome.Took words place) piece) (sym empty) (
+      (subst (λ h. TakeRow (setting_in events e.caller g.turn_limit f.lost) lane.position shelf h (outcome.Took words place need) piece) (sym empty) (
         ends.all,
         record { before = seen; begins = (Take e.caller shelf place ∷ [], got.last); own_done = own_seen },
         got.block,
         ([], got.last ∙ ap (λ xs. seen ++ xs) (sym ends.all) ∙ sym (append-nil (seen ++ piece))),
         got.lay,
         ap usable_words (sym got.block_need),
-      )) (ap (λ rs. slice_set rs r (Some (record { place = place; words = words }))) doing.0) (λ is. absurd (cc))
+        sym got.block_need,
+      )) (ap (λ rs. slice_set rs r (Some (record { place = place; words = words; need = need }))) doing.0) (λ is. absurd (cc))
 
   pub take-empty_lane :
       (r shelf : ℕ) → drop (length results) operations ≡ op.Take r shelf ∷ rest

@@ -232,6 +232,9 @@ module _ {B : Type 0} (place_of : B → ℕ) (block_need : B → Need) (g : Geom
       ∙ ap (λ xs. filled.given ++ xs) (sym (filled-more e.caller held.place held.words v i writing.inside))
       ∙ ap (λ xs. filled.given ++ xs) (filled-all e.caller held.place held.words v i writing.inside last) in
       let here = lane-here g e.caller before e operations registers results (stage.Filling i) (op.Alloc r need v) rest lane next in
+      let now_is : registers ≡ registers_after lane.position.registers (op.Alloc r need v) result =
+      doing.2
+      ∙ ap (λ (n : Need). slice_set lane.position.registers r (Some (record { place = held.place; words = held.words; need = n }))) filled.words.2 in
       record {
         more = ends.more;
         moved_on = ends.moved_on;
@@ -239,7 +242,7 @@ module _ {B : Type 0} (place_of : B → ℕ) (block_need : B → Need) (g : Geom
         stands =
             ends-lane (stage.Filling i) (op.Alloc r need v) lane next (ended.wrote held.place i word) [] ends registers result
             (subst (λ h. AllocRow (setting_in events e.caller g.turn_limit f.lost) lane.position need v h result (lane.added ++ ends.more)) (sym doing.1)
-            (doing.3, filled.words.1, filled.given, filled.giving, piece)) doing.2 (λ is. absurd (cc));
+            (doing.3, filled.words.1, filled.given, filled.giving, piece)) now_is (λ is. absurd (cc));
         script = λ calls script. alloc-given operations results lane.position.registers registers registers r need v calls here held i full writing.inside last script;
         few = few-begun held writing.need i writing.serves writing.inside;
       }
@@ -406,15 +409,17 @@ module _ {B : Type 0} (place_of : B → ℕ) (block_need : B → Need) (g : Geom
         let empty : held_in lane.position.registers r ≡ None = ap (λ rs. held_in rs r) (sym doing.0) ∙ doing.1 in
         let now_is : now ≡ slice_set lane.position.registers r (Some held) = ap (λ rs. slice_set rs r (Some held)) doing.0 in
         let is_need : IsNeed (block_need block) = owned-need g events e.caller (place_of block) (block_need block) served.legal told.owned in
-        let serves : Serves held (need_of need) = (need_of-within need, ap (λ (n : Need). usable_words n) told.serves) in
+        let serves : Serves held (need_of need) = (need_of-within need, ap (λ (n : Need). usable_words n) told.serves, told.serves) in
         let inside : 0 < held.words = owned-words g events e.caller (place_of block) (block_need block) served.legal told.owned in
         let setting = setting_in events e.caller g.turn_limit f.lost in
         let walks : Walks setting start (take (length results) operations) results lane.position =
         walks-on before events ends.moved_on.rest e.caller g.turn_limit e.lost f.lost start lane.position (take (length results) operations) results
         ends.moved_on.seen ends.moved_on.lost lane.walks in
         let holds : HoldsOwn (pool_of events) e.caller (slice_set lane.position.registers r (Some held)) =
-        given-holds g setting (take (length results) operations) results lane.position r need held.place held.words (lane.added ++ ends.more) served.legal
-        walks (own-more stage.Calling lane ends.more ends.moved_on) ends.all serves.1 in
+        subst (λ (n : Need). HoldsOwn (pool_of events) e.caller (slice_set lane.position.registers r (Some (record { place = held.place; words = held.words; need = n }))))
+        (sym serves.2)
+        (given-holds g setting (take (length results) operations) results lane.position r need held.place held.words (lane.added ++ ends.more) served.legal
+        walks (own-more stage.Calling lane ends.more ends.moved_on) ends.all serves.1) in
         let here = lane-here g e.caller before e operations registers results stage.Calling (op.Alloc r need v) rest lane next in
         let full : held_in now r ≡ Some held = held-here registers r held (omega (arith, lane.size)) in
         record {
@@ -432,7 +437,7 @@ module _ {B : Type 0} (place_of : B → ℕ) (block_need : B → Need) (g : Geom
                   given = lane.added ++ ends.more;
                   giving = ends.all;
                   words = serves;
-                  writing = writing-behind held (block_need block) 0 v ends.moved_on.same_caller (is_need, refl) inside begun;
+                  writing = writing-behind held (block_need block) 0 v ends.moved_on.same_caller (is_need, refl, refl) inside begun;
                   so_far = sym (append-nil (lane.added ++ ends.more));
                 },
               ) (length-set registers r (Some held) ∙ lane.size)

@@ -177,7 +177,7 @@ module _ {B : Type 0} (place_of : B → ℕ) (need_of : B → Need) (g : Geometr
       (operation : Op) (b : Before operation) (r : ℕ) (block : B) → slice_index_or lane.registers.items r None ≡ Some block
       → Serves (held_by place_of need_of block) (need_of block)
   serves-block operation b r block full =
-      (owned-need g events e.caller (place_of block) (need_of block) (served operation b).legal (owned-before operation b r block full), refl)
+      (owned-need g events e.caller (place_of block) (need_of block) (served operation b).legal (owned-before operation b r block full), refl, refl)
 
   pub words-before :
       (operation : Op) → Before operation → (r : ℕ) (block : B) → slice_index_or lane.registers.items r None ≡ Some block

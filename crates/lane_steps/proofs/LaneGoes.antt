@@ -22,7 +22,7 @@ use Rattle.lane_engine.specs.Engines.{HasStepped}
 use Rattle.lane_outcomes.specs.declared.registers.Held.{Held}
 use Rattle.lane_outcomes.specs.declared.outcome.Outcome.{Outcome}
 use Rattle.lane_outcomes.specs.Lane.{Position, start, held_in}
-use Rattle.lane_outcomes.specs.Standing.{HoldsOwn, OwnsWords}
+use Rattle.lane_outcomes.specs.Standing.{HoldsOwn, OwnsHeld}
 use Rattle.lane_steps.specs.declared.stage.Stage.{Stage}
 use Rattle.lane_steps.specs.declared.stage.Stage.TheVariants as stage
 use Rattle.lane_steps.specs.Lanes.{IsAt, IsLane}
@@ -381,7 +381,7 @@ module _ {B : Type 0} (place_of : B → ℕ) (need_of : B → Need) (g : Geometr
       subst (IsUnderWay e.caller (read held.place summing.need i) f.point) none goes.under_way in
       let spares : SparesAll registers [] = λ q other full. tt in
       let full : held_in registers r ≡ Some held = doing.2 in
-      let owns : OwnsWords (pool_of before) e.caller held.place held.words = lane.holds.owned r held full in
+      let owns : OwnsHeld (pool_of before) e.caller held = lane.holds.owned r held full in
       let same : owns.block ≡ summing.block = let s : Some owns.block ≡ Some summing.block = sym owns.live ∙ summing.live in cc in
       let legal_rest : IsLegalWithoutCounts g (before ++ moved.rest) = subst (IsLegalWithoutCounts g) moved.seen legal in
       let live : block_at held.place (pool_of events) ≡ Some summing.block =

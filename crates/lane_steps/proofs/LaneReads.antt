@@ -113,7 +113,7 @@ module _ {B : Type 0} (place_of : B → ℕ) (need_of : B → Need) (g : Geometr
         let same : had.held ≡ held_by place_of need_of w.block =
         let e : Some had.held ≡ Some (held_by place_of need_of w.block) = sym had.full ∙ full in cc in
         let serves : Serves (held_by place_of need_of w.block) (need_of w.block) =
-        (owned-need g events lane.caller (place_of w.block) (need_of w.block) t.still_served.legal w.owned, refl) in
+        (owned-need g events lane.caller (place_of w.block) (need_of w.block) t.still_served.legal w.owned, refl, refl) in
         let sum = (w.total + word) % 2 ^ 64 in
         let sum_is : total ≡ sum = total_is ∙ ap (λ a. total_with a word) w.summing in
         let stands : IsLane g t.e.caller events (begun_by f call) operations held lane.outcomes.items (stage.Summing (w.i + 1) sum) =
@@ -152,7 +152,7 @@ module _ {B : Type 0} (place_of : B → ℕ) (need_of : B → Need) (g : Geometr
         let same : had.held ≡ held_by place_of need_of w.block =
         let e : Some had.held ≡ Some (held_by place_of need_of w.block) = sym had.full ∙ full in cc in
         let serves : Serves (held_by place_of need_of w.block) (need_of w.block) =
-        (owned-need g events lane.caller (place_of w.block) (need_of w.block) t.still_served.legal w.owned, refl) in
+        (owned-need g events lane.caller (place_of w.block) (need_of w.block) t.still_served.legal w.owned, refl, refl) in
         let sum = (w.total + word) % 2 ^ 64 in
         let sum_is : total ≡ sum = total_is ∙ ap (λ a. total_with a word) w.summing in
         let stood = stood-at place_of need_of g events f seen operations lane o s t (stage.Summing w.i w.total) w.summing in
@@ -237,16 +237,17 @@ module _ {B : Type 0} (place_of : B → ℕ) (need_of : B → Need) (g : Geometr
         (held_blocks place_of need_of (slice_set lane.registers.items r (Some block))) r shelf calls here script)
 
     pub part-take_got :
-        (r shelf words place : ℕ) (block : B) → Told (op.Take r shelf) (stepped.Got block) → words ≡ usable_words (need_of block)
-        → place ≡ place_of block
-        → Became lane new (slice_set lane.registers.items r (Some block)) (lane.outcomes.items ++ outcome.Took words place ∷ []) stage.Between → Gone f None
-    part-take_got r shelf words place block t words_are place_is became =
+        (r shelf words place : ℕ) (need : Need) (block : B) → Told (op.Take r shelf) (stepped.Got block) → words ≡ usable_words (need_of block)
+        → place ≡ place_of block → need ≡ need_of block
+        → Became lane new (slice_set lane.registers.items r (Some block)) (lane.outcomes.items ++ outcome.Took words place need ∷ []) stage.Between → Gone f None
+    part-take_got r shelf words place need block t words_are place_is need_is became =
         let o = op.Take r shelf in
         let s = stepped.Got block in
         let stood = stood-at place_of need_of g events f seen operations lane o s t lane.stage refl in
-        let result : Outcome = outcome.Took (usable_words (need_of block)) (place_of block) in
-        let is : outcome.Took words place ≡ result =
-        ap (λ n. outcome.Took n place) words_are ∙ ap (λ p. outcome.Took (usable_words (need_of block)) p) place_is in
+        let result : Outcome = outcome.Took (usable_words (need_of block)) (place_of block) (need_of block) in
+        let is : outcome.Took words place need ≡ result =
+        ap (λ n. outcome.Took n place need) words_are ∙ ap (λ p. outcome.Took (usable_words (need_of block)) p need) place_is
+        ∙ ap (λ n. outcome.Took (usable_words (need_of block)) (place_of block) n) need_is in
         let ends = take-gets place_of need_of g t.e f seen events operations held lane.outcomes.items
         (heap place_of need_of g events f seen operations lane o s t) t.still_served.legal t.next.0 r shelf block lane.stage stood t.next.1
         (doing-here place_of need_of g events f seen operations lane o s t lane.stage refl) t.stepped in
@@ -256,7 +257,7 @@ module _ {B : Type 0} (place_of : B → ℕ) (need_of : B → Need) (g : Geometr
         (λ calls script.
         take-got operations lane.outcomes.items stood.position.registers held
         (held_blocks place_of need_of (slice_set lane.registers.items r (Some block))) r shelf calls here (usable_words (need_of block)) (place_of block)
-        script)
+        (need_of block) script)
 
     pub part-take_none :
         (r shelf : ℕ) → Told (op.Take r shelf) stepped.Empty

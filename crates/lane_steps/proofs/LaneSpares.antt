@@ -23,7 +23,7 @@ pub holds-rest :
 holds-rest g before after rest more caller registers seen own_rest legal spares holds =
     record {
       owned = λ r held full.
-          rw seen (words-rest g before rest caller held.place held.words (subst (IsLegalWithoutCounts g) seen legal)
+          rw seen (words-rest g before rest caller held (subst (IsLegalWithoutCounts g) seen legal)
           (subst (AllSpare held.place) (sym own_rest) (spares r held full)) (holds.owned r held full));
       once = holds.once;
     }

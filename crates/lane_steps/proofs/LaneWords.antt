@@ -186,7 +186,7 @@ module _ {B : Type 0} (place_of : B → ℕ) (need_of : B → Need) (g : Geometr
       (operation : Op) (told : Stepped B) → Told operation told → (block : B) → OwnsAfter events lane.caller (place_of block) (need_of block)
       → Serves (held_by place_of need_of block) (need_of block)
   serves-own operation told t block owned =
-      (owned-need g events lane.caller (place_of block) (need_of block) t.still_served.legal owned, refl)
+      (owned-need g events lane.caller (place_of block) (need_of block) t.still_served.legal owned, refl, refl)
 
   module _ (again : Option Call → Type 0) (new : LaneState B) where
     abbrev Gone : ErrandFields → Option Call → Type 0

@@ -1,18 +1,17 @@
 -- Whole calls one after the other, and what they leave in the registers of their lane.
-use Rattle.std.proofs.Common.{ℕ, zero, suc, ◌≡◌, ◌≢◌, ◌<◌, ◌≤◌, ◌+◌, ◌%◌, ◌^◌, ◌∷◌, ◌++◌, List, [], Option, Some, None, length, map, drop, refl, sym, ap, ◌∙◌, subst, inl, inr, arith, append_assoc, append-nil, vec_capacity}
+use Rattle.std.proofs.Common.{ℕ, zero, suc, ◌≡◌, ◌≢◌, ◌<◌, ◌+◌, ◌%◌, ◌^◌, ◌∷◌, ◌++◌, List, [], Option, Some, None, length, map, drop, refl, sym, ap, ◌∙◌, subst, inl, inr, arith, append_assoc, append-nil, vec_capacity}
 use Rattle.std.specs.Prelude.{slice_set}
 use Rattle.std.specs.List.{range_with_len, slice_index_or}
 use Rattle.std.specs.Option.{option_map}
-use Rattle.std.proofs.lemmas.Bool.{cases_eq, cases_lt}
+use Rattle.std.proofs.lemmas.Bool.{cases_eq}
 use Rattle.std.proofs.lemmas.List.{get_or_default, length-append, length-set}
 use Rattle.std.proofs.Math.Seq.{drop-nil}
 use Rattle.heap_geometry.specs.declared.need.Need.{Need}
 use Rattle.heap_geometry.specs.Need.{need_of, usable_words}
 use Rattle.errand_steps.specs.declared.reply.Reply.{Reply}
 use Rattle.errand_steps.specs.declared.reply.Reply.TheVariants as reply
-use Rattle.errand_steps.specs.Calls.{Call, alloc, free, write, read, put, take}
+use Rattle.errand_steps.specs.Calls.{Call, alloc, free, write, put, take}
 use Rattle.step_core.specs.Keeping.{Leaves}
-use Rattle.trace_text.specs.declared.limits.TheConstants.{REGISTERS}
 use Rattle.trace_text.specs.declared.trace.Op.{Op}
 use Rattle.trace_text.specs.declared.trace.Op.TheVariants as op
 use Rattle.live_heap.specs.Made.{LeadsBy, Made, Sums, answered, found_from, wrote}
@@ -255,7 +254,7 @@ module _ {B S : Type 0} (place_of : B → ℕ) (need_of_block : B → Need) (own
       makes-of place_of need_of_block owns called s t old new (op.Free r) outcome.Freed (slice_set old.registers.items r None) done (
         made,
         subst (λ h. MadeFor h (op.Free r) outcome.Freed made) (sym (slot-full place_of need_of_block old.registers.items r block full))
-            (need_of_block block, refl, refl),
+            (refl, refl),
         (t, one, refl),
       )
       (set-held place_of need_of_block old.registers.items r None)
@@ -272,7 +271,7 @@ module _ {B S : Type 0} (place_of : B → ℕ) (need_of_block : B → Need) (own
       makes-of place_of need_of_block owns called s t old new (op.Put r shelf) outcome.Put (slice_set old.registers.items r None) done (
         made,
         subst (λ h. MadeFor h (op.Put r shelf) outcome.Put made) (sym (slot-full place_of need_of_block old.registers.items r block full))
-            (need_of_block block, refl, refl),
+            (refl, refl),
         (t, one, refl),
       )
       (set-held place_of need_of_block old.registers.items r None)
@@ -310,13 +309,13 @@ module _ {B S : Type 0} (place_of : B → ℕ) (need_of_block : B → Need) (own
       let mine : owns t (place_of back) (need_of_block back) =
       subst (λ p. owns t p (need_of_block back)) (sym same_place) (subst (λ n. owns t (place_of block) n) (sym same_need) owned) in
       let held_same : held_by place_of need_of_block back ≡ held_by place_of need_of_block block =
-      ap (λ p. record { place = p; words = usable_words (need_of_block back) }) same_place
-      ∙ ap (λ n. record { place = place_of block; words = usable_words n }) same_need in
+      ap (λ p. record { place = p; words = usable_words (need_of_block back); need = need_of_block back }) same_place
+      ∙ ap (λ n. record { place = place_of block; words = usable_words n; need = n }) same_need in
       makes-of place_of need_of_block owns called s t old new (op.Put r shelf) outcome.ShelfFull
       (slice_set (slice_set blocks r None) r (Some back)) done (
         made,
         subst (λ h. MadeFor h (op.Put r shelf) outcome.ShelfFull made) (sym (slot-full place_of need_of_block blocks r block full))
-            (need_of_block block, refl, (found, refl)),
+            (refl, (found, refl)),
         (t, one, refl),
       )
       (ap (held_blocks place_of need_of_block) (set-twice blocks r None (Some back)) ∙ set-same blocks r block back full held_same)
@@ -335,7 +334,7 @@ module _ {B S : Type 0} (place_of : B → ℕ) (need_of_block : B → Need) (own
       makes-of place_of need_of_block owns called s t old new (op.Fill r v) outcome.Filled old.registers.items done (
         made,
         subst (λ h. MadeFor h (op.Fill r v) outcome.Filled made) (sym (slot-full place_of need_of_block old.registers.items r block full))
-            (need_of_block block, refl, refl),
+            (refl, refl),
         leads,
       ) refl
       (holds-still place_of need_of_block (owns s) (owns t) old.registers.items holds
@@ -350,7 +349,7 @@ module _ {B S : Type 0} (place_of : B → ℕ) (need_of_block : B → Need) (own
       makes-of place_of need_of_block owns called s t old new (op.Check r) (outcome.Sum total) old.registers.items done (
         made,
         subst (λ h. MadeFor h (op.Check r) (outcome.Sum total) made) (sym (slot-full place_of need_of_block old.registers.items r block full))
-            (need_of_block block, refl, (words, all, total_is, refl)),
+            (refl, (words, all, total_is, refl)),
         leads,
       ) refl
       (holds-still place_of need_of_block (owns s) (owns t) old.registers.items holds
@@ -414,7 +413,9 @@ module _ {B S : Type 0} (place_of : B → ℕ) (need_of_block : B → Need) (own
             (sym (slot-empty place_of need_of_block old.registers.items r empty)) so,
         (m, one, leads),
       )
-      (set-held place_of need_of_block old.registers.items r (Some block))
+      (set-held place_of need_of_block old.registers.items r (Some block)
+      ∙ ap (λ (k : Need). slice_set (held_blocks place_of need_of_block old.registers.items) r (Some (record { place = place_of block; words = usable_words n; need = k })))
+      serves)
       (holds-filled place_of need_of_block (owns s) (owns t) old.registers.items r block holds
       (λ q k owned. later q k (keeps s m (alloc need) (reply.Given (place_of block) n) q k one tt owned)) (later (place_of block) n mine)
       (λ q other differ there. apart (place_of other) (need_of_block other) (holds.owned q other there)))
@@ -435,24 +436,26 @@ module _ {B S : Type 0} (place_of : B → ℕ) (need_of_block : B → Need) (own
       (λ place need. leads-keep called owns keeps s t made place need leads (leave-takes place shelf misses reply.Empty are)))
 
   pub made-got :
-      (r shelf words place : ℕ) (block : B) → slice_index_or old.registers.items r None ≡ None
-      → Done (slice_set old.registers.items r (Some block)) (outcome.Took words place) → words ≡ usable_words (need_of_block block) → place ≡ place_of block
+      (r shelf words place : ℕ) (need : Need) (block : B) → slice_index_or old.registers.items r None ≡ None
+      → Done (slice_set old.registers.items r (Some block)) (outcome.Took words place need) → words ≡ usable_words (need_of_block block)
+      → place ≡ place_of block → need ≡ need_of_block block
       → Takes place_of need_of_block called s shelf (Some block) t → owns t (place_of block) (need_of_block block)
       → ((other : ℕ) (had : Need) → owns s other had → other ≢ place_of block)
       → Makes place_of need_of_block owns called (op.Take r shelf) s t old new
-  made-got r shelf words place block empty done words_are place_is (misses, are, leads) mine apart =
+  made-got r shelf words place need block empty done words_are place_is need_is (misses, are, leads) mine apart =
       let held : Held = held_by place_of need_of_block block in
       let n = need_of_block block in
-      let done_so : Done (slice_set old.registers.items r (Some block)) (outcome.Took held.words held.place) =
-      subst (λ w. Done (slice_set old.registers.items r (Some block)) (outcome.Took w held.place)) words_are
-      (subst (λ p. Done (slice_set old.registers.items r (Some block)) (outcome.Took words p)) place_is done) in
+      let done_so : Done (slice_set old.registers.items r (Some block)) (outcome.Took held.words held.place n) =
+      subst (λ w. Done (slice_set old.registers.items r (Some block)) (outcome.Took w held.place n)) words_are
+      (subst (λ p. Done (slice_set old.registers.items r (Some block)) (outcome.Took words p n)) place_is
+      (subst (λ k. Done (slice_set old.registers.items r (Some block)) (outcome.Took words place k)) need_is done)) in
       let answer : Reply = reply.Got (place_of block) n in
       let made : List Made = misses ++ answered (take shelf) answer ∷ [] in
-      makes-of place_of need_of_block owns called s t old new (op.Take r shelf) (outcome.Took held.words held.place)
+      makes-of place_of need_of_block owns called s t old new (op.Take r shelf) (outcome.Took held.words held.place n)
       (slice_set old.registers.items r (Some block)) done_so (
         made,
-        subst (λ h. MadeFor h (op.Take r shelf) (outcome.Took held.words held.place) made)
-            (sym (slot-empty place_of need_of_block old.registers.items r empty)) (misses, are, n, refl, refl),
+        subst (λ h. MadeFor h (op.Take r shelf) (outcome.Took held.words held.place n) made)
+            (sym (slot-empty place_of need_of_block old.registers.items r empty)) (misses, are, refl, refl),
         leads,
       )
       (set-held place_of need_of_block old.registers.items r (Some block))

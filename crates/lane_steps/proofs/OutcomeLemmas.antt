@@ -112,8 +112,10 @@ take-next (suc n) (first ∷ operations) operation rest next = ap (λ ops. first
 
 -- no operation makes or takes a register
 registers-size : (registers : List (Option Held)) (operation : Op) (result : Outcome) → length (registers_after registers operation result) ≡ length registers
-registers-size registers (op.Alloc r need v) (outcome.Given words place) = length-set registers r (Some (record { place = place; words = words }))
-registers-size registers (op.Take r shelf) (outcome.Took words place) = length-set registers r (Some (record { place = place; words = words }))
+registers-size registers (op.Alloc r need v) (outcome.Given words place) =
+    length-set registers r (Some (record { place = place; words = words; need = need_of need }))
+registers-size registers (op.Take r shelf) (outcome.Took words place need) =
+    length-set registers r (Some (record { place = place; words = words; need = need }))
 registers-size registers (op.Free r) outcome.Freed = length-set registers r None
 registers-size registers (op.Put r shelf) outcome.Put = length-set registers r None
 registers-size registers operation result = refl
@@ -197,7 +199,7 @@ pub given-holds :
     (g : Geometry) (setting : Setting) (operations : List Op) (results : List Outcome) (position : Position) (r need place words : ℕ) (calls : List Event)
     → IsLegal g setting.history → Walks setting start operations results position → own setting.caller setting.history ≡ position.done ++ calls
     → IsGiving setting.caller need place (need_of need) calls → words ≡ usable_words (need_of need)
-    → HoldsOwn (pool_of setting.history) setting.caller (slice_set position.registers r (Some (record { place = place; words = words })))
+    → HoldsOwn (pool_of setting.history) setting.caller (slice_set position.registers r (Some (record { place = place; words = words; need = need_of need })))
 given-holds g setting operations results position r need place words calls legal walks own_is giving words_are =
     let history = setting.history in
     let caller = setting.caller in
@@ -212,7 +214,7 @@ given-holds g setting operations results position r need place words calls legal
     } in
     let at_begin = walk-after f g setting start position operations results 0 0 weaker walks at_start in
     let at_looked = at-stills f g history caller position.done by.looked position.registers _ _ weaker by.stills at_begin in
-    let set : List (Option Held) = slice_set position.registers r (Some (record { place = place; words = words })) in
+    let set : List (Option Held) = slice_set position.registers r (Some (record { place = place; words = words; need = need_of need })) in
     let at_given = at-step f g history caller (position.done ++ by.looked) (Alloc caller need place) position.registers set _ _ _ _ weaker refl
     (λ before legal_here begins own_here holds. record {
       holds = holds-fresh g before caller need place words r position.registers legal_here words_are holds;

@@ -1,10 +1,9 @@
 -- A lane's script through each change of the lane.
-use Rattle.std.proofs.Common.{ℕ, zero, suc, ◌≡◌, ◌<◌, ◌≤◌, ◌+◌, ◌%◌, ◌^◌, ◌∷◌, ◌++◌, List, [], Option, Some, None, length, map, take, drop, replicate, refl, sym, ap, ◌∙◌, subst, inl, inr, arith, append_assoc, append-nil}
+use Rattle.std.proofs.Common.{ℕ, zero, suc, ◌≡◌, ◌<◌, ◌≤◌, ◌+◌, ◌%◌, ◌^◌, ◌∷◌, ◌++◌, List, [], Option, Some, None, length, map, take, drop, replicate, refl, sym, ap, ◌∙◌, subst, arith, append_assoc, append-nil}
 use Rattle.std.specs.List.{range_with_len}
-use Rattle.std.proofs.lemmas.Bool.{cases_lt}
 use Rattle.std.proofs.lemmas.List.{replicate-append-replicate, length-append}
 use Rattle.std.proofs.lemmas.List.FromFn.{map-range_with_len_more}
-use Rattle.std.proofs.Math.Pow.{pow-lt, pow_mono}
+use Rattle.std.proofs.Math.Pow.{pow_mono}
 use Rattle.heap_geometry.specs.declared.geometry.Geometry.{Geometry}
 use Rattle.heap_geometry.specs.declared.need.Need.{Need}
 use Rattle.heap_geometry.specs.declared.need.Need.TheVariants.{Small, Large, TooLarge}
@@ -201,24 +200,12 @@ pub script-stays :
 script-stays operations results registers at calls script =
     subst (IsOnScript operations registers results at) (sym (append-nil calls)) script
 
--- two needs of blocks with the same words are one
+-- how many words a block has
 small-words : (class : ℕ) → class < 10 → (1 ≤ usable_words (Small class)) × (usable_words (Small class) ≤ 1023)
 small-words class few =
     let low : 2 ^ 1 ≤ 2 ^ (class + 1) = let p : 1 ≤ class + 1 = omega arith in pow_mono p in
     let high : 2 ^ (class + 1) ≤ 2 ^ 10 = let p : class + 1 ≤ 10 = omega arith in pow_mono p in
     (omega arith, omega arith)
-
-small-one : (a b : ℕ) → usable_words (Small a) ≡ usable_words (Small b) → a ≡ b
-small-one a b same =
-    elim (cases_lt a b) [
-      | inl below ↦ let rises : 2 ^ (a + 1) < 2 ^ (b + 1) = let p : a + 1 < b + 1 = omega arith in pow-lt p in
-          let some : 2 ^ 1 ≤ 2 ^ (a + 1) = let p : 1 ≤ a + 1 = omega arith in pow_mono p in absurd (omega arith)
-      | inr above ↦ elim (cases_lt b a) [
-        | inl below ↦ let rises : 2 ^ (b + 1) < 2 ^ (a + 1) = let p : b + 1 < a + 1 = omega arith in pow-lt p in
-            let some : 2 ^ 1 ≤ 2 ^ (b + 1) = let p : 1 ≤ b + 1 = omega arith in pow_mono p in absurd (omega arith)
-        | inr other ↦ omega arith
-      ]
-    ]
 
 -- a block of a heap has a word
 pub need-some : (g : Geometry) (place : ℕ) (need : Need) → IsHeapBlock g place need → 0 < usable_words need
@@ -226,19 +213,8 @@ need-some g place (Small class) block = let w = small-words class block.0 in ome
 need-some g place (Large units) block = omega (arith, block.0.0)
 need-some g place TooLarge block = absurd block.1
 
-need-one : (a b : Need) → IsNeed a → IsNeed b → usable_words a ≡ usable_words b → a ≡ b
-need-one (Small a) (Small b) first second same = ap Small (small-one a b same)
-need-one (Small a) (Large n) first second same = let w = small-words a first in absurd (omega arith)
-need-one (Small a) TooLarge first second same = let w = small-words a first in absurd (omega arith)
-need-one (Large m) (Small b) first second same = let w = small-words b second in absurd (omega arith)
-need-one (Large m) (Large n) first second same = ap Large (omega arith)
-need-one (Large m) TooLarge first second same = absurd (omega arith)
-need-one TooLarge (Small b) first second same = let w = small-words b second in absurd (omega arith)
-need-one TooLarge (Large n) first second same = absurd (omega arith)
-need-one TooLarge TooLarge first second same = refl
-
 pub serves-one : (held : Held) (a b : Need) → Serves held a → Serves held b → a ≡ b
-serves-one held a b first second = need-one a b first.0 second.0 (sym first.1 ∙ second.1)
+serves-one held a b first second = sym first.2 ∙ second.2
 
 need-words : (need : Need) → IsNeed need → usable_words need ≤ 131071
 need-words (Small class) is = let w = small-words class is in omega arith
@@ -277,14 +253,15 @@ on-held :
     (before : List (Option Held)) (r : ℕ) (held : Held) (need : Need) (calls_on : Held → Need → List Call) (calls : List Call)
     → held_in before r ≡ Some held → Serves held need → calls ≡ calls_on held need → OnHeld (held_in before r) calls_on calls
 on-held before r held need calls_on calls full serves is =
-    subst (λ h. OnHeld h calls_on calls) (sym full) (need, serves, is)
+    subst (λ h. OnHeld h calls_on calls) (sym full)
+    (subst (λ (n : Need). Serves held n × (calls ≡ calls_on held n)) (sym serves.2) (serves, is))
 
 held-on :
     (before : List (Option Held)) (r : ℕ) (held : Held) (need : Need) (calls_on : Held → Need → List Call) (calls : List Call)
     → held_in before r ≡ Some held → Serves held need → OnHeld (held_in before r) calls_on calls → calls ≡ calls_on held need
 held-on before r held need calls_on calls full serves on =
     let found : OnHeld (Some held) calls_on calls = subst (λ h. OnHeld h calls_on calls) full on in
-    found.2 ∙ ap (calls_on held) (serves-one held found.0 need found.1 serves)
+    found.1 ∙ ap (calls_on held) serves.2
 
 -- an operation that is skipped begins nothing
 skipped-calls : (before : List (Option Held)) (operation : Op) (calls : List Call) → calls ≡ [] → CallsOf before operation outcome.Skipped calls
@@ -509,10 +486,10 @@ module _ (operations : List Op) (results : List Outcome) (before registers after
       (λ present so. (suc so.0, ap (λ xs. xs ++ take_call shelf ∷ []) so.1 ∙ again-one shelf so.0)) script
 
   pub take-got :
-      (words place : ℕ) → IsOnScript operations registers results stage.Calling calls
-      → IsOnScript operations after (results ++ outcome.Took words place ∷ []) stage.Between (calls ++ [])
-  take-got words place script =
-      script-ends operations results (op.Take r shelf) (outcome.Took words place) before registers after stage.Calling calls [] here
+      (words place : ℕ) (need : Need) → IsOnScript operations registers results stage.Calling calls
+      → IsOnScript operations after (results ++ outcome.Took words place need ∷ []) stage.Between (calls ++ [])
+  take-got words place need script =
+      script-ends operations results (op.Take r shelf) (outcome.Took words place need) before registers after stage.Calling calls [] here
       (λ present so. (so.0, append-nil present ∙ so.1)) script
 
   pub take-finds_none :

@@ -207,7 +207,7 @@ take-answered setting position r shelf (Some held) outcome.Skipped piece row so_
     piece-none setting.caller position.done piece position.answered so_far (ap (answered_in setting.caller) row)
 take-answered setting position r shelf None outcome.ShelfEmpty piece row so_far =
     piece-none setting.caller position.done piece position.answered so_far (ap (answered_in setting.caller) row)
-take-answered setting position r shelf None (outcome.Took words place) piece row so_far =
+take-answered setting position r shelf None (outcome.Took words place need) piece row so_far =
     piece-none setting.caller position.done piece position.answered so_far (ap (answered_in setting.caller) row.0)
 take-answered setting position r shelf held result piece row so_far = absurd row
 

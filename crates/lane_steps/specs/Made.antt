@@ -1,5 +1,5 @@
 -- The whole calls that a lane has made: those of its operations with their outcomes, in the script's order, each with its answer.
-use Rattle.std.specs.Prelude.{ℕ, ◌≡◌, ◌≢◌, ◌≤◌, ◌+◌, ◌%◌, ◌^◌, ◌∷◌, ◌++◌, List, [], Option, Some, None, map, sum, length, drop, vec_capacity}
+use Rattle.std.specs.Prelude.{ℕ, ◌≡◌, ◌≢◌, ◌%◌, ◌^◌, ◌∷◌, ◌++◌, List, [], Option, Some, None, map, sum, length, drop, vec_capacity}
 use Rattle.std.specs.List.{slice_index_or}
 use Rattle.heap_geometry.specs.declared.need.Need.{Need}
 use Rattle.heap_geometry.specs.Need.{need_of, usable_words}
@@ -29,10 +29,10 @@ AreMisses shelf [] = Unit {0}
 AreMisses shelf (made ∷ rest) =
     (expected : ℕ) × (found : ℕ) × (made ≡ answered (take shelf) (reply.Missed expected found)) × AreMisses shelf rest
 
--- calls on the block of a full register, by what it serves
+-- calls on the block of a full register, with the need that it was given or taken with
 abbrev pub OnBlock : Option Held → (Held → Need → Type 0) → Type 0
 OnBlock None P = ⊥
-OnBlock (Some held) P = (need : Need) × (held.words ≡ usable_words need) × P held need
+OnBlock (Some held) P = (held.words ≡ usable_words held.need) × P held held.need
 
 -- an operation on a register of this kind is skipped: an allocation and a take where it is full, any other where it is empty
 abbrev pub Skips : Option Held → Op → Type 0
@@ -68,8 +68,8 @@ MadeFor held (op.Check r) (outcome.Sum total) made =
 MadeFor held (op.Put r shelf) outcome.Put made = OnBlock held (λ held need. made ≡ answered (put held.place need shelf) reply.Put ∷ [])
 MadeFor held (op.Put r shelf) outcome.ShelfFull made =
     OnBlock held (λ held need. (found : ℕ) × (made ≡ answered (put held.place need shelf) (reply.Full found) ∷ []))
-MadeFor None (op.Take r shelf) (outcome.Took words place) made =
-    (misses : List Made) × AreMisses shelf misses × (need : Need) × (words ≡ usable_words need)
+MadeFor None (op.Take r shelf) (outcome.Took words place need) made =
+    (misses : List Made) × AreMisses shelf misses × (words ≡ usable_words need)
     × (made ≡ misses ++ answered (take shelf) (reply.Got place need) ∷ [])
 MadeFor None (op.Take r shelf) outcome.ShelfEmpty made =
     (misses : List Made) × AreMisses shelf misses × (made ≡ misses ++ answered (take shelf) reply.Empty ∷ [])

@@ -17,9 +17,9 @@ use Rattle.lane_outcomes.specs.Rows.{IsWord, MayAsk}
 use Rattle.lane_steps.specs.declared.stage.Stage.{Stage}
 use Rattle.lane_steps.specs.declared.stage.Stage.TheVariants as stage
 
--- a block in a register serves this need: there are such blocks, and they have as many words
+-- a block in a register is one of this need: there are such blocks, and it has as many words
 abbrev pub Serves : Held → Need → Type 0
-Serves held need = IsNeed need × (held.words ≡ usable_words need)
+Serves held need = IsNeed need × (held.words ≡ usable_words need) × (held.need ≡ need)
 
 -- the write of word `next` of the block is under way, which is filled from v on
 pub record IsWriting (caller : ℕ) (point : Point) (held : Held) (next v : ℕ) : Type 0 where

@@ -15,9 +15,9 @@ use Rattle.lane_steps.specs.declared.stage.Stage.{Stage}
 use Rattle.lane_steps.specs.Begun.{calls_of}
 use Rattle.lane_steps.specs.Scripts.{IsOnScript, script_left, stage_begun}
 
--- a block in hand as a register's: its place, and its usable words
+-- a block in hand as a register's: its place, its usable words and its need
 abbrev pub held_by : {B : Type 0} → (B → ℕ) → (B → Need) → B → Held
-held_by place_of need_of block = record { place = place_of block; words = usable_words (need_of block) }
+held_by place_of need_of block = record { place = place_of block; words = usable_words (need_of block); need = need_of block }
 
 -- registers that hold blocks in hand
 abbrev pub held_blocks : {B : Type 0} → (B → ℕ) → (B → Need) → List (Option B) → List (Option Held)

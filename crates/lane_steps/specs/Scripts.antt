@@ -22,16 +22,16 @@ writes_of held need v = map (λ i. write held.place need i ((v + i) % 2 ^ 64)) (
 abbrev pub reads_of : Held → Need → List Call
 reads_of held need = map (λ i. read held.place need i) (range_with_len 0 held.words)
 
--- the calls on the block of a full register, by what it serves
+-- the calls on the block of a full register, with the need that it was given or taken with
 abbrev pub OnHeld : Option Held → (Held → Need → List Call) → List Call → Type 0
 OnHeld None calls_on calls = ⊥
-OnHeld (Some held) calls_on calls = (need : Need) × Serves held need × (calls ≡ calls_on held need)
+OnHeld (Some held) calls_on calls = Serves held held.need × (calls ≡ calls_on held held.need)
 
 -- the calls of an operation with its outcome, where the registers held these blocks before it: one that is skipped has none, and a take that missed the shelf's block is tried again
 abbrev pub CallsOf : List (Option Held) → Op → Outcome → List Call → Type 0
 CallsOf registers operation outcome.Skipped calls = calls ≡ []
 CallsOf registers (op.Alloc r need v) (outcome.Given words place) calls =
-    calls ≡ alloc need ∷ writes_of (record { place = place; words = words }) (need_of need) v
+    calls ≡ alloc need ∷ writes_of (record { place = place; words = words; need = need_of need }) (need_of need) v
 CallsOf registers (op.Alloc r need v) result calls = calls ≡ alloc need ∷ []
 CallsOf registers (op.Free r) result calls = OnHeld (held_in registers r) (λ held need. free held.place need ∷ []) calls
 CallsOf registers (op.Fill r v) result calls = OnHeld (held_in registers r) (λ held need. writes_of held need v) calls

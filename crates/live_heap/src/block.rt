@@ -23,6 +23,13 @@ impl Block {
         usable(self.need)
     }
 
+    /// What it serves: its size class, or its units.
+    pub fn need(&self) -> Need
+        ensures { result ≡ self.now.need }
+    {
+        self.need
+    }
+
     /// The arena word of its prefix; its usable words follow.
     pub fn place(&self) -> u32
         ensures { result ≡ self.now.place }

@@ -1,6 +1,7 @@
 -- Blocks that an operation gives and frees, and those in the registers before and after it.
 use Rattle.std.proofs.Common.{ℕ, get_or, ◌≡◌, ◌⊎◌, ◌+◌, ◌<◌, List, Option, Some, None, length, set, refl, sym, ap, subst, inl, inr, arith}
 use Rattle.std.proofs.lemmas.List.Sums.{sum_by-set}
+use Rattle.heap_geometry.specs.Need.{need_of}
 use Rattle.pool_model.specs.declared.event.Event.{Event}
 use Rattle.trace_text.specs.declared.limits.TheConstants.{REGISTERS}
 use Rattle.trace_text.specs.Traces.{IsOp}
@@ -35,7 +36,7 @@ alloc-balance :
     ≡ 0 + own_by f (registers_after position.registers (op.Alloc r need v) result)
 alloc-balance f setting position r need v (Some held) outcome.Skipped piece within full row = refl
 alloc-balance f setting position r need v None (outcome.Given words place) piece within full row =
-    set-balance f position.registers r None (Some (record { place = place; words = words })) within full
+    set-balance f position.registers r None (Some (record { place = place; words = words; need = need_of need })) within full
 alloc-balance f setting position r need v None outcome.Refused piece within full row = refl
 alloc-balance f setting position r need v None outcome.Spent piece within full row = refl
 alloc-balance f setting position r need v held result piece within full row = absurd row

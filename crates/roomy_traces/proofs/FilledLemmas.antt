@@ -59,13 +59,13 @@ given-filled :
     (g : Geometry) (setting : Setting) (position : Position) (filled : List (Option Filled)) (r need v words place : ℕ) (calls piece : List Event)
     → IsLegalWithoutCounts g setting.history → IsAlike position.registers filled → r < length position.registers
     → words ≡ usable_words (need_of need) → IsGivenBy setting.caller need place calls → piece ≡ calls ++ filling setting.caller place words v
-    → HoldsOnce (slice_set position.registers r (Some (record { place = place; words = words })))
+    → HoldsOnce (slice_set position.registers r (Some (record { place = place; words = words; need = need_of need })))
     → AreFilled setting.history setting.caller position.done position.registers filled
-    → AreFilled setting.history setting.caller (position.done ++ piece) (slice_set position.registers r (Some (record { place = place; words = words })))
+    → AreFilled setting.history setting.caller (position.done ++ piece) (slice_set position.registers r (Some (record { place = place; words = words; need = need_of need })))
     (slice_set filled r (Some (record { words = usable_words (need_of need); first = v })))
 given-filled g setting position filled r need v words place calls piece legal alike within words_are given piece_is once at q held now full there =
     let caller = setting.caller in
-    let new : Held = record { place = place; words = words } in
+    let new : Held = record { place = place; words = words; need = need_of need } in
     let fresh : Filled = record { words = usable_words (need_of need); first = v } in
     let here : held_in (slice_set position.registers r (Some new)) r ≡ Some new = get_or-set_same position.registers r (Some new) None within in
     elim (cases_eq q r) [

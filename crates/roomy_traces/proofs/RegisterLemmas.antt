@@ -103,7 +103,7 @@ alloc-serial setting position filled r need v (Some held) outcome.Skipped None p
 alloc-serial setting position filled r need v None (outcome.Given words place) None piece same alike answered row =
     record {
       alike =
-          alike-set position.registers filled r (Some (record { place = place; words = words }))
+          alike-set position.registers filled r (Some (record { place = place; words = words; need = need_of need }))
           (Some (record { words = usable_words (need_of need); first = v })) (ap Some row.1) alike;
       outcome_is = ap (λ n. outcome.Given n 0) row.1;
     }

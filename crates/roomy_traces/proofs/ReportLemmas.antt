@@ -28,7 +28,7 @@ use Rattle.roomy_traces.proofs.SerialLemmas.{lane-serial, outcomes-serial}
 -- places aren't printed
 fields-same : (result : Outcome) → outcome_fields (without_place result) ≡ outcome_fields result
 fields-same (outcome.Given words place) = refl
-fields-same (outcome.Took words place) = refl
+fields-same (outcome.Took words place need) = refl
 fields-same result = refl
 
 lines-same :

@@ -45,7 +45,7 @@ left_by f lanes = sum_by (λ operations. held_by f (serial_end no_blocks operati
 -- an outcome but for its place
 abbrev pub without_place : Outcome → Outcome
 without_place (outcome.Given words place) = outcome.Given words 0
-without_place (outcome.Took words place) = outcome.Took words 0
+without_place (outcome.Took words place need) = outcome.Took words 0 need
 without_place result = result
 
 -- the report of a trace, computed lane by lane

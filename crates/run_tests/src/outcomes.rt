@@ -2,6 +2,7 @@
 
 use heap_geometry::geometry::Geometry;
 use heap_geometry::limits::MAX_TURNS;
+use heap_geometry::need::Need;
 use lane_outcomes::live::live_count;
 use lane_outcomes::outcome::Outcome;
 use lane_outcomes::report::report;
@@ -56,6 +57,7 @@ fn a_block_that_was_taken_and_freed_is_not_live(rt: HostRuntime) -> Result<(), F
         Outcome::Took {
             words: 3,
             place: 2048,
+            need: Need::Small(1),
         },
         Outcome::Freed,
     ];
@@ -128,7 +130,11 @@ fn each_outcome(alloc: Global) -> Result<Vec<Outcome>, AllocError> {
         Outcome::Sum(24),
         Outcome::Put,
         Outcome::ShelfFull,
-        Outcome::Took { words: 3, place: 9 },
+        Outcome::Took {
+            words: 3,
+            place: 9,
+            need: Need::Small(1),
+        },
         Outcome::ShelfEmpty,
         Outcome::Skipped,
     ]

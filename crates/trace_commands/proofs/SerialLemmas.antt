@@ -4,6 +4,7 @@ use Rattle.std.specs.Prelude.{count_by, if◌then◌else◌}
 use Rattle.std.specs.List.{sum_by}
 use Rattle.std.proofs.lemmas.List.{map-append}
 use Rattle.std.proofs.lemmas.List.Sums.{sum_by-cons}
+use Rattle.heap_geometry.specs.declared.need.Need.{Need}
 use Rattle.lane_outcomes.specs.declared.outcome.Outcome.{Outcome}
 use Rattle.lane_outcomes.specs.declared.outcome.Outcome.TheVariants as outcome
 use Rattle.roomy_traces.specs.Serial.{without_place}
@@ -33,19 +34,19 @@ count-same p same results = sums-same (λ o. if p o then 1 else 0) (λ o. ap (λ
 -- what sees no place of a block that is given or taken is the same without places
 same-without-place :
     {T : Type 0} (f : Outcome → T) → ((words place : ℕ) → f (outcome.Given words 0) ≡ f (outcome.Given words place))
-    → ((words place : ℕ) → f (outcome.Took words 0) ≡ f (outcome.Took words place)) → (o : Outcome) → f (without_place o) ≡ f o
+    → ((words place : ℕ) (need : Need) → f (outcome.Took words 0 need) ≡ f (outcome.Took words place need)) → (o : Outcome) → f (without_place o) ≡ f o
 same-without-place f given took (outcome.Given words place) = given words place
-same-without-place f given took (outcome.Took words place) = took words place
+same-without-place f given took (outcome.Took words place need) = took words place need
 same-without-place f given took o = refl
 
 tallies-same : (results : List Outcome) → tally_of (map without_place results) ≡ tally_of results
 tallies-same results =
-    rw (count-same is_given (same-without-place is_given (λ words place. refl) (λ words place. refl)) results)
-    (rw (sums-same given_words (same-without-place given_words (λ words place. refl) (λ words place. refl)) results)
-    (rw (count-same is_refused (same-without-place is_refused (λ words place. refl) (λ words place. refl)) results)
-    (rw (count-same is_spent (same-without-place is_spent (λ words place. refl) (λ words place. refl)) results)
-    (rw (count-same is_freed (same-without-place is_freed (λ words place. refl) (λ words place. refl)) results)
-    (rw (count-same is_sum (same-without-place is_sum (λ words place. refl) (λ words place. refl)) results) refl)))))
+    rw (count-same is_given (same-without-place is_given (λ words place. refl) (λ words place need. refl)) results)
+    (rw (sums-same given_words (same-without-place given_words (λ words place. refl) (λ words place need. refl)) results)
+    (rw (count-same is_refused (same-without-place is_refused (λ words place. refl) (λ words place need. refl)) results)
+    (rw (count-same is_spent (same-without-place is_spent (λ words place. refl) (λ words place need. refl)) results)
+    (rw (count-same is_freed (same-without-place is_freed (λ words place. refl) (λ words place need. refl)) results)
+    (rw (count-same is_sum (same-without-place is_sum (λ words place. refl) (λ words place need. refl)) results) refl)))))
 
 all-same : (outcomes : List (List Outcome)) → all_of (map (map without_place) outcomes) ≡ map without_place (all_of outcomes)
 all-same [] = refl

@@ -220,8 +220,9 @@ impl<B: Token + Drop> LaneState<B> {
             Stepped::Got(block) => {
                 let words = block.words();
                 let place = block.place();
+                let need = block.need();
                 put_in(&mut self.registers, r, block);
-                self.finish(Outcome::Took { words, place });
+                self.finish(Outcome::Took { words, place, need });
             }
             Stepped::Empty => self.finish(Outcome::ShelfEmpty),
             Stepped::Missed => engine.begin_take(self.caller, shelf),

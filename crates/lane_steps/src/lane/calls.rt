@@ -196,8 +196,9 @@ impl<B: Token + Drop> LaneState<B> {
             Some(block) => {
                 let words = block.words();
                 let place = block.place();
+                let need = block.need();
                 put_in(&mut self.registers, r, block);
-                self.finish(Outcome::Took { words, place });
+                self.finish(Outcome::Took { words, place, need });
             }
             None => self.finish(Outcome::ShelfEmpty),
         }

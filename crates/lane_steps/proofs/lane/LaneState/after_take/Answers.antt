@@ -13,9 +13,9 @@ pub returns-in-Got : goal.returns-in-Got
 returns-in-Got g c = record {
   answered = goes-quiet _ _ _ _ _ _ _ _ _ _ c.args.engine.now c.args.self.now c.finish.new.self c.finish.ensures.caller
       (λ seen operations b.
-      part-take_got g.B.Token.place_of g.B.Token.need_of _ _ _ seen operations c.args.self.now _ c.finish.new.self c.args.r c.args.shelf c.words-words.result c.place-place.result c.in-Got.block
+      part-take_got g.B.Token.place_of g.B.Token.need_of _ _ _ seen operations c.args.self.now _ c.finish.new.self c.args.r c.args.shelf c.words-words.result c.place-place.result c.need-need.result c.in-Got.block
       (told-is g.B.Token.place_of g.B.Token.need_of _ _ _ _ _ _ _ _ (stepped.Got c.in-Got.block) c.in-Got.is b)
-      c.words-words.ensures c.place-place.ensures
+      c.words-words.ensures c.place-place.ensures c.need-need.ensures
       (record {
         caller = c.finish.ensures.caller;
         blocks_are = ap (λ rs. rs.items) c.finish.ensures.registers ∙ c.put_in.ensures;

@@ -1,16 +1,9 @@
-use Rattle.std.proofs.Common.{◌≡◌, ◌≢◌, ℕ, Some, None, refl, sym, ap, ◌∙◌, subst}
-use Rattle.std.specs.Prelude.{slice_set}
+use Rattle.std.proofs.Common.{None, sym, ap, ◌∙◌, subst}
 use Rattle.std.specs.List.{slice_index_or}
-use Rattle.heap_geometry.specs.declared.need.Need.{Need}
-use Rattle.heap_geometry.specs.Need.{usable_words}
-use Rattle.errand_steps.specs.Calls.{alloc, free, put, take}
-use Rattle.errand_steps.specs.declared.reply.Reply.TheVariants as reply
-use Rattle.trace_text.specs.declared.trace.Op.{Op}
 use Rattle.trace_text.specs.declared.trace.Op.TheVariants as op
-use Rattle.lane_outcomes.specs.declared.outcome.Outcome.TheVariants as outcome
 use Rattle.lane_steps.specs.Made.{Skips}
-use Rattle.lane_steps.proofs.LaneBegun.{emptied-empty, slot-none, slot-some}
-use Rattle.lane_steps.proofs.LaneParts.{slot-empty, slot-full}
+use Rattle.lane_steps.proofs.LaneBegun.{slot-none, slot-some}
+use Rattle.lane_steps.proofs.LaneParts.{slot-full}
 use Rattle.lane_steps.proofs.MadeLemmas.{made-empty, made-got, made-skip}
 use Rattle.lane_steps.proofs.lane.LaneState.make_take.Goals as goal
 
@@ -23,9 +16,9 @@ returns-in-Some-clause-made g c =
     let empty = slot-none c.is_full.result (slice_index_or c.args.self.now.registers.items c.args.r None) c.is_full.ensures c.if-is_full.false in
     let took = c.in-Some.ensures in
     made-got g.B.Token.place_of g.B.Token.need_of g.C.Calls.owns g.C.Calls.called g.met.C.Calls.keeps c.args.calls.now c.take_block.new.calls c.args.self.now
-    c.finish-in-Some.new.self c.requires.holds c.args.r c.args.shelf c.words-words.result c.place-place.result block empty
+    c.finish-in-Some.new.self c.requires.holds c.args.r c.args.shelf c.words-words.result c.place-place.result c.need-need.result block empty
     (record { blocks_are = ap (λ v. v.items) f.registers ∙ c.put_in.ensures; results = f.outcomes; same_caller = f.caller; at = f.stage; room = f.room })
-    c.words-words.ensures c.place-place.ensures took.made took.got.0 took.got.1
+    c.words-words.ensures c.place-place.ensures c.need-need.ensures took.made took.got.0 took.got.1
 
 pub returns-in-None-clause-made : goal.returns-in-None-clause-made
 returns-in-None-clause-made g c =
