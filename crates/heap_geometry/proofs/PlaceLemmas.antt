@@ -4,7 +4,7 @@ use Rattle.std.proofs.lemmas.Nat.{pow_pos, mul-le, div-mul-add}
 use Rattle.std.proofs.lemmas.Bool.{cases_order}
 use Rattle.heap_geometry.specs.declared.limits.TheConstants.{FRAME_WORDS}
 use Rattle.heap_geometry.specs.Need.{block_words_of, block_count_of}
-use Rattle.heap_geometry.specs.Place.{IsApart, IsBlockPlace, block_span, block_place, frame_of, index_of}
+use Rattle.heap_geometry.specs.Place.{IsApart, IsBlockPlace, block_span, block_place, frame_of, index_of, unit_place, unit_of}
 
 -- the frame's blocks fit into it
 pub block-within : (class index : ℕ) → index < block_count_of class → index * block_words_of class + block_words_of class ≤ FRAME_WORDS
@@ -31,6 +31,10 @@ pub block_place-split :
     (class place : ℕ) → IsBlockPlace class place → block_place (frame_of place) class (index_of class place) ≡ place
 block_place-split class place (frame, index, _, within, is) =
     rw (is, frame_of-block_place frame class index within, index_of-block_place frame class index within) refl
+
+-- a unit's place names the unit
+pub unit_of-unit_place : (frames unit : ℕ) → unit_of frames (unit_place frames unit) ≡ unit
+unit_of-unit_place frames unit = omega arith
 
 -- two blocks of a frame have no word in common
 pub frame-apart :

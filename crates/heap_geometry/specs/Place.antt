@@ -1,5 +1,5 @@
 -- Where blocks lie in the arena.
-use Rattle.std.specs.Prelude.{ℕ, ◌+◌, ◌*◌, ◌/◌, ◌%◌, ◌<◌, ◌≤◌, ◌≡◌, ◌⊎◌}
+use Rattle.std.specs.Prelude.{ℕ, ◌+◌, ◌-◌, ◌*◌, ◌/◌, ◌%◌, ◌<◌, ◌≤◌, ◌≡◌, ◌⊎◌}
 use Rattle.heap_geometry.specs.Need.{block_words_of, block_count_of}
 use Rattle.heap_geometry.specs.declared.limits.TheConstants.{FRAME_WORDS, UNIT_WORDS, MAX_FRAMES}
 
@@ -9,7 +9,11 @@ block_place frame class index = FRAME_WORDS * frame + index * block_words_of cla
 
 -- the first word of a unit behind so many frames
 abbrev pub unit_place : ℕ → ℕ → ℕ
-unit_place frames unit = UNIT_WORDS * (frames + unit)
+unit_place frames unit = FRAME_WORDS * frames + UNIT_WORDS * unit
+
+-- the unit behind so many frames in which a place lies
+abbrev pub unit_of : ℕ → ℕ → ℕ
+unit_of frames place = (place - FRAME_WORDS * frames) / UNIT_WORDS
 
 -- the frame in which a place lies
 abbrev pub frame_of : ℕ → ℕ

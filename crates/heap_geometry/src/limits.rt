@@ -9,6 +9,9 @@ pub const UNIT_WORDS: u32 = 2048;
 /// How many size classes there are. A class `c` has blocks of `2^(c+1)` words.
 pub const CLASSES: u8 = 10;
 
+/// The most blocks that fill a frame. They are of class 0, and have two words each.
+pub const MAX_COUNT: u32 = FRAME_WORDS / 2;
+
 /// The most usable words of a small block.
 pub const SMALL_MOST: u32 = 1023;
 

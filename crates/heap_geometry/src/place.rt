@@ -1,8 +1,8 @@
 //! Where blocks lie. A block's place is the arena word of its prefix word.
 
-ghost use Rattle.std.specs.Prelude.{◌≡◌, ◌<◌, ◌≤◌};
+ghost use Rattle.std.specs.Prelude.{ℕ, ◌≡◌, ◌<◌, ◌≤◌};
 ghost use Rattle.heap_geometry.specs.Need.{block_count_of};
-ghost use Rattle.heap_geometry.specs.Place.{block_place, frame_of, index_of, IsBlockPlace, unit_place};
+ghost use Rattle.heap_geometry.specs.Place.{block_place, frame_of, index_of, IsBlockPlace, unit_place, unit_of};
 ghost use Rattle.heap_geometry.specs.declared.limits.TheConstants.{CLASSES, MAX_FRAMES, MAX_UNITS};
 
 use crate::limits::{FRAME_WORDS, UNIT_WORDS};
@@ -40,5 +40,13 @@ pub fn place_of_unit(frames: u32, unit: u32) -> u32
     requires unit { unit ≤ MAX_UNITS }
     ensures { result ≡ unit_place frames unit }
 {
-    UNIT_WORDS * (frames + unit)
+    FRAME_WORDS * frames + UNIT_WORDS * unit
+}
+
+/// The unit in which a place lies, in an arena with so many frames.
+pub fn unit_of(frames: u32, place: u32) -> u32
+    ensures value { result ≡ unit_of frames place }
+    ensures back { (unit : ℕ) → place ≡ unit_place frames unit → result ≡ unit }
+{
+    place.saturating_sub(FRAME_WORDS.saturating_mul(frames)) / UNIT_WORDS
 }

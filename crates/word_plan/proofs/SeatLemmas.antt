@@ -6,7 +6,7 @@ use Rattle.std.proofs.Math.Nat.{div-mul-le_self}
 use Rattle.std.proofs.lemmas.Nat.{le-div, mul-le, pow_pos}
 use Rattle.heap_geometry.specs.declared.geometry.Geometry.{Geometry}
 use Rattle.std.proofs.Math.Pow.{pow_mono}
-use Rattle.heap_geometry.specs.declared.limits.TheConstants.{CLASSES, FRAME_WORDS}
+use Rattle.heap_geometry.specs.declared.limits.TheConstants.{CLASSES, FRAME_WORDS, MAX_COUNT}
 use Rattle.heap_geometry.specs.Need.{block_words_of, block_count_of}
 use Rattle.heap_geometry.specs.Place.{block_place}
 use Rattle.packed_words.specs.Anchor.{AnchorFields, anchor_of}
@@ -36,8 +36,8 @@ block_count_of-least class below =
     let most : 2 ^ (class + 1) ≤ 2 ^ CLASSES = pow_mono above in
     le-div 2 FRAME_WORDS (2 ^ (class + 1)) (pow_pos (class + 1)) (omega arith)
 
--- and each block has at least two words
-pub block_count_of-most : (class : ℕ) → 2 * block_count_of class ≤ FRAME_WORDS
+-- and at most as many as there are of two words each
+pub block_count_of-most : (class : ℕ) → block_count_of class ≤ MAX_COUNT
 block_count_of-most class =
     let above : 1 ≤ class + 1 = omega arith in
     let least : 2 ^ 1 ≤ 2 ^ (class + 1) = pow_mono above in

@@ -14,9 +14,9 @@ ghost use Rattle.heap_geometry.specs.declared.limits.TheConstants.{CLASSES, MAX_
 use crate::owner::Owner;
 use crate::plain::live_block::LiveBlock;
 use crate::plain::marks::{mark, mark_one};
-use heap_geometry::limits::{FRAME_WORDS, MAX_FRAMES, MAX_UNITS, UNIT_WORDS};
+use heap_geometry::limits::{FRAME_WORDS, MAX_FRAMES, MAX_UNITS};
 use heap_geometry::need::{Need, block_count};
-use heap_geometry::place::{place_of, split_place};
+use heap_geometry::place::{place_of, split_place, unit_of};
 use std::collections::BTreeMap;
 
 /// The stored blocks, by their places.
@@ -77,7 +77,7 @@ fn run_of(place: u32, need: Need, frames: u32) -> (usize, usize)
 {
     match need {
         Need::Large(units) => {
-            let first = (place / UNIT_WORDS).saturating_sub(frames);
+            let first = unit_of(frames, place);
             (first as usize, usize::from(units))
         }
         Need::Small(_) | Need::TooLarge => (0, 0),
