@@ -6,7 +6,9 @@ use Rattle.std.proofs.Math.Nat.{div-le_self}
 use Rattle.std.specs.Prelude.{bit_or, bit_xor}
 use Rattle.std.specs.List.{All}
 use Rattle.std.specs.Int.Bits.{or_add_and}
+use Rattle.heap_geometry.specs.declared.limits.TheConstants.{LARGE_MOST}
 use Rattle.rand_pcg.specs.Lcg.{Lcg}
+use Rattle.trace_text.specs.declared.limits.TheConstants.{REGISTERS}
 use Rattle.trace_text.specs.declared.trace.Op.{Op}
 use Rattle.trace_text.specs.declared.trace.Op.TheVariants.{Alloc, Free, Check, Put, Take}
 use Rattle.trace_text.specs.Traces.{IsOp, IsTrace}
@@ -47,7 +49,7 @@ two a b is also = All-cons IsOp a (b ∷ []) is (one b also)
 three : (a b c : Op) → IsOp a → IsOp b → IsOp c → All IsOp (a ∷ b ∷ c ∷ [])
 three a b c is also last = All-cons IsOp a (b ∷ c ∷ []) is (two b c also last)
 
-alloc : (r need v : ℕ) → r < 1024 → need ≤ 131071 → v < 2 ^ 64 → IsOp (Alloc r need v)
+alloc : (r need v : ℕ) → r < REGISTERS → need ≤ LARGE_MOST → v < 2 ^ 64 → IsOp (Alloc r need v)
 alloc r need v in_r in_need in_v = (in_r, in_need, in_v)
 
 scalability_round-good : IsGood scalability_round
@@ -60,18 +62,18 @@ unfolding scalability
 scalability-good zero g = none
 scalability-good (suc n) g = All-append IsOp _ _ (scalability-good n g) (scalability_round-good (scalability n g).1)
 
-batch_allocs-good : (n : ℕ) → n ≤ 1024 → IsGood (batch_allocs n)
+batch_allocs-good : (n : ℕ) → n ≤ REGISTERS → IsGood (batch_allocs n)
 unfolding batch_allocs
 batch_allocs-good zero few g = none
 batch_allocs-good (suc r) few g =
     let k = (batch_allocs r g).1 in
     All-append IsOp _ _ (batch_allocs-good r (omega arith) g) (one (Alloc r 7 (draw k).0) (alloc r 7 (draw k).0 (omega arith) (omega arith) (draw-below k)))
 
-batch_frees-good : (n : ℕ) → n ≤ 1024 → All IsOp (batch_frees n)
+batch_frees-good : (n : ℕ) → n ≤ REGISTERS → All IsOp (batch_frees n)
 unfolding batch_frees
 batch_frees-good zero few = none
 batch_frees-good (suc r) few =
-    let in_r : r < 1024 = omega arith in
+    let in_r : r < REGISTERS = omega arith in
     All-append IsOp _ _ (batch_frees-good r (omega arith)) (two (Check r) (Free r) in_r in_r)
 
 batch-good : (n : ℕ) → n ≤ 64 → IsGood (batch n)
@@ -88,7 +90,7 @@ unfolding threadtest
 threadtest-good n g =
     All-append IsOp _ _ (full_batches-good (n / 64) g) (batch-good (n % 64) (omega arith) (full_batches (n / 64) g).1)
 
-given_back-good : (r : ℕ) (was : Bool) → r < 1024 → All IsOp (given_back r was)
+given_back-good : (r : ℕ) (was : Bool) → r < REGISTERS → All IsOp (given_back r was)
 given_back-good r true in_r = two (Check r) (Free r) in_r in_r
 given_back-good r false in_r = none
 
@@ -108,11 +110,11 @@ larson_rounds-good zero g = none
 larson_rounds-good (suc n) g =
     All-append IsOp _ _ (larson_rounds-good n g) (larson_round-good (larson_rounds n g).0 (larson_rounds n g).1)
 
-freed-good : (r : ℕ) (was : Bool) → r < 1024 → All IsOp (cond was (Free r ∷ []) [])
+freed-good : (r : ℕ) (was : Bool) → r < REGISTERS → All IsOp (cond was (Free r ∷ []) [])
 freed-good r true in_r = one (Free r) in_r
 freed-good r false in_r = none
 
-frees-good : (n : ℕ) (ops : List Op) → n ≤ 1024 → All IsOp (frees_below n ops)
+frees-good : (n : ℕ) (ops : List Op) → n ≤ REGISTERS → All IsOp (frees_below n ops)
 unfolding frees_below
 frees-good zero ops few = none
 frees-good (suc r) ops few =
