@@ -1,11 +1,10 @@
 -- How each call begins.
-use Rattle.std.specs.Prelude.{ℕ, ◌-◌, ◌/◌, ◌≡◌, true, false, if◌then◌else◌}
+use Rattle.std.specs.Prelude.{ℕ, ◌≡◌, true, false, if◌then◌else◌}
 use Rattle.heap_geometry.specs.declared.geometry.Geometry.{Geometry}
-use Rattle.heap_geometry.specs.declared.limits.TheConstants.{UNIT_WORDS}
 use Rattle.heap_geometry.specs.declared.need.Need.{Need}
 use Rattle.heap_geometry.specs.declared.need.Need.TheVariants.{Small, Large, TooLarge}
 use Rattle.heap_geometry.specs.Need.{IsNeed, need_of}
-use Rattle.heap_geometry.specs.Place.{frame_of, index_of}
+use Rattle.heap_geometry.specs.Place.{frame_of, index_of, unit_of}
 use Rattle.pool_model.specs.WellFormed.{IsPlaceFor}
 use Rattle.word_plan.specs.Seats.{SeatFields}
 use Rattle.superblock_parts.specs.declared.point.BlockPoint.TheVariants.{LoadActive, LoadPrefix}
@@ -55,15 +54,11 @@ begins_with e TooLarge = begun.TooLarge
 abbrev pub alloc_answer : ErrandFields → ℕ → Begun
 alloc_answer e words = begins_with e (need_of words)
 
--- the unit that begins at a place
-abbrev pub unit_of : Geometry → ℕ → ℕ
-unit_of g place = place / UNIT_WORDS - g.frames
-
 -- where the free of a block begins
 abbrev pub free_point : ErrandFields → ℕ → Need → Point
 free_point e place (Small class) = point.Block (LoadPrefix (seat_of e class) (frame_of place) (index_of class place)) Free
 free_point e place (Large units) =
-    point.Large (LoadRunPrefix place (record { first = unit_of e.geometry place; units = units })) Nothing
+    point.Large (LoadRunPrefix place (record { first = unit_of e.geometry.frames place; units = units })) Nothing
 free_point e place TooLarge = e.point
 
 unfoldable pub free_begun : ErrandFields → ℕ → Need → ErrandFields

@@ -9,15 +9,14 @@ ghost use Rattle.superblock_parts.specs.declared.point.BlockPoint.TheVariants.{L
 ghost use Rattle.errand_steps.specs.declared.continuation.Continuation.{Continuation};
 ghost use Rattle.errand_steps.specs.declared.point.Point.{Point};
 ghost use Rattle.errand_steps.specs.Errands.{is_spent, one_more};
-ghost use Rattle.errand_steps.specs.Begins.{IsIdle, IsHeapBlock, alloc_begun, alloc_answer, free_point, free_begun, write_begun, read_begun, put_begun, take_begun, seat_of, unit_of};
+ghost use Rattle.errand_steps.specs.Begins.{IsIdle, IsHeapBlock, alloc_begun, alloc_answer, free_point, free_begun, write_begun, read_begun, put_begun, take_begun, seat_of};
 
 use crate::continuation::Continuation;
 use crate::errand::Errand;
 use crate::point::Point;
 use crate::reply::Begun;
-use heap_geometry::limits::UNIT_WORDS;
 use heap_geometry::need::{Need, class_of};
-use heap_geometry::place::split_place;
+use heap_geometry::place::{split_place, unit_of};
 use large_parts::point::LargePoint;
 use large_parts::run::Run;
 use large_parts::want::Want;
@@ -114,7 +113,7 @@ impl Errand {
                 };
             }
             Need::Large(units) => {
-                let first = place / UNIT_WORDS - self.seat.geometry().frames;
+                let first = unit_of(self.seat.geometry().frames, place);
                 self.point = last(LargePoint::LoadRunPrefix {
                     place,
                     run: Run::new(first as u8, units),
