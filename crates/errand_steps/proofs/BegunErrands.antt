@@ -1,5 +1,5 @@
 -- An errand that begins a call keeps its rule.
-use Rattle.std.proofs.Common.{ℕ, true, ◌≡◌, ◌<◌, ◌≤◌, ◌+◌, ◌-◌, ◌/◌, refl, arith, ap, sym, subst, ◌∙◌, ◌^◌}
+use Rattle.std.proofs.Common.{ℕ, true, ◌≡◌, ◌<◌, ◌≤◌, ◌+◌, refl, arith, ap, sym, subst, ◌∙◌, ◌^◌}
 use Rattle.std.specs.Prelude.{IfSome, Contains, None}
 use Rattle.std.proofs.lemmas.Bool.{cond_both}
 use Rattle.heap_geometry.specs.declared.geometry.Geometry.{Geometry}
@@ -8,8 +8,8 @@ use Rattle.heap_geometry.specs.declared.need.Need.{Need}
 use Rattle.heap_geometry.specs.declared.need.Need.TheVariants.{Small, Large, TooLarge}
 use Rattle.heap_geometry.specs.Geometry.{IsChecked}
 use Rattle.heap_geometry.specs.Need.{IsNeed, need_of, usable_words}
-use Rattle.heap_geometry.specs.Place.{unit_place}
-use Rattle.heap_geometry.proofs.PlaceLemmas.{block-within}
+use Rattle.heap_geometry.specs.Place.{unit_place, unit_of}
+use Rattle.heap_geometry.proofs.PlaceLemmas.{block-within, unit_of-unit_place}
 use Rattle.packed_words.specs.declared.shelf.ShelfWord.TheVariants as shelf
 use Rattle.packed_words.specs.Shelf.{IsShelfWord}
 use Rattle.word_plan.specs.Counts.{arena_words}
@@ -79,7 +79,7 @@ free-errand e place (Small class) (needs, (frame, index, has, within, is)) h idl
     })
     refl refl h.turns
 free-errand e place (Large units) (needs, (unit, within, is)) h idle =
-    let first : place / 2048 - e.geometry.frames ≡ unit = omega (arith, is) in
+    let first : unit_of e.geometry.frames place ≡ unit = ap (unit_of e.geometry.frames) is ∙ unit_of-unit_place e.geometry.frames unit in
     with-point e _ _ h idle
     (record {
       point = record {

@@ -1,6 +1,7 @@
 -- Cleared counts are at most the turns.
 use Rattle.std.proofs.Common.{ℕ, ◌<◌, ◌≤◌, ◌*◌, ◌^◌, arith, ap}
 use Rattle.heap_geometry.specs.declared.geometry.Geometry.{Geometry}
+use Rattle.packed_words.specs.declared.widths.TheConstants.{TAG_BITS}
 use Rattle.errand_steps.specs.Steps.{State}
 use Rattle.sound_state.specs.Lists.{Lists}
 use Rattle.sound_state.specs.Sound.{IsSoundWith, IsSoundWithoutCounts}
@@ -34,6 +35,6 @@ pub cleared-each : (g : Geometry) (s : State) (caller : ℕ) → IsSoundWithoutC
 cleared-each g s caller sound has =
     omega (arith, cleared-one g s caller has, cleared-together g s sound, turns-limited g s sound)
 
-pub cleared-far : (g : Geometry) (s : State) (caller : ℕ) → IsSoundWithoutCounts g s → caller < g.callers → (s.errand caller).cleared < 2 ^ 42
+pub cleared-far : (g : Geometry) (s : State) (caller : ℕ) → IsSoundWithoutCounts g s → caller < g.callers → (s.errand caller).cleared < 2 ^ TAG_BITS
 cleared-far g s caller sound has =
     omega (arith, cleared-one g s caller has, cleared-together g s sound, turns-most g s sound.parts.0 sound.checked sound.parts.1)

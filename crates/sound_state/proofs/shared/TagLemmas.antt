@@ -190,20 +190,20 @@ anchor-tags-below g s sound d has =
     let is : IsSoundWith g s l = sound.parts.1 in
     omega (arith, is.turned.anchor_tags d has, given-most g s l sound.legal is, turns-most g s l sound.checked is)
 
-pub frame-tag-below : (g : Geometry) (s : State) → IsSoundWithoutCounts g s → (head_of (s.word name.FrameHead)).tag + 1 < 2 ^ 42
+pub frame-tag-below : (g : Geometry) (s : State) → IsSoundWithoutCounts g s → (head_of (s.word name.FrameHead)).tag + 1 < 2 ^ TAG_BITS
 frame-tag-below g s sound =
     let l : Lists = sound.parts.0 in
     let is : IsSoundWith g s l = sound.parts.1 in
     omega (arith, is.turned.frame_tag, turns-most g s l sound.checked is)
 
-pub list-tags-below : (g : Geometry) (s : State) → IsSoundWithoutCounts g s → (class : ℕ) → class < CLASSES → (head_of (s.word (name.ListHead class))).tag + 1 < 2 ^ 44
+pub list-tags-below : (g : Geometry) (s : State) → IsSoundWithoutCounts g s → (class : ℕ) → class < CLASSES → (head_of (s.word (name.ListHead class))).tag + 1 < 4 * 2 ^ TAG_BITS
 list-tags-below g s sound class has =
     let l : Lists = sound.parts.0 in
     let is : IsSoundWith g s l = sound.parts.1 in
     omega (arith, is.turned.list_tags class has, is.turned.emptied, small-freed g s.history sound.legal, given-most g s l sound.legal is, turns-most g s l sound.checked is)
 
--- all turns together are far from the end of a tag
-pub turns-below : (g : Geometry) (s : State) → IsSoundWithoutCounts g s → callers_sum g turns_of s.errand + 1 < 2 ^ 42
+-- all turns together are far from the end of an anchor's tag
+pub turns-below : (g : Geometry) (s : State) → IsSoundWithoutCounts g s → callers_sum g turns_of s.errand + 1 < 2 ^ TAG_BITS
 turns-below g s sound = omega (arith, turns-most g s sound.parts.0 sound.checked sound.parts.1)
 
 -- an anchor is popped once for each small block that is given

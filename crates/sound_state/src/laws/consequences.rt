@@ -33,13 +33,13 @@ pub fn tags_stay_below()
     ensures anchors { (g : Geometry) (s : State) → IsSoundWithoutCounts g s
         → (d : ℕ) → d < descriptor_count g → (anchor_for s d).tag + 1 < 2 ^ TAG_BITS }
     ensures frames { (g : Geometry) (s : State) → IsSoundWithoutCounts g s
-        → (head_of (s.word name.FrameHead)).tag + 1 < 2 ^ 42 }
+        → (head_of (s.word name.FrameHead)).tag + 1 < 2 ^ TAG_BITS }
     ensures lists { (g : Geometry) (s : State) → IsSoundWithoutCounts g s
         → (class : ℕ) → class < CLASSES
-        → (head_of (s.word (name.ListHead class))).tag + 1 < 2 ^ 44 }
+        → (head_of (s.word (name.ListHead class))).tag + 1 < 4 * 2 ^ TAG_BITS }
     ensures pops { (g : Geometry) (s : State) → IsSoundWithoutCounts g s
         → (d : ℕ) → d < descriptor_count g → (anchor_for s d).tag ≤ count_by is_small_alloc s.history }
-    ensures turns { (g : Geometry) (s : State) → IsSoundWithoutCounts g s → callers_sum g turns_of s.errand + 1 < 2 ^ 42 }
+    ensures turns { (g : Geometry) (s : State) → IsSoundWithoutCounts g s → callers_sum g turns_of s.errand + 1 < 2 ^ TAG_BITS }
     ensures framings { (g : Geometry) (s : State) → IsSoundWithoutCounts g s
         → (head_of (s.word name.FrameHead)).tag + callers_sum g turn_unframed s.errand ≤ callers_sum g turns_of s.errand }
     ensures listings { (g : Geometry) (s : State) → IsSoundWithoutCounts g s
@@ -56,7 +56,7 @@ pub fn cleared_counts_stay_below()
     ensures each { (g : Geometry) (s : State) (caller : ℕ) → IsSoundWithoutCounts g s → caller < g.callers
         → (s.errand caller).cleared ≤ g.callers * g.turn_limit }
     ensures below { (g : Geometry) (s : State) (caller : ℕ) → IsSoundWithoutCounts g s → caller < g.callers
-        → (s.errand caller).cleared < 2 ^ 42 }
+        → (s.errand caller).cleared < 2 ^ TAG_BITS }
 {}
 
 /// Two live blocks have no word in common. A live small block is a block of a superblock and none of
