@@ -7,6 +7,7 @@ use Rattle.heap_geometry.specs.declared.need.Need.{Need}
 use Rattle.heap_geometry.specs.declared.need.Need.TheVariants.{Small, Large, TooLarge}
 use Rattle.heap_geometry.specs.Geometry.{IsChecked}
 use Rattle.heap_geometry.specs.Need.{need_of}
+use Rattle.packed_words.specs.declared.widths.TheConstants.{TAG_BITS}
 use Rattle.word_plan.specs.declared.action.Found.{Found as Find}
 use Rattle.word_plan.proofs.SeatLemmas.{block_count_of-most}
 use Rattle.pool_model.specs.declared.event.Event.{Event}
@@ -44,7 +45,7 @@ counted-none l c a b x y = rw (x, y) (record { most = omega arith; all = λ belo
 counted-lost : (l c : Bool) (a b : ℕ) → l ≡ true → c ≡ false → HasCounted a b (raised l a) (raised c b) 1
 counted-lost l c a b x y = rw (x, y) (record { most = omega arith; all = λ below. (omega (arith, below), omega (arith, below)) })
 
-counted-cleared : (l c : Bool) (a b : ℕ) → b < 2 ^ 42 → l ≡ false → c ≡ true → HasCounted a b (raised l a) (raised c b) 1
+counted-cleared : (l c : Bool) (a b : ℕ) → b < 2 ^ TAG_BITS → l ≡ false → c ≡ true → HasCounted a b (raised l a) (raised c b) 1
 counted-cleared l c a b few x y =
     rw (x, y) (record { most = omega arith; all = λ below. (below, omega (arith, few)) })
 
@@ -63,7 +64,7 @@ unfolding settle_of
 settled-lost e x l c = counted-lost (counts_lost e.point x) (counts_cleared e.point x) e.lost e.cleared l c
 
 settled-cleared :
-    (e : ErrandFields) (x : Find) → e.cleared < 2 ^ 42 → counts_lost e.point x ≡ false → counts_cleared e.point x ≡ true
+    (e : ErrandFields) (x : Find) → e.cleared < 2 ^ TAG_BITS → counts_lost e.point x ≡ false → counts_cleared e.point x ≡ true
     → Counts e (settle_of e x) 1
 unfolding settle_of
 settled-cleared e x few l c = counted-cleared (counts_lost e.point x) (counts_cleared e.point x) e.lost e.cleared few l c

@@ -4,6 +4,7 @@ use Rattle.std.proofs.lemmas.Bool.{cases_Bool}
 use Rattle.std.proofs.lemmas.List.{append-nil}
 use Rattle.atomic_table.specs.declared.shared.Seat.{Seat}
 use Rattle.heap_geometry.specs.declared.limits.TheConstants.{CALL_STEPS}
+use Rattle.packed_words.specs.declared.widths.TheConstants.{TAG_BITS}
 use Rattle.word_plan.specs.Actions.{is_won}
 use Rattle.word_plan.specs.declared.action.Found.{Found as Find}
 use Rattle.pool_model.specs.declared.event.Event.{Event}
@@ -50,7 +51,7 @@ IsShorter e x f =
 pub record IsSettled (e f : ErrandFields) (before after : List Event) (answer : Progress) : Type 0 where
   pub x : Find
   pub rule : IsErrand e
-  pub cleared : e.cleared < 2 ^ 42
+  pub cleared : e.cleared < 2 ^ TAG_BITS
   pub busy : IsBusy e
   pub word : x.value < 2 ^ 64
   pub won : x.won ≡ is_won (plan_of e) x.value
@@ -74,7 +75,7 @@ settled-of e f before after answer m =
     record {
       x = x;
       rule = subst IsErrand m.here own_errand.rule;
-      cleared = subst (λ (d : ErrandFields). d.cleared < 2 ^ 42) m.here (cleared-far e.geometry m.state e.caller counted m.has);
+      cleared = subst (λ (d : ErrandFields). d.cleared < 2 ^ TAG_BITS) m.here (cleared-far e.geometry m.state e.caller counted m.has);
       busy = subst IsBusy m.here m.step.busy;
       word = m.sound.parts.1.words (name_at m.state e.caller);
       won = subst (λ (d : ErrandFields). x.won ≡ is_won (plan_of d) x.value) m.here refl;
