@@ -1,5 +1,5 @@
 -- The live blocks of a class are the live indexes of its superblocks.
-use Rattle.std.proofs.Common.{ℕ, true, Some, ◌≡◌, ◌<◌, ◌+◌, refl, arith, ap, sym, subst, inl, inr, ◌∙◌}
+use Rattle.std.proofs.Common.{ℕ, true, Some, ◌≡◌, ◌<◌, ◌≤◌, ◌+◌, refl, arith, ap, sym, subst, inl, inr, ◌∙◌}
 use Rattle.std.specs.Prelude.{◌==◌, if◌then◌else◌, count_by, IsTrue}
 use Rattle.std.proofs.lemmas.Bool.{cases_eq, cases_Bool, cond-true, cond-false, eq-eqb, eqb-true, ne_eqb, and_parts, and_from}
 use Rattle.heap_geometry.specs.declared.geometry.Geometry.{Geometry}
@@ -62,13 +62,13 @@ class-of-need g s l d i b (Large units) rests has bound within at live is =
     let lies : IsPlaceFor g (Large units) b.place = subst (λ (k : Need). IsPlaceFor g k b.place) is formed.place in
     let frame : frame_of b.place ≡ (info_for s d).frame =
     ap frame_of at ∙ frame_of-block_place (info_for s d).frame (info_for s d).class i within in
-    let apart : frame_of (unit_place g.frames lies.0) ≡ g.frames + lies.0 = omega arith in
+    let apart : g.frames ≤ frame_of (unit_place g.frames lies.0) = omega arith in
     let below = info-frame g s l d rests.parts has in
     let there : frame_of b.place ≡ frame_of (unit_place g.frames lies.0) = ap frame_of lies.2 in
-    absurd (far (frame_of b.place) (info_for s d).frame (frame_of (unit_place g.frames lies.0)) g.frames lies.0 frame there apart below)
+    absurd (far (frame_of b.place) (info_for s d).frame (frame_of (unit_place g.frames lies.0)) g.frames frame there apart below)
   where
-    far : (a f p frames unit : ℕ) → a ≡ f → a ≡ p → p ≡ frames + unit → f < frames → ⊥
-    far a f p frames unit first second third below = omega (arith, first, second, third, below)
+    far : (a f p frames : ℕ) → a ≡ f → a ≡ p → frames ≤ p → f < frames → ⊥
+    far a f p frames first second third below = omega (arith, first, second, third, below)
 class-of-need g s l d i b TooLarge rests has bound within at live is =
     let formed : IsWellFormed g b = formed-at g s b.place b rests.sound live in
     absurd (subst (λ (k : Need). IsPlaceFor g k b.place) is formed.place)

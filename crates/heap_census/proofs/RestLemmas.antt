@@ -2,7 +2,7 @@
 use Rattle.std.proofs.Common.{ℕ, Option, Some, None, ◌≡◌, ◌<◌, ◌≤◌, ◌+◌, arith, ap}
 use Rattle.std.specs.Prelude.{IsSome, ◌==◌, ◌&&◌, not}
 use Rattle.heap_geometry.specs.declared.geometry.Geometry.{Geometry}
-use Rattle.heap_geometry.specs.declared.limits.TheConstants.{CLASSES}
+use Rattle.heap_geometry.specs.declared.limits.TheConstants.{CLASSES, MAX_COUNT}
 use Rattle.heap_geometry.specs.Geometry.{IsChecked}
 use Rattle.packed_words.specs.Info.{InfoFields, IsInfo, info_of, info_word}
 use Rattle.packed_words.specs.Fields.{Reads}
@@ -16,7 +16,7 @@ use Rattle.packed_words.proofs.AnchorLemmas.{IsAnchor-anchor_of}
 use Rattle.word_plan.specs.declared.name.WordName.TheVariants as name
 use Rattle.word_plan.specs.Counts.{descriptor_count}
 use Rattle.word_plan.specs.Occurs.{occurs}
-use Rattle.word_plan.specs.declared.limits.TheConstants.{MAX_DESCRIPTORS}
+use Rattle.word_plan.specs.declared.limits.TheConstants.{MAX_DESCRIPTORS, MOST_CREDITS}
 use Rattle.word_plan.specs.Seats.{info_within}
 use Rattle.word_plan.proofs.CountLemmas.{descriptor_count_within}
 use Rattle.stack_parts.specs.declared.point.Pile.TheVariants.{Frames, Partials}
@@ -92,16 +92,16 @@ active-there c heap class d credits resting has_heap has_class is =
     let (l, rests) = closed-rests c resting in
     (rests.parts.kept.active heap class d credits has_heap has_class is).0
 
--- an anchor counts less than 1,024 blocks, and an active word offers at most 64
-pub count-most : (s : State) (d : ℕ) → (anchor_for s d).count ≤ 1024
+-- an anchor counts at most the blocks that a frame can have, and an active word offers at most `MOST_CREDITS`
+pub count-most : (s : State) (d : ℕ) → (anchor_for s d).count ≤ MAX_COUNT
 count-most s d = omega (arith, (IsAnchor-anchor_of (s.word (name.Anchor d))).count)
 
-offers-within : (word : ℕ) (o : Option ActiveWord) → Reads IsActiveWord active_word word o → offers o ≤ 64
+offers-within : (word : ℕ) (o : Option ActiveWord) → Reads IsActiveWord active_word word o → offers o ≤ MOST_CREDITS
 offers-within word None reads = omega arith
 offers-within word (Some Null) reads = omega arith
 offers-within word (Some (Held d credits)) reads = omega (arith, reads.0.1)
 
-pub offers-most : (c : ClosedFields) (heap class : ℕ) → IsResting c → offers (active_in (closed_state c) heap class) ≤ 64
+pub offers-most : (c : ClosedFields) (heap class : ℕ) → IsResting c → offers (active_in (closed_state c) heap class) ≤ MOST_CREDITS
 offers-most c heap class resting =
     let (l, rests) = closed-rests c resting in
     let word : ℕ = (closed_state c).word (name.Active heap class) in

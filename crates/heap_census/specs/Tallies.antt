@@ -1,6 +1,6 @@
 -- How the superblocks of a class are told by the words.
 use Rattle.std.specs.Prelude.{ℕ, Bool, true, false, ◌≡◌, ◌≤◌, ◌<◌, ◌+◌, ◌*◌, ◌==◌, ◌&&◌, if◌then◌else◌, Option, Some, None, List, length, slice_index_or, slice_set}
-use Rattle.heap_geometry.specs.declared.limits.TheConstants.{CLASSES}
+use Rattle.heap_geometry.specs.declared.limits.TheConstants.{CLASSES, MAX_COUNT}
 use Rattle.packed_words.specs.declared.active.ActiveWord.{ActiveWord}
 use Rattle.packed_words.specs.declared.active.ActiveWord.TheVariants.{Null, Held}
 use Rattle.packed_words.specs.declared.anchor.State.{State as Phase}
@@ -76,7 +76,7 @@ pub record AreTallies (tallies : List Tally) (of : ℕ → Tally) : Type 0 where
 pub record AreWithin (tallies : List Tally) (most : ℕ) : Type 0 where
   pub classes : length tallies ≡ CLASSES
   pub superblocks : (class : ℕ) → class < CLASSES → (slice_index_or tallies class nothing_yet).superblocks ≤ most
-  pub free : (class : ℕ) → class < CLASSES → (slice_index_or tallies class nothing_yet).free ≤ 1024 * most
+  pub free : (class : ℕ) → class < CLASSES → (slice_index_or tallies class nothing_yet).free ≤ MAX_COUNT * most
 
 -- the tallies with one superblock more of the class, of which so many blocks are free
 abbrev pub with_superblock : List Tally → ℕ → ℕ → List Tally

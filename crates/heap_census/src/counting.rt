@@ -2,7 +2,7 @@
 
 ghost use Rattle.std.specs.Prelude.{ℕ, ◌≡◌, ◌<◌, ◌≤◌, ◌==◌, length, slice_index_or, if◌then◌else◌};
 ghost use Rattle.std.specs.Int.{bit_at};
-ghost use Rattle.heap_geometry.specs.declared.limits.TheConstants.{CLASSES};
+ghost use Rattle.heap_geometry.specs.declared.limits.TheConstants.{CLASSES, MAX_UNITS};
 ghost use Rattle.word_plan.specs.Counts.{descriptor_count};
 ghost use Rattle.sound_state.specs.Lists.{Lists, IsListed};
 ghost use Rattle.sound_state.specs.Sums.{sum_below};
@@ -87,7 +87,7 @@ fn count_frames(closed: &Closed) -> u32
 
 /// How many of the first bits are 0.
 fn count_clear(word: u64, bits: u32) -> u32
-    requires { bits ≤ 64 }
+    requires { bits ≤ MAX_UNITS }
     ensures { result ≡ sum_below bits (λ bit. if bit_at word bit == 0 then 1 else 0) }
 {
     let mut clear = 0;
@@ -99,7 +99,7 @@ fn count_clear(word: u64, bits: u32) -> u32
 
 /// 1 where the bit is 0, else 0.
 fn clear_bit(word: u64, bit: u32) -> u32
-    requires { bit < 64 }
+    requires { bit < MAX_UNITS }
     ensures { result ≡ (if bit_at word bit == 0 then 1 else 0) }
 {
     if (word >> bit) & 1 == 0 { 1 } else { 0 }

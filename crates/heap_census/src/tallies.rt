@@ -1,7 +1,7 @@
 //! How many superblocks each class has, by the words.
 
 ghost use Rattle.std.specs.Prelude.{◌≡◌, ◌<◌, ◌≤◌, ◌*◌, ◌^◌, slice_index_or};
-ghost use Rattle.heap_geometry.specs.declared.limits.TheConstants.{CLASSES};
+ghost use Rattle.heap_geometry.specs.declared.limits.TheConstants.{CLASSES, MAX_COUNT};
 ghost use Rattle.packed_words.specs.declared.anchor.State.{State as Phase};
 ghost use Rattle.word_plan.specs.Counts.{descriptor_count};
 ghost use Rattle.word_plan.specs.declared.limits.TheConstants.{MAX_DESCRIPTORS};
@@ -88,9 +88,9 @@ fn class_of(closed: &Closed, desc: u16) -> u8
 /// Counts a superblock of the class, of which so many blocks are free.
 fn add_superblock(tallies: &mut [Tally; CLASS_COUNT], class: u8, free: u16)
     requires class { class < CLASSES }
-    requires free { free ≤ 1024 }
+    requires free { free ≤ MAX_COUNT }
     requires superblocks { (slice_index_or tallies.old class nothing_yet).superblocks ≤ MAX_DESCRIPTORS }
-    requires counted { (slice_index_or tallies.old class nothing_yet).free ≤ 1024 * MAX_DESCRIPTORS }
+    requires counted { (slice_index_or tallies.old class nothing_yet).free ≤ MAX_COUNT * MAX_DESCRIPTORS }
     ensures { tallies.new ≡ with_superblock tallies.old class free }
 {
     let tally = tallies[usize::from(class)];

@@ -1,6 +1,8 @@
-use Rattle.std.proofs.Common.{◌≡◌, ◌≤◌, ◌*◌, ◌^◌, ap, arith, refl, ◌∙◌}
+use Rattle.std.proofs.Common.{◌≡◌, ◌≤◌, ◌+◌, ◌*◌, ◌^◌, ap, arith, refl, ◌∙◌}
 use Rattle.std.proofs.lemmas.Nat.{mul-le}
+use Rattle.heap_geometry.specs.declared.limits.TheConstants.{MAX_HEAPS}
 use Rattle.heap_geometry.specs.Need.{block_count_of}
+use Rattle.word_plan.specs.declared.limits.TheConstants.{MAX_DESCRIPTORS}
 use Rattle.word_plan.specs.Counts.{descriptor_count}
 use Rattle.heap_census.specs.Census.{closed_state}
 use Rattle.heap_census.proofs.ClassLemmas.{IsTallied, class-count, class-within}
@@ -18,9 +20,9 @@ overflow_mul-blocks c =
     c.add_actives-tally.ensures in
     let few = few-descriptors closed c.requires.rests in
     let heaps = (closed-checked closed c.requires.rests).heaps.1 in
-    let most : t.superblocks ≤ 20000 = omega (arith, room.0, few, heaps) in
+    let most : t.superblocks ≤ MAX_DESCRIPTORS + MAX_HEAPS = omega (arith, room.0, few, heaps) in
     let size : c.from.result ≤ 2 ^ 32 = omega arith in
-    omega (arith, mul-le c.from.result t.superblocks (2 ^ 32) 20000 size most)
+    omega (arith, mul-le c.from.result t.superblocks (2 ^ 32) (MAX_DESCRIPTORS + MAX_HEAPS) size most)
 
 pub overflow_sub-result : goal.overflow_sub-result
 overflow_sub-result c =

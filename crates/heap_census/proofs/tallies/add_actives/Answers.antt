@@ -1,5 +1,6 @@
 use Rattle.std.proofs.Common.{◌≤◌, ap, arith}
 use Rattle.heap_geometry.specs.declared.geometry.Geometry.{Geometry}
+use Rattle.heap_geometry.specs.declared.limits.TheConstants.{MAX_HEAPS}
 use Rattle.word_plan.specs.Counts.{descriptor_count}
 use Rattle.heap_census.specs.Census.{closed_state}
 use Rattle.heap_census.proofs.RestLemmas.{closed-checked, count-most, few-descriptors, offers-most}
@@ -15,5 +16,5 @@ add_active-tally-requires-clause-room c =
     let few = few-descriptors closed c.requires.rests in
     let heaps = (closed-checked closed c.requires.rests).heaps.1 in
     let same = ap (λ (g : Geometry). g.heaps) c.geometry-heap-end.ensures.value in
-    let below : c.loop-heap.heap ≤ 16 = omega (arith, heaps, same) in
+    let below : c.loop-heap.heap ≤ MAX_HEAPS = omega (arith, heaps, same) in
     (omega (arith, room.0, few, below), omega (arith, room.1, few, below), omega (arith, room.2, below))
