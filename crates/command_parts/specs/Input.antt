@@ -2,14 +2,15 @@
 use Rattle.std.specs.Prelude.{ℕ, ◌≡◌, ◌+◌, ◌<◌, ◌≤◌, ◌∷◌, List, [], Option, IfSome, Result, Ok, Err, length, sum}
 use Rattle.std.specs.Io.KnownBytes.{Consumes}
 use Rattle.edge_io.specs.declared.faults.Failed.{Failed}
+use Rattle.command_parts.specs.declared.input.TheConstants.{BUFFER_BYTES}
 
 module _ {S : Type 0} (gave : S → ℕ → Result ℕ Failed → S → Type 0) (most : ℕ) where
   -- reads led from one state of the source to another and brought these many bytes each, the last one first: each read was offered a buffer
-  -- of 4,096 bytes, and was made while not more than `most` bytes were there
+  -- of `BUFFER_BYTES`, and was made while not more than `most` bytes were there
   abbrev pub Brings : S → List ℕ → S → Type 0
   Brings from [] now = now ≡ from
   Brings from (count ∷ counts) now =
-      (before : S) × Brings from counts before × (sum counts ≤ most) × (0 < count) × gave before 4096 (Ok count) now
+      (before : S) × Brings from counts before × (sum counts ≤ most) × (0 < count) × gave before BUFFER_BYTES (Ok count) now
 
   -- so many reads brought bytes, at most `most + 1` of them
   abbrev pub TakesFirst : S → List ℕ → S → Type 0
@@ -21,7 +22,7 @@ module _ {S : Type 0} (left : S → Option (List ℕ)) (gave : S → ℕ → Res
     pub counts : List ℕ
     pub before : S
     pub reads : Brings gave most from counts before
-    pub last : gave before 4096 answer now
+    pub last : gave before BUFFER_BYTES answer now
     pub total : sum counts ≡ length bytes
     pub within : length bytes ≤ most
     pub calls : length counts + 1 ≤ most + 1
@@ -36,12 +37,12 @@ module _ {S : Type 0} (left : S → Option (List ℕ)) (gave : S → ℕ → Res
   abbrev pub TakesSome : S → S → Type 0
   TakesSome from now = (bytes : List ℕ) × (failure : Failed) × TakesUntil (Err failure) from now bytes
 
-  -- more than `most` bytes were taken, by 4,096 at most, and no read was made once they were there
+  -- more than `most` bytes were taken, by `BUFFER_BYTES` at most, and no read was made once they were there
   pub record TakesMore (from now : S) : Type 0 where
     pub counts : List ℕ
     pub bytes : List ℕ
     pub reads : TakesFirst gave most from counts now
     pub total : sum counts ≡ length bytes
     pub more : most < length bytes
-    pub further : length bytes ≤ most + 4096
+    pub further : length bytes ≤ most + BUFFER_BYTES
     pub taken : Consumes (left from) (left now) bytes

@@ -9,7 +9,7 @@ use edge_io::source::Source;
 use std::alloc::Global;
 
 /// The bytes that each read is offered room for.
-const BUFFER_BYTES: usize = 4096;
+pub const BUFFER_BYTES: usize = 4096;
 
 /// Reads until the source ends, or until more than `most` bytes were taken: at most `most + 1` reads.
 pub fn read_input<S: Source>(alloc: Global, source: &mut S, most: usize) -> Result<Vec<u8>, Stop>
