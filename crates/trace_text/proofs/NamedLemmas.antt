@@ -1,13 +1,13 @@
 -- What is read so far is a trace that a text can name.
-use Rattle.std.proofs.Common.{◌≡◌, ℕ, suc, ◌+◌, ◌^◌, ◌<◌, ◌⊎◌, max, Bool, true, false, cond, ltb, leb, List, [], ◌∷◌, ◌++◌, length, Option, Some, None, is_some, unwrap_or, Result, Ok, Err, refl, sym, ap, ◌∙◌, subst, arith, inl, inr, length-append}
+use Rattle.std.proofs.Common.{◌≡◌, ℕ, suc, ◌+◌, ◌-◌, ◌^◌, ◌<◌, ◌⊎◌, max, Bool, true, false, cond, ltb, leb, List, [], ◌∷◌, ◌++◌, length, Option, Some, None, is_some, unwrap_or, Result, Ok, Err, refl, sym, ap, ◌∙◌, subst, arith, inl, inr, length-append}
 use Rattle.std.specs.Prelude.{codes}
 use Rattle.std.specs.List.{All, list_all}
 use Rattle.std.specs.Str.{bytes_eq}
 use Rattle.std.proofs.lemmas.Bool.{and_parts, eqb-true, ltb-true, leb-true}
 use Rattle.std.proofs.lemmas.List.Elements.{All-nil, All-cons, All-push, All-head, All-tail}
 use Rattle.heap_geometry.specs.Geometry.{IsWithin}
-use Rattle.heap_geometry.specs.declared.limits.TheConstants.{MAX_FRAMES, MAX_HEAPS, MAX_UNITS, MAX_TURNS, LARGE_MOST}
-use Rattle.trace_text.specs.declared.limits.TheConstants.{MAX_LANES, ORDER_MOST}
+use Rattle.heap_geometry.specs.declared.limits.TheConstants.{MAX_FRAMES, MAX_HEAPS, MAX_UNITS, MAX_TURNS, LARGE_MOST, SHELVES}
+use Rattle.trace_text.specs.declared.limits.TheConstants.{REGISTERS, MAX_LANES, ORDER_MOST}
 use Rattle.trace_text.specs.declared.fault.Cause.{Cause}
 use Rattle.trace_text.specs.declared.fault.Cause.TheVariants.{BadGeometry, OutOfRange, UnknownOp, NoHeapLine, NotAscii, TooManyLanes}
 use Rattle.trace_text.specs.declared.stage.Stage.{Stage}
@@ -91,7 +91,7 @@ alloc_ok fields op e =
     let n = bind_ok (three_in fields) (λ n. register_of n.0 >>= λ r. up_to LARGE_MOST n.1 >>= λ need. Ok (Alloc r need n.2)) op e in
     let r = bind_ok (register_of n.0.0) (λ r. up_to LARGE_MOST n.0.1 >>= λ need. Ok (Alloc r need n.0.2)) op n.2 in
     let need = bind_ok (up_to LARGE_MOST n.0.1) (λ need. Ok (Alloc r.0 need n.0.2)) op r.2 in
-    let in_r = ranged_ok OutOfRange 0 1023 n.0.0 r.0 r.1 in
+    let in_r = ranged_ok OutOfRange 0 (REGISTERS - 1) n.0.0 r.0 r.1 in
     let in_need = ranged_ok OutOfRange 0 LARGE_MOST n.0.1 need.0 need.1 in
     subst IsOp (ok_is (Alloc r.0 need.0 n.0.2) op need.2) (omega (arith, in_r.1), in_need.1.1, three_ok fields n.0 n.1)
 
@@ -100,8 +100,8 @@ unfolding free_in
 free_ok fields op e =
     let n = bind_ok (one_in fields) (λ n. register_of n >>= λ r. Ok (Free r)) op e in
     let r = bind_ok (register_of n.0) (λ r. Ok (Free r)) op n.2 in
-    let in_r = ranged_ok OutOfRange 0 1023 n.0 r.0 r.1 in
-    let below : r.0 < 1024 = omega (arith, in_r.1) in
+    let in_r = ranged_ok OutOfRange 0 (REGISTERS - 1) n.0 r.0 r.1 in
+    let below : r.0 < REGISTERS = omega (arith, in_r.1) in
     subst IsOp (ok_is (Free r.0) op r.2) below
 
 check_ok : (fields : List (List ℕ)) (op : Op) → check_in fields ≡ Ok op → IsOp op
@@ -109,8 +109,8 @@ unfolding check_in
 check_ok fields op e =
     let n = bind_ok (one_in fields) (λ n. register_of n >>= λ r. Ok (Check r)) op e in
     let r = bind_ok (register_of n.0) (λ r. Ok (Check r)) op n.2 in
-    let in_r = ranged_ok OutOfRange 0 1023 n.0 r.0 r.1 in
-    let below : r.0 < 1024 = omega (arith, in_r.1) in
+    let in_r = ranged_ok OutOfRange 0 (REGISTERS - 1) n.0 r.0 r.1 in
+    let below : r.0 < REGISTERS = omega (arith, in_r.1) in
     subst IsOp (ok_is (Check r.0) op r.2) below
 
 fill_ok : (fields : List (List ℕ)) (op : Op) → fill_in fields ≡ Ok op → IsOp op
@@ -118,7 +118,7 @@ unfolding fill_in
 fill_ok fields op e =
     let n = bind_ok (two_in fields) (λ n. register_of n.0 >>= λ r. Ok (Fill r n.1)) op e in
     let r = bind_ok (register_of n.0.0) (λ r. Ok (Fill r n.0.1)) op n.2 in
-    let in_r = ranged_ok OutOfRange 0 1023 n.0.0 r.0 r.1 in
+    let in_r = ranged_ok OutOfRange 0 (REGISTERS - 1) n.0.0 r.0 r.1 in
     subst IsOp (ok_is (Fill r.0 n.0.1) op r.2) (omega (arith, in_r.1), two_ok fields n.0 n.1)
 
 put_ok : (fields : List (List ℕ)) (op : Op) → put_in fields ≡ Ok op → IsOp op
@@ -127,8 +127,8 @@ put_ok fields op e =
     let n = bind_ok (two_in fields) (λ n. register_of n.0 >>= λ r. shelf_of n.1 >>= λ shelf. Ok (Put r shelf)) op e in
     let r = bind_ok (register_of n.0.0) (λ r. shelf_of n.0.1 >>= λ shelf. Ok (Put r shelf)) op n.2 in
     let shelf = bind_ok (shelf_of n.0.1) (λ shelf. Ok (Put r.0 shelf)) op r.2 in
-    let in_r = ranged_ok OutOfRange 0 1023 n.0.0 r.0 r.1 in
-    let in_shelf = ranged_ok OutOfRange 0 63 n.0.1 shelf.0 shelf.1 in
+    let in_r = ranged_ok OutOfRange 0 (REGISTERS - 1) n.0.0 r.0 r.1 in
+    let in_shelf = ranged_ok OutOfRange 0 (SHELVES - 1) n.0.1 shelf.0 shelf.1 in
     subst IsOp (ok_is (Put r.0 shelf.0) op shelf.2) (omega (arith, in_r.1), omega (arith, in_shelf.1))
 
 take_ok : (fields : List (List ℕ)) (op : Op) → take_in fields ≡ Ok op → IsOp op
@@ -137,8 +137,8 @@ take_ok fields op e =
     let n = bind_ok (two_in fields) (λ n. register_of n.0 >>= λ r. shelf_of n.1 >>= λ shelf. Ok (Take r shelf)) op e in
     let r = bind_ok (register_of n.0.0) (λ r. shelf_of n.0.1 >>= λ shelf. Ok (Take r shelf)) op n.2 in
     let shelf = bind_ok (shelf_of n.0.1) (λ shelf. Ok (Take r.0 shelf)) op r.2 in
-    let in_r = ranged_ok OutOfRange 0 1023 n.0.0 r.0 r.1 in
-    let in_shelf = ranged_ok OutOfRange 0 63 n.0.1 shelf.0 shelf.1 in
+    let in_r = ranged_ok OutOfRange 0 (REGISTERS - 1) n.0.0 r.0 r.1 in
+    let in_shelf = ranged_ok OutOfRange 0 (SHELVES - 1) n.0.1 shelf.0 shelf.1 in
     subst IsOp (ok_is (Take r.0 shelf.0) op shelf.2) (omega (arith, in_r.1), omega (arith, in_shelf.1))
 
 pub op_ok : (word : List ℕ) (fields : List (List ℕ)) (op : Op) → op_in word fields ≡ Ok op → IsOp op

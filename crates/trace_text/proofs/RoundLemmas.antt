@@ -1,12 +1,12 @@
 -- A printed trace is read again.
-use Rattle.std.proofs.Common.{◌≡◌, ℕ, ◌^◌, ◌<◌, ◌≤◌, ◌⊎◌, max, true, false, List, [], ◌∷◌, ◌++◌, length, Ok, refl, sym, ap, ◌∙◌, subst, append_assoc, append-nil, length-append, arith, inl, inr}
+use Rattle.std.proofs.Common.{◌≡◌, ℕ, ◌-◌, ◌^◌, ◌<◌, ◌≤◌, ◌⊎◌, max, true, false, List, [], ◌∷◌, ◌++◌, length, Ok, refl, sym, ap, ◌∙◌, subst, append_assoc, append-nil, length-append, arith, inl, inr}
 use Rattle.std.specs.Prelude.{codes}
 use Rattle.std.specs.Fmt.{decimal}
 use Rattle.std.specs.List.{All, flat_map}
 use Rattle.std.proofs.lemmas.Bool.{cases_Bool, false≢true, lt-ltb, le-leb, eq-eqb}
 use Rattle.std.proofs.lemmas.List.Elements.{All-head, All-tail}
-use Rattle.heap_geometry.specs.declared.limits.TheConstants.{MAX_FRAMES, MAX_HEAPS, MAX_UNITS, MAX_TURNS, LARGE_MOST}
-use Rattle.trace_text.specs.declared.limits.TheConstants.{MAX_LANES, ORDER_MOST}
+use Rattle.heap_geometry.specs.declared.limits.TheConstants.{MAX_FRAMES, MAX_HEAPS, MAX_UNITS, MAX_TURNS, LARGE_MOST, SHELVES}
+use Rattle.trace_text.specs.declared.limits.TheConstants.{REGISTERS, MAX_LANES, ORDER_MOST}
 use Rattle.trace_text.specs.declared.fault.Cause.{Cause}
 use Rattle.trace_text.specs.declared.fault.Cause.TheVariants.{BadGeometry, OutOfRange}
 use Rattle.trace_text.specs.declared.stage.Stage.{Stage}
@@ -65,11 +65,11 @@ op_some (Take r shelf) = omega arith
 
 -- ---- what each printed line says
 
-register_again : (r : ℕ) → r < 1024 → register_of r ≡ Ok r
-register_again r below = ranged_again OutOfRange 0 1023 r (omega arith) (omega arith)
+register_again : (r : ℕ) → r < REGISTERS → register_of r ≡ Ok r
+register_again r below = ranged_again OutOfRange 0 (REGISTERS - 1) r (omega arith) (omega arith)
 
-shelf_again : (shelf : ℕ) → shelf < 64 → shelf_of shelf ≡ Ok shelf
-shelf_again shelf below = ranged_again OutOfRange 0 63 shelf (omega arith) (omega arith)
+shelf_again : (shelf : ℕ) → shelf < SHELVES → shelf_of shelf ≡ Ok shelf
+shelf_again shelf below = ranged_again OutOfRange 0 (SHELVES - 1) shelf (omega arith) (omega arith)
 
 one_again : (a : ℕ) → a < 2 ^ 64 → one_in (decimal a ∷ []) ≡ Ok a
 unfolding one_in
