@@ -15,8 +15,10 @@ import subprocess
 import sys
 from concurrent.futures import ThreadPoolExecutor
 
+from limits import CALL_STEPS, CLASSES, LARGE_MOST, MAX_TURNS, SMALL_MOST
+
 WORD = 1 << 64
-MOST_TURNS = (1 << 38) - 1
+LEAST_WIDE = 300
 SCRIPTS_AT_ONCE = 20
 ENOUGH = 1 << 32
 
@@ -70,21 +72,21 @@ class Script:
         below = self.random.below
         if request[0] not in ("alloc", "free", "resume") or below(4) != 0:
             return None
-        return 1 + below([4, 12, 40, 1100][below(4)])
+        return 1 + below([4, 12, 40, CALL_STEPS][below(4)])
 
     def need(self):
         below = self.random.below
         if self.needs == "wide":
-            return 300 + below(724)
+            return LEAST_WIDE + below(SMALL_MOST + 1 - LEAST_WIDE)
         if self.needs == "one":
             return 1
         if self.needs == "mixed":
-            return below(2 << below(10))
+            return below(2 << below(CLASSES))
         if below(4) == 0:
-            return below(1024)
+            return below(SMALL_MOST + 1)
         if below(2) == 0:
-            return below(131_200)
-        return 1024 + below(8000)
+            return below(LARGE_MOST + 129)
+        return SMALL_MOST + 1 + below(8000)
 
 
 class Caller:
@@ -169,7 +171,7 @@ def heap_of(rng):
 
 def turns_of(seed):
     """The turn limit in the script of this number."""
-    return 40 if seed % 5 == 0 else MOST_TURNS
+    return 40 if seed % 5 == 0 else MAX_TURNS
 
 
 def by_program(program, scripts):

@@ -14,15 +14,17 @@ import subprocess
 import sys
 import time
 
+from limits import MAX_FRAMES, MAX_HEAPS, MAX_UNITS, SMALL_MOST
+
 RUNS = 3
 
 
 def random_trace(rng):
     """A trace whose heap is too small, just large enough, roomy, or short of turns."""
     kind = rng.choice(["tight", "middling", "roomy", "turns"])
-    frames = {"tight": rng.randint(1, 4), "roomy": 1024}.get(kind, rng.randint(1, 40))
-    heaps = rng.randint(1, 2) if kind == "roomy" else rng.randint(1, 16)
-    units = 64 if kind == "roomy" else rng.choice([0, 1, 4, 16])
+    frames = {"tight": rng.randint(1, 4), "roomy": MAX_FRAMES}.get(kind, rng.randint(1, 40))
+    heaps = rng.randint(1, 2) if kind == "roomy" else rng.randint(1, MAX_HEAPS)
+    units = MAX_UNITS if kind == "roomy" else rng.choice([0, 1, 4, 16])
     turns = f" {rng.randint(1, 30)}" if kind == "turns" else ""
     lines = [f"heap {frames} {heaps} {units}{turns}"]
     shelves = kind != "roomy" and rng.random() < 0.5
@@ -51,8 +53,8 @@ def random_operation(rng, shelves, large):
 def random_words(rng, large):
     """Usable words: those of a few units as often as `large` says, else those of a small block."""
     if rng.random() < large:
-        return rng.randint(1024, 3000)
-    return rng.randint(0, rng.choice([7, 63, 1023]))
+        return rng.randint(SMALL_MOST + 1, 3000)
+    return rng.randint(0, rng.choice([7, 63, SMALL_MOST]))
 
 
 def main():

@@ -13,6 +13,8 @@ import random
 import subprocess
 import sys
 
+from limits import CALL_STEPS, SMALL_MOST, UNIT_WORDS
+
 
 def random_trace(rng):
     """A trace of lanes that meet often: few frames, blocks of few classes, and orders that cut calls in two."""
@@ -32,7 +34,7 @@ def random_operation(rng, small, shelves):
     """An operation on one of four registers and one of two shelves; one allocation of fifty is large."""
     register = rng.randrange(4)
     shelf = rng.randrange(2)
-    words = rng.choice([1024, 2048]) if rng.random() < 0.02 else rng.choice(small)
+    words = rng.choice([SMALL_MOST + 1, UNIT_WORDS]) if rng.random() < 0.02 else rng.choice(small)
     operations = {
         f"a {register} {words} {rng.randrange(1 << 64)}": 45,
         f"f {register}": 35,
@@ -46,8 +48,8 @@ def random_operation(rng, small, shelves):
 
 def random_order(rng, lanes):
     """A lane and its next steps: a few of them, or some behind the words of a large block that it fills."""
-    filled = 1023 * rng.randint(1, 3) + rng.randint(1, 40)
-    steps = rng.choice([rng.randint(1, 4), rng.randint(1, 12), rng.randint(1, 40), rng.randint(1, 1100), filled])
+    filled = SMALL_MOST * rng.randint(1, 3) + rng.randint(1, 40)
+    steps = rng.choice([rng.randint(1, 4), rng.randint(1, 12), rng.randint(1, 40), rng.randint(1, CALL_STEPS), filled])
     return f"order {rng.randrange(lanes)} {steps}"
 
 
