@@ -1,5 +1,5 @@
 -- The live blocks of a class are the live indexes of its superblocks.
-use Rattle.std.proofs.Common.{ℕ, true, Some, ◌≡◌, ◌<◌, ◌≤◌, ◌+◌, refl, arith, ap, sym, subst, inl, inr, ◌∙◌}
+use Rattle.std.proofs.Common.{ℕ, true, Some, ◌≡◌, ◌<◌, ◌≤◌, refl, arith, ap, sym, subst, inl, inr, ◌∙◌}
 use Rattle.std.specs.Prelude.{◌==◌, if◌then◌else◌, count_by, IsTrue}
 use Rattle.std.proofs.lemmas.Bool.{cases_eq, cases_Bool, cond-true, cond-false, eq-eqb, eqb-true, ne_eqb, and_parts, and_from}
 use Rattle.heap_geometry.specs.declared.geometry.Geometry.{Geometry}
