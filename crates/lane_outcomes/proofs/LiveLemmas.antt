@@ -5,7 +5,7 @@ use Rattle.std.proofs.Math.Pow.{pow_mono}
 use Rattle.heap_geometry.specs.declared.geometry.Geometry.{Geometry}
 use Rattle.heap_geometry.specs.declared.need.Need.{Need}
 use Rattle.heap_geometry.specs.declared.need.Need.TheVariants.{Small, Large, TooLarge}
-use Rattle.heap_geometry.specs.declared.limits.TheConstants.{CLASSES}
+use Rattle.heap_geometry.specs.declared.limits.TheConstants.{CLASSES, LARGE_MOST}
 use Rattle.heap_geometry.specs.Geometry.{IsChecked}
 use Rattle.heap_geometry.specs.Need.{IsNeed, need_of, usable_words}
 use Rattle.pool_model.specs.declared.event.Event.{Event}
@@ -91,7 +91,7 @@ live-total f g history lost lanes outcomes legal fit =
     omega (arith, tallies.given, tallies.freed, gives, frees, all)
 
 -- no block has more words than a large one may have
-words-bound : (n : Need) → IsNeed n → usable_words n ≤ 2 ^ 18
+words-bound : (n : Need) → IsNeed n → usable_words n ≤ LARGE_MOST
 words-bound (Small class) within =
     let below : class + 1 ≤ CLASSES = omega arith in
     let power : 2 ^ (class + 1) ≤ 2 ^ CLASSES = pow_mono below in
@@ -101,25 +101,25 @@ words-bound TooLarge within = omega arith
 
 -- a count that no block passes
 abbrev IsFew : (ℕ → ℕ) → Type 0
-IsFew f = (need : ℕ) → f (usable_words (need_of need)) ≤ 2 ^ 18
+IsFew f = (need : ℕ) → f (usable_words (need_of need)) ≤ LARGE_MOST
 
 few-alloc :
     (f : ℕ → ℕ) (setting : Setting) (position : Position) (r need v : ℕ) (held : Option Held) (result : Outcome) (piece : List Event) → IsFew f
-    → AllocRow setting position need v held result piece → count_with f (words_given (op.Alloc r need v) result) ≤ 2 ^ 18
+    → AllocRow setting position need v held result piece → count_with f (words_given (op.Alloc r need v) result) ≤ LARGE_MOST
 few-alloc f setting position r need v None (outcome.Given words place) piece few row =
-    subst (λ n. f n ≤ 2 ^ 18) (sym row.1) (few need)
+    subst (λ n. f n ≤ LARGE_MOST) (sym row.1) (few need)
 few-alloc f setting position r need v (Some held) (outcome.Given words place) piece few row = absurd row
 few-alloc f setting position r need v held result piece few row = omega arith
 
 few-row :
     (f : ℕ → ℕ) (setting : Setting) (position : Position) (operation : Op) (result : Outcome) (piece : List Event) → IsFew f
-    → FitsRow setting position operation result piece → count_with f (words_given operation result) ≤ 2 ^ 18
+    → FitsRow setting position operation result piece → count_with f (words_given operation result) ≤ LARGE_MOST
 few-row f setting position (op.Alloc r need v) result piece few row = few-alloc f setting position r need v (held_in position.registers r) result piece few row
 few-row f setting position operation result piece few row = omega arith
 
 few-lane :
     (f : ℕ → ℕ) (setting : Setting) (from to : Position) (operations : List Op) (results : List Outcome) → IsFew f
-    → Walks setting from operations results to → lane_given f operations results ≤ 2 ^ 18 * length results
+    → Walks setting from operations results to → lane_given f operations results ≤ LARGE_MOST * length results
 few-lane f setting from to [] [] few walks = omega arith
 few-lane f setting from to [] (result ∷ results) few walks = absurd walks
 few-lane f setting from to (operation ∷ operations) [] few walks = absurd walks
@@ -136,7 +136,7 @@ AreHeld outcomes = AllByRecursion (λ results. length results < 2 ^ 64) outcomes
 
 few-lanes :
     (f : ℕ → ℕ) (g : Geometry) (history : List Event) (lost lane : ℕ) (lanes : List (List Op)) (outcomes : List (List Outcome)) → IsFew f
-    → AreHeld outcomes → LanesFit g history lost lane lanes outcomes → lanes_given f lanes outcomes ≤ 2 ^ 82 * length lanes
+    → AreHeld outcomes → LanesFit g history lost lane lanes outcomes → lanes_given f lanes outcomes ≤ LARGE_MOST * 2 ^ 64 * length lanes
 few-lanes f g history lost lane [] [] few held fit = omega arith
 few-lanes f g history lost lane [] (results ∷ outcomes) few held fit = absurd fit
 few-lanes f g history lost lane (operations ∷ lanes) [] few held fit = absurd fit

@@ -6,6 +6,7 @@ use Rattle.trace_text.specs.declared.trace.Op.{Op}
 use Rattle.trace_text.specs.declared.trace.Trace.{Trace}
 use Rattle.workloads.specs.declared.kind.Kind.{Kind}
 use Rattle.workloads.specs.declared.kind.Kind.TheVariants as kinds
+use Rattle.workloads.specs.declared.making.TheConstants.{FRAMES}
 use Rattle.workloads.specs.Draws.{Draws, just, ◌>>=◌, seeded_by}
 use Rattle.workloads.specs.Lanes.{scalability, threadtest, larson, pipeline}
 
@@ -30,7 +31,7 @@ lanes_of kind size (suc lane) = do
 
 -- the heap of a workload has a caller for each of eight lanes, and no units
 abbrev pub workload_heap : Geometry
-workload_heap = record { frames = 1024; heaps = 8; units = 0; callers = 8; turn_limit = MAX_TURNS }
+workload_heap = record { frames = FRAMES; heaps = 8; units = 0; callers = 8; turn_limit = MAX_TURNS }
 
 -- the trace of a kind, a size and a number: eight lanes, and no order runs
 unfoldable pub made : Kind → ℕ → ℕ → Trace

@@ -20,6 +20,9 @@ use trace_text::trace::{Lanes, Op, Orders, Trace};
 /// The most rounds of a workload, all lanes together.
 pub const MAX_SIZE: u32 = 1_000_000;
 
+/// How many frames the heap of a workload has.
+pub const FRAMES: u32 = 1024;
+
 /// How many lanes a workload has.
 const LANES: u32 = 8;
 
@@ -76,7 +79,7 @@ pub fn make_trace(alloc: Global, kind: Kind, size: u32, start: u64) -> Result<Tr
     let lanes = all_lanes(alloc, kind, &mut draws, size)?;
     Ok(Trace {
         heap: Geometry {
-            frames: 1024,
+            frames: FRAMES,
             heaps: 8,
             units: 0,
             callers: LANES,
