@@ -31,7 +31,8 @@ pub const MAX_UNITS: u32 = 64;
 pub const MAX_CALLERS: u32 = 16;
 
 /// The most turns of one caller. A turn is one pass of a small allocation through the active, a
-/// partial and a new superblock, and takes at most one block from an anchor.
+/// partial and a new superblock, and takes at most one block from an anchor. Those of all callers are
+/// fewer than the tags that an anchor can have.
 pub const MAX_TURNS: u64 = 0x3f_ffff_ffff;
 
 /// How many places there are to hand a block over.

@@ -28,7 +28,8 @@ ghost use Rattle.sound_state.specs.Turns.{is_small_alloc, is_small_free, turn_un
 /// Every tag has room for one more pop: the sum is not cut. An anchor's tag is at most the small blocks that
 /// were given; the tag of the frames at most the turns that all callers took, less those under way that
 /// have popped no frame yet; and the tag of a class's list at most these turns, and three times the small
-/// blocks that were freed.
+/// blocks that were freed. So the bounds are those of the turns of all callers, which are fewer than an
+/// anchor's tags, and of four times as many.
 pub fn tags_stay_below()
     ensures anchors { (g : Geometry) (s : State) → IsSoundWithoutCounts g s
         → (d : ℕ) → d < descriptor_count g → (anchor_for s d).tag + 1 < 2 ^ TAG_BITS }
