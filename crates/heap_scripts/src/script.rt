@@ -4,7 +4,7 @@ ghost use Rattle.std.specs.Prelude.{◌<◌};
 
 use crate::random::Random;
 use crate::request::Request;
-use heap_geometry::limits::SMALL_MOST;
+use heap_geometry::limits::{CALL_STEPS, CLASSES, LARGE_MOST, SMALL_MOST};
 use live_heap::block::Block;
 
 /// How many calls are made between two changes of how often a block is freed.
@@ -12,6 +12,9 @@ const SPELL: u64 = 60;
 
 /// How many shelves are used.
 const USED_SHELVES: u32 = 4;
+
+/// The fewest usable words of a wide block.
+const LEAST_WIDE: u32 = 300;
 
 /// How many usable words are asked for.
 #[derive(Clone, Copy)]
@@ -113,7 +116,7 @@ impl Script {
             0 => 4,
             1 => 12,
             2 => 40,
-            _ => 1100,
+            _ => CALL_STEPS as u32,
         };
         Some(1 + self.random.below(most))
     }
@@ -121,14 +124,14 @@ impl Script {
     /// The usable words of an allocation.
     fn need(&mut self) -> u32 {
         match self.needs {
-            Needs::Wide => 300 + self.random.below(724),
+            Needs::Wide => LEAST_WIDE + self.random.below(SMALL_MOST + 1 - LEAST_WIDE),
             Needs::One => 1,
             Needs::Mixed => {
-                let class = self.random.below(10);
+                let class = self.random.below(u32::from(CLASSES));
                 self.random.below(2 << class)
             }
             Needs::Units if self.random.below(4) == 0 => self.random.below(1 + SMALL_MOST),
-            Needs::Units if self.random.below(2) == 0 => self.random.below(131_200),
+            Needs::Units if self.random.below(2) == 0 => self.random.below(LARGE_MOST + 129),
             Needs::Units => SMALL_MOST + 1 + self.random.below(8000),
         }
     }
