@@ -7,7 +7,7 @@ ghost use Rattle.step_core.specs.Cores.{errand_at, OwnsBlock};
 use crate::heaps::checked;
 use errand_steps::reply::{Begun, Progress, Reply};
 use heap_geometry::geometry::Geometry;
-use heap_geometry::limits::{CLASSES, SHELVES};
+use heap_geometry::limits::{CLASSES, FRAME_WORDS, SHELVES, UNIT_WORDS};
 use heap_geometry::need::Need;
 use pool_model::event::Event;
 use pool_model::owner::Owner;
@@ -52,7 +52,7 @@ pub fn open<R: Abort>(
 fn word(core: &Core, name: WordName) -> Option<u64> {
     let heap = core.geometry();
     let has = match name {
-        WordName::Arena(word) => word < 2048 * heap.frames + 2048 * heap.units,
+        WordName::Arena(word) => word < FRAME_WORDS * heap.frames + UNIT_WORDS * heap.units,
         WordName::Anchor(desc) => u32::from(desc) < Layout::new(heap).descriptors(),
         WordName::Active(of, class) | WordName::Slot(of, class) => {
             u32::from(of) < heap.heaps && class < CLASSES
