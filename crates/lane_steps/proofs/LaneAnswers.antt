@@ -36,7 +36,7 @@ use Rattle.lane_steps.specs.declared.stage.Stage.TheVariants as stage
 use Rattle.lane_steps.specs.Lanes.{IsLane}
 use Rattle.lane_steps.specs.Operations.{IsDoing, IsWriting, Serves}
 use Rattle.lane_steps.specs.Paths.{held_by}
-use Rattle.lane_steps.specs.Scripts.{IsOnScript, stage_begun}
+use Rattle.lane_steps.specs.Scripts.{IsOnScript, begun_bound, stage_begun}
 use Rattle.lane_steps.proofs.AnswerLemmas.{HasMovedOn, HasBegun, Ends, EndsGiven, EndsSpent, owned-need, told-of_alloc, told-of_free, told-of_write}
 use Rattle.lane_steps.proofs.BeginLemmas.{owned-words}
 use Rattle.lane_steps.proofs.BesideLemmas.{walks-on}
@@ -84,7 +84,7 @@ pub record EndsSo (g : Geometry) (e f : ErrandFields) (before events : List Even
   pub script :
       (calls : List Call) → IsOnScript operations registers results at calls
       → IsOnScript operations now (results ++ result ∷ []) stage.Between (calls ++ [])
-  pub few : stage_begun at < 2 ^ 18
+  pub few : stage_begun at < begun_bound
 
 -- it has ended, and the next one of the operation has begun behind it
 pub record GoesSo (g : Geometry) (e f h : ErrandFields) (call : Call) (before events : List Event) (operations : List Op) (registers now : List (Option Held)) (results : List Outcome) (at to : Stage) : Type 0 where
@@ -95,7 +95,7 @@ pub record GoesSo (g : Geometry) (e f h : ErrandFields) (call : Call) (before ev
   pub script :
       (calls : List Call) → IsOnScript operations registers results at calls
       → IsOnScript operations now results to (calls ++ call ∷ [])
-  pub few : stage_begun at < 2 ^ 18
+  pub few : stage_begun at < begun_bound
   pub rises : stage_begun at < stage_begun to
 
 -- a call that has ended spares what it leaves

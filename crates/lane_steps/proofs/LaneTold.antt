@@ -25,7 +25,7 @@ use Rattle.lane_steps.specs.declared.stage.Stage.TheVariants as stage
 use Rattle.lane_steps.specs.Lanes.{IsLane}
 use Rattle.lane_steps.specs.Operations.{IsDoing}
 use Rattle.lane_steps.specs.Paths.{held_blocks}
-use Rattle.lane_steps.specs.Scripts.{IsOnScript, script_left, stage_begun}
+use Rattle.lane_steps.specs.Scripts.{IsOnScript, begun_bound, script_left, stage_begun}
 use Rattle.lane_steps.proofs.AnswerLemmas.{HasMovedOn, HasBegun, MayCall, call-begun}
 use Rattle.lane_steps.proofs.LaneAnswers.{EndsSo}
 use Rattle.lane_steps.proofs.LaneGoes.{IsOn, doing-at, no-between, lane-goes_on}
@@ -129,7 +129,7 @@ module _ {B : Type 0} (place_of : B → ℕ) (need_of : B → Need) (g : Geometr
         → OwnsBlocks place_of need_of lane.caller events blocks
         → ((calls : List Call) → IsOnScript operations registers lane.outcomes.items at calls
         → IsOnScript operations (held_blocks place_of need_of blocks) (lane.outcomes.items ++ result ∷ []) stage.Between (calls ++ []))
-        → stage_begun at < 2 ^ 18 → Gone f None
+        → stage_begun at < begun_bound → Gone f None
     told-ends at is blocks result became stands owned script few =
         gone-on place_of need_of g events f None again operations lane new blocks (lane.outcomes.items ++ result ∷ []) stage.Between became t.stood.room
         (subst (λ c. IsLane g c events f operations (held_blocks place_of need_of blocks) (lane.outcomes.items ++ result ∷ []) stage.Between) number stands)
@@ -154,7 +154,7 @@ module _ {B : Type 0} (place_of : B → ℕ) (need_of : B → Need) (g : Geometr
         → OwnsBlocks place_of need_of lane.caller events blocks
         → ((calls : List Call) → IsOnScript operations registers lane.outcomes.items at calls
         → IsOnScript operations (held_blocks place_of need_of blocks) lane.outcomes.items to (calls ++ call ∷ []))
-        → stage_begun at < 2 ^ 18 → stage_begun at < stage_begun to → Gone h (Some call)
+        → stage_begun at < begun_bound → stage_begun at < stage_begun to → Gone h (Some call)
     told-goes h call at to is blocks became stands owned script few rises =
         gone-on place_of need_of g events h (Some call) again operations lane new blocks lane.outcomes.items to became t.stood.room
         (subst (λ c. IsLane g c events h operations (held_blocks place_of need_of blocks) lane.outcomes.items to) number stands)

@@ -25,7 +25,7 @@ use Rattle.lane_steps.specs.declared.stage.Stage.{Stage}
 use Rattle.lane_steps.specs.declared.stage.Stage.TheVariants as stage
 use Rattle.lane_steps.specs.Lanes.{IsLane}
 use Rattle.lane_steps.specs.Operations.{Serves}
-use Rattle.lane_steps.specs.Scripts.{BegunIn, BegunOf, CallsOf, IsOnScript, OnHeld, Scripts, reads_of, registers_from, script_left, stage_begun, writes_of}
+use Rattle.lane_steps.specs.Scripts.{BegunIn, BegunOf, CallsOf, IsOnScript, OnHeld, Scripts, begun_bound, reads_of, registers_from, script_left, stage_begun, writes_of}
 
 -- registers that hold nothing
 abbrev pub empty : List (Option Held)
@@ -522,19 +522,19 @@ here-below operations rest results operation next = drop-below (length results) 
 -- what is left of a script falls: where the operation at hand begins or goes on, and where it ends
 pub left-rises :
     (operations rest : List Op) (results : List Outcome) (operation : Op) (at to : Stage) → drop (length results) operations ≡ operation ∷ rest
-    → stage_begun at < stage_begun to → stage_begun at < 2 ^ 18 → script_left operations results to < script_left operations results at
+    → stage_begun at < stage_begun to → stage_begun at < begun_bound → script_left operations results to < script_left operations results at
 left-rises operations rest results operation at to next rises few =
     let below : length results < length operations = here-below operations rest results operation next in omega arith
 
 pub left-ends :
     (operations rest : List Op) (results : List Outcome) (operation : Op) (result : Outcome) (at : Stage)
-    → drop (length results) operations ≡ operation ∷ rest → stage_begun at < 2 ^ 18
+    → drop (length results) operations ≡ operation ∷ rest → stage_begun at < begun_bound
     → script_left operations (results ++ result ∷ []) stage.Between < script_left operations results at
 left-ends operations rest results operation result at next few =
     let below : length results < length operations = here-below operations rest results operation next in
     let longer = length-append results (result ∷ []) in
     omega arith
 
--- an operation has fewer than 2^18 calls
-pub few-begun : (held : Held) (need : Need) (next : ℕ) → Serves held need → next < held.words → stage_begun (stage.Filling next) < 2 ^ 18
+-- an operation has so few calls
+pub few-begun : (held : Held) (need : Need) (next : ℕ) → Serves held need → next < held.words → stage_begun (stage.Filling next) < begun_bound
 few-begun held need next serves inside = let most = serves-words held need serves in omega arith

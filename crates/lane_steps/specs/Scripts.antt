@@ -2,6 +2,7 @@
 use Rattle.std.specs.Prelude.{ℕ, suc, ◌≡◌, ◌+◌, ◌-◌, ◌*◌, ◌%◌, ◌^◌, ◌∷◌, ◌++◌, List, [], Option, Some, None, map, take, drop, length, replicate}
 use Rattle.std.specs.List.{range_with_len}
 use Rattle.trace_text.specs.declared.limits.TheConstants.{REGISTERS}
+use Rattle.heap_geometry.specs.declared.limits.TheConstants.{LARGE_MOST}
 use Rattle.heap_geometry.specs.declared.need.Need.{Need}
 use Rattle.heap_geometry.specs.Need.{need_of}
 use Rattle.errand_steps.specs.Calls.{Call, alloc, free, write, read, put, take as take_call}
@@ -83,12 +84,17 @@ pub record IsOnScript (operations : List Op) (registers : List (Option Held)) (r
   pub ended : Scripts (replicate REGISTERS None) (take (length results) operations) results past
   pub begun : BegunIn (registers_from (replicate REGISTERS None) operations results) registers (drop (length results) operations) at present
 
--- how much of its script a lane has left, in a number that falls as it goes on: an operation has fewer than 2^18 calls
+-- how far a lane is in its operation, in a number that rises with each of its calls
 abbrev pub stage_begun : Stage → ℕ
 stage_begun stage.Between = 0
 stage_begun stage.Calling = 1
 stage_begun (stage.Filling next) = next + 2
 stage_begun (stage.Summing next total) = next + 2
 
+-- it is below this: no block has more words than the largest
+abbrev pub begun_bound : ℕ
+begun_bound = LARGE_MOST + 2
+
+-- how much of its script a lane has left, in a number that falls as it goes on
 abbrev pub script_left : List Op → List Outcome → Stage → ℕ
-script_left operations results at = 2 ^ 18 * (length operations - length results) - stage_begun at
+script_left operations results at = begun_bound * (length operations - length results) - stage_begun at
