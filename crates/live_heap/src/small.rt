@@ -109,12 +109,7 @@ impl Heap {
 
     /// Guards the superblock where the block is the last one of it in use.
     #[inline(always)]
-    fn guard_last(
-        &self,
-        pass: &mut Pass,
-        at: BlockPoint,
-        tries: u32,
-    ) -> Result<BlockPoint, Found>
+    fn guard_last(&self, pass: &mut Pass, at: BlockPoint, tries: u32) -> Result<BlockPoint, Found>
         ghost start: { Pass }
         requires { IsWalking self.now start tries at continuation.Free pass.old }
         ensures on { IfOk result (λ next. IsWalking self.now start tries next continuation.Free pass.new) }
@@ -157,13 +152,7 @@ impl Heap {
 
     /// The same from its first point.
     #[inline(always)]
-    fn alloc_on(
-        &self,
-        pass: &mut Pass,
-        active: BlockPoint,
-        need: u32,
-        tries: u32,
-    ) -> AllocAnswer
+    fn alloc_on(&self, pass: &mut Pass, active: BlockPoint, need: u32, tries: u32) -> AllocAnswer
         ghost start: { Pass }
         requires walks { IsWalking self.now start tries active (continuation.Alloc need) pass.old }
         requires calling { (first : Pass) × IsCalling first (alloc need) 0 start }

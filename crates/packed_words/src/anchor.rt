@@ -119,10 +119,7 @@ fn anchor_word(avail: u16, count: u16, state: State, tag: u64) -> u64
     requires tag { tag < 2 ^ TAG_BITS }
     ensures { result ≡ anchor_word (record { avail = avail; count = count; state = state; tag = tag }) }
 {
-    u64::from(avail)
-        | u64::from(count) << COUNT_AT
-        | state_code(state) << STATE_AT
-        | tag << TAG_AT
+    u64::from(avail) | u64::from(count) << COUNT_AT | state_code(state) << STATE_AT | tag << TAG_AT
 }
 
 /// The code of a state.

@@ -1,7 +1,7 @@
 -- Everything that a point remembers exists in its heap, before and after each step.
 use Rattle.std.proofs.Common.{ℕ, Bool, true, false, ◌≡◌, ◌+◌, ◌<◌, ◌≤◌, ◌^◌, Option, Some, None, arith, ap, refl}
-use Rattle.std.specs.Prelude.{◌==◌, ◌&&◌, nat_lt, if◌then◌else◌}
-use Rattle.std.proofs.lemmas.Bool.{cond_both, ltb-true, and_parts, both_ways}
+use Rattle.std.specs.Prelude.{◌==◌, nat_lt, if◌then◌else◌}
+use Rattle.std.proofs.lemmas.Bool.{cond_both, ltb-true, both_ways}
 use Rattle.heap_geometry.specs.declared.geometry.Geometry.{Geometry}
 use Rattle.heap_geometry.specs.declared.limits.TheConstants.{CLASSES}
 use Rattle.heap_geometry.specs.Geometry.{IsChecked}
@@ -13,19 +13,18 @@ use Rattle.packed_words.specs.declared.anchor.State.TheVariants as state
 use Rattle.packed_words.specs.declared.prefix.Prefix.{Prefix}
 use Rattle.packed_words.specs.declared.prefix.Prefix.TheVariants.{Small, Large}
 use Rattle.packed_words.specs.Active.{IsActiveWord, active_word, active_of}
-use Rattle.packed_words.specs.Anchor.{AnchorFields, anchor_of}
+use Rattle.packed_words.specs.Anchor.{AnchorFields}
 use Rattle.packed_words.specs.Fields.{Reads}
-use Rattle.packed_words.specs.Info.{InfoFields, info_of}
+use Rattle.packed_words.specs.Info.{info_of}
 use Rattle.packed_words.specs.Prefix.{prefix_of}
 use Rattle.packed_words.proofs.ActiveLemmas.{active-exact}
-use Rattle.packed_words.proofs.AnchorLemmas.{IsAnchor-anchor_of}
 use Rattle.word_plan.specs.declared.action.Found.{Found}
 use Rattle.word_plan.specs.declared.limits.TheConstants.{MOST_CREDITS}
 use Rattle.word_plan.specs.declared.seat.Site.{Site}
 use Rattle.word_plan.specs.Actions.{name_of}
 use Rattle.word_plan.specs.Counts.{descriptor_count}
-use Rattle.word_plan.specs.Seats.{SeatFields, heap_of, info_within, info_in, anchor_in}
-use Rattle.word_plan.specs.Sites.{IsSeatOf, IsSiteOf, IsAnchorOf}
+use Rattle.word_plan.specs.Seats.{SeatFields, heap_of, info_in, anchor_in}
+use Rattle.word_plan.specs.Sites.{IsSeatOf, IsSiteOf}
 use Rattle.word_plan.specs.Table.{Exists}
 use Rattle.word_plan.proofs.SeatLemmas.{block_place-within, heap_of-within, block_count_of-least, each-info, each-anchor}
 use Rattle.superblock_parts.specs.declared.point.Share.{Share}
