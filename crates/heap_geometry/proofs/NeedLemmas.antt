@@ -8,7 +8,7 @@ use Rattle.std.specs.Int.{div_ceil}
 use Rattle.heap_geometry.specs.declared.need.Need.{Need}
 use Rattle.heap_geometry.specs.declared.need.Need.TheVariants.{Small, Large, TooLarge}
 use Rattle.heap_geometry.specs.declared.limits.TheConstants.{UNIT_WORDS, CLASSES, SMALL_MOST, LARGE_MOST, MAX_UNITS}
-use Rattle.heap_geometry.specs.Need.{IsNeedOf, IsLeastFor, need_of, class_words, run_words}
+use Rattle.heap_geometry.specs.Need.{IsNeed, IsNeedOf, IsLeastFor, need_of, class_words, run_words, usable_words}
 use Rattle.heap_geometry.proofs.LeastLemmas.{least-enough}
 
 -- a power of two is twice the one before
@@ -52,3 +52,29 @@ need_of-is need (Large units) h =
     rw (lt-leb need SMALL_MOST h.0, le-leb need LARGE_MOST h.1)
     (ap Large (sym (least-enough (suc MAX_UNITS) need units run_words below h.2)))
 need_of-is need TooLarge h = rw (lt-leb need SMALL_MOST (omega arith), lt-leb need LARGE_MOST h) refl
+
+-- as many words as a block has are served by blocks of its kind
+pub need_of-usable : (n : Need) → IsNeed n → 0 < usable_words n → n ≡ need_of (usable_words n)
+need_of-usable (Small class) is some =
+    let most : 2 ^ (class + 1) ≤ 2 ^ CLASSES = let p : class + 1 ≤ CLASSES = omega (arith, is) in pow_mono p in
+    need_of-is (class_words class) (Small class) (
+      omega arith,
+      record {
+        enough = omega arith;
+        least =
+            λ j enough. elim (cases_lt j class) [
+              | inl lower ↦
+                  let power : 2 ^ (j + 1) ≤ 2 ^ class = pow_mono (omega arith) in
+                  let e : 2 ^ (class + 1) ≡ 2 * 2 ^ class = double class in
+                  absurd (omega (arith, enough, pow_pos class))
+              | inr higher ↦ higher
+            ];
+      },
+    )
+need_of-usable (Large units) is some =
+    need_of-is (run_words units) (Large units) (
+      omega (arith, is.0),
+      omega (arith, is.1),
+      record { enough = omega arith; least = λ j enough. omega (arith, enough, is.0) },
+    )
+need_of-usable TooLarge is some = absurd (omega (arith, some))

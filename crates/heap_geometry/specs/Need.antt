@@ -2,7 +2,7 @@
 use Rattle.std.specs.Prelude.{ℕ, zero, suc, Bool, ◌+◌, ◌-◌, ◌*◌, ◌/◌, ◌^◌, ◌<◌, ◌≤◌, nat_le, if◌then◌else◌}
 use Rattle.heap_geometry.specs.declared.need.Need.{Need}
 use Rattle.heap_geometry.specs.declared.need.Need.TheVariants.{Small, Large, TooLarge}
-use Rattle.heap_geometry.specs.declared.limits.TheConstants.{FRAME_WORDS, UNIT_WORDS, CLASSES, SMALL_MOST, LARGE_MOST, MAX_UNITS}
+use Rattle.heap_geometry.specs.declared.limits.TheConstants.{FRAME_WORDS, UNIT_WORDS, CLASSES, SMALL_MOST, LARGE_MOST, LEAST_UNITS, MAX_UNITS}
 
 -- the words of a block of a class, its prefix word among them
 abbrev pub block_words_of : ℕ → ℕ
@@ -29,7 +29,7 @@ usable_words TooLarge = 0
 -- there are such blocks
 abbrev pub IsNeed : Need → Type 0
 IsNeed (Small class) = class < CLASSES
-IsNeed (Large units) = (1 ≤ units) × (units ≤ MAX_UNITS)
+IsNeed (Large units) = (LEAST_UNITS ≤ units) × (units ≤ MAX_UNITS)
 IsNeed TooLarge = Unit {0}
 
 -- k has enough words, and no smaller one has

@@ -1,14 +1,16 @@
 //! Laws of the places: theorems about the definitions, on functions that do nothing.
 
 ghost use Rattle.std.specs.Prelude.{ℕ, ◌≡◌, ◌≢◌, ◌<◌, ◌≤◌, ◌+◌};
-ghost use Rattle.heap_geometry.specs.Need.{block_count_of, IsNeedOf, need_of};
+ghost use Rattle.heap_geometry.specs.Need.{block_count_of, usable_words, IsNeed, IsNeedOf, need_of};
 ghost use Rattle.heap_geometry.specs.Place.{block_span, run_span, IsApart};
 ghost use Rattle.heap_geometry.specs.declared.limits.TheConstants.{CLASSES};
 ghost use Rattle.heap_geometry.specs.declared.need.Need.{Need};
 
-/// An allocation is served by blocks of one kind alone.
+/// An allocation is served by blocks of one kind alone, and blocks of each kind serve one, that of all
+/// their usable words.
 pub fn one_need_serves()
-    ensures { (need : ℕ) (n : Need) → IsNeedOf need n → n ≡ need_of need }
+    ensures one { (need : ℕ) (n : Need) → IsNeedOf need n → n ≡ need_of need }
+    ensures each { (n : Need) → IsNeed n → 0 < usable_words n → n ≡ need_of (usable_words n) }
 {}
 
 /// Two blocks of a frame that are not one block have no word in common, and neither have blocks of
