@@ -1,7 +1,7 @@
 -- The word of a shelf.
 use Rattle.std.specs.Prelude.{ℕ, ◌+◌, ◌-◌, ◌*◌, ◌/◌, ◌^◌, ◌<◌, ◌==◌, nat_lt, if◌then◌else◌, Option, Some, None, option_map}
 use Rattle.heap_geometry.specs.Geometry.{IsWithin}
-use Rattle.heap_geometry.specs.declared.limits.TheConstants.{CLASSES, MAX_UNITS}
+use Rattle.heap_geometry.specs.declared.limits.TheConstants.{CLASSES, LEAST_UNITS, MAX_UNITS}
 use Rattle.heap_geometry.specs.declared.need.Need.{Need}
 use Rattle.heap_geometry.specs.declared.need.Need.TheVariants.{Small, Large, TooLarge}
 use Rattle.packed_words.specs.declared.shelf.ShelfWord.{ShelfWord}
@@ -13,7 +13,7 @@ use Rattle.packed_words.specs.Fields.{bits_at, is_within}
 -- blocks serve the need
 abbrev pub IsBlockNeed : Need → Type 0
 IsBlockNeed (Small class) = class < CLASSES
-IsBlockNeed (Large units) = IsWithin 1 MAX_UNITS units
+IsBlockNeed (Large units) = IsWithin LEAST_UNITS MAX_UNITS units
 IsBlockNeed TooLarge = ⊥
 
 -- nothing, or a place of the arena and a need that blocks serve
@@ -33,7 +33,7 @@ need_of_code code =
     if nat_lt code CLASSES
     then Some (Small code)
     else
-    (if is_within (LARGE_CODE + 1) (LARGE_CODE + MAX_UNITS) code
+    (if is_within (LARGE_CODE + LEAST_UNITS) (LARGE_CODE + MAX_UNITS) code
     then Some (Large (code - LARGE_CODE))
     else None)
 

@@ -5,7 +5,7 @@ ghost use Rattle.packed_words.specs.Fields.{Reads};
 ghost use Rattle.packed_words.specs.Shelf.{IsBlockNeed, IsShelfWord, need_code, need_of_code, shelf_word, shelf_of};
 
 use crate::widths::CODE_BITS;
-use heap_geometry::limits::{CLASSES, FRAME_WORDS, MAX_FRAMES, MAX_UNITS, UNIT_WORDS};
+use heap_geometry::limits::{CLASSES, FRAME_WORDS, LEAST_UNITS, MAX_FRAMES, MAX_UNITS, UNIT_WORDS};
 use heap_geometry::need::Need;
 
 /// The code of a run of units is this and their number. The code of a small block is its class.
@@ -77,9 +77,11 @@ fn need_of_code(code: u8) -> Option<Need>
     ensures { result ≡ need_of_code code }
 {
     if code < CLASSES {
-        Some(Need::Small(code))
-    } else if code > LARGE_CODE && u32::from(code - LARGE_CODE) <= MAX_UNITS {
-        Some(Need::Large(code - LARGE_CODE))
+        return Some(Need::Small(code));
+    }
+    let units = code.saturating_sub(LARGE_CODE);
+    if u32::from(units) >= LEAST_UNITS && u32::from(units) <= MAX_UNITS {
+        Some(Need::Large(units))
     } else {
         None
     }

@@ -1,16 +1,16 @@
 //! How many bits each field of a packed word has, and at which bit it begins.
 
 /// The bits of an anchor's first available block, and of the link from a free block to the next.
-pub const AVAIL_BITS: u32 = 10;
+pub const AVAIL_BITS: u32 = 11;
 
 /// The bits of an anchor's count.
-pub const COUNT_BITS: u32 = 10;
+pub const COUNT_BITS: u32 = 11;
 
 /// The bits of a state's code.
 pub const STATE_BITS: u32 = 2;
 
 /// The bits of an anchor's tag.
-pub const TAG_BITS: u32 = 42;
+pub const TAG_BITS: u32 = 40;
 
 /// Where an anchor's count begins.
 pub const COUNT_AT: u32 = AVAIL_BITS;
