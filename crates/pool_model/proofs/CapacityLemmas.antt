@@ -147,7 +147,7 @@ ends-within :
     (g : Geometry) (n : Need) (place : ℕ) → IsNeed n → IsPlaceFor g n place → place + (1 + usable_words n) ≤ unit_place g.frames g.units
 ends-within g (Small class) place need (frame, index, in_heap, in_frame, is) =
     omega (arith, is, class_span class, block-within class index in_frame)
-ends-within g (Large units) place need (unit, in_heap, is) = omega (arith, is, need.0, run_span_words units need.0)
+ends-within g (Large units) place need (unit, in_heap, is) = omega (arith, is, need.0, run_span_words units need)
 ends-within g TooLarge place need is = absurd is
 
 -- the live blocks of a heap fit into its arena

@@ -185,8 +185,8 @@ clear-of_run g unit units other (Small own) same within (f, i, in_heap, in_f, at
     let fits = block-within own i in_f in
     inr (omega arith)
 clear-of_run g unit units other (Large m) same within (first, in_heap, at) free some =
-    let words : (span_of other).words ≡ UNIT_WORDS * m = rw same (run_span_words m within.0) in
-    let has : 1 ≤ m = within.0 in
+    let words : (span_of other).words ≡ UNIT_WORDS * m = rw same (run_span_words m within) in
+    let has : 1 ≤ m = omega (arith, within.0) in
     elim (cases_lt first (unit + units)) [
       | inr behind ↦ inl (omega arith)
       | inl before ↦ elim (cases_lt unit (first + m)) [
@@ -239,7 +239,7 @@ free-untaken g blocks events kept units place free k from before taken =
     let formed = stored-formed g blocks events kept (unit_place g.frames taken.first) taken.block taken.stored in
     let need : IsNeed (Large taken.units) = subst IsNeed taken.large formed.need in
     let words : (span_of (block_of (unit_place g.frames taken.first) taken.block)).words ≡ UNIT_WORDS * taken.units =
-    rw taken.large (run_span_words taken.units need.0) in
+    rw taken.large (run_span_words taken.units need) in
     let its_from : taken.first ≤ k = taken.from in
     let its_before : k < taken.first + taken.units = taken.before in
     elim (free.clear (unit_place g.frames taken.first) (block_of (unit_place g.frames taken.first) taken.block) live) [

@@ -1,7 +1,7 @@
 -- Which blocks serve a need: they are blocks of the heap.
 use Rattle.std.proofs.Common.{ℕ, zero, suc, Bool, true, false, ◌≡◌, ◌-◌, ◌<◌, ◌≤◌, nat_le, inl, inr, arith}
 use Rattle.std.proofs.lemmas.Bool.{cases_Bool, cases_lt, le-leb, lt-leb}
-use Rattle.heap_geometry.specs.declared.limits.TheConstants.{CLASSES, SMALL_MOST, LARGE_MOST, MAX_UNITS}
+use Rattle.heap_geometry.specs.declared.limits.TheConstants.{CLASSES, SMALL_MOST, LARGE_MOST, LEAST_UNITS, MAX_UNITS}
 use Rattle.heap_geometry.specs.Need.{IsNeed, need_of, least, class_words, run_words}
 
 -- the least number that passes is at most one that passes
@@ -17,10 +17,15 @@ least-at_most (suc bound) (suc k) test below passes =
           rw later (omega arith)
     ]
 
--- where 0 fails, the least number that passes is above it
-pub least-above : (bound : ℕ) (test : ℕ → Bool) → test 0 ≡ false → 1 ≤ least (suc bound) test
+-- where the numbers below one fail, the least number that passes isn't among them
+pub least-above : (bound low : ℕ) (test : ℕ → Bool) → low ≤ bound → ((j : ℕ) → j < low → test j ≡ false) → low ≤ least bound test
 unfolding least
-least-above bound test fails = rw fails (omega arith)
+least-above bound zero test room fails = omega arith
+least-above zero (suc low) test room fails = absurd (omega (arith, room))
+least-above (suc bound) (suc low) test room fails =
+    let h : low ≤ least bound (λ j. test (suc j)) =
+    least-above bound low (λ j. test (suc j)) (omega (arith, room)) (λ j below. fails (suc j) (omega (arith, below))) in
+    rw (fails 0 (omega arith)) (omega (arith, h))
 
 pub need_of-within : (need : ℕ) → IsNeed (need_of need)
 unfolding need_of
@@ -36,7 +41,8 @@ need_of-within need =
           (elim (cases_lt LARGE_MOST need) [
             | inr large ↦
                 rw (le-leb need LARGE_MOST large) (
-                  least-above MAX_UNITS (λ units. nat_le need (run_words units)) (lt-leb need (run_words 0) (omega arith)),
+                  least-above (suc MAX_UNITS) LEAST_UNITS (λ units. nat_le need (run_words units)) (omega arith)
+                      (λ units few. lt-leb need (run_words units) (omega (arith, above, few))),
                   least-at_most (suc MAX_UNITS) MAX_UNITS (λ units. nat_le need (run_words units)) (omega arith)
                       (le-leb need (run_words MAX_UNITS) large),
                 )

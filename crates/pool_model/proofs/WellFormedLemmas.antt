@@ -40,8 +40,8 @@ sound-differ g pool sound = pairs-map IsSeparate Differ pool separate-differ sou
 pub class_span : (class : ℕ) → 1 + usable_words (Small class) ≡ block_words_of class
 class_span class = omega (arith, pow_pos (class + 1))
 
-pub run_span_words : (units : ℕ) → 1 ≤ units → 1 + usable_words (Large units) ≡ UNIT_WORDS * units
-run_span_words units some = omega arith
+pub run_span_words : (units : ℕ) → IsNeed (Large units) → 1 + usable_words (Large units) ≡ UNIT_WORDS * units
+run_span_words units is = omega (arith, is.0)
 
 pub apart-same : (a b c : Span) → b.first ≡ a.first → b.words ≡ a.words → IsApart a c → IsApart b c
 apart-same a b c first words apart = elim apart [ inl h ↦ inl (omega arith) | inr h ↦ inr (omega arith) ]
@@ -55,7 +55,7 @@ free-apart g pool (Small class) block need within free place other found =
     apart-same (block_span free.frame class free.index) (span_of block) (span_of other) free.is_place words
     (free.clear place other found)
 free-apart g pool (Large units) block need within free place other found =
-    let words : 1 + usable_words block.need ≡ UNIT_WORDS * units = rw need (run_span_words units within.0) in
+    let words : 1 + usable_words block.need ≡ UNIT_WORDS * units = rw need (run_span_words units within) in
     apart-same (run_span g.frames free.unit units) (span_of block) (span_of other) free.is_place words
     (free.clear place other found)
 free-apart g pool TooLarge block need within free place other found = absurd free

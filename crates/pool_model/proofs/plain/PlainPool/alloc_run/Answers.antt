@@ -1,4 +1,4 @@
-use Rattle.std.proofs.Common.{◌≡◌, List, [], ◌∷◌, ◌++◌, sym, ◌∙◌, ap, subst}
+use Rattle.std.proofs.Common.{◌≡◌, List, [], ◌∷◌, ◌++◌, sym, ◌∙◌, ap, subst, arith}
 use Rattle.heap_geometry.specs.declared.need.Need.TheVariants.{Large}
 use Rattle.heap_geometry.specs.Need.{IsNeed}
 use Rattle.pool_model.specs.declared.event.Event.{Event}
@@ -12,7 +12,7 @@ use Rattle.pool_model.proofs.RefusalLemmas.{kept-refused_run}
 use Rattle.pool_model.proofs.plain.PlainPool.alloc_run.Goals as goal
 
 pub run_place-requires-clause-some : goal.run_place-requires-clause-some
-run_place-requires-clause-some c = (subst IsNeed c.requires.units (need_of-within c.args.need)).0
+run_place-requires-clause-some c = omega (arith, (subst IsNeed c.requires.units (need_of-within c.args.need)).0)
 
 pub run_place-requires-clause-within : goal.run_place-requires-clause-within
 run_place-requires-clause-within c = (subst IsNeed c.requires.units (need_of-within c.args.need)).1
