@@ -9,11 +9,11 @@ use std::process::Abort;
 use word_plan::action::{Action, Found};
 use word_plan::name::WordName;
 
-/// One frame, one processor heap, two units and two callers of three turns each.
+/// One frame, one processor heap, three units and two callers of three turns each.
 const GEOMETRY: Geometry = Geometry {
     frames: 1,
     heaps: 1,
-    units: 2,
+    units: 3,
     callers: 2,
     turn_limit: 3,
 };
@@ -71,25 +71,25 @@ fn counts(errand: &Errand) -> (bool, u64, u64, u64, u64) {
     )
 }
 
-/// A run of one unit is taken in three steps, and the exchange that takes it gives the block. A lost
+/// A run of two units is taken in three steps, and the exchange that takes it gives the block. A lost
 /// exchange loads the units again. It takes no turn; a small allocation does.
 #[test]
 fn a_run_is_taken(rt: HostRuntime) {
-    let (errand, begun) = alloc(Errand::open(1, GEOMETRY), 1024);
+    let (errand, begun) = alloc(Errand::open(1, GEOMETRY), 2048);
     assert_eq!(rt; begun, Some(Begun::Started));
     let given = Event::Alloc {
         caller: 1,
-        need: 1024,
-        place: 4096,
+        need: 2048,
+        place: 6144,
     };
     let reply = Reply::Given {
-        place: 4096,
-        need: Need::Large(1),
+        place: 6144,
+        need: Need::Large(2),
     };
     let units = Action::Load(WordName::Units);
-    let first = Action::Cas(WordName::Units, 0, 1);
-    let second = Action::Cas(WordName::Units, 1, 3);
-    let prefix = Action::Store(WordName::Arena(4096), 3);
+    let first = Action::Cas(WordName::Units, 0, 3);
+    let second = Action::Cas(WordName::Units, 1, 7);
+    let prefix = Action::Store(WordName::Arena(6144), 5);
     let rows = [
         goes_on(0, units),
         (1, false, (first, None, Progress::Lost)),
@@ -108,18 +108,18 @@ fn refused_steps(desc: u16, progress: Progress) -> [Row; 12] {
     let name = u64::from(desc) + 1;
     let looked = Event::Looked {
         caller: 0,
-        class: 9,
+        class: 10,
     };
     let refused = Event::Refuse {
         caller: 0,
-        need: 1023,
+        need: 2047,
     };
-    let look = Action::Cas(WordName::ListHead(9), 0, 0);
+    let look = Action::Cas(WordName::ListHead(10), 0, 0);
     let refuse = Action::Cas(WordName::FrameHead, 65_536, 65_536);
     [
-        goes_on(0, Action::Load(WordName::Active(0, 9))),
-        goes_on(0, Action::Load(WordName::Slot(0, 9))),
-        goes_on(0, Action::Load(WordName::ListHead(9))),
+        goes_on(0, Action::Load(WordName::Active(0, 10))),
+        goes_on(0, Action::Load(WordName::Slot(0, 10))),
+        goes_on(0, Action::Load(WordName::ListHead(10))),
         (0, true, (look, Some(looked), Progress::More)),
         goes_on(name, Action::Load(WordName::DescHead)),
         goes_on(0, Action::Store(WordName::Hazard(0), name)),
@@ -142,7 +142,7 @@ fn refused_thrice<R: Abort>(rt: &R) -> Errand {
         Progress::More,
     ];
     for (desc, progress) in (0u16..3).zip(progresses) {
-        let (after, begun) = alloc(errand, 1023);
+        let (after, begun) = alloc(errand, 2047);
         assert_eq!(rt; begun, Some(Begun::Started));
         errand = steps(rt, after, &refused_steps(desc, progress));
     }
@@ -183,28 +183,28 @@ fn who_has_no_turn_left_is_spent(rt: HostRuntime) {
     assert_eq!(rt; told, None);
 }
 
-/// A caller that has begun to free a block of the largest class; and a run of one unit.
+/// A caller that has begun to free a block of the largest class; and a run of two units.
 fn frees() -> [Errand; 2] {
     let mut small = Errand::open(0, GEOMETRY);
-    small.begin_free(1024, Need::Small(9));
+    small.begin_free(2048, Need::Small(10));
     let mut large = Errand::open(0, GEOMETRY);
-    large.begin_free(2048, Need::Large(1));
+    large.begin_free(4096, Need::Large(2));
     [small, large]
 }
 
 /// A caller that has begun to write a word of its block; and to read it.
 fn words() -> [Errand; 2] {
     let mut write = Errand::open(0, GEOMETRY);
-    write.begin_write(1024, Need::Small(9), 5, 7);
+    write.begin_write(2048, Need::Small(10), 5, 7);
     let mut read = Errand::open(0, GEOMETRY);
-    read.begin_read(1024, Need::Small(9), 5);
+    read.begin_read(2048, Need::Small(10), 5);
     [write, read]
 }
 
 /// A caller that has begun to put its block on a shelf; and to take one from there.
 fn shelved() -> [Errand; 2] {
     let mut put = Errand::open(0, GEOMETRY);
-    put.begin_put(2048, Need::Large(1), 4);
+    put.begin_put(4096, Need::Large(2), 4);
     let mut take = Errand::open(0, GEOMETRY);
     take.begin_take(4);
     [put, take]
@@ -214,21 +214,21 @@ fn shelved() -> [Errand; 2] {
 #[test]
 fn calls_begin_at_their_words(rt: HostRuntime) {
     let [small, large] = frees();
-    let rows = [goes_on(0, Action::Load(WordName::Arena(1024)))];
+    let rows = [goes_on(0, Action::Load(WordName::Arena(2048)))];
     let _ = steps(&rt, small, &rows);
-    let rows = [goes_on(3, Action::Load(WordName::Arena(2048)))];
+    let rows = [goes_on(5, Action::Load(WordName::Arena(4096)))];
     let _ = steps(&rt, large, &rows);
     let [write, read] = words();
     let wrote = Event::Write {
         caller: 0,
-        place: 1024,
+        place: 2048,
         i: 5,
         v: 7,
     };
-    let store = Action::Store(WordName::Arena(1030), 7);
+    let store = Action::Store(WordName::Arena(2054), 7);
     let done = Progress::Done(Reply::Wrote);
     let _ = steps(&rt, write, &[(0, true, (store, Some(wrote), done))]);
-    let load = Action::Load(WordName::Arena(1030));
+    let load = Action::Load(WordName::Arena(2054));
     let done = Progress::Done(Reply::Word(7));
     let _ = steps(&rt, read, &[(7, true, (load, None, done))]);
 }
@@ -238,17 +238,17 @@ fn calls_begin_at_their_words(rt: HostRuntime) {
 fn shelves_are_the_first_words_of_puts_and_takes(rt: HostRuntime) {
     let [put, take] = shelved();
     let offer = Offer {
-        place: 2048,
-        need: Need::Large(1),
+        place: 4096,
+        need: Need::Large(2),
     };
     assert_eq!(rt; put.offered(), Some(offer));
     assert_eq!(rt; take.offered(), None);
     let shelved = Event::Put {
         caller: 0,
-        place: 2048,
+        place: 4096,
         shelf: 4,
     };
-    let exchange = Action::Cas(WordName::Shelf(4), 0, 262_289);
+    let exchange = Action::Cas(WordName::Shelf(4), 0, 524_434);
     let done = Progress::Done(Reply::Put);
     let _ = steps(&rt, put, &[(0, true, (exchange, Some(shelved), done))]);
     let rows = [goes_on(0, Action::Load(WordName::Shelf(4)))];

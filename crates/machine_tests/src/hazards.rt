@@ -13,7 +13,7 @@ use word_plan::action::Action;
 use word_plan::name::WordName::{DescHead, Hazard, Next};
 use word_plan::seat::Seat;
 
-/// A heap of these numbers has 66 descriptors.
+/// A heap of these numbers has 72 descriptors.
 const GEOMETRY: Geometry = Geometry {
     frames: 1,
     heaps: 1,
@@ -98,12 +98,12 @@ fn a_scan_reads_each_hazard_word(rt: HostRuntime) {
     }
 }
 
-/// The last descriptor's name is 66. A hazard word that names a later one names none.
+/// The last descriptor's name is 72. A hazard word that names a later one names none.
 #[test]
 fn a_hazard_word_of_no_descriptor_is_not_noted(rt: HostRuntime) {
-    let held = scanned(&rt, 66, 67);
-    assert!(rt; held.names(65));
-    assert!(rt; !held.names(66));
+    let held = scanned(&rt, 72, 73);
+    assert!(rt; held.names(71));
+    assert!(rt; !held.names(72));
 }
 
 /// Clearing the hazard word is one step.
@@ -114,16 +114,16 @@ fn a_hazard_word_is_cleared(rt: HostRuntime) {
     assert!(rt; matches!(cleared, DescPoint::Cleared { .. }));
 }
 
-/// The last descriptor's name is 66. A word that names a later one leaves the point, as does a head
+/// The last descriptor's name is 72. A word that names a later one leaves the point, as does a head
 /// of no descriptor where one is to be taken.
 #[test]
 fn words_that_are_not_expected(rt: HostRuntime) {
     let seat = seat(&rt);
     let rows = [
         (DescPoint::LoadDescHead { seat }, 0),
-        (DescPoint::LoadDescHead { seat }, 67),
-        (DescPoint::LoadNextDesc { seat, desc: 0 }, 67),
-        (DescPoint::LoadHeadToPush { seat, desc: 0 }, 67),
+        (DescPoint::LoadDescHead { seat }, 73),
+        (DescPoint::LoadNextDesc { seat, desc: 0 }, 73),
+        (DescPoint::LoadHeadToPush { seat, desc: 0 }, 73),
     ];
     stay(&rt, &rows);
 }
@@ -132,8 +132,8 @@ fn words_that_are_not_expected(rt: HostRuntime) {
 #[test]
 fn the_last_descriptor_is_guarded(rt: HostRuntime) {
     let load = DescPoint::LoadDescHead { seat: seat(&rt) };
-    let point = walk(&rt, load, &[(Action::Load(DescHead), 66, true)]);
-    assert!(rt; matches!(point, DescPoint::StoreHazard { desc: 65, .. }));
+    let point = walk(&rt, load, &[(Action::Load(DescHead), 72, true)]);
+    assert!(rt; matches!(point, DescPoint::StoreHazard { desc: 71, .. }));
 }
 
 /// These hazard words, and none of the other callers.

@@ -15,7 +15,7 @@ use word_plan::name::WordName::{Arena, Shelf, Units};
 const GEOMETRY: Geometry = Geometry {
     frames: 1,
     heaps: 1,
-    units: 1,
+    units: 2,
     callers: 2,
     turn_limit: 100,
 };
@@ -35,31 +35,31 @@ fn steps<R: Abort>(rt: &R, point: LargePoint, rows: &[Row]) -> LargePoint {
     point
 }
 
-/// A block of 1,024 usable words takes the first unit behind the one frame.
+/// An allocation of 2,048 words takes the first two units behind the one frame.
 #[test]
-fn a_large_block_takes_a_unit(rt: HostRuntime) {
+fn a_large_block_takes_two_units(rt: HostRuntime) {
     let rows = [
         (Action::Load(Units), 0, 0),
-        (Action::Cas(Units, 0, 1), 0, 1),
-        (Action::Store(Arena(2048), 3), 0, 3),
+        (Action::Cas(Units, 0, 3), 0, 3),
+        (Action::Store(Arena(4096), 5), 0, 5),
     ];
     let load = LargePoint::LoadUnits {
-        want: Want::new(GEOMETRY, 1),
+        want: Want::new(GEOMETRY, 2),
     };
     let given = steps(&rt, load, &rows);
-    assert!(rt; matches!(given, LargePoint::GivenRun { place: 2048, .. }));
+    assert!(rt; matches!(given, LargePoint::GivenRun { place: 4096, .. }));
 }
 
-/// It gives the unit back.
+/// It gives the units back.
 #[test]
 fn a_large_block_is_freed(rt: HostRuntime) {
     let rows = [
-        (Action::Load(Arena(2048)), 3, 3),
-        (Action::And(Units, u64::MAX - 1), 1, 0),
+        (Action::Load(Arena(4096)), 5, 5),
+        (Action::And(Units, u64::MAX - 3), 3, 0),
     ];
     let load = LargePoint::LoadRunPrefix {
-        place: 2048,
-        run: Run::new(0, 1),
+        place: 4096,
+        run: Run::new(0, 2),
     };
     assert!(rt; matches!(steps(&rt, load, &rows), LargePoint::FreedRun));
 }
@@ -68,7 +68,7 @@ fn a_large_block_is_freed(rt: HostRuntime) {
 #[test]
 fn no_run_is_free(rt: HostRuntime) {
     let point = LargePoint::TakeRun {
-        want: Want::new(GEOMETRY, 2),
+        want: Want::new(GEOMETRY, 3),
         bits: 0,
     };
     let exchange = Action::Cas(Units, 0, 0);
@@ -83,29 +83,29 @@ fn no_run_is_free(rt: HostRuntime) {
 fn a_block_is_put_on_a_shelf(rt: HostRuntime) {
     let put = LargePoint::PutBlock {
         shelf: 5,
-        place: 2048,
-        need: Need::Large(1),
+        place: 4096,
+        need: Need::Large(2),
     };
-    let action = Action::Cas(Shelf(5), 0, 262_289);
-    let done = steps(&rt, put, &[(action, 0, 262_289)]);
+    let action = Action::Cas(Shelf(5), 0, 524_434);
+    let done = steps(&rt, put, &[(action, 0, 524_434)]);
     assert!(rt; matches!(done, LargePoint::PutDone));
-    let full = steps(&rt, put, &[(action, 262_289, 262_289)]);
-    assert!(rt; matches!(full, LargePoint::ShelfFull { found: 262_289 }));
+    let full = steps(&rt, put, &[(action, 524_434, 524_434)]);
+    assert!(rt; matches!(full, LargePoint::ShelfFull { found: 524_434 }));
 }
 
 /// It is taken from there, which leaves nothing; where another caller took it first, it is missed.
 #[test]
 fn a_block_is_taken_from_a_shelf(rt: HostRuntime) {
     let look = LargePoint::LoadShelf { shelf: 5 };
-    let take = steps(&rt, look, &[(Action::Load(Shelf(5)), 262_289, 262_289)]);
-    let action = Action::Cas(Shelf(5), 262_289, 0);
-    let got = steps(&rt, take, &[(action, 262_289, 0)]);
+    let take = steps(&rt, look, &[(Action::Load(Shelf(5)), 524_434, 524_434)]);
+    let action = Action::Cas(Shelf(5), 524_434, 0);
+    let got = steps(&rt, take, &[(action, 524_434, 0)]);
     assert!(rt;
         matches!(
             got,
             LargePoint::Got {
-                place: 2048,
-                need: Need::Large(1)
+                place: 4096,
+                need: Need::Large(2)
             }
         )
     );
@@ -114,7 +114,7 @@ fn a_block_is_taken_from_a_shelf(rt: HostRuntime) {
         matches!(
             missed,
             LargePoint::Missed {
-                expected: 262_289,
+                expected: 524_434,
                 found: 0
             }
         )
@@ -136,17 +136,17 @@ fn nothing_lies_on_a_shelf(rt: HostRuntime) {
 #[test]
 fn usable_words(rt: HostRuntime) {
     let write = LargePoint::StoreWord {
-        place: 2048,
+        place: 4096,
         index: 3,
         value: 10,
     };
-    let wrote = steps(&rt, write, &[(Action::Store(Arena(2052), 10), 0, 10)]);
+    let wrote = steps(&rt, write, &[(Action::Store(Arena(4100), 10), 0, 10)]);
     assert!(rt; matches!(wrote, LargePoint::Wrote));
     let read = LargePoint::LoadWord {
-        place: 2048,
+        place: 4096,
         index: 3,
     };
-    let word = steps(&rt, read, &[(Action::Load(Arena(2052)), 10, 10)]);
+    let word = steps(&rt, read, &[(Action::Load(Arena(4100)), 10, 10)]);
     assert!(rt; matches!(word, LargePoint::Word { value: 10 }));
 }
 

@@ -17,21 +17,21 @@ use word_plan::name::WordName;
 #[test]
 fn a_pop_is_lost_where_another_came_between(rt: HostRuntime) -> Result<(), Fail> {
     let deeds = [
-        Deed::Begins(0, 1023, Begun::Started),
-        Deed::Begins(1, 1023, Begun::Started),
+        Deed::Begins(0, 2047, Begun::Started),
+        Deed::Begins(1, 2047, Begun::Started),
         Deed::Slots(5, 6, 11),
-        Deed::Word(WordName::Anchor(0), 5_242_881),
-        Deed::Word(WordName::Active(0, 9), 0),
+        Deed::Word(WordName::Anchor(0), 20_971_521),
+        Deed::Word(WordName::Active(0, 10), 0),
         Deed::Slot(0, Progress::Lost),
     ];
-    script(&rt, rt.alloc(), heap(1, 0, 2, 9), Some(9), &deeds)
+    script(&rt, rt.alloc(), heap(1, 0, 2, 9), Some(10), &deeds)
 }
 
-/// An allocation of 1,023 words, which is given this place.
+/// An allocation of 2,047 words, which is given this place.
 fn given(caller: u32, place: u32) -> Event {
     Event::Alloc {
         caller,
-        need: 1023,
+        need: 2047,
         place,
     }
 }
@@ -39,23 +39,23 @@ fn given(caller: u32, place: u32) -> Event {
 #[test]
 fn a_lost_pop_begins_again(rt: HostRuntime) -> Result<(), Fail> {
     let deeds = [
-        Deed::Begins(0, 1023, Begun::Started),
-        Deed::Begins(1, 1023, Begun::Started),
+        Deed::Begins(0, 2047, Begun::Started),
+        Deed::Begins(1, 2047, Begun::Started),
         Deed::Slots(5, 6, 11),
         Deed::Slots(4, 0, 4),
-        Deed::Word(WordName::Anchor(0), 9_437_184),
+        Deed::Word(WordName::Anchor(0), 37_748_736),
         Deed::Events(2),
         Deed::Told(0, given(1, 0)),
-        Deed::Told(1, given(0, 1024)),
+        Deed::Told(1, given(0, 2048)),
         Deed::Steps(15),
         Deed::Counts(0, 1, 2, 1, 0),
         Deed::Counts(1, 1, 2, 0, 0),
     ];
-    script(&rt, rt.alloc(), heap(1, 0, 2, 9), Some(9), &deeds)
+    script(&rt, rt.alloc(), heap(1, 0, 2, 9), Some(10), &deeds)
 }
 
 /// A need that two blocks of one superblock serve.
-const HALF: Need = Need::Small(9);
+const HALF: Need = Need::Small(10);
 
 // The free of the first block of a FULL superblock makes that PARTIAL, and puts it into its slot.
 #[test]
@@ -65,19 +65,30 @@ fn a_full_superblock_becomes_partial(rt: HostRuntime) -> Result<(), Fail> {
         place: 0,
     };
     let deeds = [
-        Deed::Allocates(1023, 7, 0, HALF),
-        Deed::Allocates(1023, 7, 1024, HALF),
+        Deed::Allocates(2047, 7, 0, HALF),
+        Deed::Allocates(2047, 7, 2048, HALF),
         Deed::Asks(0, 0, HALF, Request::Free),
         Deed::Slots(4, 0, 4),
-        Deed::Word(WordName::Anchor(0), 10_486_784),
+        Deed::Word(WordName::Anchor(0), 41_945_088),
         Deed::Last(freed),
         Deed::Ends(2, Reply::Freed),
-        Deed::Word(WordName::Slot(0, 9), 1),
-        Deed::Allocates(1023, 11, 0, HALF),
-        Deed::Word(WordName::Anchor(0), 13_631_488),
-        Deed::Word(WordName::Slot(0, 9), 0),
+        Deed::Word(WordName::Slot(0, 10), 1),
+        Deed::Allocates(2047, 11, 0, HALF),
+        Deed::Word(WordName::Anchor(0), 54_525_952),
+        Deed::Word(WordName::Slot(0, 10), 0),
     ];
-    script(&rt, rt.alloc(), heap(1, 0, 1, 9), Some(9), &deeds)
+    script(&rt, rt.alloc(), heap(1, 0, 1, 9), Some(10), &deeds)
+}
+
+// A block of the largest class has as many usable words as one unit, and is no run of one.
+#[test]
+fn a_small_block_is_not_freed_as_a_run(rt: HostRuntime) -> Result<(), Fail> {
+    let deeds = [
+        Deed::Allocates(2047, 7, 0, HALF),
+        Deed::CannotAsk(0, 0, Need::Large(1), Request::Free),
+        Deed::Calls(0, HALF, Request::Free, 4, Reply::Freed),
+    ];
+    script(&rt, rt.alloc(), heap(1, 0, 1, 9), Some(10), &deeds)
 }
 
 // A superblock becomes EMPTY, and its frame goes to the stack; so the next allocation looks for a partial
@@ -86,23 +97,23 @@ fn a_full_superblock_becomes_partial(rt: HostRuntime) -> Result<(), Fail> {
 fn an_empty_superblock_gives_its_frame_back(rt: HostRuntime) -> Result<(), Fail> {
     let looked = Event::Looked {
         caller: 0,
-        class: 9,
+        class: 10,
     };
     let deeds = [
-        Deed::Allocates(1023, 7, 0, HALF),
-        Deed::Allocates(1023, 7, 1024, HALF),
+        Deed::Allocates(2047, 7, 0, HALF),
+        Deed::Allocates(2047, 7, 2048, HALF),
         Deed::Calls(0, HALF, Request::Free, 6, Reply::Freed),
-        Deed::Calls(1024, HALF, Request::Free, 12, Reply::Freed),
+        Deed::Calls(2048, HALF, Request::Free, 12, Reply::Freed),
         Deed::Word(WordName::FrameHead, 1),
-        Deed::Word(WordName::Slot(0, 9), 0),
+        Deed::Word(WordName::Slot(0, 10), 0),
         Deed::Word(WordName::Hazard(0), 0),
-        Deed::Begins(0, 1023, Begun::Started),
+        Deed::Begins(0, 2047, Begun::Started),
         Deed::Slots(13, 0, 13),
         Deed::Word(WordName::FrameHead, 65_536),
         Deed::Last(looked),
         Deed::Steps(45),
     ];
-    script(&rt, rt.alloc(), heap(1, 0, 1, 9), Some(9), &deeds)
+    script(&rt, rt.alloc(), heap(1, 0, 1, 9), Some(10), &deeds)
 }
 
 // The 64th allocation takes the last of the 64 credits, and installs 64 others.
@@ -111,7 +122,7 @@ fn the_last_credit_fetches_others(rt: HostRuntime) -> Result<(), Fail> {
     let deeds = [
         Deed::AllocatesTimes(3, 64),
         Deed::Steps(449),
-        Deed::Word(WordName::Anchor(0), 268_828_736),
+        Deed::Word(WordName::Anchor(0), 1_075_576_896),
         Deed::Word(WordName::Active(0, 1), 127),
     ];
     script(&rt, rt.alloc(), heap(1, 0, 1, 99), Some(1), &deeds)
@@ -121,11 +132,11 @@ fn the_last_credit_fetches_others(rt: HostRuntime) -> Result<(), Fail> {
 #[test]
 fn a_new_superblock_offers_64_blocks_beside_the_first(rt: HostRuntime) -> Result<(), Fail> {
     let deeds = [
-        Deed::Allocates(3, 529, 0, THREE),
-        Deed::Word(WordName::Anchor(0), 1 + 447 * 1024),
+        Deed::Allocates(3, 1041, 0, THREE),
+        Deed::Word(WordName::Anchor(0), 1 + 959 * 2048),
         Deed::Word(WordName::Active(0, 1), 127),
         Deed::AllocatesTimes(3, 64),
-        Deed::Word(WordName::Anchor(0), 268_827_713),
+        Deed::Word(WordName::Anchor(0), 1_075_574_849),
         Deed::Word(WordName::Active(0, 1), 127),
     ];
     script(&rt, rt.alloc(), heap(1, 0, 1, 99), None, &deeds)
@@ -133,26 +144,26 @@ fn a_new_superblock_offers_64_blocks_beside_the_first(rt: HostRuntime) -> Result
 
 #[test]
 fn a_large_block_is_shelved_and_freed(rt: HostRuntime) -> Result<(), Fail> {
-    let need = Need::Large(1);
-    let got = Reply::Got { place: 2048, need };
+    let need = Need::Large(2);
+    let got = Reply::Got { place: 4096, need };
     let deeds = [
-        Deed::Allocates(1024, 3, 2048, need),
-        Deed::Word(WordName::Units, 1),
-        Deed::Word(WordName::Arena(2048), 3),
-        Deed::Calls(2048, need, Request::Put(4), 1, Reply::Put),
-        Deed::Word(WordName::Shelf(4), 262_289),
+        Deed::Allocates(2048, 3, 4096, need),
+        Deed::Word(WordName::Units, 3),
+        Deed::Word(WordName::Arena(4096), 5),
+        Deed::Calls(4096, need, Request::Put(4), 1, Reply::Put),
+        Deed::Word(WordName::Shelf(4), 524_434),
         Deed::Takes(4, 2, got),
-        Deed::Calls(2048, need, Request::Free, 2, Reply::Freed),
+        Deed::Calls(4096, need, Request::Free, 2, Reply::Freed),
         Deed::Takes(4, 2, Reply::Empty),
         Deed::Word(WordName::Units, 0),
     ];
-    script(&rt, rt.alloc(), heap(1, 2, 1, 9), None, &deeds)
+    script(&rt, rt.alloc(), heap(1, 3, 1, 9), None, &deeds)
 }
 
 #[test]
 fn words_are_read_as_written(rt: HostRuntime) -> Result<(), Fail> {
     let deeds = [
-        Deed::Allocates(3, 529, 0, THREE),
+        Deed::Allocates(3, 1041, 0, THREE),
         Deed::Calls(0, THREE, Request::Write(0, 5), 1, Reply::Wrote),
         Deed::Calls(0, THREE, Request::Write(1, 6), 1, Reply::Wrote),
         Deed::Calls(0, THREE, Request::Write(2, 7), 1, Reply::Wrote),
@@ -168,7 +179,7 @@ fn words_are_read_as_written(rt: HostRuntime) -> Result<(), Fail> {
 fn a_shelf_holds_one_block(rt: HostRuntime) -> Result<(), Fail> {
     let full = Reply::Full { found: 129 };
     let deeds = [
-        Deed::Allocates(3, 529, 0, THREE),
+        Deed::Allocates(3, 1041, 0, THREE),
         Deed::Calls(0, THREE, Request::Put(0), 1, Reply::Put),
         Deed::Allocates(3, 7, 4, THREE),
         Deed::Calls(4, THREE, Request::Put(0), 1, full),
@@ -181,11 +192,11 @@ fn the_turn_limit_ends_small_allocations(rt: HostRuntime) -> Result<(), Fail> {
     let deeds = [
         Deed::Begins(0, 1, Begun::Started),
         Deed::Finishes,
-        Deed::Word(WordName::Anchor(0), 982_017),
+        Deed::Word(WordName::Anchor(0), 4_061_185),
         Deed::Word(WordName::Active(0, 0), 127),
         Deed::Begins(0, 1, Begun::Spent),
         Deed::Begins(0, 131_072, Begun::TooLarge),
-        Deed::Begins(0, 1024, Begun::Started),
+        Deed::Begins(0, 2048, Begun::Started),
     ];
     script(&rt, rt.alloc(), heap(4, 2, 1, 1), None, &deeds)
 }
@@ -194,11 +205,11 @@ fn the_turn_limit_ends_small_allocations(rt: HostRuntime) -> Result<(), Fail> {
 fn slots_of_an_idle_caller_are_no_steps(rt: HostRuntime) -> Result<(), Fail> {
     let looked = Event::Looked {
         caller: 0,
-        class: 9,
+        class: 10,
     };
     let deeds = [
         Deed::Slot(0, Progress::Idle),
-        Deed::Begins(0, 1023, Begun::Started),
+        Deed::Begins(0, 2047, Begun::Started),
         Deed::Slots(30, 0, 19),
         Deed::Idle(0),
         Deed::Events(2),
@@ -210,7 +221,7 @@ fn slots_of_an_idle_caller_are_no_steps(rt: HostRuntime) -> Result<(), Fail> {
 
 /// Caller 1 alone is given a block and frees it, in as many steps as where no other caller is.
 fn caller_1_alone<R: Abort>(rt: &R, core: &mut Core) -> Result<(), Fail> {
-    let deeds = [Deed::Begins(1, 1, Begun::Started), Deed::Alone(1, 1041)];
+    let deeds = [Deed::Begins(1, 1, Begun::Started), Deed::Alone(1, 2065)];
     play(rt, core, &deeds)?;
     let place = place_given(core, 1, 1).unwrap_or(u32::MAX);
     let freed = Event::Free { caller: 1, place };
@@ -244,13 +255,13 @@ fn a_guarded_descriptor_is_not_made_available(rt: HostRuntime) -> Result<(), Fai
     let deeds = [
         Deed::StopsAfter(38),
         Deed::Word(WordName::Hazard(0), 1),
-        Deed::Begins(1, 1023, Begun::Started),
+        Deed::Begins(1, 2047, Begun::Started),
         Deed::Alone(1, 17),
         Deed::Word(WordName::DescHead, 3),
-        Deed::Begins(1, 1023, Begun::Started),
+        Deed::Begins(1, 2047, Begun::Started),
         Deed::Alone(1, 17),
         Deed::Word(WordName::DescHead, 2),
-        Deed::Begins(1, 1023, Begun::Started),
+        Deed::Begins(1, 2047, Begun::Started),
         Deed::Alone(1, 17),
         Deed::Word(WordName::DescHead, 3),
         Deed::Alone(0, 6),
@@ -288,19 +299,19 @@ fn allocate_and_free(core: &mut Core, count: u64) -> Result<(), AllocError> {
 /// the last credit of its own when caller 0 looks again.
 fn lose_three_times(core: &mut Core) -> Result<(), AllocError> {
     let _ = begin(core, 0, 1);
-    slots(core, 1039)?;
-    allocate_and_free(core, 1041)?;
+    slots(core, 2063)?;
+    allocate_and_free(core, 2065)?;
     slots(core, 1)?;
     for left in [699, 700] {
         allocate_and_free(core, left)?;
-        slots(core, 1042)?;
+        slots(core, 2066)?;
         allocate_and_free(core, 5)?;
         slots(core, 1)?;
     }
     allocate_and_free(core, 700)
 }
 
-// From one lost exchange to the end of its call a caller makes 1,049 steps: 1,024 blocks are linked.
+// From one lost exchange to the end of its call a caller makes 2,073 steps: 2,048 blocks are linked.
 #[test]
 fn a_turn_of_most_steps(rt: HostRuntime) -> Result<(), Fail> {
     let mut core = open(&rt, rt.alloc(), heap(2, 0, 2, 999), None)?;
@@ -312,7 +323,7 @@ fn a_turn_of_most_steps(rt: HostRuntime) -> Result<(), Fail> {
     };
     let deeds = [
         Deed::Counts(0, 3, 8, 3, 0),
-        Deed::Alone(0, 1049),
+        Deed::Alone(0, 2073),
         Deed::Counts(0, 4, 13, 3, 0),
         Deed::Last(given),
     ];

@@ -8,23 +8,23 @@ use packed_words::info::Info;
 use packed_words::prefix::{Prefix, link_of};
 use packed_words::shelf::ShelfWord;
 
-/// Each code of a state stands in bits 20 and 21.
+/// Each code of a state stands in bits 22 and 23.
 #[test]
 fn anchors(rt: HostRuntime) {
     let rows = [
-        (Anchor::new(1, 959, State::Active, 0), 982_017),
-        (Anchor::new(65, 383, State::Active, 64), 268_827_713),
-        (Anchor::new(1, 959, State::Active, 64), 269_417_473),
-        (Anchor::new(0, 0, State::Full, 0), 1 << 20),
-        (Anchor::new(0, 0, State::Partial, 0), 2 << 20),
-        (Anchor::new(0, 0, State::Empty, 0), 3 << 20),
+        (Anchor::new(1, 1983, State::Active, 0), 4_061_185),
+        (Anchor::new(65, 895, State::Active, 64), 1_075_574_849),
+        (Anchor::new(1, 1983, State::Active, 64), 1_077_803_009),
+        (Anchor::new(0, 0, State::Full, 0), 1 << 22),
+        (Anchor::new(0, 0, State::Partial, 0), 2 << 22),
+        (Anchor::new(0, 0, State::Empty, 0), 3 << 22),
     ];
     for (anchor, word) in rows {
         assert_eq!(rt; (anchor.pack(), Anchor::unpack(word)), (word, anchor));
     }
-    let again = Anchor::unpack(269_417_473);
+    let again = Anchor::unpack(1_077_803_009);
     let fields = (again.avail(), again.count(), again.state(), again.tag());
-    assert_eq!(rt; fields, (1, 959, State::Active, 64));
+    assert_eq!(rt; fields, (1, 1983, State::Active, 64));
 }
 
 #[test]
@@ -65,16 +65,16 @@ fn prefixes(rt: HostRuntime) {
     for word in [1, 131] {
         assert_eq!(rt; Prefix::unpack(word), None);
     }
-    assert_eq!(rt; link_of(5 * 1024 + 3), 3);
+    assert_eq!(rt; link_of(5 * 2048 + 3), 3);
 }
 
 #[test]
 fn infos(rt: HostRuntime) {
-    let info = Info::new(1023, 15, 9);
-    let word = 1023 + 15 * 65_536 + 9 * 16_777_216;
+    let info = Info::new(4095, 15, 10);
+    let word = 4095 + 15 * 65_536 + 10 * 16_777_216;
     let told = (info.pack(), info.frame(), info.heap(), info.class());
-    assert_eq!(rt; told, (word, 1023, 15, 9));
-    let rows = [(word, Some(info)), (1024, None), (1 << 32, None)];
+    assert_eq!(rt; told, (word, 4095, 15, 10));
+    let rows = [(word, Some(info)), (4096, None), (1 << 32, None)];
     for (word, info) in rows {
         assert_eq!(rt; Info::unpack(word), info);
     }
@@ -84,7 +84,7 @@ fn infos(rt: HostRuntime) {
 fn shelf_words(rt: HostRuntime) {
     let block = |place, need| ShelfWord::Block { place, need };
     let rows = [
-        (262_289, block(2048, Need::Large(1))),
+        (524_434, block(4096, Need::Large(2))),
         (131, block(0, Need::Small(3))),
         (0, ShelfWord::Nothing),
     ];
@@ -94,7 +94,7 @@ fn shelf_words(rt: HostRuntime) {
             (word, Some(shelf))
         );
     }
-    for word in [128 + 16, 128 + 10] {
+    for word in [128 + 16 + 65, 128 + 16 + 1, 128 + 11] {
         assert_eq!(rt; ShelfWord::unpack(word), None);
     }
 }

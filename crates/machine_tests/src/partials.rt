@@ -9,7 +9,7 @@ use word_plan::action::Action;
 use word_plan::name::WordName::{Anchor, Info, Slot};
 use word_plan::seat::Seat;
 
-/// A heap of these numbers has 86 descriptors.
+/// A heap of these numbers has 94 descriptors.
 const GEOMETRY: Geometry = Geometry {
     frames: 2,
     heaps: 2,
@@ -18,27 +18,27 @@ const GEOMETRY: Geometry = Geometry {
     turn_limit: 100,
 };
 
-/// A superblock of class 9 of which one block is free, the first.
-const PARTIAL: u64 = 10_486_784;
+/// A superblock of class 10 of which one block is free, the first.
+const PARTIAL: u64 = 41_945_088;
 
-/// A superblock of class 9 of which both blocks are free.
-const EMPTY: u64 = 11_535_361;
+/// A superblock of class 10 of which both blocks are free.
+const EMPTY: u64 = 46_139_393;
 
-/// The seat of the first caller, for class 9.
+/// The seat of the first caller, for class 10.
 fn seat<R: Abort>(rt: &R) -> Seat {
-    seat_of(rt, GEOMETRY, 0, 9)
+    seat_of(rt, GEOMETRY, 0, 10)
 }
 
 /// The one free block of a superblock is granted, which makes it full.
 #[test]
 fn the_last_block_is_granted(rt: HostRuntime) {
     let rows = [
-        (Action::Load(Slot(0, 9)), 1, true),
-        (Action::Cas(Slot(0, 9), 1, 0), 1, true),
-        (Action::Load(Info(0)), 9 << 24, true),
-        (Action::Store(Info(0), 9 << 24), 9 << 24, true),
+        (Action::Load(Slot(0, 10)), 1, true),
+        (Action::Cas(Slot(0, 10), 1, 0), 1, true),
+        (Action::Load(Info(0)), 10 << 24, true),
+        (Action::Store(Info(0), 10 << 24), 10 << 24, true),
         (Action::Load(Anchor(0)), PARTIAL, true),
-        (Action::Cas(Anchor(0), PARTIAL, 9_437_184), PARTIAL, true),
+        (Action::Cas(Anchor(0), PARTIAL, 37_748_736), PARTIAL, true),
     ];
     let first_point = PartialPoint::LoadSlot { seat: seat(&rt) };
     let point = walk(&rt, first_point, &rows);
@@ -56,10 +56,10 @@ fn the_most_is_granted(rt: HostRuntime) {
         (Action::Cas(Slot(1, 1), 7, 0), 7, true),
         (Action::Load(Info(6)), 16_777_217, true),
         (Action::Store(Info(6), 16_842_753), 16_777_217, true),
-        (Action::Load(Anchor(6)), 2_167_811, true),
-        (Action::Cas(Anchor(6), 2_167_811, 4_099), 2_168_835, false),
-        (Action::Load(Anchor(6)), 2_168_835, true),
-        (Action::Cas(Anchor(6), 2_168_835, 5_123), 2_168_835, true),
+        (Action::Load(Anchor(6)), 8_529_923, true),
+        (Action::Cas(Anchor(6), 8_529_923, 8_195), 8_531_971, false),
+        (Action::Load(Anchor(6)), 8_531_971, true),
+        (Action::Cas(Anchor(6), 8_531_971, 10_243), 8_531_971, true),
     ];
     let first_point = PartialPoint::LoadSlot {
         seat: seat_of(&rt, GEOMETRY, 1, 1),
@@ -76,13 +76,13 @@ fn slots_are_filled(rt: HostRuntime) {
         seat: seat(&rt),
         desc: 4,
     };
-    let rows = [(Action::Load(Info(4)), (9 << 24) + 65_537, true)];
+    let rows = [(Action::Load(Info(4)), (10 << 24) + 65_537, true)];
     let put = walk(&rt, load, &rows);
-    let swap = Action::Swap(Slot(1, 9), 5);
+    let swap = Action::Swap(Slot(1, 10), 5);
     let filled = walk(&rt, put, &[(swap, 0, true)]);
     assert!(rt; matches!(filled, PartialPoint::SlotFilled { .. }));
-    let other = walk(&rt, put, &[(swap, 86, true)]);
-    assert!(rt; matches!(other, PartialPoint::Displaced { desc: 85, .. }));
+    let other = walk(&rt, put, &[(swap, 94, true)]);
+    assert!(rt; matches!(other, PartialPoint::Displaced { desc: 93, .. }));
 }
 
 /// A superblock that became empty is taken out of the slot where it stands there.
@@ -93,8 +93,8 @@ fn an_empty_superblock_leaves_the_slot(rt: HostRuntime) {
         desc: 4,
         heap: 1,
     };
-    let load = Action::Load(Slot(1, 9));
-    let remove = Action::Cas(Slot(1, 9), 5, 0);
+    let load = Action::Load(Slot(1, 10));
+    let remove = Action::Cas(Slot(1, 10), 5, 0);
     let removed = walk(&rt, first, &[(load, 5, true), (remove, 5, true)]);
     assert!(rt; matches!(removed, PartialPoint::Removed { desc: 4, .. }));
     let other: &[Row] = &[(load, 4, true)];
@@ -161,15 +161,15 @@ fn words_that_are_not_expected(rt: HostRuntime) {
         site: first_site(seat),
     };
     let rows = [
-        (slot, 87),
-        (info, (9 << 24) + 2),
-        (info, (9 << 24) + 131_072),
-        (owner, (9 << 24) + 2),
-        (owner, (9 << 24) + 131_072),
-        (put, 87),
+        (slot, 95),
+        (info, (10 << 24) + 2),
+        (info, (10 << 24) + 131_072),
+        (owner, (10 << 24) + 2),
+        (owner, (10 << 24) + 131_072),
+        (put, 95),
         (grant, PARTIAL + 2),
     ];
     stay(&rt, &rows);
-    let empty = walk(&rt, slot, &[(Action::Load(Slot(0, 9)), 0, true)]);
+    let empty = walk(&rt, slot, &[(Action::Load(Slot(0, 10)), 0, true)]);
     assert!(rt; matches!(empty, PartialPoint::SlotEmpty { .. }));
 }

@@ -138,13 +138,13 @@ fn got(place: u32, words: u32) -> Told {
 fn a_full_heap_refuses_and_a_bare_frame_changes_its_class(rt: HostRuntime) -> Result<(), Fail> {
     let mut pool = PlainPool::open(rt.alloc(), small_heap(&rt, 1, 0))?;
     let rows = [
-        (Asked::Shelve(1023, 0), given(0, 1023)),
-        (Asked::Shelve(1023, 1), given(1024, 1023)),
-        (Asked::Shelve(1023, 2), Told::Alloc(PlainAlloc::Refused)),
+        (Asked::Shelve(2047, 0), given(0, 2047)),
+        (Asked::Shelve(2047, 1), given(2048, 2047)),
+        (Asked::Shelve(2047, 2), Told::Alloc(PlainAlloc::Refused)),
         (Asked::Shelve(1, 2), Told::Alloc(PlainAlloc::Refused)),
         (Asked::Unshelve(2), Told::Take(PlainTake::Empty)),
-        (Asked::Unshelve(1), got(1024, 1023)),
-        (Asked::Unshelve(0), got(0, 1023)),
+        (Asked::Unshelve(1), got(2048, 2047)),
+        (Asked::Unshelve(0), got(0, 2047)),
         (Asked::Shelve(1, 0), given(0, 1)),
     ];
     come_to(&rt, &mut pool, &rows)?;
@@ -158,7 +158,7 @@ fn the_least_free_place_is_given(rt: HostRuntime) -> Result<(), Fail> {
     let rows = [
         (Asked::Shelve(3, 0), given(0, 3)),
         (Asked::Shelve(3, 1), given(4, 3)),
-        (Asked::Shelve(7, 2), given(2048, 7)),
+        (Asked::Shelve(7, 2), given(4096, 7)),
         (Asked::Unshelve(0), got(0, 3)),
         (Asked::Shelve(2, 0), given(0, 3)),
         (Asked::Shelve(3, 3), given(8, 3)),
@@ -168,15 +168,15 @@ fn the_least_free_place_is_given(rt: HostRuntime) -> Result<(), Fail> {
 
 #[test]
 fn a_large_need_is_given_the_least_run(rt: HostRuntime) -> Result<(), Fail> {
-    let mut pool = PlainPool::open(rt.alloc(), small_heap(&rt, 1, 3))?;
+    let mut pool = PlainPool::open(rt.alloc(), small_heap(&rt, 1, 5))?;
     let rows = [
-        (Asked::Shelve(1024, 0), given(2048, 2047)),
-        (Asked::Shelve(2048, 1), given(4096, 4095)),
-        (Asked::Shelve(1024, 2), Told::Alloc(PlainAlloc::Refused)),
+        (Asked::Shelve(2048, 0), given(4096, 4095)),
+        (Asked::Shelve(4096, 1), given(8192, 6143)),
+        (Asked::Shelve(2048, 2), Told::Alloc(PlainAlloc::Refused)),
         (Asked::Shelve(131_072, 2), Told::Alloc(PlainAlloc::TooLarge)),
-        (Asked::Unshelve(0), got(2048, 2047)),
-        (Asked::Shelve(2048, 0), Told::Alloc(PlainAlloc::Refused)),
-        (Asked::Shelve(2047, 0), given(2048, 2047)),
+        (Asked::Unshelve(0), got(4096, 4095)),
+        (Asked::Shelve(4096, 0), Told::Alloc(PlainAlloc::Refused)),
+        (Asked::Shelve(4095, 0), given(4096, 4095)),
     ];
     come_to(&rt, &mut pool, &rows)
 }

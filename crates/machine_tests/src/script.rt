@@ -7,7 +7,7 @@ ghost use Rattle.step_core.specs.Cores.{errand_at, OwnsBlock};
 use crate::heaps::checked;
 use errand_steps::reply::{Begun, Progress, Reply};
 use heap_geometry::geometry::Geometry;
-use heap_geometry::limits::{CLASSES, FRAME_WORDS, SHELVES, UNIT_WORDS};
+use heap_geometry::limits::{CALL_STEPS, CLASSES, FRAME_WORDS, SHELVES, UNIT_WORDS};
 use heap_geometry::need::Need;
 use pool_model::event::Event;
 use pool_model::owner::Owner;
@@ -78,7 +78,7 @@ pub fn slot(core: &mut Core, caller: u32) -> Result<Option<Progress>, AllocError
 fn finish(core: &mut Core, caller: u32) -> Result<(u64, Option<Reply>), AllocError> {
     let before = core.steps();
     let mut answer = None;
-    for _ in 0..1100 {
+    for _ in 0..CALL_STEPS {
         if let Some(Progress::Done(reply)) = slot(core, caller)? {
             answer = Some(reply);
         }
@@ -226,16 +226,16 @@ fn spend(core: &mut Core, steps: u64) -> Result<u64, AllocError> {
     Ok(left)
 }
 
-/// Caller 0 allocates two blocks of 1,023 words and frees both; after so many steps it makes no more.
+/// Caller 0 allocates two blocks of 2,047 words and frees both; after so many steps it makes no more.
 fn stop_after(core: &mut Core, steps: u64) -> Result<(), AllocError> {
-    let block = Need::Small(9);
-    let _ = begin(core, 0, 1023);
+    let block = Need::Small(10);
+    let _ = begin(core, 0, 2047);
     let left = spend(core, steps)?;
-    let _ = begin(core, 0, 1023);
+    let _ = begin(core, 0, 2047);
     let left = spend(core, left)?;
     let _ = call(core, 0, 0, block, Request::Free);
     let left = spend(core, left)?;
-    let _ = call(core, 0, 1024, block, Request::Free);
+    let _ = call(core, 0, 2048, block, Request::Free);
     let _ = spend(core, left)?;
     Ok(())
 }
@@ -264,7 +264,7 @@ pub enum Deed {
     AllocatesTimes(u32, u32),
     /// Caller 0 ends its call.
     Finishes,
-    /// Caller 0 allocates two blocks of 1,023 words and frees both; after so many steps it makes no more.
+    /// Caller 0 allocates two blocks of 2,047 words and frees both; after so many steps it makes no more.
     StopsAfter(u64),
     /// Caller 0 asks this of its block at the place, which takes so many steps and answers so.
     Calls(u32, Need, Request, u64, Reply),

@@ -12,7 +12,7 @@ use word_plan::action::{Action, apply};
 use word_plan::name::WordName::{self, FrameHead, FrameNext, ListHead, Next};
 use word_plan::seat::Seat;
 
-/// A heap of these numbers has 102 descriptors.
+/// A heap of these numbers has 111 descriptors.
 const GEOMETRY: Geometry = Geometry {
     frames: 2,
     heaps: 1,
@@ -182,13 +182,13 @@ fn an_empty_stack(rt: HostRuntime) {
     assert!(rt; matches!(lost, StackPoint::LoadTop { .. }));
 }
 
-/// The heap has two frames and 102 descriptors. A head or a next word that names one more leaves
+/// The heap has two frames and 111 descriptors. A head or a next word that names one more leaves
 /// the point, and the last one is popped.
 #[test]
 fn words_that_are_not_expected(rt: HostRuntime) {
     let piles = [
         (Pile::Frames, FrameHead, FrameNext(1), 2),
-        (Pile::Partials, ListHead(9), Next(101), 102),
+        (Pile::Partials, ListHead(9), Next(110), 111),
     ];
     for (pile, head, next, most) in piles {
         let load = StackPoint::LoadTop {

@@ -17,30 +17,34 @@ const GEOMETRY: Geometry = Geometry {
     turn_limit: 100,
 };
 
-/// The word of descriptor 0 in frame 0, of heap 0 and class 9.
-const INFO: u64 = 9 << 24;
+/// The word of descriptor 0 in frame 0, of heap 0 and class 10.
+const INFO: u64 = 10 << 24;
 
-/// A superblock of class 9 has two blocks. It is installed with two credits, both blocks reserved.
+/// A superblock of class 10 has two blocks. It is installed with two credits, both blocks reserved.
 /// The second caller takes the last credit and pops the first block, so the first caller's pop is
 /// lost and made again.
 #[test]
 fn the_tag_tells_a_second_pop(rt: HostRuntime) {
     let anchor = WordName::Anchor(0);
-    let active = Active(0, 9);
+    let active = Active(0, 10);
     let first = [
         (Action::Load(active), 65, true),
         (Action::Cas(active, 65, 64), 65, true),
         (Action::Load(Info(0)), INFO, true),
         (Action::Load(anchor), 0, true),
         (Action::Load(Arena(0)), 1, true),
-        (Action::Cas(anchor, 0, 4_194_305), 5_242_881, false),
-        (Action::Load(anchor), 5_242_881, true),
-        (Action::Load(Arena(1024)), 0, true),
-        (Action::Cas(anchor, 5_242_881, 9_437_184), 5_242_881, true),
-        (Action::Store(Arena(1024), 0), 0, true),
+        (Action::Cas(anchor, 0, 16_777_217), 20_971_521, false),
+        (Action::Load(anchor), 20_971_521, true),
+        (Action::Load(Arena(2048)), 0, true),
+        (
+            Action::Cas(anchor, 20_971_521, 37_748_736),
+            20_971_521,
+            true,
+        ),
+        (Action::Store(Arena(2048), 0), 0, true),
     ];
     let first_point = BlockPoint::LoadActive {
-        seat: seat_of(&rt, GEOMETRY, 0, 9),
+        seat: seat_of(&rt, GEOMETRY, 0, 10),
     };
     let point = walk(&rt, first_point, &first);
     assert!(rt; matches!(point, BlockPoint::Given { index: 1, .. }));
@@ -51,11 +55,11 @@ fn the_tag_tells_a_second_pop(rt: HostRuntime) {
         (Action::Load(Info(0)), INFO, true),
         (Action::Load(anchor), 0, true),
         (Action::Load(Arena(0)), 1, true),
-        (Action::Cas(anchor, 0, 5_242_881), 0, true),
+        (Action::Cas(anchor, 0, 20_971_521), 0, true),
         (Action::Store(Arena(0), 0), 1, true),
     ];
     let first_point = BlockPoint::LoadActive {
-        seat: seat_of(&rt, GEOMETRY, 1, 9),
+        seat: seat_of(&rt, GEOMETRY, 1, 10),
     };
     let point = walk(&rt, first_point, &second);
     assert!(rt; matches!(point, BlockPoint::Given { index: 0, .. }));
@@ -66,12 +70,16 @@ fn the_tag_tells_a_second_pop(rt: HostRuntime) {
 #[test]
 fn two_frees_empty_a_superblock(rt: HostRuntime) {
     let anchor = WordName::Anchor(0);
-    let seat = seat_of(&rt, GEOMETRY, 1, 9);
+    let seat = seat_of(&rt, GEOMETRY, 1, 10);
     let first = [
         (Action::Load(Arena(0)), 0, true),
-        (Action::Load(anchor), 9_437_184, true),
+        (Action::Load(anchor), 37_748_736, true),
         (Action::Store(Arena(0), 0), 0, true),
-        (Action::Cas(anchor, 9_437_184, 10_486_784), 9_437_184, true),
+        (
+            Action::Cas(anchor, 37_748_736, 41_945_088),
+            37_748_736,
+            true,
+        ),
     ];
     let first_point = BlockPoint::LoadPrefix {
         seat,
@@ -82,14 +90,14 @@ fn two_frees_empty_a_superblock(rt: HostRuntime) {
     assert!(rt; matches!(point, BlockPoint::BecamePartial { stored: false, .. }));
 
     let second = [
-        (Action::Load(Arena(1024)), 0, true),
-        (Action::Load(anchor), 10_486_784, true),
+        (Action::Load(Arena(2048)), 0, true),
+        (Action::Load(anchor), 41_945_088, true),
         (Action::Store(Hazard(1), 1), 0, true),
         (Action::Load(Info(0)), INFO, true),
-        (Action::Store(Arena(1024), 0), 0, true),
+        (Action::Store(Arena(2048), 0), 0, true),
         (
-            Action::Cas(anchor, 10_486_784, 11_535_361),
-            10_486_784,
+            Action::Cas(anchor, 41_945_088, 46_139_393),
+            41_945_088,
             true,
         ),
     ];
@@ -103,19 +111,19 @@ fn two_frees_empty_a_superblock(rt: HostRuntime) {
 }
 
 /// The last blocks of a new superblock of class 0 are linked, and it is installed with 64 credits
-/// while 959 blocks stay on its count. Where another was installed first, it is not needed.
+/// while 1,983 blocks stay on its count. Where another was installed first, it is not needed.
 #[test]
 fn a_new_superblock(rt: HostRuntime) {
     let rows = [
-        (Action::Store(Arena(2044), 1023), 0, true),
-        (Action::Store(Arena(2046), 0), 0, true),
+        (Action::Store(Arena(4092), 2047), 0, true),
+        (Action::Store(Arena(4094), 0), 0, true),
         (Action::Store(Info(0), 0), 0, true),
-        (Action::Store(WordName::Anchor(0), 982_017), 0, true),
+        (Action::Store(WordName::Anchor(0), 4_061_185), 0, true),
         (Action::Cas(Active(0, 0), 0, 127), 0, true),
         (Action::Store(Arena(0), 0), 0, true),
     ];
     let site = first_site(seat_of(&rt, GEOMETRY, 0, 0));
-    let first_point = BlockPoint::LinkBlock { site, index: 1022 };
+    let first_point = BlockPoint::LinkBlock { site, index: 2046 };
     let point = walk(&rt, first_point, &rows);
     assert!(rt; matches!(point, BlockPoint::Given { index: 0, .. }));
 
@@ -138,18 +146,18 @@ fn the_last_credit(rt: HostRuntime) {
         (Action::Load(active), 64, true),
         (Action::Cas(active, 64, 0), 64, true),
         (Action::Load(Info(0)), 1 << 24, true),
-        (Action::Load(anchor), 264_698_944, true),
+        (Action::Load(anchor), 1_058_928_704, true),
         (Action::Load(Arena(256)), 65, true),
         (
-            Action::Cas(anchor, 264_698_944, 268_827_713),
-            264_698_944,
+            Action::Cas(anchor, 1_058_928_704, 1_075_574_849),
+            1_058_928_704,
             true,
         ),
         (Action::Cas(active, 0, 127), 191, false),
-        (Action::Load(anchor), 268_827_713, true),
+        (Action::Load(anchor), 1_075_574_849, true),
         (
-            Action::Cas(anchor, 268_827_713, 270_990_401),
-            268_827_713,
+            Action::Cas(anchor, 1_075_574_849, 1_084_094_529),
+            1_075_574_849,
             true,
         ),
     ];
@@ -166,8 +174,8 @@ fn a_granted_pop(rt: HostRuntime) {
     let site = first_site(seat_of(&rt, GEOMETRY, 0, 1));
     let rows = [
         (Action::Load(WordName::Anchor(0)), 3, true),
-        (Action::Load(Arena(12)), 2055, true),
-        (Action::Cas(WordName::Anchor(0), 3, 4_194_311), 3, true),
+        (Action::Load(Arena(12)), 4103, true),
+        (Action::Cas(WordName::Anchor(0), 3, 16_777_223), 3, true),
         (Action::Cas(Active(0, 1), 0, 65), 0, true),
     ];
     let share = Share::Grant { more: 2 };
@@ -176,9 +184,9 @@ fn a_granted_pop(rt: HostRuntime) {
     assert!(rt; matches!(point, BlockPoint::StorePrefix { index: 3, .. }));
 }
 
-/// The seat of the first caller, for class 9.
+/// The seat of the first caller, for class 10.
 fn seat<R: Abort>(rt: &R) -> Seat {
-    seat_of(rt, GEOMETRY, 0, 9)
+    seat_of(rt, GEOMETRY, 0, 10)
 }
 
 /// Descriptor 0 and frame 0, for that seat.
@@ -186,12 +194,12 @@ fn site<R: Abort>(rt: &R) -> Site {
     first_site(seat(rt))
 }
 
-/// A heap of these numbers has 66 descriptors, one frame and one processor heap. A word that names
+/// A heap of these numbers has 72 descriptors, one frame and one processor heap. A word that names
 /// another one leaves the point, as do an anchor with a third block and a large block's prefix.
 #[test]
 fn words_that_are_not_expected(rt: HostRuntime) {
     let loads = [
-        (BlockPoint::LoadActive { seat: seat(&rt) }, 67 * 64),
+        (BlockPoint::LoadActive { seat: seat(&rt) }, 73 * 64),
         (BlockPoint::LoadActive { seat: seat(&rt) }, 63),
         (
             BlockPoint::LoadPrefix {
@@ -199,7 +207,7 @@ fn words_that_are_not_expected(rt: HostRuntime) {
                 frame: 0,
                 index: 0,
             },
-            2 * 66,
+            2 * 72,
         ),
         (
             BlockPoint::LoadPrefix {

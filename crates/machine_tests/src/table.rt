@@ -19,11 +19,11 @@ const SMALL: Geometry = Geometry {
 };
 
 const LARGEST: Geometry = Geometry {
-    frames: 1024,
+    frames: 4096,
     heaps: 16,
     units: 64,
     callers: 16,
-    turn_limit: 274_877_906_943,
+    turn_limit: 68_719_476_735,
 };
 
 /// The word at a place of the table, and the place of that word; `None` behind the last word.
@@ -47,37 +47,40 @@ fn stand<R: Abort>(rt: &R, layout: &Layout, rows: &[(WordName, u32)]) {
 #[test]
 fn the_largest_heap(rt: HostRuntime) {
     let layout = Layout::new(checked(&rt, LARGEST));
-    assert_eq!(rt; (layout.words(), layout.descriptors()), (2_262_637, 10_992));
-    stand(&rt, &layout, &[(WordName::Shelf(63), 2_262_636)]);
+    assert_eq!(rt;
+        (layout.words(), layout.descriptors()),
+        (17_050_398, 45_856)
+    );
+    stand(&rt, &layout, &[(WordName::Shelf(63), 17_050_397)]);
 }
 
-// 6 * 2048 words of the arena, then three groups of 10 * (4 + 2 + 2 * 1) + 1 * 2 = 82 words.
+// 4 * 4096 + 2 * 2048 words of the arena, then three groups of 11 * (4 + 2 + 2 * 1) + 1 * 2 = 90 words.
 #[test]
 fn words_of_descriptors(rt: HostRuntime) {
     let layout = Layout::new(checked(&rt, SMALL));
     assert_eq!(rt; layout.geometry(), SMALL);
-    assert_eq!(rt; layout.descriptors(), 82);
+    assert_eq!(rt; layout.descriptors(), 90);
     let rows = [
-        (WordName::Arena(12_287), 12_287),
-        (WordName::Anchor(0), 12_288),
-        (WordName::Anchor(81), 12_369),
-        (WordName::Next(0), 12_370),
-        (WordName::Info(0), 12_452),
-        (WordName::Info(81), 12_533),
+        (WordName::Arena(20_479), 20_479),
+        (WordName::Anchor(0), 20_480),
+        (WordName::Anchor(89), 20_569),
+        (WordName::Next(0), 20_570),
+        (WordName::Info(0), 20_660),
+        (WordName::Info(89), 20_749),
     ];
     stand(&rt, &layout, &rows);
 }
 
-// Two groups of 2 * 10 words, in which the words of one heap stand together.
+// Two groups of 2 * 11 words, in which the words of one heap stand together.
 #[test]
 fn words_of_heaps(rt: HostRuntime) {
     let rows = [
-        (WordName::Active(0, 0), 12_534),
-        (WordName::Active(1, 0), 12_544),
-        (WordName::Active(1, 3), 12_547),
-        (WordName::Slot(0, 0), 12_554),
-        (WordName::Slot(1, 9), 12_573),
-        (WordName::ListHead(0), 12_574),
+        (WordName::Active(0, 0), 20_750),
+        (WordName::Active(1, 0), 20_761),
+        (WordName::Active(1, 3), 20_764),
+        (WordName::Slot(0, 0), 20_772),
+        (WordName::Slot(1, 10), 20_793),
+        (WordName::ListHead(0), 20_794),
     ];
     stand(&rt, &Layout::new(checked(&rt, SMALL)), &rows);
 }
@@ -86,15 +89,15 @@ fn words_of_heaps(rt: HostRuntime) {
 fn other_words(rt: HostRuntime) {
     let layout = Layout::new(checked(&rt, SMALL));
     let rows = [
-        (WordName::FrameNext(0), 12_584),
-        (WordName::FrameHead, 12_588),
-        (WordName::DescHead, 12_589),
-        (WordName::Hazard(0), 12_590),
-        (WordName::Units, 12_591),
-        (WordName::Shelf(0), 12_592),
+        (WordName::FrameNext(0), 20_805),
+        (WordName::FrameHead, 20_809),
+        (WordName::DescHead, 20_810),
+        (WordName::Hazard(0), 20_811),
+        (WordName::Units, 20_812),
+        (WordName::Shelf(0), 20_813),
     ];
     stand(&rt, &layout, &rows);
-    assert_eq!(rt; layout.words(), 12_656);
+    assert_eq!(rt; layout.words(), 20_877);
 }
 
 #[test]
@@ -114,7 +117,7 @@ fn actions(rt: HostRuntime) {
     }
 }
 
-/// The second to last of four callers, in a heap of three processor heaps, at blocks of 1024 words.
+/// The second to last of four callers, in a heap of three processor heaps, at blocks of 2048 words.
 fn seat<R: Abort>(rt: &R) -> Seat {
     let geometry = Geometry {
         frames: 4,
@@ -123,41 +126,41 @@ fn seat<R: Abort>(rt: &R) -> Seat {
         callers: 4,
         turn_limit: 1,
     };
-    seat_of(rt, geometry, 2, 9)
+    seat_of(rt, geometry, 2, 10)
 }
 
-// 10 * (4 + 3 + 2 * 4) + 4 * 5 = 170 descriptors.
+// 11 * (4 + 3 + 2 * 4) + 4 * 5 = 185 descriptors.
 #[test]
 fn seats(rt: HostRuntime) {
     let seat = seat(&rt);
     let names = (seat.caller(), seat.class(), seat.heap());
-    assert_eq!(rt; names, (2, 9, 2));
+    assert_eq!(rt; names, (2, 10, 2));
     let counts = (
         seat.geometry().frames,
         seat.descriptors(),
         seat.block_count(),
     );
-    assert_eq!(rt; counts, (4, 170, 2));
-    let word = 3 + 2 * 65_536 + 9 * 16_777_216;
+    assert_eq!(rt; counts, (4, 185, 2));
+    let word = 3 + 2 * 65_536 + 10 * 16_777_216;
     let site = Site {
         seat,
         desc: 5,
         frame: 3,
     };
     let told = (seat.place(3, 1), site.place(1), site.info_word());
-    assert_eq!(rt; told, (7168, 7168, word));
+    assert_eq!(rt; told, (14_336, 14_336, word));
 }
 
 // What a found word names, where the heap has it.
 #[test]
 fn found_words(rt: HostRuntime) {
     let seat = seat(&rt);
-    for (word, desc) in [(0, None), (1, Some(0)), (170, Some(169)), (171, None)] {
+    for (word, desc) in [(0, None), (1, Some(0)), (185, Some(184)), (186, None)] {
         assert_eq!(rt; seat.desc_named(word), desc, "at {word}");
     }
-    let info = Some(Info::new(3, 2, 9));
+    let info = Some(Info::new(3, 2, 10));
     let rows = [
-        (3 + 2 * 65_536 + 9 * 16_777_216, info),
+        (3 + 2 * 65_536 + 10 * 16_777_216, info),
         (4, None),
         (3 * 65_536, None),
     ];
