@@ -8,7 +8,7 @@ use crate::alone::{close_alone, geometry, open_alone};
 use crate::hand::come_to;
 use errand_steps::reply::Begun;
 use heap_geometry::geometry::Geometry;
-use heap_geometry::limits::{CLASSES, SHELVES};
+use heap_geometry::limits::{CALL_STEPS, CLASSES, SHELVES};
 use heap_geometry::need::Need;
 use heap_scripts::request::{Request as Asked, Told};
 use heap_scripts::whole;
@@ -56,14 +56,14 @@ fn finish(heap: &Heap, pass: &mut Pass) -> (u64, Step)
     ensures { IsOf heap.now pass.new }
 {
     let mut last = Step::Idle;
-    for made in 0..1100 {
+    for made in 0..CALL_STEPS {
         last = heap.step(pass);
         match last {
             Step::More | Step::Lost | Step::Cleared => {}
             _ => return (made + 1, last),
         }
     }
-    (1100, last)
+    (CALL_STEPS, last)
 }
 
 /// An allocation step by step, where the pass is in no call and it begins.
@@ -160,7 +160,7 @@ fn seen(closed: &Closed) -> (Geometry, Option<u64>, Option<u64>, u64, u64) {
     (
         closed.geometry(),
         anchor(closed, 0),
-        active(closed, 0, 9),
+        active(closed, 0, 10),
         closed.won(),
         closed.lost(),
     )
@@ -169,12 +169,12 @@ fn seen(closed: &Closed) -> (Geometry, Option<u64>, Option<u64>, u64, u64) {
 #[test]
 fn the_first_block_makes_its_superblock_the_active_one(rt: HostRuntime) -> Result<(), Fail> {
     let (heap, mut pass, mut blocks) = open_alone(rt.alloc(), 1, 0, 9)?;
-    let rows = [(Asked::Alloc(1023), Told::Given(0))];
+    let rows = [(Asked::Alloc(2047), Told::Given(0))];
     come_to(&rt, &heap, &mut pass, &mut blocks, &rows)?;
     let block = blocks
         .first()
         .map(|block| (block.place(), block.words(), block.need()));
-    assert_eq!(rt; block, Some((0, 1023, Need::Small(9))));
+    assert_eq!(rt; block, Some((0, 2047, Need::Small(10))));
     let closed = close_alone(rt.alloc(), heap, pass)?;
     let expected = (geometry(1, 0, 1, 9), Some(1), Some(64), 3, 0);
     assert_eq!(rt; closed.as_ref().map(seen), Some(expected));
@@ -223,26 +223,26 @@ fn a_shelf_holds_one_block(rt: HostRuntime) -> Result<(), Fail> {
 fn an_empty_superblock_is_cleared_and_the_call_goes_on(rt: HostRuntime) -> Result<(), Fail> {
     let (heap, mut pass, mut blocks) = open_alone(rt.alloc(), 4, 0, 20)?;
     let rows = [
-        (Asked::Alloc(1023), Told::Given(0)),
-        (Asked::Alloc(1023), Told::Given(1024)),
-        (Asked::Alloc(1023), Told::Given(2048)),
-        (Asked::Alloc(1023), Told::Given(3072)),
-        (Asked::Alloc(1023), Told::Given(4096)),
-        (Asked::Alloc(1023), Told::Given(5120)),
-        (Asked::Alloc(1023), Told::Given(6144)),
-        (Asked::Alloc(1023), Told::Given(7168)),
+        (Asked::Alloc(2047), Told::Given(0)),
+        (Asked::Alloc(2047), Told::Given(2048)),
+        (Asked::Alloc(2047), Told::Given(4096)),
+        (Asked::Alloc(2047), Told::Given(6144)),
+        (Asked::Alloc(2047), Told::Given(8192)),
+        (Asked::Alloc(2047), Told::Given(10240)),
+        (Asked::Alloc(2047), Told::Given(12288)),
+        (Asked::Alloc(2047), Told::Given(14336)),
         (Asked::Free(0), Told::FreedAt(0)),
-        (Asked::Free(1), Told::FreedAt(2048)),
-        (Asked::Free(2), Told::FreedAt(4096)),
-        (Asked::Free(3), Told::FreedAt(6144)),
-        (Asked::Free(0), Told::FreedAt(1024)),
-        (Asked::Alloc(1023), Told::Given(6144)),
-        (Asked::Alloc(1023), Told::Given(4096)),
-        (Asked::Alloc(1023), Told::Given(2048)),
+        (Asked::Free(1), Told::FreedAt(4096)),
+        (Asked::Free(2), Told::FreedAt(8192)),
+        (Asked::Free(3), Told::FreedAt(12288)),
+        (Asked::Free(0), Told::FreedAt(2048)),
+        (Asked::Alloc(2047), Told::Given(12288)),
+        (Asked::Alloc(2047), Told::Given(8192)),
+        (Asked::Alloc(2047), Told::Given(4096)),
     ];
     come_to(&rt, &heap, &mut pass, &mut blocks, &rows)?;
     assert_eq!(rt; pass.cleared(), 0);
-    let rows = [(Asked::Alloc(1023), Told::Busy)];
+    let rows = [(Asked::Alloc(2047), Told::Busy)];
     come_to(&rt, &heap, &mut pass, &mut blocks, &rows)?;
     assert_eq!(rt; (pass.idle(), pass.cleared(), pass.lost()), (false, 1, 0));
     let rows = [(Asked::Resume, Told::Given(0))];
@@ -256,7 +256,7 @@ fn a_block_has_at_most_64_units_and_no_run_is_given_twice(rt: HostRuntime) -> Re
     let (heap, mut pass, mut blocks) = open_alone(rt.alloc(), 1, 64, 9)?;
     let rows = [
         (Asked::Alloc(131_072), Told::TooLarge),
-        (Asked::Alloc(131_071), Told::Given(2048)),
+        (Asked::Alloc(131_071), Told::Given(4096)),
         (Asked::Alloc(131_071), Told::Refused),
     ];
     come_to(&rt, &heap, &mut pass, &mut blocks, &rows)
@@ -279,7 +279,7 @@ fn calls_are_made_step_by_step(rt: HostRuntime) -> Result<(), Fail> {
     let (heap, mut pass, _) = open_alone(rt.alloc(), 2, 0, 9)?;
     assert_eq!(rt; heap.step(&mut pass), Step::Idle);
     let given = alloc_by_steps(&heap, &mut pass, 1).and_then(given_after);
-    assert_eq!(rt; given, Some((1041, 0, 1)));
+    assert_eq!(rt; given, Some((2065, 0, 1)));
     assert_eq!(rt; (pass.idle(), pass.turns(), pass.won()), (true, 1, 3));
     let taken = take_by_steps(&heap, &mut pass, 0);
     assert_eq!(rt; taken, Some((2, Step::Done(Ending::Empty))));

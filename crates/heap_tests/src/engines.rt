@@ -7,7 +7,7 @@ ghost use Rattle.step_core.specs.Cores.{errand_at, IsCore, OwnsAfter, OwnsBlock}
 
 use crate::alone::geometry;
 use errand_steps::reply::Begun;
-use heap_geometry::limits::SHELVES;
+use heap_geometry::limits::{CALL_STEPS, SHELVES};
 use heap_geometry::need::Need;
 use lane_engine::engine::Engine;
 use lane_engine::over_core::Grip;
@@ -36,14 +36,14 @@ fn finish<B: Token + Drop, E: Engine<Held = B>>(
     requires { E.serves engine.old caller }
 {
     let mut last = Stepped::Idle;
-    for made in 0..1100 {
+    for made in 0..CALL_STEPS {
         last = engine.step(caller)?;
         match last {
             Stepped::More | Stepped::Lost | Stepped::Cleared => {}
             _ => return Ok((made + 1, last)),
         }
     }
-    Ok((1100, last))
+    Ok((CALL_STEPS, last))
 }
 
 /// An allocation from its begin to its end; `None` where it doesn't begin.
@@ -123,7 +123,7 @@ fn owns(core: &Core, grip: &Grip) -> bool
 enum Size {
     /// Those of 3 words.
     Three,
-    /// Those of 1,023 words, the largest class.
+    /// Those of 2,047 words, the largest class.
     Widest,
 }
 
@@ -136,7 +136,7 @@ fn grip(place: u32, size: Size) -> Grip {
         },
         Size::Widest => Grip {
             place,
-            need: Need::Small(9),
+            need: Need::Small(10),
         },
     }
 }
@@ -186,27 +186,27 @@ fn blocks_are_given_and_freed(rt: HostRuntime) -> Result<(), Fail> {
     let mut core = Core::open(rt.alloc(), geometry(2, 0, 1, 9))?;
     let rows = [
         (
-            Call::Alloc(1023),
+            Call::Alloc(2047),
             (19, Stepped::Given(grip(0, Size::Widest))),
         ),
         (
-            Call::Alloc(1023),
-            (7, Stepped::Given(grip(1024, Size::Widest))),
+            Call::Alloc(2047),
+            (7, Stepped::Given(grip(2048, Size::Widest))),
         ),
         (
             Call::On(0, Size::Widest, Request::Free),
             (6, Stepped::Freed),
         ),
         (
-            Call::On(1024, Size::Widest, Request::Free),
+            Call::On(2048, Size::Widest, Request::Free),
             (12, Stepped::Freed),
         ),
     ];
     come_to(&rt, &mut core, &rows)?;
-    let second = grip(1024, Size::Widest);
+    let second = grip(2048, Size::Widest);
     assert_eq!(rt;
         (second.words(), second.place(), second.need()),
-        (1023, 1024, Need::Small(9))
+        (2047, 2048, Need::Small(10))
     );
     Ok(())
 }
@@ -215,7 +215,7 @@ fn blocks_are_given_and_freed(rt: HostRuntime) -> Result<(), Fail> {
 fn words_are_read_as_written_and_shelves_hold_one_block(rt: HostRuntime) -> Result<(), Fail> {
     let mut core = Core::open(rt.alloc(), geometry(4, 0, 1, 9))?;
     let rows = [
-        (Call::Alloc(3), (529, Stepped::Given(grip(0, Size::Three)))),
+        (Call::Alloc(3), (1041, Stepped::Given(grip(0, Size::Three)))),
         (
             Call::On(0, Size::Three, Request::Write(0, 5)),
             (1, Stepped::Wrote),
