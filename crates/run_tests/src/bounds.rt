@@ -163,82 +163,82 @@ fn met_by(alloc: Global, text: &str) -> Result<Option<Met>, AllocError> {
 
 /// Operations that allocate a block of each class and free it, but keep the last one.
 fn one_of_each_class(text: &mut String) -> Result<(), AllocError> {
-    for words in [1, 3, 7, 15, 31, 63, 127, 255, 511] {
+    for words in [1, 3, 7, 15, 31, 63, 127, 255, 511, 1023] {
         write!(text, "a 0 {words} 1\nf 0\n")?;
     }
-    text.push_str("a 0 1023 1\n")
+    text.push_str("a 0 2047 1\n")
 }
 
 /// Operations that leave the last superblock of the greatest class empty in the middle of a free.
-const SLOW_FREE: &str = "a 1 1023 1\na 2 1023 1\nf 2\nf 0\nf 1\n";
+const SLOW_FREE: &str = "a 1 2047 1\na 2 2047 1\nf 2\nf 0\nf 1\n";
 
 /// A lane looks for a class in which 3 of 3 frames are part-used; four are allowed.
 const THREE_PART_USED: &str =
-    "heap 3 1 0\nlane\na 0 1023 1\nlane\na 0 1023 1\na 1 1023 1\na 2 1023 1\na 3 1023 1\na 4 1023 1\nf 0\nf 2\norder 0 2\norder 1 5196\norder 0 10\nend\n";
+    "heap 3 1 0\nlane\na 0 2047 1\nlane\na 0 2047 1\na 1 2047 1\na 2 2047 1\na 3 2047 1\na 4 2047 1\nf 0\nf 2\norder 0 2\norder 1 10316\norder 0 10\nend\n";
 
 /// A lane looks for a class in which 9 of 11 frames are part-used; ten are allowed.
 const NINE_PART_USED: &str =
-    "heap 11 2 0\nlane\na 0 1023 1\nlane\na 0 1023 1\na 1 1023 1\na 2 1023 1\na 3 1023 1\na 4 1023 1\nf 0\nf 2\nf 1\nlane\na 0 1023 1\na 1 1023 1\na 2 1023 1\na 3 1023 1\na 4 1023 1\na 5 1023 1\na 6 1023 1\na 7 1023 1\na 8 1023 1\na 9 1023 1\na 10 1023 1\na 11 1023 1\na 12 1023 1\nf 0\nf 2\nf 4\nf 6\nf 8\nf 10\nlane\na 0 1023 1\na 1 1023 1\nf 0\nf 1\norder 0 2\norder 3 2072\norder 1 5186\norder 3 6\norder 1 24\norder 3 6\norder 2 13534\norder 1 12\norder 3 12\norder 0 2\nend\n";
+    "heap 11 2 0\nlane\na 0 2047 1\nlane\na 0 2047 1\na 1 2047 1\na 2 2047 1\na 3 2047 1\na 4 2047 1\nf 0\nf 2\nf 1\nlane\na 0 2047 1\na 1 2047 1\na 2 2047 1\na 3 2047 1\na 4 2047 1\na 5 2047 1\na 6 2047 1\na 7 2047 1\na 8 2047 1\na 9 2047 1\na 10 2047 1\na 11 2047 1\na 12 2047 1\nf 0\nf 2\nf 4\nf 6\nf 8\nf 10\nlane\na 0 2047 1\na 1 2047 1\nf 0\nf 1\norder 0 2\norder 3 4120\norder 1 10306\norder 3 6\norder 1 24\norder 3 6\norder 2 26846\norder 1 12\norder 3 12\norder 0 2\nend\n";
 
 /// Each exchange that one lane wins is lost by the other.
 const EACH_WIN_IS_A_LOSS: &str =
-    "heap 1 1 1\nlane\na 0 2048 1\nlane\na 0 1024 1\nf 0\na 0 1024 1\nf 0\norder 0 1\norder 1 2\norder 0 2\norder 1 2050\norder 0 2\norder 1 2\norder 0 2\norder 1 2050\norder 0 1\nend\n";
+    "heap 1 1 2\nlane\na 0 4096 1\nlane\na 0 2048 1\nf 0\na 0 2048 1\nf 0\norder 0 1\norder 1 2\norder 0 2\norder 1 4098\norder 0 2\norder 1 2\norder 0 2\norder 1 4098\norder 0 1\nend\n";
 
 /// Three allocations where two turns are left to each lane: one of them takes two turns, and none is left.
 const ONE_TURN_TOO_FEW: &str =
-    "heap 14 1 0 2\nlane\na 0 1023 1\nlane\na 0 1023 1\nf 0\na 0 1023 1\nf 0\norder 0 17\norder 1 1046\norder 0 1\norder 1 2\norder 0 20\norder 1 1033\norder 0 4\nend\n";
+    "heap 15 1 0 2\nlane\na 0 2047 1\nlane\na 0 2047 1\nf 0\na 0 2047 1\nf 0\norder 0 17\norder 1 2070\norder 0 1\norder 1 2\norder 0 20\norder 1 2057\norder 0 4\nend\n";
 
-/// A lane is refused where all 11 frames are bare, of one heap and two callers.
-fn eleven_bare(alloc: Global) -> Result<String, AllocError> {
+/// A lane is refused where all 12 frames are bare, of one heap and two callers.
+fn twelve_bare(alloc: Global) -> Result<String, AllocError> {
     let mut text = String::new(alloc);
-    text.push_str("heap 11 1 0\nlane\n")?;
+    text.push_str("heap 12 1 0\nlane\n")?;
     one_of_each_class(&mut text)?;
-    text.push_str("lane\na 0 1023 1\n")?;
+    text.push_str("lane\na 0 2047 1\n")?;
     text.push_str(SLOW_FREE)?;
-    text.push_str("order 0 3248\norder 1 3130\norder 0 10\nend\n")?;
+    text.push_str("order 0 6340\norder 1 6202\norder 0 10\nend\n")?;
     Ok(text)
 }
 
-/// A lane is refused where all 22 frames are bare, of two heaps and three callers.
-fn twenty_two_bare(alloc: Global) -> Result<String, AllocError> {
+/// A lane is refused where all 24 frames are bare, of two heaps and three callers.
+fn twenty_four_bare(alloc: Global) -> Result<String, AllocError> {
     let mut text = String::new(alloc);
-    text.push_str("heap 22 2 0\nlane\n")?;
+    text.push_str("heap 24 2 0\nlane\n")?;
     one_of_each_class(&mut text)?;
     text.push_str("lane\n")?;
     one_of_each_class(&mut text)?;
     text.push_str(SLOW_FREE)?;
-    text.push_str("lane\na 0 1023 1\n")?;
+    text.push_str("lane\na 0 2047 1\n")?;
     text.push_str(SLOW_FREE)?;
     text.push_str(
-        "order 0 3246\norder 1 3246\norder 0 2\norder 1 3130\norder 2 3130\norder 0 10\nend\n",
+        "order 0 6338\norder 1 6338\norder 0 2\norder 1 6202\norder 2 6202\norder 0 10\nend\n",
     )?;
     Ok(text)
 }
 
-/// A lane is refused its one block in ten frames, where another lane holds at most one: ten frames are too
-/// few for both to be sure of a block.
-fn ten_too_few(alloc: Global) -> Result<String, AllocError> {
+/// A lane is refused its one block in eleven frames, where another lane holds at most one: eleven frames
+/// are too few for both to be sure of a block.
+fn eleven_too_few(alloc: Global) -> Result<String, AllocError> {
     let mut text = String::new(alloc);
-    text.push_str("heap 10 1 0\nlane\na 0 1023 1\nlane\n")?;
+    text.push_str("heap 11 1 0\nlane\na 0 2047 1\nlane\n")?;
     one_of_each_class(&mut text)?;
-    text.push_str("f 0\norder 1 3246\norder 0 2\norder 1 1046\norder 0 10\nend\n")?;
+    text.push_str("f 0\norder 1 6338\norder 0 2\norder 1 2070\norder 0 10\nend\n")?;
     Ok(text)
 }
 
 #[test]
 fn bounds_are_met_or_missed_by_one(rt: HostRuntime) -> Result<(), Fail> {
     let alloc = rt.alloc();
-    let eleven = eleven_bare(alloc)?;
-    let twenty_two = twenty_two_bare(alloc)?;
-    let ten = ten_too_few(alloc)?;
+    let twelve = twelve_bare(alloc)?;
+    let twenty_four = twenty_four_bare(alloc)?;
+    let eleven = eleven_too_few(alloc)?;
     // Refused, spent, part-used and bare frames, exchanges won and lost.
     let rows = [
         (THREE_PART_USED, (1, 0, 3, 0, 19, 0)),
         (NINE_PART_USED, (0, 0, 9, 0, 95, 1)),
-        (eleven.as_str(), (1, 0, 0, 11, 51, 0)),
-        (twenty_two.as_str(), (1, 0, 0, 22, 101, 0)),
+        (twelve.as_str(), (1, 0, 0, 12, 55, 0)),
+        (twenty_four.as_str(), (1, 0, 0, 24, 109, 0)),
         (EACH_WIN_IS_A_LOSS, (1, 0, 0, 0, 4, 4)),
-        (ten.as_str(), (1, 0, 0, 10, 41, 0)),
+        (eleven.as_str(), (1, 0, 0, 11, 45, 0)),
         (ONE_TURN_TOO_FEW, (0, 1, 0, 0, 14, 2)),
     ];
     for (text, (refused, spent, part_used, bare, won, lost)) in rows {

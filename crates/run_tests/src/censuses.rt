@@ -21,8 +21,8 @@ sum 24
 freed
 freed
 live 0 words 0
-class 0 blocks 1024 free 960 reserved 64 live 0
-class 1 blocks 512 free 448 reserved 64 live 0
+class 0 blocks 2048 free 1984 reserved 64 live 0
+class 1 blocks 1024 free 960 reserved 64 live 0
 class 2 blocks 0 free 0 reserved 0 live 0
 class 3 blocks 0 free 0 reserved 0 live 0
 class 4 blocks 0 free 0 reserved 0 live 0
@@ -31,6 +31,7 @@ class 6 blocks 0 free 0 reserved 0 live 0
 class 7 blocks 0 free 0 reserved 0 live 0
 class 8 blocks 0 free 0 reserved 0 live 0
 class 9 blocks 0 free 0 reserved 0 live 0
+class 10 blocks 0 free 0 reserved 0 live 0
 free frames 2 units 2
 ";
     writes(&rt, "census", trace, (REPORTED, Left::Shared), text)
@@ -108,7 +109,7 @@ fn run_busy<R: Threads + Wait + Sync>(
 /// A census adds up: each class, and what is live, but for two large blocks.
 fn census_adds_up<R: Abort + AllocGlobal>(rt: &R, text: &str) {
     let large = text.lines().filter(|line| *line == "given 6143").count();
-    assert_eq!(rt; (classes_that_add_up(text), large), (10, 2));
+    assert_eq!(rt; (classes_that_add_up(text), large), (11, 2));
     let live = sum_of(text, "class ", "live").saturating_add(2);
     assert_eq!(rt; sum_of(text, "live ", "live"), live);
     assert!(rt; text.ends_with("units 2\n"));

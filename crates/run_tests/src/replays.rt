@@ -73,28 +73,28 @@ fn an_arena_is_used_up(rt: HostRuntime) -> Result<(), Fail> {
     let cases = [
         // A full arena refuses.
         (
-            "heap 1 1 0\nlane\na 0 1023 1\na 1 1023 2\na 2 1023 3\nend\n",
-            "heap 1 1 0 lanes 1\nlane 0\ngiven 1023\ngiven 1023\nrefused\nlive 2 words 2046\n",
+            "heap 1 1 0\nlane\na 0 2047 1\na 1 2047 2\na 2 2047 3\nend\n",
+            "heap 1 1 0 lanes 1\nlane 0\ngiven 2047\ngiven 2047\nrefused\nlive 2 words 4094\n",
         ),
         // A frame that is bare again serves another class.
         (
-            "heap 1 1 0\nlane\na 0 1023 1\na 1 1023 2\na 2 1023 3\nf 0\nf 1\na 0 1 4\nend\n",
-            "heap 1 1 0 lanes 1\nlane 0\ngiven 1023\ngiven 1023\nrefused\nfreed\nfreed\ngiven 1\nlive 1 words 1\n",
+            "heap 1 1 0\nlane\na 0 2047 1\na 1 2047 2\na 2 2047 3\nf 0\nf 1\na 0 1 4\nend\n",
+            "heap 1 1 0 lanes 1\nlane 0\ngiven 2047\ngiven 2047\nrefused\nfreed\nfreed\ngiven 1\nlive 1 words 1\n",
         ),
         // An active superblock keeps its frame, also where all its blocks are free.
         (
             "heap 1 1 0\nlane\na 0 1 1\nf 0\na 1 3 1\nend\n",
             "heap 1 1 0 lanes 1\nlane 0\ngiven 1\nfreed\nrefused\nlive 0 words 0\n",
         ),
-        // Nine frames are bare, each behind the active superblock of a class, and the tenth class finds none.
+        // Ten frames are bare, each behind the active superblock of a class, and the eleventh class finds none.
         (
-            "heap 9 1 0\nlane\na 0 1 1\nf 0\na 0 3 1\nf 0\na 0 7 1\nf 0\na 0 15 1\nf 0\na 0 31 1\nf 0\na 0 63 1\nf 0\na 0 127 1\nf 0\na 0 255 1\nf 0\na 0 511 1\nf 0\na 0 1023 1\nend\n",
-            "heap 9 1 0 lanes 1\nlane 0\ngiven 1\nfreed\ngiven 3\nfreed\ngiven 7\nfreed\ngiven 15\nfreed\ngiven 31\nfreed\ngiven 63\nfreed\ngiven 127\nfreed\ngiven 255\nfreed\ngiven 511\nfreed\nrefused\nlive 0 words 0\n",
+            "heap 10 1 0\nlane\na 0 1 1\nf 0\na 0 3 1\nf 0\na 0 7 1\nf 0\na 0 15 1\nf 0\na 0 31 1\nf 0\na 0 63 1\nf 0\na 0 127 1\nf 0\na 0 255 1\nf 0\na 0 511 1\nf 0\na 0 1023 1\nf 0\na 0 2047 1\nend\n",
+            "heap 10 1 0 lanes 1\nlane 0\ngiven 1\nfreed\ngiven 3\nfreed\ngiven 7\nfreed\ngiven 15\nfreed\ngiven 31\nfreed\ngiven 63\nfreed\ngiven 127\nfreed\ngiven 255\nfreed\ngiven 511\nfreed\ngiven 1023\nfreed\nrefused\nlive 0 words 0\n",
         ),
-        // A large block takes one unit of two, and the next wants two.
+        // A large block takes two units of three, and the next wants two.
         (
-            "heap 4 1 2\nlane\na 0 1024 1\na 1 2048 1\nend\n",
-            "heap 4 1 2 lanes 1\nlane 0\ngiven 2047\nrefused\nlive 1 words 2047\n",
+            "heap 4 1 3\nlane\na 0 2048 1\na 1 2048 1\nend\n",
+            "heap 4 1 3 lanes 1\nlane 0\ngiven 4095\nrefused\nlive 1 words 4095\n",
         ),
         // The largest block takes all units that a heap can have.
         (

@@ -11,11 +11,11 @@ use std::thread::Threads;
 /// How many lanes the trace has.
 const LANES: u32 = 8;
 
-/// Eight lanes, each of which holds at most two blocks: 16 frames, 20 for the active superblocks of two
+/// Eight lanes, each of which holds at most two blocks: 16 frames, 22 for the active superblocks of two
 /// processor heaps, and 8 for the callers are just enough, and so are 24 turns for 24 allocations.
 fn roomy_lanes(alloc: Global) -> Result<String, AllocError> {
     let mut trace = String::new(alloc);
-    trace.push_str("heap 44 2 0 24\n")?;
+    trace.push_str("heap 46 2 0 24\n")?;
     for lane in 0..LANES {
         let next = lane + 1;
         write!(
@@ -29,7 +29,7 @@ fn roomy_lanes(alloc: Global) -> Result<String, AllocError> {
 /// Their report: a block of 127 words that is filled from `n` on has the sum `127 * n + 8001`.
 fn roomy_report(alloc: Global) -> Result<String, AllocError> {
     let mut report = String::new(alloc);
-    report.push_str("heap 44 2 0 24 lanes 8\n")?;
+    report.push_str("heap 46 2 0 24 lanes 8\n")?;
     for lane in 0..LANES {
         let small = 3 * lane + 3;
         let first = 127 * lane + 8001;

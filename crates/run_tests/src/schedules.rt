@@ -28,7 +28,7 @@ fn reused_block(alloc: Global) -> Result<String, AllocError> {
     for k in 1..64 {
         write!(text, "f {k}\n")?;
     }
-    text.push_str("f 0\norder 0 1047\norder 1 769\nend\n")?;
+    text.push_str("f 0\norder 0 2071\norder 1 769\nend\n")?;
     Ok(text)
 }
 
@@ -42,7 +42,7 @@ fn reused_block_report(alloc: Global) -> Result<String, AllocError> {
     for _k in 0..64 {
         text.push_str("freed\n")?;
     }
-    text.push_str("live 2 words 2\nsteps 1822 lost 1 cleared 0\n")?;
+    text.push_str("live 2 words 2\nsteps 2846 lost 1 cleared 0\n")?;
     Ok(text)
 }
 
@@ -59,8 +59,8 @@ fn tag_tells_a_reused_block_apart(rt: HostRuntime) -> Result<(), Fail> {
 fn last_credit_goes_to_one_lane(rt: HostRuntime) -> Result<(), Fail> {
     is_scheduled(
         &rt,
-        "heap 2 1 0\nlane\na 0 1023 1\na 1 1023 1\nlane\na 0 1023 1\norder 0 1043\norder 1 2\nend\n",
-        "heap 2 1 0 lanes 2\nlane 0\ngiven 1023\ngiven 1023\nlane 1\ngiven 1023\nlive 3 words 3069\nsteps 3116 lost 1 cleared 0\n",
+        "heap 2 1 0\nlane\na 0 2047 1\na 1 2047 1\nlane\na 0 2047 1\norder 0 2067\norder 1 2\nend\n",
+        "heap 2 1 0 lanes 2\nlane 0\ngiven 2047\ngiven 2047\nlane 1\ngiven 2047\nlive 3 words 6141\nsteps 6188 lost 1 cleared 0\n",
     )
 }
 
@@ -70,8 +70,8 @@ fn last_credit_goes_to_one_lane(rt: HostRuntime) -> Result<(), Fail> {
 fn slow_free_keeps_its_frame(rt: HostRuntime) -> Result<(), Fail> {
     is_scheduled(
         &rt,
-        "heap 1 1 0\nlane\na 0 1023 1\na 1 1023 1\nf 0\nf 1\nlane\na 0 1023 1\na 0 1023 1\na 0 1023 1\norder 0 2084\norder 1 1000\nend\n",
-        "heap 1 1 0 lanes 2\nlane 0\ngiven 1023\ngiven 1023\nfreed\nfreed\nlane 1\nrefused\nrefused\nrefused\nlive 0 words 0\nsteps 2141 lost 0 cleared 1\n",
+        "heap 1 1 0\nlane\na 0 2047 1\na 1 2047 1\nf 0\nf 1\nlane\na 0 2047 1\na 0 2047 1\na 0 2047 1\norder 0 4132\norder 1 1000\nend\n",
+        "heap 1 1 0 lanes 2\nlane 0\ngiven 2047\ngiven 2047\nfreed\nfreed\nlane 1\nrefused\nrefused\nrefused\nlive 0 words 0\nsteps 4189 lost 0 cleared 1\n",
     )
 }
 
@@ -81,8 +81,8 @@ fn slow_free_keeps_its_frame(rt: HostRuntime) -> Result<(), Fail> {
 fn one_of_two_installs_is_lost(rt: HostRuntime) -> Result<(), Fail> {
     is_scheduled(
         &rt,
-        "heap 2 1 0\nlane\na 0 1023 1\nlane\na 0 1023 1\norder 0 17\norder 1 1042\nend\n",
-        "heap 2 1 0 lanes 2\nlane 0\ngiven 1023\nlane 1\ngiven 1023\nlive 2 words 2046\nsteps 2093 lost 1 cleared 0\n",
+        "heap 2 1 0\nlane\na 0 2047 1\nlane\na 0 2047 1\norder 0 17\norder 1 2066\nend\n",
+        "heap 2 1 0 lanes 2\nlane 0\ngiven 2047\nlane 1\ngiven 2047\nlive 2 words 4094\nsteps 4141 lost 1 cleared 0\n",
     )
 }
 
@@ -91,7 +91,7 @@ fn block_goes_over_a_shelf(rt: HostRuntime) -> Result<(), Fail> {
     is_scheduled(
         &rt,
         "heap 4 1 0\nlane\na 0 3 10\np 0 5\na 0 3 20\np 0 5\nlane\nt 0 5\nc 0\nt 1 5\nf 0\nend\n",
-        "heap 4 1 0 lanes 2\nlane 0\ngiven 3\nput\ngiven 3\nshelf full\nlane 1\ntook 3\nsum 33\nshelf empty\nfreed\nlive 1 words 3\nsteps 555 lost 0 cleared 0\n",
+        "heap 4 1 0 lanes 2\nlane 0\ngiven 3\nput\ngiven 3\nshelf full\nlane 1\ntook 3\nsum 33\nshelf empty\nfreed\nlive 1 words 3\nsteps 1067 lost 0 cleared 0\n",
     )
 }
 
@@ -101,7 +101,7 @@ fn order_decides_what_a_lane_finds(rt: HostRuntime) -> Result<(), Fail> {
     is_scheduled(
         &rt,
         "heap 4 2 64 1000000\nlane\na 0 3 10\nw 0 20\np 0 5\nlane\nt 1 5\nc 1\nf 1\norder 1 100\norder 0 100\nend\n",
-        "heap 4 2 64 1000000 lanes 2\nlane 0\ngiven 3\nfilled\nput\nlane 1\nshelf empty\nskipped\nskipped\nlive 1 words 3\nsteps 538 lost 0 cleared 0\n",
+        "heap 4 2 64 1000000 lanes 2\nlane 0\ngiven 3\nfilled\nput\nlane 1\nshelf empty\nskipped\nskipped\nlive 1 words 3\nsteps 1050 lost 0 cleared 0\n",
     )
 }
 

@@ -35,7 +35,7 @@ fn a_plain_text(rt: HostRuntime) -> Result<(), Fail> {
         heaps: 1,
         units: 2,
         callers: 1,
-        turn_limit: 274_877_906_943,
+        turn_limit: 68_719_476_735,
     };
     let orders = trace.orders.as_slice().len();
     assert_eq!(rt; (trace.heap, trace.named_limit, orders), (heap, false, 0));
@@ -114,9 +114,9 @@ fn refused_texts(rt: HostRuntime) {
         (b"heap 4 1 2\n\xc3\xa9", 2, 1),
         (b"heap 4 1 2\nlane\norder 1 5\nend\n", 3, 7),
         (b"\0", 1, 1),
-        (b"heap 1025 1 0", 1, 3),
+        (b"heap 4097 1 0", 1, 3),
         (b"heap 4 1 2 0", 1, 3),
-        (b"heap 4 1 2 274877906944", 1, 3),
+        (b"heap 4 1 2 68719476736", 1, 3),
         (b"heap 4 1 2\nlane\na 0 1 99999999999999999999", 3, 6),
         (b"heap 4 1 2\nlane\nw 01 5\nend\n", 3, 6),
         (b"heap 4 1 2\nheap 4 1 2\nend\n", 2, 4),
@@ -199,7 +199,7 @@ fn cuts_of_a_text(rt: HostRuntime) -> Result<(), Fail> {
 #[test]
 fn every_line_is_printed_again(rt: HostRuntime) -> Result<(), Fail> {
     let text =
-        b"heap 4 2 64 274877906943\nlane\na 1023 131071 18446744073709551615\nw 0 9\nc 0\nf 10\nlane\np 3 63\nt 3 0\nlane\norder 1 1000000\norder 2 1\nend\n";
+        b"heap 4 2 64 68719476735\nlane\na 1023 131071 18446744073709551615\nw 0 9\nc 0\nf 10\nlane\np 3 63\nt 3 0\nlane\norder 1 1000000\norder 2 1\nend\n";
     let trace = trace_of(rt.alloc(), text)?;
     let runs = [
         OrderRun {
