@@ -280,7 +280,7 @@ def draw_tour():
         ["lane 0 has read", "lane 1 has popped 64", "lane 1 has freed them", "lane 0 has popped"],
         [
             ("Anchor(0) avail", "1", "65", "1", "64"),
-            ("count", "959", "895", "959", "959"),
+            ("count", "1,983", "1,919", "1,983", "1,983"),
             ("tag", "0", "64", "64", "65"),
             ("link of block 1", "2", "live", "64", "live"),
             ("lane 0 recalls", "avail 1, tag 0, link 2", "avail 1, tag 0, link 2", "avail 1, tag 0, link 2", "nothing"),
@@ -290,7 +290,7 @@ def draw_tour():
         "tour_credit.svg", "Two want the last credit",
         ["both have read", "lane 1 has taken it", "lane 0 has a new one", "both are given"],
         [
-            ("Active(0, 9)", "0, 0 credits", "null", "1, 0 credits", "1, 0 credits"),
+            ("Active(0, 10)", "0, 0 credits", "null", "1, 0 credits", "1, 0 credits"),
             ("Anchor(0)", "avail 1, tag 0", "avail 1, tag 0", "avail 1, tag 0", "FULL, tag 1"),
             ("Anchor(1)", "none", "none", "ACTIVE, tag 0", "ACTIVE, tag 0"),
             ("FrameHead", "frame 1", "frame 1", "empty", "empty"),
@@ -302,7 +302,7 @@ def draw_tour():
         ["lane 0 made EMPTY", "lane 1 was refused", "refused twice", "lane 0 has ended"],
         [
             ("Anchor(0)", "EMPTY", "EMPTY", "EMPTY", "EMPTY"),
-            ("Slot(0, 9)", "0", "null", "null", "null"),
+            ("Slot(0, 10)", "0", "null", "null", "null"),
             ("FrameHead", "empty", "empty", "empty", "frame 0"),
             ("Hazard(0)", "0", "0", "0", "null"),
             ("lane 1 has retired", "nothing", "0, 1", "0, 2", "0, 1"),
@@ -313,7 +313,7 @@ def draw_tour():
         "tour_install.svg", "Two installs",
         ["lane 0 is ready", "lane 1 has installed", "lane 0 gave back", "lane 0 is given"],
         [
-            ("Active(0, 9)", "null", "1, 0 credits", "1, 0 credits", "null"),
+            ("Active(0, 10)", "null", "1, 0 credits", "1, 0 credits", "null"),
             ("Anchor(0)", "ACTIVE, new", "ACTIVE, new", "retired", "retired"),
             ("Anchor(1)", "none", "ACTIVE, tag 0", "ACTIVE, tag 0", "FULL, tag 1"),
             ("FrameHead", "frame 1", "empty", "frame 0", "frame 0"),

@@ -145,13 +145,13 @@ class Caller:
 def by_model(core, seed, calls, heap):
     """What the script of this number comes to in the model."""
     callers, frames, heaps, units, turns = heap
-    machine = core.Core(core.BASE, core.Geometry(frames, heaps, units, callers, turns))
+    machine = core.Core(core.WIDE, core.Geometry(frames, heaps, units, callers, turns))
     sums = dict.fromkeys(("calls", "given", "refused", "spent", "freed", "busy", "steps"), 0)
     all_callers = [Caller(machine, number, sums) for number in range(callers)]
     script = Script(seed)
     for _ in range(calls):
         caller = all_callers[script.random.below(callers)]
-        request = script.request(machine.idle(caller.number), caller.held, lambda block: core.BASE.usable(block[1]))
+        request = script.request(machine.idle(caller.number), caller.held, lambda block: core.WIDE.usable(block[1]))
         steps = script.stop(request)
         caller.call(request, script.tries, ENOUGH if steps is None else steps)
     for caller in all_callers:

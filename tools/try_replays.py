@@ -75,7 +75,7 @@ def main():
             reports.add((ran.returncode, ran.stdout.decode()))
         several += len(reports) > 1
         for status, report in reports:
-            complaints, exact = check(trace, report, PROFILES["base"], False)
+            complaints, exact = check(trace, report, PROFILES["wide"], False)
             whole += exact
             if status != 0 or complaints:
                 wrong += 1

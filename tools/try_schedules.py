@@ -57,8 +57,9 @@ def main():
     program, model, seed, traces = sys.argv[1:]
     sys.path.insert(0, model)
     import core as machine
-    from balloc import MemorySink, MemorySource, run
+    from balloc import MemorySink, MemorySource, Program, run
 
+    expected = Program(prof=machine.WIDE)
     kinds = set()
     advance = machine.Core.advance
 
@@ -74,7 +75,7 @@ def main():
     for _ in range(int(traces)):
         trace = random_trace(rng).encode()
         ran = subprocess.run([program, "schedule"], input=trace, stdout=subprocess.PIPE)
-        ended = run(["schedule"], MemorySource(trace), MemorySink())
+        ended = run(["schedule"], MemorySource(trace), MemorySink(), expected)
         if (ran.returncode, ran.stdout.decode()) != (ended.status, ended.text):
             wrong += 1
             print(trace.decode(), "status", ran.returncode, ran.stdout.decode(), "and not", ended.status, ended.text, sep="\n")
