@@ -55,8 +55,9 @@ begun-alloc-errand e words (Small class) is h idle =
     })
     refl refl (let most = h.turns in grind (arith, left, most)))
 begun-alloc-errand e words (Large units) is h idle =
+    let needs : IsNeed (Large units) = subst IsNeed is (need_of-within words) in
     with-point e _ _ h idle
-    (record { point = record { geometry = refl; units = subst IsNeed is (need_of-within words) }; goes = is; inside = refl }) refl refl h.turns
+    (record { point = record { geometry = refl; units = (omega (arith, needs.0), needs.1) }; goes = is; inside = refl }) refl refl h.turns
 begun-alloc-errand e words TooLarge is h idle = h
 
 -- an errand that begins an allocation keeps its rule
@@ -83,7 +84,7 @@ free-errand e place (Large units) (needs, (unit, within, is)) h idle =
     with-point e _ _ h idle
     (record {
       point = record {
-        run = record { some = needs.0; within = omega (arith, first, within, h.geometry.units.1) };
+        run = record { some = omega (arith, needs.0); within = omega (arith, first, within, h.geometry.units.1) };
         within = omega (arith, first, within);
         place = is ∙ ap (unit_place e.geometry.frames) (sym first);
       };

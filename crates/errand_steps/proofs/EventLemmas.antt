@@ -3,7 +3,7 @@ use Rattle.std.proofs.Common.{ℕ, Option, Some, None, ◌≡◌, ◌<◌, refl,
 use Rattle.std.proofs.lemmas.Bool.{cond_both}
 use Rattle.heap_geometry.specs.declared.geometry.Geometry.{Geometry}
 use Rattle.heap_geometry.specs.declared.need.Need.TheVariants as need
-use Rattle.heap_geometry.specs.Need.{need_of, block_count_of}
+use Rattle.heap_geometry.specs.Need.{IsNeed, need_of, block_count_of}
 use Rattle.heap_geometry.specs.Place.{block_place, unit_place}
 use Rattle.word_plan.specs.declared.action.Found.{Found}
 use Rattle.word_plan.specs.declared.seat.Site.{Site}
@@ -22,6 +22,7 @@ use Rattle.large_parts.proofs.LowestLemmas.{first_run-exact}
 use Rattle.pool_model.specs.declared.event.Event.{Event}
 use Rattle.pool_model.specs.declared.event.Event.TheVariants.{Alloc, Looked, Refuse, Free, Write, Put, Take, TakeNone}
 use Rattle.pool_model.specs.Histories.{caller_of}
+use Rattle.pool_model.proofs.NeedOfLemmas.{need_of-within}
 use Rattle.errand_steps.specs.declared.continuation.Continuation.{Continuation}
 use Rattle.errand_steps.specs.declared.point.Point.{Point}
 use Rattle.errand_steps.specs.declared.point.Point.TheVariants.{Idle, Block, Stack, Desc, Partial, Large}
@@ -57,8 +58,9 @@ gives-run :
     → IsFirstRun bits w.geometry.units w.units r → Gives g (Some (run_event caller words w r))
 gives-run g caller words w bits None h is lowest = tt
 gives-run g caller words w bits (Some first) h is lowest =
+    let needs : IsNeed (need.Large w.units) = subst IsNeed is (need_of-within words) in
     subst (λ n. IsHeapBlock g (unit_place w.geometry.frames first) n) (sym is) (
-      (h.units.0, h.units.1),
+      needs,
       (
         first,
         omega (arith, lowest.within, ap (λ x. x.units) h.geometry),

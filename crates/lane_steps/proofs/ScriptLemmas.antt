@@ -8,6 +8,7 @@ use Rattle.heap_geometry.specs.declared.geometry.Geometry.{Geometry}
 use Rattle.heap_geometry.specs.declared.need.Need.{Need}
 use Rattle.heap_geometry.specs.declared.need.Need.TheVariants.{Small, Large, TooLarge}
 use Rattle.heap_geometry.specs.Need.{IsNeed, need_of, usable_words}
+use Rattle.heap_geometry.specs.declared.limits.TheConstants.{CLASSES, LARGE_MOST, SMALL_MOST}
 use Rattle.pool_model.specs.declared.event.Event.{Event}
 use Rattle.errand_steps.specs.Begins.{IsHeapBlock}
 use Rattle.errand_steps.specs.Calls.{Call, alloc, free, write, read, put, take as take_call}
@@ -201,10 +202,10 @@ script-stays operations results registers at calls script =
     subst (IsOnScript operations registers results at) (sym (append-nil calls)) script
 
 -- how many words a block has
-small-words : (class : ℕ) → class < 10 → (1 ≤ usable_words (Small class)) × (usable_words (Small class) ≤ 1023)
+small-words : (class : ℕ) → class < CLASSES → (1 ≤ usable_words (Small class)) × (usable_words (Small class) ≤ SMALL_MOST)
 small-words class few =
     let low : 2 ^ 1 ≤ 2 ^ (class + 1) = let p : 1 ≤ class + 1 = omega arith in pow_mono p in
-    let high : 2 ^ (class + 1) ≤ 2 ^ 10 = let p : class + 1 ≤ 10 = omega arith in pow_mono p in
+    let high : 2 ^ (class + 1) ≤ 2 ^ CLASSES = let p : class + 1 ≤ CLASSES = omega arith in pow_mono p in
     (omega arith, omega arith)
 
 -- a block of a heap has a word
@@ -216,12 +217,12 @@ need-some g place TooLarge block = absurd block.1
 pub serves-one : (held : Held) (a b : Need) → Serves held a → Serves held b → a ≡ b
 serves-one held a b first second = sym first.2 ∙ second.2
 
-need-words : (need : Need) → IsNeed need → usable_words need ≤ 131071
+need-words : (need : Need) → IsNeed need → usable_words need ≤ LARGE_MOST
 need-words (Small class) is = let w = small-words class is in omega arith
 need-words (Large units) is = omega arith
 need-words TooLarge is = omega arith
 
-pub serves-words : (held : Held) (need : Need) → Serves held need → held.words ≤ 131071
+pub serves-words : (held : Held) (need : Need) → Serves held need → held.words ≤ LARGE_MOST
 serves-words held need serves = let w = need-words need serves.0 in omega (arith, serves.1)
 
 -- the first calls for a block's words
