@@ -1,5 +1,5 @@
 //! Tests of the heap for running threads: its calls, one after another and step by step, its census, and
-//! what a lane runs on.
+//! what a lane is told of a machine's steps.
 #![tactic(auto)]
 
 #[cfg(test)]
@@ -11,6 +11,6 @@ mod calls;
 #[cfg(test)]
 mod censuses;
 #[cfg(test)]
-mod engines;
-#[cfg(test)]
 mod hand;
+#[cfg(test)]
+mod machine_calls;

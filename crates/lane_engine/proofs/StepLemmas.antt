@@ -1,5 +1,6 @@
 -- What a step of a machine tells its lane.
-use Rattle.std.proofs.Common.{ℕ, ◌≡◌, ◌≢◌, ◌<◌, Option, inl, inr, refl, sym, ap, subst, IsSomeAnd}
+use Rattle.std.proofs.Common.{ℕ, ◌≡◌, ◌≢◌, ◌<◌, Option, inl, inr, refl, sym, ap, subst, arith, IsSomeAnd}
+use Rattle.std.specs.Prelude.{slice_set}
 use Rattle.std.proofs.lemmas.Bool.{cases_Bool}
 use Rattle.heap_geometry.specs.declared.need.Need.{Need}
 use Rattle.heap_geometry.specs.Need.{IsNeed}
@@ -10,21 +11,22 @@ use Rattle.errand_steps.specs.declared.reply.Progress.TheVariants as progress
 use Rattle.errand_steps.specs.declared.reply.Reply.{Reply}
 use Rattle.errand_steps.specs.declared.reply.Reply.TheVariants as reply
 use Rattle.errand_steps.specs.Begins.{IsBusy, IsIdle}
+use Rattle.errand_steps.specs.Calls.{Call, begun_by}
 use Rattle.errand_steps.specs.Offers.{offered_at}
 use Rattle.errand_steps.specs.Points.{is_idle}
 use Rattle.sound_state.specs.Answers.{IsMeant}
 use Rattle.sound_state.specs.Recalls.{IsOwned}
-use Rattle.sound_state.specs.Runs.{steps}
+use Rattle.sound_state.specs.Runs.{MayBegin, begins, steps}
 use Rattle.sound_state.proofs.CountedLemmas.{without-counts}
 use Rattle.sound_state.proofs.beginnings.BegunLemmas.{owned-block}
-use Rattle.step_core.specs.Cores.{CoreFields, IsCore, errand_at, state_of}
+use Rattle.step_core.specs.Cores.{CoreFields, IsCore, errand_at, state_of, with_errand}
 use Rattle.step_core.specs.Moments.{HasSeenMore}
 use Rattle.step_core.specs.Steps.{AnswersSo, IsStepped, stepped}
-use Rattle.step_core.proofs.CoreLemmas.{core-sound}
+use Rattle.step_core.proofs.CoreLemmas.{core-sound, moves-set}
 use Rattle.step_core.proofs.MomentLemmas.{core-moment, core-beside, same-seen}
 use Rattle.lane_engine.specs.declared.stepped.Stepped.{Stepped}
-use Rattle.lane_engine.specs.Engines.{HasStepped, IsTellable, Tells}
-use Rattle.lane_engine.specs.Machines.{MovesCore}
+use Rattle.lane_engine.specs.Told.{HasStepped, IsTellable, Tells}
+use Rattle.lane_engine.specs.Machines.{MovesCore, Serves}
 
 -- a block that a caller owns serves some need
 owned-need : (c : CoreFields) (caller place : ℕ) (need : Need) → IsCore c → IsOwned (state_of c) caller place need → IsNeed need
@@ -104,3 +106,25 @@ core-others c after caller other answer idle busy differ =
       )
       | inr moves ↦ core-beside c after caller other answer (busy moves) differ
     ]
+
+-- a call that begins leads on, too
+pub core-begins :
+    (c after : CoreFields) (caller : ℕ) (call : Call) → Serves c caller → IsIdle (errand_at c.errands caller) → MayBegin (state_of c) caller call
+    → after ≡ with_errand c caller (begun_by (errand_at c.errands caller) call) → MovesCore c (begins caller call) after
+core-begins c after caller call serves idle may is =
+    let e = begun_by (errand_at c.errands caller) call in
+    subst (MovesCore c (begins caller call)) (sym is)
+    (record {
+      heap = refl;
+      moved = (
+        serves.1,
+        record {
+          idle = idle;
+          may = may;
+          errands = errand_at (slice_set c.errands caller e);
+          moves = moves-set c.errands caller e (omega (arith, serves.0.errands, serves.1));
+          after = refl;
+        },
+      );
+      counted = refl;
+    })

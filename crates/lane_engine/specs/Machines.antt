@@ -1,7 +1,20 @@
--- What moves make of a machine, as lanes see it.
-use Rattle.std.specs.Prelude.{◌≡◌}
+-- A machine as lanes see it.
+use Rattle.std.specs.Prelude.{ℕ, ◌≡◌, ◌<◌}
+use Rattle.heap_geometry.specs.declared.need.Need.{Need}
 use Rattle.sound_state.specs.Runs.{Move, Moved}
-use Rattle.step_core.specs.Cores.{CoreFields, made_with, state_of}
+use Rattle.step_core.specs.Cores.{CoreFields, IsCore, made_with, state_of}
+use Rattle.lane_engine.specs.declared.grip.Grip.{Grip}
+
+-- the place of a block in hand, and what it serves
+abbrev pub grip_place : Grip → ℕ
+grip_place grip = grip.place
+
+abbrev pub grip_need : Grip → Need
+grip_need grip = grip.need
+
+-- the machine has this caller
+abbrev pub Serves : CoreFields → ℕ → Type 0
+Serves c caller = IsCore c × (caller < c.geometry.callers)
 
 -- a call that begins, or a step, leads from one machine to the other, of the same heap; and a step is counted
 pub record MovesCore (c : CoreFields) (move : Move) (after : CoreFields) : Type 0 where

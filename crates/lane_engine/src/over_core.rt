@@ -1,116 +1,48 @@
-//! A machine on one thread as an engine.
+//! A step of a machine as its caller sees it.
 
-ghost use Rattle.std.specs.Prelude.{◌≡◌, IsSomeAnd};
+ghost use Rattle.std.specs.Prelude.{ℕ, ◌≡◌, ◌≢◌, IfOk, IsSomeAnd, OnErr};
 ghost use Rattle.heap_geometry.specs.Need.{IsNeed};
-ghost use Rattle.lane_engine.specs.Engines.{IsTellable, Tells};
-ghost use Rattle.step_core.specs.Needs.{IsNeed-prop};
+ghost use Rattle.errand_steps.specs.Begins.{IsIdle, IsBusy};
+ghost use Rattle.sound_state.specs.Runs.{steps};
+ghost use Rattle.step_core.specs.Cores.{IsCore, errand_at};
+ghost use Rattle.step_core.specs.Moments.{HasSeenMore};
+ghost use Rattle.lane_engine.specs.declared.stepped.Stepped.TheVariants as stepped;
+ghost use Rattle.lane_engine.specs.Machines.{MovesCore, Serves, grip_need, grip_place};
+ghost use Rattle.lane_engine.specs.Told.{HasStepped, IsTellable, Tells};
 
-use crate::engine::Engine;
+use crate::grip::Grip;
 use crate::stepped::Stepped;
-use crate::token::Token;
-use errand_steps::reply::{Begun, Offer, Progress, Reply};
-use heap_geometry::need::{Need, usable};
+use errand_steps::reply::{Offer, Progress, Reply};
 use std::alloc::AllocError;
 use step_core::machine::Core;
 
-/// A block that a caller of a machine holds. `place` is the arena word of its prefix.
-#[derive(Debug, PartialEq, Eq, Drop)]
-pub struct Grip {
-    pub place: u32,
-    pub need: Need,
-    ghost is_need: { IsNeed need } by { IsNeed-prop need },
-}
-
-impl Token for Grip {
-    ghost place_of = { λ grip. grip.place };
-
-    ghost need_of = { λ grip. grip.need };
-
-    fn words(&self) -> u32 {
-        usable(self.need)
-    }
-
-    fn need(&self) -> Need {
-        self.need
-    }
-
-    fn place(&self) -> u32 {
-        self.place
-    }
-}
-
-// `steps` tells what the type keeps of the machine that a call leaves, so that it serves its callers on.
-impl Engine for Core {
-    ghost use Rattle.std.specs.Prelude.{◌<◌};
-    ghost use Rattle.heap_geometry.specs.declared.geometry.Geometry.{Geometry};
-    ghost use Rattle.step_core.specs.Cores.{IsCore, errand_at};
-    ghost use Rattle.lane_engine.specs.Machines.{MovesCore};
-    ghost use Rattle.step_core.proofs.MomentLemmas.{core-served};
-
-    type Held = Grip;
-
-    ghost serves = { λ c caller. IsCore c × (caller < c.geometry.callers) };
-
-    ghost errand_of = { λ c caller. errand_at c.errands caller };
-
-    ghost events = { λ c. c.events };
-
-    ghost geometry_of = { λ c. c.geometry };
-
-    ghost Base = { Geometry };
-
-    ghost runs_on = { λ c. c.geometry };
-
-    ghost may_fail = { Unit {0} };
-
-    ghost moved = { MovesCore };
-
-    fn begin_alloc(&mut self, caller: u32, need: u32) -> Begun {
-        let begun = self.begin_alloc(caller, need);
-        let _ = self.steps();
-        begun
-    }
-
-    fn begin_free(&mut self, caller: u32, held: Grip) {
-        self.begin_free(caller, held.place, held.need);
-        let _ = self.steps();
-    }
-
-    fn begin_write(&mut self, caller: u32, held: &Grip, i: u32, v: u64) {
-        self.begin_write(caller, held.place, held.need, i, v);
-        let _ = self.steps();
-    }
-
-    fn begin_read(&mut self, caller: u32, held: &Grip, i: u32) {
-        self.begin_read(caller, held.place, held.need, i);
-        let _ = self.steps();
-    }
-
-    fn begin_put(&mut self, caller: u32, held: Grip, shelf: u8) {
-        self.begin_put(caller, held.place, held.need, shelf);
-        let _ = self.steps();
-    }
-
-    fn begin_take(&mut self, caller: u32, shelf: u8) {
-        self.begin_take(caller, shelf);
-        let _ = self.steps();
-    }
-
-    fn step(&mut self, caller: u32) -> Result<Stepped<Grip>, AllocError> {
-        let offer = self.offered(caller);
-        let progress = self.advance(caller)?;
-        let _ = self.steps();
-        Ok(stepped(progress, offer))
-    }
-
-    ghost served = { λ c caller served. core-served c caller served.0 served.1 };
+/// Makes one step of a caller of the machine, and says what it came to; none where the caller is idle.
+pub fn step(core: &mut Core, caller: u32) -> Result<Stepped<Grip>, AllocError>
+    requires serves { Serves core.old caller }
+    ensures rule { IsCore core.new }
+    ensures geometry { core.new.geometry ≡ core.old.geometry }
+    ensures idle { IfOk result (λ told. IsIdle (errand_at core.old.errands caller)
+        → (told ≡ stepped.Idle) × (core.new ≡ core.old)) }
+    ensures busy { IfOk result (λ told. IsBusy (errand_at core.old.errands caller)
+        → HasStepped grip_place grip_need (errand_at core.old.errands caller) (errand_at core.new.errands caller)
+        core.old.events core.new.events told) }
+    ensures moved { IfOk result (λ told. IsBusy (errand_at core.old.errands caller) → MovesCore core.old (steps caller) core.new) }
+    ensures others { (other : ℕ) → other ≢ caller → (errand_at core.new.errands other ≡ errand_at core.old.errands other)
+        × HasSeenMore other core.old.events core.new.events }
+    ensures err { OnErr result (core.new ≡ core.old) }
+{
+    let offer = core.offered(caller);
+    let progress = core.advance(caller)?;
+    // The machine's type keeps what its callers stand on.
+    let _ = core.steps();
+    Ok(stepped(progress, offer))
 }
 
 /// What a step came to, with blocks in place of their numbers. A put that was under way offered this
 /// block.
 fn stepped(progress: Progress, offer: Option<Offer>) -> Stepped<Grip>
     requires { IsTellable offer progress }
-    ensures { Tells (λ grip. grip.place) (λ grip. grip.need) offer progress result }
+    ensures { Tells grip_place grip_need offer progress result }
 {
     match progress {
         Progress::Idle => Stepped::Idle,
@@ -124,7 +56,7 @@ fn stepped(progress: Progress, offer: Option<Offer>) -> Stepped<Grip>
 /// The same of the step that ends a call.
 fn ended(reply: Reply, offer: Option<Offer>) -> Stepped<Grip>
     requires { IsTellable offer (Progress.Done reply) }
-    ensures { Tells (λ grip. grip.place) (λ grip. grip.need) offer (Progress.Done reply) result }
+    ensures { Tells grip_place grip_need offer (Progress.Done reply) result }
 {
     match reply {
         Reply::Given { place, need } => Stepped::Given(Grip { place, need }),

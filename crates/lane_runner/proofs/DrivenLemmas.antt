@@ -31,7 +31,7 @@ use Rattle.sound_state.proofs.wins.CountLemmas.{count-append}
 use Rattle.step_core.specs.Cores.{CoreFields, IsCore, errand_at, state_of}
 use Rattle.step_core.specs.Openings.{IsOpened}
 use Rattle.lane_engine.specs.Machines.{MovesCore}
-use Rattle.lane_engine.specs.declared.over_core.Grip.{Grip}
+use Rattle.lane_engine.specs.declared.grip.Grip.{Grip}
 use Rattle.lane_outcomes.specs.declared.outcome.Outcome.{Outcome}
 use Rattle.lane_outcomes.specs.Fits.{Fits, LanesFit}
 use Rattle.lane_outcomes.specs.Passed.{AllPassed}
@@ -42,9 +42,9 @@ use Rattle.lane_steps.specs.Begun.{calls_of}
 use Rattle.lane_runner.specs.Driven.{IsDriven, lost_by_all, steppers_of}
 use Rattle.lane_runner.specs.Orders.{InOrder, OneByOne}
 use Rattle.lane_steps.specs.Paths.{Leads, begun_count}
-use Rattle.lane_runner.specs.Running.{HasEnded, HasPassed, HaveFinished, HaveFollowed, IsBelow, IsOnScriptOf, LanesRan, LanesStand, StandsOn, operations_in}
+use Rattle.lane_runner.specs.Running.{HasEnded, HasPassed, HaveFinished, HaveFollowed, IsBelow, IsOnScriptOf, LanesRan, LanesStand, operations_in}
 use Rattle.lane_steps.specs.Scripts.{IsOnScript, Scripts}
-use Rattle.lane_steps.specs.States.{AreNew, IsNew, progress_of}
+use Rattle.lane_steps.specs.States.{AreNew, IsNew, StandsOn, progress_on}
 use Rattle.lane_steps.proofs.EndedLemmas.{lane-between, lane-fits, lane-new, script-new}
 use Rattle.lane_runner.proofs.OrderLemmas.{lanes-more}
 use Rattle.lane_runner.proofs.RunLanes.{contains-none, element_at}
@@ -53,7 +53,7 @@ use Rattle.lane_steps.proofs.ScriptLemmas.{script-whole}
 
 -- moves of one machine after the other count their steps
 pub leads-counted :
-    (c after : CoreFields) (moves : List Move) (n : ℕ) → c.steps ≡ min n (2 ^ 64 - 1) → Leads MovesCore c moves after
+    (c after : CoreFields) (moves : List Move) (n : ℕ) → c.steps ≡ min n (2 ^ 64 - 1) → Leads c moves after
     → after.steps ≡ min (n + count_by is_step moves) (2 ^ 64 - 1)
 leads-counted c after [] n is leads = ap (λ (d : CoreFields). d.steps) leads ∙ is ∙ ap (λ m. min m (2 ^ 64 - 1)) (omega arith)
 leads-counted c after (begins caller call ∷ moves) n is leads = leads-counted leads.0 after moves n (leads.1.counted ∙ is) leads.2
@@ -76,7 +76,7 @@ all-told count caller events None lt mine all = all
 all-told count caller events (Some e) lt mine all = all-with count events e (subst (λ k. k < count) (sym (mine e refl)) lt) all
 
 pub leads-callers :
-    (count : ℕ) (c after : CoreFields) (moves : List Move) → All (IsBelow count) moves → Leads MovesCore c moves after
+    (count : ℕ) (c after : CoreFields) (moves : List Move) → All (IsBelow count) moves → Leads c moves after
     → AllByRecursion (λ event. caller_of event < count) c.events → AllByRecursion (λ event. caller_of event < count) after.events
 leads-callers count c after [] below leads all =
     subst (λ (d : CoreFields). AllByRecursion (λ event. caller_of event < count) d.events) (sym leads) all
@@ -221,7 +221,7 @@ module _ (passed : ℕ → ℕ → Type 0) (trace : Trace) (first mid last : Cor
       → Scripts (replicate REGISTERS None) (get_or trace.lanes lane []) (get_or results lane []) (calls_of lane ran.moves)
   scripts lane lt =
       let e = at-end lane lt in
-      let p = progress_of (λ grip. grip.place) (λ grip. grip.need) e.state in
+      let p = progress_on e.state in
       let on : IsOnScript (operations_in trace lane) p.registers p.results stage.Between (calls_of lane ran.moves) =
       subst (λ at. IsOnScript (operations_in trace lane) p.registers p.results at (calls_of lane ran.moves)) e.ended.between e.script in
       subst (λ results. Scripts (replicate REGISTERS None) (operations_in trace lane) results (calls_of lane ran.moves)) (result-at lane lt)
@@ -232,7 +232,7 @@ module _ (passed : ℕ → ℕ → Type 0) (trace : Trace) (first mid last : Cor
       elim (cases_lt caller (length trace.lanes)) [
         | inl lt ↦
             let e = at-end caller lt in
-            let p = progress_of (λ grip. grip.place) (λ grip. grip.need) e.state in
+            let p = progress_on e.state in
             let quiet =
             (lane-between last.geometry e.state.caller last.events (errand_at last.errands e.state.caller) (operations_in trace caller) p.registers
             p.results e.state.stage e.stands.stands.stands e.ended.between).0 in
@@ -251,7 +251,7 @@ module _ (passed : ℕ → ℕ → Type 0) (trace : Trace) (first mid last : Cor
       → Fits (setting_in last.events (0 + lane) trace.heap.turn_limit (lost_by_all last)) (get_or trace.lanes lane []) (get_or results lane [])
   fits-at lane lt =
       let e = at-end lane lt in
-      let p = progress_of (λ grip. grip.place) (λ grip. grip.need) e.state in
+      let p = progress_on e.state in
       let fit =
       lane-fits last.geometry e.state.caller last.events (errand_at last.errands e.state.caller) (operations_in trace lane) p.registers p.results
       e.state.stage (lost_by_all last) e.stands.stands.stands e.ended.between e.ended.all (lost-most e.state.caller e.stands.has) in

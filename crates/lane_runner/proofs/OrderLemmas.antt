@@ -12,13 +12,14 @@ use Rattle.errand_steps.specs.Steps.{State}
 use Rattle.heap_geometry.specs.declared.geometry.Geometry.{Geometry}
 use Rattle.step_core.specs.Cores.{CoreFields, state_of}
 use Rattle.lane_engine.specs.Machines.{MovesCore}
-use Rattle.lane_engine.specs.declared.over_core.Grip.{Grip}
+use Rattle.lane_engine.specs.declared.grip.Grip.{Grip}
 use Rattle.lane_steps.specs.declared.lane.LaneState.{LaneState}
 use Rattle.lane_steps.specs.Begun.{calls_of}
 use Rattle.lane_runner.specs.Driven.{Drives, steppers_of}
 use Rattle.lane_runner.specs.Orders.{InOrder, OneByOne}
 use Rattle.lane_runner.specs.Running.{HasEnded, HasEndedIn, HasPassed, HasRun, HasRunOut, HasRunSome, HaveFinished, HaveFollowed, IsBelow, IsOnScriptOf, LanesRan, LanesStand, OneRanOut, operations_in}
-use Rattle.lane_runner.proofs.RunLemmas.{calls-append, leads-append, steppers-append}
+use Rattle.lane_steps.proofs.AdvanceLemmas.{calls-append, leads-append}
+use Rattle.lane_runner.proofs.RunLemmas.{steppers-append}
 use Rattle.lane_runner.proofs.RunLanes.{contains-none, element_at, ended-at, one-ran, the-same}
 
 -- lanes that made no move
@@ -56,7 +57,7 @@ unfoldable pub lanes-more :
     → LanesRan passed trace a b old mid → LanesRan passed trace b c mid new → LanesRan passed trace a c old new
 lanes-more passed trace a b c old mid new same h k = record {
   moves = h.moves ++ k.moves;
-  leads = leads-append MovesCore a b c h.moves k.moves h.leads k.leads;
+  leads = leads-append a b c h.moves k.moves h.leads k.leads;
   by_lanes =
       All-append (IsBelow (length old)) h.moves k.moves h.by_lanes (subst (λ n. All (IsBelow n) k.moves) same k.by_lanes);
   scripts = λ lane before now calls lt was is on.

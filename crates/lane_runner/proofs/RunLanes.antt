@@ -23,17 +23,18 @@ use Rattle.sound_state.specs.Runs.{Move, Moved, begins, steps}
 use Rattle.step_core.specs.Cores.{CoreFields, errand_at, state_of}
 use Rattle.step_core.proofs.CoreLemmas.{core-sound}
 use Rattle.step_core.specs.Moments.{HasSeenMore}
-use Rattle.lane_engine.specs.declared.over_core.Grip.{Grip}
+use Rattle.lane_engine.specs.declared.grip.Grip.{Grip}
 use Rattle.lane_steps.specs.declared.lane.LaneState.{LaneState}
 use Rattle.lane_steps.specs.Begun.{calls_of}
 use Rattle.lane_runner.specs.Driven.{Drives, IsOnItsWay, mover_of, steppers_of}
 use Rattle.lane_steps.specs.Paths.{IsBy, Leads}
-use Rattle.lane_runner.specs.Running.{HasEnded, HasEndedIn, HasPassed, HasRun, IsBelow, IsOnScriptOf, LanesStand, OneRan, StandsOn, operations_in}
+use Rattle.lane_runner.specs.Running.{HasEnded, HasEndedIn, HasPassed, HasRun, IsBelow, IsOnScriptOf, LanesStand, OneRan, operations_in}
 use Rattle.lane_steps.specs.Lanes.{IsLane}
 use Rattle.lane_steps.specs.Scripts.{IsOnScript}
-use Rattle.lane_steps.specs.States.{IsLaneOf, progress_of}
+use Rattle.lane_steps.specs.States.{IsLaneOf, StandsOn, progress_on}
 use Rattle.lane_steps.proofs.BesideLemmas.{lane-beside, lane_of-beside}
-use Rattle.lane_runner.proofs.RunLemmas.{calls-append, seen-none}
+use Rattle.lane_steps.proofs.AdvanceLemmas.{calls-append}
+use Rattle.lane_runner.proofs.RunLemmas.{seen-none}
 
 -- the lane at a place, after one was replaced
 pub data Placed {A : Type 0} (lanes : List A) (lane : ℕ) (new : A) (at : ℕ) (state : A) : Type 0 where
@@ -175,7 +176,7 @@ way-on g operations c after lane earlier move ne moved legal way =
 -- moves of one lane, with all others on their way
 lane-drives :
     (g : Geometry) (all : List (List Op)) (mover : ℕ) (c after : CoreFields) (earlier moves : List Move) → c.geometry ≡ g
-    → IsSound c.geometry (state_of c) → All (IsBy mover) moves → Leads MovesCore c moves after
+    → IsSound c.geometry (state_of c) → All (IsBy mover) moves → Leads c moves after
     → ((lane : ℕ) → lane < length all → lane ≢ mover → IsOnItsWay g (get_or all lane []) lane (state_of c) (calls_of lane earlier))
     → Drives g all earlier (state_of c) moves (state_of after)
 lane-drives g all mover c after earlier [] heap sound by leads ways = ap state_of leads
@@ -292,7 +293,7 @@ module _ (passed : ℕ → ℕ → Type 0) (trace : Trace) (c after : CoreFields
       let it = element_at lanes at below in
       let mine = stand.numbered at it.0 below it.1 in
       let stood = stand.each at it.0 below it.1 in
-      let p = progress_of (λ grip. grip.place) (λ grip. grip.need) it.0 in
+      let p = progress_on it.0 in
       record {
         registers = p.registers;
         results = p.results;

@@ -17,41 +17,24 @@ use Rattle.sound_state.specs.Runs.{Move, begins, steps}
 use Rattle.step_core.specs.Cores.{CoreFields, IsCore, errand_at}
 use Rattle.step_core.specs.Moments.{HasSeenMore}
 use Rattle.lane_engine.specs.Machines.{MovesCore}
-use Rattle.lane_engine.specs.declared.over_core.Grip.{Grip}
+use Rattle.lane_engine.specs.declared.grip.Grip.{Grip}
 use Rattle.lane_steps.specs.declared.lane.LaneState.{LaneState}
 use Rattle.lane_steps.specs.declared.stage.Stage.TheVariants as stage
 use Rattle.lane_steps.specs.Begun.{calls_of}
 use Rattle.lane_runner.specs.Driven.{steppers_of}
 use Rattle.lane_steps.specs.Lanes.{IsAt}
 use Rattle.lane_steps.specs.Paths.{IsBy, Leads, FirstPassed, HasAdvanced, begun_count}
-use Rattle.lane_runner.specs.Running.{HasEnded, HasPassed, HasRun, IsOnScriptOf, StandsOn}
+use Rattle.lane_runner.specs.Running.{HasEnded, HasPassed, HasRun, IsOnScriptOf}
+use Rattle.lane_steps.specs.Advances.{AdvancesOn}
 use Rattle.lane_steps.specs.Scripts.{script_left}
-use Rattle.lane_steps.specs.States.{IsLaneOf, progress_of}
+use Rattle.lane_steps.proofs.AdvanceLemmas.{calls-append, leads-append, steps-append}
+use Rattle.lane_steps.specs.States.{StandsOn, progress_on}
 
--- moves one after the other
-pub leads-append :
-    {S : Type 0} (moved : S → Move → S → Type 0) (a b c : S) (first second : List Move) → Leads moved a first b → Leads moved b second c
-    → Leads moved a (first ++ second) c
-leads-append moved a b c [] second l r = subst (λ x. Leads moved x second c) l r
-leads-append moved a b c (move ∷ first) second l r = (l.0, l.1, leads-append moved l.0 b c first second l.2 r)
-
-cond-append : (b : Bool) (call : Call) (xs ys zs : List Call) → xs ≡ ys ++ zs → cond b (call ∷ xs) xs ≡ cond b (call ∷ ys) ys ++ zs
-cond-append true call xs ys zs is = ap (λ cs. call ∷ cs) is
-cond-append false call xs ys zs is = is
-
-pub calls-append : (caller : ℕ) (first second : List Move) → calls_of caller (first ++ second) ≡ calls_of caller first ++ calls_of caller second
-calls-append caller [] second = refl
-calls-append caller (begins other call ∷ first) second =
-    cond-append (other == caller) call (calls_of caller (first ++ second)) (calls_of caller first) (calls_of caller second) (calls-append caller first second)
-calls-append caller (steps other ∷ first) second = calls-append caller first second
-
+-- the callers that made steps, of moves one after the other
 pub steppers-append : (first second : List Move) → steppers_of (first ++ second) ≡ steppers_of first ++ steppers_of second
 steppers-append [] second = refl
 steppers-append (begins other call ∷ first) second = steppers-append first second
 steppers-append (steps other ∷ first) second = ap (λ xs. other ∷ xs) (steppers-append first second)
-
-pub steps-append : (first second : List Move) → count_by is_step (first ++ second) ≡ count_by is_step first + count_by is_step second
-steps-append first second = count-append is_step first second
 
 -- more and more events are seen
 pub seen-none : (caller : ℕ) (events : List Event) → HasSeenMore caller events events
@@ -95,7 +78,7 @@ ran-more passed a b c operations old mid new m n h k =
       heap = k.heap ∙ h.heap;
       caller = k.caller ∙ h.caller;
       moves = h.moves ++ k.moves;
-      leads = leads-append MovesCore a b c h.moves k.moves h.leads k.leads;
+      leads = leads-append a b c h.moves k.moves h.leads k.leads;
       by_caller = All-append (IsBy old.caller) h.moves k.moves h.by_caller by;
       counts = steps-append h.moves k.moves ∙ (let e = h.counts in let f = k.counts in cc);
       script = λ calls on.
@@ -124,12 +107,12 @@ pub between-idle :
     → IsIdle (errand_at c.errands lane.caller)
 between-idle c operations lane stands is =
     let l = stands.stands.stands in
-    let at = subst (λ at. IsAt lane.caller c.events (errand_at c.errands lane.caller) l.position (progress_of (λ grip. grip.place) (λ grip. grip.need) lane).registers (drop (length lane.outcomes.items) operations) at l.added) is l.stands in
+    let at = subst (λ at. IsAt lane.caller c.events (errand_at c.errands lane.caller) l.position (progress_on lane).registers (drop (length lane.outcomes.items) operations) at l.added) is l.stands in
     at.0
 
 -- a step is made by a caller in a call
 first-idle :
-    (c after : CoreFields) (caller : ℕ) (moves : List Move) → Leads MovesCore c (steps caller ∷ moves) after
+    (c after : CoreFields) (caller : ℕ) (moves : List Move) → Leads c (steps caller ∷ moves) after
     → IsIdle (errand_at c.errands caller) → ⊥
 first-idle c after caller moves leads idle = true≢false (sym idle ∙ leads.1.moved.1.busy)
 
@@ -143,8 +126,8 @@ ended-left operations lane ended = omega (arith, ended.all)
 -- a lane that has ended makes no step
 ended-makes_none :
     (c after : CoreFields) (operations : List Op) (old new : LaneState Grip) (made : Bool) → StandsOn c operations old
-    → HasAdvanced MovesCore (λ c. c.events) c after old.caller operations (progress_of (λ grip. grip.place) (λ grip. grip.need) old)
-    (progress_of (λ grip. grip.place) (λ grip. grip.need) new) made
+    → HasAdvanced c after old.caller operations (progress_on old)
+    (progress_on new) made
     → HasEnded operations old → made ≡ false
 ended-makes_none c after operations old new false stands advanced ended = refl
 ended-makes_none c after operations old new true stands advanced ended =
@@ -156,74 +139,43 @@ ended-makes_none c after operations old new true stands advanced ended =
           )
       | inr same ↦ elim same.2 [
         | inl stays ↦ elim stays [
-          | inl is ↦ absurd (first-idle c after old.caller [] (subst (λ moves. Leads MovesCore c moves after) is advanced.leads) idle)
+          | inl is ↦ absurd (first-idle c after old.caller [] (subst (λ moves. Leads c moves after) is advanced.leads) idle)
           | inr again ↦ absurd (
               first-idle c after old.caller (begins old.caller (take_call again.0) ∷ [])
-              (subst (λ moves. Leads MovesCore c moves after) again.1 advanced.leads) idle
+              (subst (λ moves. Leads c moves after) again.1 advanced.leads) idle
               )
         ]
         | inr is ↦ absurd (let e = advanced.one_step in let f = ap (count_by is_step) is in zero≢one (sym f ∙ e))
       ]
     ]
 
--- the lane after an advance
-stands-after :
-    (after : CoreFields) (operations : List Op) (old new : LaneState Grip) → new.caller ≡ old.caller
-    → IsCore after × (old.caller < after.geometry.callers)
-    → IsLaneOf (λ grip. grip.place) (λ grip. grip.need) after.geometry after.events (errand_at after.errands old.caller) operations new
-    → StandsOn after operations new
-stands-after after operations old new same serves lane = record {
-  core = serves.0;
-  has = subst (λ caller. caller < after.geometry.callers) (sym same) serves.1;
-  stands =
-      subst (λ caller. IsLaneOf (λ grip. grip.place) (λ grip. grip.need) after.geometry after.events (errand_at after.errands caller) operations new)
-      (sym same) lane;
-}
-
 -- an advance is a run of one step, or of none
-pub advanced-ran :
+advanced-ran :
     (passed : ℕ → ℕ → Type 0) (c after : CoreFields) (operations : List Op) (old new : LaneState Grip) (made : Bool) → StandsOn c operations old
-    → StandsOn after operations new → after.geometry ≡ c.geometry → new.caller ≡ old.caller
-    → ((other : ℕ) → other < c.geometry.callers → other ≢ old.caller
-    → (errand_at after.errands other ≡ errand_at c.errands other) × HasSeenMore other c.events after.events)
-    → HasAdvanced MovesCore (λ c. c.events) c after old.caller operations (progress_of (λ grip. grip.place) (λ grip. grip.need) old)
-    (progress_of (λ grip. grip.place) (λ grip. grip.need) new) made
-    → (made ≡ false → HasEnded operations new) → (HasPassed passed old → HasPassed passed new)
+    → AdvancesOn passed operations c after old new made → (made ≡ false → HasEnded operations new)
     → HasRun passed c after operations old new (if made then 1 else 0)
-advanced-ran passed c after operations old new made stands now heap caller others advanced ends gate = record {
-  heap = heap;
-  caller = caller;
-  moves = advanced.moves;
-  leads = advanced.leads;
-  by_caller = advanced.by_caller;
-  counts = advanced.one_step;
-  script = advanced.script;
-  stands = now;
-  others = others;
+advanced-ran passed c after operations old new made stands goes ends = record {
+  heap = goes.geometry;
+  caller = goes.caller;
+  moves = goes.advanced.moves;
+  leads = goes.advanced.leads;
+  by_caller = goes.advanced.by_caller;
+  counts = goes.advanced.one_step;
+  script = goes.advanced.script;
+  stands = goes.stands;
+  others = λ other has apart. goes.others other apart;
   still = λ ended.
-      let none = ended-makes_none c after operations old new made stands advanced ended in
+      let none = ended-makes_none c after operations old new made stands goes.advanced ended in
       (ap (λ b. if b then 1 else 0) none, ends none);
-  gate = gate;
+  gate = λ gone. subst (λ caller. FirstPassed passed caller (begun_count new.outcomes.items new.stage)) (sym goes.caller) (goes.gate gone);
 }
 
--- so is one that comes after others: these are the parts of what an advance says
+-- so is one that comes after others
 pub next-ran :
     (passed : ℕ → ℕ → Type 0) (first c after : CoreFields) (operations : List Op) (start old new : LaneState Grip) (made : ℕ) (one : Bool)
-    → HasRun passed first c operations start old made → IsCore after × (old.caller < after.geometry.callers) → after.geometry ≡ c.geometry
-    → new.caller ≡ old.caller
-    → IsLaneOf (λ grip. grip.place) (λ grip. grip.need) after.geometry after.events (errand_at after.errands old.caller) operations new
-    → ((other : ℕ) → IsCore c × (other < c.geometry.callers) → other ≢ old.caller
-    → (errand_at after.errands other ≡ errand_at c.errands other) × HasSeenMore other c.events after.events)
-    → HasAdvanced MovesCore (λ c. c.events) c after old.caller operations (progress_of (λ grip. grip.place) (λ grip. grip.need) old)
-    (progress_of (λ grip. grip.place) (λ grip. grip.need) new) one
+    → HasRun passed first c operations start old made → AdvancesOn passed operations c after old new one
     → (one ≡ false → (new.stage ≡ stage.Between) × (length new.outcomes.items ≡ length operations))
-    → (FirstPassed passed old.caller (begun_count old.outcomes.items old.stage)
-    → FirstPassed passed old.caller (begun_count new.outcomes.items new.stage))
     → HasRun passed first after operations start new (made + (if one then 1 else 0))
-next-ran passed first c after operations start old new made one before serves heap caller lane others advanced ends gate =
-    let stands = stands-after after operations old new caller serves lane in
-    let ran =
-    advanced-ran passed c after operations old new one before.stands stands heap caller (λ other has. others other (before.stands.core, has))
-    advanced (λ is. let e = ends is in record { between = e.0; all = e.1 })
-    (λ gone. subst (λ caller. FirstPassed passed caller (begun_count new.outcomes.items new.stage)) (sym caller) (gate gone)) in
-    ran-more passed first c after operations start old new made (if one then 1 else 0) before ran
+next-ran passed first c after operations start old new made one before goes ends =
+    ran-more passed first c after operations start old new made (if one then 1 else 0) before
+    (advanced-ran passed c after operations old new one before.stands goes (λ is. let e = ends is in record { between = e.0; all = e.1 }))

@@ -53,7 +53,7 @@ use Rattle.sound_state.proofs.endings.StaleLemmas.{none-stale}
 use Rattle.step_core.specs.Cores.{CoreFields, IsCore, errand_at, state_of}
 use Rattle.step_core.proofs.CoreLemmas.{core-sound}
 use Rattle.lane_engine.specs.Machines.{MovesCore}
-use Rattle.lane_engine.specs.declared.over_core.Grip.{Grip}
+use Rattle.lane_engine.specs.declared.grip.Grip.{Grip}
 use Rattle.lane_outcomes.specs.declared.outcome.Outcome.{Outcome}
 use Rattle.lane_outcomes.specs.declared.registers.Held.{Held}
 use Rattle.lane_outcomes.specs.Lane.{Position}
@@ -63,9 +63,9 @@ use Rattle.lane_steps.specs.declared.stage.Stage.TheVariants as stage
 use Rattle.lane_steps.specs.Lanes.{IsAt}
 use Rattle.lane_steps.specs.Operations.{IsDoing}
 use Rattle.lane_steps.specs.Paths.{Leads, HasAdvanced, StaysInCall}
-use Rattle.lane_runner.specs.Running.{StandsOn}
 use Rattle.lane_steps.specs.Scripts.{script_left}
-use Rattle.lane_steps.specs.States.{progress_of}
+use Rattle.lane_steps.specs.Advances.{AdvancesOn}
+use Rattle.lane_steps.specs.States.{StandsOn, progress_on}
 
 -- a take isn't under way in a superblock, nor at a stack, at the descriptors or at a partial superblock
 block-none : (caller k : ℕ) (p : BlockPoint) (o : Continuation) (added : List Event) → SoFar caller (take k) (block_stage p o) added → ⊥
@@ -220,7 +220,7 @@ again-falls g s mid after caller shelf sound has step begun lost =
 
 -- the call under way is nearer to its end
 step-falls :
-    (c after : CoreFields) (caller : ℕ) → IsCore c → caller < c.geometry.callers → Leads MovesCore c (steps caller ∷ []) after
+    (c after : CoreFields) (caller : ℕ) → IsCore c → caller < c.geometry.callers → Leads c (steps caller ∷ []) after
     → alone_left after.geometry (state_of after) caller < alone_left c.geometry (state_of c) caller
 step-falls c after caller core has leads =
     let P = λ (d : CoreFields). alone_left d.geometry (state_of d) caller < alone_left c.geometry (state_of c) caller in
@@ -231,7 +231,7 @@ step-falls c after caller core has leads =
 
 tried-falls :
     (c after : CoreFields) (caller shelf k : ℕ) (added : List Event) → IsCore c → caller < c.geometry.callers
-    → Leads MovesCore c (steps caller ∷ begins caller (take shelf) ∷ []) after → own caller after.events ≡ own caller c.events
+    → Leads c (steps caller ∷ begins caller (take shelf) ∷ []) after → own caller after.events ≡ own caller c.events
     → IsUnderWay caller (take k) (errand_at c.errands caller).point added
     → alone_left after.geometry (state_of after) caller < alone_left c.geometry (state_of c) caller
 tried-falls c after caller shelf k added core has leads same way =
@@ -254,7 +254,7 @@ tried-falls c after caller shelf k added core has leads same way =
 
 -- the point at which a take has begun
 begun-point :
-    (c after : CoreFields) (caller shelf : ℕ) → Leads MovesCore c (steps caller ∷ begins caller (take shelf) ∷ []) after
+    (c after : CoreFields) (caller shelf : ℕ) → Leads c (steps caller ∷ begins caller (take shelf) ∷ []) after
     → (errand_at after.errands caller).point ≡ point.Large (large.LoadShelf shelf) continuation.Nothing
 unfolding take_begun
 begun-point c after caller shelf leads =
@@ -264,19 +264,19 @@ begun-point c after caller shelf leads =
 
 alone-left-falls :
     (c after : CoreFields) (operations : List Op) (old new : LaneState Grip) (moves : List Move) → StandsOn c operations old
-    → StandsOn after operations new → new.caller ≡ old.caller → Leads MovesCore c moves after → count_by is_step moves ≡ 1
+    → StandsOn after operations new → new.caller ≡ old.caller → Leads c moves after → count_by is_step moves ≡ 1
     → new.outcomes.items ≡ old.outcomes.items → new.stage ≡ old.stage
     → StaysInCall old.caller c.events after.events moves ⊎ (moves ≡ [])
     → alone_left after.geometry (state_of after) old.caller < alone_left c.geometry (state_of c) old.caller
 alone-left-falls c after operations old new moves stands now caller leads one results same stays =
     elim stays [
       | inl goes ↦ elim goes [
-        | inl is ↦ step-falls c after old.caller stands.core stands.has (subst (λ moves. Leads MovesCore c moves after) is leads)
+        | inl is ↦ step-falls c after old.caller stands.core stands.has (subst (λ moves. Leads c moves after) is leads)
         | inr again ↦
-            let lead = subst (λ moves. Leads MovesCore c moves after) again.1 leads in
+            let lead = subst (λ moves. Leads c moves after) again.1 leads in
             let l = stands.stands.stands in
             let l' = now.stands.stands in
-            let registers' = (progress_of (λ grip. grip.place) (λ grip. grip.need) new).registers in
+            let registers' = (progress_on new).registers in
             let first =
             subst (λ caller. IsAt caller after.events (errand_at after.errands caller) l'.position registers'
             (drop (length new.outcomes.items) operations) new.stage l'.added) caller l'.stands in
@@ -288,7 +288,7 @@ alone-left-falls c after operations old new moves stands now caller leads one re
             (drop (length old.outcomes.items) operations) at l'.added) same second in
             let way =
             at-take old.caller again.0 c.events after.events (errand_at c.errands old.caller) (errand_at after.errands old.caller) l.position l'.position
-            (progress_of (λ grip. grip.place) (λ grip. grip.need) old).registers registers' (drop (length old.outcomes.items) operations)
+            (progress_on old).registers registers' (drop (length old.outcomes.items) operations)
             old.stage l.added l'.added l.stands third (begun-point c after old.caller again.0 lead) in
             tried-falls c after old.caller again.0 way.0 l.added stands.core stands.has lead again.2 way.1
       ]
@@ -296,16 +296,14 @@ alone-left-falls c after operations old new moves stands now caller leads one re
     ]
 
 pub advance-falls :
-    (c after : CoreFields) (operations : List Op) (old new : LaneState Grip) → StandsOn c operations old → StandsOn after operations new
-    → after.geometry ≡ c.geometry → new.caller ≡ old.caller
-    → HasAdvanced MovesCore (λ c. c.events) c after old.caller operations (progress_of (λ grip. grip.place) (λ grip. grip.need) old)
-    (progress_of (λ grip. grip.place) (λ grip. grip.need) new) true
-    → lane_left after operations new < lane_left c operations old
-advance-falls c after operations old new stands now heap caller advanced =
-    elim advanced.goes_on [
-      | inl lt ↦ below-left _ _ _ _ lt (alone-below after.geometry (state_of after) new.caller (core-sound after now.core) now.has)
+    (passed : ℕ → ℕ → Type 0) (c after : CoreFields) (operations : List Op) (old new : LaneState Grip) → StandsOn c operations old
+    → AdvancesOn passed operations c after old new true → lane_left after operations new < lane_left c operations old
+advance-falls passed c after operations old new stands goes =
+    elim goes.advanced.goes_on [
+      | inl lt ↦ below-left _ _ _ _ lt (alone-below after.geometry (state_of after) new.caller (core-sound after goes.stands.core) goes.stands.has)
       | inr same ↦ below-alone _ _ _ _
           (let e = same.0 in let f = same.1 in cc)
-          (subst (λ k. alone_left after.geometry (state_of after) k < alone_left c.geometry (state_of c) old.caller) (sym caller)
-          (alone-left-falls c after operations old new advanced.moves stands now caller advanced.leads advanced.one_step same.0 same.1 same.2))
+          (subst (λ k. alone_left after.geometry (state_of after) k < alone_left c.geometry (state_of c) old.caller) (sym goes.caller)
+          (alone-left-falls c after operations old new goes.advanced.moves stands goes.stands goes.caller goes.advanced.leads goes.advanced.one_step same.0
+          same.1 same.2))
     ]

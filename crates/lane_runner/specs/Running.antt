@@ -11,7 +11,7 @@ use Rattle.sound_state.specs.Runs.{Move, begins, steps}
 use Rattle.step_core.specs.Cores.{CoreFields, IsCore, errand_at, state_of}
 use Rattle.step_core.specs.Moments.{HasSeenMore}
 use Rattle.lane_engine.specs.Machines.{MovesCore}
-use Rattle.lane_engine.specs.declared.over_core.Grip.{Grip}
+use Rattle.lane_engine.specs.declared.grip.Grip.{Grip}
 use Rattle.lane_steps.specs.declared.lane.LaneState.{LaneState}
 use Rattle.lane_steps.specs.declared.stage.Stage.TheVariants as stage
 use Rattle.lane_steps.specs.Begun.{calls_of}
@@ -19,7 +19,7 @@ use Rattle.lane_runner.specs.Driven.{Drives, steppers_of}
 use Rattle.lane_runner.specs.Orders.{InOrder, OneByOne}
 use Rattle.lane_steps.specs.Paths.{IsBy, Leads, FirstPassed, begun_count}
 use Rattle.lane_steps.specs.Scripts.{IsOnScript}
-use Rattle.lane_steps.specs.States.{IsLaneOf, progress_of}
+use Rattle.lane_steps.specs.States.{StandsOn, progress_on}
 
 -- no operation of the lane is under way, and none is left
 pub record HasEnded (operations : List Op) (lane : LaneState Grip) : Type 0 where
@@ -29,14 +29,7 @@ pub record HasEnded (operations : List Op) (lane : LaneState Grip) : Type 0 wher
 -- a lane that has begun these calls is on its script
 abbrev pub IsOnScriptOf : List Op → LaneState Grip → List Call → Type 0
 IsOnScriptOf operations lane calls =
-    let p = progress_of (λ grip. grip.place) (λ grip. grip.need) lane in IsOnScript operations p.registers p.results p.at calls
-
--- the lane is one of a machine's callers, and stands so on it
-pub record StandsOn (c : CoreFields) (operations : List Op) (lane : LaneState Grip) : Type 0 where
-  pub core : IsCore c
-  pub has : lane.caller < c.geometry.callers
-  pub stands :
-      IsLaneOf (λ grip. grip.place) (λ grip. grip.need) c.geometry c.events (errand_at c.errands lane.caller) operations lane
+    let p = progress_on lane in IsOnScript operations p.registers p.results p.at calls
 
 -- as many operations as a lane has begun have passed the gate
 abbrev pub HasPassed : (ℕ → ℕ → Type 0) → LaneState Grip → Type 0
@@ -47,7 +40,7 @@ pub record HasRun (passed : ℕ → ℕ → Type 0) (c after : CoreFields) (oper
   pub heap : after.geometry ≡ c.geometry
   pub caller : new.caller ≡ old.caller
   pub moves : List Move
-  pub leads : Leads MovesCore c moves after
+  pub leads : Leads c moves after
   pub by_caller : All (IsBy old.caller) moves
   pub counts : count_by is_step moves ≡ made
   pub script : (calls : List Call) → IsOnScriptOf operations old calls → IsOnScriptOf operations new (calls ++ calls_of old.caller moves)
@@ -99,7 +92,7 @@ IsBelow count (steps caller) = caller < count
 -- the lanes of a trace have made moves on the machine, and no one else has; one that had ended made no step
 pub record LanesRan (passed : ℕ → ℕ → Type 0) (trace : Trace) (c after : CoreFields) (old new : List (LaneState Grip)) : Type 0 where
   pub moves : List Move
-  pub leads : Leads MovesCore c moves after
+  pub leads : Leads c moves after
   pub by_lanes : All (IsBelow (length old)) moves
   pub scripts :
       (lane : ℕ) (before now : LaneState Grip) (calls : List Call) → lane < length old → before ≡ slice_index_or old lane before

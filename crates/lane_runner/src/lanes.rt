@@ -1,4 +1,4 @@
-//! The lanes of a trace over any engine, before their first operations.
+//! The lanes of a trace, before their first operations.
 
 ghost use Rattle.std.specs.Prelude.{◌≡◌, ◌<◌, IfOk, length};
 ghost use Rattle.trace_text.specs.Traces.{IsTrace};

@@ -7,11 +7,12 @@ ghost use Rattle.errand_steps.specs.Openings.{opening};
 ghost use Rattle.step_core.specs.Openings.{IsOpened};
 ghost use Rattle.lane_outcomes.specs.Passed.{AllPassed};
 ghost use Rattle.lane_runner.specs.Driven.{IsDriven};
-ghost use Rattle.lane_runner.specs.Running.{HasRunOut, HasRunSome, HaveFinished, HaveFollowed, LanesStand, OneRanOut, StandsOn};
+ghost use Rattle.lane_runner.specs.Running.{HasRunOut, HasRunSome, HaveFinished, HaveFollowed, LanesStand, OneRanOut};
+ghost use Rattle.lane_steps.specs.States.{StandsOn};
 
 use crate::lanes::{lane_of, open_lanes};
 use edge_io::gate::Gate;
-use lane_engine::over_core::Grip;
+use lane_engine::grip::Grip;
 use lane_outcomes::outcome::Outcome;
 use lane_steps::lane::LaneState;
 use std::alloc::{AllocError, Global};

@@ -57,7 +57,7 @@ use Rattle.step_core.specs.Cores.{OwnsAfter}
 use Rattle.step_core.specs.Moments.{IsMoment, IsServed}
 use Rattle.lane_engine.specs.declared.stepped.Stepped.{Stepped}
 use Rattle.lane_engine.specs.declared.stepped.Stepped.TheVariants as stepped
-use Rattle.lane_engine.specs.Engines.{HasStepped, Tells}
+use Rattle.lane_engine.specs.Told.{HasStepped, Tells}
 
 -- what every step does: more events are seen, of which the caller's own are these; its number and its heap stay, what it lost does not fall, and its turns stay where they are all begun
 pub record HasMovedOn (e f : ErrandFields) (before after more : List Event) : Type 0 where

@@ -12,8 +12,9 @@ use Rattle.errand_steps.specs.Begins.{IsIdle, alloc_answer, begins_with}
 use Rattle.errand_steps.specs.Calls.{Call, alloc, free, write, read, put, take, begun_by}
 use Rattle.errand_steps.specs.Errands.{ErrandFields, is_spent}
 use Rattle.errand_steps.specs.declared.reply.Begun.TheVariants as begun
-use Rattle.sound_state.specs.Runs.{Move}
-use Rattle.step_core.specs.Cores.{OwnsAfter}
+use Rattle.errand_steps.specs.Steps.{State}
+use Rattle.sound_state.specs.Runs.{begins}
+use Rattle.step_core.specs.Cores.{CoreFields, OwnsAfter, errand_at}
 use Rattle.step_core.specs.Moments.{IsServed}
 use Rattle.trace_text.specs.declared.trace.Op.{Op}
 use Rattle.trace_text.specs.declared.trace.Op.TheVariants as op
@@ -24,7 +25,9 @@ use Rattle.lane_outcomes.specs.Lane.{held_in}
 use Rattle.lane_outcomes.proofs.NeedLemmas.{need-fits}
 use Rattle.std.proofs.lemmas.Bool.{cases_Bool}
 use Rattle.std.proofs.lemmas.List.{set-get_or}
-use Rattle.lane_steps.specs.Advances.{GoesOn, HasCalled, HasGoneOn, IsBefore, calls_in}
+use Rattle.lane_engine.specs.declared.grip.Grip.{Grip}
+use Rattle.lane_engine.specs.Machines.{MovesCore, grip_need, grip_place}
+use Rattle.lane_steps.specs.Advances.{GoesOn, HasGoneOn, IsBefore, MayBegin, calls_in}
 use Rattle.lane_steps.specs.declared.lane.LaneState.{LaneState}
 use Rattle.lane_steps.specs.declared.stage.Stage.{Stage}
 use Rattle.lane_steps.specs.declared.stage.Stage.TheVariants as stage
@@ -38,18 +41,20 @@ use Rattle.lane_steps.proofs.EndedLemmas.{lane-between}
 use Rattle.lane_steps.proofs.LaneParts.{Became, OwnsBlocks, slot-full, slot-empty, set-held, blocks-emptied, gone-on, count-ends}
 use Rattle.lane_steps.proofs.ScriptLemmas.{IsHere, lane-here, script-skips, alloc-begins, alloc-spent_at_once, free-begins, fill-begins, check-begins, put-begins, take-begins, left-rises, left-ends}
 
--- over an engine after the call began
-pub called-as :
-    {S Base B : Type 0} (serves : S → ℕ → Type 0) (runs_on : S → Base) (geometry_of : S → Geometry) (errand_of : S → ℕ → ErrandFields)
-    (events : S → List Event) (moved : S → Move → S → Type 0) (place_of : B → ℕ) (need_of : B → Need) (caller : ℕ) (call : Call) (old new : S)
-    → HasCalled serves runs_on geometry_of errand_of events moved caller call old new → (f : ErrandFields) (begun : Option Call)
-    (again : Option Call → Type 0) (operations : List Op) (lane after : LaneState B) → f ≡ begun_by (errand_of old caller) call
-    → HasGoneOn place_of need_of (geometry_of old) (events old) f begun again operations lane after
-    → HasGoneOn place_of need_of (geometry_of new) (events new) (errand_of new caller) begun again operations lane after
-called-as serves runs_on geometry_of errand_of events moved place_of need_of caller call old new called f begun again operations lane after is gone =
-    subst (λ g. HasGoneOn place_of need_of g (events new) (errand_of new caller) begun again operations lane after) (sym called.geometry)
-    (subst (λ h. HasGoneOn place_of need_of (geometry_of old) h (errand_of new caller) begun again operations lane after) (sym called.no_event)
-    (subst (λ e. HasGoneOn place_of need_of (geometry_of old) (events old) e begun again operations lane after) (is ∙ sym called.errand) gone))
+-- over a machine after the call began
+called-as :
+    (caller : ℕ) (call : Call) (old new : CoreFields) → MovesCore old (begins caller call) new → (begun : Option Call)
+    (again : Option Call → Type 0) (operations : List Op) (lane after : LaneState Grip)
+    → HasGoneOn grip_place grip_need old.geometry old.events (begun_by (errand_at old.errands caller) call) begun again operations lane after
+    → HasGoneOn grip_place grip_need new.geometry new.events (errand_at new.errands caller) begun again operations lane after
+called-as caller call old new called begun again operations lane after gone =
+    let to = called.moved.1 in
+    let here : errand_at new.errands caller ≡ begun_by (errand_at old.errands caller) call =
+    ap (λ (s : State). s.errand caller) to.after ∙ to.moves.here in
+    subst (λ g. HasGoneOn grip_place grip_need g new.events (errand_at new.errands caller) begun again operations lane after) (sym called.heap)
+    (subst (λ h. HasGoneOn grip_place grip_need old.geometry h (errand_at new.errands caller) begun again operations lane after)
+    (sym (ap (λ (s : State). s.history) to.after))
+    (subst (λ e. HasGoneOn grip_place grip_need old.geometry old.events e begun again operations lane after) (sym here) gone))
 
 module _ {B : Type 0} (place_of : B → ℕ) (need_of : B → Need) (g : Geometry) (events : List Event) (e : ErrandFields) (again : Option Call → Type 0) (operations : List Op) (lane new : LaneState B) where
   abbrev Before : Op → Type 0
@@ -74,7 +79,7 @@ module _ {B : Type 0} (place_of : B → ℕ) (need_of : B → Need) (g : Geometr
   served : (operation : Op) → Before operation → IsServed g e.caller e events
   served operation b = subst (λ c. IsServed g c e events) (sym (number operation b)) b.served
 
-  pub idle-before : (operation : Op) → Before operation → IsIdle e
+  idle-before : (operation : Op) → Before operation → IsIdle e
   idle-before operation b = (lane-between g e.caller events e operations held lane.outcomes.items stage.Between (stood operation b) refl).0
 
   same-registers : (operation : Op) (b : Before operation) → held ≡ (stood operation b).position.registers
@@ -274,30 +279,47 @@ pub slot-some : {B : Type 0} (found : Bool) (slot : Option B) → (IsTrue found 
 slot-some found None h is = absurd (let e : false ≡ true = h.0 is in cc)
 slot-some found (Some block) h is = (block, refl)
 
+-- the caller of a lane between two operations is in no call
+pub before-idle :
+    (c : CoreFields) (lane : LaneState Grip) (operation : Op) → (operations : List Op) × MayBegin operation c operations lane
+    → IsIdle (errand_at c.errands lane.caller)
+before-idle c lane operation ready =
+    idle-before grip_place grip_need c.geometry c.events (errand_at c.errands lane.caller) (λ begun. ⊥) ready.0 lane lane operation ready.1
+
+-- the block that the code finds is the one that the register holds
+pub held-block :
+    (events : List Event) (caller next : ℕ) (slot : Option Grip) (block : Grip)
+    → (held : Grip) × (slot ≡ Some held) × OwnsAfter events caller held.place held.need × (next < usable_words held.need) → slot ≡ Some block
+    → OwnsAfter events caller block.place block.need × (next < usable_words block.need)
+held-block events caller next slot block held found =
+    let P : Grip → Type 0 = λ b. OwnsAfter events caller b.place b.need × (next < usable_words b.need) in
+    let same : held.0 ≡ block = let e : Some held.0 ≡ Some block = sym held.1 ∙ found in cc in
+    subst P same (held.2, held.3)
+
 -- the whole clause of a part, where a call began and where none did
-module _ {S Base B : Type 0} (serves : S → ℕ → Type 0) (runs_on : S → Base) (geometry_of : S → Geometry) (errand_of : S → ℕ → ErrandFields) (events : S → List Event) (moved : S → Move → S → Type 0) (place_of : B → ℕ) (need_of : B → Need) (again : List Event → Option Call → Type 0) (ready : List Event → List Op → LaneState B → Type 0) where
+module _ (again : List Event → Option Call → Type 0) (ready : List Event → List Op → LaneState Grip → Type 0) where
   pub goes-called :
-      (old new : S) (lane after : LaneState B) (call : Call) → HasCalled serves runs_on geometry_of errand_of events moved lane.caller call old new
+      (old new : CoreFields) (lane after : LaneState Grip) (call : Call) → MovesCore old (begins lane.caller call) new
       → after.caller ≡ lane.caller
       → ((seen : List Event) (operations : List Op) → ready seen operations lane
-      → HasGoneOn place_of need_of (geometry_of old) (events old) (begun_by (errand_of old lane.caller) call) (Some call) (again seen) operations lane after)
-      → GoesOn serves runs_on geometry_of errand_of events moved place_of need_of again ready old new lane after
+      → HasGoneOn grip_place grip_need old.geometry old.events (begun_by (errand_at old.errands lane.caller) call) (Some call) (again seen) operations lane
+      after)
+      → GoesOn again ready old new lane after
   goes-called old new lane after call called same gone =
       record {
         begun = Some call;
         called = called;
         same_caller = same;
         gone_on = λ seen operations is.
-            called-as serves runs_on geometry_of errand_of events moved place_of need_of lane.caller call old new called _ (Some call) (again seen) operations
-            lane after refl (gone seen operations is);
+            called-as lane.caller call old new called (Some call) (again seen) operations lane after (gone seen operations is);
       }
 
   pub goes-quiet :
-      (s : S) (lane after : LaneState B) → after.caller ≡ lane.caller
+      (c : CoreFields) (lane after : LaneState Grip) → after.caller ≡ lane.caller
       → ((seen : List Event) (operations : List Op) → ready seen operations lane
-      → HasGoneOn place_of need_of (geometry_of s) (events s) (errand_of s lane.caller) None (again seen) operations lane after)
-      → GoesOn serves runs_on geometry_of errand_of events moved place_of need_of again ready s s lane after
-  goes-quiet s lane after same gone =
+      → HasGoneOn grip_place grip_need c.geometry c.events (errand_at c.errands lane.caller) None (again seen) operations lane after)
+      → GoesOn again ready c c lane after
+  goes-quiet c lane after same gone =
       record { begun = None; called = refl; same_caller = same; gone_on = gone }
 
 -- a lane whose operation has its outcome

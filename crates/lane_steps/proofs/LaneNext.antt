@@ -1,30 +1,33 @@
 -- An advance of a lane, part after part.
 use Rattle.std.proofs.Common.{ℕ, suc, true, false, ◌≡◌, ◌≢◌, ◌<◌, ◌+◌, ◌-◌, ◌%◌, ◌^◌, ◌∷◌, List, [], Option, length, min, drop, refl, sym, ap, ◌∙◌, subst, arith, get_or, drop-cons, below_more}
 use Rattle.heap_geometry.specs.declared.geometry.Geometry.{Geometry}
-use Rattle.heap_geometry.specs.declared.need.Need.{Need}
 use Rattle.pool_model.specs.declared.event.Event.{Event}
 use Rattle.pool_model.specs.Pool.{Pool, pool_of}
 use Rattle.errand_steps.specs.Begins.{IsBusy}
 use Rattle.errand_steps.specs.Errands.{ErrandFields}
 use Rattle.errand_steps.specs.Calls.{alloc, free, write, read, put, take}
 use Rattle.call_events.proofs.EndLemmas.{way-busy}
-use Rattle.sound_state.specs.Runs.{Move, steps}
+use Rattle.sound_state.specs.Runs.{steps}
+use Rattle.step_core.specs.Cores.{CoreFields, IsCore, errand_at}
 use Rattle.step_core.specs.Moments.{HasSeenMore, IsServed}
 use Rattle.trace_text.specs.declared.trace.Op.{Op}
 use Rattle.trace_text.specs.declared.trace.Op.TheVariants as op
 use Rattle.lane_engine.specs.declared.stepped.Stepped.{Stepped}
-use Rattle.lane_engine.specs.Engines.{HasStepped}
+use Rattle.lane_engine.specs.declared.grip.Grip.{Grip}
+use Rattle.lane_engine.specs.Machines.{MovesCore, grip_need, grip_place}
+use Rattle.lane_engine.specs.Told.{HasStepped}
+use Rattle.step_core.proofs.MomentLemmas.{core-served, same-seen}
 use Rattle.lane_outcomes.specs.declared.registers.Held.{Held}
 use Rattle.lane_outcomes.specs.declared.outcome.Outcome.{Outcome}
 use Rattle.lane_outcomes.specs.Lane.{Position}
-use Rattle.lane_steps.specs.Advances.{Answers, Begins, IsBefore, IsNext, IsTold}
+use Rattle.lane_steps.specs.Advances.{AdvancesOn, Answers, Begins, IsNext, MayAnswer, MayBegin}
 use Rattle.lane_steps.specs.declared.lane.LaneState.{LaneState}
 use Rattle.lane_steps.specs.declared.stage.Stage.{Stage}
 use Rattle.lane_steps.specs.declared.stage.Stage.TheVariants as stage
 use Rattle.lane_steps.specs.Lanes.{IsAt}
 use Rattle.lane_steps.specs.Operations.{IsDoing}
 use Rattle.lane_steps.specs.Paths.{FirstPassed, HasAdvanced, begun_count}
-use Rattle.lane_steps.specs.States.{IsLaneOf, progress_of}
+use Rattle.lane_steps.specs.States.{IsLaneOf, IsLaneOn, StandsOn, progress_on}
 use Rattle.lane_steps.proofs.AdvanceLemmas.{advance-none, advance-then}
 use Rattle.lane_steps.proofs.ScriptLemmas.{here-below}
 use Rattle.lane_steps.proofs.PartAdvances.{calls-kept, part-begins, part-steps}
@@ -96,174 +99,129 @@ pub passed-more :
     → FirstPassed passed caller (count + 1)
 passed-more passed caller count before last = below_more (λ k. passed caller (min k (2 ^ 32 - 1))) count before last
 
-module _ {S Base B : Type 0} (serves : S → ℕ → Type 0) (runs_on : S → Base) (geometry_of : S → Geometry) (errand_of : S → ℕ → ErrandFields) (events : S → List Event) (moved : S → Move → S → Type 0) (place_of : B → ℕ) (need_of : B → Need) (passed : ℕ → ℕ → Type 0) (operations : List Op) where
-  -- a lane has begun operations, and made no step
-  pub record IsOnward (s t : S) (lane after : LaneState B) : Type 0 where
-    pub serves_still : (other : ℕ) → serves s other → serves t other
-    pub base : runs_on t ≡ runs_on s
-    pub geometry : geometry_of t ≡ geometry_of s
-    pub no_event : events t ≡ events s
-    pub same_caller : after.caller ≡ lane.caller
-    pub stands : IsLaneOf place_of need_of (geometry_of t) (events t) (errand_of t lane.caller) operations after
-    pub others : (other : ℕ) → serves s other → other ≢ lane.caller → errand_of t other ≡ errand_of s other
-    pub advanced : HasAdvanced moved events s t lane.caller operations (progress_of place_of need_of lane) (progress_of place_of need_of after) false
-    pub gate :
-        FirstPassed passed lane.caller (begun_count lane.outcomes.items lane.stage)
-        → FirstPassed passed lane.caller (begun_count after.outcomes.items after.stage)
+-- a lane that is not between two operations
+lane-under :
+    (c : CoreFields) (operations : List Op) (lane : LaneState Grip) → IsLaneOn c operations lane → lane.stage ≢ stage.Between
+    → IsUnder (errand_at c.errands lane.caller) (drop (length lane.outcomes.items) operations)
+lane-under c operations lane stands not =
+    let l = stands.stands in
+    under-at lane.caller c.events (errand_at c.errands lane.caller) l.position _ (drop (length lane.outcomes.items) operations) lane.stage l.added not
+    l.stands
 
-  pub onward-none :
-      (s : S) (lane : LaneState B) → IsLaneOf place_of need_of (geometry_of s) (events s) (errand_of s lane.caller) operations lane
-      → IsOnward s s lane lane
-  onward-none s lane stands =
+-- a lane stands on a machine that its calls and steps have made of another one
+stands-after :
+    (c after : CoreFields) (operations : List Op) (lane new : LaneState Grip) → StandsOn c operations lane → IsCore after
+    → after.geometry ≡ c.geometry → new.caller ≡ lane.caller
+    → IsLaneOf grip_place grip_need after.geometry after.events (errand_at after.errands lane.caller) operations new → StandsOn after operations new
+stands-after c after operations lane new on core heap same stands =
+    record {
+      core = core;
+      has = subst (λ k. k < after.geometry.callers) (sym same) (subst (λ (g : Geometry). lane.caller < g.callers) (sym heap) on.has);
+      stands =
+          subst (λ k. IsLaneOf grip_place grip_need after.geometry after.events (errand_at after.errands k) operations new) (sym same) stands;
+    }
+
+-- a lane between two operations begins the next one
+pub before-next :
+    (c : CoreFields) (operations : List Op) (lane : LaneState Grip) (operation : Op) → StandsOn c operations lane → lane.stage ≡ stage.Between
+    → IsNext operations lane.outcomes.items operation → MayBegin operation c operations lane
+before-next c operations lane operation on between next =
+    record { next = next; between = between; stands = on.stands; served = core-served c lane.caller on.core on.has }
+
+module _ (passed : ℕ → ℕ → Type 0) (operations : List Op) where
+  -- nothing has begun
+  pub onward-none : (c : CoreFields) (lane : LaneState Grip) → StandsOn c operations lane → AdvancesOn passed operations c c lane lane false
+  onward-none c lane stands =
       record {
-        serves_still = λ other h. h;
-        base = refl;
         geometry = refl;
-        no_event = refl;
-        same_caller = refl;
+        caller = refl;
         stands = stands;
-        others = λ other h ne. refl;
-        advanced = advance-none moved events s lane.caller operations (progress_of place_of need_of lane);
+        others = λ other ne. (refl, same-seen other c.events c.events refl);
+        advanced = advance-none c lane.caller operations (progress_on lane);
         gate = λ h. h;
       }
 
+  -- one more operation
   pub onward-more :
-      (s t u : S) (lane mid after : LaneState B) (operation : Op) → IsOnward s t lane mid
-      → IsServed (geometry_of t) mid.caller (errand_of t mid.caller) (events t) → mid.stage ≡ stage.Between
-      → IsNext operations mid.outcomes.items operation
-      → Begins serves runs_on geometry_of errand_of events moved place_of need_of operation t u mid after
-      → passed lane.caller (min (length mid.outcomes.items) (2 ^ 32 - 1)) → IsOnward s u lane after
-  onward-more s t u lane mid after operation so served between next goes last =
-      let k : mid.caller ≡ lane.caller = so.same_caller in
-      let before : IsBefore place_of need_of (geometry_of t) (events t) (errand_of t mid.caller) operation operations mid =
-      record {
-        next = next;
-        between = between;
-        stands = subst (λ c. IsLaneOf place_of need_of (geometry_of t) (events t) (errand_of t c) operations mid) (sym k) so.stands;
-        served = served;
-      } in
+      (s t u : CoreFields) (lane mid after : LaneState Grip) (operation : Op) → AdvancesOn passed operations s t lane mid false → IsCore u
+      → MayBegin operation t operations mid → Begins operation t u mid after → passed lane.caller (min (length mid.outcomes.items) (2 ^ 32 - 1))
+      → AdvancesOn passed operations s u lane after false
+  onward-more s t u lane mid after operation so core before goes last =
+      let k : mid.caller ≡ lane.caller = so.caller in
       let gone = goes.gone_on [] operations before in
-      let kept = calls-kept serves runs_on geometry_of errand_of events moved mid.caller goes.begun t u goes.called in
+      let kept = calls-kept mid.caller goes.begun t u goes.called in
       record {
-        serves_still = λ other h. kept.serves_still other (so.serves_still other h);
-        base = kept.base ∙ so.base;
         geometry = kept.geometry ∙ so.geometry;
-        no_event = kept.no_event ∙ so.no_event;
-        same_caller = goes.same_caller ∙ k;
-        stands = subst (λ c. IsLaneOf place_of need_of (geometry_of u) (events u) (errand_of u c) operations after) k gone.stands;
-        others = λ other h ne. kept.others other (so.serves_still other h) (λ is. ne (is ∙ k)) ∙ so.others other h ne;
+        caller = goes.same_caller ∙ k;
+        stands = stands-after t u operations mid after so.stands core kept.geometry goes.same_caller gone.stands;
+        others = λ other ne.
+            let stood = so.others other ne in
+            (kept.others other (λ is. ne (is ∙ k)) ∙ stood.0, subst (HasSeenMore other s.events) (sym kept.no_event) stood.1);
         advanced =
-            advance-then moved events s t u lane.caller operations (progress_of place_of need_of lane) (progress_of place_of need_of mid)
-            (progress_of place_of need_of after) false so.advanced
-            (subst (λ c. HasAdvanced moved events t u c operations (progress_of place_of need_of mid) (progress_of place_of need_of after) false) k
-            (part-begins serves runs_on geometry_of errand_of events moved place_of need_of t u mid after _ goes [] operations before));
+            advance-then s t u lane.caller operations (progress_on lane) (progress_on mid) (progress_on after) false so.advanced
+            (subst (λ c. HasAdvanced t u c operations (progress_on mid) (progress_on after) false) k
+            (part-begins t u mid after _ goes [] operations before));
         gate = λ first.
             let here : begun_count mid.outcomes.items mid.stage ≡ length mid.outcomes.items =
-            ap (λ a. begun_count mid.outcomes.items a) between ∙ omega arith in
+            ap (λ a. begun_count mid.outcomes.items a) before.between ∙ omega arith in
             subst (FirstPassed passed lane.caller) (sym gone.count)
             (passed-more passed lane.caller (length mid.outcomes.items) (subst (FirstPassed passed lane.caller) here (so.gate first)) last);
       }
 
-  pub onward-count :
-      (s t u : S) (lane mid after : LaneState B) (operation : Op) (so : IsOnward s t lane mid)
-      → IsServed (geometry_of t) mid.caller (errand_of t mid.caller) (events t) → mid.stage ≡ stage.Between
-      → IsNext operations mid.outcomes.items operation
-      → Begins serves runs_on geometry_of errand_of events moved place_of need_of operation t u mid after
-      → begun_count after.outcomes.items after.stage ≡ length mid.outcomes.items + 1
-  onward-count s t u lane mid after operation so served between next goes =
-      (goes.gone_on [] operations
-      (record {
-        next = next;
-        between = between;
-        stands = subst (λ c. IsLaneOf place_of need_of (geometry_of t) (events t) (errand_of t c) operations mid) (sym so.same_caller) so.stands;
-        served = served;
-      })).count
-
-  -- a lane that is not between two operations
-  pub lane-under :
-      (s : S) (lane : LaneState B) → IsLaneOf place_of need_of (geometry_of s) (events s) (errand_of s lane.caller) operations lane
-      → lane.stage ≢ stage.Between → IsUnder (errand_of s lane.caller) (drop (length lane.outcomes.items) operations)
-  lane-under s lane stands not =
-      let l = stands.stands in
-      under-at lane.caller (events s) (errand_of s lane.caller) l.position _ (drop (length lane.outcomes.items) operations) lane.stage l.added not l.stands
-
-  -- and then it made a step, which is answered
-  pub record IsAdvanced (s t : S) (lane after : LaneState B) : Type 0 where
-    pub serves_still : (other : ℕ) → serves s other → serves t other
-    pub base : runs_on t ≡ runs_on s
-    pub geometry : geometry_of t ≡ geometry_of s
-    pub same_caller : after.caller ≡ lane.caller
-    pub stands : IsLaneOf place_of need_of (geometry_of t) (events t) (errand_of t lane.caller) operations after
-    pub others :
-        (other : ℕ) → serves s other → other ≢ lane.caller
-        → (errand_of t other ≡ errand_of s other) × HasSeenMore other (events s) (events t)
-    pub advanced : HasAdvanced moved events s t lane.caller operations (progress_of place_of need_of lane) (progress_of place_of need_of after) true
-    pub gate :
-        FirstPassed passed lane.caller (begun_count lane.outcomes.items lane.stage)
-        → FirstPassed passed lane.caller (begun_count after.outcomes.items after.stage)
-
-  -- what the step did
-  pub record IsStepOf (caller : ℕ) (told : Stepped B) (s t : S) : Type 0 where
-    pub serves_still : (other : ℕ) → serves s other → serves t other
-    pub base : runs_on t ≡ runs_on s
-    pub geometry : geometry_of t ≡ geometry_of s
-    pub stepped : HasStepped place_of need_of (errand_of s caller) (errand_of t caller) (events s) (events t) told
-    pub moved_by : moved s (steps caller) t
-    pub others :
-        (other : ℕ) → serves s other → other ≢ caller → (errand_of t other ≡ errand_of s other) × HasSeenMore other (events s) (events t)
-
-  pub told-now :
-      (s t : S) (mid : LaneState B) (operation : Op) (told : Stepped B) → IsStepOf mid.caller told s t
-      → IsLaneOf place_of need_of (geometry_of s) (events s) (errand_of s mid.caller) operations mid → IsNext operations mid.outcomes.items operation
-      → IsServed (geometry_of s) mid.caller (errand_of s mid.caller) (events s) → IsServed (geometry_of t) mid.caller (errand_of t mid.caller) (events t)
-      → IsTold place_of need_of (geometry_of t) (events t) (errand_of t mid.caller) operation told (events s) operations mid
-  told-now s t mid operation told step stands next served served_now =
+  -- and then a step, of the operation that is under way
+  pub step-told :
+      (s t u : CoreFields) (lane mid : LaneState Grip) (told : Stepped Grip) (k : ℕ) (d : Op) → AdvancesOn passed operations s t lane mid false
+      → mid.stage ≢ stage.Between → IsCore u → u.geometry ≡ t.geometry
+      → (IsBusy (errand_at t.errands mid.caller)
+      → HasStepped grip_place grip_need (errand_at t.errands mid.caller) (errand_at u.errands mid.caller) t.events u.events told)
+      → length mid.outcomes.items ≡ k → MayAnswer (get_or operations k d) told u t.events operations mid
+  step-told s t u lane mid told k d so not core heap step here =
+      let on = so.stands in
+      let under = lane-under t operations mid on.stands not in
+      let below = here-below operations under.rest mid.outcomes.items under.operation under.next in
       record {
-        next = next;
-        e = errand_of s mid.caller;
-        stood = subst (λ g. IsLaneOf place_of need_of g (events s) (errand_of s mid.caller) operations mid) (sym step.geometry) stands;
-        stepped = step.stepped;
-        served = subst (λ g. IsServed g mid.caller (errand_of s mid.caller) (events s)) (sym step.geometry) served;
-        still_served = served_now;
+        next = next-op operations mid.outcomes.items k d here (subst (λ n. n < length operations) here below);
+        e = errand_at t.errands mid.caller;
+        stood = subst (λ g. IsLaneOf grip_place grip_need g t.events (errand_at t.errands mid.caller) operations mid) (sym heap) on.stands;
+        stepped = step under.busy;
+        served =
+            subst (λ g. IsServed g mid.caller (errand_at t.errands mid.caller) t.events) (sym heap)
+            (core-served t mid.caller on.core on.has);
+        still_served = core-served u mid.caller core (subst (λ (g : Geometry). mid.caller < g.callers) (sym heap) on.has);
       }
 
+  -- which is answered
   pub onward-steps :
-      (s t u v : S) (lane mid after : LaneState B) (operation : Op) (told : Stepped B) → IsOnward s t lane mid → mid.stage ≢ stage.Between
-      → IsStepOf mid.caller told t u
-      → (ready : IsTold place_of need_of (geometry_of u) (events u) (errand_of u mid.caller) operation told (events t) operations mid)
-      → Answers serves runs_on geometry_of errand_of events moved place_of need_of operation told u v mid after → IsAdvanced s v lane after
-  onward-steps s t u v lane mid after operation told so not step ready goes =
-      let k : mid.caller ≡ lane.caller = so.same_caller in
-      let gone = goes.gone_on (events t) operations ready in
-      let kept = calls-kept serves runs_on geometry_of errand_of events moved mid.caller goes.begun u v goes.called in
+      (s t u v : CoreFields) (lane mid after : LaneState Grip) (operation : Op) (told : Stepped Grip)
+      → AdvancesOn passed operations s t lane mid false → t.events ≡ s.events → mid.stage ≢ stage.Between
+      → (IsBusy (errand_at t.errands mid.caller) → MovesCore t (steps mid.caller) u)
+      → ((other : ℕ) → other ≢ mid.caller → (errand_at u.errands other ≡ errand_at t.errands other) × HasSeenMore other t.events u.events)
+      → MayAnswer operation told u t.events operations mid → Answers operation told u v mid after → IsCore v
+      → AdvancesOn passed operations s v lane after true
+  onward-steps s t u v lane mid after operation told so same not moves beside ready goes core =
+      let k : mid.caller ≡ lane.caller = so.caller in
+      let step = moves (lane-under t operations mid so.stands.stands not).busy in
+      let gone = goes.gone_on t.events operations ready in
+      let kept = calls-kept mid.caller goes.begun u v goes.called in
       record {
-        serves_still = λ other h. kept.serves_still other (step.serves_still other (so.serves_still other h));
-        base = kept.base ∙ step.base ∙ so.base;
-        geometry = kept.geometry ∙ step.geometry ∙ so.geometry;
-        same_caller = goes.same_caller ∙ k;
-        stands = subst (λ c. IsLaneOf place_of need_of (geometry_of v) (events v) (errand_of v c) operations after) k gone.stands;
-        others = λ other h ne.
+        geometry = kept.geometry ∙ step.heap ∙ so.geometry;
+        caller = goes.same_caller ∙ k;
+        stands = stands-after t v operations mid after so.stands core (kept.geometry ∙ step.heap) goes.same_caller gone.stands;
+        others = λ other ne.
             let mine : other ≢ mid.caller = λ is. ne (is ∙ k) in
-            let stepped = step.others other (so.serves_still other h) mine in (
-              kept.others other (step.serves_still other (so.serves_still other h)) mine ∙ stepped.0 ∙ so.others other h ne,
-              subst (λ b. HasSeenMore other b (events v)) so.no_event (subst (HasSeenMore other (events t)) (sym kept.no_event) stepped.1),
+            let stepped = beside other mine in (
+              kept.others other mine ∙ stepped.0 ∙ (so.others other ne).0,
+              subst (λ b. HasSeenMore other b v.events) same (subst (HasSeenMore other t.events) (sym kept.no_event) stepped.1),
             );
         advanced =
-            advance-then moved events s t v lane.caller operations (progress_of place_of need_of lane) (progress_of place_of need_of mid)
-            (progress_of place_of need_of after) true so.advanced
-            (subst (λ c. HasAdvanced moved events t v c operations (progress_of place_of need_of mid) (progress_of place_of need_of after) true) k
-            (part-steps serves runs_on geometry_of errand_of events moved place_of need_of u v mid after t _ step.moved_by goes operations ready));
+            advance-then s t v lane.caller operations (progress_on lane) (progress_on mid) (progress_on after) true so.advanced
+            (subst (λ c. HasAdvanced t v c operations (progress_on mid) (progress_on after) true) k
+            (part-steps u v mid after t _ step goes operations ready));
         gate = λ first.
             let count : begun_count mid.outcomes.items mid.stage ≡ length mid.outcomes.items + 1 =
             count-under mid.outcomes.items mid.stage not in
             subst (FirstPassed passed lane.caller) (count ∙ sym gone.count) (so.gate first);
       }
-
--- the next operation is the one that the code reads
-pub next-below :
-    (operations rest : List Op) (results : List Outcome) (operation : Op) → drop (length results) operations ≡ operation ∷ rest
-    → length results < length operations
-next-below operations rest results operation next = here-below operations rest results operation next
 
 -- the gate was told of the operation's number
 pub gate-number :

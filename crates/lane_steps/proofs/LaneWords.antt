@@ -19,7 +19,7 @@ use Rattle.trace_text.specs.declared.trace.Op.{Op}
 use Rattle.trace_text.specs.declared.trace.Op.TheVariants as op
 use Rattle.lane_engine.specs.declared.stepped.Stepped.{Stepped}
 use Rattle.lane_engine.specs.declared.stepped.Stepped.TheVariants as stepped
-use Rattle.lane_engine.specs.Engines.{HasStepped}
+use Rattle.lane_engine.specs.Told.{HasStepped}
 use Rattle.lane_outcomes.specs.declared.registers.Held.{Held}
 use Rattle.lane_outcomes.specs.declared.outcome.Outcome.{Outcome}
 use Rattle.lane_outcomes.specs.declared.outcome.Outcome.TheVariants as outcome

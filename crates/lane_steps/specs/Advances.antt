@@ -1,43 +1,35 @@
 -- What each part of an advance does: it begins a call, or answers what a step came to.
-use Rattle.std.specs.Prelude.{ℕ, ◌≡◌, ◌≢◌, ◌<◌, ◌+◌, ◌%◌, ◌^◌, ◌∷◌, ◌++◌, ◌⊎◌, List, [], Option, Some, None, drop, length, nat_lt, if◌then◌else◌}
+use Rattle.std.specs.Prelude.{ℕ, ◌≡◌, ◌≢◌, ◌<◌, ◌+◌, ◌%◌, ◌^◌, ◌∷◌, ◌++◌, ◌⊎◌, List, [], Bool, Option, Some, None, drop, length, nat_lt, if◌then◌else◌}
 use Rattle.heap_geometry.specs.declared.geometry.Geometry.{Geometry}
 use Rattle.heap_geometry.specs.declared.need.Need.{Need}
 use Rattle.pool_model.specs.declared.event.Event.{Event}
 use Rattle.pool_model.specs.Histories.{own}
-use Rattle.errand_steps.specs.Calls.{Call, take, begun_by}
+use Rattle.errand_steps.specs.Calls.{Call, take}
 use Rattle.errand_steps.specs.Errands.{ErrandFields}
-use Rattle.sound_state.specs.Runs.{Move, begins}
-use Rattle.step_core.specs.Moments.{IsServed}
+use Rattle.sound_state.specs.Runs.{begins}
+use Rattle.step_core.specs.Cores.{CoreFields, errand_at}
+use Rattle.step_core.specs.Moments.{HasSeenMore, IsServed}
 use Rattle.trace_text.specs.declared.trace.Op.{Op}
 use Rattle.lane_engine.specs.declared.stepped.Stepped.{Stepped}
-use Rattle.lane_engine.specs.Engines.{HasStepped}
+use Rattle.lane_engine.specs.declared.grip.Grip.{Grip}
+use Rattle.lane_engine.specs.Machines.{MovesCore, grip_need, grip_place}
+use Rattle.lane_engine.specs.Told.{HasStepped}
 use Rattle.lane_outcomes.specs.declared.outcome.Outcome.{Outcome}
 use Rattle.lane_steps.specs.declared.lane.LaneState.{LaneState}
 use Rattle.lane_steps.specs.declared.stage.Stage.{Stage}
 use Rattle.lane_steps.specs.declared.stage.Stage.TheVariants as stage
-use Rattle.lane_steps.specs.Paths.{begun_count}
+use Rattle.lane_steps.specs.Paths.{FirstPassed, HasAdvanced, begun_count}
 use Rattle.lane_steps.specs.Scripts.{IsOnScript, script_left}
-use Rattle.lane_steps.specs.States.{IsLaneOf, progress_of}
+use Rattle.lane_steps.specs.States.{IsLaneOf, StandsOn, progress_of, progress_on}
 
 -- the operation at hand, where these have their outcomes, is this one
 abbrev pub IsNext : List Op → List Outcome → Op → Type 0
 IsNext operations results operation = (rest : List Op) × (drop (length results) operations ≡ operation ∷ rest)
 
-module _ {S Base : Type 0} (serves : S → ℕ → Type 0) (runs_on : S → Base) (geometry_of : S → Geometry) (errand_of : S → ℕ → ErrandFields) (events : S → List Event) (moved : S → Move → S → Type 0) where
-  -- a caller began a call over an engine, and nothing else happened
-  pub record HasCalled (caller : ℕ) (call : Call) (old new : S) : Type 0 where
-    pub serves_still : (other : ℕ) → serves old other → serves new other
-    pub base : runs_on new ≡ runs_on old
-    pub geometry : geometry_of new ≡ geometry_of old
-    pub no_event : events new ≡ events old
-    pub others : (other : ℕ) → serves old other → other ≢ caller → errand_of new other ≡ errand_of old other
-    pub errand : errand_of new caller ≡ begun_by (errand_of old caller) call
-    pub moved_by : moved old (begins caller call) new
-
-  -- a caller began this call, or did nothing
-  abbrev pub Calls : ℕ → Option Call → S → S → Type 0
-  Calls caller None old new = new ≡ old
-  Calls caller (Some call) old new = HasCalled caller call old new
+-- a caller of a machine began this call, or did nothing
+abbrev pub Calls : ℕ → Option Call → CoreFields → CoreFields → Type 0
+Calls caller None old new = new ≡ old
+Calls caller (Some call) old new = MovesCore old (begins caller call) new
 
 -- the word behind the one whose write or read is under way, if the block has so many
 abbrev pub behind : ℕ → ℕ → Option ℕ
@@ -90,28 +82,40 @@ module _ {B : Type 0} (place_of : B → ℕ) (need_of : B → Need) where
         ⊎ ((new.outcomes.items ≡ old.outcomes.items) × (new.stage ≡ old.stage) × again begun)
     pub count : begun_count new.outcomes.items new.stage ≡ length old.outcomes.items + 1
 
-module _ {S Base B : Type 0} (serves : S → ℕ → Type 0) (runs_on : S → Base) (geometry_of : S → Geometry) (errand_of : S → ℕ → ErrandFields) (events : S → List Event) (moved : S → Move → S → Type 0) (place_of : B → ℕ) (need_of : B → Need) where
-  -- a lane went on over an engine without a step, whatever its operations are, if they and the lane were ready for that
-  pub record GoesOn (again : List Event → Option Call → Type 0) (ready : List Event → List Op → LaneState B → Type 0) (old new : S) (lane after : LaneState B) : Type 0 where
-    pub begun : Option Call
-    pub called : Calls serves runs_on geometry_of errand_of events moved lane.caller begun old new
-    pub same_caller : after.caller ≡ lane.caller
-    pub gone_on :
-        (seen : List Event) (operations : List Op) → ready seen operations lane
-        → HasGoneOn place_of need_of (geometry_of new) (events new) (errand_of new lane.caller) begun (again seen) operations lane after
+-- a lane went on over a machine without a step, whatever its operations are, if they and the lane were ready for that
+pub record GoesOn (again : List Event → Option Call → Type 0) (ready : List Event → List Op → LaneState Grip → Type 0) (old new : CoreFields) (lane after : LaneState Grip) : Type 0 where
+  pub begun : Option Call
+  pub called : Calls lane.caller begun old new
+  pub same_caller : after.caller ≡ lane.caller
+  pub gone_on :
+      (seen : List Event) (operations : List Op) → ready seen operations lane
+      → HasGoneOn grip_place grip_need new.geometry new.events (errand_at new.errands lane.caller) begun (again seen) operations lane after
 
-  -- a lane is between two operations, and this one is the next; a step of this one came to what is told
-  abbrev pub MayBegin : Op → S → List Op → LaneState B → Type 0
-  MayBegin operation s operations lane =
-      IsBefore place_of need_of (geometry_of s) (events s) (errand_of s lane.caller) operation operations lane
+-- a lane is between two operations, and this one is the next; a step of this one came to what is told
+abbrev pub MayBegin : Op → CoreFields → List Op → LaneState Grip → Type 0
+MayBegin operation c operations lane =
+    IsBefore grip_place grip_need c.geometry c.events (errand_at c.errands lane.caller) operation operations lane
 
-  abbrev pub MayAnswer : Op → Stepped B → S → List Event → List Op → LaneState B → Type 0
-  MayAnswer operation told s seen operations lane =
-      IsTold place_of need_of (geometry_of s) (events s) (errand_of s lane.caller) operation told seen operations lane
+abbrev pub MayAnswer : Op → Stepped Grip → CoreFields → List Event → List Op → LaneState Grip → Type 0
+MayAnswer operation told c seen operations lane =
+    IsTold grip_place grip_need c.geometry c.events (errand_at c.errands lane.caller) operation told seen operations lane
 
-  -- the operation began, or has its outcome; what was told is answered
-  abbrev pub Begins : Op → S → S → LaneState B → LaneState B → Type 0
-  Begins operation old new lane after = GoesOn (λ seen begun. ⊥) (λ seen. MayBegin operation old) old new lane after
+-- the operation began, or has its outcome; what was told is answered
+abbrev pub Begins : Op → CoreFields → CoreFields → LaneState Grip → LaneState Grip → Type 0
+Begins operation old new lane after = GoesOn (λ seen begun. ⊥) (λ seen. MayBegin operation old) old new lane after
 
-  abbrev pub Answers : Op → Stepped B → S → S → LaneState B → LaneState B → Type 0
-  Answers operation told old new lane after = GoesOn (λ seen. IsAgain lane.caller seen (events new)) (MayAnswer operation told old) old new lane after
+abbrev pub Answers : Op → Stepped Grip → CoreFields → CoreFields → LaneState Grip → LaneState Grip → Type 0
+Answers operation told old new lane after = GoesOn (λ seen. IsAgain lane.caller seen new.events) (MayAnswer operation told old) old new lane after
+
+-- a lane of these operations has gone on over a machine, by one step where it made one and by none else: it stands, no other caller moved, and what it has begun has passed the gate
+pub record AdvancesOn (passed : ℕ → ℕ → Type 0) (operations : List Op) (old new : CoreFields) (lane after : LaneState Grip) (made : Bool) : Type 0 where
+  pub geometry : new.geometry ≡ old.geometry
+  pub caller : after.caller ≡ lane.caller
+  pub stands : StandsOn new operations after
+  pub others :
+      (other : ℕ) → other ≢ lane.caller
+      → (errand_at new.errands other ≡ errand_at old.errands other) × HasSeenMore other old.events new.events
+  pub advanced : HasAdvanced old new lane.caller operations (progress_on lane) (progress_on after) made
+  pub gate :
+      FirstPassed passed lane.caller (begun_count lane.outcomes.items lane.stage)
+      → FirstPassed passed lane.caller (begun_count after.outcomes.items after.stage)

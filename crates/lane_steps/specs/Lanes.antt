@@ -1,4 +1,4 @@
--- Where a lane stands between two of its steps, over any engine.
+-- Where a lane stands between two of its steps.
 use Rattle.std.specs.Prelude.{ℕ, ◌≡◌, ◌≤◌, ◌+◌, ◌∷◌, ◌++◌, List, [], Option, true, length, take, drop, count_by}
 use Rattle.heap_geometry.specs.declared.geometry.Geometry.{Geometry}
 use Rattle.pool_model.specs.declared.event.Event.{Event}

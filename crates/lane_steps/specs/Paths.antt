@@ -1,4 +1,4 @@
--- What a lane's advance does to its engine, and what the lane keeps.
+-- What a lane's advance does to its machine, and what the lane keeps.
 use Rattle.std.specs.Prelude.{ℕ, ◌≡◌, ◌<◌, ◌+◌, ◌-◌, ◌^◌, ◌++◌, ◌∷◌, ◌⊎◌, List, [], Bool, Option, map, min, length, count_by, All, if◌then◌else◌}
 use Rattle.std.specs.Option.{option_map}
 use Rattle.heap_geometry.specs.declared.need.Need.{Need}
@@ -9,6 +9,8 @@ use Rattle.trace_text.specs.declared.trace.Op.{Op}
 use Rattle.errand_steps.specs.Calls as call
 use Rattle.sound_state.specs.Moves.{is_step}
 use Rattle.sound_state.specs.Runs.{Move, begins, steps}
+use Rattle.step_core.specs.Cores.{CoreFields}
+use Rattle.lane_engine.specs.Machines.{MovesCore}
 use Rattle.lane_outcomes.specs.declared.registers.Held.{Held}
 use Rattle.lane_outcomes.specs.declared.outcome.Outcome.{Outcome}
 use Rattle.lane_steps.specs.declared.stage.Stage.{Stage}
@@ -23,10 +25,10 @@ held_by place_of need_of block = record { place = place_of block; words = usable
 abbrev pub held_blocks : {B : Type 0} → (B → ℕ) → (B → Need) → List (Option B) → List (Option Held)
 held_blocks place_of need_of registers = map (λ register. option_map (held_by place_of need_of) register) registers
 
--- moves lead from one state of an engine to another, one after the other
-abbrev pub Leads : {S : Type 0} → (S → Move → S → Type 0) → S → List Move → S → Type 0
-Leads moved before [] after = after ≡ before
-Leads moved before (move ∷ moves) after = (next : _) × moved before move next × Leads moved next moves after
+-- moves lead from one machine to another, one after the other
+abbrev pub Leads : CoreFields → List Move → CoreFields → Type 0
+Leads before [] after = after ≡ before
+Leads before (move ∷ moves) after = (next : CoreFields) × MovesCore before move next × Leads next moves after
 
 -- a move of this caller
 abbrev pub IsBy : ℕ → Move → Type 0
@@ -46,9 +48,9 @@ StaysInCall caller seen now moves =
     ⊎ ((shelf : ℕ) × (moves ≡ steps caller ∷ begins caller (call.take shelf) ∷ []) × (own caller now ≡ own caller seen))
 
 -- an advance of a lane: its caller alone moved, by one step where it made one and by none else, and began the calls of its script; what is left of the script falls with each step, but where the call goes on
-pub record HasAdvanced {S : Type 0} (moved : S → Move → S → Type 0) (events : S → List Event) (before after : S) (caller : ℕ) (operations : List Op) (old new : Progressed) (made : Bool) : Type 0 where
+pub record HasAdvanced (before after : CoreFields) (caller : ℕ) (operations : List Op) (old new : Progressed) (made : Bool) : Type 0 where
   pub moves : List Move
-  pub leads : Leads moved before moves after
+  pub leads : Leads before moves after
   pub by_caller : All (IsBy caller) moves
   pub one_step : count_by is_step moves ≡ (if made then 1 else 0)
   pub script :
@@ -56,7 +58,7 @@ pub record HasAdvanced {S : Type 0} (moved : S → Move → S → Type 0) (event
       → IsOnScript operations new.registers new.results new.at (calls ++ calls_of caller moves)
   pub goes_on :
       (script_left operations new.results new.at < script_left operations old.results old.at)
-      ⊎ ((new.results ≡ old.results) × (new.at ≡ old.at) × (StaysInCall caller (events before) (events after) moves ⊎ (moves ≡ [])))
+      ⊎ ((new.results ≡ old.results) × (new.at ≡ old.at) × (StaysInCall caller before.events after.events moves ⊎ (moves ≡ [])))
 
 -- how many operations a lane has begun
 abbrev pub begun_count : List Outcome → Stage → ℕ

@@ -1,16 +1,13 @@
-//! One lane of a trace, and how it goes on by one atomic step after another.
+//! One lane of a trace, and how it goes on by one atomic step of a machine after another.
 
 ghost use Rattle.std.specs.Prelude.{ℕ, ◌≡◌, ◌≢◌, ◌<◌, ◌≤◌, ◌+◌, ◌-◌, ◌^◌, ◌↔◌, ◌++◌, ◌∷◌, [], None, Ok, IfOk, OnErr, All, length, min, true, false, replicate, IsTrue, List};
 ghost use Rattle.std.specs.Vec.{vec_len, vec_capacity};
 ghost use Rattle.trace_text.specs.declared.limits.TheConstants.{REGISTERS};
 ghost use Rattle.trace_text.specs.declared.trace.Op.{Op};
 ghost use Rattle.trace_text.specs.Traces.{IsOp};
-ghost use Rattle.errand_steps.specs.Begins.{IsBusy};
-ghost use Rattle.lane_engine.specs.Engines.{HasStepped};
 ghost use Rattle.lane_steps.specs.declared.stage.Stage.TheVariants as stage;
-ghost use Rattle.lane_steps.specs.Paths.{HasAdvanced, FirstPassed, begun_count};
-ghost use Rattle.lane_steps.specs.States.{IsLaneOf, IsNew, progress_of};
-ghost use Rattle.step_core.specs.Moments.{HasSeenMore};
+ghost use Rattle.lane_steps.specs.Advances.{AdvancesOn};
+ghost use Rattle.lane_steps.specs.States.{IsNew, StandsOn};
 
 mod answers;
 mod begins;
@@ -19,11 +16,12 @@ mod registers;
 
 use crate::stage::Stage;
 use edge_io::gate::Gate;
-use lane_engine::engine::Engine;
-use lane_engine::stepped::Stepped;
+use lane_engine::grip::Grip;
+use lane_engine::over_core::step;
 use lane_engine::token::Token;
 use lane_outcomes::outcome::Outcome;
 use std::alloc::{AllocError, Global};
+use step_core::machine::Core;
 use trace_text::limits::REGISTERS;
 use trace_text::trace::Op;
 
@@ -117,40 +115,26 @@ impl<B: Token + Drop> LaneState<B> {
         self.outcomes.push_reserved(outcome);
         self.stage = Stage::Between;
     }
+}
 
+impl LaneState<Grip> {
     /// Begins the operations that are next, up to the first one that takes a step; where an operation is
     /// under way nothing begins.
-    fn begin_next<E: Engine<Held = B>, G: Gate>(
-        &mut self,
-        engine: &mut E,
-        operations: &[Op],
-        gate: &G,
-    )
-        requires serves { E.serves engine.old self.old.caller }
+    fn begin_next<G: Gate>(&mut self, core: &mut Core, operations: &[Op], gate: &G)
         requires operations { All IsOp operations.now }
-        requires lane { IsLaneOf B.place_of B.need_of (E.geometry_of engine.old) (E.events engine.old)
-            (E.errand_of engine.old self.old.caller) operations.now self.old }
-        ensures serves { (other : ℕ) → E.serves engine.old other → E.serves engine.new other }
-        ensures base { E.runs_on engine.new ≡ E.runs_on engine.old }
-        ensures geometry { E.geometry_of engine.new ≡ E.geometry_of engine.old }
-        ensures events { E.events engine.new ≡ E.events engine.old }
-        ensures caller { self.new.caller ≡ self.old.caller }
-        ensures lane { IsLaneOf B.place_of B.need_of (E.geometry_of engine.new) (E.events engine.new)
-            (E.errand_of engine.new self.old.caller) operations.now self.new }
-        ensures others { (other : ℕ) → E.serves engine.old other → other ≢ self.old.caller
-            → E.errand_of engine.new other ≡ E.errand_of engine.old other }
-        ensures advanced { HasAdvanced E.moved E.events engine.old engine.new self.old.caller operations.now
-            (progress_of B.place_of B.need_of self.old) (progress_of B.place_of B.need_of self.new) false }
+        requires stands { StandsOn core.old operations.now self.old }
+        ensures events { core.new.events ≡ core.old.events }
+        ensures advanced { AdvancesOn (G.passed gate.now) operations.now core.old core.new self.old self.new false }
         ensures ended { self.new.stage ≡ stage.Between → length self.new.outcomes.items ≡ length operations.now }
-        ensures passed { FirstPassed (G.passed gate.now) self.old.caller (begun_count self.old.outcomes.items self.old.stage)
-            → FirstPassed (G.passed gate.now) self.old.caller (begun_count self.new.outcomes.items self.new.stage) }
     {
         if !self.is_between() {
             return;
         }
         for op in self.outcomes.len()..operations.len() {
             gate.pass(self.caller, number_of(op));
-            self.begin(engine, operations[op]);
+            self.begin(core, operations[op]);
+            // Lanes stand on what the machine's type keeps.
+            let _ = core.steps();
             if !self.is_between() {
                 return;
             }
@@ -161,43 +145,30 @@ impl<B: Token + Drop> LaneState<B> {
     /// way and none is left that takes a step. Before the step it begins the next operation where none is
     /// under way. Each operation passes the gate before it begins, also one that takes no step, which has
     /// its outcome here. A take that missed the shelf's block is tried again. No memory is taken but what
-    /// the engine takes: where it finds none no step is made, an operation that began stays under way,
+    /// the machine takes: where it finds none no step is made, an operation that began stays under way,
     /// and the next call makes its step.
-    pub fn advance<E: Engine<Held = B>, G: Gate>(
+    pub fn advance<G: Gate>(
         &mut self,
-        engine: &mut E,
+        core: &mut Core,
         operations: &[Op],
         gate: &G,
     ) -> Result<bool, AllocError>
-        requires serves { E.serves engine.old self.old.caller }
         requires operations { All IsOp operations.now }
-        requires lane { IsLaneOf B.place_of B.need_of (E.geometry_of engine.old) (E.events engine.old)
-            (E.errand_of engine.old self.old.caller) operations.now self.old }
-        ensures serves { (other : ℕ) → E.serves engine.old other → E.serves engine.new other }
-        ensures base { E.runs_on engine.new ≡ E.runs_on engine.old }
-        ensures geometry { E.geometry_of engine.new ≡ E.geometry_of engine.old }
-        ensures caller { self.new.caller ≡ self.old.caller }
-        ensures lane { IsLaneOf B.place_of B.need_of (E.geometry_of engine.new) (E.events engine.new)
-            (E.errand_of engine.new self.old.caller) operations.now self.new }
-        ensures others { (other : ℕ) → E.serves engine.old other → other ≢ self.old.caller
-            → (E.errand_of engine.new other ≡ E.errand_of engine.old other)
-            × HasSeenMore other (E.events engine.old) (E.events engine.new) }
-        ensures advanced { IfOk result (λ made. HasAdvanced E.moved E.events engine.old engine.new self.old.caller operations.now
-            (progress_of B.place_of B.need_of self.old) (progress_of B.place_of B.need_of self.new) made) }
-        ensures failed { OnErr result (HasAdvanced E.moved E.events engine.old engine.new self.old.caller operations.now
-            (progress_of B.place_of B.need_of self.old) (progress_of B.place_of B.need_of self.new) false) }
+        requires stands { StandsOn core.old operations.now self.old }
+        ensures advanced { IfOk result (λ made. AdvancesOn (G.passed gate.now) operations.now core.old core.new self.old self.new made) }
+        ensures failed { OnErr result (AdvancesOn (G.passed gate.now) operations.now core.old core.new self.old self.new false) }
         ensures ended { result ≡ Ok false → (self.new.stage ≡ stage.Between) × (length self.new.outcomes.items ≡ length operations.now) }
-        ensures passed { FirstPassed (G.passed gate.now) self.old.caller (begun_count self.old.outcomes.items self.old.stage)
-            → FirstPassed (G.passed gate.now) self.old.caller (begun_count self.new.outcomes.items self.new.stage) }
-        ensures fails { OnErr result E.may_fail }
+        ensures geometry { core.new.geometry ≡ core.old.geometry }
     {
-        self.begin_next(engine, operations, gate);
+        self.begin_next(core, operations, gate);
         if self.is_between() {
             return Ok(false);
         }
-        let told = engine.step(self.caller)?;
+        let told = step(core, self.caller)?;
         let op = self.outcomes.len();
-        self.answer(engine, operations[op], told);
+        self.answer(core, operations[op], told);
+        // Lanes stand on what the machine's type keeps.
+        let _ = core.steps();
         Ok(true)
     }
 }

@@ -9,23 +9,25 @@ ghost use Rattle.trace_text.specs.declared.trace.Op.TheVariants as op;
 ghost use Rattle.trace_text.specs.declared.limits.TheConstants.{REGISTERS};
 ghost use Rattle.heap_geometry.specs.declared.limits.TheConstants.{SHELVES};
 ghost use Rattle.trace_text.specs.Traces.{IsOp};
+ghost use Rattle.lane_engine.specs.Machines.{Serves};
 ghost use Rattle.lane_steps.specs.Advances.{MayAnswer, Answers, word_behind, total_with};
 
 use super::LaneState;
 use super::registers::put_in;
 use crate::stage::Stage;
-use lane_engine::engine::Engine;
+use lane_engine::grip::Grip;
 use lane_engine::stepped::Stepped;
 use lane_engine::token::Token;
 use lane_outcomes::outcome::Outcome;
+use step_core::machine::Core;
 use trace_text::trace::Op;
 
-impl<B: Token + Drop> LaneState<B> {
+impl LaneState<Grip> {
     /// The usable words of a full register's block.
     fn words_in(&self, r: u16) -> u32
         requires { r < length self.now.registers.items }
-        ensures { (block : B) → slice_index_or self.now.registers.items r None ≡ Some block
-            → result ≡ usable_words (B.need_of block) }
+        ensures { (block : Grip) → slice_index_or self.now.registers.items r None ≡ Some block
+            → result ≡ usable_words block.need }
     {
         match &self.registers[usize::from(r)] {
             Some(block) => block.words(),
@@ -36,8 +38,8 @@ impl<B: Token + Drop> LaneState<B> {
     /// The place of a full register's block.
     fn place_in(&self, r: u16) -> u32
         requires { r < length self.now.registers.items }
-        ensures { (block : B) → slice_index_or self.now.registers.items r None ≡ Some block
-            → result ≡ B.place_of block }
+        ensures { (block : Grip) → slice_index_or self.now.registers.items r None ≡ Some block
+            → result ≡ block.place }
     {
         match &self.registers[usize::from(r)] {
             Some(block) => block.place(),
@@ -70,44 +72,40 @@ impl<B: Token + Drop> LaneState<B> {
     }
 
     /// Goes on by what a step of the operation at hand came to.
-    pub(super) fn answer<E: Engine<Held = B>>(
+    pub(super) fn answer(
         &mut self,
-        engine: &mut E,
+        core: &mut Core,
         operation: Op,
-        told: Stepped<B>,
+        told: Stepped<Grip>,
     )
-        requires serves { E.serves engine.old self.old.caller }
+        requires serves { Serves core.old self.old.caller }
         requires operation { IsOp operation }
         requires ready { (seen : List Event) × (operations : List Op)
-            × MayAnswer E.serves E.runs_on E.geometry_of E.errand_of E.events E.moved B.place_of B.need_of
-            operation told engine.old seen operations self.old }
-        ensures answered { Answers E.serves E.runs_on E.geometry_of E.errand_of E.events E.moved B.place_of B.need_of
-            operation told engine.old engine.new self.old self.new }
+            × MayAnswer operation told core.old seen operations self.old }
+        ensures answered { Answers operation told core.old core.new self.old self.new }
     {
         match operation {
-            Op::Alloc { r, need: _, v } => self.after_alloc(engine, r, v, told),
-            Op::Free { r: _ } => self.after_free(engine, told),
-            Op::Fill { r, v } => self.after_fill(engine, r, v, told),
-            Op::Check { r } => self.after_check(engine, r, told),
-            Op::Put { r, shelf: _ } => self.after_put(engine, r, told),
-            Op::Take { r, shelf } => self.after_take(engine, r, shelf, told),
+            Op::Alloc { r, need: _, v } => self.after_alloc(core, r, v, told),
+            Op::Free { r: _ } => self.after_free(core, told),
+            Op::Fill { r, v } => self.after_fill(core, r, v, told),
+            Op::Check { r } => self.after_check(core, r, told),
+            Op::Put { r, shelf: _ } => self.after_put(core, r, told),
+            Op::Take { r, shelf } => self.after_take(core, r, shelf, told),
         }
     }
 
     /// An allocation: the block that is given goes into the register, and is filled.
-    fn after_alloc<E: Engine<Held = B>>(&mut self, engine: &mut E, r: u16, v: u64, told: Stepped<B>)
-        requires serves { E.serves engine.old self.old.caller }
+    fn after_alloc(&mut self, core: &mut Core, r: u16, v: u64, told: Stepped<Grip>)
+        requires serves { Serves core.old self.old.caller }
         requires register { r < REGISTERS }
         requires ready { (need : ℕ) × (seen : List Event) × (operations : List Op)
-            × MayAnswer E.serves E.runs_on E.geometry_of E.errand_of E.events E.moved B.place_of B.need_of
-            (op.Alloc r need v) told engine.old seen operations self.old }
-        ensures answered { (need : ℕ) → Answers E.serves E.runs_on E.geometry_of E.errand_of E.events E.moved B.place_of B.need_of
-            (op.Alloc r need v) told engine.old engine.new self.old self.new }
+            × MayAnswer (op.Alloc r need v) told core.old seen operations self.old }
+        ensures answered { (need : ℕ) → Answers (op.Alloc r need v) told core.old core.new self.old self.new }
     {
         match told {
             Stepped::Given(block) => {
                 put_in(&mut self.registers, r, block);
-                self.write_word(engine, r, v, 0);
+                self.write_word(core, r, v, 0);
             }
             Stepped::Refused => self.finish(Outcome::Refused),
             Stepped::Spent => self.finish(Outcome::Spent),
@@ -115,7 +113,7 @@ impl<B: Token + Drop> LaneState<B> {
                 let words = self.words_in(r);
                 let place = self.place_in(r);
                 match self.next_word(words) {
-                    Some(next) => self.write_word(engine, r, v, next),
+                    Some(next) => self.write_word(core, r, v, next),
                     None => self.finish(Outcome::Given { words, place }),
                 }
             }
@@ -124,13 +122,11 @@ impl<B: Token + Drop> LaneState<B> {
     }
 
     /// A free.
-    fn after_free<E: Engine<Held = B>>(&mut self, _engine: &mut E, told: Stepped<B>)
-        requires serves { E.serves _engine.old self.old.caller }
+    fn after_free(&mut self, _core: &mut Core, told: Stepped<Grip>)
+        requires serves { Serves _core.old self.old.caller }
         requires ready { (r : ℕ) × (seen : List Event) × (operations : List Op)
-            × MayAnswer E.serves E.runs_on E.geometry_of E.errand_of E.events E.moved B.place_of B.need_of
-            (op.Free r) told _engine.old seen operations self.old }
-        ensures answered { (r : ℕ) → Answers E.serves E.runs_on E.geometry_of E.errand_of E.events E.moved B.place_of B.need_of
-            (op.Free r) told _engine.old _engine.new self.old self.new }
+            × MayAnswer (op.Free r) told _core.old seen operations self.old }
+        ensures answered { (r : ℕ) → Answers (op.Free r) told _core.old _core.new self.old self.new }
     {
         let Stepped::Freed = told else {
             return;
@@ -139,34 +135,30 @@ impl<B: Token + Drop> LaneState<B> {
     }
 
     /// A fill: the write of the next word begins.
-    fn after_fill<E: Engine<Held = B>>(&mut self, engine: &mut E, r: u16, v: u64, told: Stepped<B>)
-        requires serves { E.serves engine.old self.old.caller }
+    fn after_fill(&mut self, core: &mut Core, r: u16, v: u64, told: Stepped<Grip>)
+        requires serves { Serves core.old self.old.caller }
         requires register { r < REGISTERS }
         requires ready { (seen : List Event) × (operations : List Op)
-            × MayAnswer E.serves E.runs_on E.geometry_of E.errand_of E.events E.moved B.place_of B.need_of
-            (op.Fill r v) told engine.old seen operations self.old }
-        ensures answered { Answers E.serves E.runs_on E.geometry_of E.errand_of E.events E.moved B.place_of B.need_of
-            (op.Fill r v) told engine.old engine.new self.old self.new }
+            × MayAnswer (op.Fill r v) told core.old seen operations self.old }
+        ensures answered { Answers (op.Fill r v) told core.old core.new self.old self.new }
     {
         let Stepped::Wrote = told else {
             return;
         };
         let words = self.words_in(r);
         match self.next_word(words) {
-            Some(next) => self.write_word(engine, r, v, next),
+            Some(next) => self.write_word(core, r, v, next),
             None => self.finish(Outcome::Filled),
         }
     }
 
     /// A check: the word is added, and the read of the next one begins.
-    fn after_check<E: Engine<Held = B>>(&mut self, engine: &mut E, r: u16, told: Stepped<B>)
-        requires serves { E.serves engine.old self.old.caller }
+    fn after_check(&mut self, core: &mut Core, r: u16, told: Stepped<Grip>)
+        requires serves { Serves core.old self.old.caller }
         requires register { r < REGISTERS }
         requires ready { (seen : List Event) × (operations : List Op)
-            × MayAnswer E.serves E.runs_on E.geometry_of E.errand_of E.events E.moved B.place_of B.need_of
-            (op.Check r) told engine.old seen operations self.old }
-        ensures answered { Answers E.serves E.runs_on E.geometry_of E.errand_of E.events E.moved B.place_of B.need_of
-            (op.Check r) told engine.old engine.new self.old self.new }
+            × MayAnswer (op.Check r) told core.old seen operations self.old }
+        ensures answered { Answers (op.Check r) told core.old core.new self.old self.new }
     {
         let Stepped::Word(word) = told else {
             return;
@@ -174,20 +166,18 @@ impl<B: Token + Drop> LaneState<B> {
         let total = self.total_with(word);
         let words = self.words_in(r);
         match self.next_word(words) {
-            Some(next) => self.read_word(engine, r, next, total),
+            Some(next) => self.read_word(core, r, next, total),
             None => self.finish(Outcome::Sum(total)),
         }
     }
 
     /// A put: where the shelf is full the block goes back into the register.
-    fn after_put<E: Engine<Held = B>>(&mut self, _engine: &mut E, r: u16, told: Stepped<B>)
-        requires serves { E.serves _engine.old self.old.caller }
+    fn after_put(&mut self, _core: &mut Core, r: u16, told: Stepped<Grip>)
+        requires serves { Serves _core.old self.old.caller }
         requires register { r < REGISTERS }
         requires ready { (shelf : ℕ) × (seen : List Event) × (operations : List Op)
-            × MayAnswer E.serves E.runs_on E.geometry_of E.errand_of E.events E.moved B.place_of B.need_of
-            (op.Put r shelf) told _engine.old seen operations self.old }
-        ensures answered { (shelf : ℕ) → Answers E.serves E.runs_on E.geometry_of E.errand_of E.events E.moved B.place_of B.need_of
-            (op.Put r shelf) told _engine.old _engine.new self.old self.new }
+            × MayAnswer (op.Put r shelf) told _core.old seen operations self.old }
+        ensures answered { (shelf : ℕ) → Answers (op.Put r shelf) told _core.old _core.new self.old self.new }
     {
         match told {
             Stepped::Put => self.finish(Outcome::Put),
@@ -200,21 +190,19 @@ impl<B: Token + Drop> LaneState<B> {
     }
 
     /// A take: one that missed the shelf's block is tried again.
-    fn after_take<E: Engine<Held = B>>(
+    fn after_take(
         &mut self,
-        engine: &mut E,
+        core: &mut Core,
         r: u16,
         shelf: u8,
-        told: Stepped<B>,
+        told: Stepped<Grip>,
     )
-        requires serves { E.serves engine.old self.old.caller }
+        requires serves { Serves core.old self.old.caller }
         requires register { r < REGISTERS }
         requires shelf { shelf < SHELVES }
         requires ready { (seen : List Event) × (operations : List Op)
-            × MayAnswer E.serves E.runs_on E.geometry_of E.errand_of E.events E.moved B.place_of B.need_of
-            (op.Take r shelf) told engine.old seen operations self.old }
-        ensures answered { Answers E.serves E.runs_on E.geometry_of E.errand_of E.events E.moved B.place_of B.need_of
-            (op.Take r shelf) told engine.old engine.new self.old self.new }
+            × MayAnswer (op.Take r shelf) told core.old seen operations self.old }
+        ensures answered { Answers (op.Take r shelf) told core.old core.new self.old self.new }
     {
         match told {
             Stepped::Got(block) => {
@@ -225,7 +213,7 @@ impl<B: Token + Drop> LaneState<B> {
                 self.finish(Outcome::Took { words, place, need });
             }
             Stepped::Empty => self.finish(Outcome::ShelfEmpty),
-            Stepped::Missed => engine.begin_take(self.caller, shelf),
+            Stepped::Missed => core.begin_take(self.caller, shelf),
             _ => {}
         }
     }

@@ -5,60 +5,58 @@ ghost use Rattle.std.specs.List.{slice_index_or};
 ghost use Rattle.heap_geometry.specs.Need.{usable_words};
 ghost use Rattle.errand_steps.specs.Begins.{IsIdle};
 ghost use Rattle.errand_steps.specs.Calls.{write, read};
-ghost use Rattle.step_core.specs.Cores.{OwnsAfter};
+ghost use Rattle.sound_state.specs.Runs.{begins};
+ghost use Rattle.step_core.specs.Cores.{OwnsAfter, errand_at};
 ghost use Rattle.trace_text.specs.declared.trace.Op.{Op};
 ghost use Rattle.trace_text.specs.declared.trace.Op.TheVariants as op;
 ghost use Rattle.trace_text.specs.declared.limits.TheConstants.{REGISTERS};
 ghost use Rattle.heap_geometry.specs.declared.limits.TheConstants.{LARGE_MOST, SHELVES};
 ghost use Rattle.trace_text.specs.Traces.{IsOp};
 ghost use Rattle.lane_steps.specs.declared.stage.Stage.TheVariants as stage;
-ghost use Rattle.lane_steps.specs.Advances.{HasCalled, MayBegin, Begins};
+ghost use Rattle.lane_engine.specs.Machines.{MovesCore, Serves};
+ghost use Rattle.lane_steps.specs.Advances.{MayBegin, Begins};
 
 use super::LaneState;
 use super::registers::{is_full, take_out};
 use crate::stage::Stage;
 use errand_steps::reply::Begun;
-use lane_engine::engine::Engine;
-use lane_engine::token::Token;
+use lane_engine::grip::Grip;
 use lane_outcomes::outcome::Outcome;
+use step_core::machine::Core;
 use trace_text::trace::Op;
 
-impl<B: Token + Drop> LaneState<B> {
+impl LaneState<Grip> {
     /// Begins the operation, or gives it its outcome where it takes no step.
-    pub(super) fn begin<E: Engine<Held = B>>(&mut self, engine: &mut E, operation: Op)
-        requires serves { E.serves engine.old self.old.caller }
+    pub(super) fn begin(&mut self, core: &mut Core, operation: Op)
+        requires serves { Serves core.old self.old.caller }
         requires operation { IsOp operation }
         requires ready { (operations : List Op)
-            × MayBegin E.serves E.runs_on E.geometry_of E.errand_of E.events E.moved B.place_of B.need_of
-            operation engine.old operations self.old }
-        ensures begun { Begins E.serves E.runs_on E.geometry_of E.errand_of E.events E.moved B.place_of B.need_of
-            operation engine.old engine.new self.old self.new }
+            × MayBegin operation core.old operations self.old }
+        ensures begun { Begins operation core.old core.new self.old self.new }
     {
         match operation {
-            Op::Alloc { r, need, v: _ } => self.begin_alloc(engine, r, need),
-            Op::Free { r } => self.begin_free(engine, r),
-            Op::Fill { r, v } => self.begin_fill(engine, r, v),
-            Op::Check { r } => self.begin_check(engine, r),
-            Op::Put { r, shelf } => self.begin_put(engine, r, shelf),
-            Op::Take { r, shelf } => self.begin_take(engine, r, shelf),
+            Op::Alloc { r, need, v: _ } => self.begin_alloc(core, r, need),
+            Op::Free { r } => self.begin_free(core, r),
+            Op::Fill { r, v } => self.begin_fill(core, r, v),
+            Op::Check { r } => self.begin_check(core, r),
+            Op::Put { r, shelf } => self.begin_put(core, r, shelf),
+            Op::Take { r, shelf } => self.begin_take(core, r, shelf),
         }
     }
 
     /// Begins an allocation into an empty register.
-    fn begin_alloc<E: Engine<Held = B>>(&mut self, engine: &mut E, r: u16, need: u32)
-        requires serves { E.serves engine.old self.old.caller }
+    fn begin_alloc(&mut self, core: &mut Core, r: u16, need: u32)
+        requires serves { Serves core.old self.old.caller }
         requires register { r < REGISTERS }
         requires need { need ≤ LARGE_MOST }
         requires ready { (v : ℕ) × (operations : List Op)
-            × MayBegin E.serves E.runs_on E.geometry_of E.errand_of E.events E.moved B.place_of B.need_of
-            (op.Alloc r need v) engine.old operations self.old }
-        ensures begun { (v : ℕ) → Begins E.serves E.runs_on E.geometry_of E.errand_of E.events E.moved B.place_of B.need_of
-            (op.Alloc r need v) engine.old engine.new self.old self.new }
+            × MayBegin (op.Alloc r need v) core.old operations self.old }
+        ensures begun { (v : ℕ) → Begins (op.Alloc r need v) core.old core.new self.old self.new }
     {
         if is_full(&self.registers, r) {
             return self.finish(Outcome::Skipped);
         }
-        match engine.begin_alloc(self.caller, need) {
+        match core.begin_alloc(self.caller, need) {
             Begun::Started => self.stage = Stage::Calling,
             Begun::Spent => self.finish(Outcome::Spent),
             Begun::TooLarge => unreachable!(),
@@ -66,140 +64,131 @@ impl<B: Token + Drop> LaneState<B> {
     }
 
     /// Begins the free of a full register's block.
-    fn begin_free<E: Engine<Held = B>>(&mut self, engine: &mut E, r: u16)
-        requires serves { E.serves engine.old self.old.caller }
+    fn begin_free(&mut self, core: &mut Core, r: u16)
+        requires serves { Serves core.old self.old.caller }
         requires register { r < REGISTERS }
         requires ready { (operations : List Op)
-            × MayBegin E.serves E.runs_on E.geometry_of E.errand_of E.events E.moved B.place_of B.need_of
-            (op.Free r) engine.old operations self.old }
-        ensures begun { Begins E.serves E.runs_on E.geometry_of E.errand_of E.events E.moved B.place_of B.need_of
-            (op.Free r) engine.old engine.new self.old self.new }
+            × MayBegin (op.Free r) core.old operations self.old }
+        ensures begun { Begins (op.Free r) core.old core.new self.old self.new }
     {
         let Some(block) = take_out(&mut self.registers, r) else {
             return self.finish(Outcome::Skipped);
         };
-        engine.begin_free(self.caller, block);
+        core.begin_free(self.caller, block.place, block.need);
         self.stage = Stage::Calling;
     }
 
     /// Begins the write of a full register's first word.
-    fn begin_fill<E: Engine<Held = B>>(&mut self, engine: &mut E, r: u16, v: u64)
-        requires serves { E.serves engine.old self.old.caller }
+    fn begin_fill(&mut self, core: &mut Core, r: u16, v: u64)
+        requires serves { Serves core.old self.old.caller }
         requires register { r < REGISTERS }
         requires ready { (operations : List Op)
-            × MayBegin E.serves E.runs_on E.geometry_of E.errand_of E.events E.moved B.place_of B.need_of
-            (op.Fill r v) engine.old operations self.old }
-        ensures begun { Begins E.serves E.runs_on E.geometry_of E.errand_of E.events E.moved B.place_of B.need_of
-            (op.Fill r v) engine.old engine.new self.old self.new }
+            × MayBegin (op.Fill r v) core.old operations self.old }
+        ensures begun { Begins (op.Fill r v) core.old core.new self.old self.new }
     {
         if is_full(&self.registers, r) {
-            self.write_word(engine, r, v, 0)
+            self.write_word(core, r, v, 0)
         } else {
             self.finish(Outcome::Skipped)
         }
     }
 
     /// Begins the read of a full register's first word.
-    fn begin_check<E: Engine<Held = B>>(&mut self, engine: &mut E, r: u16)
-        requires serves { E.serves engine.old self.old.caller }
+    fn begin_check(&mut self, core: &mut Core, r: u16)
+        requires serves { Serves core.old self.old.caller }
         requires register { r < REGISTERS }
         requires ready { (operations : List Op)
-            × MayBegin E.serves E.runs_on E.geometry_of E.errand_of E.events E.moved B.place_of B.need_of
-            (op.Check r) engine.old operations self.old }
-        ensures begun { Begins E.serves E.runs_on E.geometry_of E.errand_of E.events E.moved B.place_of B.need_of
-            (op.Check r) engine.old engine.new self.old self.new }
+            × MayBegin (op.Check r) core.old operations self.old }
+        ensures begun { Begins (op.Check r) core.old core.new self.old self.new }
     {
         if is_full(&self.registers, r) {
-            self.read_word(engine, r, 0, 0)
+            self.read_word(core, r, 0, 0)
         } else {
             self.finish(Outcome::Skipped)
         }
     }
 
     /// Begins to put a full register's block on a shelf.
-    fn begin_put<E: Engine<Held = B>>(&mut self, engine: &mut E, r: u16, shelf: u8)
-        requires serves { E.serves engine.old self.old.caller }
+    fn begin_put(&mut self, core: &mut Core, r: u16, shelf: u8)
+        requires serves { Serves core.old self.old.caller }
         requires register { r < REGISTERS }
         requires shelf { shelf < SHELVES }
         requires ready { (operations : List Op)
-            × MayBegin E.serves E.runs_on E.geometry_of E.errand_of E.events E.moved B.place_of B.need_of
-            (op.Put r shelf) engine.old operations self.old }
-        ensures begun { Begins E.serves E.runs_on E.geometry_of E.errand_of E.events E.moved B.place_of B.need_of
-            (op.Put r shelf) engine.old engine.new self.old self.new }
+            × MayBegin (op.Put r shelf) core.old operations self.old }
+        ensures begun { Begins (op.Put r shelf) core.old core.new self.old self.new }
     {
         let Some(block) = take_out(&mut self.registers, r) else {
             return self.finish(Outcome::Skipped);
         };
-        engine.begin_put(self.caller, block, shelf);
+        core.begin_put(self.caller, block.place, block.need, shelf);
         self.stage = Stage::Calling;
     }
 
     /// Begins to take a shelf's block into an empty register.
-    fn begin_take<E: Engine<Held = B>>(&mut self, engine: &mut E, r: u16, shelf: u8)
-        requires serves { E.serves engine.old self.old.caller }
+    fn begin_take(&mut self, core: &mut Core, r: u16, shelf: u8)
+        requires serves { Serves core.old self.old.caller }
         requires register { r < REGISTERS }
         requires shelf { shelf < SHELVES }
         requires ready { (operations : List Op)
-            × MayBegin E.serves E.runs_on E.geometry_of E.errand_of E.events E.moved B.place_of B.need_of
-            (op.Take r shelf) engine.old operations self.old }
-        ensures begun { Begins E.serves E.runs_on E.geometry_of E.errand_of E.events E.moved B.place_of B.need_of
-            (op.Take r shelf) engine.old engine.new self.old self.new }
+            × MayBegin (op.Take r shelf) core.old operations self.old }
+        ensures begun { Begins (op.Take r shelf) core.old core.new self.old self.new }
     {
         if is_full(&self.registers, r) {
             return self.finish(Outcome::Skipped);
         }
-        engine.begin_take(self.caller, shelf);
+        core.begin_take(self.caller, shelf);
         self.stage = Stage::Calling;
     }
 
     /// Begins the write of word `next` of a full register's block, which is filled from `v` on.
-    pub(super) fn write_word<E: Engine<Held = B>>(
+    pub(super) fn write_word(
         &mut self,
-        engine: &mut E,
+        core: &mut Core,
         r: u16,
         v: u64,
         next: u32,
     )
-        requires serves { E.serves engine.old self.old.caller }
-        requires idle { IsIdle (E.errand_of engine.old self.old.caller) }
-        requires held { (block : B) × (slice_index_or self.old.registers.items r None ≡ Some block)
-            × OwnsAfter (E.events engine.old) self.old.caller (B.place_of block) (B.need_of block)
-            × (next < usable_words (B.need_of block)) }
+        requires serves { Serves core.old self.old.caller }
+        requires idle { IsIdle (errand_at core.old.errands self.old.caller) }
+        requires held { (block : Grip) × (slice_index_or self.old.registers.items r None ≡ Some block)
+            × OwnsAfter core.old.events self.old.caller block.place block.need
+            × (next < usable_words block.need) }
         requires register { r < length self.old.registers.items }
-        ensures called { (block : B) → slice_index_or self.old.registers.items r None ≡ Some block
-            → HasCalled E.serves E.runs_on E.geometry_of E.errand_of E.events E.moved self.old.caller
-            (write (B.place_of block) (B.need_of block) next ((v + next) % 2 ^ 64)) engine.old engine.new }
+        ensures called { (block : Grip) → slice_index_or self.old.registers.items r None ≡ Some block
+            → MovesCore core.old (begins self.old.caller (write block.place block.need next ((v + next) % 2 ^ 64))) core.new }
         ensures lane { self.new ≡ record self.old { stage = stage.Filling next } }
     {
-        if let Some(block) = &self.registers[usize::from(r)] {
-            engine.begin_write(self.caller, block, next, v.wrapping_add(u64::from(next)));
-        }
+        let Some(block) = &self.registers[usize::from(r)] else {
+            unreachable!()
+        };
+        let value = v.wrapping_add(u64::from(next));
+        core.begin_write(self.caller, block.place, block.need, next, value);
         self.stage = Stage::Filling { next };
     }
 
     /// Begins the read of word `next` of a full register's block, where those before it add up to
     /// `total`.
-    pub(super) fn read_word<E: Engine<Held = B>>(
+    pub(super) fn read_word(
         &mut self,
-        engine: &mut E,
+        core: &mut Core,
         r: u16,
         next: u32,
         total: u64,
     )
-        requires serves { E.serves engine.old self.old.caller }
-        requires idle { IsIdle (E.errand_of engine.old self.old.caller) }
-        requires held { (block : B) × (slice_index_or self.old.registers.items r None ≡ Some block)
-            × OwnsAfter (E.events engine.old) self.old.caller (B.place_of block) (B.need_of block)
-            × (next < usable_words (B.need_of block)) }
+        requires serves { Serves core.old self.old.caller }
+        requires idle { IsIdle (errand_at core.old.errands self.old.caller) }
+        requires held { (block : Grip) × (slice_index_or self.old.registers.items r None ≡ Some block)
+            × OwnsAfter core.old.events self.old.caller block.place block.need
+            × (next < usable_words block.need) }
         requires register { r < length self.old.registers.items }
-        ensures called { (block : B) → slice_index_or self.old.registers.items r None ≡ Some block
-            → HasCalled E.serves E.runs_on E.geometry_of E.errand_of E.events E.moved self.old.caller
-            (read (B.place_of block) (B.need_of block) next) engine.old engine.new }
+        ensures called { (block : Grip) → slice_index_or self.old.registers.items r None ≡ Some block
+            → MovesCore core.old (begins self.old.caller (read block.place block.need next)) core.new }
         ensures lane { self.new ≡ record self.old { stage = stage.Summing next total } }
     {
-        if let Some(block) = &self.registers[usize::from(r)] {
-            engine.begin_read(self.caller, block, next);
-        }
+        let Some(block) = &self.registers[usize::from(r)] else {
+            unreachable!()
+        };
+        core.begin_read(self.caller, block.place, block.need, next);
         self.stage = Stage::Summing { next, total };
     }
 }

@@ -6,11 +6,8 @@ use Rattle.lane_runner.proofs.run_core.run_some.Goals as goal
 pub loop-step-init : goal.loop-step-init
 loop-step-init g c = ran-none (g.G.Gate.passed c.args.gate.now) c.args.core.now c.args.operations.now c.args.lane.now c.requires.stands
 
-pub advance-requires-clause-serves : goal.advance-requires-clause-serves
-advance-requires-clause-serves g c = (c.loop-step.invariant.stands.core, c.loop-step.invariant.stands.has)
-
-pub advance-requires-clause-lane : goal.advance-requires-clause-lane
-advance-requires-clause-lane g c = c.loop-step.invariant.stands.stands
+pub advance-requires-clause-stands : goal.advance-requires-clause-stands
+advance-requires-clause-stands g c = c.loop-step.invariant.stands
 
 pub returns-then-not-branch-clause-ran : goal.returns-then-not-branch-clause-ran
 returns-then-not-branch-clause-ran g c =
@@ -18,9 +15,8 @@ returns-then-not-branch-clause-ran g c =
     let made = c.in_ok-advance.field-0 in
     let before = c.loop-step.invariant in
     let ran =
-    next-ran (g.G.Gate.passed c.args.gate.now) c.args.core.now c.loop-step.core c.advance.new.engine c.args.operations.now c.args.lane.now
-    c.loop-step.lane c.advance.new.self c.loop-step._step made before (now.serves c.loop-step.lane.caller (before.stands.core, before.stands.has))
-    now.geometry now.caller now.lane now.others now.advanced (λ is. now.ended (ap Ok is)) now.passed in
+    next-ran (g.G.Gate.passed c.args.gate.now) c.args.core.now c.loop-step.core c.advance.new.core c.args.operations.now c.args.lane.now
+    c.loop-step.lane c.advance.new.self c.loop-step._step made before now.advanced (λ is. now.ended (ap Ok is)) in
     let same : c.loop-step._step + (if made then 1 else 0) ≡ c.loop-step._step =
     ap (λ (b : Bool). c.loop-step._step + (if b then 1 else 0)) c.if-not-branch.true ∙ omega arith in
     let end = now.ended (ap Ok c.if-not-branch.true) in
@@ -37,11 +33,10 @@ loop-step-preserved g c =
     let made = c.in_ok-advance.field-0 in
     let before = c.loop-step.invariant in
     let ran =
-    next-ran (g.G.Gate.passed c.args.gate.now) c.args.core.now c.loop-step.core c.advance.new.engine c.args.operations.now c.args.lane.now
-    c.loop-step.lane c.advance.new.self c.loop-step._step made before (now.serves c.loop-step.lane.caller (before.stands.core, before.stands.has))
-    now.geometry now.caller now.lane now.others now.advanced (λ is. now.ended (ap Ok is)) now.passed in
+    next-ran (g.G.Gate.passed c.args.gate.now) c.args.core.now c.loop-step.core c.advance.new.core c.args.operations.now c.args.lane.now
+    c.loop-step.lane c.advance.new.self c.loop-step._step made before now.advanced (λ is. now.ended (ap Ok is)) in
     let P = λ (b : Bool).
-    HasRun (g.G.Gate.passed c.args.gate.now) c.args.core.now c.advance.new.engine c.args.operations.now c.args.lane.now c.advance.new.self
+    HasRun (g.G.Gate.passed c.args.gate.now) c.args.core.now c.advance.new.core c.args.operations.now c.args.lane.now c.advance.new.self
     (c.loop-step._step + (if b then 1 else 0)) in
     subst P c.if-not-branch.false ran
 

@@ -1,16 +1,8 @@
-use Rattle.std.proofs.Common.{◌<◌, ◌≡◌, ◌≢◌, ℕ, Some, None, refl, sym, ap, ◌∙◌, subst}
-use Rattle.std.specs.Prelude.{slice_set}
+use Rattle.std.proofs.Common.{◌<◌, ◌≡◌, Some, None, sym, ap, subst}
 use Rattle.std.specs.List.{slice_index_or}
-use Rattle.heap_geometry.specs.declared.need.Need.{Need}
-use Rattle.heap_geometry.specs.Need.{usable_words}
-use Rattle.errand_steps.specs.Calls.{alloc, free, put, take}
-use Rattle.errand_steps.specs.declared.reply.Reply.TheVariants as reply
-use Rattle.trace_text.specs.declared.trace.Op.{Op}
 use Rattle.trace_text.specs.declared.trace.Op.TheVariants as op
-use Rattle.lane_outcomes.specs.declared.outcome.Outcome.TheVariants as outcome
 use Rattle.lane_steps.specs.Made.{Skips}
-use Rattle.lane_steps.proofs.LaneBegun.{emptied-empty, slot-none, slot-some}
-use Rattle.lane_steps.proofs.LaneParts.{slot-empty, slot-full}
+use Rattle.lane_steps.proofs.LaneParts.{slot-empty}
 use Rattle.lane_steps.proofs.MadeLemmas.{made-fill, made-skip, slot-read}
 use Rattle.lane_steps.proofs.lane.LaneState.make_fill.Goals as goal
 

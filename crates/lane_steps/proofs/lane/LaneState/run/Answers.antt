@@ -1,4 +1,4 @@
-use Rattle.std.proofs.Common.{◌≡◌, ◌∷◌, ◌+◌, [], length, length-append, refl, ap, ◌∙◌}
+use Rattle.std.proofs.Common.{◌∷◌, ◌+◌, [], length, length-append, refl, ap, ◌∙◌}
 use Rattle.lane_steps.proofs.LaneNext.{gate-number, next-op, passed-more}
 use Rattle.lane_steps.proofs.MadeLemmas.{run-more}
 use Rattle.lane_steps.proofs.lane.LaneState.run.Goals as goal

@@ -1,0 +1,33 @@
+//! A block that a caller of a machine holds.
+
+ghost use Rattle.heap_geometry.specs.Need.{IsNeed};
+ghost use Rattle.step_core.specs.Needs.{IsNeed-prop};
+
+use crate::token::Token;
+use heap_geometry::need::{Need, usable};
+
+/// A block that a caller of a machine holds. `place` is the arena word of its prefix.
+#[derive(Debug, PartialEq, Eq, Drop)]
+pub struct Grip {
+    pub place: u32,
+    pub need: Need,
+    ghost is_need: { IsNeed need } by { IsNeed-prop need },
+}
+
+impl Token for Grip {
+    ghost place_of = { λ grip. grip.place };
+
+    ghost need_of = { λ grip. grip.need };
+
+    fn words(&self) -> u32 {
+        usable(self.need)
+    }
+
+    fn need(&self) -> Need {
+        self.need
+    }
+
+    fn place(&self) -> u32 {
+        self.place
+    }
+}
