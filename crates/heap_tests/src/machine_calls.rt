@@ -84,11 +84,7 @@ fn complete(
 }
 
 /// A take from its begin to its end; `None` where the shelf isn't there.
-fn take(
-    core: &mut Core,
-    caller: u32,
-    shelf: u8,
-) -> Result<Option<(u64, Stepped<Grip>)>, AllocError>
+fn take(core: &mut Core, caller: u32, shelf: u8) -> Result<Option<(u64, Stepped<Grip>)>, AllocError>
     requires caller { caller < core.old.geometry.callers }
     requires idle { IsIdle (errand_at core.old.errands caller) }
 {

@@ -1,9 +1,8 @@
 //! One lane of a trace, and how it goes on by one atomic step of a machine after another.
 
-ghost use Rattle.std.specs.Prelude.{ℕ, ◌≡◌, ◌≢◌, ◌<◌, ◌≤◌, ◌+◌, ◌-◌, ◌^◌, ◌↔◌, ◌++◌, ◌∷◌, [], None, Ok, IfOk, OnErr, All, length, min, true, false, replicate, IsTrue, List};
-ghost use Rattle.std.specs.Vec.{vec_len, vec_capacity};
+ghost use Rattle.std.specs.Prelude.{◌≡◌, ◌<◌, ◌-◌, ◌^◌, ◌↔◌, ◌++◌, ◌∷◌, [], None, Ok, IfOk, OnErr, All, length, min, false, replicate, IsTrue};
+ghost use Rattle.std.specs.Vec.{vec_capacity};
 ghost use Rattle.trace_text.specs.declared.limits.TheConstants.{REGISTERS};
-ghost use Rattle.trace_text.specs.declared.trace.Op.{Op};
 ghost use Rattle.trace_text.specs.Traces.{IsOp};
 ghost use Rattle.lane_steps.specs.declared.stage.Stage.TheVariants as stage;
 ghost use Rattle.lane_steps.specs.Advances.{AdvancesOn};

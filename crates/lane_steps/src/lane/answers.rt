@@ -1,6 +1,6 @@
 //! What a lane does by what a step came to.
 
-ghost use Rattle.std.specs.Prelude.{ℕ, ◌≡◌, ◌<◌, ◌≤◌, ◌+◌, ◌%◌, ◌^◌, ◌↔◌, List, Some, None, length, IsTrue};
+ghost use Rattle.std.specs.Prelude.{ℕ, ◌≡◌, ◌<◌, List, Some, None, length};
 ghost use Rattle.std.specs.List.{slice_index_or};
 ghost use Rattle.heap_geometry.specs.Need.{usable_words};
 ghost use Rattle.pool_model.specs.declared.event.Event.{Event};
@@ -72,16 +72,10 @@ impl LaneState<Grip> {
     }
 
     /// Goes on by what a step of the operation at hand came to.
-    pub(super) fn answer(
-        &mut self,
-        core: &mut Core,
-        operation: Op,
-        told: Stepped<Grip>,
-    )
+    pub(super) fn answer(&mut self, core: &mut Core, operation: Op, told: Stepped<Grip>)
         requires serves { Serves core.old self.old.caller }
         requires operation { IsOp operation }
-        requires ready { (seen : List Event) × (operations : List Op)
-            × MayAnswer operation told core.old seen operations self.old }
+        requires ready { (seen : List Event) × (operations : List Op) × MayAnswer operation told core.old seen operations self.old }
         ensures answered { Answers operation told core.old core.new self.old self.new }
     {
         match operation {
@@ -98,8 +92,7 @@ impl LaneState<Grip> {
     fn after_alloc(&mut self, core: &mut Core, r: u16, v: u64, told: Stepped<Grip>)
         requires serves { Serves core.old self.old.caller }
         requires register { r < REGISTERS }
-        requires ready { (need : ℕ) × (seen : List Event) × (operations : List Op)
-            × MayAnswer (op.Alloc r need v) told core.old seen operations self.old }
+        requires ready { (need : ℕ) × (seen : List Event) × (operations : List Op) × MayAnswer (op.Alloc r need v) told core.old seen operations self.old }
         ensures answered { (need : ℕ) → Answers (op.Alloc r need v) told core.old core.new self.old self.new }
     {
         match told {
@@ -124,8 +117,7 @@ impl LaneState<Grip> {
     /// A free.
     fn after_free(&mut self, _core: &mut Core, told: Stepped<Grip>)
         requires serves { Serves _core.old self.old.caller }
-        requires ready { (r : ℕ) × (seen : List Event) × (operations : List Op)
-            × MayAnswer (op.Free r) told _core.old seen operations self.old }
+        requires ready { (r : ℕ) × (seen : List Event) × (operations : List Op) × MayAnswer (op.Free r) told _core.old seen operations self.old }
         ensures answered { (r : ℕ) → Answers (op.Free r) told _core.old _core.new self.old self.new }
     {
         let Stepped::Freed = told else {
@@ -138,8 +130,7 @@ impl LaneState<Grip> {
     fn after_fill(&mut self, core: &mut Core, r: u16, v: u64, told: Stepped<Grip>)
         requires serves { Serves core.old self.old.caller }
         requires register { r < REGISTERS }
-        requires ready { (seen : List Event) × (operations : List Op)
-            × MayAnswer (op.Fill r v) told core.old seen operations self.old }
+        requires ready { (seen : List Event) × (operations : List Op) × MayAnswer (op.Fill r v) told core.old seen operations self.old }
         ensures answered { Answers (op.Fill r v) told core.old core.new self.old self.new }
     {
         let Stepped::Wrote = told else {
@@ -156,8 +147,7 @@ impl LaneState<Grip> {
     fn after_check(&mut self, core: &mut Core, r: u16, told: Stepped<Grip>)
         requires serves { Serves core.old self.old.caller }
         requires register { r < REGISTERS }
-        requires ready { (seen : List Event) × (operations : List Op)
-            × MayAnswer (op.Check r) told core.old seen operations self.old }
+        requires ready { (seen : List Event) × (operations : List Op) × MayAnswer (op.Check r) told core.old seen operations self.old }
         ensures answered { Answers (op.Check r) told core.old core.new self.old self.new }
     {
         let Stepped::Word(word) = told else {
@@ -175,8 +165,7 @@ impl LaneState<Grip> {
     fn after_put(&mut self, _core: &mut Core, r: u16, told: Stepped<Grip>)
         requires serves { Serves _core.old self.old.caller }
         requires register { r < REGISTERS }
-        requires ready { (shelf : ℕ) × (seen : List Event) × (operations : List Op)
-            × MayAnswer (op.Put r shelf) told _core.old seen operations self.old }
+        requires ready { (shelf : ℕ) × (seen : List Event) × (operations : List Op) × MayAnswer (op.Put r shelf) told _core.old seen operations self.old }
         ensures answered { (shelf : ℕ) → Answers (op.Put r shelf) told _core.old _core.new self.old self.new }
     {
         match told {
@@ -190,18 +179,11 @@ impl LaneState<Grip> {
     }
 
     /// A take: one that missed the shelf's block is tried again.
-    fn after_take(
-        &mut self,
-        core: &mut Core,
-        r: u16,
-        shelf: u8,
-        told: Stepped<Grip>,
-    )
+    fn after_take(&mut self, core: &mut Core, r: u16, shelf: u8, told: Stepped<Grip>)
         requires serves { Serves core.old self.old.caller }
         requires register { r < REGISTERS }
         requires shelf { shelf < SHELVES }
-        requires ready { (seen : List Event) × (operations : List Op)
-            × MayAnswer (op.Take r shelf) told core.old seen operations self.old }
+        requires ready { (seen : List Event) × (operations : List Op) × MayAnswer (op.Take r shelf) told core.old seen operations self.old }
         ensures answered { Answers (op.Take r shelf) told core.old core.new self.old self.new }
     {
         match told {

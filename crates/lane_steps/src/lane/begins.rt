@@ -30,8 +30,7 @@ impl LaneState<Grip> {
     pub(super) fn begin(&mut self, core: &mut Core, operation: Op)
         requires serves { Serves core.old self.old.caller }
         requires operation { IsOp operation }
-        requires ready { (operations : List Op)
-            × MayBegin operation core.old operations self.old }
+        requires ready { (operations : List Op) × MayBegin operation core.old operations self.old }
         ensures begun { Begins operation core.old core.new self.old self.new }
     {
         match operation {
@@ -49,8 +48,7 @@ impl LaneState<Grip> {
         requires serves { Serves core.old self.old.caller }
         requires register { r < REGISTERS }
         requires need { need ≤ LARGE_MOST }
-        requires ready { (v : ℕ) × (operations : List Op)
-            × MayBegin (op.Alloc r need v) core.old operations self.old }
+        requires ready { (v : ℕ) × (operations : List Op) × MayBegin (op.Alloc r need v) core.old operations self.old }
         ensures begun { (v : ℕ) → Begins (op.Alloc r need v) core.old core.new self.old self.new }
     {
         if is_full(&self.registers, r) {
@@ -67,8 +65,7 @@ impl LaneState<Grip> {
     fn begin_free(&mut self, core: &mut Core, r: u16)
         requires serves { Serves core.old self.old.caller }
         requires register { r < REGISTERS }
-        requires ready { (operations : List Op)
-            × MayBegin (op.Free r) core.old operations self.old }
+        requires ready { (operations : List Op) × MayBegin (op.Free r) core.old operations self.old }
         ensures begun { Begins (op.Free r) core.old core.new self.old self.new }
     {
         let Some(block) = take_out(&mut self.registers, r) else {
@@ -82,8 +79,7 @@ impl LaneState<Grip> {
     fn begin_fill(&mut self, core: &mut Core, r: u16, v: u64)
         requires serves { Serves core.old self.old.caller }
         requires register { r < REGISTERS }
-        requires ready { (operations : List Op)
-            × MayBegin (op.Fill r v) core.old operations self.old }
+        requires ready { (operations : List Op) × MayBegin (op.Fill r v) core.old operations self.old }
         ensures begun { Begins (op.Fill r v) core.old core.new self.old self.new }
     {
         if is_full(&self.registers, r) {
@@ -97,8 +93,7 @@ impl LaneState<Grip> {
     fn begin_check(&mut self, core: &mut Core, r: u16)
         requires serves { Serves core.old self.old.caller }
         requires register { r < REGISTERS }
-        requires ready { (operations : List Op)
-            × MayBegin (op.Check r) core.old operations self.old }
+        requires ready { (operations : List Op) × MayBegin (op.Check r) core.old operations self.old }
         ensures begun { Begins (op.Check r) core.old core.new self.old self.new }
     {
         if is_full(&self.registers, r) {
@@ -113,8 +108,7 @@ impl LaneState<Grip> {
         requires serves { Serves core.old self.old.caller }
         requires register { r < REGISTERS }
         requires shelf { shelf < SHELVES }
-        requires ready { (operations : List Op)
-            × MayBegin (op.Put r shelf) core.old operations self.old }
+        requires ready { (operations : List Op) × MayBegin (op.Put r shelf) core.old operations self.old }
         ensures begun { Begins (op.Put r shelf) core.old core.new self.old self.new }
     {
         let Some(block) = take_out(&mut self.registers, r) else {
@@ -129,8 +123,7 @@ impl LaneState<Grip> {
         requires serves { Serves core.old self.old.caller }
         requires register { r < REGISTERS }
         requires shelf { shelf < SHELVES }
-        requires ready { (operations : List Op)
-            × MayBegin (op.Take r shelf) core.old operations self.old }
+        requires ready { (operations : List Op) × MayBegin (op.Take r shelf) core.old operations self.old }
         ensures begun { Begins (op.Take r shelf) core.old core.new self.old self.new }
     {
         if is_full(&self.registers, r) {
@@ -141,13 +134,7 @@ impl LaneState<Grip> {
     }
 
     /// Begins the write of word `next` of a full register's block, which is filled from `v` on.
-    pub(super) fn write_word(
-        &mut self,
-        core: &mut Core,
-        r: u16,
-        v: u64,
-        next: u32,
-    )
+    pub(super) fn write_word(&mut self, core: &mut Core, r: u16, v: u64, next: u32)
         requires serves { Serves core.old self.old.caller }
         requires idle { IsIdle (errand_at core.old.errands self.old.caller) }
         requires held { (block : Grip) × (slice_index_or self.old.registers.items r None ≡ Some block)
@@ -168,13 +155,7 @@ impl LaneState<Grip> {
 
     /// Begins the read of word `next` of a full register's block, where those before it add up to
     /// `total`.
-    pub(super) fn read_word(
-        &mut self,
-        core: &mut Core,
-        r: u16,
-        next: u32,
-        total: u64,
-    )
+    pub(super) fn read_word(&mut self, core: &mut Core, r: u16, next: u32, total: u64)
         requires serves { Serves core.old self.old.caller }
         requires idle { IsIdle (errand_at core.old.errands self.old.caller) }
         requires held { (block : Grip) × (slice_index_or self.old.registers.items r None ≡ Some block)
