@@ -1,5 +1,5 @@
 -- A call of a pass that was interrupted, and goes on to its end.
-use Rattle.std.proofs.Common.{ℕ, ◌≡◌, ◌≢◌, ◌⊎◌, ◌∷◌, List, [], inl, inr, refl, sym, ap, subst}
+use Rattle.std.proofs.Common.{ℕ, ◌≡◌, ◌∷◌, List, [], inl, inr, refl, sym, ap, subst}
 use Rattle.std.proofs.lemmas.Option.{none-some}
 use Rattle.heap_geometry.specs.declared.need.Need.{Need}
 use Rattle.errand_steps.specs.declared.reply.Reply.{Reply}
@@ -10,7 +10,7 @@ use Rattle.live_heap.specs.declared.answers.Resumed.{Resumed}
 use Rattle.live_heap.specs.declared.answers.Resumed.TheVariants as resumed
 use Rattle.live_heap.specs.declared.block.Block.{Block}
 use Rattle.live_heap.specs.declared.pass.Pass.{Pass}
-use Rattle.live_heap.specs.Answers.{AllocTells, IsResumable, IsSpentAtOnce, ResumeTells}
+use Rattle.live_heap.specs.Answers.{AllocTells, IsResumable, ResumeTells}
 use Rattle.live_heap.specs.declared.answers.AllocAnswer.TheVariants as answer
 use Rattle.live_heap.specs.Calls.{IsCalling}
 use Rattle.live_heap.specs.Made.{LeadsBy, Made}

@@ -30,7 +30,6 @@ use Rattle.sound_state.proofs.shared.SumLemmas.{term-sum}
 use Rattle.sound_state.proofs.wins.CountLemmas.{count-append}
 use Rattle.step_core.specs.Cores.{CoreFields, IsCore, errand_at, state_of}
 use Rattle.step_core.specs.Openings.{IsOpened}
-use Rattle.lane_engine.specs.Machines.{MovesCore}
 use Rattle.lane_engine.specs.declared.grip.Grip.{Grip}
 use Rattle.lane_outcomes.specs.declared.outcome.Outcome.{Outcome}
 use Rattle.lane_outcomes.specs.Fits.{Fits, LanesFit}

@@ -11,7 +11,6 @@ use Rattle.sound_state.specs.Runs.{Move}
 use Rattle.errand_steps.specs.Steps.{State}
 use Rattle.heap_geometry.specs.declared.geometry.Geometry.{Geometry}
 use Rattle.step_core.specs.Cores.{CoreFields, state_of}
-use Rattle.lane_engine.specs.Machines.{MovesCore}
 use Rattle.lane_engine.specs.declared.grip.Grip.{Grip}
 use Rattle.lane_steps.specs.declared.lane.LaneState.{LaneState}
 use Rattle.lane_steps.specs.Begun.{calls_of}

@@ -3,20 +3,17 @@ use Rattle.std.proofs.Common.{ℕ, suc, ◌≡◌, ◌<◌, ◌≤◌, ◌+◌, 
 use Rattle.std.proofs.lemmas.List.{get_or_append_left, get_or_push, length-append}
 use Rattle.crossbeam_utils.specs.declared.cache_padded.CachePadded.{CachePadded}
 use Rattle.crossbeam_utils.specs.Padded.{padded_value}
-use Rattle.trace_text.specs.declared.trace.Op.{Op}
 use Rattle.trace_text.specs.declared.trace.Trace.{Trace}
 use Rattle.lane_outcomes.specs.declared.outcome.Outcome.{Outcome}
 use Rattle.live_heap.specs.declared.block.Block.{Block}
 use Rattle.live_heap.specs.declared.heap.Heap.{Heap}
 use Rattle.live_heap.specs.declared.pass.Pass.{Pass}
-use Rattle.live_heap.specs.Passes.{AreFrom, IsFresh, IsOf, seen}
+use Rattle.live_heap.specs.Passes.{AreFrom, IsFresh}
 use Rattle.lane_steps.specs.declared.lane.LaneState.{LaneState}
 use Rattle.lane_runner.specs.declared.run_lanes.LaneThread.{LaneThread}
-use Rattle.lane_steps.specs.declared.stage.Stage.TheVariants as stage
-use Rattle.lane_steps.specs.Paths.{FirstPassed, begun_count}
 use Rattle.lane_runner.specs.Running.{operations_in}
-use Rattle.lane_steps.specs.States.{IsLaneOf, IsNew}
-use Rattle.lane_runner.specs.Threads.{AreDone, AreEnded, AreReady, HasEndedOver, HasRunOver, IsDone, IsReady, StandsOver}
+use Rattle.lane_steps.specs.States.{IsNew}
+use Rattle.lane_runner.specs.Threads.{AreDone, AreEnded, AreReady, HasEndedOver, IsDone, IsReady}
 use Rattle.lane_runner.proofs.ThreadLemmas.{done-ended, down-pop, down-push, ended-push, from-pop, ready}
 
 -- new lanes, each with its number

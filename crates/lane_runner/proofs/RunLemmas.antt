@@ -1,5 +1,5 @@
 -- Advances of one lane on a machine, one after another.
-use Rattle.std.proofs.Common.{drop, ℕ, ◌≡◌, ◌≢◌, ◌<◌, ◌+◌, ◌==◌, Bool, true, false, cond, if◌then◌else◌, List, [], ◌∷◌, ◌++◌, length, refl, sym, ap, ◌∙◌, subst, inl, inr, arith, append_assoc}
+use Rattle.std.proofs.Common.{drop, ℕ, ◌≡◌, ◌<◌, ◌+◌, Bool, true, false, if◌then◌else◌, List, [], ◌∷◌, ◌++◌, length, refl, sym, ap, ◌∙◌, subst, inl, inr, arith, append_assoc}
 use Rattle.std.specs.Prelude.{All, count_by}
 use Rattle.std.proofs.lemmas.List.{append-nil}
 use Rattle.std.proofs.lemmas.List.Elements.{All-nil, All-append}
@@ -9,14 +9,12 @@ use Rattle.pool_model.specs.declared.event.Event.{Event}
 use Rattle.pool_model.specs.Histories.{own}
 use Rattle.trace_text.specs.declared.trace.Op.{Op}
 use Rattle.errand_steps.specs.Begins.{IsIdle}
-use Rattle.errand_steps.specs.Calls.{Call, take as take_call}
+use Rattle.errand_steps.specs.Calls.{take as take_call}
 use Rattle.pool_model.proofs.HistoryLemmas.{own-append as own-both}
-use Rattle.sound_state.proofs.wins.CountLemmas.{count-append}
 use Rattle.sound_state.specs.Moves.{is_step}
 use Rattle.sound_state.specs.Runs.{Move, begins, steps}
-use Rattle.step_core.specs.Cores.{CoreFields, IsCore, errand_at}
+use Rattle.step_core.specs.Cores.{CoreFields, errand_at}
 use Rattle.step_core.specs.Moments.{HasSeenMore}
-use Rattle.lane_engine.specs.Machines.{MovesCore}
 use Rattle.lane_engine.specs.declared.grip.Grip.{Grip}
 use Rattle.lane_steps.specs.declared.lane.LaneState.{LaneState}
 use Rattle.lane_steps.specs.declared.stage.Stage.TheVariants as stage
@@ -24,7 +22,7 @@ use Rattle.lane_steps.specs.Begun.{calls_of}
 use Rattle.lane_runner.specs.Driven.{steppers_of}
 use Rattle.lane_steps.specs.Lanes.{IsAt}
 use Rattle.lane_steps.specs.Paths.{IsBy, Leads, FirstPassed, HasAdvanced, begun_count}
-use Rattle.lane_runner.specs.Running.{HasEnded, HasPassed, HasRun, IsOnScriptOf}
+use Rattle.lane_runner.specs.Running.{HasEnded, HasRun, IsOnScriptOf}
 use Rattle.lane_steps.specs.Advances.{AdvancesOn}
 use Rattle.lane_steps.specs.Scripts.{script_left}
 use Rattle.lane_steps.proofs.AdvanceLemmas.{calls-append, leads-append, steps-append}

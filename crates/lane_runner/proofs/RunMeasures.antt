@@ -52,7 +52,6 @@ use Rattle.sound_state.proofs.endings.RunsAlone.{alone-below}
 use Rattle.sound_state.proofs.endings.StaleLemmas.{none-stale}
 use Rattle.step_core.specs.Cores.{CoreFields, IsCore, errand_at, state_of}
 use Rattle.step_core.proofs.CoreLemmas.{core-sound}
-use Rattle.lane_engine.specs.Machines.{MovesCore}
 use Rattle.lane_engine.specs.declared.grip.Grip.{Grip}
 use Rattle.lane_outcomes.specs.declared.outcome.Outcome.{Outcome}
 use Rattle.lane_outcomes.specs.declared.registers.Held.{Held}
@@ -62,7 +61,7 @@ use Rattle.lane_steps.specs.declared.stage.Stage.{Stage}
 use Rattle.lane_steps.specs.declared.stage.Stage.TheVariants as stage
 use Rattle.lane_steps.specs.Lanes.{IsAt}
 use Rattle.lane_steps.specs.Operations.{IsDoing}
-use Rattle.lane_steps.specs.Paths.{Leads, HasAdvanced, StaysInCall}
+use Rattle.lane_steps.specs.Paths.{Leads, StaysInCall}
 use Rattle.lane_steps.specs.Scripts.{script_left}
 use Rattle.lane_steps.specs.Advances.{AdvancesOn}
 use Rattle.lane_steps.specs.States.{StandsOn, progress_on}

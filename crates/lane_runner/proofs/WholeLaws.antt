@@ -5,7 +5,7 @@ use Rattle.std.specs.List.{slice_index_or}
 use Rattle.std.proofs.lemmas.List.{length-append, length-set}
 use Rattle.std.proofs.Math.Seq.{drop-nil}
 use Rattle.heap_geometry.specs.declared.need.Need.{Need}
-use Rattle.heap_geometry.specs.Need.{need_of, usable_words}
+use Rattle.heap_geometry.specs.Need.{need_of}
 use Rattle.pool_model.specs.Pool.{pool_of}
 use Rattle.errand_steps.specs.Calls.{Call, alloc, free, write, read, put, begun_by}
 use Rattle.errand_steps.specs.declared.reply.Offer.{Offer}

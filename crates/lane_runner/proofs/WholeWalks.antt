@@ -15,7 +15,7 @@ use Rattle.live_heap.specs.declared.heap.Heap.{Heap}
 use Rattle.live_heap.specs.declared.pass.Pass.{Pass}
 use Rattle.live_heap.specs.Calls.{HasCalled}
 use Rattle.live_heap.specs.Passes.{IsOf, seen}
-use Rattle.live_heap.specs.Whole.{IsAtRest, MadeByPass, OwnsFor, by_steps, at_once}
+use Rattle.live_heap.specs.Whole.{IsAtRest, MadeByPass, by_steps, at_once}
 use Rattle.live_heap.proofs.LawsServed.{pass-served}
 use Rattle.trace_text.specs.declared.limits.TheConstants.{REGISTERS}
 use Rattle.trace_text.specs.declared.trace.Op.{Op}

@@ -10,7 +10,6 @@ use Rattle.sound_state.specs.Moves.{is_step}
 use Rattle.sound_state.specs.Runs.{Move, begins, steps}
 use Rattle.step_core.specs.Cores.{CoreFields, IsCore, errand_at, state_of}
 use Rattle.step_core.specs.Moments.{HasSeenMore}
-use Rattle.lane_engine.specs.Machines.{MovesCore}
 use Rattle.lane_engine.specs.declared.grip.Grip.{Grip}
 use Rattle.lane_steps.specs.declared.lane.LaneState.{LaneState}
 use Rattle.lane_steps.specs.declared.stage.Stage.TheVariants as stage

@@ -1,5 +1,4 @@
-use Rattle.std.proofs.Common.{refl, sym, ap, ◌∙◌, subst}
-use Rattle.heap_geometry.specs.declared.need.Need.{Need}
+use Rattle.std.proofs.Common.{refl, ap, subst}
 use Rattle.live_heap.specs.declared.block.Block.{Block}
 use Rattle.live_heap.specs.Passes.{Owns}
 use Rattle.live_heap.specs.Whole.{by_steps}
