@@ -78,7 +78,7 @@ impl Heap {
         }
     }
 
-    /// The same by strides.
+    /// The free by strides, from its first point.
     #[inline(always)]
     fn free_straight(
         &self,
@@ -187,7 +187,7 @@ impl Heap {
         }
     }
 
-    /// The same by strides.
+    /// The allocation by strides, from its first point.
     #[inline(always)]
     fn alloc_straight(
         &self,
