@@ -12,3 +12,5 @@ pub mod ChosenLemmas
 pub mod RefusalLemmas
 pub mod AnswerLemmas
 pub mod CapacityLemmas
+pub mod OwnedLemmas
+pub mod ParcelLemmas

@@ -8,3 +8,5 @@ pub mod Plain
 pub mod Answers
 pub mod Stored
 pub mod Search
+pub mod Owned
+pub mod Parcels

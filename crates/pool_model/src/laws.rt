@@ -11,6 +11,8 @@ ghost use Rattle.pool_model.specs.declared.owner.Owner.TheVariants.{Caller, Shel
 ghost use Rattle.pool_model.specs.Histories.{own};
 ghost use Rattle.pool_model.specs.Pool.{Block, block_at, EachBlock, span_of, pool_of, pool_after, live_words};
 ghost use Rattle.pool_model.specs.Legal.{IsLegal, IsLegalEvent, IsLegalWithoutCounts, IsLegalEventWithoutCounts};
+ghost use Rattle.pool_model.specs.Owned.{owned_at};
+ghost use Rattle.pool_model.specs.Parcels.{lying_on, puts_on, takes_off};
 ghost use Rattle.pool_model.specs.WellFormed.{IsWellFormed, IsSeparate};
 ghost use Rattle.pool_model.specs.Counts.{is_alloc, is_free};
 
@@ -57,12 +59,24 @@ pub fn histories_grow_by_events()
         → IsLegal g history → IsLegalWithoutCounts g history }
 {}
 
-/// Only the events of its owner change a caller's block.
-pub fn only_its_owner_changes_a_block()
-    ensures { (g : Geometry) (history rest : List Event) (caller place : ℕ) (block : Block)
+/// Where a caller has no event, all that it owns stays as it is, contents and all, and nothing comes to it.
+pub fn others_leave_a_callers_blocks()
+    ensures all { (g : Geometry) (history rest : List Event) (caller place : ℕ)
+        → IsLegalWithoutCounts g (history ++ rest) → own caller rest ≡ []
+        → owned_at caller place (pool_of (history ++ rest)) ≡ owned_at caller place (pool_of history) }
+    ensures one { (g : Geometry) (history rest : List Event) (caller place : ℕ) (block : Block)
         → IsLegalWithoutCounts g (history ++ rest) → own caller rest ≡ []
         → block_at place (pool_of history) ≡ Some block → block.owner ≡ Caller caller
         → block_at place (pool_of (history ++ rest)) ≡ Some block }
+{}
+
+/// Blocks leave a shelf in the order in which they were put there, each with what it contained then; what
+/// was put there and not taken lies there still, and that is one block at most.
+pub fn shelves_keep_order()
+    ensures order { (g : Geometry) (history : List Event) (shelf : ℕ) → IsLegalWithoutCounts g history
+        → puts_on shelf history ≡ takes_off shelf history ++ lying_on shelf (pool_of history) }
+    ensures one { (g : Geometry) (history : List Event) (shelf : ℕ) → IsLegalWithoutCounts g history
+        → length (lying_on shelf (pool_of history)) ≤ 1 }
 {}
 
 /// How many blocks and words are live follows from the events.
