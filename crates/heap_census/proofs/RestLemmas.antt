@@ -28,8 +28,8 @@ use Rattle.sound_state.specs.Superblocks.{info_for, info_or_zero, anchor_for, er
 use Rattle.sound_state.proofs.CountedLemmas.{without-counts}
 use Rattle.sound_state.specs.Sums.{callers_sum}
 use Rattle.sound_state.proofs.shared.StackedLemmas.{stacked-same}
-use Rattle.live_heap.specs.Endings.{ClosedFields, IsResting}
-use Rattle.live_heap.proofs.LawsClosed.{closed-sound}
+use Rattle.step_core.proofs.CoreLemmas.{core-sound}
+use Rattle.live_heap.specs.Endings.{ClosedFields, IsResting, machine_of}
 use Rattle.heap_census.specs.Census.{closed_state, has_class, active_in, offers}
 use Rattle.heap_census.proofs.IdleLemmas.{Rests}
 
@@ -46,7 +46,7 @@ info-class g s l d rests has =
 -- a closed heap does, with some lists
 pub closed-rests : (c : ClosedFields) → IsResting c → (l : Lists) × Rests c.geometry (closed_state c) l
 closed-rests c resting =
-    let sound = without-counts c.geometry (closed_state c) (closed-sound c resting) in
+    let sound = without-counts c.geometry (closed_state c) (core-sound (machine_of c resting.steps) resting.core) in
     (sound.parts.0, record { sound = sound; parts = sound.parts.1; idle = resting.idle })
 
 -- the lists of a heap are one each, so what they say is

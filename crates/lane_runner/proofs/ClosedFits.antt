@@ -15,6 +15,7 @@ use Rattle.sound_state.specs.Contention.{lost_of}
 use Rattle.sound_state.specs.Sums.{callers_sum}
 use Rattle.sound_state.proofs.shared.SumLemmas.{term-sum}
 use Rattle.step_core.specs.Cores.{errand_at}
+use Rattle.step_core.proofs.CoreLemmas.{core-sound}
 use Rattle.step_core.specs.Moments.{HasSeenMore}
 use Rattle.trace_text.specs.declared.trace.Op.{Op}
 use Rattle.trace_text.specs.declared.trace.Trace.{Trace}
@@ -27,9 +28,8 @@ use Rattle.lane_outcomes.specs.Rows.{Setting}
 use Rattle.lane_outcomes.specs.Standing.{setting_in}
 use Rattle.live_heap.specs.declared.heap.Heap.{Heap}
 use Rattle.live_heap.specs.declared.pass.Pass.{Pass}
-use Rattle.live_heap.specs.Endings.{ClosedFields, HasClosed, HasTakenIn, IsResting}
+use Rattle.live_heap.specs.Endings.{ClosedFields, HasClosed, HasTakenIn, IsResting, machine_of}
 use Rattle.live_heap.specs.Passes.{seen}
-use Rattle.live_heap.proofs.LawsClosed.{closed-legal}
 use Rattle.lane_steps.specs.declared.stage.Stage.TheVariants as stage
 use Rattle.lane_runner.specs.Running.{operations_in}
 use Rattle.lane_runner.specs.Threads.{HasEndedOver, HaveRun}
@@ -103,7 +103,7 @@ module _ (trace : Trace) (h : Heap) (passes : List Pass) (outcomes : List (List 
   lost_by = callers_sum c.geometry lost_of (errand_at c.errands)
 
   legal : IsLegal c.geometry c.events
-  legal = closed-legal c rests
+  legal = (core-sound (machine_of c rests.steps) rests.core).legal
 
   taken : (k : ℕ) (p : Pass) → k < length passes → p ≡ get_or passes k p → HasTakenIn c p
   taken k p lt there = subst (HasTakenIn c) (sym there) (All-get_or (HasTakenIn c) passes k p lt closed.each)

@@ -20,8 +20,7 @@ use Rattle.lane_runner.specs.Threads.{HaveRun}
 use Rattle.lane_runner.proofs.ClosedFits.{closed-fit}
 use Rattle.live_heap.specs.declared.heap.Heap.{Heap}
 use Rattle.live_heap.specs.declared.pass.Pass.{Pass}
-use Rattle.live_heap.specs.Endings.{ClosedFields, HasClosed, IsResting}
-use Rattle.live_heap.proofs.LawsClosed.{closed-legal}
+use Rattle.live_heap.specs.Endings.{ClosedFields, HasClosed, IsResting, machine_of}
 use Rattle.lane_outcomes.specs.LaneCounts.{as_one}
 use Rattle.roomy_traces.specs.Serial.{left_by, serial_outcomes, serial_report_of}
 use Rattle.roomy_traces.proofs.ReportLemmas.{live-left, one-report}
@@ -57,7 +56,7 @@ shared-run passed trace h passes closed outcomes named laid run has_closed rests
     record {
       heap = has_closed.heap ∙ laid;
       fit = closed-fit trace h passes outcomes closed named laid run has_closed rests;
-      legal = let P : Geometry → Type 0 = λ g. IsLegal g closed.events in subst P (has_closed.heap ∙ laid) (closed-legal closed rests);
+      legal = let P : Geometry → Type 0 = λ g. IsLegal g closed.events in subst P (has_closed.heap ∙ laid) (core-sound (machine_of closed rests.steps) rests.core).legal;
       all_passed = all_passed;
       kept_so = record { rests = rests; heap = h; laid = laid; passes = passes; ran = run; closed = has_closed };
     }
