@@ -6,6 +6,7 @@ pub mod EndLemmas
 pub mod EventLists
 pub mod LargeEvents
 pub mod LeadsDefs
+pub mod MadeLemmas
 pub mod OfferLemmas
 pub mod PartEvents
 pub mod SoFarLemmas

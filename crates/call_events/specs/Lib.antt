@@ -1,3 +1,4 @@
 pub mod Ends
 pub mod Stages
 pub mod UnderWay
+pub mod Made

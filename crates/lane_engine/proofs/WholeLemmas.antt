@@ -13,7 +13,7 @@ use Rattle.live_heap.specs.declared.pass.Pass.{Pass}
 use Rattle.live_heap.specs.Answers.{AllocTells, IsResumable, ResumeTells}
 use Rattle.live_heap.specs.declared.answers.AllocAnswer.TheVariants as answer
 use Rattle.live_heap.specs.Calls.{IsCalling}
-use Rattle.live_heap.specs.Made.{LeadsBy, Made}
+use Rattle.call_events.specs.Made.{LeadsBy, Made}
 use Rattle.live_heap.specs.Whole.{HasEndedCall, IsWhole, MadeByPass, by_steps, at_once, ResumesTo}
 use Rattle.live_heap.specs.Words.{CallsOnWord}
 use Rattle.live_heap.proofs.MadeLemmas.{word-whole}

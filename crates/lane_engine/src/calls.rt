@@ -9,7 +9,7 @@ ghost use Rattle.errand_steps.specs.declared.reply.Reply.TheVariants as reply;
 ghost use Rattle.errand_steps.specs.Calls.{Call, alloc, free, put, take};
 ghost use Rattle.step_core.specs.Keeping.{Leaves};
 ghost use Rattle.lane_engine.specs.Whole.{PutTells, TakeTells, allocated_as};
-ghost use Rattle.live_heap.specs.Made.{LeadsBy, Sums, wrote};
+ghost use Rattle.call_events.specs.Made.{LeadsBy, Sums, wrote};
 ghost use Rattle.live_heap.specs.Whole.{Hands};
 
 use crate::token::Token;

@@ -23,7 +23,7 @@ use Rattle.trace_text.specs.declared.limits.TheConstants.{REGISTERS}
 use Rattle.trace_text.specs.declared.trace.Op.{Op}
 use Rattle.trace_text.specs.declared.trace.Op.TheVariants as op
 use Rattle.trace_text.specs.Traces.{IsOp}
-use Rattle.live_heap.specs.Made.{LeadsBy, Made, answered, found_from, wrote}
+use Rattle.call_events.specs.Made.{LeadsBy, Made, answered, found_from, wrote}
 use Rattle.lane_engine.specs.declared.over_pass.PassCalls.{PassCalls}
 use Rattle.lane_engine.specs.declared.stepped.Stepped.TheVariants as stepped
 use Rattle.lane_outcomes.specs.declared.registers.Held.{Held}

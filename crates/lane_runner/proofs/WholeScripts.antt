@@ -17,7 +17,7 @@ use Rattle.live_heap.specs.declared.heap.Heap.{Heap}
 use Rattle.live_heap.specs.declared.pass.Pass.{Pass}
 use Rattle.live_heap.specs.Passes.{seen}
 use Rattle.live_heap.specs.Whole.{IsAtRest}
-use Rattle.live_heap.specs.Made.{LeadsBy, Made, answered, found_from, wrote}
+use Rattle.call_events.specs.Made.{LeadsBy, Made, answered, found_from, wrote}
 use Rattle.lane_outcomes.specs.declared.registers.Held.{Held}
 use Rattle.lane_outcomes.specs.declared.outcome.Outcome.{Outcome}
 use Rattle.lane_outcomes.specs.declared.outcome.Outcome.TheVariants as outcome

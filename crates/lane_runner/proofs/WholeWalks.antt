@@ -20,7 +20,7 @@ use Rattle.live_heap.proofs.LawsServed.{pass-served}
 use Rattle.trace_text.specs.declared.limits.TheConstants.{REGISTERS}
 use Rattle.trace_text.specs.declared.trace.Op.{Op}
 use Rattle.trace_text.specs.declared.trace.Op.TheVariants as op
-use Rattle.live_heap.specs.Made.{LeadsBy, Made, answered, found_from}
+use Rattle.call_events.specs.Made.{LeadsBy, Made, answered, found_from}
 use Rattle.lane_engine.specs.declared.stepped.Stepped.TheVariants as stepped
 use Rattle.lane_outcomes.specs.declared.registers.Held.{Held}
 use Rattle.lane_outcomes.specs.declared.outcome.Outcome.{Outcome}

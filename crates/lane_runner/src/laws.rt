@@ -14,7 +14,7 @@ ghost use Rattle.step_core.specs.Cores.{errand_at};
 ghost use Rattle.live_heap.specs.declared.heap.Heap.{Heap};
 ghost use Rattle.live_heap.specs.declared.pass.Pass.{Pass};
 ghost use Rattle.live_heap.specs.Endings.{ClosedFields, HasClosed, IsResting};
-ghost use Rattle.live_heap.specs.Made.{LeadsBy, Made};
+ghost use Rattle.call_events.specs.Made.{LeadsBy, Made};
 ghost use Rattle.lane_steps.specs.Made.{calls_made};
 ghost use Rattle.lane_steps.specs.Scripts.{Scripts};
 ghost use Rattle.lane_runner.specs.Shared.{IsShared};

@@ -18,7 +18,7 @@ use Rattle.errand_steps.specs.declared.point.Point.{Point}
 use Rattle.errand_steps.specs.Calls as call
 use Rattle.call_events.specs.UnderWay.{IsUnderWay}
 use Rattle.step_core.specs.Moments.{HasSeenMore}
-use Rattle.live_heap.proofs.MadeLemmas.{sum-one}
+use Rattle.call_events.proofs.MadeLemmas.{sum-one}
 use Rattle.lane_outcomes.specs.declared.registers.Held.{Held}
 use Rattle.lane_outcomes.specs.Rows.{IsSumOf, IsWord}
 use Rattle.lane_outcomes.specs.Standing.{OwnsHeld}

@@ -5,7 +5,6 @@ pub mod Going
 pub mod Hands
 pub mod Holdings
 pub mod Linked
-pub mod Made
 pub mod Passes
 pub mod Refusals
 pub mod Rule

@@ -3,7 +3,7 @@
 ghost use Rattle.heap_geometry.specs.Need.{usable_words};
 ghost use Rattle.errand_steps.specs.Begins.{IsIdle};
 ghost use Rattle.live_heap.specs.declared.block.Block.{Block};
-ghost use Rattle.live_heap.specs.Made.{LeadsBy, Sums, wrote};
+ghost use Rattle.call_events.specs.Made.{LeadsBy, Sums, wrote};
 ghost use Rattle.live_heap.specs.Passes.{IsOf, Owns};
 ghost use Rattle.live_heap.specs.Words.{CallsOnWord};
 

@@ -1,5 +1,5 @@
 use Rattle.heap_geometry.specs.Need.{usable_words}
-use Rattle.live_heap.specs.Made.{wrote}
+use Rattle.call_events.specs.Made.{wrote}
 use Rattle.lane_engine.proofs.WholeLemmas.{words-lead}
 use Rattle.lane_engine.proofs.over_pass.PassCallsCalls.fill.Goals as goal
 

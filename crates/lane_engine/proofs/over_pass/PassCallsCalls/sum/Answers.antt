@@ -1,4 +1,4 @@
-use Rattle.live_heap.specs.Made.{found_from}
+use Rattle.call_events.specs.Made.{found_from}
 use Rattle.lane_engine.proofs.WholeLemmas.{words-lead}
 use Rattle.lane_engine.proofs.over_pass.PassCallsCalls.sum.Goals as goal
 

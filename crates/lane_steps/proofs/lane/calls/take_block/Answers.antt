@@ -1,8 +1,8 @@
 use Rattle.std.proofs.Common.{◌++◌, ◌∷◌, [], refl, ◌∙◌}
 use Rattle.errand_steps.specs.declared.reply.Reply.TheVariants as reply
 use Rattle.errand_steps.specs.Calls.{take}
-use Rattle.live_heap.specs.Made.{answered}
-use Rattle.live_heap.proofs.MadeLemmas.{leads-more}
+use Rattle.call_events.specs.Made.{answered}
+use Rattle.call_events.proofs.MadeLemmas.{leads-more}
 use Rattle.lane_steps.proofs.MadeLemmas.{leads-keep, leave-misses, misses-more}
 use Rattle.lane_steps.proofs.lane.calls.take_block.Goals as goal
 

@@ -1,5 +1,5 @@
 use Rattle.std.proofs.Common.{List, ◌≡◌}
-use Rattle.live_heap.specs.Made.{LeadsBy, Made}
+use Rattle.call_events.specs.Made.{LeadsBy, Made}
 use Rattle.lane_steps.specs.Made.{AreMisses}
 use Rattle.lane_steps.proofs.lane.calls.take_block.Given as goal
 

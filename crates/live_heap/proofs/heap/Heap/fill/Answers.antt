@@ -1,9 +1,10 @@
 use Rattle.std.proofs.Common.{◌+◌, ◌%◌, ◌^◌, sym, subst}
 use Rattle.errand_steps.specs.declared.reply.Reply.TheVariants as reply
 use Rattle.errand_steps.specs.Calls.{Call, write}
-use Rattle.live_heap.specs.Made.{LeadsBy, wrote}
+use Rattle.call_events.specs.Made.{LeadsBy, wrote}
 use Rattle.live_heap.specs.Words.{CallsOnWord}
-use Rattle.live_heap.proofs.MadeLemmas.{leads-more, word-whole, wrote-more}
+use Rattle.call_events.proofs.MadeLemmas.{leads-more, wrote-more}
+use Rattle.live_heap.proofs.MadeLemmas.{word-whole}
 use Rattle.live_heap.proofs.WholeLaws.{pass-keeps}
 use Rattle.live_heap.proofs.heap.Heap.fill.Goals as goal
 

@@ -1,6 +1,6 @@
 use Rattle.errand_steps.specs.Begins.{IsIdle}
 use Rattle.live_heap.specs.declared.block.Block.{Block}
-use Rattle.live_heap.specs.Made.{LeadsBy, wrote}
+use Rattle.call_events.specs.Made.{LeadsBy, wrote}
 use Rattle.live_heap.specs.Passes.{IsOf, Owns}
 use Rattle.live_heap.specs.Words.{CallsOnWord}
 use Rattle.live_heap.proofs.heap.Heap.fill.Given as goal
