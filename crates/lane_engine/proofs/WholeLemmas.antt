@@ -16,7 +16,6 @@ use Rattle.live_heap.specs.Calls.{IsCalling}
 use Rattle.call_events.specs.Made.{LeadsBy, Made}
 use Rattle.live_heap.specs.Whole.{HasEndedCall, IsWhole, MadeByPass, by_steps, at_once, ResumesTo}
 use Rattle.live_heap.specs.Words.{CallsOnWord}
-use Rattle.live_heap.proofs.MadeLemmas.{word-whole}
 use Rattle.lane_engine.specs.declared.over_pass.PassCalls.{PassCalls}
 
 -- it can be resumed still
@@ -83,4 +82,4 @@ pub words-lead :
     → LeadsBy (λ f call answer g. IsWhole f.heap.now f.pass.now call answer g.heap.now g.pass.now) (with_pass e p) made (with_pass e q)
 words-lead e p q [] leads = ap (with_pass e) leads
 words-lead e p q (m ∷ made) (t, one, leads) =
-    (with_pass e t, word-whole e.heap.now p t m.call m.answer one, words-lead e t q made leads)
+    (with_pass e t, (by_steps (0, one.called), one.owned, refl, (one.of, one.called.idle)), words-lead e t q made leads)

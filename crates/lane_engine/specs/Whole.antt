@@ -1,8 +1,12 @@
 -- What whole calls answer, whoever makes them.
-use Rattle.std.specs.Prelude.{ℕ, ◌≡◌, Option, Some, None}
+use Rattle.std.specs.Prelude.{ℕ, ◌≡◌, ◌≢◌, Option, Some, None}
 use Rattle.heap_geometry.specs.declared.need.Need.{Need}
+use Rattle.heap_geometry.specs.Need.{need_of}
 use Rattle.errand_steps.specs.declared.reply.Reply.{Reply}
 use Rattle.errand_steps.specs.declared.reply.Reply.TheVariants as reply
+use Rattle.errand_steps.specs.Calls.{Call, alloc}
+use Rattle.step_core.specs.Keeping.{Leaves}
+use Rattle.live_heap.specs.Whole.{Hands}
 use Rattle.lane_engine.specs.declared.calls.Allocated.{Allocated}
 use Rattle.lane_engine.specs.declared.calls.Allocated.TheVariants as allocated
 use Rattle.lane_engine.specs.declared.calls.Taken.{Taken}
@@ -26,3 +30,12 @@ module _ {B : Type 0} (place_of : B → ℕ) (need_of : B → Need) where
   TakeTells ended (taken.Got block) = ended (reply.Got (place_of block) (need_of block))
   TakeTells ended taken.Empty = ended reply.Empty
   TakeTells ended taken.Missed = (expected : ℕ) × (found : ℕ) × ended (reply.Missed expected found)
+
+-- whole calls leave their caller its blocks, but for the one that each gives away; a block that one hands out is the caller's, and none of those that it had; and one that is given serves what was asked for
+pub record KeepBlocks {S : Type 0} (called : S → Call → Reply → S → Type 0) (owns : S → ℕ → Need → Type 0) : Type 0 where
+  pub keeps : (s t : S) (call : Call) (answer : Reply) (place : ℕ) (need : Need) → called s call answer t → Leaves call place → owns s place need → owns t place need
+  pub hands : (s t : S) (call : Call) (answer : Reply) (place : ℕ) (need : Need) → called s call answer t → Hands answer place need → owns t place need
+  pub apart :
+      (s t : S) (call : Call) (answer : Reply) (place other : ℕ) (need had : Need) → called s call answer t → Hands answer place need
+      → owns s other had → other ≢ place
+  pub serves : (s t : S) (words place : ℕ) (need : Need) → called s (alloc words) (reply.Given place need) t → need ≡ need_of words

@@ -1,16 +1,14 @@
 //! The trait over which a lane makes whole calls.
 
-ghost use Rattle.std.specs.Prelude.{ℕ, ◌≡◌, ◌≢◌, ◌<◌, ◌≤◌};
+ghost use Rattle.std.specs.Prelude.{ℕ, ◌≡◌, ◌<◌, ◌≤◌};
 ghost use Rattle.heap_geometry.specs.declared.limits.TheConstants.{LARGE_MOST, SHELVES};
 ghost use Rattle.heap_geometry.specs.declared.need.Need.{Need};
-ghost use Rattle.heap_geometry.specs.Need.{need_of, usable_words};
+ghost use Rattle.heap_geometry.specs.Need.{usable_words};
 ghost use Rattle.errand_steps.specs.declared.reply.Reply.{Reply};
 ghost use Rattle.errand_steps.specs.declared.reply.Reply.TheVariants as reply;
 ghost use Rattle.errand_steps.specs.Calls.{Call, alloc, free, put, take};
-ghost use Rattle.step_core.specs.Keeping.{Leaves};
-ghost use Rattle.lane_engine.specs.Whole.{PutTells, TakeTells, allocated_as};
+ghost use Rattle.lane_engine.specs.Whole.{KeepBlocks, PutTells, TakeTells, allocated_as};
 ghost use Rattle.call_events.specs.Made.{LeadsBy, Sums, wrote};
-ghost use Rattle.live_heap.specs.Whole.{Hands};
 
 use crate::token::Token;
 use std::sync::Wait;
@@ -109,16 +107,7 @@ pub trait Calls {
         ensures base { runs_on self.new ≡ runs_on self.old }
         ensures called { TakeTells Self.Held.place_of Self.Held.need_of (λ answer. called self.old (take shelf) answer self.new) result };
 
-    /// A call leaves the caller its blocks, but for the one that it gives away.
-    ghost keeps: { (s t : Self) (call : Call) (answer : Reply) (place : ℕ) (need : Need) → called s call answer t
-        → Leaves call place → owns s place need → owns t place need };
-
-    /// A block that it hands out is the caller's, and none of those that it had.
-    ghost hands: { (s t : Self) (call : Call) (answer : Reply) (place : ℕ) (need : Need) → called s call answer t
-        → Hands answer place need → owns t place need };
-
-    ghost apart: { (s t : Self) (call : Call) (answer : Reply) (place other : ℕ) (need had : Need) → called s call answer t → Hands answer place need → owns s other had → other ≢ place };
-
-    /// A block that is given serves what was asked for.
-    ghost serves: { (s t : Self) (words place : ℕ) (need : Need) → called s (alloc words) (reply.Given place need) t → need ≡ need_of words };
+    /// What is so of all whole calls: a theorem, on a function that does nothing.
+    fn calls_keep_blocks()
+        ensures { KeepBlocks called owns };
 }

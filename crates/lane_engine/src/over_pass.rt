@@ -14,6 +14,7 @@ use heap_geometry::need::Need;
 use live_heap::answers::{AllocAnswer, FreeAnswer, Resumed, Taken as Found};
 use live_heap::block::Block;
 use live_heap::heap::Heap;
+use live_heap::laws::whole_calls_keep_blocks;
 use live_heap::pass::Pass;
 use std::sync::Wait;
 use std::thread;
@@ -101,11 +102,12 @@ impl<'a> PassCalls<'a> {
 
 impl<'a> Calls for PassCalls<'a> {
     ghost use Rattle.std.specs.Prelude.{◌≡◌, ℕ};
+    ghost use Rattle.lane_engine.specs.declared.over_pass.PassCalls.{PassCalls};
     ghost use Rattle.live_heap.specs.declared.heap.Heap.{Heap};
     ghost use Rattle.step_core.specs.Cores.{OwnsAfter};
     ghost use Rattle.live_heap.specs.Passes.{IsOf, seen};
     ghost use Rattle.live_heap.specs.Whole.{IsAtRest, IsWhole};
-    ghost use Rattle.live_heap.proofs.WholeLaws.{pass-keeps, pass-hands, pass-apart, pass-serves};
+    ghost use Rattle.lane_engine.specs.Whole.{KeepBlocks};
 
     type Held = Block;
 
@@ -170,15 +172,10 @@ impl<'a> Calls for PassCalls<'a> {
         }
     }
 
-    ghost keeps = { λ s t call answer place need called.
-        pass-keeps s.heap.now t.heap.now s.pass.now t.pass.now call answer place need called };
-
-    ghost hands = { λ s t call answer place need called.
-        pass-hands s.heap.now t.heap.now s.pass.now t.pass.now call answer place need called };
-
-    ghost apart = { λ s t call answer place other need had called.
-        pass-apart s.heap.now t.heap.now s.pass.now t.pass.now call answer place other need had called };
-
-    ghost serves = { λ s t words place need called.
-        pass-serves s.heap.now t.heap.now s.pass.now t.pass.now words place need called };
+    fn calls_keep_blocks()
+        ensures { KeepBlocks {S = PassCalls} (λ e call answer f. IsWhole e.heap.now e.pass.now call answer f.heap.now f.pass.now)
+            (λ e place need. OwnsAfter (seen e.pass.now) e.pass.now.errand.caller place need) }
+    {
+        whole_calls_keep_blocks();
+    }
 }

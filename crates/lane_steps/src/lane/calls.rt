@@ -33,6 +33,7 @@ fn take_block<B: Token + Drop, R: Wait, C: Calls<Held = B>>(
     ensures got { IfSome result (λ block. C.owns calls.new (B.place_of block) (B.need_of block)
         × ((other : ℕ) (had : Need) → C.owns calls.old other had → other ≢ B.place_of block)) }
 {
+    C::calls_keep_blocks();
     for _ in rt.forever() {
         match calls.take(shelf) {
             Taken::Got(block) => return Some(block),
@@ -82,6 +83,7 @@ impl<B: Token + Drop> LaneState<B> {
         ensures base { C.runs_on calls.new ≡ C.runs_on calls.old }
         ensures made { Makes B.place_of B.need_of C.owns C.called (op.Alloc r need v) calls.old calls.new self.old self.new }
     {
+        C::calls_keep_blocks();
         if is_full(&self.registers, r) {
             return self.finish(Outcome::Skipped);
         }
@@ -108,6 +110,7 @@ impl<B: Token + Drop> LaneState<B> {
         ensures base { C.runs_on calls.new ≡ C.runs_on calls.old }
         ensures made { Makes B.place_of B.need_of C.owns C.called (op.Free r) calls.old calls.new self.old self.new }
     {
+        C::calls_keep_blocks();
         match take_out(&mut self.registers, r) {
             Some(block) => {
                 calls.free(rt, block);
@@ -127,6 +130,7 @@ impl<B: Token + Drop> LaneState<B> {
         ensures base { C.runs_on calls.new ≡ C.runs_on calls.old }
         ensures made { Makes B.place_of B.need_of C.owns C.called (op.Fill r v) calls.old calls.new self.old self.new }
     {
+        C::calls_keep_blocks();
         match &self.registers[usize::from(r)] {
             Some(block) => {
                 calls.fill(block, v);
@@ -146,6 +150,7 @@ impl<B: Token + Drop> LaneState<B> {
         ensures base { C.runs_on calls.new ≡ C.runs_on calls.old }
         ensures made { Makes B.place_of B.need_of C.owns C.called (op.Check r) calls.old calls.new self.old self.new }
     {
+        C::calls_keep_blocks();
         match &self.registers[usize::from(r)] {
             Some(block) => {
                 let total = calls.sum(block);
@@ -166,6 +171,7 @@ impl<B: Token + Drop> LaneState<B> {
         ensures base { C.runs_on calls.new ≡ C.runs_on calls.old }
         ensures made { Makes B.place_of B.need_of C.owns C.called (op.Put r shelf) calls.old calls.new self.old self.new }
     {
+        C::calls_keep_blocks();
         match take_out(&mut self.registers, r) {
             Some(block) => match calls.put(block, shelf) {
                 None => self.finish(Outcome::Put),
@@ -189,6 +195,7 @@ impl<B: Token + Drop> LaneState<B> {
         ensures base { C.runs_on calls.new ≡ C.runs_on calls.old }
         ensures made { Makes B.place_of B.need_of C.owns C.called (op.Take r shelf) calls.old calls.new self.old self.new }
     {
+        C::calls_keep_blocks();
         if is_full(&self.registers, r) {
             return self.finish(Outcome::Skipped);
         }

@@ -17,20 +17,20 @@ returns-in-Given-clause-made g c =
     let need = g.B.Token.need_of block in
     let one = c.in-Given.ensures.called in
     let empty = slot-none c.is_full.result (slice_index_or c.args.self.now.registers.items c.args.r None) c.is_full.ensures c.if-is_full.false in
-    made-given g.B.Token.place_of g.B.Token.need_of g.C.Calls.owns g.C.Calls.called g.met.C.Calls.keeps c.args.calls.now c.fill.new.self c.args.self.now
+    made-given g.B.Token.place_of g.B.Token.need_of g.C.Calls.owns g.C.Calls.called c.calls_keep_blocks.ensures.keeps c.args.calls.now c.fill.new.self c.args.self.now
     c.finish-in-Given.new.self c.requires.holds c.args.r c.args.need c.args.v c.words-words.result c.place-place.result block c.allocate.new.self empty
     (record { blocks_are = ap (λ v. v.items) f.registers ∙ c.put_in.ensures; results = f.outcomes; same_caller = f.caller; at = f.stage; room = f.room })
     c.words-words.ensures c.place-place.ensures one
-    (g.met.C.Calls.serves c.args.calls.now c.allocate.new.self c.args.need place need one)
-    (g.met.C.Calls.hands c.args.calls.now c.allocate.new.self (alloc c.args.need) (reply.Given place need) place need one (refl, refl))
-    (λ other had. g.met.C.Calls.apart c.args.calls.now c.allocate.new.self (alloc c.args.need) (reply.Given place need) place other need had one (refl, refl))
+    (c.calls_keep_blocks.ensures.serves c.args.calls.now c.allocate.new.self c.args.need place need one)
+    (c.calls_keep_blocks.ensures.hands c.args.calls.now c.allocate.new.self (alloc c.args.need) (reply.Given place need) place need one (refl, refl))
+    (λ other had. c.calls_keep_blocks.ensures.apart c.args.calls.now c.allocate.new.self (alloc c.args.need) (reply.Given place need) place other need had one (refl, refl))
     c.fill.ensures.called
 
 pub returns-in-Refused-clause-made : goal.returns-in-Refused-clause-made
 returns-in-Refused-clause-made g c =
     let f = c.finish-in-Refused.ensures in
     let empty = slot-none c.is_full.result (slice_index_or c.args.self.now.registers.items c.args.r None) c.is_full.ensures c.if-is_full.false in
-    made-refused g.B.Token.place_of g.B.Token.need_of g.C.Calls.owns g.C.Calls.called g.met.C.Calls.keeps c.args.calls.now c.allocate.new.self c.args.self.now c.finish-in-Refused.new.self c.requires.holds c.args.r c.args.need c.args.v empty
+    made-refused g.B.Token.place_of g.B.Token.need_of g.C.Calls.owns g.C.Calls.called c.calls_keep_blocks.ensures.keeps c.args.calls.now c.allocate.new.self c.args.self.now c.finish-in-Refused.new.self c.requires.holds c.args.r c.args.need c.args.v empty
     (record { blocks_are = ap (λ v. v.items) f.registers; results = f.outcomes; same_caller = f.caller; at = f.stage; room = f.room })
     c.in-Refused.ensures.called
 
@@ -38,7 +38,7 @@ pub returns-in-Spent-clause-made : goal.returns-in-Spent-clause-made
 returns-in-Spent-clause-made g c =
     let f = c.finish-in-Spent.ensures in
     let empty = slot-none c.is_full.result (slice_index_or c.args.self.now.registers.items c.args.r None) c.is_full.ensures c.if-is_full.false in
-    made-spent g.B.Token.place_of g.B.Token.need_of g.C.Calls.owns g.C.Calls.called g.met.C.Calls.keeps c.args.calls.now c.allocate.new.self c.args.self.now c.finish-in-Spent.new.self c.requires.holds c.args.r c.args.need c.args.v empty
+    made-spent g.B.Token.place_of g.B.Token.need_of g.C.Calls.owns g.C.Calls.called c.calls_keep_blocks.ensures.keeps c.args.calls.now c.allocate.new.self c.args.self.now c.finish-in-Spent.new.self c.requires.holds c.args.r c.args.need c.args.v empty
     (record { blocks_are = ap (λ v. v.items) f.registers; results = f.outcomes; same_caller = f.caller; at = f.stage; room = f.room })
     c.in-Spent.ensures.called
 

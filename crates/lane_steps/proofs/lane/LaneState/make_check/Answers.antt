@@ -9,7 +9,7 @@ use Rattle.lane_steps.proofs.lane.LaneState.make_check.Goals as goal
 pub returns-in-Some-clause-made : goal.returns-in-Some-clause-made
 returns-in-Some-clause-made g c =
     let f = c.finish.ensures in
-    made-check g.B.Token.place_of g.B.Token.need_of g.C.Calls.owns g.C.Calls.called g.met.C.Calls.keeps c.args.calls.now c.sum-total.new.self c.args.self.now
+    made-check g.B.Token.place_of g.B.Token.need_of g.C.Calls.owns g.C.Calls.called c.calls_keep_blocks.ensures.keeps c.args.calls.now c.sum-total.new.self c.args.self.now
     c.finish.new.self c.requires.holds c.args.r c.sum-total.result c.in-Some.block
     (slot-read c.args.self.now.registers.items c.args.r c.from.result c.index.result.now (Some c.in-Some.block) c.from.ensures c.index.ensures c.in-Some.is
     (subst (λ n. c.args.r < n) (sym c.requires.holds.size) c.requires.register))

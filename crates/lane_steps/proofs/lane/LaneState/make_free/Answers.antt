@@ -10,7 +10,7 @@ use Rattle.lane_steps.proofs.lane.LaneState.make_free.Goals as goal
 pub returns-in-Some-clause-made : goal.returns-in-Some-clause-made
 returns-in-Some-clause-made g c =
     let f = c.finish.ensures in
-    made-free g.B.Token.place_of g.B.Token.need_of g.C.Calls.owns g.C.Calls.called g.met.C.Calls.keeps c.args.calls.now c.free.new.self c.args.self.now
+    made-free g.B.Token.place_of g.B.Token.need_of g.C.Calls.owns g.C.Calls.called c.calls_keep_blocks.ensures.keeps c.args.calls.now c.free.new.self c.args.self.now
     c.finish.new.self c.requires.holds c.args.r c.in-Some.block (sym c.take_out.ensures.found ∙ c.in-Some.is)
     (record { blocks_are = ap (λ v. v.items) f.registers ∙ c.take_out.ensures.emptied; results = f.outcomes; same_caller = f.caller; at = f.stage; room = f.room })
     c.free.ensures.called

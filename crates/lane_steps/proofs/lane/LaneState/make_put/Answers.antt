@@ -11,7 +11,7 @@ use Rattle.lane_steps.proofs.lane.LaneState.make_put.Goals as goal
 pub returns-in-None-put-clause-made : goal.returns-in-None-put-clause-made
 returns-in-None-put-clause-made g c =
     let f = c.finish.ensures in
-    made-put g.B.Token.place_of g.B.Token.need_of g.C.Calls.owns g.C.Calls.called g.met.C.Calls.keeps c.args.calls.now c.put.new.self c.args.self.now
+    made-put g.B.Token.place_of g.B.Token.need_of g.C.Calls.owns g.C.Calls.called c.calls_keep_blocks.ensures.keeps c.args.calls.now c.put.new.self c.args.self.now
     c.finish.new.self c.requires.holds c.args.r c.args.shelf c.in-Some.block (sym c.take_out.ensures.found ∙ c.in-Some.is)
     (record { blocks_are = ap (λ v. v.items) f.registers ∙ c.take_out.ensures.emptied; results = f.outcomes; same_caller = f.caller; at = f.stage; room = f.room })
     c.in-None-put.ensures.called
@@ -20,7 +20,7 @@ pub returns-in-Some-put-clause-made : goal.returns-in-Some-put-clause-made
 returns-in-Some-put-clause-made g c =
     let f = c.finish-in-Some-put.ensures in
     let full = c.in-Some-put.ensures.called in
-    made-put_full g.B.Token.place_of g.B.Token.need_of g.C.Calls.owns g.C.Calls.called g.met.C.Calls.keeps c.args.calls.now c.put.new.self c.args.self.now
+    made-put_full g.B.Token.place_of g.B.Token.need_of g.C.Calls.owns g.C.Calls.called c.calls_keep_blocks.ensures.keeps c.args.calls.now c.put.new.self c.args.self.now
     c.finish-in-Some-put.new.self c.requires.holds c.args.r c.args.shelf full.3 c.in-Some.block c.in-Some-put.back (sym c.take_out.ensures.found ∙ c.in-Some.is)
     (record {
       blocks_are =

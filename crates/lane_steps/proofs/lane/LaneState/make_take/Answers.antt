@@ -15,7 +15,7 @@ returns-in-Some-clause-made g c =
     let need = g.B.Token.need_of block in
     let empty = slot-none c.is_full.result (slice_index_or c.args.self.now.registers.items c.args.r None) c.is_full.ensures c.if-is_full.false in
     let took = c.in-Some.ensures in
-    made-got g.B.Token.place_of g.B.Token.need_of g.C.Calls.owns g.C.Calls.called g.met.C.Calls.keeps c.args.calls.now c.take_block.new.calls c.args.self.now
+    made-got g.B.Token.place_of g.B.Token.need_of g.C.Calls.owns g.C.Calls.called c.calls_keep_blocks.ensures.keeps c.args.calls.now c.take_block.new.calls c.args.self.now
     c.finish-in-Some.new.self c.requires.holds c.args.r c.args.shelf c.words-words.result c.place-place.result c.need-need.result block empty
     (record { blocks_are = ap (λ v. v.items) f.registers ∙ c.put_in.ensures; results = f.outcomes; same_caller = f.caller; at = f.stage; room = f.room })
     c.words-words.ensures c.place-place.ensures c.need-need.ensures took.made took.got.0 took.got.1
@@ -24,7 +24,7 @@ pub returns-in-None-clause-made : goal.returns-in-None-clause-made
 returns-in-None-clause-made g c =
     let f = c.finish-in-None.ensures in
     let empty = slot-none c.is_full.result (slice_index_or c.args.self.now.registers.items c.args.r None) c.is_full.ensures c.if-is_full.false in
-    made-empty g.B.Token.place_of g.B.Token.need_of g.C.Calls.owns g.C.Calls.called g.met.C.Calls.keeps c.args.calls.now c.take_block.new.calls c.args.self.now c.finish-in-None.new.self c.requires.holds c.args.r c.args.shelf empty
+    made-empty g.B.Token.place_of g.B.Token.need_of g.C.Calls.owns g.C.Calls.called c.calls_keep_blocks.ensures.keeps c.args.calls.now c.take_block.new.calls c.args.self.now c.finish-in-None.new.self c.requires.holds c.args.r c.args.shelf empty
     (record { blocks_are = ap (λ v. v.items) f.registers; results = f.outcomes; same_caller = f.caller; at = f.stage; room = f.room })
     c.in-None.ensures.made
 

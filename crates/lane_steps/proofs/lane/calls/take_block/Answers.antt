@@ -42,8 +42,8 @@ returns-in-Got-clause-got g c =
     let place = g.B.Token.place_of c.in-Got.block in
     let need = g.B.Token.need_of c.in-Got.block in
     let one = c.in-Got.ensures.called in (
-      g.met.C.Calls.hands c.loop.calls c.take.new.self (take c.args.shelf) (reply.Got place need) place need one (refl, refl),
+      c.calls_keep_blocks.ensures.hands c.loop.calls c.take.new.self (take c.args.shelf) (reply.Got place need) place need one (refl, refl),
       λ other had owned.
-          g.met.C.Calls.apart c.loop.calls c.take.new.self (take c.args.shelf) (reply.Got place need) place other need had one (refl, refl)
-          (leads-keep g.C.Calls.called g.C.Calls.owns g.met.C.Calls.keeps c.args.calls.now c.loop.calls m.0 other had m.2 (leave-misses other c.args.shelf m.0 m.1) owned),
+          c.calls_keep_blocks.ensures.apart c.loop.calls c.take.new.self (take c.args.shelf) (reply.Got place need) place other need had one (refl, refl)
+          (leads-keep g.C.Calls.called g.C.Calls.owns c.calls_keep_blocks.ensures.keeps c.args.calls.now c.loop.calls m.0 other had m.2 (leave-misses other c.args.shelf m.0 m.1) owned),
     )
