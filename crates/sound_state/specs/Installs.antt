@@ -5,7 +5,6 @@ use Rattle.packed_words.specs.declared.active.ActiveWord.TheVariants.{Null}
 use Rattle.packed_words.specs.Active.{active_word}
 use Rattle.word_plan.specs.declared.name.WordName.{WordName}
 use Rattle.word_plan.specs.declared.name.WordName.TheVariants as name
-use Rattle.errand_steps.specs.declared.point.Point.TheVariants as point
 use Rattle.errand_steps.specs.Errands.{ErrandFields}
 use Rattle.errand_steps.specs.Steps.{State}
 use Rattle.sound_state.specs.Contention.{is_by, is_against}

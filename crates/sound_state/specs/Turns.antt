@@ -119,6 +119,10 @@ pub record IsTurned (g : Geometry) (s : State) (l : Lists) : Type 0 where
       → (s.errand caller).turns + errand_discards (s.errand caller)
       ≤ count_by (gives_small caller) s.history + count_by (refuses_small caller) s.history + (s.errand caller).lost
       + turn_unanswered (s.errand caller)
+  pub own_answers :
+      (caller : ℕ) → caller < g.callers
+      → count_by (gives_small caller) s.history + count_by (refuses_small caller) s.history + turn_unanswered (s.errand caller)
+      ≤ (s.errand caller).turns
   pub anchor_tags : (d : ℕ) → d < descriptor_count g → (anchor_for s d).tag ≤ count_by is_small_alloc s.history
   pub frame_tag : (head_of (s.word name.FrameHead)).tag + callers_sum g turn_unframed s.errand ≤ all_turns g s
   pub emptied : all_emptied g s l + all_cleared g s ≤ small_frees g s

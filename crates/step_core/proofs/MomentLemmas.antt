@@ -1,5 +1,5 @@
 -- A step of a machine as its caller sees it, and as the others do.
-use Rattle.std.proofs.Common.{ℕ, ◌≡◌, ◌≢◌, ◌<◌, List, [], ◌∷◌, Option, Some, None, ne_eqb, refl, arith, sym, ap, ◌∙◌, subst}
+use Rattle.std.proofs.Common.{ℕ, ◌≡◌, ◌≢◌, ◌<◌, List, [], ◌∷◌, Option, Some, None, ne_eqb, refl, sym, ap, ◌∙◌, subst}
 use Rattle.std.proofs.lemmas.List.{append-nil}
 use Rattle.heap_geometry.specs.declared.geometry.Geometry.{Geometry}
 use Rattle.pool_model.specs.declared.event.Event.{Event}
@@ -25,7 +25,8 @@ reached-served g s made caller run has =
       has = has;
       own_errand = sound.parts.1.errands caller has;
       legal = sound.legal;
-      by_lost = omega (arith, sound.parts.1.turned.own_lost caller has);
+      answers = sound.parts.1.turned.own_answers caller has;
+      by_lost = sound.parts.1.turned.own_lost caller has;
       by_given = turns-bounded g s run.wins caller (run-won g s made run) has;
     }
 
@@ -48,6 +49,8 @@ core-moment c after caller answer core has stepped =
       state = s;
       next = state_of after;
       between = [];
+      made = c.steps;
+      reached = subst (λ g. IsReached g s c.steps) (sym mine.geometry) core.run;
       sound = subst (λ g. IsSound g s) (sym mine.geometry) (core-sound c core);
       here = ap (errand_at c.errands) mine.number;
       step = subst (λ k. Step s k (state_of after)) (sym mine.number) stepped.step;

@@ -1,6 +1,5 @@
 -- What leaves a caller's block where it is.
 use Rattle.std.specs.Prelude.{ℕ, ◌≢◌, List, [], ◌∷◌}
-use Rattle.heap_geometry.specs.declared.need.Need.{Need}
 use Rattle.pool_model.specs.declared.event.Event.{Event}
 use Rattle.pool_model.specs.declared.event.Event.TheVariants.{Free, Put}
 use Rattle.pool_model.specs.Calls.{Ended}

@@ -54,7 +54,8 @@ pub fn open_installed(alloc: Global, geometry: Geometry, class: u8) -> Result<Co
 /// Without the list: the callers lost no more exchanges than they won, times the other callers, as long
 /// as no count of won ones stands at its end; and a caller took no more turns than small blocks were
 /// given to any caller and small needs were refused to itself, and the turn that has no answer yet; nor
-/// more than were given or refused to itself, and exchanges that it lost, and that turn.
+/// more than were given or refused to itself, and exchanges that it lost, and that turn; nor fewer than
+/// were given or refused to itself, and that turn.
 pub fn machines_are_sound()
     ensures sound { (c : CoreFields) → IsCore c → IsSound c.geometry (state_of c) }
     ensures reached { (c : CoreFields) → IsCore c → IsReached c.geometry (state_of c) c.steps }
@@ -80,6 +81,10 @@ pub fn machines_are_sound()
         → (errand_at c.errands caller).turns + errand_discards (errand_at c.errands caller)
         ≤ count_by (gives_small caller) c.events + count_by (refuses_small caller) c.events
         + (errand_at c.errands caller).lost + turn_unanswered (errand_at c.errands caller) }
+    ensures answers { (c : CoreFields) (caller : ℕ) → IsCore c → caller < c.geometry.callers
+        → count_by (gives_small caller) c.events + count_by (refuses_small caller) c.events
+        + turn_unanswered (errand_at c.errands caller)
+        ≤ (errand_at c.errands caller).turns }
 {}
 
 /// A run goes on with each call that begins and each step: it has that move behind it, and the list has
@@ -109,9 +114,10 @@ pub fn runs_follow_one_another()
         ↔ ((m : State) × (a : ℕ) × (b : ℕ) × Run s first a m × Run m rest b t × (n ≡ a + b)) }
 {}
 
-/// A step of a machine as its caller sees it: it is one step of a sound state. The other callers have
-/// their errands, and see more events at most, none of them their own. And what is so of each caller
-/// between two steps: its errand is its own, the events are legal, and they bound its turns.
+/// A step of a machine as its caller sees it: it is one step of a state that moves of the callers had
+/// reached, and so of a sound one. The other callers have their errands, and see more events at most, none
+/// of them their own. And what is so of each caller between two steps: its errand is its own, the events
+/// are legal, and they bound its turns.
 pub fn steps_are_moments()
     ensures moment { (c after : CoreFields) (caller : ℕ) (answer : Progress) → IsCore c → caller < c.geometry.callers
         → IsStepped c caller answer after

@@ -83,6 +83,7 @@ anchored-turned g s l caller at e s' o h before after turns lost cleared old =
       own_turns = omega (arith, turned.own_turns caller h.in_heap, events.gives, p.under_way, q.under_way, turns);
       own_lost =
           omega (arith, turned.own_lost caller h.in_heap, events.gives, events.refuses caller, p.unanswered, q.discards, q.unanswered, turns, lost);
+      own_answers = omega (arith, turned.own_answers caller h.in_heap, events.gives, events.refuses caller, p.unanswered, q.unanswered, turns);
       anchor_tags = λ d has.
           of-each (λ k. (anchor_for s' k).tag ≤ (anchor_for s k).tag + 0) at.desc
           (omega (arith, ap (λ a. a.tag) (anchored-here g s l caller at e s' h)))

@@ -125,6 +125,11 @@ begun-may g s l caller a p t turns blocks sound has stands idle b rule takes =
           ≤ count_by (gives_small caller) s.history + count_by (refuses_small caller) s.history + e.lost + turn_unanswered e) stands
           (sound.turned.own_lost caller has) in
           omega (arith, lost, takes.turns, takes.discards, takes.unanswered, idle_takes.unanswered);
+      own_answers =
+          let answered : count_by (gives_small caller) s.history + count_by (refuses_small caller) s.history + turn_unanswered a ≤ a.turns =
+          subst (λ e. count_by (gives_small caller) s.history + count_by (refuses_small caller) s.history + turn_unanswered e ≤ e.turns) stands
+          (sound.turned.own_answers caller has) in
+          omega (arith, answered, takes.turns, takes.unanswered);
       frame_turns = omega (arith, takes.turns, takes.unframed);
       list_turns = omega (arith, takes.turns, takes.unlisted, b.fresh.pops);
     }

@@ -364,6 +364,12 @@ first-turned g n first s b =
           (λ e. e.turns + errand_discards e
           ≤ count_by (gives_small caller) s.history + count_by (refuses_small caller) s.history + e.lost + turn_unanswered e) o
           (λ other. omega arith) caller has;
+      own_answers = λ caller has.
+          let given : count_by (gives_small caller) s.history ≡ 0 = ap (count_by (gives_small caller)) o.history in
+          let refused : count_by (refuses_small caller) s.history ≡ 0 = ap (count_by (refuses_small caller)) o.history in
+          at-opening g first s
+          (λ e. count_by (gives_small caller) s.history + count_by (refuses_small caller) s.history + turn_unanswered e ≤ e.turns) o
+          (λ other. omega (arith, given, refused)) caller has;
       anchor_tags = λ d has. omega (arith, first-tag g n first s d b);
       frame_tag = omega (arith, head, opened-weighs g first s turn_unframed o (λ caller. refl));
       emptied =

@@ -92,6 +92,7 @@ pub record TurnResumes (p q : Point) (turns turns' : ℕ) : Type 0 where
   pub lost :
       turns' + one_if (is_unneeded (turn_stage_of q)) + one_if (lacks_answer (turn_stage_of p))
       ≤ turns + one_if (is_unneeded (turn_stage_of p)) + one_if (lacks_answer (turn_stage_of q))
+  pub unanswered : one_if (lacks_answer (turn_stage_of q)) + turns ≤ one_if (lacks_answer (turn_stage_of p)) + turns'
   pub unframed :
       one_if (lacks_frame (turn_stage_of q)) + turns ≤ one_if (lacks_frame (turn_stage_of p)) + turns'
   pub pops :
@@ -203,6 +204,7 @@ push-may g s l caller seat d o x old has word after still bare turn excepts =
       excepts = λ place is. absurd (excepts place is);
       own_turns = omega (arith, old.turned.own_turns caller has, turn.under_way);
       own_lost = omega (arith, old.turned.own_lost caller has, turn.lost, more);
+      own_answers = omega (arith, old.turned.own_answers caller has, turn.unanswered);
       frame_turns = turn.unframed;
       list_turns = omega (arith, turn.pops, ap (λ b. raised b e.cleared) still);
     }

@@ -176,6 +176,8 @@ module _ (g : Geometry) (s : State) (l : Lists) (caller : ℕ) (at : Site) (e : 
                   )
               | inr turns_most ↦ omega (arith, after.discards, after.unanswered, turns_most)
             ];
+        own_answers =
+            omega (arith, turned.own_answers caller h.in_heap, events.gives, events.refuses caller, before.unanswered, after.unanswered, h.turns);
         anchor_tags = λ d has. omega (arith, ap (λ x. x.tag) (same.anchor d));
         frame_turns = omega (arith, head-tag (h.words name.FrameHead), after.unframed, h.turns);
         emptied = omega (arith, emptied_same, h.cleared);

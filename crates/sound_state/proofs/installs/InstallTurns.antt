@@ -47,6 +47,8 @@ installed-turned g s l caller at words e s' h sound old =
       own_turns = omega (arith, turned.own_turns caller h.in_heap, events.gives, before.under_way, after.under_way, h.turns);
       own_lost =
           omega (arith, turned.own_lost caller h.in_heap, events.gives, events.refuses caller, before.unanswered, after.discards, after.unanswered, h.turns, h.lost);
+      own_answers =
+          omega (arith, turned.own_answers caller h.in_heap, events.gives, events.refuses caller, before.unanswered, after.unanswered, h.turns);
       anchor_tags = λ d has. omega (arith, ap (λ x. x.tag) (installed-anchor g s l caller at words e s' h d));
       frame_turns = omega (arith, head-tag (h.writes.elsewhere name.FrameHead (λ same. cc)), before.unframed, after.unframed, h.turns);
       emptied = omega (arith, emptied_same, h.cleared);

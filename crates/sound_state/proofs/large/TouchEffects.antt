@@ -444,6 +444,7 @@ turned-touched g s l caller e s' h turned =
       own_turns = omega (arith, turned.own_turns caller h.in_heap, h.gives caller, after.under_way, h.turns);
       own_lost =
           omega (arith, turned.own_lost caller h.in_heap, h.gives caller, h.refuses caller, before.unanswered, after.discards, h.turns, h.lost);
+      own_answers = omega (arith, turned.own_answers caller h.in_heap, h.gives caller, h.refuses caller, after.unanswered, h.turns);
       anchor_tags = λ d has. omega (arith, ap (λ a. a.tag) (touched-anchor g s l caller e s' h d));
       frame_turns = omega (arith, head-tag (h.word name.FrameHead tt), after.unframed, h.turns);
       emptied = omega (arith, emptied_same, h.cleared);

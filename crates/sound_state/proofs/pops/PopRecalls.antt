@@ -8,12 +8,10 @@ use Rattle.heap_geometry.specs.declared.geometry.Geometry.{Geometry}
 use Rattle.heap_geometry.specs.declared.need.Need.{Need}
 use Rattle.packed_words.specs.Anchor.{AnchorFields}
 use Rattle.word_plan.specs.declared.seat.Site.{Site}
-use Rattle.superblock_parts.specs.declared.point.BlockPoint.TheVariants as block
 use Rattle.superblock_parts.specs.declared.point.Share.{Share}
 use Rattle.pool_model.specs.declared.event.Event.TheVariants.{Alloc}
 use Rattle.pool_model.specs.Histories.{own}
 use Rattle.pool_model.specs.Pool.{block_at, pool_of}
-use Rattle.errand_steps.specs.declared.point.Point.TheVariants as point
 use Rattle.errand_steps.specs.Errands.{ErrandFields}
 use Rattle.errand_steps.specs.Steps.{State}
 use Rattle.sound_state.specs.Lists.{Lists}

@@ -19,7 +19,6 @@ use Rattle.superblock_parts.specs.declared.point.BlockPoint.TheVariants as block
 use Rattle.superblock_parts.specs.declared.point.Share.{Share}
 use Rattle.errand_steps.specs.declared.next.Next.TheVariants.{At}
 use Rattle.errand_steps.specs.declared.continuation.Continuation.{Continuation}
-use Rattle.errand_steps.specs.declared.continuation.Continuation.TheVariants as continuation
 use Rattle.errand_steps.specs.declared.point.Point.{Point}
 use Rattle.errand_steps.specs.declared.point.Point.TheVariants.{Block}
 use Rattle.errand_steps.specs.Events.{event_of}

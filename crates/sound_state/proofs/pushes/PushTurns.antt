@@ -120,6 +120,7 @@ pushed-turned g s l caller at i stored a out e s' h old =
       own_turns = omega (arith, turned.own_turns caller h.in_heap, events.gives, after.under_way, h.turns);
       own_lost =
           omega (arith, turned.own_lost caller h.in_heap, events.gives, events.refuses caller, before.unanswered, after.discards, h.turns, h.lost);
+      own_answers = omega (arith, turned.own_answers caller h.in_heap, events.gives, events.refuses caller, after.unanswered, h.turns);
       anchor_tags = λ d has. omega (arith, pushed-tag g s l caller at i stored a out e s' h d);
       frame_turns = omega (arith, head-tag (h.elsewhere name.FrameHead (λ same. cc)), after.unframed, h.turns);
       emptied = omega (arith, pushed-emptied g s l caller at i stored a out e s' h, h.cleared);

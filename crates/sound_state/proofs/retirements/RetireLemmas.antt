@@ -138,7 +138,7 @@ settle-resumed-end e x s d o is few r to = rw (is, few, to) refl
 pub record TurnRetires (p q : Point) (x : Found) : Type 0 where
   pub under_way : one_if (in_turn q) ≤ one_if (in_turn p)
   pub discards : one_if (is_unneeded (turn_stage_of q)) ≤ one_if (is_unneeded (turn_stage_of p))
-  pub unanswered : one_if (lacks_answer (turn_stage_of p)) ≤ one_if (lacks_answer (turn_stage_of q))
+  pub unanswered : one_if (lacks_answer (turn_stage_of p)) ≡ one_if (lacks_answer (turn_stage_of q))
   pub unframed : one_if (lacks_frame (turn_stage_of q)) ≤ one_if (lacks_frame (turn_stage_of p))
   pub pops :
       pops_left q + one_if (lacks_partial (turn_stage_of q))
@@ -279,6 +279,7 @@ retire-sound g s caller s' d class h q sound has to left step =
                           to.turn.unanswered,
                           raised-least (counts_lost (s.errand caller).point x) (s.errand caller).lost own.lost,
                         );
+                    own_answers = omega (arith, old.turned.own_answers caller has, to.turn.unanswered);
                     frame_turns = omega (arith, to.turn.unframed);
                     list_turns = omega (arith, to.turn.pops, cleared);
                   });

@@ -85,7 +85,7 @@ shows-alike g s l caller e s' go sound =
       stays_here = λ k d lt. stays-alike g s l s' h _;
     }
 
--- a caller that goes on so makes a state sound that is sound but for what it remembers
+-- a caller that goes on so makes a state sound that is so but for this caller
 pub sound-but :
     (g : Geometry) (s : State) (l : Lists) (caller : ℕ) (e : ErrandFields) (s' : State) → GoesAlike g s l caller e s' → IsSoundBut g s l caller
     → IsSoundWith g s' l

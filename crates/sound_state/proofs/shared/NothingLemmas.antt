@@ -90,6 +90,8 @@ pub record CountsGo (g : Geometry) (s : State) (caller : ℕ) (a b : ErrandField
   pub own_lost :
       b.turns + errand_discards b
       ≤ count_by (gives_small caller) s.history + count_by (refuses_small caller) s.history + b.lost + turn_unanswered b
+  pub own_answers :
+      count_by (gives_small caller) s.history + count_by (refuses_small caller) s.history + turn_unanswered b ≤ b.turns
   pub frame_turns : turn_unframed b + a.turns ≤ turn_unframed a + b.turns
   pub list_turns :
       errand_pops b + turn_unlisted b + a.turns + a.cleared ≤ errand_pops a + turn_unlisted a + b.turns + b.cleared
@@ -111,6 +113,7 @@ nothing-may g s l caller a b h own retired full so said counts = record {
   excepts = λ place x. inr (said place x);
   own_turns = counts.own_turns;
   own_lost = counts.own_lost;
+  own_answers = counts.own_answers;
   frame_turns = counts.frame_turns;
   list_turns = counts.list_turns;
 }

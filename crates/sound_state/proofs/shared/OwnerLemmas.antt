@@ -7,7 +7,6 @@ use Rattle.heap_geometry.specs.Place.{block_place}
 use Rattle.heap_geometry.specs.declared.geometry.Geometry.{Geometry}
 use Rattle.heap_geometry.specs.declared.need.Need.TheVariants as need
 use Rattle.heap_geometry.specs.declared.need.Need.{Need}
-use Rattle.packed_words.specs.declared.prefix.Prefix.TheVariants.{Small}
 use Rattle.word_plan.specs.Seats.{SeatFields}
 use Rattle.word_plan.specs.declared.name.WordName.TheVariants as name
 use Rattle.superblock_parts.specs.declared.point.BlockPoint.TheVariants as block

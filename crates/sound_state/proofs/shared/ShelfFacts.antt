@@ -21,7 +21,6 @@ use Rattle.pool_model.specs.Pool.{Block, Pool, block_at, pool_of}
 use Rattle.pool_model.specs.WellFormed.{IsWellFormed, IsPlaceFor}
 use Rattle.pool_model.specs.declared.owner.Owner.TheVariants.{Shelf}
 use Rattle.errand_steps.specs.Steps.{State}
-use Rattle.errand_steps.specs.declared.point.Point.TheVariants.{Large}
 use Rattle.sound_state.specs.Lists.{Lists}
 use Rattle.sound_state.specs.Sound.{IsSoundWithoutCounts, IsSoundWith}
 use Rattle.sound_state.specs.Ties.{IsLive}

@@ -50,7 +50,7 @@ use Rattle.sound_state.specs.Turns.{IsTurned, gives_small, refuses_small, turn_o
 use Rattle.sound_state.proofs.shared.CallerLemmas.{each-other}
 use Rattle.sound_state.proofs.shared.ListEffects.{IsListWord, listed-anew}
 use Rattle.sound_state.proofs.shared.SumLemmas.{sum-same}
-use Rattle.sound_state.proofs.shared.TurnEffects.{head-tag, no-event, turned-after}
+use Rattle.sound_state.proofs.shared.TurnEffects.{IsTurnedBut, head-tag, no-event, turned-but, turned-from}
 
 pub same-superblock :
     (a a' : AnchorFields) (r r' w w' : ℕ) (n n' v v' : ℕ → ℕ) (z z' : ℕ) → a' ≡ a → r' ≡ r → w' ≡ w → n' ≡ n → v' ≡ v → z' ≡ z
@@ -93,6 +93,8 @@ pub record MayGoOn (g : Geometry) (s : State) (l : Lists) (caller : ℕ) (a b : 
   pub own_lost :
       b.turns + errand_discards b
       ≤ count_by (gives_small caller) s.history + count_by (refuses_small caller) s.history + b.lost + turn_unanswered b
+  pub own_answers :
+      count_by (gives_small caller) s.history + count_by (refuses_small caller) s.history + turn_unanswered b ≤ b.turns
   pub frame_turns : turn_unframed b + a.turns ≤ turn_unframed a + b.turns
   pub list_turns :
       errand_pops b + turn_unlisted b + a.turns + a.cleared ≤ errand_pops a + turn_unlisted a + b.turns + b.cleared
@@ -204,7 +206,7 @@ pub record ShowsSame (g : Geometry) (s : State) (l : Lists) (caller : ℕ) (e : 
 abbrev pub OthersRemember : Geometry → State → Lists → ℕ → Type 0
 OthersRemember g s l caller = (i : ℕ) → i < g.callers → i ≢ caller → All (IsSo g s l i) (recalls_of (s.errand i).point)
 
--- the state is sound, but for what one caller remembers
+-- the state is sound, but for what one caller remembers and how often it was answered
 pub record IsSoundBut (g : Geometry) (s : State) (l : Lists) (caller : ℕ) : Type 0 where
   pub words : (n : WordName) → s.word n < 2 ^ 64
   pub errands : (i : ℕ) → i < g.callers → IsOwnErrand g i (s.errand i)
@@ -215,7 +217,7 @@ pub record IsSoundBut (g : Geometry) (s : State) (l : Lists) (caller : ℕ) : Ty
   pub remembered : OthersRemember g s l caller
   pub guarded : IsGuarded g s
   pub stocked : IsStocked g s l
-  pub turned : IsTurned g s l
+  pub turned : IsTurnedBut g s l caller
   pub tied : IsTied g s l
 
 -- so is one that is sound
@@ -230,7 +232,7 @@ sound-but_one g s l caller sound = record {
   remembered = λ i has differ. sound.remembered.so i has;
   guarded = sound.guarded;
   stocked = sound.stocked;
-  turned = sound.turned;
+  turned = turned-but g s l caller sound.turned;
   tied = sound.tied;
 }
 
@@ -450,16 +452,17 @@ module _ (g : Geometry) (s : State) (l : Lists) (caller : ℕ) (e : ErrandFields
         each-caller g (λ i e. spare_of e.point ≡ 1 → length e.retired ≡ g.callers + 1) s.errand caller e s'.errand go.moves go.may.full guarded.full;
   }
 
-  turned-shown : IsTurned g s l → IsTurned g s' (with_available l ys)
+  turned-shown : IsTurnedBut g s l caller → IsTurned g s' (with_available l ys)
   turned-shown turned =
       let events = no-event g caller s.history s'.history go.history in
-      turned-after g s l caller e s' (with_available l ys) 0 0
+      turned-from g s l caller e s' (with_available l ys) 0 0
       (record {
         in_heap = go.in_heap;
         moves = go.moves;
         events = events;
         own_turns = omega (arith, go.may.own_turns, events.gives);
         own_lost = omega (arith, go.may.own_lost, events.gives, events.refuses caller);
+        own_answers = omega (arith, go.may.own_answers, events.gives, events.refuses caller);
         anchor_tags = λ d has. omega (arith, ap (λ a. a.tag) (anchor-shown d));
         frame_turns = omega (arith, head-tag (go.word name.FrameHead tt), go.may.frame_turns);
         emptied = omega (arith, go.emptied);
@@ -524,7 +527,7 @@ module _ (g : Geometry) (s : State) (l : Lists) (caller : ℕ) (e : ErrandFields
             (λ k d lt. owned-shown caller _ _ (go.may.frees k d lt)) (λ i has k d lt. owned-shown i _ _ (tied.frees i has k d lt));
       }
 
-  -- such a step makes a state sound that is sound but for what this caller remembers
+  -- such a step makes a state sound that is so but for this caller
   pub sound-shown : IsSoundBut g s l caller → IsSoundWith g s' (with_available l ys)
   sound-shown sound = record {
     words = go.words;

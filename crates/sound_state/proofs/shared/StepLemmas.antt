@@ -44,7 +44,7 @@ HoldsException h place = Any (λ b. b.place ≡ place) h.hands ⊎ Any (λ b. (b
 pub record TurnGoes (p q : Point) : Type 0 where
   pub under_way : one_if (in_turn q) ≤ one_if (in_turn p)
   pub discards : one_if (is_unneeded (turn_stage_of q)) ≤ one_if (is_unneeded (turn_stage_of p))
-  pub unanswered : one_if (lacks_answer (turn_stage_of p)) ≤ one_if (lacks_answer (turn_stage_of q))
+  pub unanswered : one_if (lacks_answer (turn_stage_of p)) ≡ one_if (lacks_answer (turn_stage_of q))
   pub unframed : one_if (lacks_frame (turn_stage_of q)) ≤ one_if (lacks_frame (turn_stage_of p))
   pub pops :
       pops_left q + one_if (lacks_partial (turn_stage_of q)) ≤ pops_left p + one_if (lacks_partial (turn_stage_of p))
@@ -163,6 +163,7 @@ may-after g s l caller x q sound has word after still goes =
       excepts = λ place x. inl (goes.excepts place x);
       own_turns = omega (arith, turned, goes.turn.under_way);
       own_lost = omega (arith, sound.turned.own_lost caller has, goes.turn.discards, goes.turn.unanswered, more);
+      own_answers = omega (arith, sound.turned.own_answers caller has, goes.turn.unanswered);
       frame_turns = omega (arith, goes.turn.unframed);
       list_turns = omega (arith, goes.turn.pops, same);
     }

@@ -21,9 +21,9 @@ use Rattle.sound_state.specs.Guards.{passed_by, held_by}
 use Rattle.sound_state.specs.Lists.{Lists}
 use Rattle.sound_state.specs.TurnStages.{TurnStage, frame_taken, turn_stage_of, is_turn, in_turn, lacks_frame, lacks_partial, lacks_answer, is_unneeded, out_of_turn}
 use Rattle.sound_state.specs.Stock.{waits_in}
-use Rattle.sound_state.specs.Sums.{sum_below}
+use Rattle.sound_state.specs.Sums.{sum_below, callers_sum}
 use Rattle.sound_state.specs.Superblocks.{anchor_for}
-use Rattle.sound_state.specs.Turns.{IsTurned, gives_small, refuses_small, is_small_alloc, is_small_free, one_if, turn_open, turn_unframed, turn_unlisted, turn_unanswered, errand_discards, errand_pops, turns_of, cleared_of, emptied_out, pops_left}
+use Rattle.sound_state.specs.Turns.{IsTurned, gives_small, refuses_small, is_small_alloc, is_small_free, one_if, turn_open, turn_unframed, turn_unlisted, turn_unanswered, errand_discards, errand_pops, turns_of, cleared_of, emptied_out, pops_left, all_turns, all_cleared, all_emptied, small_frees, pops_to_come}
 use Rattle.sound_state.proofs.shared.CallerLemmas.{each-other}
 use Rattle.sound_state.proofs.shared.SumLemmas.{callers-moved, sum-same}
 
@@ -136,6 +136,8 @@ pub record TurnEffects (g : Geometry) (s : State) (l : Lists) (caller : ℕ) (e 
   pub own_lost :
       e.turns + errand_discards e
       ≤ count_by (gives_small caller) s'.history + count_by (refuses_small caller) s'.history + e.lost + turn_unanswered e
+  pub own_answers :
+      count_by (gives_small caller) s'.history + count_by (refuses_small caller) s'.history + turn_unanswered e ≤ e.turns
   pub anchor_tags : (d : ℕ) → d < descriptor_count g → (anchor_for s' d).tag ≤ (anchor_for s d).tag + given
   pub frame_turns :
       (head_of (s'.word name.FrameHead)).tag + turn_unframed e + (s.errand caller).turns
@@ -148,11 +150,39 @@ pub record TurnEffects (g : Geometry) (s : State) (l : Lists) (caller : ℕ) (e 
       → (head_of (s'.word (name.ListHead class))).tag + errand_pops e + turn_unlisted e + (s.errand caller).turns + (s.errand caller).cleared
       ≤ (head_of (s.word (name.ListHead class))).tag + errand_pops (s.errand caller) + turn_unlisted (s.errand caller) + e.turns + e.cleared + 2 * freed
 
--- then the bounds stay
-pub turned-after :
+-- the bounds hold, but for the one on what this caller was given and refused
+pub record IsTurnedBut (g : Geometry) (s : State) (l : Lists) (caller : ℕ) : Type 0 where
+  pub own_turns : (i : ℕ) → i < g.callers → count_by (gives_small i) s.history + turn_open (s.errand i) ≤ (s.errand i).turns
+  pub own_lost :
+      (i : ℕ) → i < g.callers
+      → (s.errand i).turns + errand_discards (s.errand i)
+      ≤ count_by (gives_small i) s.history + count_by (refuses_small i) s.history + (s.errand i).lost + turn_unanswered (s.errand i)
+  pub own_answers :
+      (i : ℕ) → i < g.callers → i ≢ caller
+      → count_by (gives_small i) s.history + count_by (refuses_small i) s.history + turn_unanswered (s.errand i) ≤ (s.errand i).turns
+  pub anchor_tags : (d : ℕ) → d < descriptor_count g → (anchor_for s d).tag ≤ count_by is_small_alloc s.history
+  pub frame_tag : (head_of (s.word name.FrameHead)).tag + callers_sum g turn_unframed s.errand ≤ all_turns g s
+  pub emptied : all_emptied g s l + all_cleared g s ≤ small_frees g s
+  pub list_tags :
+      (class : ℕ) → class < CLASSES
+      → (head_of (s.word (name.ListHead class))).tag + pops_to_come g s ≤ all_turns g s + 2 * small_frees g s + all_cleared g s
+
+pub turned-but : (g : Geometry) (s : State) (l : Lists) (caller : ℕ) → IsTurned g s l → IsTurnedBut g s l caller
+turned-but g s l caller turned = record {
+  own_turns = turned.own_turns;
+  own_lost = turned.own_lost;
+  own_answers = λ i has differ. turned.own_answers i has;
+  anchor_tags = turned.anchor_tags;
+  frame_tag = turned.frame_tag;
+  emptied = turned.emptied;
+  list_tags = turned.list_tags;
+}
+
+-- then the bounds stay, and this caller's hold where they did not
+pub turned-from :
     (g : Geometry) (s : State) (l : Lists) (caller : ℕ) (e : ErrandFields) (s' : State) (l' : Lists) (given freed : ℕ)
-    → TurnEffects g s l caller e s' l' given freed → IsTurned g s l → IsTurned g s' l'
-turned-after g s l caller e s' l' given freed h turned =
+    → TurnEffects g s l caller e s' l' given freed → IsTurnedBut g s l caller → IsTurned g s' l'
+turned-from g s l caller e s' l' given freed h turned =
     let moved = λ (weight : ErrandFields → ℕ). callers-moved g weight s.errand caller e s'.errand h.in_heap h.moves in
     record {
       own_turns =
@@ -163,6 +193,10 @@ turned-after g s l caller e s' l' given freed h turned =
           (λ i e. e.turns + errand_discards e
           ≤ count_by (gives_small i) s'.history + count_by (refuses_small i) s'.history + e.lost + turn_unanswered e) s.errand caller e s'.errand h.moves
           h.own_lost (λ i has differ. omega (arith, turned.own_lost i has, h.events.elsewhere i differ, h.events.refuses i));
+      own_answers =
+          each-other g (λ i e. count_by (gives_small i) s'.history + count_by (refuses_small i) s'.history + turn_unanswered e ≤ e.turns) s.errand caller e
+          s'.errand h.moves h.own_answers
+          (λ i has differ. omega (arith, turned.own_answers i has differ, h.events.elsewhere i differ, h.events.refuses i));
       anchor_tags = λ d has. omega (arith, turned.anchor_tags d has, h.anchor_tags d has, h.events.allocs);
       frame_tag = omega (arith, turned.frame_tag, moved turn_unframed, moved turns_of, h.frame_turns);
       emptied = omega (arith, turned.emptied, moved cleared_of, h.emptied, h.events.frees);
@@ -191,6 +225,12 @@ small-served words class is =
             | inl more ↦ let e = rw (lt-leb words SMALL_MOST above, lt-leb words LARGE_MOST more) at is in cc
           ]
     ]
+
+-- so they stay where all of them held
+pub turned-after :
+    (g : Geometry) (s : State) (l : Lists) (caller : ℕ) (e : ErrandFields) (s' : State) (l' : Lists) (given freed : ℕ)
+    → TurnEffects g s l caller e s' l' given freed → IsTurned g s l → IsTurned g s' l'
+turned-after g s l caller e s' l' given freed h turned = turned-from g s l caller e s' l' given freed h (turned-but g s l caller turned)
 
 -- a point of a superblock that pushes, scans and waits for nothing, in a turn that has given no block yet, or has
 pub record StandsIn (giving : Bool) (p : Point) : Type 0 where

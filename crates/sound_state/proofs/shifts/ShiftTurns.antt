@@ -68,6 +68,8 @@ shifted-turned g s l caller at a b e s' h old =
             h.turns,
             h.lost,
           );
+      own_answers =
+          omega (arith, turned.own_answers caller h.in_heap, events.gives, events.refuses caller, before.unanswered, after.unanswered, h.turns);
       anchor_tags = λ d has. omega (arith, shifted-tag g s l caller at a b e s' h d);
       frame_turns = omega (arith, head-tag (h.elsewhere name.FrameHead (λ same. cc)), before.unframed, after.unframed, h.turns);
       emptied = omega (arith, emptied_same, h.cleared);

@@ -52,6 +52,8 @@ pub record MayStand (g : Geometry) (s : State) (l : Lists) (caller : ℕ) (a b :
   pub own_lost :
       b.turns + errand_discards b
       ≤ count_by (gives_small caller) s.history + count_by (refuses_small caller) s.history + b.lost + turn_unanswered b
+  pub own_answers :
+      count_by (gives_small caller) s.history + count_by (refuses_small caller) s.history + turn_unanswered b ≤ b.turns
   pub cleared : b.cleared ≡ a.cleared
 
 -- a descriptor is away as often as before, or is EMPTY and no less away

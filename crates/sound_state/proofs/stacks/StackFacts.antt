@@ -392,6 +392,7 @@ turned-restacked g s l caller e s' l' h turned =
       events = events;
       own_turns = omega (arith, h.may.own_turns, events.gives);
       own_lost = omega (arith, h.may.own_lost, events.gives, events.refuses caller);
+      own_answers = omega (arith, h.may.own_answers, events.gives, events.refuses caller);
       anchor_tags = λ d has. omega (arith, ap (λ a. a.tag) (anchor-restacked g s l caller e s' l' h d));
       frame_turns = h.frame_turns;
       emptied = omega (arith, emptied_less, h.may.cleared);

@@ -104,6 +104,7 @@ record RetireTurns (p q : Point) (n t : ℕ) : Type 0 where
   discards :
       t + one_if (is_unneeded (turn_stage_of q)) + one_if (lacks_answer (turn_stage_of p))
       ≤ n + one_if (is_unneeded (turn_stage_of p)) + one_if (lacks_answer (turn_stage_of q))
+  unanswered : one_if (lacks_answer (turn_stage_of q)) + n ≤ one_if (lacks_answer (turn_stage_of p)) + t
   unframed : one_if (lacks_frame (turn_stage_of q)) + n ≤ one_if (lacks_frame (turn_stage_of p)) + t
   pops :
       pops_left q + one_if (lacks_partial (turn_stage_of q)) + n ≤ pops_left p + one_if (lacks_partial (turn_stage_of p)) + t
@@ -286,6 +287,7 @@ push-exchanges g s l caller seat pile i h o d status sound old has stands word o
           ];
       own_turns = omega (arith, old.turned.own_turns caller has, turns.under_way);
       own_lost = omega (arith, old.turned.own_lost caller has, turns.discards, lost);
+      own_answers = omega (arith, old.turned.own_answers caller has, turns.unanswered);
       cleared = ap (λ z. raised (counts_cleared z x) a.cleared) stands;
     } in
     let places = λ (y : ℕ). ap (kept_places y) off.kept ∙ retire-places s status d y seat.class may in

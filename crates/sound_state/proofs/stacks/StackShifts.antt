@@ -461,6 +461,7 @@ may-stand g s l caller a b m goes cleared = record {
   excepts = goes.excepts;
   own_turns = m.own_turns;
   own_lost = m.own_lost;
+  own_answers = m.own_answers;
   cleared = cleared;
 }
 

@@ -161,6 +161,7 @@ idle-may g s l caller x sound has word after still turn said =
       own_turns = omega (arith, sound.turned.own_turns caller has, turn.under_way);
       own_lost =
           omega (arith, sound.turned.own_lost caller has, turn.discards, turn.unanswered, raised-least (counts_lost e.point x) e.lost own.lost);
+      own_answers = omega (arith, sound.turned.own_answers caller has, turn.unanswered);
       frame_turns = omega (arith, turn.unframed);
       list_turns = omega (arith, turn.pops, ap (λ b. raised b e.cleared) still);
     })

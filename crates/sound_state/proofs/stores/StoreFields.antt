@@ -364,6 +364,7 @@ turned-between : (g : Geometry) (s : State) (l : Lists) (w : WordName → ℕ) �
 turned-between g s l w turned = record {
   own_turns = turned.own_turns;
   own_lost = turned.own_lost;
+  own_answers = turned.own_answers;
   anchor_tags = turned.anchor_tags;
   frame_tag = turned.frame_tag;
   emptied = turned.emptied;

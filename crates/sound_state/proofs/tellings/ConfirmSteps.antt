@@ -46,12 +46,12 @@ use Rattle.sound_state.specs.Lists.{Lists}
 use Rattle.sound_state.specs.Recalls.{IsSo, IsOwned, recalls_of, looked, refused}
 use Rattle.sound_state.specs.Sound.{IsSoundWithoutCounts, IsSoundWith}
 use Rattle.sound_state.specs.Stock.{errand_stock}
-use Rattle.sound_state.specs.Turns.{one_if, pops_left, gives_small, refuses_small}
+use Rattle.sound_state.specs.Turns.{one_if, pops_left, gives_small, refuses_small, turn_unanswered}
 use Rattle.sound_state.proofs.shared.EventFacts.{counted-not, told-counts, refused-ends}
 use Rattle.sound_state.proofs.shared.ListFacts.{occurs-push}
 use Rattle.sound_state.proofs.shared.ShownLemmas.{MayGoOn, MayGuard, IsSoundBut}
 use Rattle.sound_state.proofs.shared.StackedLemmas.{stacked-none}
-use Rattle.sound_state.proofs.shared.TurnEffects.{one_if-most, small-served}
+use Rattle.sound_state.proofs.shared.TurnEffects.{small-served}
 use Rattle.sound_state.proofs.tellings.ConfirmLemmas.{WeighTold, StockFor, TellsOn, step-tells}
 use Rattle.sound_state.proofs.tellings.LookLemmas.{look-stock}
 use Rattle.sound_state.proofs.shared.HasLemmas.{kept-one}
@@ -61,11 +61,13 @@ use Rattle.sound_state.proofs.retirements.RetireLemmas.{Lets, retired_at, retire
 use Rattle.sound_state.proofs.shared.StepLemmas.{PointStands, raised-least, TurnGoes, at_point, settle-at, may-after, found_from}
 use Rattle.sound_state.proofs.tellings.TellLemmas.{IsTold, told_state, told-but, told-ends}
 
--- where the caller remembers nothing, all of the state is sound
+-- where the caller remembers nothing, and was answered as often as before, all of the state is sound
 but-whole :
     (g : Geometry) (s : State) (l : Lists) (caller : ℕ) → IsSoundBut g s l caller → All (IsSo g s l caller) (recalls_of (s.errand caller).point)
+    → count_by (gives_small caller) s.history + count_by (refuses_small caller) s.history + turn_unanswered (s.errand caller)
+    ≤ (s.errand caller).turns
     → IsSoundWith g s l
-but-whole g s l caller but own = record {
+but-whole g s l caller but own answers = record {
   words = but.words;
   errands = but.errands;
   listed = but.listed;
@@ -81,16 +83,39 @@ but-whole g s l caller but own = record {
   };
   guarded = but.guarded;
   stocked = but.stocked;
-  turned = but.turned;
+  turned = record {
+    own_turns = but.turned.own_turns;
+    own_lost = but.turned.own_lost;
+    own_answers = λ i has.
+        elim (cases_eq i caller) [
+          | inl same ↦
+              subst
+              (λ j. count_by (gives_small j) s.history + count_by (refuses_small j) s.history + turn_unanswered (s.errand j) ≤ (s.errand j).turns)
+              (sym same) answers
+          | inr differ ↦ but.turned.own_answers i has differ
+        ];
+    anchor_tags = but.turned.anchor_tags;
+    frame_tag = but.turned.frame_tag;
+    emptied = but.turned.emptied;
+    list_tags = but.turned.list_tags;
+  };
   tied = but.tied;
 }
 
 -- a look and a refusal are such events
 looked-told : (g : Geometry) (caller class : ℕ) → IsTold g caller (Looked caller class)
-looked-told g caller class = record { number = refl; pool = λ pool. refl; gives = λ i. refl; allocs = refl; frees = refl }
+looked-told g caller class =
+    record { number = refl; pool = λ pool. refl; gives = λ i. refl; refuses = λ i differ. refl; allocs = refl; frees = refl }
 
 refused-told : (g : Geometry) (caller words : ℕ) → IsTold g caller (Refuse caller words)
-refused-told g caller words = record { number = refl; pool = λ pool. refl; gives = λ i. refl; allocs = refl; frees = refl }
+refused-told g caller words = record {
+  number = refl;
+  pool = λ pool. refl;
+  gives = λ i. refl;
+  refuses = λ i differ. rw (ne_eqb caller i (λ same. differ (sym same))) refl;
+  allocs = refl;
+  frees = refl;
+}
 
 -- a look: the caller waits for a descriptor
 abbrev looking : SeatFields → HeadFields → ℕ → Point
@@ -211,7 +236,13 @@ confirm_no_partial-sound g s caller s' seat h words sound has stands same step =
     let t = told_state s event in
     let but : IsSoundBut g t l caller = told-but g s l caller event (looked-told g caller seat.class) old in
     let whole : IsSoundWith g t l =
-    but-whole g t l caller but (subst (λ r. All (IsSo g t l caller) (recalls_of r)) (sym stands) (All-nil (IsSo g t l caller))) in
+    but-whole g t l caller but (subst (λ r. All (IsSo g t l caller) (recalls_of r)) (sym stands) (All-nil (IsSo g t l caller)))
+    (omega (
+      arith,
+      old.turned.own_answers caller has,
+      counted-not (gives_small caller) s.history event refl,
+      counted-not (refuses_small caller) s.history event refl,
+    )) in
     record {
       told = looked-told g caller seat.class;
       weigh = look-weigh e x seat h words stands;
@@ -235,6 +266,7 @@ scanning seat = Desc (desc.ReadHazard seat no_words 0) continuation.Refuse
 record TurnRefused (p q : Point) : Type 0 where
   under_way : one_if (in_turn q) ≤ one_if (in_turn p)
   discards : one_if (is_unneeded (turn_stage_of q)) ≤ one_if (is_unneeded (turn_stage_of p))
+  answered : one_if (lacks_answer (turn_stage_of p)) ≡ one_if (lacks_answer (turn_stage_of q)) + 1
   unframed : one_if (lacks_frame (turn_stage_of q)) ≤ one_if (lacks_frame (turn_stage_of p))
   pops : pops_left q + one_if (lacks_partial (turn_stage_of q)) ≤ pops_left p + one_if (lacks_partial (turn_stage_of p))
 
@@ -245,10 +277,12 @@ unfolding holds_of
 refused-lets seat h words d q bare = record { before = refl; bare = bare; waits = λ c. refl; spare = refl }
 
 refused-scan : (seat : SeatFields) (h : HeadFields) (words d : ℕ) → TurnRefused (refusing seat h words d) (scanning seat)
-refused-scan seat h words d = record { under_way = omega arith; discards = omega arith; unframed = omega arith; pops = omega arith }
+refused-scan seat h words d =
+    record { under_way = omega arith; discards = omega arith; answered = omega arith; unframed = omega arith; pops = omega arith }
 
 refused-idle : (seat : SeatFields) (h : HeadFields) (words d : ℕ) → TurnRefused (refusing seat h words d) Idle
-refused-idle seat h words d = record { under_way = omega arith; discards = omega arith; unframed = omega arith; pops = omega arith }
+refused-idle seat h words d =
+    record { under_way = omega arith; discards = omega arith; answered = omega arith; unframed = omega arith; pops = omega arith }
 
 refused-weigh :
     (e : ErrandFields) (x : Found) (q : Point) (d class : ℕ) → Lets e.point q d class on_its_way clear → WeighTold e (retired_at e x d q)
@@ -299,11 +333,12 @@ refused-may g s l caller x q words d class old has word after still small to tur
             arith,
             old.turned.own_lost caller has,
             turn.discards,
-            one_if-most (lacks_answer (turn_stage_of e.point)),
+            turn.answered,
             gives,
             refuses,
             raised-least (counts_lost e.point x) e.lost (old.errands caller has).lost,
           );
+      own_answers = omega (arith, old.turned.own_answers caller has, turn.answered, gives, refuses);
       frame_turns = omega (arith, turn.unframed);
       list_turns = omega (arith, turn.pops, ap (λ b. raised b e.cleared) still);
     })

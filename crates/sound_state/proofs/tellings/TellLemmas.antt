@@ -1,4 +1,4 @@
--- An event that leaves the pool and counts no block keeps the state sound, but for what its caller remembers.
+-- An event that leaves the pool and counts no block keeps the state sound, but for what its caller remembers and how often it was answered.
 use Rattle.std.proofs.Common.{ℕ, Bool, false, ◌≡◌, ◌≢◌, ◌≤◌, ◌+◌, ◌*◌, List, [], ◌∷◌, ◌++◌, refl, arith, ap, sym, subst, inl, inr, ◌∙◌, eq-eqb}
 use Rattle.std.specs.Prelude.{◌⊎◌, count_by}
 use Rattle.heap_geometry.specs.declared.geometry.Geometry.{Geometry}
@@ -22,12 +22,14 @@ use Rattle.sound_state.specs.Ties.{IsLive, IsExcepted, IsTied}
 use Rattle.sound_state.specs.Turns.{IsTurned, gives_small, refuses_small, is_small_alloc, is_small_free}
 use Rattle.sound_state.proofs.shared.EventFacts.{counted-not, told-own, told-counts}
 use Rattle.sound_state.proofs.shared.ShownLemmas.{IsSoundBut}
+use Rattle.sound_state.proofs.shared.TurnEffects.{IsTurnedBut}
 
 -- an event of the caller that leaves the pool; it gives no small block and frees none
 pub record IsTold (g : Geometry) (caller : ℕ) (event : Event) : Type 0 where
   pub number : caller_of event ≡ caller
   pub pool : (pool : Pool) → pool_after pool event ≡ pool
   pub gives : (i : ℕ) → gives_small i event ≡ false
+  pub refuses : (i : ℕ) → i ≢ caller → refuses_small i event ≡ false
   pub allocs : is_small_alloc event ≡ false
   pub frees : is_small_free g event ≡ false
 
@@ -118,7 +120,7 @@ guarded-told g s event guarded = record {
   full = guarded.full;
 }
 
-turned-told : (g : Geometry) (s : State) (l : Lists) (caller : ℕ) (event : Event) → IsTold g caller event → IsTurned g s l → IsTurned g (told_state s event) l
+turned-told : (g : Geometry) (s : State) (l : Lists) (caller : ℕ) (event : Event) → IsTold g caller event → IsTurned g s l → IsTurnedBut g (told_state s event) l caller
 turned-told g s l caller event h turned =
     let frees = counted-not (is_small_free g) s.history event h.frees in
     let allocs = counted-not is_small_alloc s.history event h.allocs in
@@ -126,6 +128,13 @@ turned-told g s l caller event h turned =
       own_turns = λ i has. omega (arith, turned.own_turns i has, counted-not (gives_small i) s.history event (h.gives i));
       own_lost = λ i has.
           omega (arith, turned.own_lost i has, counted-not (gives_small i) s.history event (h.gives i), counted-least (refuses_small i) s.history event);
+      own_answers = λ i has differ.
+          omega (
+            arith,
+            turned.own_answers i has,
+            counted-not (gives_small i) s.history event (h.gives i),
+            counted-not (refuses_small i) s.history event (h.refuses i differ),
+          );
       anchor_tags = λ d has. omega (arith, turned.anchor_tags d has, allocs);
       frame_tag = turned.frame_tag;
       emptied = omega (arith, turned.emptied, frees);
@@ -167,7 +176,7 @@ tied-told g s l caller event h tied =
       frees = λ i has k d lt. told-owned g s caller event h i _ _ (tied.frees i has k d lt);
     }
 
--- all but what the caller remembers is as it was
+-- all but what the caller remembers, and how often it was answered, is as it was
 pub told-but :
     (g : Geometry) (s : State) (l : Lists) (caller : ℕ) (event : Event) → IsTold g caller event → IsSoundWith g s l
     → IsSoundBut g (told_state s event) l caller

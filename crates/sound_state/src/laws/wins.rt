@@ -100,7 +100,8 @@ pub fn installs_are_bounded()
 /// Beside the turns that gave it a small block or refused it a small need, and the one that has no answer
 /// yet, a caller takes no more turns than others installed, and no more than it lost exchanges itself.
 /// So all its turns are at most the small blocks given to any caller, the small needs refused to itself,
-/// and the turn that has no answer yet.
+/// and the turn that has no answer yet. And they are at least the small blocks given to itself, the small
+/// needs refused to it, and that turn.
 pub fn turns_are_bounded()
     ensures list { (g : Geometry) (s : State) (w : Wins) (caller : ℕ) → IsWon g s w → caller < g.callers
         → (s.errand caller).turns
@@ -113,4 +114,7 @@ pub fn turns_are_bounded()
     ensures given { (g : Geometry) (s : State) (w : Wins) (caller : ℕ) → IsWon g s w → caller < g.callers
         → (s.errand caller).turns
         ≤ count_by is_small_alloc s.history + count_by (refuses_small caller) s.history + turn_unanswered (s.errand caller) }
+    ensures answers { (g : Geometry) (s : State) (caller : ℕ) → IsSound g s → caller < g.callers
+        → count_by (gives_small caller) s.history + count_by (refuses_small caller) s.history + turn_unanswered (s.errand caller)
+        ≤ (s.errand caller).turns }
 {}

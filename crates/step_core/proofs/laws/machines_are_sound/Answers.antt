@@ -30,3 +30,6 @@ returns-clause-turns c =
 
 pub returns-clause-lost : goal.returns-clause-lost
 returns-clause-lost c = λ c caller core has. (core-sound c core).parts.1.turned.own_lost caller has
+
+pub returns-clause-answers : goal.returns-clause-answers
+returns-clause-answers c = λ c caller core has. (core-sound c core).parts.1.turned.own_answers caller has

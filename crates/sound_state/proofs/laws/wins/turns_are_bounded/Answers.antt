@@ -9,3 +9,6 @@ returns-clause-lost c = λ g s caller sound has. sound.parts.1.turned.own_lost c
 
 pub returns-clause-given : goal.returns-clause-given
 returns-clause-given c = turns-bounded
+
+pub returns-clause-answers : goal.returns-clause-answers
+returns-clause-answers c = λ g s caller sound has. sound.parts.1.turned.own_answers caller has
