@@ -130,6 +130,8 @@ module _ (p b : Pass) (call : Call) (tries : ℕ) (q : Pass) (since : HasBegun p
         steps = over.steps;
         calling = over.calling;
         few = over.few;
+        last_tried = over.last_tried;
+        in_time = subst (λ n. tries_of over.calling.on.0 < n + tries) same-tries over.in_time;
         spent = λ below. over.spent below ∙ ap (λ n. n + tries) same-tries;
       }
 

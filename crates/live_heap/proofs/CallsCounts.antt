@@ -27,12 +27,12 @@ use Rattle.sound_state.proofs.endings.LeftMost.{left-most}
 use Rattle.step_core.specs.Moments.{IsMoment}
 use Rattle.live_heap.specs.declared.heap.Heap.{Heap}
 use Rattle.live_heap.specs.declared.pass.Pass.{Pass}
-use Rattle.live_heap.specs.Calls.{EndsInTime, IsCalling, IsInterrupted, tries_of}
+use Rattle.live_heap.specs.Calls.{EndsInTime, IsCalling, IsInterrupted, IsTry, tries_of}
 use Rattle.live_heap.specs.Going.{IsGoing}
 use Rattle.live_heap.specs.Passes.{IsOf, seen}
 use Rattle.live_heap.specs.Sights.{IsBegun}
 use Rattle.live_heap.proofs.Begun.{of-laid}
-use Rattle.live_heap.proofs.CallsGrow.{settled-of, busy-after, calls-go_on, calls-end}
+use Rattle.live_heap.proofs.CallsGrow.{settled-of, busy-after, calls-further, calls-go_on, calls-end}
 
 -- a count of lost ones and one of cleared ones, before and after a step that adds so many to both together
 pub record HasCounted (a b c d u : ℕ) : Type 0 where
@@ -103,6 +103,10 @@ lost-undone r is = cc
 
 pub cleared-undone : (r : Reply) → Cleared ≢ Done r
 cleared-undone r is = cc
+
+try-undone : (answer : Progress) → IsTry answer → (r : Reply) → answer ≢ Done r
+try-undone answer (inl lost) = not-done answer Lost lost lost-undone
+try-undone answer (inr cleared) = not-done answer Cleared cleared cleared-undone
 
 module _ (e f : ErrandFields) (before after : List Event) where
   pub goes-further : IsMoment e f before after More → GoesFurther e f
@@ -254,20 +258,31 @@ module _ (h : Heap) (p : Pass) (tries left : ℕ) (q r : Pass) (of : IsOf h q) (
 
   pub going-again :
       (answer : Progress) (rest : ℕ) → rest + 1 ≡ left → IsMoment q.errand r.errand (seen q) (seen r) answer
-      → ((a : Reply) → answer ≢ Done a) → GoesAgain q.errand r.errand → IsGoing h p tries rest r
-  going-again answer rest one m undone goes =
+      → IsTry answer → GoesAgain q.errand r.errand → IsGoing h p tries rest r
+  going-again answer rest one m tried goes =
       let short = again-short goes in
+      let more : r.errand.lost < 2 ^ 64 - 1 → tries_of r.errand + rest ≡ tries_of p.errand + tries =
+      λ below. let n = goes.counts.all below in omega (arith, n.1, i.spent n.0, one) in
       record {
         busy = goes.busy;
         calls = λ first call made c.
-            let g = i.calls first call made c in (
+            let g = i.calls first call made c in
+            let on = calls-further first call g.0 q r answer m g.1 (try-undone answer tried) in (
               suc g.0,
-              calls-go_on first call g.0 q r answer m g.1 undone,
+              on.0,
               omega (arith, g.2, short, one),
-              λ none. omega (arith, g.2, one, none),
+              λ none.
+                  record {
+                    steps = g.0;
+                    calling = on.0;
+                    few = omega (arith, g.2, one, none);
+                    last_tried = subst IsTry (sym on.2) tried;
+                    in_time = subst (λ (e : ErrandFields). tries_of e < tries_of p.errand + tries) (sym on.1) (omega (arith, i.most, some));
+                    spent = λ below. omega (arith, none, more below);
+                  },
             );
         most = omega (arith, i.most, goes.counts.most, one);
-        spent = λ below. let n = goes.counts.all below in omega (arith, n.1, i.spent n.0, one);
+        spent = more;
       }
 
   -- the step that ends the call
@@ -290,5 +305,4 @@ pub going-over :
     (h : Heap) (p : Pass) (tries left : ℕ) (q : Pass) → left ≡ 0 → IsGoing h p tries left q → (first : Pass) (call : Call) (made : ℕ)
     → IsCalling first call made p → IsInterrupted first call made p tries q
 going-over h p tries left q none i first call made c =
-    let g = i.calls first call made c in
-    record { steps = g.0; calling = g.1; few = g.3 none; spent = λ below. omega (arith, none, i.spent below) }
+    (i.calls first call made c).3 none

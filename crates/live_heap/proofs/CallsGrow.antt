@@ -170,21 +170,28 @@ module _
   way = subst (λ k. IsUnderWay k call p.errand.point c.added) (sym c.caller) c.under_way
 
   -- where it doesn't end the call, that goes on
-  pub calls-go_on : ((r : Reply) → answer ≢ Done r) → IsCalling first call (suc steps) q
-  calls-go_on on =
+  pub calls-further :
+      ((r : Reply) → answer ≢ Done r) → (h : IsCalling first call (suc steps) q) × (h.on.0 ≡ p.errand) × (h.on.2 ≡ answer)
+  calls-further on =
       let busy = busy-after p.errand q.errand (seen p) (seen q) answer s on in
-      let still : IsBusy q.errand = subst IsBusy (sym s.settled) busy in
-      record {
-        caller = same_caller;
-        on = (p.errand, seen p, answer, c.on, m, still);
-        busy = still;
-        added = all;
-        events = grown;
-        under_way =
-            subst (λ k. IsUnderWay k call q.errand.point all) c.caller
-            (subst (λ (d : ErrandFields). IsUnderWay p.errand.caller call d.point all) (sym s.settled)
-            (step-goes_on p.errand s.x call c.added s.rule s.word s.won way busy));
-      }
+      let still : IsBusy q.errand = subst IsBusy (sym s.settled) busy in (
+        record {
+          caller = same_caller;
+          on = (p.errand, seen p, answer, c.on, m, still);
+          busy = still;
+          added = all;
+          events = grown;
+          under_way =
+              subst (λ k. IsUnderWay k call q.errand.point all) c.caller
+              (subst (λ (d : ErrandFields). IsUnderWay p.errand.caller call d.point all) (sym s.settled)
+              (step-goes_on p.errand s.x call c.added s.rule s.word s.won way busy));
+        },
+        refl,
+        refl,
+      )
+
+  pub calls-go_on : ((r : Reply) → answer ≢ Done r) → IsCalling first call (suc steps) q
+  calls-go_on on = (calls-further on).0
 
   -- where it answers, the call has ended
   pub calls-end : (r : Reply) → answer ≡ Done r → (h : HasCalled first call steps r q) × (h.last ≡ p.errand)

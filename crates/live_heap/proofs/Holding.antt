@@ -1,5 +1,5 @@
 -- The blocks of a hand stay its own through calls, but for the one that a free or a put is about.
-use Rattle.std.proofs.Common.{ℕ, ◌≡◌, ◌≢◌, ◌<◌, ◌+◌, inl, inr, List, [], ◌∷◌, ◌++◌, Result, Ok, Err, length, take, drop, slice_index_or, sym, ap, ◌∙◌, subst, append-nil, true≢false}
+use Rattle.std.proofs.Common.{ℕ, suc, ◌≡◌, ◌≢◌, ◌<◌, ◌+◌, inl, inr, List, [], ◌∷◌, ◌++◌, Result, Ok, Err, length, take, drop, slice_index_or, sym, ap, ◌∙◌, subst, append-nil, true≢false}
 use Rattle.std.specs.Prelude.{All, IfOk}
 use Rattle.std.specs.Result.{IfErr}
 use Rattle.std.proofs.lemmas.List.{take-append-drop, drop_more}
@@ -161,7 +161,7 @@ interrupted-hand h first p q blocks call made tries of of_new i tried leaves hel
             of = of;
             holds = held;
             call = call;
-            steps = i.steps;
+            steps = suc i.steps;
             calling = i.calling;
             tried = tried;
             leaves = leaves;

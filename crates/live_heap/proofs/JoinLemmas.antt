@@ -1,5 +1,5 @@
 -- A call that was made without an errand, and goes on by it.
-use Rattle.std.proofs.Common.{ℕ, ◌≡◌, ◌<◌, ◌-◌, Option, None, Some, refl, sym, ap, ◌∙◌, subst, arith}
+use Rattle.std.proofs.Common.{ℕ, ◌≡◌, ◌<◌, ◌-◌, inl, inr, Option, None, Some, refl, sym, ap, ◌∙◌, subst, arith}
 use Rattle.word_plan.specs.declared.action.Found.{Found as Find}
 use Rattle.superblock_parts.specs.declared.point.BlockPoint.{BlockPoint}
 use Rattle.errand_steps.specs.declared.continuation.Continuation.{Continuation}
@@ -17,7 +17,7 @@ use Rattle.live_heap.specs.Passes.{IsOf, seen, view}
 use Rattle.live_heap.specs.Sights.{TakesStep, found_in}
 use Rattle.live_heap.specs.Answers.{IsAnswerable, reply_of}
 use Rattle.live_heap.specs.Going.{HasGone, HasWalked, IsGoing, Rejoins, at_block, stands_at}
-use Rattle.live_heap.proofs.CallsCounts.{cleared-undone, goes-cleared, goes-lost, going-again, going-ends, going-further, lost-undone, never-idle}
+use Rattle.live_heap.proofs.CallsCounts.{goes-cleared, goes-lost, going-again, going-ends, going-further, never-idle}
 use Rattle.live_heap.proofs.Stepped.{still-of, took-step}
 use Rattle.live_heap.proofs.Told.{moment-answerable}
 
@@ -68,13 +68,13 @@ module _
   pub joins-lost : 0 < tries → answer ≡ Lost → IsGoing h start tries (tries - 1) q
   joins-lost some lost =
       let m = subst (IsMoment last.errand q.errand (seen last) (seen q)) lost joins-moment in
-      going-again h start tries tries last q j.of some j.going Lost (tries - 1) (omega (arith, some)) m lost-undone
+      going-again h start tries tries last q j.of some j.going Lost (tries - 1) (omega (arith, some)) m (inl refl)
       (goes-lost last.errand q.errand (seen last) (seen q) m)
 
   pub joins-cleared : 0 < tries → answer ≡ Cleared → IsGoing h start tries (tries - 1) q
   joins-cleared some cleared =
       let m = subst (IsMoment last.errand q.errand (seen last) (seen q)) cleared joins-moment in
-      going-again h start tries tries last q j.of some j.going Cleared (tries - 1) (omega (arith, some)) m cleared-undone
+      going-again h start tries tries last q j.of some j.going Cleared (tries - 1) (omega (arith, some)) m (inr refl)
       (goes-cleared last.errand q.errand (seen last) (seen q) m)
 
   pub joins-never : answer ≡ Idle → ⊥

@@ -145,7 +145,7 @@ module _ (h : Heap) (q : Pass) (of : IsOf h q) (one : h.layout.callers ≡ 1) wh
       → ¬ IsInterrupted first (free place need) made p tries q
   free-over first p place need made tries some same i =
       let sum = i.spent below in
-      let kept : q.errand.cleared ≡ p.errand.cleared = free-keeps first q place need i.steps i.calling ∙ sym same in
+      let kept : q.errand.cleared ≡ p.errand.cleared = free-keeps first q place need (suc i.steps) i.calling ∙ sym same in
       omega (arith, lost, sum, kept, some)
 
 pub free-ends :

@@ -1,10 +1,10 @@
 -- A call of a pass: it begins, and makes one step after the other until it ends.
-use Rattle.std.specs.Prelude.{ℕ, zero, suc, ◌≡◌, ◌<◌, ◌≤◌, ◌+◌, ◌*◌, ◌-◌, ◌^◌, List, ◌++◌, Option, Some, None}
+use Rattle.std.specs.Prelude.{ℕ, zero, suc, ◌≡◌, ◌<◌, ◌+◌, ◌*◌, ◌-◌, ◌^◌, ◌⊎◌, List, ◌++◌, Option, Some, None}
 use Rattle.heap_geometry.specs.declared.limits.TheConstants.{CALL_STEPS}
 use Rattle.pool_model.specs.declared.event.Event.{Event}
 use Rattle.pool_model.specs.Histories.{own}
 use Rattle.errand_steps.specs.declared.reply.Progress.{Progress}
-use Rattle.errand_steps.specs.declared.reply.Progress.TheVariants.{Done}
+use Rattle.errand_steps.specs.declared.reply.Progress.TheVariants.{Cleared, Done, Lost}
 use Rattle.errand_steps.specs.declared.reply.Reply.{Reply}
 use Rattle.errand_steps.specs.Begins.{IsBusy, IsIdle}
 use Rattle.errand_steps.specs.Calls.{Call, begun_by}
@@ -54,11 +54,17 @@ pub record EndsInTime (first : Pass) (call : Call) (made : ℕ) (p : Pass) (trie
   pub few : steps < made + CALL_STEPS * tries
   pub in_time : tries_of called.last < tries_of p.errand + tries
 
--- or it is still under way, after as many steps that lost or cleared as there were tries. A count of lost ones that stands at its end shows no more of them
+-- a step that goes on counts as a try: it lost an exchange, or cleared an empty superblock
+abbrev pub IsTry : Progress → Type 0
+IsTry answer = (answer ≡ Lost) ⊎ (answer ≡ Cleared)
+
+-- or it is still under way: one step more has lost or cleared, before which fewer had than there were tries, and with which as many have. A count of lost ones that stands at its end shows no more of them
 pub record IsInterrupted (first : Pass) (call : Call) (made : ℕ) (p : Pass) (tries : ℕ) (q : Pass) : Type 0 where
   pub steps : ℕ
-  pub calling : IsCalling first call steps q
-  pub few : steps ≤ made + CALL_STEPS * tries
+  pub calling : IsCalling first call (suc steps) q
+  pub few : steps < made + CALL_STEPS * tries
+  pub last_tried : IsTry calling.on.2
+  pub in_time : tries_of calling.on.0 < tries_of p.errand + tries
   pub spent : q.errand.lost < 2 ^ 64 - 1 → tries_of q.errand ≡ tries_of p.errand + tries
 
 -- the one where there is a reply, the other where there is none

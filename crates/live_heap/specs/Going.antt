@@ -21,7 +21,7 @@ use Rattle.live_heap.specs.declared.heap.Heap.{Heap}
 use Rattle.live_heap.specs.declared.pass.Pass.{Pass}
 use Rattle.live_heap.specs.declared.view.View.{View}
 use Rattle.live_heap.specs.Answers.{alloc_answer_in, free_answer_in, reply_in, reply_of}
-use Rattle.live_heap.specs.Calls.{GoesOn, IsCalling, tries_of}
+use Rattle.live_heap.specs.Calls.{GoesOn, IsCalling, IsInterrupted, tries_of}
 use Rattle.live_heap.specs.Passes.{IsOf, view}
 use Rattle.live_heap.specs.Sights.{TakesStep, found_in}
 
@@ -41,7 +41,7 @@ pub record IsGoing (h : Heap) (p : Pass) (tries left : ℕ) (q : Pass) : Type 0 
       (first : Pass) (call : Call) (made : ℕ) → IsCalling first call made p
       → (steps : ℕ) × IsCalling first call steps q
       × (steps + steps_left h.layout q.errand.point + CALL_STEPS * left < made + CALL_STEPS * tries + CALL_STEPS)
-      × (left ≡ 0 → steps ≤ made + CALL_STEPS * tries)
+      × (left ≡ 0 → IsInterrupted first call made p tries q)
   pub most : tries_of q.errand + left ≤ tries_of p.errand + tries
   pub spent : q.errand.lost < 2 ^ 64 - 1 → tries_of q.errand + left ≡ tries_of p.errand + tries
 

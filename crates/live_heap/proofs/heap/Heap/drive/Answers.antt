@@ -1,7 +1,7 @@
-use Rattle.std.proofs.Common.{◌-◌, arith}
+use Rattle.std.proofs.Common.{◌-◌, inl, inr, refl, arith}
 use Rattle.errand_steps.specs.declared.reply.Progress.TheVariants.{Lost, Cleared}
 use Rattle.live_heap.specs.Answers.{reply_of}
-use Rattle.live_heap.proofs.CallsCounts.{going-further, going-again, going-ends, going-over, further-less, again-short, goes-lost, goes-cleared, lost-undone, cleared-undone, never-idle}
+use Rattle.live_heap.proofs.CallsCounts.{going-further, going-again, going-ends, going-over, further-less, again-short, goes-lost, goes-cleared, never-idle}
 use Rattle.live_heap.proofs.CallsAnswers.{step-moment}
 use Rattle.live_heap.proofs.heap.Heap.drive.Goals as goal
 
@@ -47,7 +47,7 @@ loop-left-preserved-in-Lost g c =
       of = c.step.ensures.of;
       going =
           going-again c.args.self.now g.start c.args._tries c.loop-left.left c.loop-left.pass c.step.new.pass i.of c.loop-left-test.true
-          i.going Lost (c.loop-left.left - 1) (omega (arith, c.loop-left-test.true)) m lost-undone goes;
+          i.going Lost (c.loop-left.left - 1) (omega (arith, c.loop-left-test.true)) m (inl refl) goes;
     }
 
 pub loop-left-smaller : goal.loop-left-smaller
@@ -66,7 +66,7 @@ loop-left-preserved g c =
       of = c.step.ensures.of;
       going =
           going-again c.args.self.now g.start c.args._tries c.loop-left.left c.loop-left.pass c.step.new.pass i.of c.loop-left-test.true
-          i.going Cleared (c.loop-left.left - 1) (omega (arith, c.loop-left-test.true)) m cleared-undone goes;
+          i.going Cleared (c.loop-left.left - 1) (omega (arith, c.loop-left-test.true)) m (inr refl) goes;
     }
 
 pub returns-in-Done : goal.returns-in-Done
