@@ -11,6 +11,7 @@ use Rattle.packed_words.specs.declared.widths.TheConstants.{TAG_BITS}
 use Rattle.word_plan.specs.declared.action.Found.{Found as Find}
 use Rattle.word_plan.proofs.SeatLemmas.{block_count_of-most}
 use Rattle.pool_model.specs.declared.event.Event.{Event}
+use Rattle.pool_model.specs.Histories.{Begins}
 use Rattle.errand_steps.specs.declared.next.Next.{Next}
 use Rattle.errand_steps.specs.declared.point.Point.{Point}
 use Rattle.errand_steps.specs.declared.reply.Progress.{Progress}
@@ -32,6 +33,8 @@ use Rattle.live_heap.specs.Going.{IsGoing}
 use Rattle.live_heap.specs.Passes.{IsOf, seen}
 use Rattle.live_heap.specs.Sights.{IsBegun}
 use Rattle.live_heap.proofs.Begun.{of-laid}
+use Rattle.live_heap.proofs.Growing.{starts-on, starts-self}
+use Rattle.live_heap.proofs.LawsKept.{moment-grows}
 use Rattle.live_heap.proofs.CallsGrow.{settled-of, busy-after, calls-further, calls-go_on, calls-end}
 
 -- a count of lost ones and one of cleared ones, before and after a step that adds so many to both together
@@ -221,6 +224,7 @@ pub going-first : (h : Heap) (p : Pass) (tries : ℕ) → IsOf h p → IsBusy p.
 going-first h p tries of busy some =
     record {
       busy = busy;
+      grows = starts-self (seen p);
       calls = λ first call made c. (made, c, omega (arith, of-short h p of), λ none. absurd (omega (arith, none, some)));
       most = omega arith;
       spent = λ below. refl;
@@ -229,6 +233,10 @@ going-first h p tries of busy some =
 module _ (h : Heap) (p : Pass) (tries left : ℕ) (q r : Pass) (of : IsOf h q) (some : 0 < left) (i : IsGoing h p tries left q) where
   heap : q.errand.geometry ≡ h.layout
   heap = of-laid h q of
+
+  -- more is seen behind each step
+  pub going-grows : (answer : Progress) → IsMoment q.errand r.errand (seen q) (seen r) answer → Begins (seen p) (seen r)
+  going-grows answer m = starts-on (seen p) (seen q) (seen r) i.grows (moment-grows q.errand r.errand (seen q) (seen r) answer m)
 
   -- a step with nothing lost and nothing cleared
   pub further-less : IsMoment q.errand r.errand (seen q) (seen r) More → steps_left h.layout r.errand.point < steps_left h.layout q.errand.point
@@ -241,6 +249,7 @@ module _ (h : Heap) (p : Pass) (tries left : ℕ) (q r : Pass) (of : IsOf h q) (
       let less = further-less m in
       record {
         busy = goes.busy;
+        grows = going-grows More m;
         calls = λ first call made c.
             let g = i.calls first call made c in (
               suc g.0,
@@ -265,6 +274,7 @@ module _ (h : Heap) (p : Pass) (tries left : ℕ) (q r : Pass) (of : IsOf h q) (
       λ below. let n = goes.counts.all below in omega (arith, n.1, i.spent n.0, one) in
       record {
         busy = goes.busy;
+        grows = going-grows answer m;
         calls = λ first call made c.
             let g = i.calls first call made c in
             let on = calls-further first call g.0 q r answer m g.1 (try-undone answer tried) in (

@@ -17,7 +17,7 @@ use Rattle.live_heap.specs.Passes.{IsOf, seen, view}
 use Rattle.live_heap.specs.Sights.{TakesStep, found_in}
 use Rattle.live_heap.specs.Answers.{IsAnswerable, reply_of}
 use Rattle.live_heap.specs.Going.{HasGone, HasWalked, IsGoing, Rejoins, at_block, stands_at}
-use Rattle.live_heap.proofs.CallsCounts.{goes-cleared, goes-lost, going-again, going-ends, going-further, never-idle}
+use Rattle.live_heap.proofs.CallsCounts.{goes-cleared, goes-lost, going-again, going-ends, going-further, going-grows, never-idle}
 use Rattle.live_heap.proofs.Stepped.{still-of, took-step}
 use Rattle.live_heap.proofs.Told.{moment-answerable}
 
@@ -85,6 +85,7 @@ module _
   joins-ends some r done ending is =
       record {
         of = joins-of;
+        grows = going-grows h start tries tries last q j.of some j.going answer joins-moment;
         goes = going-ends h start tries tries last q j.of some j.going (reply_of ending)
             (subst (IsMoment last.errand q.errand (seen last) (seen q)) (done ∙ ap Done (sym is)) joins-moment);
       }

@@ -74,9 +74,16 @@ called-adds p q call steps answer h =
     (moment-grows h.last q.errand h.sight (seen q) _ h.moment))
     h.events
 
-calling-adds : (p q : Pass) (call : Call) (steps : ℕ) (h : IsCalling p call steps q) → Adds p.errand.caller (seen p) (seen q) h.added
+pub calling-adds : (p q : Pass) (call : Call) (steps : ℕ) (h : IsCalling p call steps q) → Adds p.errand.caller (seen p) (seen q) h.added
 calling-adds p q call steps h =
     adds-from p.errand.caller (seen p) (seen q) h.added (steps-grow steps (begun_by p.errand call) (seen p) q.errand (seen q) h.on) h.events
+
+-- what was seen before is the beginning of what is seen now
+pub called-grows : (p q : Pass) (call : Call) (steps : ℕ) (answer : Reply) → HasCalled p call steps answer q → Begins (seen p) (seen q)
+called-grows p q call steps answer called = let adds = called-adds p q call steps answer called in (adds.0, adds.1)
+
+pub calling-grows : (p q : Pass) (call : Call) (steps : ℕ) → IsCalling p call steps q → Begins (seen p) (seen q)
+calling-grows p q call steps calling = let adds = calling-adds p q call steps calling in (adds.0, adds.1)
 
 -- a block stays its owner's where the events that its owner adds spare it
 pub owns-on :
@@ -127,7 +134,7 @@ calling-keeps h p q call steps block was of calling leaves owns =
     (so_far-spares block.place p.errand.caller call (stage_of q.errand.point) calling.added leaves calling.under_way) owns)
 
 -- the event stands in the list, and behind these events of the caller
-abbrev Splits : ℕ → List Event → List Event → Event → Type 0
+abbrev pub Splits : ℕ → List Event → List Event → Event → Type 0
 Splits caller xs front event =
     (before : List Event) × (after : List Event) × (xs ≡ before ++ event ∷ after) × (own caller before ≡ front)
 
@@ -153,11 +160,11 @@ splits-here caller x xs event same = ([], xs, ap (λ (y : Event). y ∷ xs) same
 first-same : (x y : Event) (xs ys : List Event) → x ∷ xs ≡ y ∷ ys → x ≡ y
 first-same x y xs ys e = cc
 
-others-same : (x y : Event) (xs ys : List Event) → x ∷ xs ≡ y ∷ ys → xs ≡ ys
+pub others-same : (x y : Event) (xs ys : List Event) → x ∷ xs ≡ y ∷ ys → xs ≡ ys
 others-same x y xs ys e = cc
 
 -- where the events of a caller end with one, that stands in the list behind the others
-own-split : (caller : ℕ) (xs front : List Event) (event : Event) → own caller xs ≡ front ++ event ∷ [] → Splits caller xs front event
+pub own-split : (caller : ℕ) (xs front : List Event) (event : Event) → own caller xs ≡ front ++ event ∷ [] → Splits caller xs front event
 own-split caller [] [] event e = absurd (let t : [] ≡ event ∷ [] = e in cc)
 own-split caller [] (f ∷ fs) event e = absurd (let t : [] ≡ f ∷ (fs ++ event ∷ []) = e in cc)
 own-split caller (x ∷ xs) [] event e =
@@ -199,7 +206,7 @@ looks-spare : (place caller class count : ℕ) → AllSpare place (looks caller 
 looks-spare place caller class zero = tt
 looks-spare place caller class (suc count) = (tt, looks-spare place caller class count)
 
-giving-last :
+pub giving-last :
     (caller words place at : ℕ) (n : Need) (events : List Event) → IsGiving caller words place n events
     → (front : List Event) × (events ≡ front ++ Alloc caller words place ∷ []) × AllSpare at front
 giving-last caller words place at (Small class) events h = (looks caller class h.0, h.1, looks-spare at caller class h.0)

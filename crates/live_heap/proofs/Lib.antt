@@ -5,6 +5,7 @@ pub mod CallsAnswers
 pub mod CallsCounts
 pub mod CallsGrow
 pub mod CallsOne
+pub mod Changes
 pub mod Dealt
 pub mod Ending
 pub mod FreeLemmas
@@ -12,6 +13,7 @@ pub mod Gathering
 pub mod Growing
 pub mod Holding
 pub mod JoinLemmas
+pub mod Last
 pub mod LawsClosed
 pub mod LawsKept
 pub mod LawsServed
@@ -19,6 +21,7 @@ pub mod Linked
 pub mod MadeLemmas
 pub mod Moves
 pub mod OneCaller
+pub mod Owned
 pub mod RefusedPoints
 pub mod RefusedSteps
 pub mod Seats

@@ -28,7 +28,7 @@ use Rattle.live_heap.specs.Going.{EndsSo, HasGone, HasWalked, IsWalking, at_bloc
 use Rattle.live_heap.specs.Passes.{IsOf, seen}
 use Rattle.live_heap.specs.Sights.{after_events, found_in}
 use Rattle.live_heap.proofs.Begun.{begins-of}
-use Rattle.live_heap.proofs.CallsCounts.{going-ends, going-first, going-further}
+use Rattle.live_heap.proofs.CallsCounts.{going-ends, going-first, going-further, going-grows}
 use Rattle.live_heap.proofs.Stepped.{still-of, took-step}
 
 pub planned-at : (e : ErrandFields) (p : BlockPoint) (o : Continuation) → plan_block_of p ≡ plan_of (at_block e p o)
@@ -119,6 +119,7 @@ module _
       let moment = took-step before after n (Done (reply_of ending)) settled told w.has.1 in
       record {
         of = still-of h before after n w.walks.of w.table w.empty settled w.has.1;
+        grows = going-grows h start tries tries before after w.walks.of w.walks.some w.walks.going (Done (reply_of ending)) moment;
         goes = going-ends h start tries tries before after w.walks.of w.walks.some w.walks.going (reply_of ending) moment;
       }
 

@@ -5,6 +5,7 @@ use Rattle.atomic_table.specs.declared.shared.Seat.{Seat}
 use Rattle.word_plan.specs.declared.action.Found.{Found as Find}
 use Rattle.superblock_parts.specs.declared.point.BlockPoint.{BlockPoint}
 use Rattle.superblock_parts.specs.Points.{settle_block_of}
+use Rattle.pool_model.specs.Histories.{Begins}
 use Rattle.errand_steps.specs.declared.continuation.Continuation.{Continuation}
 use Rattle.errand_steps.specs.declared.next.Next.TheVariants.{End}
 use Rattle.errand_steps.specs.declared.point.Point.TheVariants as point
@@ -22,7 +23,7 @@ use Rattle.live_heap.specs.declared.pass.Pass.{Pass}
 use Rattle.live_heap.specs.declared.view.View.{View}
 use Rattle.live_heap.specs.Answers.{alloc_answer_in, free_answer_in, reply_in, reply_of}
 use Rattle.live_heap.specs.Calls.{GoesOn, IsCalling, IsInterrupted, tries_of}
-use Rattle.live_heap.specs.Passes.{IsOf, view}
+use Rattle.live_heap.specs.Passes.{IsOf, seen, view}
 use Rattle.live_heap.specs.Sights.{TakesStep, found_in}
 
 -- a pass as it would stand in a call that it has begun
@@ -37,6 +38,7 @@ HasFound e x v w =
 -- a call that is given so many tries has gone on from p to q, and has so many of them left
 pub record IsGoing (h : Heap) (p : Pass) (tries left : ℕ) (q : Pass) : Type 0 where
   pub busy : IsBusy q.errand
+  pub grows : Begins (seen p) (seen q)
   pub calls :
       (first : Pass) (call : Call) (made : ℕ) → IsCalling first call made p
       → (steps : ℕ) × IsCalling first call steps q
@@ -48,6 +50,7 @@ pub record IsGoing (h : Heap) (p : Pass) (tries left : ℕ) (q : Pass) : Type 0 
 -- a call that stood at `start` and is given so many tries has gone on to this answer
 pub record HasGone (h : Heap) (start : Pass) (tries : ℕ) (told : Option Ending) (q : Pass) : Type 0 where
   pub of : IsOf h q
+  pub grows : Begins (seen start) (seen q)
   pub goes :
       (first : Pass) (call : Call) (made : ℕ) → IsCalling first call made start → GoesOn first call made start tries (reply_in told) q
 

@@ -1,5 +1,6 @@
 pub mod Answers
 pub mod Calls
+pub mod Contents
 pub mod Endings
 pub mod Going
 pub mod Hands

@@ -4,6 +4,7 @@ ghost use Rattle.std.specs.Prelude.{ℕ, ◌≡◌, ◌<◌, ◌↔◌, Some, No
 ghost use Rattle.std.specs.Result.{IfErr};
 ghost use Rattle.heap_geometry.specs.Need.{usable_words};
 ghost use Rattle.heap_geometry.specs.declared.limits.TheConstants.{LARGE_MOST, SHELVES};
+ghost use Rattle.pool_model.specs.Histories.{Begins};
 ghost use Rattle.errand_steps.specs.declared.reply.Begun.TheVariants as begun;
 ghost use Rattle.errand_steps.specs.declared.reply.Reply.TheVariants as reply;
 ghost use Rattle.errand_steps.specs.Begins.{IsIdle, IsBusy, alloc_answer};
@@ -14,7 +15,7 @@ ghost use Rattle.live_heap.specs.declared.answers.Resumed.{Resumed};
 ghost use Rattle.live_heap.specs.declared.pass.Pass.{Pass};
 ghost use Rattle.live_heap.specs.Answers.{AllocTells, FreeTells, IsAllocEnding, IsContents, IsResumable, PutTellsFull, ResumeTells, TakeTells, IsTriedEnding, alloc_ended, resumed_ended, reply_in};
 ghost use Rattle.live_heap.specs.Calls.{GoesOn, HasCalled, IsCalling};
-ghost use Rattle.live_heap.specs.Passes.{IsOf, Owns};
+ghost use Rattle.live_heap.specs.Passes.{IsOf, Owns, seen};
 
 use crate::answers::{AllocAnswer, Ending, FreeAnswer, Full, Resumed, Step, Taken};
 use crate::block::Block;
@@ -103,6 +104,7 @@ impl Heap {
         requires under_way { IsResumable pass.old }
         requires tries { 0 < tries }
         ensures of { IsOf self.now pass.new }
+        ensures grows { Begins (seen pass.old) (seen pass.new) }
         ensures tells { (first : Pass) (call : Call) (made : ℕ) → IsCalling first call made pass.old
             → ResumeTells first call made pass.old tries result pass.new }
     {
@@ -181,6 +183,7 @@ impl Heap {
         requires busy { IsBusy pass.old.errand }
         requires tries { 0 < tries }
         ensures of { IsOf self.now pass.new }
+        ensures grows { Begins (seen pass.old) (seen pass.new) }
         ensures goes { (first : Pass) (call : Call) (made : ℕ) → IsCalling first call made pass.old
             → GoesOn first call made pass.old tries (reply_in result) pass.new }
     {

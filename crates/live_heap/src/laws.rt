@@ -1,5 +1,7 @@
 //! Laws of the heap: theorems about the definitions, on functions that do nothing.
 
+pub mod blocks;
+
 ghost use Rattle.std.specs.Prelude.{ℕ, ◌≡◌, ◌≢◌, ◌<◌, ◌≤◌, ◌+◌, ◌-◌, ◌*◌, ◌^◌, List, ◌++◌, Some, length};
 ghost use Rattle.heap_geometry.specs.declared.need.Need.{Need};
 ghost use Rattle.heap_geometry.specs.declared.need.Need.TheVariants.{Small, Large};

@@ -1,7 +1,7 @@
 use Rattle.std.proofs.Common.{◌-◌, inl, inr, refl, arith}
 use Rattle.errand_steps.specs.declared.reply.Progress.TheVariants.{Lost, Cleared}
 use Rattle.live_heap.specs.Answers.{reply_of}
-use Rattle.live_heap.proofs.CallsCounts.{going-further, going-again, going-ends, going-over, further-less, again-short, goes-lost, goes-cleared, never-idle}
+use Rattle.live_heap.proofs.CallsCounts.{going-further, going-again, going-ends, going-grows, going-over, further-less, again-short, goes-lost, goes-cleared, never-idle}
 use Rattle.live_heap.proofs.CallsAnswers.{step-moment}
 use Rattle.live_heap.proofs.heap.Heap.drive.Goals as goal
 
@@ -73,8 +73,10 @@ pub returns-in-Done : goal.returns-in-Done
 returns-in-Done g c =
     let i = c.loop-left.invariant in
     let m = step-moment c.loop-left.pass c.step.new.pass _ _ c.in-Done.is (c.step.ensures.busy i.going.busy) in
+    let left = c.loop-left in
     record {
       of = c.step.ensures.of;
+      grows = going-grows c.args.self.now g.start c.args._tries left.left left.pass c.step.new.pass i.of c.loop-left-test.true i.going _ m;
       goes =
           going-ends c.args.self.now g.start c.args._tries c.loop-left.left c.loop-left.pass c.step.new.pass i.of c.loop-left-test.true i.going
           (reply_of c.in-Done.ending) m;
@@ -85,6 +87,7 @@ returns g c =
     let i = c.loop-left.invariant in
     record {
       of = i.of;
+      grows = i.going.grows;
       goes =
           going-over c.args.self.now g.start c.args._tries c.loop-left.left c.loop-left.pass (omega (arith, c.loop-left-test.false)) i.going;
     }

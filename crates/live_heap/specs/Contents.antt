@@ -1,0 +1,88 @@
+-- What the caller of a pass owns, place by place, and what a call makes of it.
+use Rattle.std.specs.Prelude.{ℕ, Bool, false, ◌≡◌, ◌≢◌, ◌==◌, ◌++◌, List, [], ◌∷◌, Option, Some, None, option_map, if◌then◌else◌}
+use Rattle.pool_model.specs.declared.event.Event.{Event}
+use Rattle.pool_model.specs.declared.event.Event.TheVariants as event
+use Rattle.pool_model.specs.declared.owner.Owner.{Owner}
+use Rattle.pool_model.specs.declared.owner.Owner.TheVariants.{Caller, Shelf}
+use Rattle.pool_model.specs.Histories.{EndsWith}
+use Rattle.pool_model.specs.Pool.{Block, block_at, fresh_block, handed_to, pool_of, written}
+use Rattle.errand_steps.specs.declared.reply.Reply.{Reply}
+use Rattle.errand_steps.specs.declared.reply.Reply.TheVariants as reply
+use Rattle.errand_steps.specs.Calls.{Call, alloc, free, put, take, write}
+use Rattle.call_events.specs.Stages.{Stage}
+use Rattle.call_events.specs.Stages as stage
+use Rattle.live_heap.specs.declared.pass.Pass.{Pass}
+use Rattle.live_heap.specs.Passes.{seen}
+
+-- the owner is this caller
+abbrev pub is_of : ℕ → Owner → Bool
+is_of caller (Caller other) = other == caller
+is_of caller (Shelf shelf) = false
+
+-- the block, where the caller owns it
+abbrev pub if_of : ℕ → Option Block → Option Block
+if_of caller None = None
+if_of caller (Some block) = if is_of caller block.owner then Some block else None
+
+-- the caller's block at a place after these events, with its words, where it has one there
+abbrev pub owned_after : List Event → ℕ → ℕ → Option Block
+owned_after events caller place = if_of caller (block_at place (pool_of events))
+
+-- so it is of a pass, after the events that it has seen
+abbrev pub owned_in : Pass → ℕ → Option Block
+owned_in p place = owned_after (seen p) p.errand.caller place
+
+-- the pass owns the same blocks, with the same words
+abbrev pub OwnsSame : Pass → Pass → Type 0
+OwnsSame p q = (place : ℕ) → owned_in q place ≡ owned_in p place
+
+-- so it does but at one place, where it owns this now
+pub record OwnsBut (p q : Pass) (place : ℕ) (now : Option Block) : Type 0 where
+  pub here : owned_in q place ≡ now
+  pub others : (other : ℕ) → other ≢ place → owned_in q other ≡ owned_in p other
+
+-- the event of the last step of a call that has ended so; none where that isn't the same for all such calls
+abbrev pub tells_last : ℕ → Call → Reply → Option Event
+tells_last caller (write place need i value) reply.Wrote = Some (event.Write caller place i value)
+tells_last caller (put place need shelf) reply.Put = Some (event.Put caller place shelf)
+tells_last caller (take shelf) (reply.Got place need) = Some (event.Take caller shelf place)
+tells_last caller (take shelf) reply.Empty = Some (event.TakeNone caller shelf)
+tells_last caller call answer = None
+
+-- at a place where it owned nothing it owns a new block, of which no word is written
+pub record IsGiven (p : Pass) (words place : ℕ) (q : Pass) : Type 0 where
+  pub nothing : owned_in p place ≡ None
+  pub given : OwnsBut p q place (Some (fresh_block p.errand.caller words place))
+
+-- the last event seen is the put: the block lies on the shelf, with the words that it had
+pub record HasPut (p : Pass) (place shelf : ℕ) (q : Pass) : Type 0 where
+  pub gone : OwnsBut p q place None
+  pub block : Block
+  pub was : owned_in p place ≡ Some block
+  pub last : EndsWith (seen q) (event.Put p.errand.caller place shelf)
+  pub lies : block_at place (pool_of (seen q)) ≡ Some (handed_to (Shelf shelf) block)
+
+-- the last event seen is the take, before which the block lay on the shelf: the pass owns it, with the words that it had there
+pub record HasGot (p : Pass) (shelf place : ℕ) (q : Pass) : Type 0 where
+  pub nothing : owned_in p place ≡ None
+  pub before : List Event
+  pub last : seen q ≡ before ++ event.Take p.errand.caller shelf place ∷ []
+  pub block : Block
+  pub lay : block_at place (pool_of before) ≡ Some block
+  pub on : block.owner ≡ Shelf shelf
+  pub got : OwnsBut p q place (Some (handed_to (Caller p.errand.caller) block))
+
+-- what a call that has ended so has made of what its caller owns: it changes the one block that it is about
+abbrev pub HasChanged : Pass → Call → Reply → Pass → Type 0
+HasChanged p (alloc words) (reply.Given place need) q = IsGiven p words place q
+HasChanged p (free place need) reply.Freed q = OwnsBut p q place None
+HasChanged p (write place need i value) reply.Wrote q = OwnsBut p q place (option_map (written i value) (owned_in p place))
+HasChanged p (put place need shelf) reply.Put q = HasPut p place shelf q
+HasChanged p (take shelf) (reply.Got place need) q = HasGot p shelf place q
+HasChanged p call answer q = OwnsSame p q
+
+-- what one has that is under way: an allocation behind its event has its block, a free behind its event has none any more
+abbrev pub HasChangedSoFar : Pass → Call → Stage → Pass → Type 0
+HasChangedSoFar p (alloc words) (stage.given place need) q = IsGiven p words place q
+HasChangedSoFar p (free place need) stage.freed q = OwnsBut p q place None
+HasChangedSoFar p call stage q = OwnsSame p q

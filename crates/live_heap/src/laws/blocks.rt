@@ -1,0 +1,43 @@
+//! Laws of what calls show, and of what they make of a caller's blocks.
+
+ghost use Rattle.std.specs.Prelude.{ℕ, ◌≡◌, List, Some};
+ghost use Rattle.pool_model.specs.declared.event.Event.{Event};
+ghost use Rattle.pool_model.specs.Histories.{Begins, EndsWith};
+ghost use Rattle.errand_steps.specs.declared.reply.Progress.{Progress};
+ghost use Rattle.errand_steps.specs.declared.reply.Reply.{Reply};
+ghost use Rattle.errand_steps.specs.Calls.{Call};
+ghost use Rattle.errand_steps.specs.Errands.{ErrandFields};
+ghost use Rattle.errand_steps.specs.Steps.{event_at};
+ghost use Rattle.call_events.specs.Stages.{stage_of};
+ghost use Rattle.step_core.specs.Moments.{IsMoment};
+ghost use Rattle.live_heap.specs.declared.heap.Heap.{Heap};
+ghost use Rattle.live_heap.specs.declared.pass.Pass.{Pass};
+ghost use Rattle.live_heap.specs.Calls.{HasCalled, IsCalling};
+ghost use Rattle.live_heap.specs.Contents.{HasChanged, HasChangedSoFar, owned_after, owned_in, tells_last};
+ghost use Rattle.live_heap.specs.Endings.{ClosedFields, HasTakenIn, IsResting};
+ghost use Rattle.live_heap.specs.Passes.{IsOf, seen};
+
+/// What a pass has seen stays seen, and is what it sees first, behind each step and each call. Where a
+/// step has an event, that is the last one seen behind it; a write, a put, and a take that gets a block or
+/// finds none have theirs at their last step.
+pub fn passes_see_more()
+    ensures stepped { (e f : ErrandFields) (before after : List Event) (answer : Progress) → IsMoment e f before after answer → Begins before after }
+    ensures called { (p q : Pass) (call : Call) (steps : ℕ) (answer : Reply) → HasCalled p call steps answer q → Begins (seen p) (seen q) }
+    ensures calling { (p q : Pass) (call : Call) (steps : ℕ) → IsCalling p call steps q → Begins (seen p) (seen q) }
+    ensures last_of_step { (e f : ErrandFields) (before after : List Event) (answer : Progress) (m : IsMoment e f before after answer)
+        (event : Event) → event_at m.state e.caller ≡ Some event → EndsWith after event }
+    ensures last { (p q : Pass) (call : Call) (steps : ℕ) (answer : Reply) (event : Event) → HasCalled p call steps answer q
+        → tells_last p.errand.caller call answer ≡ Some event → EndsWith (seen q) event }
+{}
+
+/// A call changes the one block that it is about, and leaves each other block of its caller's with each of
+/// its words, whatever other callers do in the meantime; no other block comes to it, or is lost. A closed
+/// heap has just what each pass owned.
+pub fn calls_change_their_block()
+    ensures called { (h : Heap) (p q : Pass) (call : Call) (steps : ℕ) (answer : Reply) → IsOf h q → HasCalled p call steps answer q
+        → HasChanged p call answer q }
+    ensures calling { (h : Heap) (p q : Pass) (call : Call) (steps : ℕ) → IsOf h q → IsCalling p call steps q
+        → HasChangedSoFar p call (stage_of q.errand.point) q }
+    ensures closed { (c : ClosedFields) (p : Pass) (place : ℕ) → IsResting c → HasTakenIn c p
+        → owned_after c.events p.errand.caller place ≡ owned_in p place }
+{}
