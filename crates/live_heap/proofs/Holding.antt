@@ -43,7 +43,7 @@ idle-free : (e : ErrandFields) → IsIdle e → IsBusy e → ⊥
 idle-free e idle busy = true≢false (sym idle ∙ busy)
 
 -- blocks that are kept one by one are held on
-holds-kept :
+pub holds-kept :
     (L : Block → Type 0) (p q : Pass) → ((block : Block) → L block → Owns p block → Owns q block)
     → (blocks : List Block) → All L blocks → Holds p blocks → Holds q blocks
 holds-kept L p q keep [] left held = tt
@@ -51,7 +51,7 @@ holds-kept L p q keep (b ∷ bs) left held =
     (keep b (All-head L b bs left) held.0, held.1, holds-kept L p q keep bs (All-tail L b bs left) held.2)
 
 -- what is so of each owned block is so of all that are held
-holds-all : (p : Pass) (P : Block → Type 0) → ((block : Block) → Owns p block → P block) → (blocks : List Block) → Holds p blocks → All P blocks
+pub holds-all : (p : Pass) (P : Block → Type 0) → ((block : Block) → Owns p block → P block) → (blocks : List Block) → Holds p blocks → All P blocks
 holds-all p P each [] held = All-nil P
 holds-all p P each (b ∷ bs) held = All-cons P b bs (each b held.0) (holds-all p P each bs held.2)
 
@@ -68,14 +68,14 @@ holds-push p block owns (b ∷ bs) apart held =
     )
 
 -- what is so of all is so of one, and of the others
-all-out : (P : Block → Type 0) (before after : List Block) (block : Block) → All P (before ++ block ∷ after) → P block × All P (before ++ after)
+pub all-out : (P : Block → Type 0) (before after : List Block) (block : Block) → All P (before ++ block ∷ after) → P block × All P (before ++ after)
 all-out P [] after block all = (All-head P block after all, All-tail P block after all)
 all-out P (b ∷ bs) after block all =
     let rest = all-out P bs after block (All-tail P b (bs ++ block ∷ after) all) in
     (rest.0, All-cons P b (bs ++ after) (All-head P b (bs ++ block ∷ after) all) rest.1)
 
 -- a block that is taken out of the hand is owned, it lies apart from the others, and these are held
-holds-out :
+pub holds-out :
     (p : Pass) (before after : List Block) (block : Block) → Holds p (before ++ block ∷ after)
     → Owns p block × All (λ other. other.place ≢ block.place) (before ++ after) × Holds p (before ++ after)
 holds-out p [] after block held = held
@@ -85,6 +85,24 @@ holds-out p (b ∷ bs) after block held =
       rest.0,
       All-cons (λ (other : Block). other.place ≢ block.place) b (bs ++ after) (λ same. out.0 (sym same)) rest.1,
       (held.0, out.1, rest.2),
+    )
+
+-- and the other way
+pub all-in : (P : Block → Type 0) (before after : List Block) (block : Block) → P block → All P (before ++ after) → All P (before ++ block ∷ after)
+all-in P [] after block here all = All-cons P block after here all
+all-in P (b ∷ bs) after block here all =
+    All-cons P b (bs ++ block ∷ after) (All-head P b (bs ++ after) all) (all-in P bs after block here (All-tail P b (bs ++ after) all))
+
+pub holds-in :
+    (p : Pass) (before after : List Block) (block : Block)
+    → Owns p block × All (λ other. other.place ≢ block.place) (before ++ after) × Holds p (before ++ after) → Holds p (before ++ block ∷ after)
+holds-in p [] after block held = held
+holds-in p (b ∷ bs) after block held =
+    let here : b.place ≢ block.place = All-head (λ (other : Block). other.place ≢ block.place) b (bs ++ after) held.1 in
+    let rest : Holds p (b ∷ bs ++ after) = held.2 in (
+      rest.0,
+      all-in (λ other. other.place ≢ b.place) bs after block (λ same. here (sym same)) rest.1,
+      holds-in p bs after block (held.0, All-tail (λ (other : Block). other.place ≢ block.place) b (bs ++ after) held.1, rest.2),
     )
 
 -- a list and its element at a number

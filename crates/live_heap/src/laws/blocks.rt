@@ -1,6 +1,6 @@
 //! Laws of what calls show, and of what they make of a caller's blocks.
 
-ghost use Rattle.std.specs.Prelude.{ℕ, ◌≡◌, List, Some};
+ghost use Rattle.std.specs.Prelude.{ℕ, ◌≡◌, ◌↔◌, List, [], ◌∷◌, ◌++◌, Some};
 ghost use Rattle.pool_model.specs.declared.event.Event.{Event};
 ghost use Rattle.pool_model.specs.Histories.{Begins, EndsWith};
 ghost use Rattle.errand_steps.specs.declared.reply.Progress.{Progress};
@@ -10,12 +10,14 @@ ghost use Rattle.errand_steps.specs.Errands.{ErrandFields};
 ghost use Rattle.errand_steps.specs.Steps.{event_at};
 ghost use Rattle.call_events.specs.Stages.{stage_of};
 ghost use Rattle.step_core.specs.Moments.{IsMoment};
+ghost use Rattle.live_heap.specs.declared.block.Block.{Block};
 ghost use Rattle.live_heap.specs.declared.heap.Heap.{Heap};
 ghost use Rattle.live_heap.specs.declared.pass.Pass.{Pass};
 ghost use Rattle.live_heap.specs.Calls.{HasCalled, IsCalling};
 ghost use Rattle.live_heap.specs.Contents.{HasChanged, HasChangedSoFar, owned_after, owned_in, tells_last};
 ghost use Rattle.live_heap.specs.Endings.{ClosedFields, HasTakenIn, IsResting};
-ghost use Rattle.live_heap.specs.Passes.{IsOf, seen};
+ghost use Rattle.live_heap.specs.Holdings.{ChangesHand, ChangesHandSoFar, HoldsExactly};
+ghost use Rattle.live_heap.specs.Passes.{IsFresh, IsOf, seen};
 
 /// What a pass has seen stays seen, and is what it sees first, behind each step and each call. Where a
 /// step has an event, that is the last one seen behind it; a write, a put, and a take that gets a block or
@@ -40,4 +42,16 @@ pub fn calls_change_their_block()
         → HasChangedSoFar p call (stage_of q.errand.point) q }
     ensures closed { (c : ClosedFields) (p : Pass) (place : ℕ) → IsResting c → HasTakenIn c p
         → owned_after c.events p.errand.caller place ≡ owned_in p place }
+{}
+
+/// The blocks in a pass's hand are all that its caller owns, each once: nothing at first, and then what each
+/// call makes of it, one that is under way too. Their order means nothing.
+pub fn passes_hold_exactly()
+    ensures fresh { (h : Heap) (p : Pass) → IsFresh h p → HoldsExactly p [] }
+    ensures called { (h : Heap) (p q : Pass) (call : Call) (steps : ℕ) (answer : Reply) (had has : List Block) → IsOf h q
+        → HasCalled p call steps answer q → ChangesHand call answer had has → HoldsExactly p had → HoldsExactly q has }
+    ensures calling { (h : Heap) (p q : Pass) (call : Call) (steps : ℕ) (had has : List Block) → IsOf h q → IsCalling p call steps q
+        → ChangesHandSoFar call (stage_of q.errand.point) had has → HoldsExactly p had → HoldsExactly q has }
+    ensures order { (p : Pass) (before after : List Block) (block : Block)
+        → HoldsExactly p (before ++ block ∷ after) ↔ HoldsExactly p (block ∷ before ++ after) }
 {}

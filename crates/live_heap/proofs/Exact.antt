@@ -1,0 +1,184 @@
+-- The hand of a pass is all that its caller owns.
+use Rattle.std.proofs.Common.{ℕ, ◌≡◌, ◌≢◌, ◌++◌, ◌↔◌, List, [], ◌∷◌, Some, None, sym, ◌∙◌, ap, subst, inl, inr}
+use Rattle.std.specs.Prelude.{All, option_map}
+use Rattle.std.proofs.lemmas.Bool.{cases_eq}
+use Rattle.std.proofs.lemmas.List.Elements.{All-cons, All-head, All-tail}
+use Rattle.std.proofs.lemmas.Option.{none-some}
+use Rattle.heap_geometry.specs.declared.need.Need.{Need}
+use Rattle.pool_model.specs.declared.event.Event.{Event}
+use Rattle.pool_model.specs.declared.owner.Owner.TheVariants.{Caller}
+use Rattle.pool_model.specs.Pool.{Block as PoolBlock, block_at, fresh_block, handed_to, pool_of, written}
+use Rattle.errand_steps.specs.declared.reply.Reply.{Reply}
+use Rattle.errand_steps.specs.declared.reply.Reply.TheVariants as reply
+use Rattle.errand_steps.specs.Calls.{Call, alloc, free, put, take, write}
+use Rattle.call_events.specs.Stages.{Stage, freed, given, stage_of}
+use Rattle.call_events.specs.UnderWay.{SoFar}
+use Rattle.step_core.specs.Cores.{OwnsAfter}
+use Rattle.live_heap.specs.declared.block.Block.{Block}
+use Rattle.live_heap.specs.declared.heap.Heap.{Heap}
+use Rattle.live_heap.specs.declared.pass.Pass.{Pass}
+use Rattle.live_heap.specs.Calls.{HasCalled, IsCalling}
+use Rattle.live_heap.specs.Contents.{HasChanged, HasChangedSoFar, HasGot, OwnsBut, OwnsSame, if_of, owned_in}
+use Rattle.live_heap.specs.Holdings.{ChangesHand, ChangesHandSoFar, Gains, HoldsExactly, Loses}
+use Rattle.live_heap.specs.Passes.{IsFresh, IsOf, Owns, seen}
+use Rattle.live_heap.proofs.CallsAnswers.{got-owns}
+use Rattle.live_heap.proofs.Changes.{called-changes, calling-changes}
+use Rattle.live_heap.proofs.Holding.{all-in, all-out, holds-all, holds-kept, holds-in, holds-out}
+use Rattle.live_heap.proofs.Owned.{of-self, owned-found}
+
+-- what is owned at a block's place
+abbrev OwnsAt : Pass → ℕ → Need → Type 0
+OwnsAt p place need = OwnsAfter (seen p) p.errand.caller place need
+
+owned-there : (p : Pass) (place : ℕ) (need : Need) → OwnsAt p place need → (b : PoolBlock) × (owned_in p place ≡ Some b) × (b.need ≡ need)
+owned-there p place need owns =
+    (owns.0, ap (if_of p.errand.caller) owns.1 ∙ of-self p.errand.caller owns.0 owns.2, owns.3)
+
+there-owned : (p : Pass) (place : ℕ) (need : Need) (b : PoolBlock) → owned_in p place ≡ Some b → b.need ≡ need → OwnsAt p place need
+there-owned p place need b is serves =
+    let found = owned-found p.errand.caller (block_at place (pool_of (seen p))) b is in (b, found.0, found.1, serves)
+
+-- a block stays owned where nothing changes at its place
+stays : (p q : Pass) (block : Block) → owned_in q block.place ≡ owned_in p block.place → Owns p block → Owns q block
+stays p q block same owns =
+    let there = owned-there p block.place block.need owns in there-owned q block.place block.need there.0 (same ∙ there.1) there.2
+
+-- a hand of which nothing changes
+same-exact : (p q : Pass) (blocks : List Block) → OwnsSame p q → HoldsExactly p blocks → HoldsExactly q blocks
+same-exact p q blocks same held = (
+  holds-kept (λ block. Unit {0}) p q (λ block left. stays p q block (same block.place)) blocks (λ k d within. tt) held.0,
+  λ place apart. same place ∙ held.1 place apart,
+)
+
+-- a word of one of its blocks is written
+written-exact :
+    (p q : Pass) (blocks : List Block) (place i v : ℕ) → OwnsBut p q place (option_map (written i v) (owned_in p place)) → HoldsExactly p blocks
+    → HoldsExactly q blocks
+written-exact p q blocks place i v but held = (
+  holds-kept (λ block. Unit {0}) p q
+      (λ block left owns. elim (cases_eq block.place place) [
+        | inl here ↦
+            let there = owned-there p block.place block.need owns in
+            let now : owned_in q block.place ≡ Some (written i v there.0) =
+            ap (owned_in q) here ∙ but.here ∙ ap (λ k. option_map (written i v) (owned_in p k)) (sym here) ∙ ap (option_map (written i v)) there.1 in
+            there-owned q block.place block.need (written i v there.0) now there.2
+        | inr other ↦ stays p q block (but.others block.place other) owns
+      ])
+      blocks (λ k d within. tt) held.0,
+  λ at apart. elim (cases_eq at place) [
+    | inl here ↦ ap (owned_in q) here ∙ but.here ∙ ap (option_map (written i v)) (ap (owned_in p) (sym here) ∙ held.1 at apart)
+    | inr other ↦ but.others at other ∙ held.1 at apart
+  ],
+)
+
+-- a block of it goes
+lost-exact :
+    (p q : Pass) (had has : List Block) (place : ℕ) → OwnsBut p q place None → Loses place had has → HoldsExactly p had → HoldsExactly q has
+lost-exact p q had has place but (block, there, is) held =
+    let all : HoldsExactly p (block ∷ has) = subst (HoldsExactly p) is held in (
+      holds-kept (λ other. other.place ≢ block.place) p q
+          (λ other left. stays p q other (but.others other.place (λ same. left (same ∙ sym there)))) has all.0.1 all.0.2,
+      λ at apart. elim (cases_eq at place) [
+        | inl here ↦ ap (owned_in q) here ∙ but.here
+        | inr other ↦
+            but.others at other
+            ∙ all.1 at (All-cons (λ (b : Block). b.place ≢ at) block has (λ same. other (sym same ∙ there)) apart)
+      ],
+    )
+
+-- a block comes to it, at a place where nothing was owned
+gained-exact :
+    (p q : Pass) (had has : List Block) (place : ℕ) (need : Need) (b : PoolBlock) → owned_in p place ≡ None → OwnsBut p q place (Some b)
+    → b.need ≡ need → Gains place need had has → HoldsExactly p had → HoldsExactly q has
+gained-exact p q had has place need b nothing but serves (block, there, needs, is) held =
+    let elsewhere : (other : Block) → Owns p other → other.place ≢ block.place =
+    λ other owns same.
+    let mine = owned-there p other.place other.need owns in
+    none-some mine.0 (sym nothing ∙ ap (owned_in p) (sym there ∙ sym same) ∙ mine.1) in
+    let apart : All (λ other. other.place ≢ block.place) had = holds-all p (λ other. other.place ≢ block.place) elsewhere had held.0 in
+    let owns : Owns q block =
+    there-owned q block.place block.need b (ap (owned_in q) there ∙ but.here) (serves ∙ sym needs) in
+    subst (HoldsExactly q) (sym is) (
+      (
+        owns,
+        apart,
+        holds-kept (λ other. other.place ≢ block.place) p q
+            (λ other left. stays p q other (but.others other.place (λ same. left (same ∙ sym there)))) had apart held.0,
+      ),
+      λ at away.
+          let first : block.place ≢ at = All-head (λ (x : Block). x.place ≢ at) block had away in
+          but.others at (λ same. first (there ∙ sym same)) ∙ held.1 at (All-tail (λ (x : Block). x.place ≢ at) block had away),
+    )
+
+-- a pass that has made no step owns nothing
+pub fresh-exact : (h : Heap) (p : Pass) → IsFresh h p → HoldsExactly p []
+fresh-exact h p fresh =
+    (tt, λ place apart. ap (λ (l : List Event). if_of p.errand.caller (block_at place (pool_of l))) fresh.nothing_seen)
+
+-- the order of the hand means nothing
+pub order-exact :
+    (p : Pass) (before after : List Block) (block : Block)
+    → HoldsExactly p (before ++ block ∷ after) ↔ HoldsExactly p (block ∷ before ++ after)
+order-exact p before after block = (
+  λ held. (
+    holds-out p before after block held.0,
+    λ place apart.
+        held.1 place
+        (all-in (λ b. b.place ≢ place) before after block (All-head (λ (b : Block). b.place ≢ place) block (before ++ after) apart)
+        (All-tail (λ (b : Block). b.place ≢ place) block (before ++ after) apart)),
+  ),
+  λ held. (
+    holds-in p before after block held.0,
+    λ place apart.
+        let out = all-out (λ b. b.place ≢ place) before after block apart in
+        held.1 place (All-cons (λ (b : Block). b.place ≢ place) block (before ++ after) out.0 out.1),
+  ),
+)
+
+-- what is got serves what the answer says
+got-serves :
+    (p q : Pass) (steps shelf place : ℕ) (need : Need) (block : Block) → block.place ≡ place → block.need ≡ need
+    → HasCalled p (take shelf) steps (reply.Got place need) q → (got : HasGot p shelf place q) → got.block.need ≡ need
+got-serves p q steps shelf place need block there needs called got =
+    let R : ℕ → Need → Type 0 = λ k n. HasCalled p (take shelf) steps (reply.Got k n) q in
+    let owns : Owns q block = got-owns p (take shelf) steps q block (subst (λ n. R block.place n) (sym needs) (subst (λ k. R k need) (sym there) called)) in
+    let mine = owned-there q block.place block.need owns in
+    let same : Some (handed_to (Caller p.errand.caller) got.block) ≡ Some mine.0 = sym got.got.here ∙ ap (owned_in q) (sym there) ∙ mine.1 in
+    let one : handed_to (Caller p.errand.caller) got.block ≡ mine.0 = cc in
+    ap (λ (b : PoolBlock). b.need) one ∙ mine.2 ∙ needs
+
+changed-exact :
+    (p q : Pass) (call : Call) (steps : ℕ) (answer : Reply) (had has : List Block) → HasCalled p call steps answer q → HasChanged p call answer q
+    → ChangesHand call answer had has → HoldsExactly p had → HoldsExactly q has
+changed-exact p q (alloc words) steps (reply.Given place need) had has called changes hand held =
+    gained-exact p q had has place need (fresh_block p.errand.caller words place) changes.nothing changes.given (sym called.ended.serves) hand held
+changed-exact p q (free place need) steps reply.Freed had has called changes hand held = lost-exact p q had has place changes hand held
+changed-exact p q (write place need i v) steps reply.Wrote had has called changes hand held =
+    subst (HoldsExactly q) (sym hand) (written-exact p q had place i v changes held)
+changed-exact p q (put place need shelf) steps reply.Put had has called changes hand held = lost-exact p q had has place changes.gone hand held
+changed-exact p q (take shelf) steps (reply.Got place need) had has called changes hand held =
+    gained-exact p q had has place need (handed_to (Caller p.errand.caller) changes.block) changes.nothing changes.got
+    (got-serves p q steps shelf place need hand.0 hand.1 hand.2 called changes) hand held
+changed-exact p q call steps answer had has called changes hand held = subst (HoldsExactly q) (sym hand) (same-exact p q had changes held)
+
+-- so it is behind each call
+pub called-exact :
+    (h : Heap) (p q : Pass) (call : Call) (steps : ℕ) (answer : Reply) (had has : List Block) → IsOf h q → HasCalled p call steps answer q
+    → ChangesHand call answer had has → HoldsExactly p had → HoldsExactly q has
+called-exact h p q call steps answer had has of called =
+    changed-exact p q call steps answer had has called (called-changes h p q call steps answer of called)
+
+so_far-exact :
+    (p q : Pass) (call : Call) (at : Stage) (added : List Event) (had has : List Block) → SoFar p.errand.caller call at added
+    → HasChangedSoFar p call at q → ChangesHandSoFar call at had has → HoldsExactly p had → HoldsExactly q has
+so_far-exact p q (alloc words) (given place need) added had has so changes hand held =
+    gained-exact p q had has place need (fresh_block p.errand.caller words place) changes.nothing changes.given (sym so.0) hand held
+so_far-exact p q (free place need) freed added had has so changes hand held = lost-exact p q had has place changes hand held
+so_far-exact p q call at added had has so changes hand held = subst (HoldsExactly q) (sym hand) (same-exact p q had changes held)
+
+-- and in one that is under way
+pub calling-exact :
+    (h : Heap) (p q : Pass) (call : Call) (steps : ℕ) (had has : List Block) → IsOf h q → IsCalling p call steps q
+    → ChangesHandSoFar call (stage_of q.errand.point) had has → HoldsExactly p had → HoldsExactly q has
+calling-exact h p q call steps had has of calling =
+    so_far-exact p q call (stage_of q.errand.point) calling.added had has calling.under_way (calling-changes h p q call steps of calling)
