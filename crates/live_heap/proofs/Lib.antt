@@ -8,6 +8,7 @@ pub mod CallsOne
 pub mod Changes
 pub mod Dealt
 pub mod Ending
+pub mod Enough
 pub mod Exact
 pub mod FreeLemmas
 pub mod Gathering

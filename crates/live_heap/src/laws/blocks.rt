@@ -1,11 +1,14 @@
 //! Laws of what calls show, and of what they make of a caller's blocks.
 
-ghost use Rattle.std.specs.Prelude.{ℕ, ◌≡◌, ◌↔◌, List, [], ◌∷◌, ◌++◌, Some};
+ghost use Rattle.std.specs.Prelude.{ℕ, ◌≡◌, ◌≤◌, ◌↔◌, List, [], ◌∷◌, ◌++◌, Some};
+ghost use Rattle.heap_geometry.specs.declared.need.Need.{Need};
+ghost use Rattle.heap_geometry.specs.Need.{usable_words};
 ghost use Rattle.pool_model.specs.declared.event.Event.{Event};
 ghost use Rattle.pool_model.specs.Histories.{Begins, EndsWith};
 ghost use Rattle.errand_steps.specs.declared.reply.Progress.{Progress};
 ghost use Rattle.errand_steps.specs.declared.reply.Reply.{Reply};
-ghost use Rattle.errand_steps.specs.Calls.{Call};
+ghost use Rattle.errand_steps.specs.declared.reply.Reply.TheVariants as reply;
+ghost use Rattle.errand_steps.specs.Calls.{Call, alloc};
 ghost use Rattle.errand_steps.specs.Errands.{ErrandFields};
 ghost use Rattle.errand_steps.specs.Steps.{event_at};
 ghost use Rattle.call_events.specs.Stages.{stage_of};
@@ -54,4 +57,10 @@ pub fn passes_hold_exactly()
         → ChangesHandSoFar call (stage_of q.errand.point) had has → HoldsExactly p had → HoldsExactly q has }
     ensures order { (p : Pass) (before after : List Block) (block : Block)
         → HoldsExactly p (before ++ block ∷ after) ↔ HoldsExactly p (block ∷ before ++ after) }
+{}
+
+/// A block that is given has at least as many usable words as were asked for.
+pub fn given_blocks_have_enough_words()
+    ensures { (p q : Pass) (words steps place : ℕ) (need : Need) → HasCalled p (alloc words) steps (reply.Given place need) q
+        → words ≤ usable_words need }
 {}
