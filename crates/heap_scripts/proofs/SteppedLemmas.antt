@@ -56,7 +56,7 @@ waits-on h p q blocks told same is stepped undone w =
       holds = w.holds;
       call = w.call;
       steps = suc w.steps;
-      calling = calls-go_on w.first w.call w.steps p q (progress_of same) (step-moment p q told same is stepped) w.calling undone;
+      calling = calls-go_on w.first w.call w.steps p q (progress_of same) (step-moment p q told same is stepped) stepped.accesses w.calling undone;
       tried = w.tried;
       leaves = w.leaves;
     }

@@ -30,7 +30,7 @@ use Rattle.live_heap.specs.declared.heap.Heap.{Heap}
 use Rattle.live_heap.specs.declared.pass.Pass.{Pass}
 use Rattle.live_heap.specs.Calls.{EndsInTime, IsCalling, IsInterrupted, IsTry, tries_of}
 use Rattle.live_heap.specs.Going.{IsGoing}
-use Rattle.live_heap.specs.Passes.{IsOf, seen}
+use Rattle.live_heap.specs.Passes.{IsOf, accesses, seen}
 use Rattle.live_heap.specs.Sights.{IsBegun}
 use Rattle.live_heap.proofs.Begun.{of-laid}
 use Rattle.live_heap.proofs.Growing.{starts-on, starts-self}
@@ -243,8 +243,8 @@ module _ (h : Heap) (p : Pass) (tries left : ℕ) (q r : Pass) (of : IsOf h q) (
   further-less m =
       subst (λ g. steps_left g r.errand.point < steps_left g q.errand.point) heap (goes-further q.errand r.errand (seen q) (seen r) m).fewer
 
-  pub going-further : IsMoment q.errand r.errand (seen q) (seen r) More → IsGoing h p tries left r
-  going-further m =
+  pub going-further : IsMoment q.errand r.errand (seen q) (seen r) More → accesses r ≡ suc (accesses q) → IsGoing h p tries left r
+  going-further m access =
       let goes = goes-further q.errand r.errand (seen q) (seen r) m in
       let less = further-less m in
       record {
@@ -253,7 +253,7 @@ module _ (h : Heap) (p : Pass) (tries left : ℕ) (q r : Pass) (of : IsOf h q) (
         calls = λ first call made c.
             let g = i.calls first call made c in (
               suc g.0,
-              calls-go_on first call g.0 q r More m g.1 more-undone,
+              calls-go_on first call g.0 q r More m access g.1 more-undone,
               omega (arith, g.2, less),
               λ none. absurd (omega (arith, none, some)),
             );
@@ -267,8 +267,8 @@ module _ (h : Heap) (p : Pass) (tries left : ℕ) (q r : Pass) (of : IsOf h q) (
 
   pub going-again :
       (answer : Progress) (rest : ℕ) → rest + 1 ≡ left → IsMoment q.errand r.errand (seen q) (seen r) answer
-      → IsTry answer → GoesAgain q.errand r.errand → IsGoing h p tries rest r
-  going-again answer rest one m tried goes =
+      → accesses r ≡ suc (accesses q) → IsTry answer → GoesAgain q.errand r.errand → IsGoing h p tries rest r
+  going-again answer rest one m access tried goes =
       let short = again-short goes in
       let more : r.errand.lost < 2 ^ 64 - 1 → tries_of r.errand + rest ≡ tries_of p.errand + tries =
       λ below. let n = goes.counts.all below in omega (arith, n.1, i.spent n.0, one) in
@@ -277,7 +277,7 @@ module _ (h : Heap) (p : Pass) (tries left : ℕ) (q r : Pass) (of : IsOf h q) (
         grows = going-grows answer m;
         calls = λ first call made c.
             let g = i.calls first call made c in
-            let on = calls-further first call g.0 q r answer m g.1 (try-undone answer tried) in (
+            let on = calls-further first call g.0 q r answer m access g.1 (try-undone answer tried) in (
               suc g.0,
               on.0,
               omega (arith, g.2, short, one),
@@ -297,11 +297,11 @@ module _ (h : Heap) (p : Pass) (tries left : ℕ) (q r : Pass) (of : IsOf h q) (
 
   -- the step that ends the call
   pub going-ends :
-      (a : Reply) → IsMoment q.errand r.errand (seen q) (seen r) (Done a) → (first : Pass) (call : Call) (made : ℕ)
-      → IsCalling first call made p → EndsInTime first call made p tries a r
-  going-ends a m first call made c =
+      (a : Reply) → IsMoment q.errand r.errand (seen q) (seen r) (Done a) → accesses r ≡ suc (accesses q)
+      → (first : Pass) (call : Call) (made : ℕ) → IsCalling first call made p → EndsInTime first call made p tries a r
+  going-ends a m access first call made c =
       let g = i.calls first call made c in
-      let ends = calls-end first call g.0 q r (Done a) m g.1 a refl in
+      let ends = calls-end first call g.0 q r (Done a) m access g.1 a refl in
       let before : tries_of q.errand < tries_of p.errand + tries = omega (arith, i.most, some) in
       record {
         steps = g.0;

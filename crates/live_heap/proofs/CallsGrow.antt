@@ -1,5 +1,5 @@
 -- A call of a pass grows by each step: it goes on, or has ended.
-use Rattle.std.proofs.Common.{ℕ, suc, ◌≡◌, ◌≢◌, ◌<◌, ◌^◌, ◌⊎◌, inl, inr, true, List, [], ◌++◌, Option, Some, refl, sym, ap, ◌∙◌, subst}
+use Rattle.std.proofs.Common.{ℕ, suc, ◌≡◌, ◌≢◌, ◌<◌, ◌+◌, ◌^◌, ◌⊎◌, inl, inr, true, List, [], ◌++◌, Option, Some, refl, sym, ap, ◌∙◌, subst, arith}
 use Rattle.std.proofs.lemmas.Bool.{cases_Bool}
 use Rattle.std.proofs.lemmas.List.{append-nil}
 use Rattle.atomic_table.specs.declared.shared.Seat.{Seat}
@@ -36,7 +36,7 @@ use Rattle.live_heap.specs.declared.pass.Pass.{Pass}
 use Rattle.live_heap.specs.declared.view.View.{View}
 use Rattle.live_heap.specs.Answers.{HasBegun}
 use Rattle.live_heap.specs.Calls.{HasCalled, IsCalling}
-use Rattle.live_heap.specs.Passes.{seen}
+use Rattle.live_heap.specs.Passes.{accesses, accesses_of, seen}
 use Rattle.live_heap.proofs.Growing.{own-more}
 use Rattle.live_heap.proofs.Moves.{begun-caller, settle-caller}
 use Rattle.live_heap.proofs.Told.{moment-own_after}
@@ -122,6 +122,7 @@ begins-calling p q call since idle about busy =
     record {
       caller = ap (λ (e : ErrandFields). e.caller) since.errand ∙ begun-caller p.errand call;
       on = (since.errand, sees);
+      accesses = omega (arith, ap (λ (s : Seat ℕ View). accesses_of s.me.0.callers) since.seat);
       busy = busy;
       added = [];
       events = ap (own p.errand.caller) sees ∙ sym (append-nil (own p.errand.caller (seen p)));
@@ -146,7 +147,7 @@ other-calling p q call since idle about other =
 -- a step of a pass that is in a call
 module _
     (first : Pass) (call : Call) (steps : ℕ) (p q : Pass) (answer : Progress) (m : IsMoment p.errand q.errand (seen p) (seen q) answer)
-    (c : IsCalling first call steps p) where
+    (one : accesses q ≡ suc (accesses p)) (c : IsCalling first call steps p) where
   abbrev s : IsSettled p.errand q.errand (seen p) (seen q) answer
   s = settled-of p.errand q.errand (seen p) (seen q) answer m
 
@@ -178,6 +179,7 @@ module _
         record {
           caller = same_caller;
           on = (p.errand, seen p, answer, c.on, m, still);
+          accesses = omega (arith, one, c.accesses);
           busy = still;
           added = all;
           events = grown;
@@ -203,6 +205,7 @@ module _
       sight = seen p;
       on = c.on;
       moment = subst (IsMoment p.errand q.errand (seen p) (seen q)) is m;
+      accesses = omega (arith, one, c.accesses);
       added = all;
       events = grown;
       ended =

@@ -112,7 +112,7 @@ pub ends-one :
     (first : Pass) (call : Call) (steps : ℕ) (p q : Pass) (told : Step) (end : Ending) → told ≡ step.Done end → HasStepped p q told
     → IsCalling first call steps p → HasCalled first call steps (reply_of end) q
 ends-one first call steps p q told end is stepped calling =
-    (calls-end first call steps p q (progress.Done (reply_of end)) (step-moment p q told (step.Done end) is stepped) calling (reply_of end) refl).0
+    (calls-end first call steps p q (progress.Done (reply_of end)) (step-moment p q told (step.Done end) is stepped) stepped.accesses calling (reply_of end) refl).0
 
 -- a step that leads to an end
 ends-told :
@@ -383,7 +383,7 @@ pub take-goes_on :
 take-goes_on p b a shelf told since stepped calling =
     let more = first-more p b a shelf told since stepped in
     let m = step-moment b a told step.More more stepped in
-    let on = calls-go_on p (take shelf) 0 b a progress.More m calling more-undone in
+    let on = calls-go_on p (take shelf) 0 b a progress.More m stepped.accesses calling more-undone in
     let g = b.errand.geometry in
     let fewer = (goes-further b.errand a.errand (seen b) (seen a) m).fewer in
     let two : steps_left g b.errand.point ≡ 2 = ap (steps_left g) (take-point p b shelf since) ∙ load-left g shelf in

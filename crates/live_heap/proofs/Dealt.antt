@@ -16,7 +16,7 @@ use Rattle.step_core.proofs.MomentLemmas.{reached-served}
 use Rattle.live_heap.specs.declared.heap.Heap.{Heap}
 use Rattle.live_heap.specs.declared.pass.Pass.{Pass}
 use Rattle.live_heap.specs.declared.view.View.{View}
-use Rattle.live_heap.specs.Passes.{IsFresh, AreFrom}
+use Rattle.live_heap.specs.Passes.{IsFresh, AreFrom, accesses_of}
 use Rattle.live_heap.specs.Rule.{first_errands}
 use Rattle.live_heap.specs.Views.{idle_standing, idles_from, idle_view}
 use Rattle.live_heap.proofs.Seats.{first-there}
@@ -69,6 +69,7 @@ fresh h p caller has table me errand =
       };
       errand = subst (λ n. p.errand ≡ open_errand n g) (sym number) errand;
       nothing_seen = nothing;
+      none_made = ap (λ (m : Me ℕ View). accesses_of m.0.callers) me;
     }
 
 pub AreFrom-push :

@@ -18,6 +18,7 @@ use Rattle.errand_steps.specs.Begins.{IsIdle}
 use Rattle.errand_steps.specs.Errands.{ErrandFields}
 use Rattle.errand_steps.specs.Openings.{opening, IsOpening}
 use Rattle.sound_state.specs.Contention.{is_by, lost_of, won_of}
+use Rattle.sound_state.specs.Moves.{is_step_of}
 use Rattle.sound_state.specs.Sums.{callers_sum}
 use Rattle.sound_state.specs.Wins.{Win}
 use Rattle.sound_state.proofs.wins.CountLemmas.{count-append}
@@ -26,8 +27,8 @@ use Rattle.step_core.proofs.CoreLemmas.{run-sound, run-won}
 use Rattle.live_heap.specs.declared.pass.Pass.{Pass}
 use Rattle.live_heap.specs.declared.view.Standing.{Standing}
 use Rattle.live_heap.specs.declared.view.View.{View}
-use Rattle.live_heap.specs.Endings.{HasTakenIn, IsCounted, IsIn, IsResting, closed_with, errand_in, errands_from}
-use Rattle.live_heap.specs.Passes.{seen}
+use Rattle.live_heap.specs.Endings.{HasAccesses, HasTakenIn, IsCounted, IsIn, IsResting, closed_with, errand_in, errands_from}
+use Rattle.live_heap.specs.Passes.{accesses, seen}
 use Rattle.live_heap.specs.Rule.{Stands, Kept, state_with}
 use Rattle.live_heap.proofs.Totals.{HasCaller, all-callers}
 use Rattle.live_heap.proofs.Growing.{own-between, rest-none}
@@ -155,7 +156,7 @@ no_wins_left g seen (x ∷ xs) has none =
 -- at the end the words and what the last seat knows are a machine at rest, with the whole history
 module _ (g : Geometry) (words : List ℕ) (views : List View) (id : ℕ) (v : View) (h : Kept g words views) (at : get_elem? views id ≡ some v)
     (len : length v.callers ≡ g.callers) where
-  stands : Stands g h.errands h.events h.run.wins.list h.place id v
+  stands : Stands g h.errands h.events h.run.wins.list h.run.moves h.place id v
   stands = h.each id v at
 
   pub once : (j k : ℕ) (d e : Standing) → get_elem? v.callers j ≡ some d → get_elem? v.callers k ≡ some e → d.errand.caller ≡ e.errand.caller → j ≡ k
@@ -211,9 +212,10 @@ module _ (g : Geometry) (words : List ℕ) (views : List View) (id : ℕ) (v : V
   abbrev Run : (ℕ → ErrandFields) × List Event → Type 0
   Run p =
       (r : IsReached g (state_with g words p.0 p.1) h.made) × IsOpening g (opening g) r.first × (r.wins.list ≡ h.run.wins.list)
+      × (r.moves ≡ h.run.moves)
 
   run_here : Run (errand_at (errands_from v.callers 0 g.callers), v.seen)
-  run_here = subst Run (λ i. (sym all_errands i, log_is i)) (h.run, h.opened, refl)
+  run_here = subst Run (λ i. (sym all_errands i, log_is i)) (h.run, h.opened, refl, refl)
 
   pub ends : ((k : ℕ) (x : Standing) → get_elem? v.callers k ≡ some x → IsIdle x.errand) → IsResting (closed_with g words v)
   ends idle = record {
@@ -229,6 +231,17 @@ module _ (g : Geometry) (words : List ℕ) (views : List View) (id : ℕ) (v : V
         let t = cover caller has in
         subst IsIdle (sym (stands.each t.0 t.1 t.2).errand ∙ (ap h.errands t.3 ∙ sym (errand_is caller))) (idle t.0 t.1 t.2);
   }
+
+  -- each pass that it took in has made the steps of its caller
+  pub made-steps :
+      (idle : (k : ℕ) (x : Standing) → get_elem? v.callers k ≡ some x → IsIdle x.errand) (p : Pass) → IsIn v p
+      → accesses p ≡ count_by (is_step_of p.errand.caller) (ends idle).core.run.moves
+  unfolding ends run_here
+  made-steps idle p i =
+      let y = stands.each i.number i.standing i.at in
+      sym i.counted
+      ∙ subst (λ (e : ErrandFields). i.standing.accesses ≡ count_by (is_step_of e.caller) (ends idle).core.run.moves) i.errand
+      (y.counted ∙ ap (count_by (is_step_of i.standing.errand.caller)) (sym run_here.3))
 
   -- a caller's errand in it is the one that the view stands for
   pub has_errand :
@@ -264,6 +277,14 @@ pub record IsLast (g : Geometry) (words : List ℕ) (v : View) : Type 0 where
 module _ (g : Geometry) (words : List ℕ) (v : View) (l : IsLast g words v) where
   pub last-rests : ((k : ℕ) (x : Standing) → get_elem? v.callers k ≡ some x → IsIdle x.errand) → IsResting (closed_with g words v)
   last-rests idle = ends g words l.views l.id v l.kept l.at l.all idle
+
+  pub last-accesses :
+      (idle : (k : ℕ) (x : Standing) → get_elem? v.callers k ≡ some x → IsIdle x.errand) (passes : List Pass) → All (IsIn v) passes
+      → HasAccesses (closed_with g words v) passes
+  last-accesses idle passes all = record {
+    rests = ends g words l.views l.id v l.kept l.at l.all idle;
+    each = λ k d within. made-steps g words l.views l.id v l.kept l.at l.all idle (slice_index_or passes k d) (all k d within);
+  }
 
   pub last-taken : (p : Pass) → IsIn v p → HasTakenIn (closed_with g words v) p
   last-taken p i = taken-in g words l.views l.id v l.kept l.at l.all p i

@@ -14,7 +14,7 @@ use Rattle.live_heap.specs.declared.pass.Pass.{Pass}
 use Rattle.live_heap.specs.declared.view.Standing.{Standing}
 use Rattle.live_heap.specs.declared.view.View.{View}
 use Rattle.live_heap.specs.Endings.{IsIn}
-use Rattle.live_heap.specs.Passes.{IsOf, seen}
+use Rattle.live_heap.specs.Passes.{IsOf, accesses_of, seen}
 use Rattle.live_heap.specs.Sights.{IsBegun}
 use Rattle.live_heap.specs.Views.{gathered}
 use Rattle.live_heap.proofs.Begun.{begun-idle}
@@ -75,15 +75,16 @@ is_in-itself h p of idle = record {
   at = ap (λ (l : List Standing). get_elem? l 0) of.one;
   errand = before-idle p.seat.me.0.seen of.before.errand p.errand of.begun idle;
   seen_last = of.sight;
+  counted = sym (ap accesses_of of.one);
 }
 
 is_in-first : (v w : View) (p : Pass) → IsIn v p → IsIn (gathered v w) p
 is_in-first v w p i =
-    record { number = i.number; standing = i.standing; at = at_longer v.callers w.callers i.number i.standing i.at; errand = i.errand; seen_last = i.seen_last }
+    record { number = i.number; standing = i.standing; at = at_longer v.callers w.callers i.number i.standing i.at; errand = i.errand; seen_last = i.seen_last; counted = i.counted }
 
 is_in-other : (v w : View) (p : Pass) → IsIn w p → IsIn (gathered v w) p
 is_in-other v w p i =
-    record { number = length v.callers + i.number; standing = i.standing; at = after v.callers w.callers i.number ∙ i.at; errand = i.errand; seen_last = i.seen_last }
+    record { number = length v.callers + i.number; standing = i.standing; at = after v.callers w.callers i.number ∙ i.at; errand = i.errand; seen_last = i.seen_last; counted = i.counted }
 
 -- those that were taken in, once one more is
 pub more-in : (v w : View) (p : Pass) (ps : List Pass) → IsIn w p → All (IsIn v) ps → All (IsIn (gathered v w)) (p ∷ ps)

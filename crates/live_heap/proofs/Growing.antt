@@ -1,10 +1,13 @@
 -- Lists that only grow, and the events of one caller in them.
-use Rattle.std.proofs.Common.{ℕ, ◌≡◌, ◌≢◌, Bool, true, false, eq-eqb, ne_eqb, List, [], ◌∷◌, ◌++◌, length, Option, Some, None, refl, sym, ap, ◌∙◌, arith, length-append, append_assoc}
+use Rattle.std.proofs.Common.{ℕ, suc, ◌≡◌, ◌≢◌, Bool, true, false, eq-eqb, ne_eqb, List, [], ◌∷◌, ◌++◌, length, Option, Some, None, refl, sym, ap, ◌∙◌, arith, length-append, append_assoc}
 use Rattle.std.specs.Prelude.{if◌then◌else◌, count_by, option_to_list}
 use Rattle.std.proofs.lemmas.List.{append-nil}
 use Rattle.sound_state.specs.Contention.{is_by}
+use Rattle.sound_state.specs.Moves.{is_step_of}
+use Rattle.sound_state.specs.Runs.{Move, begins, steps}
 use Rattle.sound_state.specs.Wins.{Win, win_at, win_list_after, offers}
 use Rattle.sound_state.proofs.wins.CountLemmas.{count-append}
+use Rattle.errand_steps.specs.Calls.{Call}
 use Rattle.errand_steps.specs.Errands.{counts_won}
 use Rattle.errand_steps.specs.Steps.{State, action_at, found_at, name_at}
 use Rattle.pool_model.specs.declared.event.Event.{Event}
@@ -102,3 +105,23 @@ count-between caller xs ys zs a b is =
     let first = ap (count_by (is_by caller)) a.1 ∙ count-append (is_by caller) xs a.0 in
     let second = ap (count_by (is_by caller)) b.1 ∙ count-append (is_by caller) ys b.0 in
     omega (arith, first, second, is)
+
+-- a call that begins is no step of anybody
+pub begin-uncounted :
+    (other caller : ℕ) (call : Call) (moves : List Move)
+    → count_by (is_step_of other) (moves ++ begins caller call ∷ []) ≡ count_by (is_step_of other) moves
+begin-uncounted other caller call moves = omega (arith, count-append (is_step_of other) moves (begins caller call ∷ []))
+
+-- a step is one of its caller's, and none of another one's
+pub step-counted :
+    (caller : ℕ) (moves : List Move) → count_by (is_step_of caller) (moves ++ steps caller ∷ []) ≡ suc (count_by (is_step_of caller) moves)
+step-counted caller moves =
+    let one : count_by (is_step_of caller) (steps caller ∷ []) ≡ 1 = rw (eq-eqb caller caller refl) refl in
+    omega (arith, count-append (is_step_of caller) moves (steps caller ∷ []), one)
+
+pub steps-others :
+    (caller other : ℕ) (moves : List Move) → other ≢ caller
+    → count_by (is_step_of other) (moves ++ steps caller ∷ []) ≡ count_by (is_step_of other) moves
+steps-others caller other moves differ =
+    let none : count_by (is_step_of other) (steps caller ∷ []) ≡ 0 = rw (ne_eqb caller other (λ same. differ (sym same))) refl in
+    omega (arith, count-append (is_step_of other) moves (steps caller ∷ []), none)

@@ -1,5 +1,5 @@
 -- A call that was made without an errand, and goes on by it.
-use Rattle.std.proofs.Common.{ℕ, ◌≡◌, ◌<◌, ◌-◌, inl, inr, Option, None, Some, refl, sym, ap, ◌∙◌, subst, arith}
+use Rattle.std.proofs.Common.{ℕ, suc, ◌≡◌, ◌<◌, ◌-◌, inl, inr, Option, None, Some, refl, sym, ap, ◌∙◌, subst, arith}
 use Rattle.word_plan.specs.declared.action.Found.{Found as Find}
 use Rattle.superblock_parts.specs.declared.point.BlockPoint.{BlockPoint}
 use Rattle.errand_steps.specs.declared.continuation.Continuation.{Continuation}
@@ -13,12 +13,12 @@ use Rattle.step_core.specs.Moments.{IsMoment}
 use Rattle.live_heap.specs.declared.answers.Ending.{Ending}
 use Rattle.live_heap.specs.declared.heap.Heap.{Heap}
 use Rattle.live_heap.specs.declared.pass.Pass.{Pass}
-use Rattle.live_heap.specs.Passes.{IsOf, seen, view}
+use Rattle.live_heap.specs.Passes.{IsOf, accesses, seen, view}
 use Rattle.live_heap.specs.Sights.{TakesStep, found_in}
 use Rattle.live_heap.specs.Answers.{IsAnswerable, reply_of}
 use Rattle.live_heap.specs.Going.{HasGone, HasWalked, IsGoing, Rejoins, at_block, stands_at}
 use Rattle.live_heap.proofs.CallsCounts.{goes-cleared, goes-lost, going-again, going-ends, going-further, going-grows, never-idle}
-use Rattle.live_heap.proofs.Stepped.{still-of, took-step}
+use Rattle.live_heap.proofs.Stepped.{still-of, took-access, took-step}
 use Rattle.live_heap.proofs.Told.{moment-answerable}
 
 -- the errand catches up
@@ -60,21 +60,24 @@ module _
   pub joins-moment : IsMoment last.errand q.errand (seen last) (seen q) answer
   joins-moment = took-step last q j.has.0 answer settled answered stepped
 
+  joins-access : accesses q ≡ suc (accesses last)
+  joins-access = took-access last.errand last q j.has.0 stepped
+
   -- how its tries stand then, by what the step came to
   pub joins-more : 0 < tries → answer ≡ More → IsGoing h start tries tries q
   joins-more some more =
-      going-further h start tries tries last q j.of some j.going (subst (IsMoment last.errand q.errand (seen last) (seen q)) more joins-moment)
+      going-further h start tries tries last q j.of some j.going (subst (IsMoment last.errand q.errand (seen last) (seen q)) more joins-moment) joins-access
 
   pub joins-lost : 0 < tries → answer ≡ Lost → IsGoing h start tries (tries - 1) q
   joins-lost some lost =
       let m = subst (IsMoment last.errand q.errand (seen last) (seen q)) lost joins-moment in
-      going-again h start tries tries last q j.of some j.going Lost (tries - 1) (omega (arith, some)) m (inl refl)
+      going-again h start tries tries last q j.of some j.going Lost (tries - 1) (omega (arith, some)) m joins-access (inl refl)
       (goes-lost last.errand q.errand (seen last) (seen q) m)
 
   pub joins-cleared : 0 < tries → answer ≡ Cleared → IsGoing h start tries (tries - 1) q
   joins-cleared some cleared =
       let m = subst (IsMoment last.errand q.errand (seen last) (seen q)) cleared joins-moment in
-      going-again h start tries tries last q j.of some j.going Cleared (tries - 1) (omega (arith, some)) m (inr refl)
+      going-again h start tries tries last q j.of some j.going Cleared (tries - 1) (omega (arith, some)) m joins-access (inr refl)
       (goes-cleared last.errand q.errand (seen last) (seen q) m)
 
   pub joins-never : answer ≡ Idle → ⊥
@@ -87,7 +90,7 @@ module _
         of = joins-of;
         grows = going-grows h start tries tries last q j.of some j.going answer joins-moment;
         goes = going-ends h start tries tries last q j.of some j.going (reply_of ending)
-            (subst (IsMoment last.errand q.errand (seen last) (seen q)) (done ∙ ap Done (sym is)) joins-moment);
+            (subst (IsMoment last.errand q.errand (seen last) (seen q)) (done ∙ ap Done (sym is)) joins-moment) joins-access;
       }
 
   pub joins-answerable : (r : Reply) → answer ≡ Done r → IsAnswerable None (Done r)

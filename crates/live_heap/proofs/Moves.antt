@@ -1,6 +1,6 @@
 -- Each step of a pass keeps the rule.
 use Rattle.std.proofs.Common.{ℕ, zero, suc, ◌≡◌, ◌≢◌, ◌<◌, ◌≤◌, inl, inr, List, [], ◌∷◌, ◌++◌, length, Option, Some, refl, sym, ap, ◌∙◌, subst, ⊎_elim, arith, length-set, eq-eqb, ne_eqb}
-use Rattle.std.specs.Prelude.{slice_index, slice_set, bit_and, ◌==◌, if◌then◌else◌, option_to_list}
+use Rattle.std.specs.Prelude.{slice_index, slice_set, bit_and, count_by, ◌==◌, if◌then◌else◌, option_to_list}
 use mathlib.Core.Option.{some, some-injective, some-ne-none}
 use lib.ListN.{get_elem?}
 use prog.Atomic.{either}
@@ -35,7 +35,8 @@ use Rattle.errand_steps.specs.Steps.{State, Step, Moves, with_event, found_at}
 use Rattle.errand_steps.proofs.EventLemmas.{event_own}
 use Rattle.errand_steps.proofs.PlanLemmas.{plan-exists}
 use Rattle.sound_state.specs.Recalls.{IsOwned}
-use Rattle.sound_state.specs.Runs.{MayBegin, Begins, begins, steps}
+use Rattle.sound_state.specs.Moves.{is_step_of}
+use Rattle.sound_state.specs.Runs.{MayBegin, Begins, Move, begins, steps}
 use Rattle.sound_state.specs.Sound.{IsSound, IsOwnErrand}
 use Rattle.sound_state.specs.Wins.{Win, Wins, win_list_after, win_at}
 use Rattle.step_core.specs.Cores.{IsLonger, IsReached, made_with, no_errand}
@@ -47,7 +48,7 @@ use Rattle.live_heap.specs.declared.view.View.{View}
 use Rattle.live_heap.specs.Rule.{IsStanding, Stands, Kept, PlacesHold, TableHolds, state_with}
 use Rattle.live_heap.specs.Sights.{IsBegun, Saw, TakesStep, after_events, found_in}
 use Rattle.live_heap.proofs.Alone.{reached-alone}
-use Rattle.live_heap.proofs.Growing.{IsBy, starts-self, starts-more, starts-event, rest-none, own-between, own-others, wins-others}
+use Rattle.live_heap.proofs.Growing.{IsBy, begin-uncounted, own-between, own-others, rest-none, starts-event, starts-more, starts-self, step-counted, steps-others, wins-others}
 
 -- the errands with another one for one caller
 abbrev pub moved : (ℕ → ErrandFields) → ℕ → ErrandFields → ℕ → ErrandFields
@@ -97,6 +98,7 @@ record Starts (g : Geometry) (words : List ℕ) (errands : ℕ → ErrandFields)
   pub reached : IsReached g (state_with g words started log) made_then
   pub first : reached.first ≡ run.first
   pub wins : reached.wins ≡ run.wins
+  pub counted : (other : ℕ) → count_by (is_step_of other) reached.moves ≡ count_by (is_step_of other) run.moves
 
 module _ (g : Geometry) (words : List ℕ) (errands : ℕ → ErrandFields) (log : List Event) (made : ℕ) (run : IsReached g (state_with g words errands log) made) (caller : ℕ) where
   -- nothing has begun since the last step
@@ -108,6 +110,7 @@ module _ (g : Geometry) (words : List ℕ) (errands : ℕ → ErrandFields) (log
     reached = run;
     first = refl;
     wins = refl;
+    counted = λ other. refl;
   }
 
   -- a call has begun since
@@ -133,6 +136,7 @@ module _ (g : Geometry) (words : List ℕ) (errands : ℕ → ErrandFields) (log
         reached = longer.0;
         first = longer.1.first;
         wins = longer.1.wins;
+        counted = λ other. ap (count_by (is_step_of other)) longer.1.moves ∙ begin-uncounted other caller call run.moves;
       }
 
   -- what the view says of the caller's errand is so
@@ -226,10 +230,10 @@ module _ (g : Geometry) (words : List ℕ) (views : List View) (id : ℕ) (v : V
   abbrev event : Option Event
   event = event_of caller e.point (found_in e number)
 
-  mine : Stands g k.errands k.events k.run.wins.list k.place id v
+  mine : Stands g k.errands k.events k.run.wins.list k.run.moves k.place id v
   mine = k.each id v at
 
-  first : IsStanding g k.errands k.events k.run.wins.list k.place id v 0 before
+  first : IsStanding g k.errands k.events k.run.wins.list k.run.moves k.place id v 0 before
   first = mine.each 0 before (ap (λ (l : List Standing). get_elem? l 0) one)
 
   same_caller : e.caller ≡ before.errand.caller
@@ -309,11 +313,26 @@ module _ (g : Geometry) (words : List ℕ) (views : List View) (id : ℕ) (v : V
       ap (λ (w : Wins). w.list) longer.1.wins
       ∙ ap (λ (w : Wins). win_list_after state caller w.list) begun.wins
 
+  abbrev moves_now : List Move
+  moves_now = begun.reached.moves ++ steps caller ∷ []
+
+  moves_are : run_now.moves ≡ moves_now
+  moves_are = longer.1.moves
+
+  -- the caller's steps are one more, and another caller's as many
+  counted_mine : suc before.accesses ≡ count_by (is_step_of caller) moves_now
+  counted_mine =
+      ap suc (subst (λ c. before.accesses ≡ count_by (is_step_of c) k.run.moves) (sym same_caller) first.counted ∙ sym (begun.counted caller))
+      ∙ sym (step-counted caller begun.reached.moves)
+
+  counted_other : (other : ℕ) → other ≢ caller → count_by (is_step_of other) k.run.moves ≡ count_by (is_step_of other) moves_now
+  counted_other other apart = sym (steps-others caller other begun.reached.moves apart ∙ begun.counted other)
+
   by_me : IsBy caller event
   by_me = λ ev is. event_own caller e.point (found_in e number) ev is
 
   abbrev standing_then : Standing
-  standing_then = record { errand = after; seen = events_now }
+  standing_then = record { errand = after; seen = events_now; accesses = suc before.accesses }
 
   abbrev view_then : View
   view_then = record { callers = standing_then ∷ []; seen = events_now; wins = list_now }
@@ -324,7 +343,7 @@ module _ (g : Geometry) (words : List ℕ) (views : List View) (id : ℕ) (v : V
   caller_then : after.caller ≡ caller
   caller_then = settle-caller e (found_in e number)
 
-  here : IsStanding g errands_then events_now list_now k.place id view_then 0 standing_then
+  here : IsStanding g errands_then events_now list_now moves_now k.place id view_then 0 standing_then
   here = record {
     has = subst (λ c. c < g.callers) (sym caller_then) has;
     at_place = ap k.place (caller_then ∙ same_caller) ∙ first.at_place;
@@ -333,17 +352,18 @@ module _ (g : Geometry) (words : List ℕ) (views : List View) (id : ℕ) (v : V
     own_seen = refl;
     seen_within = starts-self events_now;
     wins_seen = refl;
+    counted = subst (λ c. suc before.accesses ≡ count_by (is_step_of c) moves_now) (sym caller_then) counted_mine;
   }
 
   abbrev StandsNow : ℕ → View → Type 0
-  StandsNow j u = Stands g errands_then events_now list_now k.place j u
+  StandsNow j u = Stands g errands_then events_now list_now moves_now k.place j u
 
   mine_then : StandsNow id view_then
   mine_then = record {
     seen = starts-self events_now;
     wins_seen = starts-self list_now;
     each = λ j x is. let t = only standing_then x j is in
-        subst (λ (y : ℕ × Standing). IsStanding g errands_then events_now list_now k.place id view_then y.0 y.1) (λ i. (sym t.0 i, t.1 i)) here;
+        subst (λ (y : ℕ × Standing). IsStanding g errands_then events_now list_now moves_now k.place id view_then y.0 y.1) (λ i. (sym t.0 i, t.1 i)) here;
   }
 
   others_then : (j : ℕ) (u : View) → j ≢ id → get_elem? views j ≡ some u → StandsNow j u
@@ -366,6 +386,7 @@ module _ (g : Geometry) (words : List ℕ) (views : List View) (id : ℕ) (v : V
               own_seen = y.own_seen ∙ sym (own-others caller x.errand.caller k.events event by_me apart);
               seen_within = y.seen_within;
               wins_seen = y.wins_seen ∙ sym (wins-others state caller x.errand.caller k.run.wins.list apart);
+              counted = y.counted ∙ counted_other x.errand.caller apart;
             };
       }
 
@@ -391,7 +412,9 @@ module _ (g : Geometry) (words : List ℕ) (views : List View) (id : ℕ) (v : V
     run = run_now;
     opened = subst (IsOpening g (opening g)) (sym first_now) k.opened;
     place = k.place;
-    each = λ j u is. subst (λ l. Stands g errands_then events_now l k.place j u) (sym list_is) (each_then j u is);
+    each = λ j u is.
+        subst (λ ms. Stands g errands_then events_now run_now.wins.list ms k.place j u) (sym moves_are)
+        (subst (λ l. Stands g errands_then events_now l moves_now k.place j u) (sym list_is) (each_then j u is));
   }
 
   served_then : IsServed e.geometry caller after events_now
@@ -412,6 +435,7 @@ module _ (g : Geometry) (words : List ℕ) (views : List View) (id : ℕ) (v : V
     now = refl;
     errand = refl;
     seen = refl;
+    accesses = refl;
     wins_seen = starts-more v.wins k.run.wins.list (option_to_list (win_at state caller)) mine.wins_seen;
     moment = record {
       has = subst (λ h. caller < h.callers) (sym own_errand.geometry) has;

@@ -88,7 +88,7 @@ opens g words checked whole are = record {
       steps = refl;
     }
 
-    stands : Stands g (first_errands g) [] [] (λ caller. pair 0 caller) 0 (opening_view g)
+    stands : Stands g (first_errands g) [] [] [] (λ caller. pair 0 caller) 0 (opening_view g)
     stands = record {
       seen = starts-self [];
       wins_seen = starts-self [];
@@ -96,12 +96,12 @@ opens g words checked whole are = record {
           let t = idles-at g 0 g.callers k x is in
           let z : 0 + k ≡ k = omega arith in
           let has : 0 + k < g.callers = let l = t.1 in omega arith in
-          subst (IsStanding g (first_errands g) [] [] (λ caller. pair 0 caller) 0 (opening_view g) k) t.0
-          (record { has = has; at_place = ap (pair 0) z; errand = first-there g (0 + k) has; seen = starts-self []; own_seen = refl; seen_within = starts-self []; wins_seen = refl });
+          subst (IsStanding g (first_errands g) [] [] [] (λ caller. pair 0 caller) 0 (opening_view g) k) t.0
+          (record { has = has; at_place = ap (pair 0) z; errand = first-there g (0 + k) has; seen = starts-self []; own_seen = refl; seen_within = starts-self []; wins_seen = refl; counted = refl });
     }
 
-    one : (id : ℕ) (v : View) → get_elem? (opening_view g ∷ []) id ≡ some v → Stands g (first_errands g) [] [] (λ caller. pair 0 caller) id v
-    one zero v is = subst (Stands g (first_errands g) [] [] (λ caller. pair 0 caller) 0) (some-injective _ _ is) stands
+    one : (id : ℕ) (v : View) → get_elem? (opening_view g ∷ []) id ≡ some v → Stands g (first_errands g) [] [] [] (λ caller. pair 0 caller) id v
+    one zero v is = subst (Stands g (first_errands g) [] [] [] (λ caller. pair 0 caller) 0) (some-injective _ _ is) stands
     one (suc id) v is = absurd (some-ne-none v (sym is))
 
 -- the words of a whole table are those at opening
@@ -159,10 +159,10 @@ splits g id v s h at = record {
   place = place;
   each = λ j u is. ⊎_elim
       (λ (t : get_elem? (slice_set s.views id (first_part v)) j ≡ some u). ⊎_elim
-      (λ (p : (j ≡ id) × (first_part v ≡ u)). subst (λ (y : ℕ × View). Stands g h.errands h.events h.run.wins.list place y.0 y.1) (λ i. (sym p.0 i, p.1 i)) left)
+      (λ (p : (j ≡ id) × (first_part v ≡ u)). subst (λ (y : ℕ × View). Stands g h.errands h.events h.run.wins.list h.run.moves place y.0 y.1) (λ i. (sym p.0 i, p.1 i)) left)
       (λ (p : (j ≢ id) × (get_elem? s.views j ≡ some u)). other j u p.0 p.1)
       (at_set s.views id j (first_part v) u t))
-      (λ (t : (j ≡ length (slice_set s.views id (first_part v))) × (other_part v ≡ u)). subst (λ (y : ℕ × View). Stands g h.errands h.events h.run.wins.list place y.0 y.1) (λ i. (sym (t.0 ∙ length-set s.views id (first_part v)) i, t.1 i)) right)
+      (λ (t : (j ≡ length (slice_set s.views id (first_part v))) × (other_part v ≡ u)). subst (λ (y : ℕ × View). Stands g h.errands h.events h.run.wins.list h.run.moves place y.0 y.1) (λ i. (sym (t.0 ∙ length-set s.views id (first_part v)) i, t.1 i)) right)
       (at_end (slice_set s.views id (first_part v)) (other_part v) u j is);
 }
   where
@@ -172,10 +172,10 @@ splits g id v s h at = record {
     place : ℕ → ℕ × ℕ
     place c = given_at id n (h.place c).0 (h.place c).1
 
-    mine : Stands g h.errands h.events h.run.wins.list h.place id v
+    mine : Stands g h.errands h.events h.run.wins.list h.run.moves h.place id v
     mine = h.each id v at
 
-    left : Stands g h.errands h.events h.run.wins.list place id (first_part v)
+    left : Stands g h.errands h.events h.run.wins.list h.run.moves place id (first_part v)
     left = record {
       seen = mine.seen;
       wins_seen = mine.wins_seen;
@@ -190,10 +190,11 @@ splits g id v s h at = record {
             own_seen = y.own_seen;
             seen_within = y.seen_within;
             wins_seen = y.wins_seen;
+            counted = y.counted;
           };
     }
 
-    right : Stands g h.errands h.events h.run.wins.list place n (other_part v)
+    right : Stands g h.errands h.events h.run.wins.list h.run.moves place n (other_part v)
     right = record {
       seen = mine.seen;
       wins_seen = mine.wins_seen;
@@ -207,10 +208,11 @@ splits g id v s h at = record {
             own_seen = y.own_seen;
             seen_within = y.seen_within;
             wins_seen = y.wins_seen;
+            counted = y.counted;
           };
     }
 
-    other : (j : ℕ) (u : View) → j ≢ id → get_elem? s.views j ≡ some u → Stands g h.errands h.events h.run.wins.list place j u
+    other : (j : ℕ) (u : View) → j ≢ id → get_elem? s.views j ≡ some u → Stands g h.errands h.events h.run.wins.list h.run.moves place j u
     other j u ne is =
         let o = h.each j u is in
         record {
@@ -226,6 +228,7 @@ splits g id v s h at = record {
                 own_seen = y.own_seen;
                 seen_within = y.seen_within;
                 wins_seen = y.wins_seen;
+                counted = y.counted;
               };
         }
 
@@ -268,9 +271,9 @@ joins g id v from w s h at apart there = record {
   opened = h.opened;
   place = place;
   each = λ j u is. ⊎_elim
-      (λ (t : (j ≡ from) × (spent_view ≡ u)). subst (Stands g h.errands h.events h.run.wins.list place j) t.1 (spent j))
+      (λ (t : (j ≡ from) × (spent_view ≡ u)). subst (Stands g h.errands h.events h.run.wins.list h.run.moves place j) t.1 (spent j))
       (λ (t : (j ≢ from) × (get_elem? (slice_set s.views id (gathered v w)) j ≡ some u)). ⊎_elim
-      (λ (p : (j ≡ id) × (gathered v w ≡ u)). subst (λ (y : ℕ × View). Stands g h.errands h.events h.run.wins.list place y.0 y.1) (λ i. (sym p.0 i, p.1 i)) both)
+      (λ (p : (j ≡ id) × (gathered v w ≡ u)). subst (λ (y : ℕ × View). Stands g h.errands h.events h.run.wins.list h.run.moves place y.0 y.1) (λ i. (sym p.0 i, p.1 i)) both)
       (λ (p : (j ≢ id) × (get_elem? s.views j ≡ some u)). other j u t.0 p.1)
       (at_set s.views id j (gathered v w) u t.1))
       (at_set (slice_set s.views id (gathered v w)) from j spent_view u is);
@@ -282,19 +285,19 @@ joins g id v from w s h at apart there = record {
     place : ℕ → ℕ × ℕ
     place c = taken_at id n from (h.place c).0 (h.place c).1
 
-    mine : Stands g h.errands h.events h.run.wins.list h.place id v
+    mine : Stands g h.errands h.events h.run.wins.list h.run.moves h.place id v
     mine = h.each id v at
 
-    theirs : Stands g h.errands h.events h.run.wins.list h.place from w
+    theirs : Stands g h.errands h.events h.run.wins.list h.run.moves h.place from w
     theirs = h.each from w (sym (set_else s.views id from (gathered v w) apart) ∙ there)
 
-    spent : (j : ℕ) → Stands g h.errands h.events h.run.wins.list place j spent_view
+    spent : (j : ℕ) → Stands g h.errands h.events h.run.wins.list h.run.moves place j spent_view
     spent j = record { seen = (h.events, refl); wins_seen = (h.run.wins.list, refl); each = λ k x is. absurd (some-ne-none x (sym is)) }
 
     seen_both : StartsWith v.seen (longer v.seen w.seen) × StartsWith w.seen (longer v.seen w.seen) × StartsWith (longer v.seen w.seen) h.events
     seen_both = longer-starts v.seen w.seen h.events mine.seen theirs.seen
 
-    both : Stands g h.errands h.events h.run.wins.list place id (gathered v w)
+    both : Stands g h.errands h.events h.run.wins.list h.run.moves place id (gathered v w)
     both =
         let wins = longer-starts v.wins w.wins h.run.wins.list mine.wins_seen theirs.wins_seen in
         record {
@@ -311,6 +314,7 @@ joins g id v from w s h at apart there = record {
                 own_seen = y.own_seen;
                 seen_within = starts-on x.seen v.seen (longer v.seen w.seen) y.seen_within seen_both.0;
                 wins_seen = count-between x.errand.caller v.wins (longer v.wins w.wins) h.run.wins.list wins.0 wins.2 y.wins_seen;
+                counted = y.counted;
               })
               (λ (t : (m : ℕ) × (k ≡ length v.callers + m) × (get_elem? w.callers m ≡ some x)).
               let y = theirs.each t.0 x t.2 in
@@ -322,11 +326,12 @@ joins g id v from w s h at apart there = record {
                 own_seen = y.own_seen;
                 seen_within = starts-on x.seen w.seen (longer v.seen w.seen) y.seen_within seen_both.1;
                 wins_seen = count-between x.errand.caller w.wins (longer v.wins w.wins) h.run.wins.list wins.1 wins.2 y.wins_seen;
+                counted = y.counted;
               })
               (at_append v.callers w.callers x k is);
         }
 
-    other : (j : ℕ) (u : View) → j ≢ from → get_elem? s.views j ≡ some u → Stands g h.errands h.events h.run.wins.list place j u
+    other : (j : ℕ) (u : View) → j ≢ from → get_elem? s.views j ≡ some u → Stands g h.errands h.events h.run.wins.list h.run.moves place j u
     other j u ne is =
         let o = h.each j u is in
         record {
@@ -342,6 +347,7 @@ joins g id v from w s h at apart there = record {
                 own_seen = y.own_seen;
                 seen_within = y.seen_within;
                 wins_seen = y.wins_seen;
+                counted = y.counted;
               };
         }
 

@@ -1,5 +1,5 @@
 -- A pass after a step.
-use Rattle.std.proofs.Common.{ℕ, ◌≡◌, inl, sym, ap, ◌∙◌, subst}
+use Rattle.std.proofs.Common.{ℕ, suc, ◌≡◌, inl, sym, ap, ◌∙◌, subst}
 use Rattle.heap_geometry.specs.declared.geometry.Geometry.{Geometry}
 use Rattle.errand_steps.specs.declared.reply.Progress.{Progress}
 use Rattle.errand_steps.specs.Errands.{ErrandFields, settle_of, answer_of}
@@ -9,7 +9,7 @@ use Rattle.live_heap.specs.declared.answers.Step.{Step}
 use Rattle.live_heap.specs.declared.heap.Heap.{Heap}
 use Rattle.live_heap.specs.declared.pass.Pass.{Pass}
 use Rattle.live_heap.specs.Answers.{GivesBack, HasStepped, progress_of}
-use Rattle.live_heap.specs.Passes.{IsOf, seen, view}
+use Rattle.live_heap.specs.Passes.{IsOf, accesses, accesses_of, seen, view}
 use Rattle.live_heap.specs.Sights.{IsSightOf, TakesStep, found_in}
 use Rattle.live_heap.proofs.Begun.{of-laid}
 use Rattle.live_heap.proofs.Moves.{settle-caller}
@@ -48,8 +48,13 @@ took-step p q n answer is told s =
     subst (λ f. IsMoment p.errand f (seen p) (seen q) answer) (sym is)
     (subst (IsMoment p.errand (settle_of p.errand (found_in p.errand n)) (seen p) (seen q)) (sym told) s.moment)
 
+-- it is one access more
+pub took-access : (e : ErrandFields) (p q : Pass) (n : ℕ) → TakesStep e n (view p) (view q) → accesses q ≡ suc (accesses p)
+took-access e p q n s = ap accesses_of s.now ∙ (s.accesses ∙ ap suc (sym (ap accesses_of s.was)))
+
 pub has-stepped :
-    (p q : Pass) (answer : Progress) (told : Step) → IsMoment p.errand q.errand (seen p) (seen q) answer → progress_of told ≡ answer
+    (p q : Pass) (answer : Progress) (told : Step) → IsMoment p.errand q.errand (seen p) (seen q) answer → accesses q ≡ suc (accesses p)
+    → progress_of told ≡ answer
     → GivesBack (offered_at p.errand.point) told → HasStepped p q told
-has-stepped p q answer told moment is back =
-    record { moment = subst (IsMoment p.errand q.errand (seen p) (seen q)) (sym is) moment; back = back }
+has-stepped p q answer told moment one is back =
+    record { moment = subst (IsMoment p.errand q.errand (seen p) (seen q)) (sym is) moment; accesses = one; back = back }

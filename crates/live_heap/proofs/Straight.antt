@@ -38,7 +38,7 @@ use Rattle.live_heap.specs.Sights.{IsSightOf, TakesStep, after_events, found_in}
 use Rattle.live_heap.proofs.Begun.{begins-of}
 use Rattle.live_heap.proofs.CallsGrow.{other-calling}
 use Rattle.live_heap.proofs.CallsOne.{end-answers, ends-one, store-ends, load-ends}
-use Rattle.live_heap.proofs.Stepped.{of-sight, still-of, took-step}
+use Rattle.live_heap.proofs.Stepped.{of-sight, still-of, took-access, took-step}
 
 -- a usable word of a block lies in the arena
 pub payload-within : (g : Geometry) (place : ℕ) (n : Need) (i : ℕ) → IsHeapBlock g place n → i < usable_words n → place + 1 + i < arena_words g
@@ -123,7 +123,11 @@ module _
   pub one-stepped :
       Done (reply_of end) ≡ answer_of (begun_by p.errand call) (found_in (begun_by p.errand call) n)
       → GivesBack (offered_at (begun_by p.errand call).point) (step.Done end) → HasStepped (in_call p call) q (step.Done end)
-  one-stepped answers back = record { moment = took-step (in_call p call) q n (Done (reply_of end)) is answers s; back = back }
+  one-stepped answers back = record {
+    moment = took-step (in_call p call) q n (Done (reply_of end)) is answers s;
+    accesses = took-access (begun_by p.errand call) (in_call p call) q n s;
+    back = back;
+  }
 
 -- it has ended so, and its pass is of the heap still
 pub record EndsAtOnce (h : Heap) (p : Pass) (call : Call) (end : Ending) (q : Pass) : Type 0 where

@@ -29,7 +29,7 @@ use Rattle.live_heap.specs.Passes.{IsOf, seen}
 use Rattle.live_heap.specs.Sights.{after_events, found_in}
 use Rattle.live_heap.proofs.Begun.{begins-of}
 use Rattle.live_heap.proofs.CallsCounts.{going-ends, going-first, going-further, going-grows}
-use Rattle.live_heap.proofs.Stepped.{still-of, took-step}
+use Rattle.live_heap.proofs.Stepped.{still-of, took-access, took-step}
 
 pub planned-at : (e : ErrandFields) (p : BlockPoint) (o : Continuation) → plan_block_of p ≡ plan_of (at_block e p o)
 unfolding plan_point_of
@@ -94,7 +94,8 @@ module _
       let goes : IsWalking h start tries q o (record { seat = r.seat; errand = at }) =
       record {
         of = still-of h before after n w.walks.of w.table w.empty settled w.has.1;
-        going = going-further h start tries tries before after w.walks.of w.walks.some w.walks.going (took-step before after n More settled told w.has.1);
+        going = going-further h start tries tries before after w.walks.of w.walks.some w.walks.going (took-step before after n More settled told w.has.1)
+            (took-access before.errand before after n w.has.1);
         idle = w.walks.idle;
         rule = subst IsErrand (sym settled) w.has.1.served.own_errand.rule;
         some = w.walks.some;
@@ -120,7 +121,8 @@ module _
       record {
         of = still-of h before after n w.walks.of w.table w.empty settled w.has.1;
         grows = going-grows h start tries tries before after w.walks.of w.walks.some w.walks.going (Done (reply_of ending)) moment;
-        goes = going-ends h start tries tries before after w.walks.of w.walks.some w.walks.going (reply_of ending) moment;
+        goes = going-ends h start tries tries before after w.walks.of w.walks.some w.walks.going (reply_of ending) moment
+            (took-access before.errand before after n w.has.1);
       }
 
 -- a call that begins, and would stand at this point then

@@ -1,5 +1,5 @@
 -- What the calls of a heap answer.
-use Rattle.std.specs.Prelude.{ℕ, ◌≡◌, ◌≢◌, ◌⊎◌, Option, Some, None, IsSomeAnd, slice_index_or}
+use Rattle.std.specs.Prelude.{ℕ, suc, ◌≡◌, ◌≢◌, ◌⊎◌, Option, Some, None, IsSomeAnd, slice_index_or}
 use Rattle.heap_geometry.specs.declared.need.Need.TheVariants.{Small}
 use Rattle.heap_geometry.specs.Need.{IsNeed, need_of}
 use Rattle.packed_words.specs.declared.shelf.ShelfWord.TheVariants as lies
@@ -31,7 +31,7 @@ use Rattle.live_heap.specs.declared.answers.Taken.TheVariants as taken
 use Rattle.live_heap.specs.declared.block.Block.{Block}
 use Rattle.live_heap.specs.declared.pass.Pass.{Pass}
 use Rattle.live_heap.specs.Calls.{HasCalled, IsCalling, EndsInTime, IsInterrupted}
-use Rattle.live_heap.specs.Passes.{Owns, seen}
+use Rattle.live_heap.specs.Passes.{Owns, accesses, seen}
 
 -- the reply of an ending, with a block's place and need for the block
 abbrev pub reply_of : Ending → Reply
@@ -67,9 +67,10 @@ abbrev pub GivesBack : Option Offer → Step → Type 0
 GivesBack offer (step.Done (ending.Full block found)) = offer ≡ Some (record { place = block.place; need = block.need })
 GivesBack offer told = Unit {0}
 
--- a step of a pass that is in a call, and what it was told to have come to
+-- a step of a pass that is in a call, which is one access to a shared word, and what it was told to have come to
 pub record HasStepped (p q : Pass) (told : Step) : Type 0 where
   pub moment : IsMoment p.errand q.errand (seen p) (seen q) (progress_of told)
+  pub accesses : accesses q ≡ suc (accesses p)
   pub back : GivesBack (offered_at p.errand.point) told
 
 -- the pass has begun a call, and made no step

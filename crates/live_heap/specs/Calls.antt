@@ -13,7 +13,7 @@ use Rattle.call_events.specs.Ends.{HasEnded}
 use Rattle.call_events.specs.UnderWay.{IsUnderWay}
 use Rattle.step_core.specs.Moments.{IsMoment}
 use Rattle.live_heap.specs.declared.pass.Pass.{Pass}
-use Rattle.live_heap.specs.Passes.{seen}
+use Rattle.live_heap.specs.Passes.{accesses, seen}
 
 -- from the errand e, and from these events that were seen, so many steps of a pass led to f and to those, and its call went on after each
 abbrev pub StepsOn : ErrandFields → List Event → ℕ → ErrandFields → List Event → Type 0
@@ -22,16 +22,17 @@ StepsOn e before (suc steps) f after =
     (last : ErrandFields) × (sight : List Event) × (answer : Progress)
     × StepsOn e before steps last sight × IsMoment last f sight after answer × IsBusy f
 
--- since it stood as `first`, a pass has begun this call and made so many steps of it. It is in the call, and all events that its caller has added since are the call's so far
+-- since it stood as `first`, a pass has begun this call and made so many steps of it, which are its only accesses to shared words that count. It is in the call, and all events that its caller has added since are the call's so far
 pub record IsCalling (first : Pass) (call : Call) (steps : ℕ) (p : Pass) : Type 0 where
   pub caller : p.errand.caller ≡ first.errand.caller
   pub on : StepsOn (begun_by first.errand call) (seen first) steps p.errand (seen p)
+  pub accesses : accesses p ≡ steps + accesses first
   pub busy : IsBusy p.errand
   pub added : List Event
   pub events : own first.errand.caller (seen p) ≡ own first.errand.caller (seen first) ++ added
   pub under_way : IsUnderWay first.errand.caller call p.errand.point added
 
--- one step more has ended the call with this reply, and all events that its caller has added since are those of a call that ends so
+-- one step more, and one access more, has ended the call with this reply, and all events that its caller has added since are those of a call that ends so
 pub record HasCalled (first : Pass) (call : Call) (steps : ℕ) (reply : Reply) (q : Pass) : Type 0 where
   pub caller : q.errand.caller ≡ first.errand.caller
   pub idle : IsIdle q.errand
@@ -39,6 +40,7 @@ pub record HasCalled (first : Pass) (call : Call) (steps : ℕ) (reply : Reply) 
   pub sight : List Event
   pub on : StepsOn (begun_by first.errand call) (seen first) steps last sight
   pub moment : IsMoment last q.errand sight (seen q) (Done reply)
+  pub accesses : accesses q ≡ suc (steps + accesses first)
   pub added : List Event
   pub events : own first.errand.caller (seen q) ≡ own first.errand.caller (seen first) ++ added
   pub ended : HasEnded first.errand.caller call reply added

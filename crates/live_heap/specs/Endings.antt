@@ -1,5 +1,5 @@
 -- A heap that no thread shares any more.
-use Rattle.std.specs.Prelude.{ℕ, zero, suc, ◌≡◌, ◌<◌, ◌-◌, ◌^◌, ◌==◌, if◌then◌else◌, min, sum_by, List, [], ◌∷◌, All, length}
+use Rattle.std.specs.Prelude.{ℕ, zero, suc, ◌≡◌, ◌<◌, ◌-◌, ◌^◌, ◌==◌, if◌then◌else◌, count_by, min, sum_by, List, [], ◌∷◌, All, length}
 use mathlib.Core.Option.{some}
 use lib.ListN.{get_elem?}
 use Rattle.atomic_table.specs.declared.shared.Seat.{Seat}
@@ -10,6 +10,7 @@ use Rattle.errand_steps.specs.Begins.{IsIdle}
 use Rattle.errand_steps.specs.Errands.{ErrandFields}
 use Rattle.errand_steps.specs.Openings.{opening, IsOpening}
 use Rattle.sound_state.specs.Contention.{lost_of, won_of}
+use Rattle.sound_state.specs.Moves.{is_step_of}
 use Rattle.sound_state.specs.Sums.{callers_sum}
 use Rattle.sound_state.specs.Wins.{Win}
 use Rattle.step_core.specs.Cores.{CoreFields, IsCore, errand_at, no_errand}
@@ -17,7 +18,7 @@ use Rattle.live_heap.specs.declared.heap.Heap.{Heap}
 use Rattle.live_heap.specs.declared.pass.Pass.{Pass}
 use Rattle.live_heap.specs.declared.view.Standing.{Standing}
 use Rattle.live_heap.specs.declared.view.View.{View}
-use Rattle.live_heap.specs.Passes.{IsOf, seen}
+use Rattle.live_heap.specs.Passes.{IsOf, accesses, seen}
 
 -- the heap's numbers, its words, the errand of each caller, the whole history, and all that callers won from each other
 pub record ClosedFields : Type 0 where
@@ -71,19 +72,25 @@ pub record HasClosed (h : Heap) (passes : List Pass) (c : ClosedFields) : Type 0
   pub heap : c.geometry ≡ h.layout
   pub each : All (HasTakenIn c) passes
 
+-- among the moves that have led to it are just as many steps of each pass's caller as the pass counts accesses
+pub record HasAccesses (c : ClosedFields) (passes : List Pass) : Type 0 where
+  pub rests : IsResting c
+  pub each : All (λ p. accesses p ≡ count_by (is_step_of p.errand.caller) rests.core.run.moves) passes
+
 -- so many exchanges were won and lost in it by all callers together, as counts of 64 bits have it
 abbrev pub IsCounted : ClosedFields → ℕ → ℕ → Type 0
 IsCounted c won lost =
     (won ≡ min (callers_sum c.geometry won_of (errand_at c.errands)) (2 ^ 64 - 1))
     × (lost ≡ min (callers_sum c.geometry lost_of (errand_at c.errands)) (2 ^ 64 - 1))
 
--- the view stands for the pass's caller, with the errand that the pass has and what it has seen
+-- the view stands for the pass's caller, with the errand that the pass has, what it has seen and the accesses that it counts
 pub record IsIn (v : View) (p : Pass) : Type 0 where
   pub number : ℕ
   pub standing : Standing
   pub at : get_elem? v.callers number ≡ some standing
   pub errand : standing.errand ≡ p.errand
   pub seen_last : standing.seen ≡ seen p
+  pub counted : standing.accesses ≡ accesses p
 
 -- all passes are taken in by the seat, and won and lost so many exchanges together
 pub record IsGathered (h : Heap) (passes : List Pass) (seat : Seat ℕ View) (won lost : ℕ) : Type 0 where

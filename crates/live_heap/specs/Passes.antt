@@ -1,5 +1,5 @@
 -- When a pass is of a heap, and what it owns.
-use Rattle.std.specs.Prelude.{ℕ, suc, ◌≡◌, List, [], ◌∷◌}
+use Rattle.std.specs.Prelude.{ℕ, zero, suc, ◌≡◌, List, [], ◌∷◌}
 use Rattle.pool_model.specs.declared.event.Event.{Event}
 use Rattle.errand_steps.specs.Errands.{open_errand}
 use Rattle.step_core.specs.Cores.{OwnsAfter}
@@ -17,6 +17,14 @@ view p = p.seat.me.0
 
 abbrev pub seen : Pass → List Event
 seen p = p.seat.me.0.seen
+
+-- how many accesses to shared words a pass counts, one for each step of its caller from the opening on; it stands for one caller
+abbrev pub accesses_of : List Standing → ℕ
+accesses_of [] = zero
+accesses_of (x ∷ xs) = x.accesses
+
+abbrev pub accesses : Pass → ℕ
+accesses p = accesses_of (view p).callers
 
 -- the pass is of this heap: it stands for one caller, whose errand is the one that its last step left, or one that a call has begun with since; the events that it has seen are legal, and bound its turns; and with one caller nothing was lost
 pub record IsOf (h : Heap) (p : Pass) : Type 0 where
@@ -38,6 +46,7 @@ pub record IsFresh (h : Heap) (p : Pass) : Type 0 where
   pub of : IsOf h p
   pub errand : p.errand ≡ open_errand p.errand.caller h.layout
   pub nothing_seen : seen p ≡ []
+  pub none_made : accesses p ≡ 0
 
 -- the passes of a new heap, in the order of their numbers, from one on
 abbrev pub AreFrom : Heap → ℕ → List Pass → Type 0

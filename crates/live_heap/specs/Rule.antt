@@ -13,6 +13,8 @@ use Rattle.errand_steps.specs.Errands.{ErrandFields, open_errand}
 use Rattle.errand_steps.specs.Openings.{opening, IsOpening}
 use Rattle.errand_steps.specs.Steps.{State}
 use Rattle.sound_state.specs.Contention.{is_by}
+use Rattle.sound_state.specs.Moves.{is_step_of}
+use Rattle.sound_state.specs.Runs.{Move}
 use Rattle.sound_state.specs.Wins.{Win}
 use Rattle.step_core.specs.Cores.{IsReached, no_errand}
 use Rattle.live_heap.specs.declared.view.Standing.{Standing}
@@ -30,8 +32,8 @@ first_errands g caller = if nat_lt caller g.callers then open_errand caller g el
 abbrev pub BeginsWins : List Win → List Win → Type 0
 BeginsWins shorter longer = (rest : List Win) × (longer ≡ shorter ++ rest)
 
--- a caller that a pass stands for: its errand is the one that its last step left, it had seen a beginning of the events then and all of its own, and the pass has seen as much, and all that it won. `place` says which pass stands for a caller, and as which of its callers
-pub record IsStanding (g : Geometry) (errands : ℕ → ErrandFields) (events : List Event) (wins : List Win) (place : ℕ → ℕ × ℕ) (id : ℕ) (v : View) (number : ℕ) (x : Standing) : Type 0 where
+-- a caller that a pass stands for: its errand is the one that its last step left, it had seen a beginning of the events then and all of its own, and the pass has seen as much, and all that it won; and it counts its steps among these moves. `place` says which pass stands for a caller, and as which of its callers
+pub record IsStanding (g : Geometry) (errands : ℕ → ErrandFields) (events : List Event) (wins : List Win) (moves : List Move) (place : ℕ → ℕ × ℕ) (id : ℕ) (v : View) (number : ℕ) (x : Standing) : Type 0 where
   pub has : x.errand.caller < g.callers
   pub at_place : place x.errand.caller ≡ (id, number)
   pub errand : errands x.errand.caller ≡ x.errand
@@ -39,14 +41,15 @@ pub record IsStanding (g : Geometry) (errands : ℕ → ErrandFields) (events : 
   pub own_seen : own x.errand.caller x.seen ≡ own x.errand.caller events
   pub seen_within : Begins x.seen v.seen
   pub wins_seen : count_by (is_by x.errand.caller) v.wins ≡ count_by (is_by x.errand.caller) wins
+  pub counted : x.accesses ≡ count_by (is_step_of x.errand.caller) moves
 
 -- a pass has seen a beginning of the events and of the wins
-pub record Stands (g : Geometry) (errands : ℕ → ErrandFields) (events : List Event) (wins : List Win) (place : ℕ → ℕ × ℕ) (id : ℕ) (v : View) : Type 0 where
+pub record Stands (g : Geometry) (errands : ℕ → ErrandFields) (events : List Event) (wins : List Win) (moves : List Move) (place : ℕ → ℕ × ℕ) (id : ℕ) (v : View) : Type 0 where
   pub seen : Begins v.seen events
   pub wins_seen : BeginsWins v.wins wins
-  pub each : (number : ℕ) (x : Standing) → get_elem? v.callers number ≡ some x → IsStanding g errands events wins place id v number x
+  pub each : (number : ℕ) (x : Standing) → get_elem? v.callers number ≡ some x → IsStanding g errands events wins moves place id v number x
 
--- there are errands and events with which the words are a state that moves of the callers reached from the opening; and each pass has seen a part of it, and of what those moves won
+-- there are errands and events with which the words are a state that moves of the callers reached from the opening; and each pass has seen a part of it, and of what those moves won, and counts its own steps among them
 pub record Kept (g : Geometry) (words : List ℕ) (views : List View) : Type 0 where
   pub whole : length words ≡ word_count g
   pub errands : ℕ → ErrandFields
@@ -56,7 +59,7 @@ pub record Kept (g : Geometry) (words : List ℕ) (views : List View) : Type 0 w
   pub run : IsReached g (state_with g words errands events) made
   pub opened : IsOpening g (opening g) run.first
   pub place : ℕ → ℕ × ℕ
-  pub each : (id : ℕ) (v : View) → get_elem? views id ≡ some v → Stands g errands events run.wins.list place id v
+  pub each : (id : ℕ) (v : View) → get_elem? views id ≡ some v → Stands g errands events run.wins.list run.moves place id v
 
 -- so it is in a table
 abbrev pub TableHolds : {S : Type 0} → Geometry → TableState S View → Type 0

@@ -1,5 +1,5 @@
 -- What a pass sees of its own step.
-use Rattle.std.specs.Prelude.{ℕ, ◌≡◌, List, [], ◌∷◌, ◌⊎◌}
+use Rattle.std.specs.Prelude.{ℕ, suc, ◌≡◌, List, [], ◌∷◌, ◌⊎◌}
 use Rattle.atomic_table.specs.Table.{Me}
 use Rattle.heap_geometry.specs.declared.geometry.Geometry.{Geometry}
 use Rattle.word_plan.specs.declared.action.Found.{Found}
@@ -30,7 +30,7 @@ IsBegun events before e =
 abbrev pub found_in : ErrandFields → ℕ → Found
 found_in e n = found_by (plan_of e) n
 
--- a pass that stands for one caller made the step of the errand e, which found n, and saw this view become that one. With one caller nothing is ever lost
+-- a pass that stands for one caller made the step of the errand e, which found n, and saw this view become that one. It is one access more. With one caller nothing is ever lost
 pub record TakesStep (e : ErrandFields) (n : ℕ) (v w : View) : Type 0 where
   pub before : Standing
   pub after : Standing
@@ -38,6 +38,7 @@ pub record TakesStep (e : ErrandFields) (n : ℕ) (v w : View) : Type 0 where
   pub now : w.callers ≡ after ∷ []
   pub errand : after.errand ≡ settle_of e (found_in e n)
   pub seen : after.seen ≡ w.seen
+  pub accesses : after.accesses ≡ suc before.accesses
   pub wins_seen : BeginsWins v.wins w.wins
   pub moment : IsMoment e (settle_of e (found_in e n)) v.seen w.seen (answer_of e (found_in e n))
   pub served : IsServed e.geometry e.caller (settle_of e (found_in e n)) w.seen

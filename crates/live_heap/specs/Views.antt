@@ -5,9 +5,9 @@ use Rattle.errand_steps.specs.Errands.{open_errand}
 use Rattle.live_heap.specs.declared.view.Standing.{Standing}
 use Rattle.live_heap.specs.declared.view.View.{View}
 
--- a caller that is in no call and has seen nothing
+-- a caller that is in no call, has seen nothing and made no step
 abbrev pub idle_standing : Geometry → ℕ → Standing
-idle_standing g caller = record { errand = open_errand caller g; seen = [] }
+idle_standing g caller = record { errand = open_errand caller g; seen = []; accesses = 0 }
 
 -- such callers, so many from a number on
 abbrev pub idles_from : Geometry → ℕ → ℕ → List Standing

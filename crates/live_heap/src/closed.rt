@@ -8,7 +8,7 @@ ghost use Rattle.errand_steps.specs.Begins.{IsIdle};
 ghost use Rattle.sound_state.specs.Contention.{lost_of, won_of};
 ghost use Rattle.sound_state.specs.Sums.{callers_sum};
 ghost use Rattle.step_core.specs.Cores.{errand_at};
-ghost use Rattle.live_heap.specs.Endings.{AreAllIdle, HasClosed, IsGathered, IsResting};
+ghost use Rattle.live_heap.specs.Endings.{AreAllIdle, HasAccesses, HasClosed, IsGathered, IsResting};
 
 use crate::heap::Heap;
 use crate::pass::Pass;
@@ -67,6 +67,7 @@ impl Heap {
         requires { AreAllIdle self passes.items }
         ensures closed { IfOk result (λ closed. HasClosed self passes.items closed) }
         ensures rests { IfOk result (λ closed. IsResting closed) }
+        ensures accesses { IfOk result (λ closed. HasAccesses closed passes.items) }
         ensures always { IfErr result (λ refused. ⊥) }
     {
         let Gathered { seat, won, lost } = self.gather(passes);

@@ -1,10 +1,11 @@
 //! What fills a block and sums it: whole calls on its usable words, each once, in their order.
 
+ghost use Rattle.std.specs.Prelude.{◌≡◌, ◌+◌};
 ghost use Rattle.heap_geometry.specs.Need.{usable_words};
 ghost use Rattle.errand_steps.specs.Begins.{IsIdle};
 ghost use Rattle.live_heap.specs.declared.block.Block.{Block};
 ghost use Rattle.call_events.specs.Made.{LeadsBy, Sums, wrote};
-ghost use Rattle.live_heap.specs.Passes.{IsOf, Owns};
+ghost use Rattle.live_heap.specs.Passes.{IsOf, Owns, accesses};
 ghost use Rattle.live_heap.specs.Words.{CallsOnWord};
 
 use crate::block::Block;
@@ -21,6 +22,7 @@ impl Heap {
         ensures idle { IsIdle pass.new.errand }
         ensures keeps { (other : Block) → Owns pass.old other → Owns pass.new other }
         ensures wrote { LeadsBy (CallsOnWord self.now) pass.old (wrote block.now.place block.now.need from (usable_words block.now.need)) pass.new }
+        ensures accesses { accesses pass.new ≡ usable_words block.now.need + accesses pass.old }
     {
         let place = block.place;
         let need = block.need;
@@ -39,6 +41,7 @@ impl Heap {
         ensures idle { IsIdle pass.new.errand }
         ensures keeps { (other : Block) → Owns pass.old other → Owns pass.new other }
         ensures sums { Sums (CallsOnWord self.now) pass.old block.now.place block.now.need result pass.new }
+        ensures accesses { accesses pass.new ≡ usable_words block.now.need + accesses pass.old }
     {
         let place = block.place;
         let need = block.need;

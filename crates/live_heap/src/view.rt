@@ -6,11 +6,26 @@ use std::collections::LinkedList;
 use std::marker::Model;
 use word_plan::name::WordName;
 
-/// A caller: its errand as its last step left it, and the events that it had seen then, all of its own
-/// among them.
+/// How many steps a caller has made, each one access to a shared word. Its number has no end, as it is for
+/// proofs alone.
+pub struct Accesses {
+    made: LinkedList<()>,
+}
+
+impl Model for Accesses {
+    ghost use Rattle.std.specs.Prelude.{ℕ, length};
+
+    ghost Value = { ℕ };
+
+    ghost view = { λ a. length a.made };
+}
+
+/// A caller: its errand as its last step left it, the events that it had seen then, all of its own among
+/// them, and how many steps it has made.
 pub struct Standing {
     pub errand: Errand,
     pub seen: LinkedList<Event>,
+    pub accesses: Accesses,
 }
 
 /// A change that a caller won, and whether it made a superblock the active one.

@@ -4,9 +4,9 @@ use Rattle.atomic_table.specs.declared.shared.Seat.{Seat}
 use Rattle.placed_words.specs.Places.{words_at}
 use Rattle.heap_geometry.specs.declared.geometry.Geometry.{Geometry}
 use Rattle.live_heap.specs.declared.view.View.{View}
-use Rattle.live_heap.specs.Endings.{HasTakenIn, IsCounted, IsResting, closed_with}
+use Rattle.live_heap.specs.Endings.{HasAccesses, HasTakenIn, IsCounted, IsResting, closed_with}
 use Rattle.live_heap.specs.Rule.{Kept}
-use Rattle.live_heap.proofs.Ending.{IsLast, last-rests, last-counted, last-taken}
+use Rattle.live_heap.proofs.Ending.{IsLast, last-accesses, last-rests, last-counted, last-taken}
 use Rattle.live_heap.proofs.Gathering.{idle-at}
 use Rattle.live_heap.proofs.heap.Heap.close.Goals as goal
 use Rattle.live_heap.proofs.heap.Heap.close.Goals.{After-close_with}
@@ -41,6 +41,15 @@ invariant_of-result c = record { full = search rules; len = search rules; bare =
 
 pub returns-clause-rests : goal.returns-clause-rests
 returns-clause-rests c = rests c
+
+pub returns-clause-accesses : goal.returns-clause-accesses
+returns-clause-accesses c =
+    let g = c.args.self.layout in
+    let seat = c.gather-seat.result.seat in
+    subst (λ (x : Seat ℕ View). HasAccesses (closed_with g (words_at g (slots_items c.close_with.result.words)) x.me.0) c.args.passes.items)
+    (sym c.of-last.ensures)
+    (last-accesses g (words_at g (slots_items c.close_with.result.words)) seat.me.0 (last c) (idle-at seat.me.0.callers c.gather-seat.ensures.idle)
+    c.args.passes.items c.gather-seat.ensures.each)
 
 pub returns-clause-closed : goal.returns-clause-closed
 returns-clause-closed c =

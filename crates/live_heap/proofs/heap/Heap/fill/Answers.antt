@@ -1,4 +1,4 @@
-use Rattle.std.proofs.Common.{◌+◌, ◌%◌, ◌^◌, sym, subst}
+use Rattle.std.proofs.Common.{arith, ◌+◌, ◌%◌, ◌^◌, sym, subst}
 use Rattle.errand_steps.specs.declared.reply.Reply.TheVariants as reply
 use Rattle.errand_steps.specs.Calls.{Call, write}
 use Rattle.call_events.specs.Made.{LeadsBy, wrote}
@@ -28,6 +28,7 @@ loop-i-preserved c =
       idle = one.called.idle;
       keeps = λ other owned.
           pass-keeps h h p q call reply.Wrote other.place other.need (word-whole h p q call reply.Wrote one) tt (c.loop-i.invariant.keeps other owned);
+      accesses = omega (arith, one.called.accesses, c.loop-i.invariant.accesses);
       wrote =
           subst (λ ms. LeadsBy (CallsOnWord h) first ms q) (sym (wrote-more b.place b.need v i))
           (leads-more (CallsOnWord h) first p q (wrote b.place b.need v i) call reply.Wrote c.loop-i.invariant.wrote one);

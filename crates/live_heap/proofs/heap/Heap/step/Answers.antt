@@ -6,7 +6,7 @@ use Rattle.live_heap.specs.declared.pass.Pass.{Pass}
 use Rattle.live_heap.specs.Answers.{GivesBack, IsAnswerable}
 use Rattle.live_heap.proofs.Begun.{of-laid}
 use Rattle.live_heap.proofs.Moves.{settle-caller}
-use Rattle.live_heap.proofs.Stepped.{of-sight, still-of, took-step, has-stepped}
+use Rattle.live_heap.proofs.Stepped.{of-sight, still-of, took-access, took-step, has-stepped}
 use Rattle.live_heap.proofs.Told.{moment-answerable}
 use Rattle.live_heap.proofs.heap.Heap.step.Goals as goal
 
@@ -42,5 +42,5 @@ returns-clause-busy c =
     let q : Pass = record { seat = c.act-found.new.seat; errand = c.go_on-progress.new.self } in
     let m = took-step c.args.pass.now q s.0 c.go_on-progress.result (c.go_on-progress.ensures.errand ∙ s.2) (c.go_on-progress.ensures.answer ∙ s.3) s.1 in
     λ busy.
-    has-stepped c.args.pass.now q c.go_on-progress.result c.told.result m c.told.ensures.progress
+    has-stepped c.args.pass.now q c.go_on-progress.result c.told.result m (took-access c.args.pass.now.errand c.args.pass.now q s.0 s.1) c.told.ensures.progress
     (subst (λ o. GivesBack o c.told.result) c.offered-offer.ensures c.told.ensures.back)

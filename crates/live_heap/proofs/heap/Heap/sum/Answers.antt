@@ -30,6 +30,7 @@ loop-i-preserved c =
       idle = one.called.idle;
       keeps = λ other owned.
           pass-keeps h h p q call answer other.place other.need (word-whole h p q call answer one) tt (c.loop-i.invariant.keeps other owned);
+      accesses = omega (arith, one.called.accesses, c.loop-i.invariant.accesses);
       sums = (
         sums.0 ++ word ∷ [],
         length-append sums.0 (word ∷ []) ∙ ap (λ n. n + 1) sums.1,
