@@ -9,6 +9,7 @@ pub mod Linked
 pub mod Passes
 pub mod Refusals
 pub mod Rule
+pub mod SeenSteps
 pub mod Sights
 pub mod Views
 pub mod Whole

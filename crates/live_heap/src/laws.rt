@@ -28,6 +28,7 @@ ghost use Rattle.live_heap.specs.Calls.{HasCalled, IsCalling, IsInterrupted};
 ghost use Rattle.live_heap.specs.Endings.{ClosedFields, IsResting, machine_of};
 ghost use Rattle.live_heap.specs.Passes.{IsOf, Owns, seen};
 ghost use Rattle.live_heap.specs.Refusals.{HasFoundNoFrame, HasFoundNoRun};
+ghost use Rattle.live_heap.specs.SeenSteps.{steps_of};
 ghost use Rattle.live_heap.specs.Whole.{Hands, IsWhole};
 
 /// What is so of every pass, whatever calls it has made: the events that it has seen are legal, and
@@ -65,12 +66,13 @@ pub fn whole_calls_keep_blocks()
         → need ≡ need_of words }
 {}
 
-/// Why an allocation is refused. For a small need a step of the call found the class's list empty, a later
-/// one found no frame left, and its event is the refusal; for a large one the step that ended the call
-/// found no run of so many units free.
+/// Why an allocation is refused. For a small need one of the call's steps found the class's list empty, a
+/// later one of them found no frame left, and its event is the refusal; for a large one the step that ended
+/// the call found no run of so many units free.
 pub fn refusals_have_their_cause()
     ensures small { (first q : Pass) (words class steps : ℕ) → need_of words ≡ Small class
-        → HasCalled first (alloc words) steps reply.Refused q → HasFoundNoFrame first words class q }
+        → (called : HasCalled first (alloc words) steps reply.Refused q)
+        → HasFoundNoFrame first words class (steps_of first (alloc words) steps reply.Refused q called) }
     ensures large { (first q : Pass) (words units steps : ℕ) → need_of words ≡ Large units
         → HasCalled first (alloc words) steps reply.Refused q → HasFoundNoRun first words units q }
 {}
