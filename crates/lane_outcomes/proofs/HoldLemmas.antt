@@ -121,7 +121,7 @@ HoldsOnce registers =
     → held.place ≢ other.place
 
 -- empty registers hold nothing
-held-nothing : (n r : ℕ) → held_in (replicate n None) r ≡ None
+pub held-nothing : (n r : ℕ) → held_in (replicate n None) r ≡ None
 held-nothing zero r = refl
 held-nothing (suc n) zero = refl
 held-nothing (suc n) (suc r) = held-nothing n r

@@ -11,3 +11,6 @@ pub mod RunLemmas
 pub mod FitLemmas
 pub mod ReportLemmas
 pub mod LanesLemmas
+pub mod WrittenBlocks
+pub mod WrittenRows
+pub mod WrittenLemmas

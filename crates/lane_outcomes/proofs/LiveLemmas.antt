@@ -38,7 +38,7 @@ record IsLaneTally (f : ℕ → ℕ) (setting : Setting) (operations : List Op) 
   pub freed : tally (of_caller setting.caller (free_at f)) [] setting.history ≡ lane_freed f (replicate REGISTERS None) operations results
 
 -- a lane before its first event
-at-start : (f : ℕ → ℕ) (setting : Setting) → FollowsAt f setting.history setting.caller [] (replicate REGISTERS None) 0 0
+pub at-start : (f : ℕ → ℕ) (setting : Setting) → FollowsAt f setting.history setting.caller [] (replicate REGISTERS None) 0 0
 at-start f setting =
     λ before begins own_is. record {
       holds = holds-nothing (pool_of before) setting.caller REGISTERS;

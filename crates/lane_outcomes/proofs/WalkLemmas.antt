@@ -36,7 +36,7 @@ stills-writes : (count first caller place v : ℕ) → AllByRecursion (IsStill c
 stills-writes zero first caller place v = tt
 stills-writes (suc count) first caller place v = (refl, stills-writes count (first + 1) caller place v)
 
-stills-filling : (caller place words v : ℕ) → AllByRecursion (IsStill caller) (filling caller place words v)
+pub stills-filling : (caller place words v : ℕ) → AllByRecursion (IsStill caller) (filling caller place words v)
 stills-filling caller place words v = stills-writes words 0 caller place v
 
 stills-append :
@@ -45,7 +45,7 @@ stills-append :
 stills-append caller [] more first rest = rest
 stills-append caller (event ∷ events) more first rest = (first.0, stills-append caller events more first.1 rest)
 
-stills-refusing : (caller need : ℕ) (n : Need) (events : List Event) → IsRefusing caller need n events → AllByRecursion (IsStill caller) events
+pub stills-refusing : (caller need : ℕ) (n : Need) (events : List Event) → IsRefusing caller need n events → AllByRecursion (IsStill caller) events
 stills-refusing caller need (Small class) events refusing =
     rw refusing.1 (refl, stills-append caller (looks caller class refusing.0) _ (stills-looks caller class refusing.0) (refl, tt))
 stills-refusing caller need (Large units) events refusing = rw refusing (refl, tt)
@@ -56,21 +56,33 @@ stills-spending caller (Small class) events spending = rw spending.1 (stills-loo
 stills-spending caller (Large units) events spending = absurd spending
 stills-spending caller TooLarge events spending = absurd spending
 
-stills-spent : (setting : Setting) (position : Position) (need : ℕ) (piece : List Event) (spent : Bool) → IsSpent setting position need piece spent → AllByRecursion (IsStill setting.caller) piece
+pub stills-spent : (setting : Setting) (position : Position) (need : ℕ) (piece : List Event) (spent : Bool) → IsSpent setting position need piece spent → AllByRecursion (IsStill setting.caller) piece
 stills-spent setting position need piece true row = rw row.1 tt
 stills-spent setting position need piece false row = stills-spending setting.caller (need_of need) piece row.0
 
 -- an allocation that was given a block: some looks, and then the allocation
-record IsGiven (caller need place : ℕ) (events : List Event) : Type 0 where
+pub record IsGiven (caller need place : ℕ) (events : List Event) : Type 0 where
   pub looked : List Event
   pub stills : AllByRecursion (IsStill caller) looked
   pub whole : events ≡ looked ++ Alloc caller need place ∷ []
 
-given-of : (caller need place : ℕ) (n : Need) (events : List Event) → IsGiving caller need place n events → IsGiven caller need place events
+pub given-of : (caller need place : ℕ) (n : Need) (events : List Event) → IsGiving caller need place n events → IsGiven caller need place events
 given-of caller need place (Small class) events giving =
     record { looked = looks caller class giving.0; stills = stills-looks caller class giving.0; whole = giving.1 }
 given-of caller need place (Large units) events giving = record { looked = []; stills = tt; whole = giving }
 given-of caller need place TooLarge events giving = absurd giving
+
+-- the events of an allocation that was given a block and filled it
+pub given-events :
+    (caller need place words v : ℕ) (done calls piece : List Event) (is : IsGiven caller need place calls)
+    → piece ≡ calls ++ filling caller place words v
+    → ((done ++ is.looked) ++ Alloc caller need place ∷ []) ++ filling caller place words v ≡ done ++ piece
+given-events caller need place words v done calls piece is piece_is =
+    append_assoc (done ++ is.looked) (Alloc caller need place ∷ []) (filling caller place words v)
+    ∙ append_assoc done is.looked (Alloc caller need place ∷ filling caller place words v)
+    ∙ ap (λ xs. done ++ xs)
+    (sym (append_assoc is.looked (Alloc caller need place ∷ []) (filling caller place words v))
+    ∙ ap (λ xs. xs ++ filling caller place words v) (sym is.whole) ∙ sym piece_is)
 
 -- where the lane stands after an operation
 abbrev pub After : (ℕ → ℕ) → Setting → Position → Op → Outcome → List Event → ℕ → ℕ → Type 0
@@ -92,7 +104,7 @@ quiet f g setting position piece given freed legal stills at =
     (at-stills f g setting.history setting.caller position.done piece position.registers given freed legal stills at)
 
 -- no events
-abbrev none-still : (caller : ℕ) (piece : List Event) → piece ≡ [] → AllByRecursion (IsStill caller) piece
+abbrev pub none-still : (caller : ℕ) (piece : List Event) → piece ≡ [] → AllByRecursion (IsStill caller) piece
 none-still caller piece none = rw none tt
 
 given-after :
@@ -116,11 +128,7 @@ given-after f g setting position r need v words place calls piece given freed le
     let at_filled = at-stills f g setting.history caller (looked ++ Alloc caller need place ∷ []) (filling caller place words v) set (given + f words)
     (freed + 0) legal (stills-filling caller place words v) at_alloc in
     at-as f setting.history caller _ (position.done ++ piece) set (given + f words) (freed + 0) (given + f words) (freed + 0)
-    (append_assoc looked (Alloc caller need place ∷ []) (filling caller place words v)
-    ∙ append_assoc position.done is.looked (Alloc caller need place ∷ filling caller place words v)
-    ∙ ap (λ xs. position.done ++ xs)
-    (sym (append_assoc is.looked (Alloc caller need place ∷ []) (filling caller place words v))
-    ∙ ap (λ xs. xs ++ filling caller place words v) (sym is.whole) ∙ sym piece_is))
+    (given-events caller need place words v position.done calls piece is piece_is)
     refl refl at_filled
 
 alloc-after :
@@ -230,7 +238,7 @@ take-after f g setting position r shelf None (outcome.Took words place need) pie
     }) at)
 take-after f g setting position r shelf held result piece given freed legal row at = absurd row
 
-row-after :
+pub row-after :
     (f : ℕ → ℕ) (g : Geometry) (setting : Setting) (position : Position) (operation : Op) (result : Outcome) (piece : List Event) (given freed : ℕ)
     → IsLegalWithoutCounts g setting.history → FitsRow setting position operation result piece → Before f setting position given freed
     → After f setting position operation result piece given freed

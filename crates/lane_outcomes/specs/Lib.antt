@@ -5,3 +5,4 @@ pub mod Passed
 pub mod Report
 pub mod Rows
 pub mod Standing
+pub mod Written

@@ -18,6 +18,7 @@ use Rattle.lane_outcomes.specs.Lane.{filling}
 use Rattle.lane_outcomes.specs.Rows.{IsWord, IsSumOf}
 use Rattle.lane_outcomes.proofs.FillLemmas.{writes}
 use Rattle.lane_outcomes.proofs.FollowLemmas.{cut-last}
+use Rattle.lane_outcomes.proofs.WrittenBlocks.{known-words}
 use Rattle.roomy_traces.specs.Serial.{numbers_from}
 use Rattle.roomy_traces.proofs.PieceLemmas.{IsGivenBy}
 
@@ -186,13 +187,6 @@ at-given g history caller need place words v done calls legal words_are given =
     subst (λ (xs : List Event). AtMoments history caller xs (HasContents caller place (filled_from v words))) same filled
 
 -- a sum of known contents is the sum of their numbers
-known-words : (numbers words : List ℕ) → AllZip IsWord (map (λ n. Some n) numbers) words → words ≡ numbers
-known-words [] [] each = refl
-known-words [] (word ∷ words) each = absurd each
-known-words (n ∷ numbers) [] each = absurd each
-known-words (n ∷ numbers) (word ∷ words) each =
-    ap (λ w. w ∷ words) each.0 ∙ ap (λ ws. n ∷ ws) (known-words numbers words each.1)
-
 pub known-sum :
     (pool : Pool) (caller place v words total : ℕ) (block : Block) → HasContents caller place (filled_from v words) pool
     → block_at place pool ≡ Some block → IsSumOf block.contents total → total ≡ sum (numbers_from v words) % 2 ^ 64

@@ -3,47 +3,11 @@ use Rattle.std.proofs.Common.{ℕ, zero, suc, Bool, true, false, eqb, cond, get_
 use Rattle.std.specs.List.{AllByRecursion}
 use Rattle.std.proofs.lemmas.Bool.{cases_Bool}
 use Rattle.std.proofs.lemmas.List.Sums.{sum_by-cons, sum_by-append}
-use Rattle.heap_geometry.specs.declared.geometry.Geometry.{Geometry}
 use Rattle.pool_model.specs.declared.event.Event.{Event}
 use Rattle.pool_model.specs.Histories.{caller_of, own, Begins}
 use Rattle.pool_model.specs.Pool.{Pool, pool_after}
 use Rattle.pool_model.proofs.HistoryLemmas.{own-append}
-use Rattle.trace_text.specs.declared.trace.Op.{Op}
-use Rattle.lane_outcomes.specs.declared.outcome.Outcome.{Outcome}
-use Rattle.lane_outcomes.specs.Fits.{Fits, LanesFit}
-use Rattle.lane_outcomes.specs.Standing.{setting_in}
 use Rattle.lane_outcomes.proofs.TallyLemmas.{tally, of_caller, sum_from, partition}
-
--- the outcomes of each lane fit, the lanes being numbered from `first` on
-lanes-at :
-    (g : Geometry) (history : List Event) (lost first : ℕ) (lanes : List (List Op)) (outcomes : List (List Outcome))
-    → LanesFit g history lost first lanes outcomes → (k : ℕ) → k < length lanes
-    → Fits (setting_in history (first + k) g.turn_limit lost) (get_or lanes k []) (get_or outcomes k [])
-lanes-at g history lost first [] outcomes fit k below = absurd (omega arith)
-lanes-at g history lost first (operations ∷ lanes) [] fit k below = absurd fit
-lanes-at g history lost first (operations ∷ lanes) (results ∷ outcomes) fit zero below =
-    subst (λ n. Fits (setting_in history n g.turn_limit lost) operations results) (sym (add-zero first)) fit.0
-lanes-at g history lost first (operations ∷ lanes) (results ∷ outcomes) fit (suc k) below =
-    let next : suc first + k ≡ first + suc k = omega arith in
-    subst (λ n. Fits (setting_in history n g.turn_limit lost) (get_or lanes k []) (get_or outcomes k [])) next
-    (lanes-at g history lost (suc first) lanes outcomes fit.1 k (omega arith))
-
-pub lane-fits :
-    (g : Geometry) (history : List Event) (lost : ℕ) (lanes : List (List Op)) (outcomes : List (List Outcome)) → LanesFit g history lost 0 lanes outcomes
-    → (k : ℕ) → k < length lanes → Fits (setting_in history k g.turn_limit lost) (get_or lanes k []) (get_or outcomes k [])
-lane-fits g history lost lanes outcomes fit k below =
-    let same : 0 + k ≡ k = omega arith in
-    subst (λ n. Fits (setting_in history n g.turn_limit lost) (get_or lanes k []) (get_or outcomes k [])) same
-    (lanes-at g history lost 0 lanes outcomes fit k below)
-
--- there are as many
-pub lanes-many :
-    (g : Geometry) (history : List Event) (lost first : ℕ) (lanes : List (List Op)) (outcomes : List (List Outcome))
-    → LanesFit g history lost first lanes outcomes → length outcomes ≡ length lanes
-lanes-many g history lost first [] [] fit = refl
-lanes-many g history lost first [] (results ∷ outcomes) fit = absurd fit
-lanes-many g history lost first (operations ∷ lanes) [] fit = absurd fit
-lanes-many g history lost first (operations ∷ lanes) (results ∷ outcomes) fit = ap suc (lanes-many g history lost (suc first) lanes outcomes fit.1)
 
 -- a sum over lane numbers is at most one over the lanes, where each term is
 pub sum-lanes :

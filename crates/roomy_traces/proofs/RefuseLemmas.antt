@@ -27,7 +27,8 @@ use Rattle.lane_outcomes.specs.Fits.{Walks, OutcomesFit}
 use Rattle.lane_outcomes.specs.Standing.{setting_in}
 use Rattle.lane_outcomes.proofs.TallyLemmas.{sum_from}
 use Rattle.roomy_traces.specs.Roomy.{IsPlain, IsRoomy, most_held, no_blocks}
-use Rattle.roomy_traces.proofs.LaneLemmas.{lane-fits, sum-lanes, sum_from-both, by-caller, all-begins, all-ends, all-append, all-own, own-begins}
+use Rattle.lane_outcomes.proofs.LanesLemmas.{lane-fits}
+use Rattle.roomy_traces.proofs.LaneLemmas.{sum-lanes, sum_from-both, by-caller, all-begins, all-ends, all-append, all-own, own-begins}
 use Rattle.roomy_traces.proofs.PieceLemmas.{IsTame, row-tame}
 use Rattle.roomy_traces.proofs.SpentLemmas.{lane-plain, never-spent}
 use Rattle.roomy_traces.proofs.RegisterLemmas.{IsAlike, words_held, words_filled}

@@ -21,7 +21,7 @@ use Rattle.lane_outcomes.proofs.LiveLemmas.{live-total}
 use Rattle.lane_outcomes.proofs.MeasureLemmas.{measure, measure-blocks, measure-words}
 use Rattle.roomy_traces.specs.Roomy.{IsRoomy, held_by, no_blocks}
 use Rattle.roomy_traces.specs.Serial.{serial_outcomes, serial_end, left_by, without_place, serial_report_of}
-use Rattle.roomy_traces.proofs.LaneLemmas.{lanes-many}
+use Rattle.lane_outcomes.proofs.LanesLemmas.{lanes-many}
 use Rattle.roomy_traces.proofs.RegisterLemmas.{words_held, own_by, alike-count}
 use Rattle.roomy_traces.proofs.SerialLemmas.{lane-serial, outcomes-serial}
 

@@ -23,7 +23,8 @@ use Rattle.lane_outcomes.proofs.MeasureLemmas.{give_at, free_at}
 use Rattle.lane_outcomes.proofs.WalkLemmas.{Before, walk-after}
 use Rattle.roomy_traces.specs.Roomy.{Filled, IsPlain, IsRoomy, filled_in, serial_after, no_blocks}
 use Rattle.roomy_traces.specs.Serial.{serial_outcomes, serial_outcome, serial_from, serial_end, without_place}
-use Rattle.roomy_traces.proofs.LaneLemmas.{lane-fits, lanes-many, all-begins, all-ends, all-own, moment-of}
+use Rattle.lane_outcomes.proofs.LanesLemmas.{lane-fits, lanes-many}
+use Rattle.roomy_traces.proofs.LaneLemmas.{all-begins, all-ends, all-own, moment-of}
 use Rattle.roomy_traces.proofs.SpentLemmas.{IsUnspent, lane-plain, never-spent}
 use Rattle.roomy_traces.proofs.RegisterLemmas.{IsAlike, IsAnswered, IsSerialRow, own_by, row-serial, row-alike}
 use Rattle.roomy_traces.proofs.BalanceLemmas.{row-balance}

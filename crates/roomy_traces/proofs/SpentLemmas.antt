@@ -22,7 +22,8 @@ use Rattle.lane_outcomes.specs.Fits.{Fits, Walks, OutcomesFit}
 use Rattle.lane_outcomes.specs.Standing.{setting_in}
 use Rattle.lane_outcomes.proofs.TallyLemmas.{sum_from}
 use Rattle.roomy_traces.specs.Roomy.{IsPlain, IsRoomy, is_allocation}
-use Rattle.roomy_traces.proofs.LaneLemmas.{lane-fits, sum-lanes_but, by-caller, count-begins}
+use Rattle.lane_outcomes.proofs.LanesLemmas.{lane-fits}
+use Rattle.roomy_traces.proofs.LaneLemmas.{sum-lanes_but, by-caller, count-begins}
 use Rattle.roomy_traces.proofs.PieceLemmas.{row-counts}
 
 -- what an operation asks for: one block, or none

@@ -1,0 +1,240 @@
+-- Where all callers are lanes whose outcomes fit, blocks on shelves, blocks in registers and blocks that are checked have all their words written.
+use Rattle.std.proofs.Common.{ℕ, zero, suc, ◌≡◌, ◌<◌, ◌≤◌, ◌∷◌, ◌++◌, List, [], Option, Some, None, sum, length, get_or, replicate, refl, sym, ◌∙◌, ap, subst, inl, inr, arith, ◌%◌, ◌^◌, eq-eqb, length-append}
+use Rattle.std.specs.List.{AllByRecursion, AllZip}
+use Rattle.std.proofs.lemmas.Bool.{cases_eq, cases_lt}
+use Rattle.std.proofs.lemmas.List.{get_or_past}
+use Rattle.heap_geometry.specs.declared.geometry.Geometry.{Geometry}
+use Rattle.pool_model.specs.declared.event.Event.{Event}
+use Rattle.pool_model.specs.declared.event.Event.TheVariants.{Alloc, Looked, Refuse, Free, Write, Put, Take, TakeNone}
+use Rattle.pool_model.specs.declared.owner.Owner.TheVariants.{Caller, Shelf}
+use Rattle.pool_model.specs.Histories.{caller_of, own, Begins}
+use Rattle.pool_model.specs.Pool.{Block, Pool, block_at, fresh_block, handed_to, pool_after, pool_of, with_changed, written}
+use Rattle.pool_model.specs.Legal.{IsLegalEventWithoutCounts, IsLegalWithoutCounts}
+use Rattle.pool_model.proofs.HistoryLemmas.{EachAfter-cut, last_cases, own-append, pool_of-push, push-append}
+use Rattle.pool_model.proofs.PoolLemmas.{block_at-changed_other, block_at-changed_same, block_at-here, block_at-past, block_at-without_other, block_at-without_same}
+use Rattle.pool_model.proofs.WellFormedLemmas.{sound-differ, sound-of}
+use Rattle.trace_text.specs.declared.limits.TheConstants.{REGISTERS}
+use Rattle.trace_text.specs.declared.trace.Op.{Op}
+use Rattle.trace_text.specs.declared.trace.Op.TheVariants as op
+use Rattle.lane_outcomes.specs.declared.registers.Held.{Held}
+use Rattle.lane_outcomes.specs.declared.outcome.Outcome.{Outcome}
+use Rattle.lane_outcomes.specs.declared.outcome.Outcome.TheVariants as outcome
+use Rattle.lane_outcomes.specs.Fits.{OutcomesFit, Walks}
+use Rattle.lane_outcomes.specs.Lane.{Position, held_in, position_after, start}
+use Rattle.lane_outcomes.specs.LaneCounts.{as_one}
+use Rattle.lane_outcomes.specs.Rows.{CheckRow, FitsRow, IsWord, Moment, Setting}
+use Rattle.lane_outcomes.specs.Standing.{setting_in}
+use Rattle.lane_outcomes.specs.Written.{HoldsWritten, ShelvesWritten, SumsWritten}
+use Rattle.lane_outcomes.proofs.HoldLemmas.{held-nothing}
+use Rattle.lane_outcomes.proofs.LanesLemmas.{lane-fits}
+use Rattle.lane_outcomes.proofs.LiveLemmas.{at-start}
+use Rattle.lane_outcomes.proofs.WrittenBlocks.{AllSet, OwnsSuch, known-words, words-of}
+use Rattle.lane_outcomes.proofs.WrittenRows.{HeldSet, ShelfSet, put-full, walk-set}
+
+-- what an event makes of the blocks on shelves
+shelf-given : (pool : Pool) (caller need at : ℕ) → ShelfSet pool → ShelfSet (fresh_block caller need at ∷ pool)
+shelf-given pool caller need at old place block shelf live owner =
+    let fresh = fresh_block caller need at in
+    elim (cases_eq at place) [
+      | inl same ↦
+          let here : block_at place (fresh ∷ pool) ≡ Some fresh = block_at-here place fresh pool same in
+          let is : fresh ≡ block = let e : Some fresh ≡ Some block = sym here ∙ live in cc in
+          absurd (let e : Caller caller ≡ Shelf shelf = ap (λ (b : Block). b.owner) is ∙ owner in cc)
+      | inr differ ↦ old place block shelf (sym (block_at-past place fresh pool differ) ∙ live) owner
+    ]
+
+shelf-changed :
+    (pool : Pool) (at : ℕ) (change : Block → Block) (was : Block) → ((b : Block) → (change b).place ≡ b.place) → block_at at pool ≡ Some was
+    → ((shelf : ℕ) → (change was).owner ≡ Shelf shelf → AllSet (change was).contents) → ShelfSet pool → ShelfSet (with_changed at change pool)
+shelf-changed pool at change was keeps found on old place block shelf live owner =
+    elim (cases_eq place at) [
+      | inl same ↦
+          let there : block_at at (with_changed at change pool) ≡ Some block = ap (λ (p : ℕ). block_at p (with_changed at change pool)) (sym same) ∙ live in
+          let is : change was ≡ block =
+          let e : Some (change was) ≡ Some block = sym (block_at-changed_same at change pool was keeps found) ∙ there in cc in
+          subst (λ (b : Block). AllSet b.contents) is (on shelf (ap (λ (b : Block). b.owner) is ∙ owner))
+      | inr differ ↦ old place block shelf (sym (block_at-changed_other at place change pool keeps differ) ∙ live) owner
+    ]
+
+shelf-step :
+    (g : Geometry) (before : List Event) (event : Event) → IsLegalWithoutCounts g before → IsLegalEventWithoutCounts g before event
+    → ((caller place shelf : ℕ) → event ≡ Put caller place shelf → OwnsSuch AllSet (pool_of before) caller place)
+    → ShelfSet (pool_of before) → ShelfSet (pool_after (pool_of before) event)
+shelf-step g before (Alloc caller need at) legal allowed puts old = shelf-given (pool_of before) caller need at old
+shelf-step g before (Looked caller class) legal allowed puts old = old
+shelf-step g before (Refuse caller need) legal allowed puts old = old
+shelf-step g before (Free caller at) legal allowed puts old = λ place block shelf live owner.
+    elim (cases_eq place at) [
+      | inl same ↦
+          let none : block_at place (pool_after (pool_of before) (Free caller at)) ≡ None =
+          rw same (block_at-without_same at (pool_of before) (sound-differ g (pool_of before) (sound-of g before legal))) in
+          absurd (let e : None ≡ Some block = sym none ∙ live in cc)
+      | inr differ ↦ old place block shelf (sym (block_at-without_other at place (pool_of before) differ) ∙ live) owner
+    ]
+shelf-step g before (Write caller at i v) legal allowed puts old =
+    let owns = allowed.1 in
+    shelf-changed (pool_of before) at (written i v) owns.0 (λ b. refl) owns.1
+    (λ shelf owner. absurd (let e : Caller caller ≡ Shelf shelf = sym owns.2 ∙ owner in cc)) old
+shelf-step g before (Put caller at shelf) legal allowed puts old =
+    let owns = puts caller at shelf refl in
+    shelf-changed (pool_of before) at (handed_to (Shelf shelf)) owns.block (λ b. refl) owns.live (λ other owner. owns.such) old
+shelf-step g before (Take caller shelf at) legal allowed puts old =
+    let lies = allowed.1.0 in
+    shelf-changed (pool_of before) at (handed_to (Caller caller)) lies.0 (λ b. refl) lies.1
+    (λ other owner. absurd (let e : Caller caller ≡ Shelf other = owner in cc)) old
+shelf-step g before (TakeNone caller shelf) legal allowed puts old = old
+
+-- what holds of each event holds of one
+one-of : (P : Event → Type 0) (before rest : List Event) (event : Event) → AllByRecursion P (before ++ event ∷ rest) → P event
+one-of P [] rest event all = all.0
+one-of P (first ∷ before) rest event all = one-of P before rest event all.1
+
+module _ (g : Geometry) (history : List Event) (lost : ℕ) (lanes : List (List Op)) (outcomes : List (List Outcome)) (legal : IsLegalWithoutCounts g history) (fit : OutcomesFit g history lost lanes outcomes) where
+  -- up to so many events, each block on a shelf has all its words written
+  abbrev ShelvesSet : ℕ → Type 0
+  ShelvesSet most = (before : List Event) → length before ≤ most → Begins before history → ShelfSet (pool_of before)
+
+  no-shelf : ShelfSet (pool_of [])
+  no-shelf place block shelf live owner = absurd (let e : None ≡ Some block = live in cc)
+
+  -- a lane's registers hold nothing at first
+  none-held :
+      (caller limit more most : ℕ) (shelves : ShelvesSet most)
+      → HeldSet g (setting_in history caller limit more) legal most shelves [] (replicate REGISTERS None)
+  none-held caller limit more most shelves r held full = absurd (let e : None ≡ Some held = sym (held-nothing REGISTERS r) ∙ full in cc)
+
+  -- whoever puts a block on a shelf is a lane, and has written all its words
+  put-by-lane :
+      (most caller place shelf : ℕ) (before rest : List Event) → ShelvesSet most → length before ≤ most
+      → history ≡ before ++ Put caller place shelf ∷ rest → OwnsSuch AllSet (pool_of before) caller place
+  put-by-lane most caller place shelf before rest shelves few is =
+      let event = Put caller place shelf in
+      let below : caller < length lanes =
+      one-of (λ event. caller_of event < length lanes) before rest event
+      (subst (AllByRecursion (λ event. caller_of event < length lanes)) is fit.callers) in
+      let setting = setting_in history caller g.turn_limit lost in
+      let fits = lane-fits g history lost lanes outcomes fit.lanes_fit caller below in
+      let hers : own caller (event ∷ rest) ≡ event ∷ own caller rest = rw (eq-eqb caller caller refl) refl in
+      let ends : fits.end.done ≡ own caller before ++ event ∷ own caller rest =
+      sym fits.all_used ∙ ap (own caller) is ∙ own-append caller before (event ∷ rest) ∙ ap (λ es. own caller before ++ es) hers in
+      put-full g setting legal most shelves start fits.end (get_or lanes caller []) (get_or outcomes caller []) 0 0 before place shelf (own caller before)
+      (own caller rest) fits.walks (at-start as_one setting) (none-held caller g.turn_limit lost most shelves) few (event ∷ rest, is) refl ends
+
+  shelves-set : (most : ℕ) → ShelvesSet most
+  shelves-set zero before few begins =
+      elim (last_cases before) [
+        | inl none ↦ subst (λ (es : List Event). ShelfSet (pool_of es)) (sym none) no-shelf
+        | inr more ↦ absurd (omega (arith, few, ap length more.2, length-append more.0 (more.1 ∷ [])))
+      ]
+  shelves-set (suc most) before few begins =
+      elim (last_cases before) [
+        | inl none ↦ subst (λ (es : List Event). ShelfSet (pool_of es)) (sym none) no-shelf
+        | inr more ↦
+            let front = more.0 in
+            let event = more.1 in
+            let fewer : length front ≤ most = omega (arith, few, ap length more.2, length-append front (event ∷ [])) in
+            let here : history ≡ front ++ event ∷ begins.0 =
+            begins.1 ∙ ap (λ es. es ++ begins.0) more.2 ∙ push-append front begins.0 event in
+            let legal_front : IsLegalWithoutCounts g front =
+            EachAfter-cut (IsLegalEventWithoutCounts g) front (event ∷ begins.0) (subst (IsLegalWithoutCounts g) here legal) in
+            let shelves = shelves-set most in
+            subst (λ (es : List Event). ShelfSet (pool_of es)) (sym more.2)
+            (subst ShelfSet (sym (pool_of-push front event))
+            (shelf-step g front event legal_front (legal front begins.0 event here)
+            (λ caller place shelf is.
+            put-by-lane most caller place shelf front begins.0 shelves fewer (here ∙ ap (λ e. front ++ e ∷ begins.0) is))
+            (shelves front fewer (event ∷ begins.0, here))))
+      ]
+
+  pub shelved : (before : List Event) → Begins before history → ShelvesWritten (pool_of before)
+  shelved before begins place block live shelf owner =
+      words-of block.contents (shelves-set (length before) before (omega arith) begins place block shelf live owner)
+
+-- in a lane's registers
+pub held-written :
+    (g : Geometry) (setting : Setting) (lost : ℕ) (lanes : List (List Op)) (outcomes : List (List Outcome)) (operations : List Op)
+    (results : List Outcome) (position : Position) → IsLegalWithoutCounts g setting.history → OutcomesFit g setting.history lost lanes outcomes
+    → Walks setting start operations results position → (moment : Moment setting position.done)
+    → HoldsWritten (pool_of moment.before) position.registers
+held-written g setting lost lanes outcomes operations results position legal fit walks moment r held block full live =
+    let most = length moment.before in
+    let shelves = shelves-set g setting.history lost lanes outcomes legal fit most in
+    let owns =
+    walk-set g setting legal most shelves start position operations results 0 0 walks (at-start as_one setting)
+    (none-held g setting.history lost lanes outcomes legal fit setting.caller setting.turn_limit setting.lost most shelves) r held full moment.before
+    (omega arith) moment.begins moment.own_done in
+    let same : owns.block ≡ block = let e : Some owns.block ≡ Some block = sym owns.live ∙ live in cc in
+    words-of block.contents (subst (λ (b : Block). AllSet b.contents) same owns.such)
+
+-- a walk is cut at an operation
+record IsCutAt (setting : Setting) (from to : Position) (earlier later : List Op) (results more : List Outcome) (operation : Op) (result : Outcome) : Type 0 where
+  pub at : Position
+  pub walks : Walks setting from earlier results at
+  pub piece : List Event
+  pub row : FitsRow setting at operation result piece
+
+cut-at :
+    (setting : Setting) (from to : Position) (earlier later : List Op) (results more : List Outcome) (operation : Op) (result : Outcome)
+    → length results ≡ length earlier → Walks setting from (earlier ++ operation ∷ later) (results ++ result ∷ more) to
+    → IsCutAt setting from to earlier later results more operation result
+cut-at setting from to [] later [] more operation result same (piece, row, walks) =
+    record { at = from; walks = refl; piece = piece; row = row }
+cut-at setting from to [] later (first ∷ results) more operation result same walks = absurd (omega (arith, same))
+cut-at setting from to (first ∷ earlier) later [] more operation result same walks = absurd (omega (arith, same))
+cut-at setting from to (first ∷ earlier) later (second ∷ results) more operation result same (piece, row, walks) =
+    let cut = cut-at setting (position_after from first second piece) to earlier later results more operation result (omega (arith, same)) walks in
+    record { at = cut.at; walks = (piece, row, cut.walks); piece = cut.piece; row = cut.row }
+
+-- the sum of a check
+check-sum :
+    (setting : Setting) (position : Position) (r total : ℕ) (piece : List Event) (held : Option Held) → held_in position.registers r ≡ held
+    → ((moment : Moment setting position.done) → HoldsWritten (pool_of moment.before) position.registers)
+    → CheckRow setting position held (outcome.Sum total) piece → SumsWritten setting position r total
+check-sum setting position r total piece None full all row = absurd row
+check-sum setting position r total piece (Some held) full all (none, moment, block, live, summed) =
+    let words = all moment r held block full live in
+    record {
+      held = held;
+      holds = full;
+      moment = moment;
+      block = block;
+      live = live;
+      words = words.0;
+      written = words.1;
+      total_is =
+          summed.total_is
+          ∙ ap (λ ns. sum ns % 2 ^ 64)
+          (known-words words.0 summed.words (subst (λ (cs : List (Option ℕ)). AllZip IsWord cs summed.words) words.1 summed.each));
+    }
+
+check-at :
+    (setting : Setting) (position : Position) (r total : ℕ) (piece : List Event)
+    → ((moment : Moment setting position.done) → HoldsWritten (pool_of moment.before) position.registers)
+    → FitsRow setting position (op.Check r) (outcome.Sum total) piece → SumsWritten setting position r total
+check-at setting position r total piece all row = check-sum setting position r total piece (held_in position.registers r) refl all row
+
+pub check-written :
+    (g : Geometry) (history : List Event) (lost : ℕ) (lanes : List (List Op)) (outcomes : List (List Outcome)) (lane r total : ℕ)
+    (earlier later : List Op) (results more : List Outcome) → IsLegalWithoutCounts g history → OutcomesFit g history lost lanes outcomes
+    → get_or lanes lane [] ≡ earlier ++ op.Check r ∷ later → get_or outcomes lane [] ≡ results ++ outcome.Sum total ∷ more
+    → length results ≡ length earlier
+    → (position : Position) × Walks (setting_in history lane g.turn_limit lost) start earlier results position
+    × SumsWritten (setting_in history lane g.turn_limit lost) position r total
+check-written g history lost lanes outcomes lane r total earlier later results more legal fit operations_are results_are same =
+    let below : lane < length lanes =
+    elim (cases_lt lane (length lanes)) [
+      | inl lt ↦ lt
+      | inr past ↦
+          let none : get_or lanes lane [] ≡ [] = get_or_past lanes lane [] past in
+          absurd (omega (arith, ap length (sym none ∙ operations_are), length-append earlier (op.Check r ∷ later)))
+    ] in
+    let setting = setting_in history lane g.turn_limit lost in
+    let fits = lane-fits g history lost lanes outcomes fit.lanes_fit lane below in
+    let walks : Walks setting start (earlier ++ op.Check r ∷ later) (results ++ outcome.Sum total ∷ more) fits.end =
+    subst (λ rs. Walks setting start (earlier ++ op.Check r ∷ later) rs fits.end) results_are
+    (subst (λ ops. Walks setting start ops (get_or outcomes lane []) fits.end) operations_are fits.walks) in
+    let cut = cut-at setting start fits.end earlier later results more (op.Check r) (outcome.Sum total) same walks in (
+      cut.at,
+      cut.walks,
+      check-at setting cut.at r total cut.piece (held-written g setting lost lanes outcomes earlier results cut.at legal fit cut.walks) cut.row,
+    )

@@ -1,0 +1,31 @@
+-- That each word of a block which a lane holds was written.
+use Rattle.std.specs.Prelude.{ℕ, ◌≡◌, ◌%◌, ◌^◌, List, Option, Some, map, sum}
+use Rattle.pool_model.specs.declared.owner.Owner.TheVariants.{Shelf}
+use Rattle.pool_model.specs.Pool.{Block, Pool, EachBlock, block_at, pool_of}
+use Rattle.lane_outcomes.specs.declared.registers.Held.{Held}
+use Rattle.lane_outcomes.specs.Lane.{Position, held_in}
+use Rattle.lane_outcomes.specs.Rows.{Setting, Moment}
+
+-- each word was written
+abbrev pub AreWritten : List (Option ℕ) → Type 0
+AreWritten contents = (words : List ℕ) × (contents ≡ map (λ word. Some word) words)
+
+-- so it was of each block that the registers hold
+abbrev pub HoldsWritten : Pool → List (Option Held) → Type 0
+HoldsWritten pool registers =
+    (r : ℕ) (held : Held) (block : Block) → held_in registers r ≡ Some held → block_at held.place pool ≡ Some block → AreWritten block.contents
+
+-- and of each block that lies on a shelf
+abbrev pub ShelvesWritten : Pool → Type 0
+ShelvesWritten pool = EachBlock (λ block. (shelf : ℕ) → block.owner ≡ Shelf shelf → AreWritten block.contents) pool
+
+-- a check's sum is that of the words of its register's block, each of which was written, at a moment at which the lane has made exactly its events so far
+pub record SumsWritten (setting : Setting) (position : Position) (r total : ℕ) : Type 0 where
+  pub held : Held
+  pub holds : held_in position.registers r ≡ Some held
+  pub moment : Moment setting position.done
+  pub block : Block
+  pub live : block_at held.place (pool_of moment.before) ≡ Some block
+  pub words : List ℕ
+  pub written : block.contents ≡ map (λ word. Some word) words
+  pub total_is : total ≡ sum words % 2 ^ 64
