@@ -1,5 +1,5 @@
 -- The outcomes of lanes that ran on threads fit the history of their closed heap.
-use Rattle.std.proofs.Common.{ℕ, zero, suc, ◌≡◌, ◌<◌, ◌≤◌, ◌+◌, Bool, true, List, [], ◌∷◌, ◌++◌, length, length-append, append_assoc, get_or, max, take, refl, sym, ap, ◌∙◌, subst, inl, inr, arith, zero-add}
+use Rattle.std.proofs.Common.{ℕ, zero, suc, ◌≡◌, ◌<◌, ◌≤◌, ◌+◌, Bool, true, Option, List, [], ◌∷◌, ◌++◌, length, length-append, append_assoc, get_or, max, take, refl, sym, ap, ◌∙◌, subst, inl, inr, arith, zero-add}
 use Rattle.std.specs.Prelude.{Contains}
 use Rattle.std.specs.List.{AllByRecursion}
 use Rattle.std.proofs.lemmas.Bool.{cases_lt}
@@ -14,13 +14,15 @@ use Rattle.errand_steps.specs.Errands.{ErrandFields}
 use Rattle.sound_state.specs.Contention.{lost_of}
 use Rattle.sound_state.specs.Sums.{callers_sum}
 use Rattle.sound_state.proofs.shared.SumLemmas.{term-sum}
-use Rattle.step_core.specs.Cores.{errand_at}
+use Rattle.step_core.specs.Cores.{CoreFields, errand_at}
 use Rattle.step_core.proofs.CoreLemmas.{core-sound}
 use Rattle.step_core.specs.Moments.{HasSeenMore}
 use Rattle.trace_text.specs.declared.trace.Op.{Op}
+use Rattle.trace_text.specs.declared.trace.OrderRun.{OrderRun}
 use Rattle.trace_text.specs.declared.trace.Trace.{Trace}
 use Rattle.trace_text.specs.Traces.{IsTrace}
 use Rattle.lane_outcomes.specs.declared.outcome.Outcome.{Outcome}
+use Rattle.lane_outcomes.specs.declared.registers.Held.{Held}
 use Rattle.lane_outcomes.specs.declared.outcome.Outcome.TheVariants as outcome
 use Rattle.lane_outcomes.specs.Fits.{Fits, OutcomesFit, Walks}
 use Rattle.lane_outcomes.specs.Lane.{Position, position_after, spent_after, start}
@@ -30,7 +32,10 @@ use Rattle.live_heap.specs.declared.heap.Heap.{Heap}
 use Rattle.live_heap.specs.declared.pass.Pass.{Pass}
 use Rattle.live_heap.specs.Endings.{ClosedFields, HasClosed, HasTakenIn, IsResting, machine_of}
 use Rattle.live_heap.specs.Passes.{seen}
+use Rattle.lane_steps.specs.declared.stage.Stage.{Stage}
 use Rattle.lane_steps.specs.declared.stage.Stage.TheVariants as stage
+use Rattle.lane_steps.specs.Lanes.{IsLane}
+use Rattle.lane_runner.specs.Driven.{IsDriven}
 use Rattle.lane_runner.specs.Running.{operations_in}
 use Rattle.lane_runner.specs.Threads.{HasEndedOver, HaveRun}
 use Rattle.lane_steps.proofs.BesideLemmas.{lane-beside}
@@ -95,6 +100,22 @@ told-spent setting from to (operation ∷ operations) (result ∷ results) zero 
 told-spent setting from to (operation ∷ operations) (result ∷ results) (suc k) (piece, row, walks) lt is =
     told-spent setting (position_after from operation result piece) to operations results k walks (omega (arith, lt)) is
 
+-- so its caller has taken as many turns as the limit
+rule-taken :
+    (g : Geometry) (lane : ℕ) (events : List Event) (e : ErrandFields) (operations : List Op) (registers : List (Option Held)) (results : List Outcome)
+    (at : Stage) → IsLane g lane events e operations registers results at → Contains results outcome.Spent → e.turns ≡ g.turn_limit
+rule-taken g lane events e operations registers results at rule told =
+    rule.spent
+    (told-spent (setting_in events lane g.turn_limit e.lost) start rule.position (take (length results) operations) results told.0 rule.walks told.1 told.2)
+
+-- so it is on a machine
+pub driven-taken :
+    (trace : Trace) (orders : List OrderRun) (c : CoreFields) (outcomes : List (List Outcome)) (lane : ℕ) → IsDriven trace orders c outcomes
+    → lane < length trace.lanes → Contains (get_or outcomes lane []) outcome.Spent → (errand_at c.errands lane).turns ≡ trace.heap.turn_limit
+driven-taken trace orders c outcomes lane driven lt told =
+    let end = driven.ended lane lt in
+    rule-taken trace.heap lane c.events (errand_at c.errands lane) (operations_in trace lane) end.registers (get_or outcomes lane []) stage.Between end.rule told
+
 module _ (trace : Trace) (h : Heap) (passes : List Pass) (outcomes : List (List Outcome)) (c : ClosedFields) (is : IsTrace trace) (laid : h.layout ≡ trace.heap) (run : HaveRun trace h passes outcomes) (closed : HasClosed h passes c) (rests : IsResting c) where
   layout : c.geometry ≡ trace.heap
   layout = closed.heap ∙ laid
@@ -150,10 +171,9 @@ module _ (trace : Trace) (h : Heap) (passes : List Pass) (outcomes : List (List 
   all-taken lane lt told =
       let it = ended lane lt in
       let e = it.1 in
-      let spent =
-      told-spent (setting_in (seen it.0) lane h.layout.turn_limit it.0.errand.lost) start e.rule.position
-      (take (length (get_or outcomes lane [])) (operations_in trace lane)) (get_or outcomes lane []) told.0 e.rule.walks told.1 told.2 in
-      ap (λ (f : ErrandFields). f.turns) it.3 ∙ e.rule.spent spent ∙ ap (λ (g : Geometry). g.turn_limit) laid
+      ap (λ (f : ErrandFields). f.turns) it.3
+      ∙ rule-taken h.layout lane (seen it.0) it.0.errand (operations_in trace lane) e.registers (get_or outcomes lane []) stage.Between e.rule told
+      ∙ ap (λ (g : Geometry). g.turn_limit) laid
 
   none-from : (k : ℕ) → length trace.lanes ≤ k → k < c.geometry.callers → own k c.events ≡ []
   none-from k least has =

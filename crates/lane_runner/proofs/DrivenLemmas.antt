@@ -38,7 +38,8 @@ use Rattle.lane_outcomes.specs.Standing.{setting_in}
 use Rattle.lane_steps.specs.declared.lane.LaneState.{LaneState}
 use Rattle.lane_steps.specs.declared.stage.Stage.TheVariants as stage
 use Rattle.lane_steps.specs.Begun.{calls_of}
-use Rattle.lane_runner.specs.Driven.{IsDriven, lost_by_all, steppers_of}
+use Rattle.lane_steps.specs.Lanes.{IsLane}
+use Rattle.lane_runner.specs.Driven.{IsAtItsEnd, IsDriven, lost_by_all, steppers_of}
 use Rattle.lane_runner.specs.Orders.{InOrder, OneByOne}
 use Rattle.lane_steps.specs.Paths.{Leads, begun_count}
 use Rattle.lane_runner.specs.Running.{HasEnded, HasPassed, HaveFinished, HaveFollowed, IsBelow, IsOnScriptOf, LanesRan, LanesStand, operations_in}
@@ -226,6 +227,21 @@ module _ (passed : ℕ → ℕ → Type 0) (trace : Trace) (first mid last : Cor
       subst (λ results. Scripts (replicate REGISTERS None) (operations_in trace lane) results (calls_of lane ran.moves)) (result-at lane lt)
       (script-whole (operations_in trace lane) p.registers p.results (calls_of lane ran.moves) e.ended.all on)
 
+  ended : (lane : ℕ) → lane < length trace.lanes → IsAtItsEnd trace.heap (get_or trace.lanes lane []) lane (state_of last) (get_or results lane [])
+  ended lane lt =
+      let e = at-end lane lt in
+      let p = progress_on e.state in
+      let ops = operations_in trace lane in
+      record {
+        registers = p.registers;
+        rule =
+            subst (λ results. IsLane trace.heap lane last.events (errand_at last.errands lane) ops p.registers results stage.Between) (result-at lane lt)
+            (subst (λ at. IsLane trace.heap lane last.events (errand_at last.errands lane) ops p.registers p.results at) e.ended.between
+            (subst (λ k. IsLane trace.heap k last.events (errand_at last.errands k) ops p.registers p.results p.at) e.number
+            (subst (λ g. IsLane g e.state.caller last.events (errand_at last.errands e.state.caller) ops p.registers p.results p.at) finish.stand.heap
+            e.stands.stands.stands)));
+      }
+
   idle : (caller : ℕ) → caller < trace.heap.callers → IsIdle (errand_at last.errands caller)
   idle caller has =
       elim (cases_lt caller (length trace.lanes)) [
@@ -276,6 +292,7 @@ module _ (passed : ℕ → ℕ → Type 0) (trace : Trace) (first mid last : Cor
         leads-counted first last ran.moves 0 opened.steps ran.leads ∙ ap (λ n. min n (2 ^ 64 - 1)) (zero-add (count_by is_step ran.moves));
     order = order;
     scripts = scripts;
+    ended = ended;
     idle = idle;
     fit = record {
       lanes_fit =

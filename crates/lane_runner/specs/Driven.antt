@@ -21,6 +21,7 @@ use Rattle.lane_outcomes.specs.Fits.{OutcomesFit}
 use Rattle.lane_runner.specs.Orders.{InOrder}
 use Rattle.lane_steps.specs.Begun.{calls_of}
 use Rattle.lane_steps.specs.declared.stage.Stage.{Stage}
+use Rattle.lane_steps.specs.declared.stage.Stage.TheVariants as stage
 use Rattle.lane_steps.specs.Lanes.{IsLane}
 use Rattle.lane_steps.specs.Scripts.{IsOnScript, Scripts}
 
@@ -58,7 +59,12 @@ Drives g lanes earlier s (move ∷ rest) s' =
 abbrev pub lost_by_all : CoreFields → ℕ
 lost_by_all c = callers_sum c.geometry lost_of (errand_at c.errands)
 
--- the machine is one on which the lanes ran from its opening on, in this order: its callers' moves led to it; each lane began the calls of its script and has made its last step; and the outcomes fit
+-- a lane of these operations stands by its rule in this state, behind its last operation, with these outcomes
+pub record IsAtItsEnd (g : Geometry) (operations : List Op) (lane : ℕ) (s : State) (results : List Outcome) : Type 0 where
+  pub registers : List (Option Held)
+  pub rule : IsLane g lane s.history (s.errand lane) operations registers results stage.Between
+
+-- the machine is one on which the lanes ran from its opening on, in this order: its callers' moves led to it; each lane began the calls of its script and stands behind its last operation; and the outcomes fit
 pub record IsDriven (trace : Trace) (orders : List OrderRun) (c : CoreFields) (outcomes : List (List Outcome)) : Type 0 where
   pub geometry : c.geometry ≡ trace.heap
   pub opened : State
@@ -70,5 +76,8 @@ pub record IsDriven (trace : Trace) (orders : List OrderRun) (c : CoreFields) (o
   pub scripts :
       (lane : ℕ) → lane < length trace.lanes
       → Scripts (replicate REGISTERS None) (slice_index_or trace.lanes lane []) (slice_index_or outcomes lane []) (calls_of lane moves)
+  pub ended :
+      (lane : ℕ) → lane < length trace.lanes
+      → IsAtItsEnd trace.heap (slice_index_or trace.lanes lane []) lane (state_of c) (slice_index_or outcomes lane [])
   pub idle : (caller : ℕ) → caller < trace.heap.callers → IsIdle (errand_at c.errands caller)
   pub fit : OutcomesFit trace.heap c.events (lost_by_all c) trace.lanes outcomes

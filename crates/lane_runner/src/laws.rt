@@ -3,6 +3,7 @@
 ghost use Rattle.std.specs.Prelude.{ℕ, ◌≡◌, ◌<◌, [], List, None, All, Contains, length, replicate, slice_index_or};
 ghost use Rattle.trace_text.specs.declared.limits.TheConstants.{REGISTERS};
 ghost use Rattle.trace_text.specs.declared.trace.Op.{Op};
+ghost use Rattle.trace_text.specs.declared.trace.OrderRun.{OrderRun};
 ghost use Rattle.trace_text.specs.declared.trace.Trace.{Trace};
 ghost use Rattle.trace_text.specs.Traces.{IsOp, IsTrace};
 ghost use Rattle.lane_outcomes.specs.declared.outcome.Outcome.{Outcome};
@@ -10,13 +11,14 @@ ghost use Rattle.lane_outcomes.specs.declared.outcome.Outcome.TheVariants.{Spent
 ghost use Rattle.lane_outcomes.specs.Fits.{OutcomesFit};
 ghost use Rattle.sound_state.specs.Contention.{lost_of};
 ghost use Rattle.sound_state.specs.Sums.{callers_sum};
-ghost use Rattle.step_core.specs.Cores.{errand_at};
+ghost use Rattle.step_core.specs.Cores.{CoreFields, errand_at};
 ghost use Rattle.live_heap.specs.declared.heap.Heap.{Heap};
 ghost use Rattle.live_heap.specs.declared.pass.Pass.{Pass};
 ghost use Rattle.live_heap.specs.Endings.{ClosedFields, HasClosed, IsResting};
 ghost use Rattle.call_events.specs.Made.{LeadsBy, Made};
 ghost use Rattle.lane_steps.specs.Made.{calls_made};
 ghost use Rattle.lane_steps.specs.Scripts.{Scripts};
+ghost use Rattle.lane_runner.specs.Driven.{IsDriven};
 ghost use Rattle.lane_runner.specs.Shared.{IsShared};
 ghost use Rattle.lane_runner.specs.Threads.{HasMadeCalls, HaveRun, WholeAt};
 
@@ -37,9 +39,13 @@ pub fn threads_make_the_calls_of_their_script()
         × Scripts (replicate REGISTERS None) operations outcomes (calls_made made) }
 {}
 
-/// A lane on threads that was told to have no turn left has itself taken as many as the limit.
+/// A lane that was told to have no turn left has itself taken as many as the limit: on threads, and on a
+/// machine.
 pub fn spent_lanes_took_their_turns()
-    ensures { (trace : Trace) (c : ClosedFields) (outcomes : List (List Outcome)) (lane : ℕ) → IsTrace trace → IsShared trace c outcomes
+    ensures on_threads { (trace : Trace) (c : ClosedFields) (outcomes : List (List Outcome)) (lane : ℕ) → IsTrace trace → IsShared trace c outcomes
         → lane < length trace.lanes → Contains (slice_index_or outcomes lane []) Spent
+        → (errand_at c.errands lane).turns ≡ trace.heap.turn_limit }
+    ensures on_machine { (trace : Trace) (orders : List OrderRun) (c : CoreFields) (outcomes : List (List Outcome)) (lane : ℕ)
+        → IsDriven trace orders c outcomes → lane < length trace.lanes → Contains (slice_index_or outcomes lane []) Spent
         → (errand_at c.errands lane).turns ≡ trace.heap.turn_limit }
 {}

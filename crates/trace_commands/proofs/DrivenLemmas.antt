@@ -17,7 +17,7 @@ use Rattle.lane_outcomes.specs.Passed.{AllPassed}
 use Rattle.lane_outcomes.specs.Report.{report_of}
 use Rattle.lane_runner.specs.Driven.{IsDriven}
 use Rattle.lane_runner.specs.Threads.{HaveRun}
-use Rattle.lane_runner.proofs.ClosedFits.{closed-fit}
+use Rattle.lane_runner.proofs.ClosedFits.{all-taken, closed-fit, driven-taken}
 use Rattle.live_heap.specs.declared.heap.Heap.{Heap}
 use Rattle.live_heap.specs.declared.pass.Pass.{Pass}
 use Rattle.live_heap.specs.Endings.{ClosedFields, HasClosed, IsResting, machine_of}
@@ -43,6 +43,7 @@ run-of passed trace core outcomes is_core driven all_passed =
       heap = driven.geometry;
       fit = driven.fit;
       legal = let P : Geometry → Type 0 = λ g. IsLegal g core.events in subst P driven.geometry (core-sound core is_core).legal;
+      spent = λ lane lt told. driven-taken trace trace.orders core outcomes lane driven lt told;
       all_passed = all_passed;
       kept_so = driven;
     }
@@ -57,6 +58,7 @@ shared-run passed trace h passes closed outcomes named laid run has_closed rests
       heap = has_closed.heap ∙ laid;
       fit = closed-fit trace h passes outcomes closed named laid run has_closed rests;
       legal = let P : Geometry → Type 0 = λ g. IsLegal g closed.events in subst P (has_closed.heap ∙ laid) (core-sound (machine_of closed rests.steps) rests.core).legal;
+      spent = λ lane lt told. all-taken trace h passes outcomes closed named laid run has_closed rests lane lt told;
       all_passed = all_passed;
       kept_so = record { rests = rests; heap = h; laid = laid; passes = passes; ran = run; closed = has_closed };
     }

@@ -1,11 +1,13 @@
 -- What the program answers to a command and its input.
-use Rattle.std.specs.Prelude.{ℕ, ◌≡◌, ◌≢◌, ◌⊎◌, ◌∷◌, ◌++◌, List, [], Option, None, Some, true, codes}
+use Rattle.std.specs.Prelude.{ℕ, ◌≡◌, ◌≢◌, ◌<◌, ◌⊎◌, ◌∷◌, ◌++◌, List, [], Option, None, Some, true, codes, length, Contains}
+use Rattle.std.specs.List.{slice_index_or}
 use Rattle.std.specs.Fmt.{decimal}
 use Rattle.pool_model.specs.Legal.{IsLegal}
 use Rattle.trace_text.specs.declared.trace.Trace.{Trace}
 use Rattle.trace_text.specs.Reading.{IsRefused, Read, reading_of}
 use Rattle.trace_text.specs.Text.{canonical_of, line}
 use Rattle.lane_outcomes.specs.declared.outcome.Outcome.{Outcome}
+use Rattle.lane_outcomes.specs.declared.outcome.Outcome.TheVariants.{Spent}
 use Rattle.lane_outcomes.specs.Fits.{OutcomesFit}
 use Rattle.lane_outcomes.specs.Passed.{AllPassed}
 use Rattle.lane_outcomes.specs.Report.{report_of}
@@ -14,7 +16,7 @@ use Rattle.roomy_traces.specs.Serial.{serial_report_of}
 use Rattle.heap_census.specs.declared.census.Census.{Census as Counts}
 use Rattle.workloads.specs.declared.kind.Kind.TheVariants.{Pipeline}
 use Rattle.trace_commands.specs.Censuses.{IsCensusOf, census_text}
-use Rattle.trace_commands.specs.Closings.{IsDrivenIn, IsSharedIn, geometry_of, history_of, lost_of, steps_of}
+use Rattle.trace_commands.specs.Closings.{IsDrivenIn, IsSharedIn, geometry_of, history_of, lost_of, steps_of, turns_of}
 use Rattle.command_parts.specs.Command.{has_input}
 use Rattle.command_parts.specs.Summaries.{serial_summary_of, summary_of, trace_of}
 use Rattle.trace_commands.specs.declared.closing.Closing.{Closing}
@@ -24,12 +26,15 @@ use Rattle.command_parts.specs.declared.command.Workload.{Workload}
 use Rattle.command_parts.specs.declared.status.TheConstants.{REPORTED, REFUSED}
 
 -- the lanes of a trace ran to their ends on this heap, which is the one that the trace asks for: each lane's outcomes
--- fit its operations and the one history of the heap, which is legal; each operation passed the gate; and the heap was
--- kept so, by a machine that made the steps in an order, or by threads
+-- fit its operations and the one history of the heap, which is legal; a lane that was told to have no turn left has itself
+-- taken as many as the limit; each operation passed the gate; and the heap was kept so, by a machine that made the steps in
+-- an order, or by threads
 pub record IsRun (passed : ℕ → ℕ → Type 0) (trace : Trace) (kept : Closing → List (List Outcome) → Type 0) (closing : Closing) (outcomes : List (List Outcome)) : Type 0 where
   pub heap : geometry_of closing ≡ trace.heap
   pub fit : OutcomesFit trace.heap (history_of closing) (lost_of closing) trace.lanes outcomes
   pub legal : IsLegal trace.heap (history_of closing)
+  pub spent :
+      (lane : ℕ) → lane < length trace.lanes → Contains (slice_index_or outcomes lane []) Spent → turns_of closing lane ≡ trace.heap.turn_limit
   pub all_passed : AllPassed passed trace.lanes
   pub kept_so : kept closing outcomes
 

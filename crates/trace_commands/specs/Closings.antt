@@ -33,6 +33,12 @@ history_of (Ran closed) = closed.events
 abbrev pub lost_by_threads : ClosedFields → ℕ
 lost_by_threads closed = callers_sum closed.geometry lost_by (errand_at closed.errands)
 
+-- the turns that a caller has taken in it; in a pool none takes any
+abbrev pub turns_of : Closing → ℕ → ℕ
+turns_of (Plain pool) caller = 0
+turns_of (Stepped core) caller = (errand_at core.errands caller).turns
+turns_of (Ran closed) caller = (errand_at closed.errands caller).turns
+
 -- the exchanges that its callers lost, as a whole number
 abbrev pub lost_of : Closing → ℕ
 lost_of (Plain pool) = 0
