@@ -1,10 +1,11 @@
 -- A closed heap is a sound state, and bounds what its callers lost.
-use Rattle.std.proofs.Common.{ℕ, ◌<◌, ◌≤◌, ◌*◌, length, arith, subst}
-use Rattle.std.specs.Prelude.{◌-◌, ◌^◌}
+use Rattle.std.proofs.Common.{ℕ, ◌<◌, ◌≤◌, ◌+◌, ◌*◌, length, arith, subst}
+use Rattle.std.specs.Prelude.{◌-◌, ◌^◌, count_by}
 use Rattle.pool_model.specs.Legal.{IsLegal}
 use Rattle.sound_state.specs.Contention.{lost_of, won_of}
 use Rattle.sound_state.specs.Sound.{IsSound}
 use Rattle.sound_state.specs.Sums.{callers_sum}
+use Rattle.sound_state.specs.Turns.{gives_small, refuses_small}
 use Rattle.sound_state.proofs.wins.LossLemmas.{losses-bounded}
 use Rattle.step_core.specs.Cores.{errand_at, state_of}
 use Rattle.step_core.proofs.CoreLemmas.{core-sound, run-won}
@@ -32,3 +33,9 @@ pub closed-contended :
 closed-contended c rests below =
     losses-bounded c.geometry (state_of (machine_of c rests.steps)) rests.core.run.wins
     (run-won c.geometry (state_of (machine_of c rests.steps)) rests.steps rests.core.run) below
+
+-- each caller took a turn for each answer
+pub closed-answers :
+    (c : ClosedFields) (caller : ℕ) → IsResting c → caller < c.geometry.callers
+    → count_by (gives_small caller) c.events + count_by (refuses_small caller) c.events ≤ (errand_at c.errands caller).turns
+closed-answers c caller rests has = omega (arith, (closed-sound c rests).parts.1.turned.own_answers caller has)

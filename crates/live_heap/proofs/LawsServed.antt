@@ -1,5 +1,5 @@
 -- What is so of every pass, also where it has begun a call.
-use Rattle.std.proofs.Common.{ℕ, ◌≡◌, ◌<◌, ◌≤◌, ◌+◌, ◌^◌, inl, inr, List, sym, ap, ◌∙◌, subst, arith}
+use Rattle.std.proofs.Common.{ℕ, ◌≡◌, ◌<◌, ◌+◌, ◌^◌, inl, inr, List, refl, sym, ap, ◌∙◌, subst, arith}
 use Rattle.std.proofs.lemmas.Bool.{cond_both}
 use Rattle.heap_geometry.specs.declared.geometry.Geometry.{Geometry}
 use Rattle.heap_geometry.specs.declared.need.Need.{Need}
@@ -12,14 +12,13 @@ use Rattle.pool_model.specs.WellFormed.{IsWellFormed}
 use Rattle.pool_model.proofs.HistoryLemmas.{legal-weaker}
 use Rattle.pool_model.proofs.PoolLemmas.{every-each, place-found}
 use Rattle.pool_model.proofs.WellFormedLemmas.{sound-of}
-use Rattle.errand_steps.specs.declared.point.Point.{Point}
 use Rattle.errand_steps.specs.Begins.{IsIdle, IsHeapBlock, begins_alloc, alloc_begun, free_begun, write_begun, read_begun, put_begun, take_begun}
 use Rattle.errand_steps.specs.Calls.{Call, alloc, free, write, read, put, take, begun_by}
 use Rattle.errand_steps.specs.Errands.{ErrandFields, IsErrand, is_spent}
 use Rattle.sound_state.specs.Recalls.{IsOwned}
 use Rattle.sound_state.specs.Runs.{MayBegin}
-use Rattle.sound_state.specs.TurnStages.{turn_stage_of, lacks_answer}
-use Rattle.sound_state.specs.Turns.{one_if, turn_unanswered}
+use Rattle.sound_state.specs.TurnStages.{turn_stage_of, out_of_turn, lacks_answer, is_unneeded}
+use Rattle.sound_state.specs.Turns.{one_if, errand_discards, turn_unanswered}
 use Rattle.errand_steps.proofs.BegunErrands.{idle-is, alloc-errand, free-errand, write-errand, read-errand, put-errand, take-errand}
 use Rattle.step_core.specs.Moments.{IsServed}
 use Rattle.live_heap.specs.declared.heap.Heap.{Heap}
@@ -33,25 +32,40 @@ begun-lost : (e : ErrandFields) (call : Call) → (begun_by e call).lost ≡ e.l
 unfolding alloc_begun free_begun write_begun read_begun put_begun take_begun
 begun-lost e call = grind (arith)
 
--- it takes one turn at most, which has no answer yet
-alloc-turns : (e : ErrandFields) (words : ℕ) (n : Need) → (begins_alloc e words n).turns ≤ e.turns + turn_unanswered (begins_alloc e words n)
-alloc-turns e words (Small class) =
-    cond_both (is_spent e) e _ (λ (x : ErrandFields). x.turns ≤ e.turns + turn_unanswered x) (λ spent. omega arith) (λ left. omega arith)
-alloc-turns e words (Large units) = omega arith
-alloc-turns e words TooLarge = omega arith
-
-begun-turns : (e : ErrandFields) (call : Call) → (begun_by e call).turns ≤ e.turns + turn_unanswered (begun_by e call)
-unfolding alloc_begun free_begun write_begun read_begun put_begun take_begun
-begun-turns e (alloc words) = alloc-turns e words (need_of words)
-begun-turns e (free place need) = omega arith
-begun-turns e (write place need i value) = omega arith
-begun-turns e (read place need i) = omega arith
-begun-turns e (put place need shelf) = omega arith
-begun-turns e (take shelf) = omega arith
+-- from one errand to another at most one turn is taken, which has no answer yet, and the second one has discarded nothing
+record TakesTurn (e f : ErrandFields) : Type 0 where
+  turns : f.turns ≡ e.turns + turn_unanswered f
+  discards : errand_discards f ≡ 0
 
 -- who is in no call has no turn without an answer
-idle-unanswered : (e : ErrandFields) → IsIdle e → turn_unanswered e ≡ 0
-idle-unanswered e idle = ap (λ (p : Point). one_if (lacks_answer (turn_stage_of p))) (idle-is e.point idle)
+idle-takes : (e : ErrandFields) → IsIdle e → TakesTurn e e
+idle-takes e idle =
+    let at : turn_stage_of e.point ≡ out_of_turn = ap turn_stage_of (idle-is e.point idle) in
+    let none : turn_unanswered e ≡ 0 = ap (λ stage. one_if (lacks_answer stage)) at in
+    record { turns = omega (arith, none); discards = ap (λ stage. one_if (is_unneeded stage)) at }
+
+-- a call that begins takes one turn at most
+alloc-takes : (e : ErrandFields) (words : ℕ) (n : Need) → IsErrand e → IsIdle e → TakesTurn e (begins_alloc e words n)
+alloc-takes e words (Small class) rule idle =
+    cond_both (is_spent e) e _ (TakesTurn e) (λ spent. idle-takes e idle)
+    (λ left.
+    record {
+      turns = let most = rule.turns in let limit = rule.geometry.turn_limit in grind (arith, left, most, limit);
+      discards = refl;
+    })
+alloc-takes e words (Large units) rule idle = record { turns = omega arith; discards = refl }
+alloc-takes e words TooLarge rule idle = idle-takes e idle
+
+begun-takes : (e : ErrandFields) (call : Call) → IsErrand e → IsIdle e → TakesTurn e (begun_by e call)
+unfolding alloc_begun free_begun write_begun read_begun put_begun take_begun
+begun-takes e (alloc words) rule idle = alloc-takes e words (need_of words) rule idle
+begun-takes e (free place (Small class)) rule idle = record { turns = omega arith; discards = refl }
+begun-takes e (free place (Large units)) rule idle = record { turns = omega arith; discards = refl }
+begun-takes e (free place TooLarge) rule idle = idle-takes e idle
+begun-takes e (write place need i value) rule idle = record { turns = omega arith; discards = refl }
+begun-takes e (read place need i) rule idle = record { turns = omega arith; discards = refl }
+begun-takes e (put place need shelf) rule idle = record { turns = omega arith; discards = refl }
+begun-takes e (take shelf) rule idle = record { turns = omega arith; discards = refl }
 
 -- a block that a caller owns is one of the heap's
 owned-here :
@@ -90,11 +104,9 @@ call-served :
 call-served g before events call served idle may =
     let f = begun_by before call in
     let same : f.caller ≡ before.caller = begun-caller before call in
-    let turns = begun-turns before call in
+    let takes = begun-takes before call served.own_errand.rule idle in
     let lost = begun-lost before call in
-    let none = idle-unanswered before idle in
-    let by_lost = served.by_lost in
-    let by_given = served.by_given in
+    let none = (idle-takes before idle).turns in
     subst (λ k. IsServed g k f events) (sym same)
     (record {
       checked = served.checked;
@@ -106,8 +118,9 @@ call-served g before events call served idle may =
         lost = subst (λ n. n < 2 ^ 64) (sym lost) served.own_errand.lost;
       };
       legal = served.legal;
-      by_lost = omega (arith, by_lost, turns, lost, none);
-      by_given = omega (arith, by_given, turns, none);
+      answers = omega (arith, served.answers, takes.turns);
+      by_lost = omega (arith, served.by_lost, takes.turns, takes.discards, lost, none);
+      by_given = omega (arith, served.by_given, takes.turns, none);
     })
 
 begun-served :

@@ -442,6 +442,8 @@ module _ (g : Geometry) (words : List ℕ) (views : List View) (id : ℕ) (v : V
       state = state;
       next = next;
       between = mine.seen.0;
+      made = begun.made_then;
+      reached = subst (λ h. IsReached h state begun.made_then) (sym own_errand.geometry) begun.reached;
       sound = subst (λ h. IsSound h state) (sym own_errand.geometry) sound;
       here = begun.moves.here;
       step = step;

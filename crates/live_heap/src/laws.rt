@@ -2,7 +2,7 @@
 
 pub mod blocks;
 
-ghost use Rattle.std.specs.Prelude.{ℕ, ◌≡◌, ◌≢◌, ◌<◌, ◌≤◌, ◌+◌, ◌-◌, ◌*◌, ◌^◌, List, ◌++◌, Some, length};
+ghost use Rattle.std.specs.Prelude.{ℕ, ◌≡◌, ◌≢◌, ◌<◌, ◌≤◌, ◌+◌, ◌-◌, ◌*◌, ◌^◌, List, ◌++◌, Some, length, count_by};
 ghost use Rattle.heap_geometry.specs.declared.need.Need.{Need};
 ghost use Rattle.heap_geometry.specs.declared.need.Need.TheVariants.{Small, Large};
 ghost use Rattle.heap_geometry.specs.Need.{need_of};
@@ -14,6 +14,7 @@ ghost use Rattle.errand_steps.specs.Errands.{ErrandFields};
 ghost use Rattle.sound_state.specs.Contention.{lost_of, won_of};
 ghost use Rattle.sound_state.specs.Sound.{IsSound};
 ghost use Rattle.sound_state.specs.Sums.{callers_sum};
+ghost use Rattle.sound_state.specs.Turns.{gives_small, refuses_small};
 ghost use Rattle.step_core.specs.Cores.{OwnsAfter, errand_at, state_of};
 ghost use Rattle.step_core.specs.Keeping.{Leaves};
 ghost use Rattle.step_core.specs.Moments.{IsServed};
@@ -32,8 +33,8 @@ ghost use Rattle.live_heap.specs.SeenSteps.{steps_of};
 ghost use Rattle.live_heap.specs.Whole.{Hands, IsWhole};
 
 /// What is so of every pass, whatever calls it has made: the events that it has seen are legal, and
-/// bound its turns, whether its errand is the one that its last step left or a call has begun since. With
-/// one caller nothing is ever lost.
+/// bound its turns from both sides, whether its errand is the one that its last step left or a call has
+/// begun since. With one caller nothing is ever lost.
 pub fn passes_are_served()
     ensures served { (h : Heap) (p : Pass) → IsOf h p → IsServed h.layout p.errand.caller p.errand (seen p) }
     ensures alone { (h : Heap) (p : Pass) → IsOf h p → h.layout.callers ≡ 1 → p.errand.lost ≡ 0 }
@@ -79,7 +80,8 @@ pub fn refusals_have_their_cause()
 
 /// A closed heap is a sound state of the machine, in which all callers are idle: so all that is said of
 /// such states holds of it. The exchanges that its callers lost are at most those that they won, times
-/// the other callers.
+/// the other callers; and each caller was given and refused together no more small blocks than it took
+/// turns.
 pub fn closed_heaps_are_sound()
     ensures sound { (c : ClosedFields) (rests : IsResting c) → IsSound c.geometry (state_of (machine_of c rests.steps)) }
     ensures legal { (c : ClosedFields) → IsResting c → IsLegal c.geometry c.events }
@@ -89,6 +91,8 @@ pub fn closed_heaps_are_sound()
         → ((caller : ℕ) → caller < c.geometry.callers → (errand_at c.errands caller).won < 2 ^ 64 - 1)
         → callers_sum c.geometry lost_of (errand_at c.errands)
         ≤ (c.geometry.callers - 1) * callers_sum c.geometry won_of (errand_at c.errands) }
+    ensures answers { (c : ClosedFields) (caller : ℕ) → IsResting c → caller < c.geometry.callers
+        → count_by (gives_small caller) c.events + count_by (refuses_small caller) c.events ≤ (errand_at c.errands caller).turns }
 {}
 
 /// In a heap of one caller no exchange is ever lost: a free is never interrupted, neither as it begins nor

@@ -1,4 +1,4 @@
-use Rattle.live_heap.proofs.LawsClosed.{closed-sound, closed-legal, closed-losses, closed-contended}
+use Rattle.live_heap.proofs.LawsClosed.{closed-sound, closed-legal, closed-losses, closed-contended, closed-answers}
 use Rattle.live_heap.proofs.laws.closed_heaps_are_sound.Goals as goal
 
 pub returns-clause-sound : goal.returns-clause-sound
@@ -12,3 +12,6 @@ returns-clause-losses c = closed-losses
 
 pub returns-clause-contended : goal.returns-clause-contended
 returns-clause-contended c = closed-contended
+
+pub returns-clause-answers : goal.returns-clause-answers
+returns-clause-answers c = closed-answers
