@@ -14,6 +14,7 @@ use Rattle.errand_steps.proofs.AnswerLemmas.{done-told}
 use Rattle.step_core.specs.Cores.{OwnsAfter}
 use Rattle.step_core.specs.Keeping.{Leaves}
 use Rattle.step_core.specs.Moments.{IsMoment}
+use Rattle.step_core.proofs.MomentAnswers.{found, moment-meant, moment-settles}
 use Rattle.live_heap.specs.declared.answers.Ending.TheVariants as ending
 use Rattle.live_heap.specs.declared.answers.Full.{Full}
 use Rattle.live_heap.specs.declared.answers.Step.{Step}
@@ -24,7 +25,6 @@ use Rattle.live_heap.specs.declared.pass.Pass.{Pass}
 use Rattle.live_heap.specs.Answers.{HasStepped, PutTellsFull, progress_of}
 use Rattle.live_heap.specs.Calls.{HasCalled}
 use Rattle.live_heap.specs.Passes.{IsOf, Owns, seen}
-use Rattle.live_heap.proofs.Told.{found, moment-settles, moment-meant}
 use Rattle.benches.specs.Hands.{HasMade, Rests}
 
 -- the laws of `passes_keep_their_blocks`: a call keeps the other blocks, and a block that it brings is none of those

@@ -18,13 +18,13 @@ use Rattle.call_events.specs.UnderWay.{IsUnderWay}
 use Rattle.call_events.proofs.OfferLemmas.{put-offers}
 use Rattle.step_core.specs.Cores.{OwnsAfter}
 use Rattle.step_core.specs.Moments.{IsServed}
+use Rattle.step_core.proofs.MomentAnswers.{moment-caller}
 use Rattle.live_heap.specs.declared.heap.Heap.{Heap}
 use Rattle.live_heap.specs.declared.pass.Pass.{Pass}
 use Rattle.live_heap.specs.Answers.{IsSpentAtOnce}
 use Rattle.live_heap.specs.Calls.{HasCalled}
 use Rattle.live_heap.specs.Passes.{IsOf, seen}
 use Rattle.live_heap.specs.Whole.{IsAtRest, OwnsFor}
-use Rattle.live_heap.proofs.CallsAnswers.{moment-caller}
 use Rattle.live_heap.proofs.LawsServed.{pass-served}
 use Rattle.trace_text.specs.declared.trace.Op.{Op}
 use Rattle.trace_text.specs.declared.trace.Op.TheVariants as op

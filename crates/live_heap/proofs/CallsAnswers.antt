@@ -24,6 +24,7 @@ use Rattle.call_events.proofs.BeginsLemmas.{too_large-stays, spent-begins}
 use Rattle.sound_state.specs.Recalls.{IsOwned}
 use Rattle.step_core.specs.Cores.{OwnsAfter}
 use Rattle.step_core.specs.Moments.{IsMoment}
+use Rattle.step_core.proofs.MomentAnswers.{moment-geometry, moment-given, moment-got, moment-meant}
 use Rattle.live_heap.specs.declared.answers.AllocAnswer.TheVariants as alloc_answers
 use Rattle.live_heap.specs.declared.answers.Ending.{Ending}
 use Rattle.live_heap.specs.declared.answers.Ending.TheVariants as ending
@@ -34,40 +35,21 @@ use Rattle.live_heap.specs.Answers.{AllocTells, FreeTells, HasBegun, HasStepped,
 use Rattle.live_heap.specs.declared.answers.FreeAnswer.TheVariants as free_answers
 use Rattle.live_heap.specs.Calls.{EndsInTime, HasCalled, IsInterrupted, tries_of}
 use Rattle.live_heap.specs.Passes.{Owns, seen}
-use Rattle.live_heap.proofs.Moves.{settle-caller, settle-geometry}
-use Rattle.live_heap.proofs.Told.{moment-meant, moment-settles}
 
 -- the moment of a step that came to this
 pub step-moment :
     (p q : Pass) (told same : Step) → told ≡ same → HasStepped p q told → IsMoment p.errand q.errand (seen p) (seen q) (progress_of same)
 step-moment p q told same is stepped = subst (λ t. IsMoment p.errand q.errand (seen p) (seen q) (progress_of t)) is stepped.moment
 
-module _ (e f : ErrandFields) (before after : List Event) (answer : Progress) (m : IsMoment e f before after answer) where
-  -- a step leaves the caller's number and its heap
-  pub moment-caller : f.caller ≡ e.caller
-  moment-caller = ap (λ (d : ErrandFields). d.caller) (moment-settles e f before after answer m) ∙ settle-caller e (found_at m.state e.caller)
-
-  pub moment-geometry : f.geometry ≡ e.geometry
-  moment-geometry = ap (λ (d : ErrandFields). d.geometry) (moment-settles e f before after answer m) ∙ settle-geometry e (found_at m.state e.caller)
-
-  -- what the caller owns behind it
-  pub moment-owns : (place : ℕ) (need : Need) → IsOwned m.next e.caller place need → OwnsAfter after f.caller place need
-  moment-owns place need owned =
-      subst (λ c. OwnsAfter after c place need) (sym moment-caller) (subst (λ h. OwnsAfter h e.caller place need) m.now owned.block)
-
 -- what a call that has ended so has come to
 module _ (first : Pass) (call : Call) (steps : ℕ) (q : Pass) where
   pub given-owns : (block : Block) → HasCalled first call steps (reply.Given block.place block.need) q → Owns q block
   given-owns block called =
-      let r : Reply = reply.Given block.place block.need in
-      moment-owns called.last q.errand called.sight (seen q) (progress.Done r) called.moment block.place block.need
-      (moment-meant called.last q.errand called.sight (seen q) (progress.Done r) called.moment r refl).3
+      moment-given called.last q.errand called.sight (seen q) (progress.Done (reply.Given block.place block.need)) called.moment block.place block.need refl
 
   pub got-owns : (block : Block) → HasCalled first call steps (reply.Got block.place block.need) q → Owns q block
   got-owns block called =
-      let r : Reply = reply.Got block.place block.need in
-      moment-owns called.last q.errand called.sight (seen q) (progress.Done r) called.moment block.place block.need
-      (moment-meant called.last q.errand called.sight (seen q) (progress.Done r) called.moment r refl).2
+      moment-got called.last q.errand called.sight (seen q) (progress.Done (reply.Got block.place block.need)) called.moment block.place block.need refl
 
   pub spent-limit : HasCalled first call steps reply.Spent q → q.errand.turns ≡ q.errand.geometry.turn_limit
   spent-limit called =

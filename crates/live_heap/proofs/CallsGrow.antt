@@ -32,14 +32,14 @@ use Rattle.sound_state.proofs.endings.LeftSteps.{steps-go_on}
 use Rattle.sound_state.proofs.events.OwnEvents.{own-with_event, added-event}
 use Rattle.sound_state.proofs.shared.ClearedLemmas.{cleared-far}
 use Rattle.step_core.specs.Moments.{IsMoment}
+use Rattle.step_core.proofs.MomentAnswers.{moment-own_after, settle-caller}
 use Rattle.live_heap.specs.declared.pass.Pass.{Pass}
 use Rattle.live_heap.specs.declared.view.View.{View}
 use Rattle.live_heap.specs.Answers.{HasBegun}
 use Rattle.live_heap.specs.Calls.{HasCalled, IsCalling}
 use Rattle.live_heap.specs.Passes.{accesses, accesses_of, seen}
 use Rattle.live_heap.proofs.Growing.{own-more}
-use Rattle.live_heap.proofs.Moves.{begun-caller, settle-caller}
-use Rattle.live_heap.proofs.Told.{moment-own_after}
+use Rattle.live_heap.proofs.Moves.{begun-caller}
 
 -- fewer steps are left, unless the step lost or cleared
 abbrev pub IsShorter : ErrandFields → Find → ErrandFields → Type 0

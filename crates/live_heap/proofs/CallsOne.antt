@@ -40,6 +40,7 @@ use Rattle.errand_steps.proofs.BegunErrands.{idle-is}
 use Rattle.step_core.specs.Cores.{OwnsAfter}
 use Rattle.step_core.specs.Moments.{IsMoment}
 use Rattle.step_core.specs.Needs.{IsNeed-prop}
+use Rattle.step_core.proofs.MomentAnswers.{moment-meant, moment-owns}
 use Rattle.live_heap.specs.declared.answers.Ending.{Ending}
 use Rattle.live_heap.specs.declared.answers.Ending.TheVariants as ending
 use Rattle.live_heap.specs.declared.answers.Full.{Full}
@@ -50,10 +51,9 @@ use Rattle.live_heap.specs.declared.pass.Pass.{Pass}
 use Rattle.live_heap.specs.Answers.{HasBegun, HasStepped, IsContents, PutTellsFull, progress_of, reply_of, with_lost}
 use Rattle.live_heap.specs.Calls.{HasCalled, IsCalling}
 use Rattle.live_heap.specs.Passes.{Owns, seen}
-use Rattle.live_heap.proofs.CallsAnswers.{moment-owns, step-moment}
+use Rattle.live_heap.proofs.CallsAnswers.{step-moment}
 use Rattle.live_heap.proofs.CallsCounts.{goes-further, more-undone}
 use Rattle.live_heap.proofs.CallsGrow.{IsSettled, settled-of, calls-go_on, calls-end}
-use Rattle.live_heap.proofs.Told.{moment-meant}
 
 -- a step that ends a call tells its ending
 told-done :

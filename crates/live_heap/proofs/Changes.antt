@@ -14,9 +14,11 @@ use Rattle.pool_model.specs.Calls as ended
 use Rattle.pool_model.specs.Histories.{EndsWith, caller_of, own}
 use Rattle.pool_model.specs.Legal.{IsLegalWithoutCounts}
 use Rattle.pool_model.specs.Pool.{Block, block_at, fresh_block, handed_to, pool_after, pool_of, written}
+use Rattle.pool_model.proofs.OwnedLemmas.{clear-none, if-other, of-self, shelf-differs}
 use Rattle.pool_model.proofs.HistoryLemmas.{last_cases, legal-weaker, own-append, pool_of-push, push-append}
 use Rattle.pool_model.proofs.PoolLemmas.{block_at-changed_other, block_at-changed_same, block_at-here, block_at-past, block_at-without_other, block_at-without_same}
 use Rattle.pool_model.proofs.WellFormedLemmas.{sound-differ, sound-of}
+use Rattle.pool_model.specs.Owned.{if_of}
 use Rattle.errand_steps.specs.declared.reply.Reply.{Reply}
 use Rattle.errand_steps.specs.declared.reply.Reply.TheVariants as reply
 use Rattle.errand_steps.specs.Calls.{Call, alloc, free, put, read, take, write}
@@ -26,14 +28,14 @@ use Rattle.call_events.specs.UnderWay.{HasLooked, SoFar}
 use Rattle.live_heap.specs.declared.heap.Heap.{Heap}
 use Rattle.live_heap.specs.declared.pass.Pass.{Pass}
 use Rattle.live_heap.specs.Calls.{HasCalled, IsCalling}
-use Rattle.live_heap.specs.Contents.{HasChanged, HasChangedSoFar, HasGot, HasPut, IsGiven, OwnsBut, OwnsSame, if_of, owned_after, owned_in, tells_last}
+use Rattle.live_heap.specs.Contents.{HasChanged, HasChangedSoFar, HasGot, HasPut, IsGiven, OwnsBut, OwnsSame, owned_after, owned_in, tells_last}
 use Rattle.live_heap.specs.Endings.{ClosedFields, HasTakenIn, IsResting}
 use Rattle.live_heap.specs.Passes.{IsOf, seen}
 use Rattle.live_heap.proofs.Growing.{own-kept, rest-none}
 use Rattle.live_heap.proofs.Last.{called-last, last-same}
 use Rattle.live_heap.proofs.LawsClosed.{closed-legal}
 use Rattle.live_heap.proofs.LawsKept.{Adds, called-adds, calling-adds}
-use Rattle.live_heap.proofs.Owned.{AllQuiet, IsChange, changes, clear-none, if-other, looks-quiet, of-self, quiet-all, quiet-append, shelf-differs}
+use Rattle.live_heap.proofs.Owned.{AllQuiet, IsChange, changes, looks-quiet, quiet-all, quiet-append}
 
 -- the events of an allocation that is given a block: looks, and then its own
 giving-front :

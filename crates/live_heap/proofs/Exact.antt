@@ -8,6 +8,7 @@ use Rattle.heap_geometry.specs.declared.need.Need.{Need}
 use Rattle.pool_model.specs.declared.event.Event.{Event}
 use Rattle.pool_model.specs.declared.owner.Owner.TheVariants.{Caller}
 use Rattle.pool_model.specs.Pool.{Block as PoolBlock, block_at, fresh_block, handed_to, pool_of, written}
+use Rattle.pool_model.specs.Owned.{if_of}
 use Rattle.errand_steps.specs.declared.reply.Reply.{Reply}
 use Rattle.errand_steps.specs.declared.reply.Reply.TheVariants as reply
 use Rattle.errand_steps.specs.Calls.{Call, alloc, free, put, take, write}
@@ -18,13 +19,12 @@ use Rattle.live_heap.specs.declared.block.Block.{Block}
 use Rattle.live_heap.specs.declared.heap.Heap.{Heap}
 use Rattle.live_heap.specs.declared.pass.Pass.{Pass}
 use Rattle.live_heap.specs.Calls.{HasCalled, IsCalling}
-use Rattle.live_heap.specs.Contents.{HasChanged, HasChangedSoFar, HasGot, OwnsBut, OwnsSame, if_of, owned_in}
+use Rattle.live_heap.specs.Contents.{HasChanged, HasChangedSoFar, HasGot, OwnsBut, OwnsSame, owned_in}
 use Rattle.live_heap.specs.Holdings.{ChangesHand, ChangesHandSoFar, Gains, HoldsExactly, Loses}
 use Rattle.live_heap.specs.Passes.{IsFresh, IsOf, Owns, seen}
 use Rattle.live_heap.proofs.CallsAnswers.{got-owns}
 use Rattle.live_heap.proofs.Changes.{called-changes, calling-changes}
 use Rattle.live_heap.proofs.Holding.{all-in, all-out, holds-all, holds-kept, holds-in, holds-out}
-use Rattle.live_heap.proofs.Owned.{of-self, owned-found}
 
 -- what is owned at a block's place
 abbrev OwnsAt : Pass → ℕ → Need → Type 0
@@ -181,4 +181,5 @@ pub calling-exact :
     (h : Heap) (p q : Pass) (call : Call) (steps : ℕ) (had has : List Block) → IsOf h q → IsCalling p call steps q
     → ChangesHandSoFar call (stage_of q.errand.point) had has → HoldsExactly p had → HoldsExactly q has
 calling-exact h p q call steps had has of calling =
-    so_far-exact p q call (stage_of q.errand.point) calling.added had has calling.under_way (calling-changes h p q call steps of calling)
+    so_far-exact p q call (stage_of q.errand.point) calling.added had has calling.under_way (calling-changes h p q call steps of calling)use Rattle.pool_model.proofs.OwnedLemmas.{of-self, owned-found}
+

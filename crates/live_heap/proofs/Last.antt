@@ -19,13 +19,12 @@ use Rattle.errand_steps.proofs.EventLemmas.{event_own}
 use Rattle.call_events.specs.Ends.{HasEnded}
 use Rattle.sound_state.specs.Answers.{IsMeant}
 use Rattle.step_core.specs.Moments.{IsMoment}
+use Rattle.step_core.proofs.MomentAnswers.{moment-caller, moment-meant}
 use Rattle.live_heap.specs.declared.pass.Pass.{Pass}
 use Rattle.live_heap.specs.Calls.{HasCalled}
 use Rattle.live_heap.specs.Contents.{tells_last}
 use Rattle.live_heap.specs.Passes.{seen}
-use Rattle.live_heap.proofs.CallsAnswers.{moment-caller}
 use Rattle.live_heap.proofs.Growing.{own-kept}
-use Rattle.live_heap.proofs.Told.{moment-meant}
 
 pub moment-last :
     (e f : ErrandFields) (before after : List Event) (answer : Progress) (m : IsMoment e f before after answer) (event : Event)

@@ -42,6 +42,7 @@ use Rattle.sound_state.specs.Wins.{Win, Wins, win_list_after, win_at}
 use Rattle.step_core.specs.Cores.{IsLonger, IsReached, made_with, no_errand}
 use Rattle.step_core.specs.Moments.{IsServed}
 use Rattle.step_core.proofs.CoreLemmas.{run-sound, run-longer}
+use Rattle.step_core.proofs.MomentAnswers.{settle-caller}
 use Rattle.step_core.proofs.MomentLemmas.{reached-served}
 use Rattle.live_heap.specs.declared.view.Standing.{Standing}
 use Rattle.live_heap.specs.declared.view.View.{View}
@@ -193,15 +194,6 @@ begun-geometry e call = grind (arith)
 pub is_begun-caller : (seen : List Event) (before e : ErrandFields) → IsBegun seen before e → e.caller ≡ before.caller
 is_begun-caller seen before e (inl same) = ap (λ (x : ErrandFields). x.caller) same
 is_begun-caller seen before e (inr (call, idle, may, begun)) = ap (λ (x : ErrandFields). x.caller) begun ∙ begun-caller before call
-
--- so does a step
-pub settle-caller : (e : ErrandFields) (x : Find) → (settle_of e x).caller ≡ e.caller
-unfolding settle_of
-settle-caller e x = refl
-
-pub settle-geometry : (e : ErrandFields) (x : Find) → (settle_of e x).geometry ≡ e.geometry
-unfolding settle_of
-settle-geometry e x = refl
 
 in_list : {A : Type 0} (l : List A) (i : ℕ) (a : A) → get_elem? l i ≡ some a → i < length l
 in_list [] i a e = absurd (some-ne-none a (sym e))

@@ -25,6 +25,7 @@ use Rattle.call_events.specs.Stages.{Stage, asking, asking_run, refused, given, 
 use Rattle.call_events.specs.UnderWay.{IsUnderWay, SoFar}
 use Rattle.call_events.proofs.AnswerLemmas.{step-goes_on}
 use Rattle.step_core.specs.Moments.{IsMoment}
+use Rattle.step_core.proofs.MomentAnswers.{settle-caller}
 use Rattle.live_heap.specs.declared.answers.FreeAnswer.TheVariants as free_answer
 use Rattle.live_heap.specs.declared.answers.Resumed.TheVariants as resumed
 use Rattle.live_heap.specs.declared.answers.Taken.TheVariants as taken
@@ -36,7 +37,6 @@ use Rattle.live_heap.specs.Calls.{IsCalling, IsInterrupted, StepsOn}
 use Rattle.live_heap.specs.Passes.{IsOf, seen}
 use Rattle.live_heap.proofs.CallsGrow.{IsSettled, settled-of}
 use Rattle.live_heap.proofs.LawsServed.{pass-alone}
-use Rattle.live_heap.proofs.Moves.{settle-caller}
 
 -- who looks at the anchor of a superblock that it takes for a partial one is in an allocation
 grants-alloc :

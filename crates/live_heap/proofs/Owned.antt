@@ -1,4 +1,4 @@
--- What a caller owns is changed, given and taken away by its own events alone.
+-- What a caller owns where its own events leave pools as they are, and where they end with one that does not.
 use Rattle.std.proofs.Common.{ℕ, eqb, true, false, zero, suc, ◌≡◌, ◌≢◌, ◌++◌, List, [], ◌∷◌, Option, Some, None, refl, sym, ◌∙◌, ap, subst, inl, inr, eq-eqb, eqb-true, ne_eqb, append_assoc, append-nil, true≢false}
 use Rattle.std.proofs.lemmas.Bool.{cases_Bool, cases_eq, eqb-false}
 use Rattle.std.proofs.lemmas.Option.{none-some}
@@ -10,112 +10,15 @@ use Rattle.pool_model.specs.declared.event.Event.{Event}
 use Rattle.pool_model.specs.declared.event.Event.TheVariants.{Alloc, Looked, Refuse, Free, Write, Put, Take, TakeNone}
 use Rattle.pool_model.specs.Calls.{looks}
 use Rattle.pool_model.specs.Histories.{caller_of, own}
+use Rattle.pool_model.specs.Owned.{if_of}
 use Rattle.pool_model.specs.Pool.{Block, Pool, block_at, fresh_block, written, handed_to, pool_after, pool_of, with_changed}
 use Rattle.pool_model.specs.Legal.{IsAllowed, IsFree, IsLegalWithoutCounts, IsLegalEventWithoutCounts}
 use Rattle.pool_model.proofs.PoolLemmas.{Differ, Pairs, block_at-here, block_at-past, block_at-without_other, block_at-without_same, block_at-changed_other, block_at-changed_same}
 use Rattle.pool_model.proofs.HistoryLemmas.{pool_of-push, push-append, EachAfter-cut, own-append}
-use Rattle.pool_model.proofs.OwnerLemmas.{free-elsewhere}
+use Rattle.pool_model.proofs.OwnedLemmas.{others-event}
 use Rattle.pool_model.proofs.WellFormedLemmas.{sound-of, sound-differ}
-use Rattle.live_heap.specs.Contents.{if_of, is_of, owned_after}
+use Rattle.live_heap.specs.Contents.{owned_after}
 use Rattle.live_heap.proofs.LawsKept.{others-same, own-split, same-rest}
-
--- another owner is not this caller
-of-other : (caller : ℕ) (owner : Owner) → owner ≢ Caller caller → is_of caller owner ≡ false
-of-other caller (Caller other) ne = ne_eqb other caller (λ e. ne (ap Caller e))
-of-other caller (Shelf shelf) ne = refl
-
-pub if-other : (caller : ℕ) (block : Block) → block.owner ≢ Caller caller → if_of caller (Some block) ≡ None
-if-other caller block ne = rw (of-other caller block.owner ne) refl
-
--- who is a caller is of itself
-pub of-self : (caller : ℕ) (block : Block) → block.owner ≡ Caller caller → if_of caller (Some block) ≡ Some block
-of-self caller block owned = rw owned (rw (eq-eqb caller caller refl) refl)
-
-of-is : (caller : ℕ) (owner : Owner) → is_of caller owner ≡ true → owner ≡ Caller caller
-of-is caller (Caller other) is = ap Caller (eqb-true other caller is)
-of-is caller (Shelf shelf) is = absurd (true≢false (sym is))
-
--- what a caller owns is a block of its own
-pub owned-found : (caller : ℕ) (o : Option Block) (block : Block) → if_of caller o ≡ Some block → (o ≡ Some block) × (block.owner ≡ Caller caller)
-owned-found caller None block is = absurd (none-some block is)
-owned-found caller (Some b) block is =
-    elim (cases_Bool (is_of caller b.owner)) [
-      | inl on ↦
-          let e : Some b ≡ Some block = rw on at is in
-          let same : b ≡ block = cc in
-          (e, ap (λ (x : Block). x.owner) (sym same) ∙ of-is caller b.owner on)
-      | inr off ↦ absurd (none-some block (rw off at is))
-    ]
-
--- a block of another owner, before and after
-both-none :
-    (caller place : ℕ) (pool new : Pool) (a b : Block) → block_at place pool ≡ Some a → a.owner ≢ Caller caller
-    → block_at place new ≡ Some b → b.owner ≢ Caller caller → if_of caller (block_at place new) ≡ if_of caller (block_at place pool)
-both-none caller place pool new a b found before now after =
-    ap (if_of caller) now ∙ if-other caller b after ∙ sym (ap (if_of caller) found ∙ if-other caller a before)
-
--- other callers, and shelves, are not this one
-caller-differs : (caller other : ℕ) (owner : Owner) → owner ≡ Caller other → other ≢ caller → owner ≢ Caller caller
-caller-differs caller other owner is ne same = ne (let e : Caller other ≡ Caller caller = sym is ∙ same in cc)
-
-pub shelf-differs : (caller shelf : ℕ) (owner : Owner) → owner ≡ Shelf shelf → owner ≢ Caller caller
-shelf-differs caller shelf owner is same = let e : Shelf shelf ≡ Caller caller = sym is ∙ same in absurd (cc)
-
--- nothing is live where a block can be given
-pub clear-none :
-    (g : Geometry) (pool : Pool) (caller need place : ℕ) (o : Option Block) → IsFree g pool (need_of need) place → block_at place pool ≡ o → o ≡ None
-clear-none g pool caller need place None clear is = refl
-clear-none g pool caller need place (Some block) clear is = absurd (free-elsewhere g pool caller need place place block clear is refl)
-
--- a block of another owner is changed, and still another's
-changed :
-    (caller place at : ℕ) (change : Block → Block) (pool : Pool) (block : Block) → ((b : Block) → (change b).place ≡ b.place)
-    → block_at at pool ≡ Some block → block.owner ≢ Caller caller → (change block).owner ≢ Caller caller
-    → if_of caller (block_at place (with_changed at change pool)) ≡ if_of caller (block_at place pool)
-changed caller place at change pool block keeps found before after =
-    elim (cases_eq place at) [
-      | inl same ↦
-          let found_here : block_at place pool ≡ Some block = ap (λ (p : ℕ). block_at p pool) same ∙ found in
-          let now : block_at place (with_changed at change pool) ≡ Some (change block) =
-          ap (λ (p : ℕ). block_at p (with_changed at change pool)) same ∙ block_at-changed_same at change pool block keeps found in
-          both-none caller place pool (with_changed at change pool) block (change block) found_here before now after
-      | inr differ ↦ ap (if_of caller) (block_at-changed_other at place change pool keeps differ)
-    ]
-
--- one event of another caller
-others-event :
-    (g : Geometry) (before : List Event) (event : Event) (caller place : ℕ) → Pairs Differ (pool_of before) → IsAllowed g before event
-    → caller_of event ≢ caller
-    → if_of caller (block_at place (pool_after (pool_of before) event)) ≡ if_of caller (block_at place (pool_of before))
-others-event g before (Alloc other need at) caller place differ allowed ne =
-    elim (cases_eq at place) [
-      | inl same ↦
-          let clear : IsFree g (pool_of before) (need_of need) place = subst (λ (p : ℕ). IsFree g (pool_of before) (need_of need) p) same allowed in
-          ap (if_of caller) (block_at-here place (fresh_block other need at) (pool_of before) same)
-          ∙ if-other caller (fresh_block other need at) (caller-differs caller other (Caller other) refl ne)
-          ∙ sym (ap (if_of caller) (clear-none g (pool_of before) other need place (block_at place (pool_of before)) clear refl))
-      | inr apart ↦ ap (if_of caller) (block_at-past place (fresh_block other need at) (pool_of before) apart)
-    ]
-others-event g before (Looked other class) caller place differ allowed ne = refl
-others-event g before (Refuse other need) caller place differ allowed ne = refl
-others-event g before (Free other at) caller place differ allowed ne =
-    elim (cases_eq place at) [
-      | inl same ↦
-          let found_here : block_at place (pool_of before) ≡ Some allowed.0 = ap (λ (p : ℕ). block_at p (pool_of before)) same ∙ allowed.1 in
-          ap (if_of caller) (ap (λ (p : ℕ). block_at p (pool_after (pool_of before) (Free other at))) same ∙ block_at-without_same at (pool_of before) differ)
-          ∙ sym (ap (if_of caller) found_here ∙ if-other caller allowed.0 (caller-differs caller other allowed.0.owner allowed.2 ne))
-      | inr apart ↦ ap (if_of caller) (block_at-without_other at place (pool_of before) apart)
-    ]
-others-event g before (Write other at i v) caller place differ allowed ne =
-    let off = caller-differs caller other allowed.0.owner allowed.2 ne in
-    changed caller place at (written i v) (pool_of before) allowed.0 (λ b. refl) allowed.1 off off
-others-event g before (Put other at shelf) caller place differ allowed ne =
-    changed caller place at (handed_to (Shelf shelf)) (pool_of before) allowed.0.0 (λ b. refl) allowed.0.1
-    (caller-differs caller other allowed.0.0.owner allowed.0.2 ne) (shelf-differs caller shelf (Shelf shelf) refl)
-others-event g before (Take other shelf at) caller place differ allowed ne =
-    changed caller place at (handed_to (Caller other)) (pool_of before) allowed.0.0 (λ b. refl) allowed.0.1
-    (shelf-differs caller shelf allowed.0.0.owner allowed.0.2) (caller-differs caller other (Caller other) refl ne)
-others-event g before (TakeNone other shelf) caller place differ allowed ne = refl
 
 -- the event leaves every pool as it is; all of the events do
 abbrev pub IsQuiet : Event → Type 0

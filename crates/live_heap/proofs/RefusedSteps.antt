@@ -29,17 +29,16 @@ use Rattle.errand_steps.specs.Fits.{FitsPoint}
 use Rattle.errand_steps.specs.Steps.{State, event_at, found_at, with_event}
 use Rattle.errand_steps.proofs.EventLemmas.{event_own}
 use Rattle.step_core.specs.Moments.{IsMoment}
+use Rattle.step_core.proofs.MomentAnswers.{moment-caller, moment-geometry, moment-settles, moment-sound, settle-geometry}
 use Rattle.live_heap.specs.declared.pass.Pass.{Pass}
 use Rattle.live_heap.specs.Calls.{HasCalled, StepsOn}
 use Rattle.live_heap.specs.Passes.{seen}
 use Rattle.live_heap.specs.Refusals.{HasFoundEmpty, HasFoundNoFrame, HasFoundNoRun}
 use Rattle.live_heap.specs.SeenSteps.{SeenStep, steps_of, steps_on}
-use Rattle.live_heap.proofs.CallsAnswers.{moment-caller, moment-geometry}
 use Rattle.live_heap.proofs.Growing.{IsBy, own-kept, own-more}
 use Rattle.live_heap.proofs.LawsKept.{same-rest}
-use Rattle.live_heap.proofs.Moves.{begun-caller, begun-geometry, settle-geometry}
+use Rattle.live_heap.proofs.Moves.{begun-caller, begun-geometry}
 use Rattle.live_heap.proofs.RefusedPoints.{refusal-idle, step-finds}
-use Rattle.live_heap.proofs.Told.{moment-settles, moment-sound}
 
 -- the event that a step told, if any; and those of several, one after the other
 abbrev event_told : SeenStep → Option Event

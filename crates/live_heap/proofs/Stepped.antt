@@ -5,6 +5,7 @@ use Rattle.errand_steps.specs.declared.reply.Progress.{Progress}
 use Rattle.errand_steps.specs.Errands.{ErrandFields, settle_of, answer_of}
 use Rattle.errand_steps.specs.Offers.{offered_at}
 use Rattle.step_core.specs.Moments.{IsMoment, IsServed}
+use Rattle.step_core.proofs.MomentAnswers.{settle-caller}
 use Rattle.live_heap.specs.declared.answers.Step.{Step}
 use Rattle.live_heap.specs.declared.heap.Heap.{Heap}
 use Rattle.live_heap.specs.declared.pass.Pass.{Pass}
@@ -12,7 +13,6 @@ use Rattle.live_heap.specs.Answers.{GivesBack, HasStepped, progress_of}
 use Rattle.live_heap.specs.Passes.{IsOf, accesses, accesses_of, seen, view}
 use Rattle.live_heap.specs.Sights.{IsSightOf, TakesStep, found_in}
 use Rattle.live_heap.proofs.Begun.{of-laid}
-use Rattle.live_heap.proofs.Moves.{settle-caller}
 
 -- the pass may make a step of its errand
 pub of-sight : (h : Heap) (p : Pass) → IsOf h p → IsSightOf h.layout (view p) p.errand

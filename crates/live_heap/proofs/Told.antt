@@ -1,4 +1,4 @@
--- What the moment of a step tells.
+-- The answer of a step can be told with the block in hand.
 use Rattle.std.proofs.Common.{ℕ, ◌≡◌, List, IsSomeAnd, refl, sym, ap, ◌∙◌, subst}
 use Rattle.heap_geometry.specs.declared.need.Need.{Need}
 use Rattle.heap_geometry.specs.Need.{IsNeed}
@@ -21,39 +21,17 @@ use Rattle.sound_state.proofs.CountedLemmas.{without-counts, steps-counted}
 use Rattle.sound_state.proofs.answers.StepAnswers.{answers-meant}
 use Rattle.sound_state.proofs.beginnings.BegunLemmas.{owned-block}
 use Rattle.step_core.specs.Moments.{IsMoment}
+use Rattle.step_core.proofs.MomentAnswers.{moment-meant, moment-sound}
 use Rattle.live_heap.specs.Answers.{IsAnswerable}
 
 module _ (e f : ErrandFields) (before after : List Event) (answer : Progress) (m : IsMoment e f before after answer) where
-  -- what the step found
-  abbrev pub found : Find
-  found = found_at m.state e.caller
-
-  -- the errand goes on by that
-  pub moment-settles : f ≡ settle_of e found
-  moment-settles = sym m.there ∙ (m.step.errand.here ∙ ap (λ x. settle_of x found) m.here)
-
-  pub moment-busy : IsBusy e
-  moment-busy = subst IsBusy m.here m.step.busy
-
-  pub moment-sound : IsSound e.geometry m.next
-  moment-sound = steps-counted e.geometry m.state e.caller m.next m.sound m.has m.step
-
-  pub moment-own : IsOwnErrand e.geometry e.caller e
-  moment-own = subst (IsOwnErrand e.geometry e.caller) m.here (m.sound.parts.1.errands e.caller m.has)
-
-  pub moment-own_after : IsOwnErrand e.geometry e.caller f
-  moment-own_after = subst (IsOwnErrand e.geometry e.caller) m.there (moment-sound.parts.1.errands e.caller m.has)
-
-  -- what it answers is so
-  pub moment-meant : (r : Reply) → answer ≡ progress.Done r → IsMeant e.geometry m.state e.caller r m.next
-  moment-meant r is =
-      answers-meant e.geometry m.state e.caller r m.next (without-counts e.geometry m.state m.sound) m.has m.step
-      (ap (λ x. answer_of x found) m.here ∙ (sym m.answers ∙ is))
+  abbrev meant : (r : Reply) → answer ≡ progress.Done r → IsMeant e.geometry m.state e.caller r m.next
+  meant = moment-meant e f before after answer m
 
   -- a block that the caller owns then serves some need
   owned-need : (place : ℕ) (need : Need) → IsOwned m.next e.caller place need → IsNeed need
   owned-need place need owned =
-      (owned-block e.geometry m.next e.caller place need (without-counts e.geometry m.next moment-sound) owned).0
+      (owned-block e.geometry m.next e.caller place need (without-counts e.geometry m.next (moment-sound e f before after answer m)) owned).0
 
   reply-answerable : (r : Reply) → IsMeant e.geometry m.state e.caller r m.next → IsAnswerable (offered_at e.point) (progress.Done r)
   reply-answerable (reply.Given place need) (words, allocates, serves, owned) = owned-need place need owned
@@ -77,7 +55,7 @@ module _ (e f : ErrandFields) (before after : List Event) (answer : Progress) (m
   answerable progress.More is = tt
   answerable progress.Lost is = tt
   answerable progress.Cleared is = tt
-  answerable (progress.Done r) is = reply-answerable r (moment-meant r is)
+  answerable (progress.Done r) is = reply-answerable r (meant r is)
 
   pub moment-answerable : IsAnswerable (offered_at e.point) answer
   moment-answerable = answerable answer refl

@@ -8,11 +8,10 @@ use Rattle.errand_steps.specs.declared.reply.Reply.TheVariants as reply
 use Rattle.errand_steps.specs.Calls.{Call, alloc}
 use Rattle.step_core.specs.Cores.{OwnsAfter}
 use Rattle.step_core.specs.Keeping.{Leaves}
+use Rattle.step_core.proofs.MomentAnswers.{moment-meant, moment-owns}
 use Rattle.live_heap.specs.declared.heap.Heap.{Heap}
 use Rattle.live_heap.specs.declared.pass.Pass.{Pass}
 use Rattle.live_heap.specs.Passes.{seen}
-use Rattle.live_heap.proofs.CallsAnswers.{moment-owns}
-use Rattle.live_heap.proofs.Told.{moment-meant}
 use Rattle.live_heap.proofs.LawsKept.{called-adds, ended-spares, given-apart, got-apart, owns-on}
 use Rattle.live_heap.specs.Whole.{Hands, IsWhole, by_steps, at_once}
 

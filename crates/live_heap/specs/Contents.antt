@@ -5,6 +5,7 @@ use Rattle.pool_model.specs.declared.event.Event.TheVariants as event
 use Rattle.pool_model.specs.declared.owner.Owner.{Owner}
 use Rattle.pool_model.specs.declared.owner.Owner.TheVariants.{Caller, Shelf}
 use Rattle.pool_model.specs.Histories.{EndsWith}
+use Rattle.pool_model.specs.Owned.{owned_at}
 use Rattle.pool_model.specs.Pool.{Block, block_at, fresh_block, handed_to, pool_of, written}
 use Rattle.errand_steps.specs.declared.reply.Reply.{Reply}
 use Rattle.errand_steps.specs.declared.reply.Reply.TheVariants as reply
@@ -14,19 +15,9 @@ use Rattle.call_events.specs.Stages as stage
 use Rattle.live_heap.specs.declared.pass.Pass.{Pass}
 use Rattle.live_heap.specs.Passes.{seen}
 
--- the owner is this caller
-abbrev pub is_of : ℕ → Owner → Bool
-is_of caller (Caller other) = other == caller
-is_of caller (Shelf shelf) = false
-
--- the block, where the caller owns it
-abbrev pub if_of : ℕ → Option Block → Option Block
-if_of caller None = None
-if_of caller (Some block) = if is_of caller block.owner then Some block else None
-
 -- the caller's block at a place after these events, with its words, where it has one there
 abbrev pub owned_after : List Event → ℕ → ℕ → Option Block
-owned_after events caller place = if_of caller (block_at place (pool_of events))
+owned_after events caller place = owned_at caller place (pool_of events)
 
 -- so it is of a pass, after the events that it has seen
 abbrev pub owned_in : Pass → ℕ → Option Block

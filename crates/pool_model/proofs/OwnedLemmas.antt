@@ -1,6 +1,7 @@
 -- What a caller owns is changed, given and taken away by its own events alone.
-use Rattle.std.proofs.Common.{ℕ, false, ◌≡◌, ◌≢◌, List, [], ◌∷◌, ◌++◌, Option, Some, None, refl, sym, ◌∙◌, ap, subst, inl, inr, ne_eqb, append-nil}
-use Rattle.std.proofs.lemmas.Bool.{cases_eq}
+use Rattle.std.proofs.Common.{ℕ, false, ◌≡◌, ◌≢◌, List, [], ◌∷◌, ◌++◌, Option, Some, None, refl, sym, ◌∙◌, ap, subst, inl, inr, eq-eqb, eqb-true, ne_eqb, append-nil, true≢false, true}
+use Rattle.std.proofs.lemmas.Bool.{cases_Bool, cases_eq}
+use Rattle.std.proofs.lemmas.Option.{none-some}
 use Rattle.heap_geometry.specs.declared.geometry.Geometry.{Geometry}
 use Rattle.heap_geometry.specs.Need.{need_of}
 use Rattle.pool_model.specs.declared.owner.Owner.{Owner}
@@ -24,6 +25,26 @@ of-other caller (Shelf shelf) ne = refl
 pub if-other : (caller : ℕ) (block : Block) → block.owner ≢ Caller caller → if_of caller (Some block) ≡ None
 if-other caller block ne = rw (of-other caller block.owner ne) refl
 
+-- who is a caller is of itself
+pub of-self : (caller : ℕ) (block : Block) → block.owner ≡ Caller caller → if_of caller (Some block) ≡ Some block
+of-self caller block owned = rw owned (rw (eq-eqb caller caller refl) refl)
+
+of-is : (caller : ℕ) (owner : Owner) → is_of caller owner ≡ true → owner ≡ Caller caller
+of-is caller (Caller other) is = ap Caller (eqb-true other caller is)
+of-is caller (Shelf shelf) is = absurd (true≢false (sym is))
+
+-- what a caller owns is a block of its own
+pub owned-found : (caller : ℕ) (o : Option Block) (block : Block) → if_of caller o ≡ Some block → (o ≡ Some block) × (block.owner ≡ Caller caller)
+owned-found caller None block is = absurd (none-some block is)
+owned-found caller (Some b) block is =
+    elim (cases_Bool (is_of caller b.owner)) [
+      | inl on ↦
+          let e : Some b ≡ Some block = rw on at is in
+          let same : b ≡ block = cc in
+          (e, ap (λ (x : Block). x.owner) (sym same) ∙ of-is caller b.owner on)
+      | inr off ↦ absurd (none-some block (rw off at is))
+    ]
+
 -- a block of another owner, before and after
 pub both-none :
     (caller place : ℕ) (pool new : Pool) (a b : Block) → block_at place pool ≡ Some a → a.owner ≢ Caller caller
@@ -38,11 +59,11 @@ caller-differs caller other owner is ne same = ne (let e : Caller other ≡ Call
 pub shelf-differs : (caller shelf : ℕ) (owner : Owner) → owner ≡ Shelf shelf → owner ≢ Caller caller
 shelf-differs caller shelf owner is same = let e : Shelf shelf ≡ Caller caller = sym is ∙ same in absurd (cc)
 
--- nothing is live where a block is free
-free-none :
+-- nothing is live where a block can be given
+pub clear-none :
     (g : Geometry) (pool : Pool) (caller need place : ℕ) (o : Option Block) → IsFree g pool (need_of need) place → block_at place pool ≡ o → o ≡ None
-free-none g pool caller need place None free is = refl
-free-none g pool caller need place (Some block) free is = absurd (free-elsewhere g pool caller need place place block free is refl)
+clear-none g pool caller need place None free is = refl
+clear-none g pool caller need place (Some block) free is = absurd (free-elsewhere g pool caller need place place block free is refl)
 
 changed :
     (caller place at other : ℕ) (change : Block → Block) (pool : Pool) (block : Block) → ((b : Block) → (change b).place ≡ b.place)
@@ -68,7 +89,7 @@ others-event g before (Alloc other need at) caller place differ allowed ne =
           let free : IsFree g (pool_of before) (need_of need) place = subst (λ (p : ℕ). IsFree g (pool_of before) (need_of need) p) same allowed in
           ap (if_of caller) (block_at-here place (fresh_block other need at) (pool_of before) same)
           ∙ if-other caller (fresh_block other need at) (caller-differs caller other (Caller other) refl ne)
-          ∙ sym (ap (if_of caller) (free-none g (pool_of before) other need place (block_at place (pool_of before)) free refl))
+          ∙ sym (ap (if_of caller) (clear-none g (pool_of before) other need place (block_at place (pool_of before)) free refl))
       | inr apart ↦ ap (if_of caller) (block_at-past place (fresh_block other need at) (pool_of before) apart)
     ]
 others-event g before (Looked other class) caller place differ allowed ne = refl

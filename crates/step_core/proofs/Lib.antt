@@ -9,3 +9,4 @@ pub mod AdvanceLemmas
 pub mod AloneLemmas
 pub mod MeantLemmas
 pub mod MomentLemmas
+pub mod MomentAnswers

@@ -2,10 +2,10 @@ use Rattle.std.proofs.Common.{ap, sym, ◌∙◌, subst}
 use Rattle.word_plan.specs.Actions.{name_of}
 use Rattle.word_plan.specs.Table.{Exists}
 use Rattle.errand_steps.specs.Errands.{ErrandFields}
+use Rattle.step_core.proofs.MomentAnswers.{settle-caller}
 use Rattle.live_heap.specs.declared.pass.Pass.{Pass}
 use Rattle.live_heap.specs.Answers.{GivesBack, IsAnswerable}
 use Rattle.live_heap.proofs.Begun.{of-laid}
-use Rattle.live_heap.proofs.Moves.{settle-caller}
 use Rattle.live_heap.proofs.Stepped.{of-sight, still-of, took-access, took-step, has-stepped}
 use Rattle.live_heap.proofs.Told.{moment-answerable}
 use Rattle.live_heap.proofs.heap.Heap.step.Goals as goal
