@@ -127,7 +127,7 @@ module _ (kept : IsKept) (h : Heap) where
             (plus-nothing h q blocks (ended-hand kept h p q blocks call 0 reply.Put of still called others held))
         | inr (own, found, is) ↦
             let full : Full = record { block = own; found = found } in
-            let back = put-full p b q block shelf told full is begun s calling in
+            let back = put-full p b q block shelf told full is s calling in
             subst (λ (t : Step). IsHand h q (blocks ++ brought_in t)) (sym is)
             (brought-hand h q blocks own back.called.idle back.owned
             (subst (λ (x : Block). All (λ other. other.place ≢ x.place) blocks) (sym back.same) others)

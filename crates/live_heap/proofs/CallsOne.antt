@@ -28,7 +28,7 @@ use Rattle.errand_steps.specs.declared.reply.Progress.TheVariants as progress
 use Rattle.errand_steps.specs.declared.reply.Reply.{Reply}
 use Rattle.errand_steps.specs.declared.reply.Reply.TheVariants as reply
 use Rattle.errand_steps.specs.Begins.{IsIdle, write_begun, read_begun, put_begun, take_begun}
-use Rattle.errand_steps.specs.Calls.{Call, write, read, put, take}
+use Rattle.errand_steps.specs.Calls.{Call, begun_by, write, read, put, take}
 use Rattle.errand_steps.specs.Errands.{ErrandFields, after_list, after_turn, answer_of, counts_cleared, counts_lost, counts_won, course_of, one_more, plan_of, settle_of, told as told_by}
 use Rattle.errand_steps.specs.Nexts.{enter_large, next_of}
 use Rattle.errand_steps.specs.Points.{plan_point_of}
@@ -48,7 +48,7 @@ use Rattle.live_heap.specs.declared.answers.Step.{Step}
 use Rattle.live_heap.specs.declared.answers.Step.TheVariants as step
 use Rattle.live_heap.specs.declared.block.Block.{Block}
 use Rattle.live_heap.specs.declared.pass.Pass.{Pass}
-use Rattle.live_heap.specs.Answers.{HasBegun, HasStepped, IsContents, PutTellsFull, progress_of, reply_of, with_lost}
+use Rattle.live_heap.specs.Answers.{HasBegun, HasStepped, IsContents, LiesOn, PutTellsFull, progress_of, reply_of, with_lost}
 use Rattle.live_heap.specs.Calls.{HasCalled, IsCalling}
 use Rattle.live_heap.specs.Passes.{Owns, seen}
 use Rattle.live_heap.proofs.CallsAnswers.{step-moment}
@@ -56,7 +56,7 @@ use Rattle.live_heap.proofs.CallsCounts.{goes-further, more-undone}
 use Rattle.live_heap.proofs.CallsGrow.{IsSettled, settled-of, calls-go_on, calls-end}
 
 -- a step that ends a call tells its ending
-told-done :
+pub told-done :
     (told : Step) (r : Reply) → progress_of told ≡ progress.Done r → (end : Ending) × (told ≡ step.Done end) × (reply_of end ≡ r)
 told-done step.Idle r is = absurd (cc)
 told-done step.More r is = absurd (cc)
@@ -64,7 +64,7 @@ told-done step.Lost r is = absurd (cc)
 told-done step.Cleared r is = absurd (cc)
 told-done (step.Done end) r is = (end, refl, (cc))
 
-told-more : (told : Step) → progress_of told ≡ progress.More → told ≡ step.More
+pub told-more : (told : Step) → progress_of told ≡ progress.More → told ≡ step.More
 told-more step.Idle is = absurd (cc)
 told-more step.More is = refl
 told-more step.Lost is = absurd (cc)
@@ -152,13 +152,13 @@ pub load-ends : (place i : ℕ) (o : Continuation) (x : Find) → next_of (point
 unfolding next_of
 load-ends place i o x = refl
 
-put-won :
+pub put-won :
     (shelf place : ℕ) (need : Need) (o : Continuation) (x : Find) → x.won ≡ true
     → next_of (point.Large (large.PutBlock shelf place need) o) x ≡ next.End reply.Put
 unfolding next_of
 put-won shelf place need o x won = ap (λ w. enter_large (if w then large.PutDone else large.ShelfFull x.value) o) won
 
-put-lost :
+pub put-lost :
     (shelf place : ℕ) (need : Need) (o : Continuation) (x : Find) → x.won ≡ false
     → next_of (point.Large (large.PutBlock shelf place need) o) x ≡ next.End (reply.Full x.value)
 unfolding next_of
@@ -217,13 +217,13 @@ stands-there first call steps p q answer m at stands c =
 
 -- the word that was read is what the block holds there
 pub read-contents :
-    (p b q : Pass) (place : ℕ) (need : Need) (i word : ℕ) (told : Step) → told ≡ step.Done (ending.Word word) → HasStepped b q told
-    → IsCalling p (read place need i) 0 b → IsContents q place i word
-read-contents p b q place need i word told is stepped calling =
+    (p b q : Pass) (place : ℕ) (need : Need) (i word steps : ℕ) (told : Step) → told ≡ step.Done (ending.Word word) → HasStepped b q told
+    → IsCalling p (read place need i) steps b → IsContents q place i word
+read-contents p b q place need i word steps told is stepped calling =
     let r : Reply = reply.Word word in
     let m = step-moment b q told (step.Done (ending.Word word)) is stepped in
     let says = moment-meant b.errand q.errand (seen b) (seen q) (progress.Done r) m r refl in
-    let at = stands-there p (read place need i) 0 b q (progress.Done r) m (large.LoadWord says.0 says.1) says.3 calling in
+    let at = stands-there p (read place need i) steps b q (progress.Done r) m (large.LoadWord says.0 says.1) says.3 calling in
     let live : block_at place (pool_of (seen q)) ≡ Some says.2 =
     subst (λ k. block_at k (pool_of (seen q)) ≡ Some says.2) at.0 (subst (λ h. block_at says.0 (pool_of h) ≡ Some says.2) m.now says.4) in
     λ block written there set.
@@ -271,58 +271,69 @@ put-planned e shelf place need o word at = ap (λ p. is_won (plan_point_of p) wo
 
 -- a word that was found on a full shelf isn't that of an empty one
 full-found :
-    (p b q : Pass) (place : ℕ) (need : Need) (shelf : ℕ) (told : Step) (block : Block) (found : ℕ)
-    → told ≡ step.Done (ending.Full block found) → HasBegun p (put place need shelf) b → HasStepped b q told → found ≢ 0
-full-found p b q place need shelf told block found is since stepped =
+    (b q : Pass) (place : ℕ) (need : Need) (shelf : ℕ) (o : Continuation) (told : Step) (block : Block) (found : ℕ)
+    → told ≡ step.Done (ending.Full block found) → b.errand.point ≡ point.Large (large.PutBlock shelf place need) o → HasStepped b q told → found ≢ 0
+full-found b q place need shelf o told block found is at stepped =
     let s = stepped-settled b q told stepped in
-    let at = put-point p b place need shelf since in
-    let there : Point = point.Large (large.PutBlock shelf place need) Nothing in
+    let there : Point = point.Large (large.PutBlock shelf place need) o in
     let says : progress_of told ≡ progress.Done (reply.Full found) = ap progress_of is in
     elim (cases_Bool s.x.won) [
       | inl won ↦
-          let answers = s.answers ∙ end-answers b.errand s.x there reply.Put at (put-won shelf place need Nothing s.x won) in
+          let answers = s.answers ∙ end-answers b.errand s.x there reply.Put at (put-won shelf place need o s.x won) in
           absurd (let both : progress.Done (reply.Full found) ≡ progress.Done reply.Put = sym says ∙ answers in cc)
       | inr lost ↦
-          let answers = s.answers ∙ end-answers b.errand s.x there (reply.Full s.x.value) at (put-lost shelf place need Nothing s.x lost) in
+          let answers = s.answers ∙ end-answers b.errand s.x there (reply.Full s.x.value) at (put-lost shelf place need o s.x lost) in
           let same : found ≡ s.x.value =
           let both : progress.Done (reply.Full found) ≡ progress.Done (reply.Full s.x.value) = sym says ∙ answers in cc in
           λ zero.
-          lost-differs s.x (shelf_word lies.Nothing) (s.won ∙ put-planned b.errand shelf place need Nothing s.x.value at) lost
+          lost-differs s.x (shelf_word lies.Nothing) (s.won ∙ put-planned b.errand shelf place need o s.x.value at) lost
           (sym same ∙ (zero ∙ sym nothing-word))
     ]
 
-pub put-full :
-    (p b q : Pass) (block : Block) (shelf : ℕ) (told : Step) (full : Full) → told ≡ step.Done (ending.Full full.block full.found)
-    → HasBegun p (put block.place block.need shelf) b → HasStepped b q told → IsCalling p (put block.place block.need shelf) 0 b
-    → PutTellsFull p block shelf full q
-put-full p b q block shelf told full is since stepped calling =
-    let call : Call = put block.place block.need shelf in
-    let r : Reply = reply.Full full.found in
-    let end : Ending = ending.Full full.block full.found in
-    let s : HasStepped b q (step.Done end) = subst (HasStepped b q) is stepped in
+-- the same block is back, and still the pass's; and another one lies on the shelf
+pub full-tells :
+    (p b q : Pass) (place : ℕ) (need : Need) (shelf steps : ℕ) (told : Step) (block : Block) (found : ℕ) → told ≡ step.Done (ending.Full block found)
+    → HasStepped b q told → IsCalling p (put place need shelf) steps b
+    → (block.place ≡ place) × (block.need ≡ need) × Owns q block × LiesOn q shelf found × (found ≢ 0)
+full-tells p b q place need shelf steps told block found is stepped calling =
+    let r : Reply = reply.Full found in
+    let s : HasStepped b q (step.Done (ending.Full block found)) = subst (HasStepped b q) is stepped in
     let says = moment-meant b.errand q.errand (seen b) (seen q) (progress.Done r) s.moment r refl in
-    let at = stands-there p call 0 b q (progress.Done r) s.moment (large.PutBlock says.0 says.1 says.2) says.3 calling in
-    let offer : Offer = record { place = block.place; need = block.need } in
-    let back : Offer = record { place = full.block.place; need = full.block.need } in
+    let at = stands-there p (put place need shelf) steps b q (progress.Done r) s.moment (large.PutBlock says.0 says.1 says.2) says.3 calling in
+    let offer : Offer = record { place = place; need = need } in
+    let back : Offer = record { place = block.place; need = block.need } in
     let same : back ≡ offer =
     let both : Some back ≡ Some offer =
-    sym s.back ∙ put-offers p.errand.caller block.place block.need shelf b.errand.point calling.added calling.under_way in cc in
-    let whole : full.block ≡ block = block-same full.block block (ap (λ (o : Offer). o.place) same) (ap (λ (o : Offer). o.need) same) in
+    sym s.back ∙ put-offers p.errand.caller place need shelf b.errand.point calling.added calling.under_way in cc in
     let owned = moment-owns b.errand q.errand (seen b) (seen q) (progress.Done r) s.moment says.1 says.2 says.4 in
-    let mine : Owns q block =
-    subst (λ n. OwnsAfter (seen q) q.errand.caller block.place n) at.1 (subst (λ k. OwnsAfter (seen q) q.errand.caller k says.2) at.0 owned) in
-    let holds = says.5 in
-    record {
-      called = ends-one p call 0 b q told end is stepped calling;
-      same = whole;
-      owned = subst (Owns q) (sym whole) mine;
-      lies = (
+    let place_is : block.place ≡ place = ap (λ (o : Offer). o.place) same in
+    let need_is : block.need ≡ need = ap (λ (o : Offer). o.need) same in
+    let O : ℕ → Need → Type 0 = λ k n. OwnsAfter (seen q) q.errand.caller k n in
+    let mine : O place need = subst (O place) at.1 (subst (λ k. O k says.2) at.0 owned) in
+    let holds = says.5 in (
+      place_is,
+      need_is,
+      subst (O block.place) (sym need_is) (subst (λ k. O k need) (sym place_is) mine),
+      (
         holds.0,
         subst (λ h. block_at holds.0.place (pool_of h) ≡ Some holds.0) s.moment.now holds.1,
         holds.2 ∙ ap Shelf at.2,
         holds.3,
-      );
-      not_empty = full-found p b q block.place block.need shelf told full.block full.found is since stepped;
+      ),
+      full-found b q says.1 says.2 says.0 says.3.0 told block found is (sym (ap (λ (e : ErrandFields). e.point) s.moment.here) ∙ says.3.1) stepped,
+    )
+
+pub put-full :
+    (p b q : Pass) (block : Block) (shelf : ℕ) (told : Step) (full : Full) → told ≡ step.Done (ending.Full full.block full.found)
+    → HasStepped b q told → IsCalling p (put block.place block.need shelf) 0 b → PutTellsFull p block shelf full q
+put-full p b q block shelf told full is stepped calling =
+    let tells = full-tells p b q block.place block.need shelf 0 told full.block full.found is stepped calling in
+    record {
+      called = ends-one p (put block.place block.need shelf) 0 b q told (ending.Full full.block full.found) is stepped calling;
+      same = block-same full.block block tells.0 tells.1;
+      owned = tells.2;
+      lies = tells.3;
+      not_empty = tells.4;
     }
 
 -- the first step of a take leads on
@@ -333,7 +344,7 @@ shelf-answers e shelf None = refl
 shelf-answers e shelf (Some lies.Nothing) = refl
 shelf-answers e shelf (Some (lies.Block place need)) = refl
 
-shelf-loads :
+pub shelf-loads :
     (e : ErrandFields) (shelf : ℕ) (x : Find) → e.point ≡ point.Large (large.LoadShelf shelf) Nothing → answer_of e x ≡ progress.More
 unfolding answer_of course_of next_of plan_point_of
 shelf-loads e shelf x at =
@@ -376,6 +387,20 @@ load-left : (g : Geometry) (shelf : ℕ) → steps_left g (point.Large (large.Lo
 unfolding steps_left
 load-left g shelf = refl
 
+-- behind the first step one is left
+pub second-stands :
+    (caller shelf : ℕ) (before e f : ErrandFields) (was now added : List Event) (answer : Progress) → e ≡ begun_by before (take shelf)
+    → IsMoment e f was now answer → IsUnderWay caller (take shelf) f.point added → IsAtTake shelf f.point
+unfolding take_begun
+second-stands caller shelf before e f was now added answer begun m way =
+    let s = settled-of e f was now answer m in
+    let at : e.point ≡ point.Large (large.LoadShelf shelf) Nothing = ap (λ (d : ErrandFields). d.point) begun in
+    let more : answer ≡ progress.More = s.answers ∙ shelf-loads e shelf s.x at in
+    let g = e.geometry in
+    let fewer = (goes-further e f was now (subst (IsMoment e f was now) more m)).fewer in
+    let two : steps_left g e.point ≡ 2 = ap (steps_left g) at ∙ load-left g shelf in
+    stands-take g caller shelf f.point added way (omega (arith, fewer, two))
+
 -- behind the first step
 pub take-goes_on :
     (p b a : Pass) (shelf : ℕ) (told : Step) → HasBegun p (take shelf) b → HasStepped b a told → IsCalling p (take shelf) 0 b
@@ -384,10 +409,7 @@ take-goes_on p b a shelf told since stepped calling =
     let more = first-more p b a shelf told since stepped in
     let m = step-moment b a told step.More more stepped in
     let on = calls-go_on p (take shelf) 0 b a progress.More m stepped.accesses calling more-undone in
-    let g = b.errand.geometry in
-    let fewer = (goes-further b.errand a.errand (seen b) (seen a) m).fewer in
-    let two : steps_left g b.errand.point ≡ 2 = ap (steps_left g) (take-point p b shelf since) ∙ load-left g shelf in
-    (on, stands-take g p.errand.caller shelf a.errand.point on.added on.under_way (omega (arith, fewer, two)))
+    (on, second-stands p.errand.caller shelf p.errand b.errand a.errand (seen b) (seen a) on.added progress.More since.errand m on.under_way)
 
 -- how a take has ended
 pub take-told :
@@ -462,19 +484,19 @@ none-quiet : (shelf : ℕ) (o : Continuation) (x : Find) → x.won ≡ false →
 unfolding plan_point_of
 none-quiet shelf o x lost = record { won = rw lost refl; lost = ap not lost; cleared = refl }
 
-first-errand :
-    (p b a : Pass) (shelf : ℕ) (told : Step) → HasBegun p (take shelf) b → HasStepped b a told
-    → (at : Point) × (a.errand ≡ record p.errand { point = at })
+-- the first step of a take moves its errand on, and counts nothing
+pub first-errand :
+    (before e f : ErrandFields) (shelf : ℕ) (x : Find) → e ≡ begun_by before (take shelf) → f ≡ settle_of e x
+    → (at : Point) × (f ≡ record before { point = at })
 unfolding take_begun
-first-errand p b a shelf told since stepped =
-    let s = stepped-settled b a told stepped in
-    let at = take-point p b shelf since in
-    let leads = load-leads shelf s.x in
-    let quiet = subst (λ q. IsQuiet q s.x false) (sym at) (load-quiet shelf s.x) in (
+first-errand before e f shelf x begun settled =
+    let at : e.point ≡ point.Large (large.LoadShelf shelf) Nothing = ap (λ (d : ErrandFields). d.point) begun in
+    let leads = load-leads shelf x in
+    let quiet = subst (λ q. IsQuiet q x false) (sym at) (load-quiet shelf x) in (
       leads.0,
-      s.settled
-          ∙ (at-settles b.errand s.x leads.0 (ap (λ q. next_of q s.x) at ∙ leads.1) quiet.won quiet.lost quiet.cleared
-          ∙ ap (λ (e : ErrandFields). record e { point = leads.0 }) since.errand),
+      settled
+          ∙ (at-settles e x leads.0 (ap (λ q. next_of q x) at ∙ leads.1) quiet.won quiet.lost quiet.cleared
+          ∙ ap (λ (d : ErrandFields). record d { point = leads.0 }) begun),
     )
 
 -- a step that misses loses
@@ -520,6 +542,17 @@ second-errand a q shelf told expected found is (inr (o, at)) stepped =
           (none-lost shelf o s.x lost) (none-quiet shelf o s.x lost)
     ]
 
+-- a take that misses has lost one exchange more than before, and its errand is the same in all else
+pub missed-lost :
+    (before e : ErrandFields) (a q : Pass) (shelf : ℕ) (x : Find) (told : Step) (expected found : ℕ)
+    → told ≡ step.Done (ending.Missed expected found) → IsIdle before → e ≡ begun_by before (take shelf) → a.errand ≡ settle_of e x
+    → IsAtTake shelf a.errand.point → HasStepped a q told → q.errand ≡ with_lost before
+missed-lost before e a q shelf x told expected found is idle begun settled at stepped =
+    let moved = first-errand before e a.errand shelf x begun settled in
+    second-errand a q shelf told expected found is at stepped
+    ∙ (ap (λ (d : ErrandFields). record d { point = point.Idle; lost = one_more d.lost }) moved.1
+    ∙ ap (λ (k : Point). record before { point = k; lost = one_more before.lost }) (sym (idle-is before.point idle)))
+
 -- a take that misses leaves everything but the count of lost exchanges
 pub take-missed :
     (p b a q : Pass) (shelf : ℕ) (first told : Step) (expected found : ℕ) → told ≡ step.Done (ending.Missed expected found)
@@ -529,9 +562,5 @@ take-missed p b a q shelf first told expected found is idle since one at two =
     let r : Reply = reply.Missed expected found in
     let m = step-moment a q told (step.Done (ending.Missed expected found)) is two in
     let says = moment-meant a.errand q.errand (seen a) (seen q) (progress.Done r) m r refl in
-    let begun = first-errand p b a shelf first since one in (
-      says.2,
-      second-errand a q shelf told expected found is at two
-          ∙ (ap (λ (e : ErrandFields). record e { point = point.Idle; lost = one_more e.lost }) begun.1
-          ∙ ap (λ (x : Point). record p.errand { point = x; lost = one_more p.errand.lost }) (sym (idle-is p.errand.point idle))),
-    )
+    let s = stepped-settled b a first one in
+    (says.2, missed-lost p.errand b.errand a q shelf s.x told expected found is idle since.errand s.settled at two)

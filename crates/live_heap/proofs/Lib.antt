@@ -27,6 +27,7 @@ pub mod Owned
 pub mod RefusedPoints
 pub mod RefusedSteps
 pub mod Seats
+pub mod StepByStep
 pub mod Stepped
 pub mod Straight
 pub mod Told

@@ -11,6 +11,7 @@ pub mod Refusals
 pub mod Rule
 pub mod SeenSteps
 pub mod Sights
+pub mod Steps
 pub mod Views
 pub mod Whole
 pub mod Words

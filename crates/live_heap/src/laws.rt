@@ -1,6 +1,7 @@
 //! Laws of the heap: theorems about the definitions, on functions that do nothing.
 
 pub mod blocks;
+pub mod by_steps;
 
 ghost use Rattle.std.specs.Prelude.{ℕ, ◌≡◌, ◌≢◌, ◌<◌, ◌≤◌, ◌+◌, ◌-◌, ◌*◌, ◌^◌, List, ◌++◌, Some, length, count_by};
 ghost use Rattle.heap_geometry.specs.declared.need.Need.{Need};

@@ -42,5 +42,5 @@ returns c =
       called = w.called;
       owned = c.requires.owned;
       of = w.of;
-      contents = read-contents p (in_call p call) q place need c.args.i word (step.Done (ending.Word word)) refl w.stepped w.calling;
+      contents = read-contents p (in_call p call) q place need c.args.i word 0 (step.Done (ending.Word word)) refl w.stepped w.calling;
     }

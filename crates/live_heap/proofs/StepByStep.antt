@@ -1,0 +1,153 @@
+-- A call that is made step by step is the whole call.
+use Rattle.std.proofs.Common.{ℕ, zero, suc, ◌≡◌, ◌≢◌, inl, inr, refl, sym, ap, ◌∙◌, subst, arith}
+use Rattle.std.proofs.lemmas.Bool.{cases_Bool}
+use Rattle.heap_geometry.specs.declared.need.Need.{Need}
+use Rattle.word_plan.specs.declared.action.Found.{Found as Find}
+use Rattle.large_parts.specs.declared.point.LargePoint.TheVariants as large
+use Rattle.errand_steps.specs.declared.continuation.Continuation.{Continuation}
+use Rattle.errand_steps.specs.declared.continuation.Continuation.TheVariants.{Nothing}
+use Rattle.errand_steps.specs.declared.next.Next.TheVariants as next
+use Rattle.errand_steps.specs.declared.point.Point.{Point}
+use Rattle.errand_steps.specs.declared.point.Point.TheVariants as point
+use Rattle.errand_steps.specs.declared.reply.Progress.TheVariants as progress
+use Rattle.errand_steps.specs.declared.reply.Reply.{Reply}
+use Rattle.errand_steps.specs.declared.reply.Reply.TheVariants as reply
+use Rattle.errand_steps.specs.Begins.{IsIdle, put_begun, read_begun, take_begun, write_begun}
+use Rattle.errand_steps.specs.Calls.{Call, alloc, begun_by, free, write, read, put, take}
+use Rattle.errand_steps.specs.Errands.{ErrandFields}
+use Rattle.errand_steps.specs.Nexts.{next_of}
+use Rattle.live_heap.specs.declared.answers.Ending.{Ending}
+use Rattle.live_heap.specs.declared.answers.Ending.TheVariants as ending
+use Rattle.live_heap.specs.declared.answers.Step.{Step}
+use Rattle.live_heap.specs.declared.answers.Step.TheVariants as step
+use Rattle.live_heap.specs.declared.heap.Heap.{Heap}
+use Rattle.live_heap.specs.declared.pass.Pass.{Pass}
+use Rattle.live_heap.specs.Answers.{HasBegun, HasStepped, progress_of, reply_of, with_lost}
+use Rattle.live_heap.specs.Calls.{HasCalled, IsCalling}
+use Rattle.live_heap.specs.Passes.{IsOf, seen}
+use Rattle.live_heap.specs.Steps.{EndTells, HasStarted, IsDone, IsLastStep}
+use Rattle.live_heap.specs.Whole.{OwnsFor}
+use Rattle.live_heap.proofs.Begun.{heap-at}
+use Rattle.live_heap.proofs.CallsAnswers.{given-owns, got-owns, spent-limit}
+use Rattle.live_heap.proofs.CallsGrow.{alloc-calling, calls-go_on, other-calling, settled-of}
+use Rattle.live_heap.proofs.CallsOne.{end-answers, ends-one, full-tells, load-ends, missed-lost, put-lost, put-won, read-contents, second-stands, shelf-loads, store-ends, take-told, told-done, told-more}
+use Rattle.live_heap.proofs.Told.{moment-meant}
+
+-- a call on a block that the pass owns is under way behind its begin
+pub begun-calling :
+    (h : Heap) (p q : Pass) (call : Call) → IsOf h p → IsIdle p.errand → OwnsFor p call → HasStarted p call → HasBegun p call q → IsCalling p call 0 q
+begun-calling h p q (alloc words) of idle owns started since = alloc-calling p q words since idle started
+begun-calling h p q (free place need) of idle owns started since =
+    other-calling p q (free place need) since idle (heap-at h p place need of owns) (λ words is. cc)
+begun-calling h p q (write place need i v) of idle owns started since =
+    other-calling p q (write place need i v) since idle (heap-at h p place need of owns) (λ words is. cc)
+begun-calling h p q (read place need i) of idle owns started since =
+    other-calling p q (read place need i) since idle (heap-at h p place need of owns) (λ words is. cc)
+begun-calling h p q (put place need shelf) of idle owns started since =
+    other-calling p q (put place need shelf) since idle (heap-at h p place need of owns) (λ words is. cc)
+begun-calling h p q (take shelf) of idle owns started since = other-calling p q (take shelf) since idle tt (λ words is. cc)
+
+-- it goes on behind each step that doesn't end it
+not-done : (told : Step) → ¬ IsDone told → (r : Reply) → progress_of told ≢ progress.Done r
+not-done told undone r is = let d = told-done told r is in undone (d.0, d.1)
+
+pub steps-on :
+    (first : Pass) (call : Call) (steps : ℕ) (p q : Pass) (told : Step) → IsCalling first call steps p → HasStepped p q told → ¬ IsDone told
+    → IsCalling first call (suc steps) q
+steps-on first call steps p q told calling stepped undone =
+    calls-go_on first call steps p q (progress_of told) stepped.moment calling (not-done told undone)
+
+pub steps-end :
+    (first : Pass) (call : Call) (steps : ℕ) (p q : Pass) (end : Ending) → IsCalling first call steps p → HasStepped p q (step.Done end)
+    → HasCalled first call steps (reply_of end) q
+steps-end first call steps p q end calling stepped = ends-one first call steps p q (step.Done end) end refl stepped calling
+
+-- what else the ending tells
+missed-differ :
+    (p q : Pass) (expected found : ℕ) → HasStepped p q (step.Done (ending.Missed expected found)) → expected ≢ found
+missed-differ p q expected found stepped =
+    (moment-meant p.errand q.errand (seen p) (seen q) (progress.Done (reply.Missed expected found)) stepped.moment (reply.Missed expected found) refl).2
+
+pub steps-tell :
+    (first : Pass) (call : Call) (steps : ℕ) (p q : Pass) (end : Ending) → IsCalling first call steps p → HasStepped p q (step.Done end)
+    → EndTells call end q
+steps-tell first call steps p q (ending.Given block) calling stepped =
+    given-owns first call steps q block (steps-end first call steps p q (ending.Given block) calling stepped)
+steps-tell first call steps p q ending.Spent calling stepped =
+    spent-limit first call steps q (steps-end first call steps p q ending.Spent calling stepped)
+steps-tell first (read place need i) steps p q (ending.Word word) calling stepped =
+    read-contents first p q place need i word steps (step.Done (ending.Word word)) refl stepped calling
+steps-tell first (put place need shelf) steps p q (ending.Full block found) calling stepped =
+    full-tells first p q place need shelf steps (step.Done (ending.Full block found)) block found refl stepped calling
+steps-tell first call steps p q (ending.Got block) calling stepped =
+    got-owns first call steps q block (steps-end first call steps p q (ending.Got block) calling stepped)
+steps-tell first call steps p q (ending.Missed expected found) calling stepped = missed-differ p q expected found stepped
+steps-tell first call steps p q end calling stepped = tt
+
+-- a point from which each step ends the call
+abbrev EndsNext : Point → Type 0
+EndsNext p = (x : Find) → (r : Reply) × (next_of p x ≡ next.End r)
+
+put-next : (shelf place : ℕ) (need : Need) (o : Continuation) → EndsNext (point.Large (large.PutBlock shelf place need) o)
+put-next shelf place need o x =
+    elim (cases_Bool x.won) [
+      | inl won ↦ (reply.Put, put-won shelf place need o x won)
+      | inr lost ↦ (reply.Full x.value, put-lost shelf place need o x lost)
+    ]
+
+next-done : (p q : Pass) (told : Step) → EndsNext p.errand.point → HasStepped p q told → IsDone told
+next-done p q told ends stepped =
+    let s = settled-of p.errand q.errand (seen p) (seen q) (progress_of told) stepped.moment in
+    let end = ends s.x in
+    let d = told-done told end.0 (s.answers ∙ end-answers p.errand s.x p.errand.point end.0 refl end.1) in
+    (d.0, d.1)
+
+-- a write, a read and a put end with their first step, and a take with its second
+first-point : (first p : Pass) (call : Call) → IsCalling first call 0 p → p.errand.point ≡ (begun_by first.errand call).point
+first-point first p call calling = ap (λ (e : ErrandFields). e.point) calling.on.0
+
+take-second : (first p q : Pass) (shelf : ℕ) (told : Step) → IsCalling first (take shelf) 1 p → HasStepped p q told → IsDone told
+take-second first p q shelf told calling stepped =
+    let on = calling.on in
+    let at =
+    second-stands first.errand.caller shelf first.errand on.0 p.errand on.1 (seen p) calling.added on.2 on.3.0 on.4 calling.under_way in
+    elim (take-told p q shelf told at stepped) [
+      | inl (block, is) ↦ (ending.Got block, is)
+      | inr rest ↦
+          elim rest [ inl is ↦ (ending.Empty, is) | inr (expected, found, is) ↦ (ending.Missed expected found, is) ]
+    ]
+
+pub last-done :
+    (first : Pass) (call : Call) (steps : ℕ) (p q : Pass) (told : Step) → IsCalling first call steps p → IsLastStep call steps → HasStepped p q told
+    → IsDone told
+unfolding write_begun read_begun put_begun
+last-done first (write place need i v) zero p q told calling last stepped =
+    next-done p q told (subst EndsNext (sym (first-point first p (write place need i v) calling)) (λ x. (reply.Wrote, store-ends place i v Nothing x))) stepped
+last-done first (read place need i) zero p q told calling last stepped =
+    next-done p q told (subst EndsNext (sym (first-point first p (read place need i) calling)) (λ x. (reply.Word x.value, load-ends place i Nothing x)))
+    stepped
+last-done first (put place need shelf) zero p q told calling last stepped =
+    next-done p q told (subst EndsNext (sym (first-point first p (put place need shelf) calling)) (put-next shelf place need Nothing)) stepped
+last-done first (write place need i v) (suc steps) p q told calling last stepped = absurd (omega (arith, last))
+last-done first (read place need i) (suc steps) p q told calling last stepped = absurd (omega (arith, last))
+last-done first (put place need shelf) (suc steps) p q told calling last stepped = absurd (omega (arith, last))
+last-done first (take shelf) steps p q told calling last stepped =
+    take-second first p q shelf told (subst (λ n. IsCalling first (take shelf) n p) last calling) stepped
+last-done first call steps p q told calling last stepped = absurd last
+
+pub take-first : (first p q : Pass) (shelf : ℕ) (told : Step) → IsCalling first (take shelf) 0 p → HasStepped p q told → told ≡ step.More
+unfolding take_begun
+take-first first p q shelf told calling stepped =
+    let s = settled-of p.errand q.errand (seen p) (seen q) (progress_of told) stepped.moment in
+    told-more told (s.answers ∙ shelf-loads p.errand shelf s.x (first-point first p (take shelf) calling))
+
+-- a take that misses has lost an exchange, and nothing else has changed
+pub take-loses :
+    (first p q : Pass) (shelf expected found : ℕ) → IsIdle first.errand → IsCalling first (take shelf) 1 p
+    → HasStepped p q (step.Done (ending.Missed expected found)) → q.errand ≡ with_lost first.errand
+take-loses first p q shelf expected found idle calling stepped =
+    let on = calling.on in
+    let one = settled-of on.0 p.errand on.1 (seen p) on.2 on.4 in
+    let at =
+    second-stands first.errand.caller shelf first.errand on.0 p.errand on.1 (seen p) calling.added on.2 on.3.0 on.4 calling.under_way in
+    missed-lost first.errand on.0 p q shelf one.x (step.Done (ending.Missed expected found)) expected found refl idle on.3.0 one.settled at stepped

@@ -1,0 +1,35 @@
+//! The law of calls that are made step by step.
+
+ghost use Rattle.std.specs.Prelude.{ℕ, suc, ◌≡◌};
+ghost use Rattle.errand_steps.specs.Begins.{IsIdle};
+ghost use Rattle.errand_steps.specs.Calls.{Call, take};
+ghost use Rattle.live_heap.specs.declared.answers.Ending.{Ending};
+ghost use Rattle.live_heap.specs.declared.answers.Ending.TheVariants as ending;
+ghost use Rattle.live_heap.specs.declared.answers.Step.{Step};
+ghost use Rattle.live_heap.specs.declared.answers.Step.TheVariants as step;
+ghost use Rattle.live_heap.specs.declared.heap.Heap.{Heap};
+ghost use Rattle.live_heap.specs.declared.pass.Pass.{Pass};
+ghost use Rattle.live_heap.specs.Answers.{HasBegun, HasStepped, reply_of, with_lost};
+ghost use Rattle.live_heap.specs.Calls.{HasCalled, IsCalling};
+ghost use Rattle.live_heap.specs.Passes.{IsOf};
+ghost use Rattle.live_heap.specs.Steps.{EndTells, HasStarted, IsDone, IsLastStep};
+ghost use Rattle.live_heap.specs.Whole.{OwnsFor};
+
+/// A call that is made step by step is a call, and says what the whole call says: it begins; each step that
+/// doesn't end it goes on with it, and so it may be resumed; and the one that does ends it. A write, a read
+/// and a put end with their first step, a take with its second; one that misses has lost one exchange more.
+pub fn calls_go_step_by_step()
+    ensures begins { (h : Heap) (p q : Pass) (call : Call) → IsOf h p → IsIdle p.errand → OwnsFor p call → HasStarted p call
+        → HasBegun p call q → IsCalling p call 0 q }
+    ensures goes_on { (first : Pass) (call : Call) (steps : ℕ) (p q : Pass) (told : Step) → IsCalling first call steps p
+        → HasStepped p q told → ¬ IsDone told → IsCalling first call (suc steps) q }
+    ensures ends { (first : Pass) (call : Call) (steps : ℕ) (p q : Pass) (end : Ending) → IsCalling first call steps p
+        → HasStepped p q (step.Done end) → HasCalled first call steps (reply_of end) q }
+    ensures tells { (first : Pass) (call : Call) (steps : ℕ) (p q : Pass) (end : Ending) → IsCalling first call steps p
+        → HasStepped p q (step.Done end) → EndTells call end q }
+    ensures last { (first : Pass) (call : Call) (steps : ℕ) (p q : Pass) (told : Step) → IsCalling first call steps p
+        → IsLastStep call steps → HasStepped p q told → IsDone told }
+    ensures take { (first p q : Pass) (shelf : ℕ) (told : Step) → IsCalling first (take shelf) 0 p → HasStepped p q told → told ≡ step.More }
+    ensures missed { (first p q : Pass) (shelf expected found : ℕ) → IsIdle first.errand → IsCalling first (take shelf) 1 p
+        → HasStepped p q (step.Done (ending.Missed expected found)) → q.errand ≡ with_lost first.errand }
+{}
