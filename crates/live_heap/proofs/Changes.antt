@@ -31,6 +31,7 @@ use Rattle.live_heap.specs.Calls.{HasCalled, IsCalling}
 use Rattle.live_heap.specs.Contents.{HasChanged, HasChangedSoFar, HasGot, HasPut, IsGiven, OwnsBut, OwnsSame, owned_after, owned_in, tells_last}
 use Rattle.live_heap.specs.Endings.{ClosedFields, HasTakenIn, IsResting}
 use Rattle.live_heap.specs.Passes.{IsOf, seen}
+use Rattle.live_heap.specs.Whole.{IsWhole, at_once, by_steps}
 use Rattle.live_heap.proofs.Growing.{own-kept, rest-none}
 use Rattle.live_heap.proofs.Last.{called-last, last-same}
 use Rattle.live_heap.proofs.LawsClosed.{closed-legal}
@@ -270,6 +271,14 @@ pub calling-changes :
 calling-changes h p q call steps of calling =
     so_far-changes h.layout p q calling.added (legal-weaker h.layout (seen q) of.served.legal) calling.caller (calling-adds p q call steps calling)
     call (stage_of q.errand.point) calling.under_way
+
+-- and behind a whole call, however often it was interrupted
+pub whole-changes :
+    (h k : Heap) (p q : Pass) (call : Call) (answer : Reply) → IsWhole h p call answer k q → HasChanged p call answer q
+whole-changes h k p q call answer (by_steps made, may, same, is) = called-changes k p q call made.0 answer is.0 made.1
+whole-changes h k p q call answer (at_once words is_alloc spent once, may, same, is) =
+    let stays : OwnsSame p q = λ place. ap (λ (r : Pass). owned_in r place) once.same in
+    subst (λ (c : Call). HasChanged p c answer q) (sym is_alloc) (subst (λ (a : Reply). HasChanged p (alloc words) a q) (sym spent) stays)
 
 -- a closed heap has what each pass owned, and nothing else of its caller's
 pub closed-owned :

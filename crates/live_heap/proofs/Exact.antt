@@ -22,6 +22,7 @@ use Rattle.live_heap.specs.Calls.{HasCalled, IsCalling}
 use Rattle.live_heap.specs.Contents.{HasChanged, HasChangedSoFar, HasGot, OwnsBut, OwnsSame, owned_in}
 use Rattle.live_heap.specs.Holdings.{ChangesHand, ChangesHandSoFar, Gains, HoldsExactly, Loses}
 use Rattle.live_heap.specs.Passes.{IsFresh, IsOf, Owns, seen}
+use Rattle.live_heap.specs.Whole.{IsWhole, at_once, by_steps}
 use Rattle.live_heap.proofs.CallsAnswers.{got-owns}
 use Rattle.live_heap.proofs.Changes.{called-changes, calling-changes}
 use Rattle.live_heap.proofs.Holding.{all-in, all-out, holds-all, holds-kept, holds-in, holds-out}
@@ -167,6 +168,16 @@ pub called-exact :
     → ChangesHand call answer had has → HoldsExactly p had → HoldsExactly q has
 called-exact h p q call steps answer had has of called =
     changed-exact p q call steps answer had has called (called-changes h p q call steps answer of called)
+
+pub whole-exact :
+    (h k : Heap) (p q : Pass) (call : Call) (answer : Reply) (had has : List Block) → IsWhole h p call answer k q → ChangesHand call answer had has
+    → HoldsExactly p had → HoldsExactly q has
+whole-exact h k p q call answer had has (by_steps made, may, same, is) hand held =
+    called-exact k p q call made.0 answer had has is.0 made.1 hand held
+whole-exact h k p q call answer had has (at_once words is_alloc spent once, may, same, is) hand held =
+    let same_hand : has ≡ had =
+    subst (λ (a : Reply). ChangesHand (alloc words) a had has) spent (subst (λ (c : Call). ChangesHand c answer had has) is_alloc hand) in
+    subst (HoldsExactly q) (sym same_hand) (subst (λ (r : Pass). HoldsExactly r had) (sym once.same) held)
 
 so_far-exact :
     (p q : Pass) (call : Call) (at : Stage) (added : List Event) (had has : List Block) → SoFar p.errand.caller call at added

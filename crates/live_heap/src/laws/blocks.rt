@@ -21,6 +21,7 @@ ghost use Rattle.live_heap.specs.Contents.{HasChanged, HasChangedSoFar, owned_af
 ghost use Rattle.live_heap.specs.Endings.{ClosedFields, HasTakenIn, IsResting};
 ghost use Rattle.live_heap.specs.Holdings.{ChangesHand, ChangesHandSoFar, HoldsExactly};
 ghost use Rattle.live_heap.specs.Passes.{IsFresh, IsOf, seen};
+ghost use Rattle.live_heap.specs.Whole.{IsWhole};
 
 /// What a pass has seen stays seen, and is what it sees first, behind each step and each call. Where a
 /// step has an event, that is the last one seen behind it; a write, a put, and a take that gets a block or
@@ -41,6 +42,7 @@ pub fn passes_see_more()
 pub fn calls_change_their_block()
     ensures called { (h : Heap) (p q : Pass) (call : Call) (steps : ℕ) (answer : Reply) → IsOf h q → HasCalled p call steps answer q
         → HasChanged p call answer q }
+    ensures whole { (h k : Heap) (p q : Pass) (call : Call) (answer : Reply) → IsWhole h p call answer k q → HasChanged p call answer q }
     ensures calling { (h : Heap) (p q : Pass) (call : Call) (steps : ℕ) → IsOf h q → IsCalling p call steps q
         → HasChangedSoFar p call (stage_of q.errand.point) q }
     ensures closed { (c : ClosedFields) (p : Pass) (place : ℕ) → IsResting c → HasTakenIn c p
@@ -53,6 +55,8 @@ pub fn passes_hold_exactly()
     ensures fresh { (h : Heap) (p : Pass) → IsFresh h p → HoldsExactly p [] }
     ensures called { (h : Heap) (p q : Pass) (call : Call) (steps : ℕ) (answer : Reply) (had has : List Block) → IsOf h q
         → HasCalled p call steps answer q → ChangesHand call answer had has → HoldsExactly p had → HoldsExactly q has }
+    ensures whole { (h k : Heap) (p q : Pass) (call : Call) (answer : Reply) (had has : List Block) → IsWhole h p call answer k q
+        → ChangesHand call answer had has → HoldsExactly p had → HoldsExactly q has }
     ensures calling { (h : Heap) (p q : Pass) (call : Call) (steps : ℕ) (had has : List Block) → IsOf h q → IsCalling p call steps q
         → ChangesHandSoFar call (stage_of q.errand.point) had has → HoldsExactly p had → HoldsExactly q has }
     ensures order { (p : Pass) (before after : List Block) (block : Block)

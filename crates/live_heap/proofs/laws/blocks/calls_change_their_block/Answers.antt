@@ -1,8 +1,11 @@
-use Rattle.live_heap.proofs.Changes.{called-changes, calling-changes, closed-owned}
+use Rattle.live_heap.proofs.Changes.{called-changes, calling-changes, closed-owned, whole-changes}
 use Rattle.live_heap.proofs.laws.blocks.calls_change_their_block.Goals as goal
 
 pub returns-clause-called : goal.returns-clause-called
 returns-clause-called c = called-changes
+
+pub returns-clause-whole : goal.returns-clause-whole
+returns-clause-whole c = whole-changes
 
 pub returns-clause-calling : goal.returns-clause-calling
 returns-clause-calling c = calling-changes

@@ -1,4 +1,4 @@
-use Rattle.live_heap.proofs.Exact.{called-exact, calling-exact, fresh-exact, order-exact}
+use Rattle.live_heap.proofs.Exact.{called-exact, calling-exact, fresh-exact, order-exact, whole-exact}
 use Rattle.live_heap.proofs.laws.blocks.passes_hold_exactly.Goals as goal
 
 pub returns-clause-fresh : goal.returns-clause-fresh
@@ -6,6 +6,9 @@ returns-clause-fresh c = fresh-exact
 
 pub returns-clause-called : goal.returns-clause-called
 returns-clause-called c = called-exact
+
+pub returns-clause-whole : goal.returns-clause-whole
+returns-clause-whole c = whole-exact
 
 pub returns-clause-calling : goal.returns-clause-calling
 returns-clause-calling c = calling-exact
