@@ -3,9 +3,9 @@ use Rattle.std.proofs.Common.{ℕ, suc, ◌≡◌, ◌<◌, ◌≤◌, ◌+◌, 
 use Rattle.std.specs.Prelude.{All, count_by, replicate}
 use Rattle.std.specs.declared.alloc.AllocError.{AllocError}
 use Rattle.std.specs.List.{AllByRecursion}
-use Rattle.std.proofs.lemmas.List.{append-nil, get_or-map, get_or-take, get_or_append_left, get_or_push, length-append, length-map, length-take-le, take_all}
+use Rattle.std.proofs.lemmas.List.{get_or-map, get_or-take, get_or_append_left, get_or_push, length-append, length-map, length-take-le, take_all}
 use Rattle.std.proofs.Math.ListN.{get_or-eq_default}
-use Rattle.std.proofs.lemmas.List.Elements.{All-head, All-tail}
+use Rattle.std.proofs.lemmas.List.Elements.{All-head, All-nil, All-tail, All-weaker}
 use Rattle.std.proofs.lemmas.Bool.{cases_Bool, cases_eq, cases_lt}
 use Rattle.heap_geometry.specs.declared.geometry.Geometry.{Geometry}
 use Rattle.word_plan.specs.declared.name.WordName.{WordName}
@@ -39,17 +39,16 @@ use Rattle.lane_steps.specs.declared.lane.LaneState.{LaneState}
 use Rattle.lane_steps.specs.declared.stage.Stage.TheVariants as stage
 use Rattle.lane_steps.specs.Begun.{calls_of}
 use Rattle.lane_steps.specs.Lanes.{IsLane}
-use Rattle.lane_runner.specs.Driven.{IsAtItsEnd, IsDriven, lost_by_all, steppers_of}
+use Rattle.lane_runner.specs.Driven.{IsAtItsEnd, IsDriven, IsDrivenSoFar, lost_by_all, mover_of}
 use Rattle.lane_runner.specs.Orders.{InOrder, OneByOne}
 use Rattle.lane_steps.specs.Paths.{Leads, begun_count}
-use Rattle.lane_runner.specs.Running.{HasEnded, HasPassed, HaveFinished, HaveFollowed, IsBelow, IsOnScriptOf, LanesRan, LanesStand, operations_in}
+use Rattle.lane_runner.specs.Running.{HasEnded, HasPassed, HaveFinished, HaveFollowed, HaveRunSo, IsBelow, IsOnScriptOf, LanesRan, LanesStand, operations_in}
 use Rattle.lane_steps.specs.Scripts.{IsOnScript, Scripts}
 use Rattle.lane_steps.specs.States.{AreNew, IsNew, StandsOn, progress_on}
-use Rattle.lane_steps.proofs.EndedLemmas.{lane-between, lane-fits, lane-new, script-new}
-use Rattle.lane_runner.proofs.OrderLemmas.{lanes-more}
-use Rattle.lane_runner.proofs.RunLanes.{contains-none, element_at}
-use Rattle.lane_runner.proofs.RunLemmas.{steppers-append}
-use Rattle.lane_steps.proofs.ScriptLemmas.{script-whole}
+use Rattle.lane_steps.proofs.EndedLemmas.{lane-between, lane-fits, lane-new, lane-start, script-new}
+use Rattle.lane_runner.proofs.RunLanes.{element_at}
+use Rattle.lane_runner.proofs.StopLemmas.{finished-so, order-none, runs-behind}
+use Rattle.lane_steps.proofs.ScriptLemmas.{empty, script-none, script-whole}
 
 -- moves of one machine after the other count their steps
 pub leads-counted :
@@ -160,10 +159,100 @@ new-passed passed lane none between op lt =
     ap (λ (results : List Outcome). begun_count results lane.stage) none ∙ ap (λ at. begun_count [] at) between in
     absurd (omega (arith, lt, zero_begun))
 
+-- a lane that stands on the machine of a trace stands by its rule there
+stands-there :
+    (trace : Trace) (c : CoreFields) (lane : ℕ) (state : LaneState Grip) → state.caller ≡ lane → StandsOn c (operations_in trace lane) state
+    → c.geometry ≡ trace.heap
+    → IsLane trace.heap lane c.events (errand_at c.errands lane) (operations_in trace lane) (progress_on state).registers state.outcomes.items
+    state.stage
+stands-there trace c lane state number stands heap =
+    let p = progress_on state in
+    let ops = operations_in trace lane in
+    subst (λ k. IsLane trace.heap k c.events (errand_at c.errands k) ops p.registers p.results p.at) number
+    (subst (λ g. IsLane g state.caller c.events (errand_at c.errands state.caller) ops p.registers p.results p.at) heap stands.stands.stands)
+
+-- lanes that have run since the opening, in order, are what a machine has been driven by so far
+below-mover : (count : ℕ) (move : Move) → IsBelow count move → mover_of move < count
+below-mover count (begins caller call) lt = lt
+below-mover count (steps caller) lt = lt
+
+pub so-far :
+    (passed : ℕ → ℕ → Type 0) (trace : Trace) (first last : CoreFields) (start lanes : List (LaneState Grip))
+    → IsOpened trace.heap (opening trace.heap) first → AreNew trace.lanes start
+    → HaveRunSo passed trace (InOrder trace.orders (length trace.lanes)) first last start lanes → IsDrivenSoFar trace trace.orders last
+so-far passed trace first last start lanes opened new so =
+    let ran = so.ran in
+    let begun : (lane : ℕ) (state : LaneState Grip) → lane < length start → state ≡ get_or start lane state → IsOnScriptOf (operations_in trace lane) state [] =
+    λ lane state lt there.
+    script-new (λ grip. grip.place) (λ grip. grip.need) lane (length (operations_in trace lane)) (operations_in trace lane) state
+    (new.each lane state lt there) in
+    record {
+      geometry = so.stand.heap;
+      opened = state_of first;
+      opens = opened-opens trace.heap first opened;
+      moves = ran.moves;
+      by_lanes =
+          All-weaker (IsBelow (length start)) (λ move. mover_of move < length trace.lanes)
+          (λ move below. subst (λ n. mover_of move < n) new.all (below-mover (length start) move below)) ran.moves ran.by_lanes;
+      drives = ran.drives [] begun;
+      counted = leads-counted first last ran.moves 0 opened.steps ran.leads ∙ ap (λ n. min n (2 ^ 64 - 1)) (zero-add (count_by is_step ran.moves));
+      order = so.made;
+      on_way = λ lane lt.
+          let now = element_at lanes lane (omega (arith, lt, so.stand.all)) in
+          let was = element_at start lane (omega (arith, lt, new.all)) in
+          let below : lane < length lanes = omega (arith, lt, so.stand.all) in
+          let before : lane < length start = omega (arith, lt, new.all) in
+          record {
+            registers = (progress_on now.0).registers;
+            results = (progress_on now.0).results;
+            at = (progress_on now.0).at;
+            script = ran.scripts lane was.0 now.0 [] before was.1 now.1 (begun lane was.0 before was.1);
+            rule =
+                stands-there trace last lane now.0 (so.stand.numbered lane now.0 below now.1) (so.stand.each lane now.0 below now.1) so.stand.heap;
+          };
+    }
+
+-- also where they stop behind the order runs
+pub stopped :
+    (passed : ℕ → ℕ → Type 0) (trace : Trace) (first mid last : CoreFields) (start middle lanes : List (LaneState Grip))
+    → IsOpened trace.heap (opening trace.heap) first → AreNew trace.lanes start → HaveFollowed passed trace trace.orders first mid start middle
+    → HaveRunSo passed trace (OneByOne 0 (length trace.lanes)) mid last middle lanes → IsDrivenSoFar trace trace.orders last
+stopped passed trace first mid last start middle lanes opened new follow so =
+    so-far passed trace first last start lanes opened new
+    (runs-behind passed trace first mid last start middle lanes (follow.stand.all ∙ sym new.all) follow so)
+
+-- no lane has begun
+pub so-none :
+    (trace : Trace) (first : CoreFields) → IsTrace trace → IsOpened trace.heap (opening trace.heap) first → IsDrivenSoFar trace trace.orders first
+so-none trace first is opened = record {
+  geometry = opened.geometry;
+  opened = state_of first;
+  opens = opened-opens trace.heap first opened;
+  moves = [];
+  by_lanes = All-nil (λ move. mover_of move < length trace.lanes);
+  drives = refl;
+  counted = opened.steps;
+  order = order-none trace.orders (length trace.lanes);
+  on_way = λ lane lt. record {
+    registers = empty;
+    results = [];
+    at = stage.Between;
+    script = script-none (operations_in trace lane) empty;
+    rule =
+        lane-start trace.heap lane first.events (errand_at first.errands lane) (operations_in trace lane) (ap (own lane) opened.events)
+        (subst IsIdle (sym (opened.errands lane (omega (arith, lt, is.callers, le-max (length trace.lanes))))) refl);
+  };
+}
+
 -- a lane at its end
 module _ (passed : ℕ → ℕ → Type 0) (trace : Trace) (first mid last : CoreFields) (start middle lanes : List (LaneState Grip)) (is : IsTrace trace) (opened : IsOpened trace.heap (opening trace.heap) first) (core : IsCore first) (new : AreNew trace.lanes start) (follow : HaveFollowed passed trace trace.orders first mid start middle) (finish : HaveFinished passed trace (length trace.lanes) mid last middle lanes) where
+  whole : HaveRunSo passed trace (InOrder trace.orders (length trace.lanes)) first last start lanes
+  whole =
+      runs-behind passed trace first mid last start middle lanes (follow.stand.all ∙ sym new.all) follow
+      (finished-so passed trace mid last middle lanes finish)
+
   ran : LanesRan passed trace first last start lanes
-  ran = lanes-more passed trace first mid last start middle lanes (follow.stand.all ∙ sym new.all) follow.ran finish.ran
+  ran = whole.ran
 
   -- a lane at its end stands so
   record AtEnd (lane : ℕ) : Type 0 where
@@ -205,17 +294,6 @@ module _ (passed : ℕ → ℕ → Type 0) (trace : Trace) (first mid last : Cor
       ap (λ (s : LaneState Grip). s.outcomes.items) e.there
       ∙ sym (get_or-map (λ (lane : LaneState Grip). lane.outcomes.items) lanes lane e.state [] below)
 
-  order : InOrder trace.orders (length trace.lanes) (steppers_of ran.moves)
-  unfolding ran lanes-more
-  order =
-      let left = steppers_of finish.ran.moves in
-      let turns : OneByOne 0 (length trace.lanes) left =
-      subst (λ n. OneByOne 0 n left) (omega arith)
-      (subst (OneByOne 0 (length trace.lanes + 0)) (append-nil left) (finish.order 0 [] (λ lane ended. contains-none lane) refl)) in
-      let whole = follow.order.goes_on [] (length trace.lanes) left (λ lane ended. (finish.ran.still lane ended).0) turns in
-      subst (InOrder trace.orders (length trace.lanes)) (sym (steppers-append follow.ran.moves finish.ran.moves))
-      (subst (λ runs. InOrder runs (length trace.lanes) (steppers_of follow.ran.moves ++ left)) (append-nil trace.orders) whole)
-
   scripts :
       (lane : ℕ) → lane < length trace.lanes
       → Scripts (replicate REGISTERS None) (get_or trace.lanes lane []) (get_or results lane []) (calls_of lane ran.moves)
@@ -230,16 +308,14 @@ module _ (passed : ℕ → ℕ → Type 0) (trace : Trace) (first mid last : Cor
   ended : (lane : ℕ) → lane < length trace.lanes → IsAtItsEnd trace.heap (get_or trace.lanes lane []) lane (state_of last) (get_or results lane [])
   ended lane lt =
       let e = at-end lane lt in
-      let p = progress_on e.state in
+      let registers = (progress_on e.state).registers in
       let ops = operations_in trace lane in
       record {
-        registers = p.registers;
+        registers = registers;
         rule =
-            subst (λ results. IsLane trace.heap lane last.events (errand_at last.errands lane) ops p.registers results stage.Between) (result-at lane lt)
-            (subst (λ at. IsLane trace.heap lane last.events (errand_at last.errands lane) ops p.registers p.results at) e.ended.between
-            (subst (λ k. IsLane trace.heap k last.events (errand_at last.errands k) ops p.registers p.results p.at) e.number
-            (subst (λ g. IsLane g e.state.caller last.events (errand_at last.errands e.state.caller) ops p.registers p.results p.at) finish.stand.heap
-            e.stands.stands.stands)));
+            subst (λ results. IsLane trace.heap lane last.events (errand_at last.errands lane) ops registers results stage.Between) (result-at lane lt)
+            (subst (IsLane trace.heap lane last.events (errand_at last.errands lane) ops registers e.state.outcomes.items) e.ended.between
+            (stands-there trace last lane e.state e.number e.stands finish.stand.heap));
       }
 
   idle : (caller : ℕ) → caller < trace.heap.callers → IsIdle (errand_at last.errands caller)
@@ -278,19 +354,9 @@ module _ (passed : ℕ → ℕ → Type 0) (trace : Trace) (first mid last : Cor
       finish.stand.heap fit))
 
   pub driven : IsDriven trace trace.orders last (map (λ (lane : LaneState Grip). lane.outcomes.items) lanes)
-  unfolding results
+  unfolding results ran so-far
   driven = record {
-    geometry = finish.stand.heap;
-    opened = state_of first;
-    opens = opened-opens trace.heap first opened;
-    moves = ran.moves;
-    drives =
-        ran.drives [] (λ lane state lt there.
-        script-new (λ grip. grip.place) (λ grip. grip.need) lane (length (operations_in trace lane)) (operations_in trace lane) state
-        (new.each lane state lt there));
-    counted =
-        leads-counted first last ran.moves 0 opened.steps ran.leads ∙ ap (λ n. min n (2 ^ 64 - 1)) (zero-add (count_by is_step ran.moves));
-    order = order;
+    so_far = so-far passed trace first last start lanes opened new whole;
     scripts = scripts;
     ended = ended;
     idle = idle;

@@ -11,3 +11,4 @@ pub mod WholeOps
 pub mod WholeWalks
 pub mod WholeLaws
 mod WholeScripts
+pub mod StopLemmas

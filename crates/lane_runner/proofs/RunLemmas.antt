@@ -117,18 +117,21 @@ first-idle c after caller moves leads idle = true≢false (sym idle ∙ leads.1.
 zero≢one : ◌≡◌ {A = ℕ} 0 1 → ⊥
 zero≢one is = omega (arith, is)
 
+none-made : (made : Bool) → ◌≡◌ {A = ℕ} 0 (if made then 1 else 0) → made ≡ false
+none-made false is = refl
+none-made true is = absurd (zero≢one is)
+
 -- nothing of its script is left
 ended-left : (operations : List Op) (lane : LaneState Grip) → HasEnded operations lane → script_left operations lane.outcomes.items lane.stage ≡ 0
 ended-left operations lane ended = omega (arith, ended.all)
 
--- a lane that has ended makes no step
-ended-makes_none :
+-- a lane that has ended makes no step, and stays so
+ended-stays :
     (c after : CoreFields) (operations : List Op) (old new : LaneState Grip) (made : Bool) → StandsOn c operations old
     → HasAdvanced c after old.caller operations (progress_on old)
     (progress_on new) made
-    → HasEnded operations old → made ≡ false
-ended-makes_none c after operations old new false stands advanced ended = refl
-ended-makes_none c after operations old new true stands advanced ended =
+    → HasEnded operations old → (made ≡ false) × HasEnded operations new
+ended-stays c after operations old new made stands advanced ended =
     let idle = between-idle c operations old stands ended.between in
     elim advanced.goes_on [
       | inl lt ↦ absurd (
@@ -143,16 +146,18 @@ ended-makes_none c after operations old new true stands advanced ended =
               (subst (λ moves. Leads c moves after) again.1 advanced.leads) idle
               )
         ]
-        | inr is ↦ absurd (let e = advanced.one_step in let f = ap (count_by is_step) is in zero≢one (sym f ∙ e))
+        | inr is ↦ (
+          let e = advanced.one_step in let f = ap (count_by is_step) is in none-made made (sym f ∙ e),
+          record { between = same.1 ∙ ended.between; all = ap length same.0 ∙ ended.all },
+        )
       ]
     ]
 
 -- an advance is a run of one step, or of none
 advanced-ran :
     (passed : ℕ → ℕ → Type 0) (c after : CoreFields) (operations : List Op) (old new : LaneState Grip) (made : Bool) → StandsOn c operations old
-    → AdvancesOn passed operations c after old new made → (made ≡ false → HasEnded operations new)
-    → HasRun passed c after operations old new (if made then 1 else 0)
-advanced-ran passed c after operations old new made stands goes ends = record {
+    → AdvancesOn passed operations c after old new made → HasRun passed c after operations old new (if made then 1 else 0)
+advanced-ran passed c after operations old new made stands goes = record {
   heap = goes.geometry;
   caller = goes.caller;
   moves = goes.advanced.moves;
@@ -163,8 +168,8 @@ advanced-ran passed c after operations old new made stands goes ends = record {
   stands = goes.stands;
   others = λ other has apart. goes.others other apart;
   still = λ ended.
-      let none = ended-makes_none c after operations old new made stands goes.advanced ended in
-      (ap (λ b. if b then 1 else 0) none, ends none);
+      let stays = ended-stays c after operations old new made stands goes.advanced ended in
+      (ap (λ b. if b then 1 else 0) stays.0, stays.1);
   gate = λ gone. subst (λ caller. FirstPassed passed caller (begun_count new.outcomes.items new.stage)) (sym goes.caller) (goes.gate gone);
 }
 
@@ -172,8 +177,7 @@ advanced-ran passed c after operations old new made stands goes ends = record {
 pub next-ran :
     (passed : ℕ → ℕ → Type 0) (first c after : CoreFields) (operations : List Op) (start old new : LaneState Grip) (made : ℕ) (one : Bool)
     → HasRun passed first c operations start old made → AdvancesOn passed operations c after old new one
-    → (one ≡ false → (new.stage ≡ stage.Between) × (length new.outcomes.items ≡ length operations))
     → HasRun passed first after operations start new (made + (if one then 1 else 0))
-next-ran passed first c after operations start old new made one before goes ends =
+next-ran passed first c after operations start old new made one before goes =
     ran-more passed first c after operations start old new made (if one then 1 else 0) before
-    (advanced-ran passed c after operations old new one before.stands goes (λ is. let e = ends is in record { between = e.0; all = e.1 }))
+    (advanced-ran passed c after operations old new one before.stands goes)

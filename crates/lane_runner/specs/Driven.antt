@@ -1,5 +1,5 @@
 -- The run of a trace on a machine, lane by lane as its order runs say.
-use Rattle.std.specs.Prelude.{ℕ, ◌≡◌, ◌≢◌, ◌<◌, ◌-◌, ◌^◌, List, [], ◌∷◌, ◌++◌, Option, min, count_by, length, replicate, None}
+use Rattle.std.specs.Prelude.{ℕ, ◌≡◌, ◌≢◌, ◌<◌, ◌-◌, ◌^◌, List, [], ◌∷◌, ◌++◌, Option, min, All, count_by, length, replicate, None}
 use Rattle.std.specs.List.{slice_index_or}
 use Rattle.trace_text.specs.declared.limits.TheConstants.{REGISTERS}
 use Rattle.trace_text.specs.declared.trace.Op.{Op}
@@ -64,18 +64,26 @@ pub record IsAtItsEnd (g : Geometry) (operations : List Op) (lane : ℕ) (s : St
   pub registers : List (Option Held)
   pub rule : IsLane g lane s.history (s.errand lane) operations registers results stage.Between
 
--- the machine is one on which the lanes ran from its opening on, in this order: its callers' moves led to it; each lane began the calls of its script and stands behind its last operation; and the outcomes fit
-pub record IsDriven (trace : Trace) (orders : List OrderRun) (c : CoreFields) (outcomes : List (List Outcome)) : Type 0 where
+-- lanes of a trace have run on this machine since its opening, in this order: moves of its lanes led to it, and each lane is on its way
+pub record IsDrivenSoFar (trace : Trace) (orders : List OrderRun) (c : CoreFields) : Type 0 where
   pub geometry : c.geometry ≡ trace.heap
   pub opened : State
   pub opens : IsOpening trace.heap (opening trace.heap) opened
   pub moves : List Move
+  pub by_lanes : All (λ move. mover_of move < length trace.lanes) moves
   pub drives : Drives trace.heap trace.lanes [] opened moves (state_of c)
   pub counted : c.steps ≡ min (count_by is_step moves) (2 ^ 64 - 1)
   pub order : InOrder orders (length trace.lanes) (steppers_of moves)
+  pub on_way :
+      (lane : ℕ) → lane < length trace.lanes
+      → IsOnItsWay trace.heap (slice_index_or trace.lanes lane []) lane (state_of c) (calls_of lane moves)
+
+-- they have run to their ends, with these outcomes: each lane began the calls of its script and stands behind its last operation; and the outcomes fit
+pub record IsDriven (trace : Trace) (orders : List OrderRun) (c : CoreFields) (outcomes : List (List Outcome)) : Type 0 where
+  pub so_far : IsDrivenSoFar trace orders c
   pub scripts :
       (lane : ℕ) → lane < length trace.lanes
-      → Scripts (replicate REGISTERS None) (slice_index_or trace.lanes lane []) (slice_index_or outcomes lane []) (calls_of lane moves)
+      → Scripts (replicate REGISTERS None) (slice_index_or trace.lanes lane []) (slice_index_or outcomes lane []) (calls_of lane so_far.moves)
   pub ended :
       (lane : ℕ) → lane < length trace.lanes
       → IsAtItsEnd trace.heap (slice_index_or trace.lanes lane []) lane (state_of c) (slice_index_or outcomes lane [])

@@ -1,13 +1,14 @@
 //! The lanes of a trace on one machine, in the order that the trace gives.
 
-ghost use Rattle.std.specs.Prelude.{ℕ, ◌≡◌, ◌<◌, ◌∷◌, [], IfOk, OnOk, map, length};
+ghost use Rattle.std.specs.Prelude.{ℕ, ◌≡◌, ◌<◌, ◌≤◌, ◌∷◌, List, [], IfOk, OnErr, OnOk, map, length};
 ghost use Rattle.std.specs.List.{All};
 ghost use Rattle.trace_text.specs.Traces.{IsTrace, IsOp, IsOrder};
 ghost use Rattle.errand_steps.specs.Openings.{opening};
 ghost use Rattle.step_core.specs.Openings.{IsOpened};
 ghost use Rattle.lane_outcomes.specs.Passed.{AllPassed};
-ghost use Rattle.lane_runner.specs.Driven.{IsDriven};
-ghost use Rattle.lane_runner.specs.Running.{HasRunOut, HasRunSome, HaveFinished, HaveFollowed, LanesStand, OneRanOut};
+ghost use Rattle.lane_runner.specs.Driven.{IsDriven, IsDrivenSoFar};
+ghost use Rattle.lane_runner.specs.Orders.{InOrder, OneByOne};
+ghost use Rattle.lane_runner.specs.Running.{HasRun, HasRunOut, HasRunSome, HaveFinished, HaveFollowed, HaveRunSo, LanesStand, OneRan, OneRanOut};
 ghost use Rattle.lane_steps.specs.States.{StandsOn};
 
 use crate::lanes::{lane_of, open_lanes};
@@ -30,6 +31,8 @@ fn run_some<G: Gate>(
     requires operations { All IsOp operations.now }
     requires stands { StandsOn core.old operations.now lane.old }
     ensures ran { OnOk result (HasRunSome (G.passed gate.now) core.old core.new operations.now lane.old lane.new steps) }
+    ensures stopped { OnErr result
+        ((made : ℕ) × HasRun (G.passed gate.now) core.old core.new operations.now lane.old lane.new made × (made ≤ steps)) }
     ensures geometry { core.new.geometry ≡ core.old.geometry }
 {
     for _step in 0..steps {
@@ -50,6 +53,8 @@ fn run_to_end<G: Gate>(
     requires operations { All IsOp operations.now }
     requires stands { StandsOn core.old operations.now lane.old }
     ensures ran { OnOk result (HasRunOut (G.passed gate.now) core.old core.new operations.now lane.old lane.new) }
+    ensures stopped { OnErr result
+        ((made : ℕ) × HasRun (G.passed gate.now) core.old core.new operations.now lane.old lane.new made) }
     ensures geometry { core.new.geometry ≡ core.old.geometry }
 {
     loop {
@@ -71,6 +76,9 @@ fn follow_run<G: Gate>(
     requires order { IsOrder trace.now.lanes run }
     requires stand { LanesStand trace.now core.old lanes.old.items }
     ensures ran { OnOk result (HaveFollowed (G.passed gate.now) trace.now (run ∷ []) core.old core.new lanes.old.items lanes.new.items) }
+    ensures stopped { OnErr result
+        (HaveRunSo (G.passed gate.now) trace.now (λ made. (later : List OrderRun) → InOrder (run ∷ later) (length trace.now.lanes) made)
+        core.old core.new lanes.old.items lanes.new.items) }
     ensures geometry { core.new.geometry ≡ core.old.geometry }
 {
     let lane = usize::from(run.lane);
@@ -93,6 +101,9 @@ fn follow_runs<G: Gate>(
     requires trace { IsTrace trace.now }
     requires stand { LanesStand trace.now core.old lanes.old.items }
     ensures ran { OnOk result (HaveFollowed (G.passed gate.now) trace.now trace.now.orders core.old core.new lanes.old.items lanes.new.items) }
+    ensures stopped { OnErr result
+        (HaveRunSo (G.passed gate.now) trace.now (InOrder trace.now.orders (length trace.now.lanes))
+        core.old core.new lanes.old.items lanes.new.items) }
     ensures geometry { core.new.geometry ≡ core.old.geometry }
 {
     for run in trace.orders.as_slice() {
@@ -113,6 +124,8 @@ fn finish_lane<G: Gate>(
     requires lane { lane < length trace.now.lanes }
     requires stand { LanesStand trace.now core.old lanes.old.items }
     ensures ran { OnOk result (OneRanOut (G.passed gate.now) trace.now core.old core.new lanes.old.items lanes.new.items lane) }
+    ensures stopped { OnErr result
+        ((made : ℕ) × OneRan (G.passed gate.now) trace.now core.old core.new lanes.old.items lanes.new.items lane made) }
     ensures geometry { core.new.geometry ≡ core.old.geometry }
 {
     run_to_end(gate, lane_of(trace, lane), &mut lanes[lane], core)
@@ -129,6 +142,8 @@ fn finish_lanes<G: Gate>(
     requires stand { LanesStand trace.now core.old lanes.old.items }
     ensures ran { OnOk result
         (HaveFinished (G.passed gate.now) trace.now (length trace.now.lanes) core.old core.new lanes.old.items lanes.new.items) }
+    ensures stopped { OnErr result
+        (HaveRunSo (G.passed gate.now) trace.now (OneByOne 0 (length trace.now.lanes)) core.old core.new lanes.old.items lanes.new.items) }
     ensures geometry { core.new.geometry ≡ core.old.geometry }
 {
     for lane in 0..trace.lanes.len() {
@@ -150,7 +165,8 @@ fn outcomes_of(alloc: Global, lanes: Vec<LaneState<Grip>>) -> Result<Vec<Vec<Out
 /// Runs the lanes of a trace to their ends on a machine that has made no step. The order runs come
 /// first: each advances its lane that many steps, or to the lane's end. Then each lane goes on to its
 /// end, lane 0 first. Each operation passes the gate before it begins. Takes time by the steps that are
-/// made, whatever numbers the order runs name.
+/// made, whatever numbers the order runs name. Where the machine finds no memory for a step, the lanes
+/// have run so far.
 pub fn run_core<G: Gate>(
     alloc: Global,
     gate: &G,
@@ -161,6 +177,7 @@ pub fn run_core<G: Gate>(
     requires opened { IsOpened trace.now.heap (opening trace.now.heap) core.old }
     ensures driven { IfOk result (λ outcomes. IsDriven trace.now trace.now.orders core.new (map (λ lane. lane.items) outcomes.items)) }
     ensures passed { OnOk result (AllPassed (G.passed gate.now) trace.now.lanes) }
+    ensures stopped { OnErr result (IsDrivenSoFar trace.now trace.now.orders core.new) }
     ensures geometry { core.new.geometry ≡ core.old.geometry }
 {
     let mut lanes = open_lanes(alloc, trace)?;

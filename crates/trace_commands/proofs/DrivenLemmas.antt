@@ -40,9 +40,9 @@ pub run-of :
     → IsRun passed trace (IsDrivenIn trace trace.orders) (Stepped core) outcomes
 run-of passed trace core outcomes is_core driven all_passed =
     record {
-      heap = driven.geometry;
+      heap = driven.so_far.geometry;
       fit = driven.fit;
-      legal = let P : Geometry → Type 0 = λ g. IsLegal g core.events in subst P driven.geometry (core-sound core is_core).legal;
+      legal = let P : Geometry → Type 0 = λ g. IsLegal g core.events in subst P driven.so_far.geometry (core-sound core is_core).legal;
       spent = λ lane lt told. driven-taken trace trace.orders core outcomes lane driven lt told;
       all_passed = all_passed;
       kept_so = driven;

@@ -1,6 +1,7 @@
-use Rattle.std.proofs.Common.{ℕ, ◌≡◌, length, sym, ◌∙◌, subst, arith}
+use Rattle.std.proofs.Common.{ℕ, ◌≡◌, ◌<◌, length, sym, ◌∙◌, subst, arith}
 use Rattle.lane_runner.specs.Running.{HaveFinished}
 use Rattle.lane_runner.proofs.OrderLemmas.{finished-none, finished-more}
+use Rattle.lane_runner.proofs.StopLemmas.{on-err, stopped-lane}
 use Rattle.lane_runner.proofs.run_core.finish_lanes.Goals as goal
 
 pub loop-lane-init : goal.loop-lane-init
@@ -23,3 +24,12 @@ returns-clause-ran g c =
     let P = λ (n : ℕ).
     HaveFinished (g.G.Gate.passed c.args.gate.now) c.args.trace.now n c.args.core.now c.loop-lane.core c.args.lanes.now.items c.loop-lane.lanes.items in
     subst P all c.loop-lane.invariant
+
+pub returns-in_err-finish_lane-clause-stopped : goal.returns-in_err-finish_lane-clause-stopped
+returns-in_err-finish_lane-clause-stopped g c =
+    let before = c.loop-lane.invariant in
+    let same : length c.loop-lane.lanes.items ≡ length c.args.lanes.now.items = before.stand.all ∙ sym c.requires.stand.all in
+    let lt : c.loop-lane.lane < length c.args.trace.now.lanes = omega (arith, c.loop-lane-test.true, c.len-lane-end.ensures) in
+    on-err c.from_residual.result _
+    (stopped-lane (g.G.Gate.passed c.args.gate.now) c.args.trace.now c.loop-lane.lane c.args.core.now c.loop-lane.core c.finish_lane.new.core
+    c.args.lanes.now.items c.loop-lane.lanes.items c.finish_lane.new.lanes.items same lt before c.in_err-finish_lane.ensures.stopped)

@@ -1,7 +1,8 @@
 use Rattle.std.proofs.Common.{sym, ◌<◌, arith}
-use Rattle.std.proofs.lemmas.Result.{on_ok_weaker}
+use Rattle.std.proofs.lemmas.Result.{on_err_weaker, on_ok_weaker}
 use Rattle.std.proofs.Common.{length}
 use Rattle.lane_runner.proofs.OrderLemmas.{followed-one}
+use Rattle.lane_runner.proofs.StopLemmas.{stopped-one}
 use Rattle.lane_runner.proofs.run_core.follow_run.Goals as goal
 
 pub returns-clause-ran : goal.returns-clause-ran
@@ -13,3 +14,13 @@ returns-clause-ran g c =
     c.lane_of.result.now c.index_mut.result.now c.run_some.new.lane c.requires.stand lt (sym c.from-lane.ensures) c.lane_of.ensures
     c.index_mut.ensures.value)
     c.run_some.ensures.ran
+
+pub returns-clause-stopped : goal.returns-clause-stopped
+returns-clause-stopped g c =
+    let lane = c.from-lane.result in
+    let lt : lane < length c.args.lanes.now.items = omega (arith, c.from-lane.ensures, c.requires.order.0, c.requires.stand.all) in
+    on_err_weaker c.run_some.result
+    (stopped-one (g.G.Gate.passed c.args.gate.now) c.args.trace.now c.args.core.now c.run_some.new.core c.args.lanes.now.items c.args.run lane
+    c.lane_of.result.now c.index_mut.result.now c.run_some.new.lane c.requires.stand lt (sym c.from-lane.ensures) c.lane_of.ensures
+    c.index_mut.ensures.value)
+    c.run_some.ensures.stopped

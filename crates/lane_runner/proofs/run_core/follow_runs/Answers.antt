@@ -1,9 +1,10 @@
-use Rattle.std.proofs.Common.{◌≡◌, List, [], ◌∷◌, length, get_or, take, sym, ◌∙◌, subst}
+use Rattle.std.proofs.Common.{◌≡◌, ◌+◌, List, [], ◌∷◌, ◌++◌, length, get_or, take, drop, sym, ap, ◌∙◌, subst, append_assoc}
 use Rattle.std.proofs.lemmas.Grind.{take_at_read}
-use Rattle.std.proofs.lemmas.List.{take_all}
+use Rattle.std.proofs.lemmas.List.{take-append-drop, take_all}
 use Rattle.trace_text.specs.declared.trace.OrderRun.{OrderRun}
 use Rattle.lane_runner.specs.Running.{HaveFollowed}
 use Rattle.lane_runner.proofs.OrderLemmas.{followed-none, followed-more}
+use Rattle.lane_runner.proofs.StopLemmas.{on-err, stopped-more}
 use Rattle.lane_runner.proofs.run_core.follow_runs.Goals as goal
 
 pub loop-run-init : goal.loop-run-init
@@ -35,3 +36,20 @@ returns-clause-ran g c =
     let P = λ (done : List OrderRun).
     HaveFollowed passed c.args.trace.now done c.args.core.now c.loop-run.core c.args.lanes.now.items c.loop-run.lanes.items in
     subst P (take_all c.loop-run.run-index runs c.loop-run-test.false ∙ c.as_slice-run-items.ensures) c.loop-run.invariant
+
+pub returns-in_err-follow_run-clause-stopped : goal.returns-in_err-follow_run-clause-stopped
+returns-in_err-follow_run-clause-stopped g c =
+    let runs = c.as_slice-run-items.result.now in
+    let i = c.loop-run.run-index in
+    let before = c.loop-run.invariant in
+    let none : OrderRun = record { lane = 0; steps = 0 } in
+    let run : OrderRun = get_or runs i none in
+    let same : length c.loop-run.lanes.items ≡ length c.args.lanes.now.items = before.stand.all ∙ sym c.requires.stand.all in
+    let whole : take i runs ++ run ∷ drop (i + 1) runs ≡ c.args.trace.now.orders =
+    sym (append_assoc (take i runs) (run ∷ []) (drop (i + 1) runs))
+    ∙ ap (λ xs. xs ++ drop (i + 1) runs) (sym (take_at_read runs i none c.loop-run-test.true).1)
+    ∙ take-append-drop (i + 1) runs ∙ c.as_slice-run-items.ensures in
+    on-err c.from_residual.result _
+    (stopped-more (g.G.Gate.passed c.args.gate.now) c.args.trace.now (take i runs) (drop (i + 1) runs) run c.args.core.now c.loop-run.core
+    c.follow_run.new.core c.args.lanes.now.items c.loop-run.lanes.items c.follow_run.new.lanes.items same whole before
+    c.in_err-follow_run.ensures.stopped)

@@ -1,7 +1,8 @@
-use Rattle.std.proofs.Common.{◌+◌, if◌then◌else◌, Bool, Ok, ap, subst}
+use Rattle.std.proofs.Common.{◌+◌, if◌then◌else◌, Bool, false, Ok, ap, subst}
 use Rattle.lane_steps.specs.Advances.{AdvancesOn}
 use Rattle.lane_runner.proofs.RunLemmas.{ran-none, next-ran}
 use Rattle.lane_runner.proofs.RunMeasures.{advance-falls}
+use Rattle.lane_runner.proofs.StopLemmas.{on-err}
 use Rattle.lane_runner.proofs.run_core.run_to_end.Goals as goal
 
 pub loop-init : goal.loop-init
@@ -17,7 +18,7 @@ returns-then-not-branch-clause-ran g c =
     let before = c.loop.invariant.1 in
     let ran =
     next-ran (g.G.Gate.passed c.args.gate.now) c.args.core.now c.loop.core c.advance.new.core c.args.operations.now c.args.lane.now
-    c.loop.lane c.advance.new.self c.loop.invariant.0 made before now.advanced (λ is. now.ended (ap Ok is)) in
+    c.loop.lane c.advance.new.self c.loop.invariant.0 made before now.advanced in
     let end = now.ended (ap Ok c.if-not-branch.true) in
     record {
       made = c.loop.invariant.0 + (if made then 1 else 0);
@@ -39,5 +40,13 @@ loop-preserved g c =
     let before = c.loop.invariant.1 in
     let ran =
     next-ran (g.G.Gate.passed c.args.gate.now) c.args.core.now c.loop.core c.advance.new.core c.args.operations.now c.args.lane.now
-    c.loop.lane c.advance.new.self c.loop.invariant.0 made before now.advanced (λ is. now.ended (ap Ok is)) in
+    c.loop.lane c.advance.new.self c.loop.invariant.0 made before now.advanced in
     (c.loop.invariant.0 + (if made then 1 else 0), ran)
+
+pub returns-in_err-advance-clause-stopped : goal.returns-in_err-advance-clause-stopped
+returns-in_err-advance-clause-stopped g c =
+    let before = c.loop.invariant.1 in
+    let ran =
+    next-ran (g.G.Gate.passed c.args.gate.now) c.args.core.now c.loop.core c.advance.new.core c.args.operations.now c.args.lane.now
+    c.loop.lane c.advance.new.self c.loop.invariant.0 false before c.in_err-advance.ensures.failed in
+    on-err c.from_residual.result _ (c.loop.invariant.0 + 0, ran)
