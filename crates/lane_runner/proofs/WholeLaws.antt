@@ -17,7 +17,6 @@ use Rattle.live_heap.specs.Answers.{IsSpentAtOnce}
 use Rattle.live_heap.specs.Calls.{HasCalled}
 use Rattle.live_heap.specs.Passes.{seen}
 use Rattle.live_heap.specs.Whole.{IsAtRest, IsWhole, MadeByPass, by_steps, at_once}
-use Rattle.live_heap.proofs.LawsServed.{pass-served}
 use Rattle.live_heap.proofs.WholeLaws.{pass-hands}
 use Rattle.trace_text.specs.declared.limits.TheConstants.{REGISTERS}
 use Rattle.trace_text.specs.declared.trace.Op.{Op}
@@ -99,7 +98,7 @@ module _ (h : Heap) (operations rest : List Op) (results : List Outcome) (regist
   pub some-words : (r : ℕ) (held : Held) → held_in registers r ≡ Some held → (n : ℕ) × (suc n ≡ held.words)
   some-words r held full =
       let owns : OwnsHeld (pool_of (seen p)) p.errand.caller held = lane.holds.owned r held full in
-      let some = owned-words h.layout (seen p) p.errand.caller held.place owns.block.need (pass-served h p rests.0).legal (owns.block, owns.live, owns.owned, refl) in
+      let some = owned-words h.layout (seen p) p.errand.caller held.place owns.block.need rests.0.served.legal (owns.block, owns.live, owns.owned, refl) in
       less-suc held.words (subst (λ n. 0 < n) (sym owns.words_are) some)
 
   one-call : (call : Call) (answer : Reply) → LeadsBy (WholeAt h) p (answered call answer ∷ []) q → WholeAt h p call answer q
@@ -110,7 +109,7 @@ module _ (h : Heap) (operations rest : List Op) (results : List Outcome) (regist
   skips operation slot next is skip same =
       subst (λ rs. StandsAt h q operations rs (results ++ outcome.Skipped ∷ [])) (skip-leaves registers operation)
       (subst (λ (x : Pass). StandsAt h x operations registers (results ++ outcome.Skipped ∷ [])) (sym same)
-      (begin-skips h.layout (seen p) p.errand operations registers results operation rest lane next (pass-served h p rests.0)
+      (begin-skips h.layout (seen p) p.errand operations registers results operation rest lane next rests.0.served
       (skipped-so registers operation slot is skip)))
 
   freed : (r : ℕ) (held : Held) (need : Need) → drop (length results) operations ≡ op.Free r ∷ rest → held_in registers r ≡ Some held
@@ -161,7 +160,7 @@ module _ (h : Heap) (operations rest : List Op) (results : List Outcome) (regist
       let call = write held.place need 0 ((v + 0) % 2 ^ 64) in
       let serves = serves-held h p held need rests so.1.1 words in
       fill-walk h operations rest results registers held need words r full lane.size within v some.0 0 p q next (from-zero (suc some.0) held.words some.1) rests
-      (begin-fill h.layout (seen p) p.errand (begun_by p.errand call) operations registers results rest lane (pass-served h p rests.0) r v held need next full
+      (begin-fill h.layout (seen p) p.errand (begun_by p.errand call) operations registers results rest lane rests.0.served r v held need next full
       serves (begun-at h p call rests so.1.1)) so
 
   checked : (r total : ℕ) (held : Held) (need : Need) (words : List ℕ) → drop (length results) operations ≡ op.Check r ∷ rest
@@ -173,7 +172,7 @@ module _ (h : Heap) (operations rest : List Op) (results : List Outcome) (regist
       let call = read held.place need 0 in
       let serves = serves-held h p held need rests leads.1.1 words_are in
       let walk = check-walk h operations rest results registers held need words_are r full lane.size within words w 0 0 p q next (from-zero (length (w ∷ words)) held.words all) rests
-      (begin-check h.layout (seen p) p.errand (begun_by p.errand call) operations registers results rest lane (pass-served h p rests.0) r held need next full
+      (begin-check h.layout (seen p) p.errand (begun_by p.errand call) operations registers results rest lane rests.0.served r held need next full
       serves (begun-at h p call rests leads.1.1)) leads in
       let none : 0 + sum (w ∷ words) ≡ sum (w ∷ words) = omega arith in
       subst (λ s. StandsAt h q operations registers (results ++ outcome.Sum s ∷ [])) (ap (λ n. n % 2 ^ 64) none ∙ sym total_is) walk
@@ -189,12 +188,12 @@ module _ (h : Heap) (operations rest : List Op) (results : List Outcome) (regist
       let made = given-steps p t (alloc need) held.place n one.0 in
       let of = one.2.0 in
       let started = begun h operations o rest results next p t rests of (alloc need) made.0 answer tt made.1 in
-      let lane0 = begin-alloc h.layout (seen p) p.errand (begun_by p.errand (alloc need)) operations registers results rest lane (pass-served h p rests.0) r need v
+      let lane0 = begin-alloc h.layout (seen p) p.errand (begun_by p.errand (alloc need)) operations registers results rest lane rests.0.served r need v
       next empty (alloc-started p.errand need rests.1 started.busy) started in
       let i = last-in h operations o rest results next p t rests of (alloc need) made.0 answer tt made.1 registers stage.Calling lane0 in
       let block : Offer = record { place = held.place; need = n } in
       let owned = pass-hands h h p t (alloc need) answer held.place n (one.0, tt, refl, one.2) (refl, refl) in
-      let some = less-suc held.words (subst (λ m. 0 < m) (sym words.0) (owned-words h.layout (seen t) t.errand.caller held.place n (pass-served h t of).legal owned)) in
+      let some = less-suc held.words (subst (λ m. 0 < m) (sym words.0) (owned-words h.layout (seen t) t.errand.caller held.place n of.served.legal owned)) in
       let so_many : LeadsBy (WholeAt h) t (wrote held.place n v (suc some.0)) q =
       subst (λ m. LeadsBy (WholeAt h) t (wrote held.place n v m) q) (sym some.1) leads in
       let call = write held.place n 0 ((v + 0) % 2 ^ 64) in

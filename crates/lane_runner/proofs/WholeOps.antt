@@ -25,7 +25,6 @@ use Rattle.live_heap.specs.Answers.{IsSpentAtOnce}
 use Rattle.live_heap.specs.Calls.{HasCalled}
 use Rattle.live_heap.specs.Passes.{IsOf, seen}
 use Rattle.live_heap.specs.Whole.{IsAtRest, OwnsFor}
-use Rattle.live_heap.proofs.LawsServed.{pass-served}
 use Rattle.trace_text.specs.declared.trace.Op.{Op}
 use Rattle.trace_text.specs.declared.trace.Op.TheVariants as op
 use Rattle.lane_engine.specs.declared.stepped.Stepped.{Stepped}
@@ -52,7 +51,7 @@ StandsAt h p operations registers results = IsLane h.layout p.errand.caller (see
 
 -- a call that the pass may begin
 pub begun-at : (h : Heap) (p : Pass) (call : Call) → IsAtRest h p → MayCall p.errand (seen p) call → HasBegun p.errand (begun_by p.errand call) call
-begun-at h p call rests may = call-begun h.layout p.errand.caller p.errand (seen p) call (pass-served h p rests.0) rests.1 may
+begun-at h p call rests may = call-begun h.layout p.errand.caller p.errand (seen p) call rests.0.served rests.1 may
 
 module _ (h : Heap) (operations : List Op) (operation : Op) (rest : List Op) (results : List Outcome) (next : drop (length results) operations ≡ operation ∷ rest) where
   abbrev In : ErrandFields → List Event → List (Option Held) → Stage → Type 0
@@ -71,14 +70,14 @@ module _ (h : Heap) (operations : List Op) (operation : Op) (rest : List Op) (re
         (record {
           lane = subst (λ c. IsLane h.layout c (seen p) (begun_by p.errand call) operations registers results at) (sym begun.same_caller) lane;
           busy = begun.busy;
-          heap = begun.same_geometry ∙ (pass-served h p rests.0).own_errand.geometry;
+          heap = begun.same_geometry ∙ rests.0.served.own_errand.geometry;
         }) called.on
 
     same-caller : q.errand.caller ≡ called.last.caller
     same-caller = moment-caller called.last q.errand called.sight (seen q) (progress.Done answer) called.moment
 
     pub served-last : IsServed h.layout called.last.caller q.errand (seen q)
-    served-last = subst (λ c. IsServed h.layout c q.errand (seen q)) same-caller (pass-served h q of)
+    served-last = subst (λ c. IsServed h.layout c q.errand (seen q)) same-caller of.served
 
     pub to-pass :
         (f : ErrandFields) (registers : List (Option Held)) (outcomes : List Outcome) (at : Stage)
@@ -97,7 +96,7 @@ HasNeed held need = (held.words ≡ usable_words need) × (held.need ≡ need)
 pub serves-held : (h : Heap) (p : Pass) (held : Held) (need : Need) → IsAtRest h p → OwnsAfter (seen p) p.errand.caller held.place need
     → HasNeed held need → Serves held need
 serves-held h p held need rests owned has =
-    (owned-need h.layout (seen p) p.errand.caller held.place need (pass-served h p rests.0).legal owned, has.0, has.1)
+    (owned-need h.layout (seen p) p.errand.caller held.place need rests.0.served.legal owned, has.0, has.1)
 
 -- a free
 pub free-stands :
@@ -109,7 +108,7 @@ pub free-stands :
 free-stands h operations rest results registers r held need p q steps next rests of lane full words owned called =
     let call = free held.place need in
     let now = slice_set registers r None in
-    let served = pass-served h p rests.0 in
+    let served = rests.0.served in
     let lane0 = begin-free h.layout (seen p) p.errand (begun_by p.errand call) operations registers results rest lane served r held need next full
     (serves-held h p held need rests owned words) (begun h operations (op.Free r) rest results next p q rests of call steps reply.Freed owned called) in
     let i = last-in h operations (op.Free r) rest results next p q rests of call steps reply.Freed owned called now stage.Calling lane0 in
@@ -131,7 +130,7 @@ put-stands h operations rest results registers r shelf held need p q steps next 
     let o : Op = op.Put r shelf in
     let call = put held.place need shelf in
     let now = slice_set registers r None in
-    let served = pass-served h p rests.0 in
+    let served = rests.0.served in
     let lane0 = begin-put h.layout (seen p) p.errand (begun_by p.errand call) operations registers results rest lane served r shelf held need next full
     (serves-held h p held need rests owned words) (begun h operations o rest results next p q rests of call steps reply.Put owned called) in
     let i = last-in h operations o rest results next p q rests of call steps reply.Put owned called now stage.Calling lane0 in
@@ -159,7 +158,7 @@ put_full-stands h operations rest results registers r shelf found held need p q 
     let answer : Reply = reply.Full found in
     let call = put held.place need shelf in
     let now = slice_set registers r None in
-    let served = pass-served h p rests.0 in
+    let served = rests.0.served in
     let started = begun h operations o rest results next p q rests of call steps answer owned called in
     let lane0 = begin-put h.layout (seen p) p.errand (begun_by p.errand call) operations registers results rest lane served r shelf held need next full
     (serves-held h p held need rests owned words) started in
@@ -191,7 +190,7 @@ refused-stands h operations rest results registers r need v p q steps next rests
     let o : Op = op.Alloc r need v in
     let call = alloc need in
     let started = begun h operations o rest results next p q rests of call steps reply.Refused tt called in
-    let lane0 = begin-alloc h.layout (seen p) p.errand (begun_by p.errand call) operations registers results rest lane (pass-served h p rests.0) r need v next empty
+    let lane0 = begin-alloc h.layout (seen p) p.errand (begun_by p.errand call) operations registers results rest lane rests.0.served r need v next empty
     (alloc-started p.errand need rests.1 started.busy) started in
     let i = last-in h operations o rest results next p q rests of call steps reply.Refused tt called registers stage.Calling lane0 in
     let so = alloc-ends_refused place_in need_in h.layout called.last q.errand called.sight (seen q) operations registers results i.heap
@@ -210,7 +209,7 @@ spent-stands h operations rest results registers r need v p q steps next rests o
     let o : Op = op.Alloc r need v in
     let call = alloc need in
     let started = begun h operations o rest results next p q rests of call steps reply.Spent tt called in
-    let lane0 = begin-alloc h.layout (seen p) p.errand (begun_by p.errand call) operations registers results rest lane (pass-served h p rests.0) r need v next empty
+    let lane0 = begin-alloc h.layout (seen p) p.errand (begun_by p.errand call) operations registers results rest lane rests.0.served r need v next empty
     (alloc-started p.errand need rests.1 started.busy) started in
     let i = last-in h operations o rest results next p q rests of call steps reply.Spent tt called registers stage.Calling lane0 in
     let so = alloc-ends_spent place_in need_in h.layout called.last q.errand called.sight (seen q) operations registers results i.heap
@@ -227,7 +226,7 @@ pub spent_at_once-stands :
 spent_at_once-stands h operations rest results registers r need v p q next rests lane empty once =
     let small : need_of need ≡ Small once.small.0 = once.small.1 in
     subst (λ (x : Pass). StandsAt h x operations registers (results ++ outcome.Spent ∷ [])) (sym once.same)
-    (begin-spent h.layout (seen p) p.errand p.errand operations registers results r need v rest lane next (pass-served h p rests.0) empty
+    (begin-spent h.layout (seen p) p.errand p.errand operations registers results r need v rest lane next rests.0.served empty
     (record {
       same = refl;
       limit = once.over;

@@ -25,7 +25,6 @@ use Rattle.live_heap.specs.declared.pass.Pass.{Pass}
 use Rattle.live_heap.specs.Calls.{HasCalled, StepsOn}
 use Rattle.live_heap.specs.Passes.{seen}
 use Rattle.live_heap.specs.Whole.{IsAtRest, OwnsFor}
-use Rattle.live_heap.proofs.LawsServed.{pass-served}
 use Rattle.trace_text.specs.declared.trace.Op.{Op}
 use Rattle.lane_engine.specs.declared.stepped.Stepped.{Stepped}
 use Rattle.lane_engine.specs.declared.stepped.Stepped.TheVariants as stepped
@@ -156,7 +155,7 @@ pub called-begun :
     → HasBegun p.errand (begun_by p.errand call) call
 called-begun h p q call steps answer rests owned called =
     let last_busy = (settled-of called.last q.errand called.sight (seen q) (progress.Done answer) called.moment).busy in
-    call-begun h.layout p.errand.caller p.errand (seen p) call (pass-served h p rests.0) rests.1
+    call-begun h.layout p.errand.caller p.errand (seen p) call rests.0.served rests.1
     (may-call p call rests.1 owned (steps-busy steps (begun_by p.errand call) called.last (seen p) called.sight called.on last_busy))
 
 -- the call is under way until it ends

@@ -16,7 +16,6 @@ use Rattle.live_heap.specs.declared.pass.Pass.{Pass}
 use Rattle.live_heap.specs.Calls.{HasCalled}
 use Rattle.live_heap.specs.Passes.{IsOf, seen}
 use Rattle.live_heap.specs.Whole.{IsAtRest, MadeByPass, by_steps, at_once}
-use Rattle.live_heap.proofs.LawsServed.{pass-served}
 use Rattle.trace_text.specs.declared.limits.TheConstants.{REGISTERS}
 use Rattle.trace_text.specs.declared.trace.Op.{Op}
 use Rattle.trace_text.specs.declared.trace.Op.TheVariants as op
@@ -102,7 +101,7 @@ module _ (h : Heap) (operations rest : List Op) (results : List Outcome) (regist
   take_empty-stands r shelf misses p q next are rests lane empty leads =
       let o : Op = op.Take r shelf in
       let call = take shelf in
-      let lane0 = begin-take h.layout (seen p) p.errand (begun_by p.errand call) operations registers results rest lane (pass-served h p rests.0) r shelf next
+      let lane0 = begin-take h.layout (seen p) p.errand (begun_by p.errand call) operations registers results rest lane rests.0.served r shelf next
       empty (begun-at h p call rests tt) in
       let w = take-walk r shelf reply.Empty misses p q next are rests lane0 leads in
       let i = last-in h operations o rest results next w.p q w.rests w.of call w.steps reply.Empty tt w.called registers stage.Calling w.lane in
@@ -124,7 +123,7 @@ module _ (h : Heap) (operations rest : List Op) (results : List Outcome) (regist
       let call = take shelf in
       let answer : Reply = reply.Got place need in
       let block : Offer = record { place = place; need = need } in
-      let lane0 = begin-take h.layout (seen p) p.errand (begun_by p.errand call) operations registers results rest lane (pass-served h p rests.0) r shelf next
+      let lane0 = begin-take h.layout (seen p) p.errand (begun_by p.errand call) operations registers results rest lane rests.0.served r shelf next
       empty (begun-at h p call rests tt) in
       let w = take-walk r shelf answer misses p q next are rests lane0 leads in
       let i = last-in h operations o rest results next w.p q w.rests w.of call w.steps answer tt w.called registers stage.Calling w.lane in

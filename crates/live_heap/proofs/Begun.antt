@@ -12,11 +12,13 @@ use Rattle.errand_steps.specs.Calls.{Call, begun_by}
 use Rattle.errand_steps.specs.Errands.{ErrandFields, IsErrand}
 use Rattle.sound_state.specs.Runs.{MayBegin}
 use Rattle.step_core.specs.Cores.{OwnsAfter}
+use Rattle.step_core.specs.Moments.{IsServed}
 use Rattle.live_heap.specs.declared.block.Block.{Block}
 use Rattle.live_heap.specs.declared.heap.Heap.{Heap}
 use Rattle.live_heap.specs.declared.pass.Pass.{Pass}
 use Rattle.live_heap.specs.Passes.{IsOf, Owns, seen}
 use Rattle.live_heap.specs.Sights.{IsBegun, after_events}
+use Rattle.live_heap.proofs.LawsServed.{begun-lost, call-served}
 use Rattle.live_heap.proofs.Moves.{begun-geometry, is_begun-caller}
 
 -- a call that has begun nothing left the errand
@@ -39,12 +41,8 @@ begins-on log before e f call (inr (first, was, had, begun)) idle may is =
     inr (call, m.0, m.1, is ∙ ap (λ x. begun_by x call) same)
 
 -- the pass's errand is of its heap
-pub is_begun-geometry : (log : List Event) (before e : ErrandFields) → IsBegun log before e → e.geometry ≡ before.geometry
-is_begun-geometry log before e (inl same) = ap (λ (x : ErrandFields). x.geometry) same
-is_begun-geometry log before e (inr (call, idle, may, begun)) = ap (λ (x : ErrandFields). x.geometry) begun ∙ begun-geometry before call
-
 pub of-laid : (h : Heap) (p : Pass) → IsOf h p → p.errand.geometry ≡ h.layout
-of-laid h p of = is_begun-geometry (seen p) of.before.errand p.errand of.begun ∙ of.served.own_errand.geometry
+of-laid h p of = of.served.own_errand.geometry
 
 pub of-caller : (h : Heap) (p : Pass) (of : IsOf h p) → p.errand.caller ≡ of.before.errand.caller
 of-caller h p of = is_begun-caller (seen p) of.before.errand p.errand of.begun
@@ -61,9 +59,9 @@ begins-of h p q call of idle may seat is =
       before = of.before;
       one = of.one;
       sight = of.sight;
-      served = of.served;
-      alone = of.alone;
       begun = begins-on (seen p) of.before.errand p.errand q.errand call of.begun idle may is;
+      served = subst (λ (e : ErrandFields). IsServed h.layout e.caller e (seen p)) (sym is) (call-served h.layout p.errand (seen p) call of.served idle may);
+      alone = λ one. ap (λ (e : ErrandFields). e.lost) is ∙ begun-lost p.errand call ∙ of.alone one;
     })
 
 -- a block that a pass owns is one of its heap
@@ -83,11 +81,6 @@ heap-at h p place need of owned =
 pub heap-block : (h : Heap) (p : Pass) (block : Block) → IsOf h p → Owns p block → IsHeapBlock p.errand.geometry block.place block.need
 heap-block h p block = heap-at h p block.place block.need
 
--- in no call the pass's errand keeps its rule
-rule-begun : (log : List Event) (before e : ErrandFields) → IsBegun log before e → IsIdle e → IsErrand before → IsErrand e
-rule-begun log before e (inl same) idle rule = subst IsErrand (sym same) rule
-rule-begun log before e (inr (call, was, may, begun)) idle rule =
-    subst IsErrand (sym (begun ∙ begun-idle before call was (subst IsIdle begun idle))) rule
-
-pub of-rule : (h : Heap) (p : Pass) → IsOf h p → IsIdle p.errand → IsErrand p.errand
-of-rule h p of idle = rule-begun (seen p) of.before.errand p.errand of.begun idle of.served.own_errand.rule
+-- the pass's errand keeps its rule
+pub of-rule : (h : Heap) (p : Pass) → IsOf h p → IsErrand p.errand
+of-rule h p of = of.served.own_errand.rule

@@ -166,59 +166,12 @@ module _ (e f : ErrandFields) (before after : List Event) where
         short = s.short;
       }
 
--- an idle caller has no step left
-idle-short : (g : Geometry) (p : Point) → is_idle p ≡ true → steps_left g p < CALL_STEPS
-unfolding steps_left
-idle-short g p idle = let P : Point → Type 0 = λ q. steps_left g q < CALL_STEPS in subst P (sym (idle-is p idle)) (omega arith)
-
--- a call that begins is short
-alloc-short :
-    (e : ErrandFields) (words : ℕ) (n : Need) → IsChecked e.geometry → IsIdle e
-    → steps_left e.geometry (begins_alloc e words n).point < CALL_STEPS
-unfolding steps_left
-alloc-short e words (Small class) checked idle =
-    elim (cases_Bool (is_spent e)) [
-      | inl spent ↦ rw spent (idle-short e.geometry e.point idle)
-      | inr left ↦ rw left (omega (arith, checked.callers, block_count_of-most class))
-    ]
-alloc-short e words (Large units) checked idle = omega arith
-alloc-short e words TooLarge checked idle = idle-short e.geometry e.point idle
-
-free-short :
-    (e : ErrandFields) (place : ℕ) (n : Need) → IsChecked e.geometry → IsIdle e
-    → steps_left e.geometry (free_begun e place n).point < CALL_STEPS
-unfolding steps_left free_begun
-free-short e place (Small class) checked idle = omega (arith, checked.callers)
-free-short e place (Large units) checked idle = omega arith
-free-short e place TooLarge checked idle = idle-short e.geometry e.point idle
-
-begun-short :
-    (e : ErrandFields) (call : Call) → IsChecked e.geometry → IsIdle e → steps_left e.geometry (begun_by e call).point < CALL_STEPS
-unfolding steps_left alloc_begun write_begun read_begun put_begun take_begun
-begun-short e (alloc words) checked idle = alloc-short e words (need_of words) checked idle
-begun-short e (free place need) checked idle = free-short e place need checked idle
-begun-short e (write place need i value) checked idle = omega arith
-begun-short e (read place need i) checked idle = omega arith
-begun-short e (put place need shelf) checked idle = omega arith
-begun-short e (take shelf) checked idle = omega arith
-
--- so is a pass of a heap
-is_begun-short :
-    (log : List Event) (before e : ErrandFields) (g : Geometry) → before.geometry ≡ g → IsChecked g → steps_left g before.point < CALL_STEPS
-    → IsBegun log before e → steps_left g e.point < CALL_STEPS
-is_begun-short log before e g laid checked short (inl same) = subst (λ (d : ErrandFields). steps_left g d.point < CALL_STEPS) (sym same) short
-is_begun-short log before e g laid checked short (inr (call, idle, may, begun)) =
-    subst (λ (d : ErrandFields). steps_left g d.point < CALL_STEPS) (sym begun)
-    (subst (λ k. steps_left k (begun_by before call).point < CALL_STEPS) laid
-    (begun-short before call (subst IsChecked (sym laid) checked) idle))
-
+-- a pass has fewer steps left than any call may make
 pub of-short : (h : Heap) (p : Pass) → IsOf h p → steps_left h.layout p.errand.point < CALL_STEPS
 of-short h p of =
     let o = of.served.own_errand in
-    let was : steps_left of.before.errand.geometry of.before.errand.point < CALL_STEPS =
-    left-most of.before.errand.geometry of.before.errand.caller of.before.errand.point o.rule.geometry o.rule.point in
-    is_begun-short (seen p) of.before.errand p.errand h.layout o.geometry of.served.checked
-    (subst (λ g. steps_left g of.before.errand.point < CALL_STEPS) o.geometry was) of.begun
+    subst (λ g. steps_left g p.errand.point < CALL_STEPS) o.geometry
+    (left-most p.errand.geometry p.errand.caller p.errand.point o.rule.geometry o.rule.point)
 
 pub going-first : (h : Heap) (p : Pass) (tries : ℕ) → IsOf h p → IsBusy p.errand → 0 < tries → IsGoing h p tries tries p
 going-first h p tries of busy some =

@@ -16,7 +16,7 @@ use Rattle.step_core.proofs.MomentLemmas.{reached-served}
 use Rattle.live_heap.specs.declared.heap.Heap.{Heap}
 use Rattle.live_heap.specs.declared.pass.Pass.{Pass}
 use Rattle.live_heap.specs.declared.view.View.{View}
-use Rattle.live_heap.specs.Passes.{IsFresh, AreFrom, accesses_of}
+use Rattle.live_heap.specs.Passes.{IsFresh, AreFrom, accesses_of, seen}
 use Rattle.live_heap.specs.Rule.{first_errands}
 use Rattle.live_heap.specs.Views.{idle_standing, idles_from, idle_view}
 use Rattle.live_heap.proofs.Seats.{first-there}
@@ -63,9 +63,9 @@ fresh h p caller has table me errand =
         before = idle_standing g caller;
         one = ap (λ (m : Me ℕ View). m.0.callers) me;
         sight = sym nothing;
-        served = subst (λ (l : List Event). IsServed g caller (open_errand caller g) l) (sym nothing) (first-served g caller h.checked has);
-        alone = λ one. refl;
         begun = inl errand;
+        served = subst (λ (e : ErrandFields). IsServed g e.caller e (seen p)) (sym errand) (subst (λ (l : List Event). IsServed g caller (open_errand caller g) l) (sym nothing) (first-served g caller h.checked has));
+        alone = λ one. ap (λ (e : ErrandFields). e.lost) errand;
       };
       errand = subst (λ n. p.errand ≡ open_errand n g) (sym number) errand;
       nothing_seen = nothing;

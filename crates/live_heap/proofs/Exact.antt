@@ -9,6 +9,7 @@ use Rattle.pool_model.specs.declared.event.Event.{Event}
 use Rattle.pool_model.specs.declared.owner.Owner.TheVariants.{Caller}
 use Rattle.pool_model.specs.Pool.{Block as PoolBlock, block_at, fresh_block, handed_to, pool_of, written}
 use Rattle.pool_model.specs.Owned.{if_of}
+use Rattle.pool_model.proofs.OwnedLemmas.{of-self, owned-found}
 use Rattle.errand_steps.specs.declared.reply.Reply.{Reply}
 use Rattle.errand_steps.specs.declared.reply.Reply.TheVariants as reply
 use Rattle.errand_steps.specs.Calls.{Call, alloc, free, put, take, write}
@@ -192,5 +193,5 @@ pub calling-exact :
     (h : Heap) (p q : Pass) (call : Call) (steps : ℕ) (had has : List Block) → IsOf h q → IsCalling p call steps q
     → ChangesHandSoFar call (stage_of q.errand.point) had has → HoldsExactly p had → HoldsExactly q has
 calling-exact h p q call steps had has of calling =
-    so_far-exact p q call (stage_of q.errand.point) calling.added had has calling.under_way (calling-changes h p q call steps of calling)use Rattle.pool_model.proofs.OwnedLemmas.{of-self, owned-found}
+    so_far-exact p q call (stage_of q.errand.point) calling.added had has calling.under_way (calling-changes h p q call steps of calling)
 

@@ -28,7 +28,7 @@ use Rattle.live_heap.specs.Sights.{IsBegun, after_events}
 use Rattle.live_heap.proofs.Moves.{begun-caller, begun-geometry}
 
 -- a call that begins leaves what its caller has lost
-begun-lost : (e : ErrandFields) (call : Call) → (begun_by e call).lost ≡ e.lost
+pub begun-lost : (e : ErrandFields) (call : Call) → (begun_by e call).lost ≡ e.lost
 unfolding alloc_begun free_begun write_begun read_begun put_begun take_begun
 begun-lost e call = grind (arith)
 
@@ -98,7 +98,7 @@ begun-errand g events e (put place need shelf) legal laid rule idle may =
 begun-errand g events e (take shelf) legal laid rule idle may = take-errand e shelf may rule idle
 
 -- what is so of a caller in no call is so of it with a call that it has begun
-call-served :
+pub call-served :
     (g : Geometry) (before : ErrandFields) (events : List Event) (call : Call) → IsServed g before.caller before events → IsIdle before
     → MayBegin (after_events events) before.caller call → IsServed g (begun_by before call).caller (begun_by before call) events
 call-served g before events call served idle may =
@@ -122,26 +122,3 @@ call-served g before events call served idle may =
       by_lost = omega (arith, served.by_lost, takes.turns, takes.discards, lost, none);
       by_given = omega (arith, served.by_given, takes.turns, none);
     })
-
-begun-served :
-    (g : Geometry) (before e : ErrandFields) (events : List Event) → IsServed g before.caller before events → IsBegun events before e
-    → IsServed g e.caller e events
-begun-served g before e events served (inl same) = subst (λ (x : ErrandFields). IsServed g x.caller x events) (sym same) served
-begun-served g before e events served (inr (call, idle, may, is)) =
-    subst (λ (x : ErrandFields). IsServed g x.caller x events) (sym is) (call-served g before events call served idle may)
-
-is_begun-lost : (events : List Event) (before e : ErrandFields) → IsBegun events before e → e.lost ≡ before.lost
-is_begun-lost events before e (inl same) = ap (λ (x : ErrandFields). x.lost) same
-is_begun-lost events before e (inr (call, idle, may, is)) = ap (λ (x : ErrandFields). x.lost) is ∙ begun-lost before call
-
--- so it is of every pass
-pub pass-served : (h : Heap) (p : Pass) → IsOf h p → IsServed h.layout p.errand.caller p.errand (seen p)
-pass-served h p of = begun-served h.layout of.before.errand p.errand (seen p) of.served of.begun
-
--- and with one caller nothing is ever lost
-pub pass-alone : (h : Heap) (p : Pass) → IsOf h p → h.layout.callers ≡ 1 → p.errand.lost ≡ 0
-pass-alone h p of one = is_begun-lost (seen p) of.before.errand p.errand of.begun ∙ of.alone one
-
--- named by its caller's number
-pub caller-served : (h : Heap) (p : Pass) (caller : ℕ) → IsOf h p → caller ≡ p.errand.caller → IsServed h.layout caller p.errand (seen p)
-caller-served h p caller of is = subst (λ c. IsServed h.layout c p.errand (seen p)) (sym is) (pass-served h p of)

@@ -36,7 +36,6 @@ use Rattle.live_heap.specs.Answers.{FreeTells, ResumeTells, TakeTells}
 use Rattle.live_heap.specs.Calls.{IsCalling, IsInterrupted, StepsOn}
 use Rattle.live_heap.specs.Passes.{IsOf, seen}
 use Rattle.live_heap.proofs.CallsGrow.{IsSettled, settled-of}
-use Rattle.live_heap.proofs.LawsServed.{pass-alone}
 
 -- who looks at the anchor of a superblock that it takes for a partial one is in an allocation
 grants-alloc :
@@ -134,7 +133,7 @@ free-keeps first p place need steps c =
 module _ (h : Heap) (q : Pass) (of : IsOf h q) (one : h.layout.callers ≡ 1) where
   -- it has lost nothing
   lost : q.errand.lost ≡ 0
-  lost = pass-alone h q of one
+  lost = of.alone one
 
   below : q.errand.lost < 2 ^ 64 - 1
   below = omega (arith, lost)

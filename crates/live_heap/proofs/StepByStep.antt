@@ -16,6 +16,7 @@ use Rattle.errand_steps.specs.Begins.{IsIdle, put_begun, read_begun, take_begun,
 use Rattle.errand_steps.specs.Calls.{Call, alloc, begun_by, free, write, read, put, take}
 use Rattle.errand_steps.specs.Errands.{ErrandFields}
 use Rattle.errand_steps.specs.Nexts.{next_of}
+use Rattle.step_core.proofs.MomentAnswers.{moment-meant}
 use Rattle.live_heap.specs.declared.answers.Ending.{Ending}
 use Rattle.live_heap.specs.declared.answers.Ending.TheVariants as ending
 use Rattle.live_heap.specs.declared.answers.Step.{Step}
@@ -31,7 +32,6 @@ use Rattle.live_heap.proofs.Begun.{heap-at}
 use Rattle.live_heap.proofs.CallsAnswers.{given-owns, got-owns, spent-limit}
 use Rattle.live_heap.proofs.CallsGrow.{alloc-calling, calls-go_on, other-calling, settled-of}
 use Rattle.live_heap.proofs.CallsOne.{end-answers, ends-one, full-tells, load-ends, missed-lost, put-lost, put-won, read-contents, second-stands, shelf-loads, store-ends, take-told, told-done, told-more}
-use Rattle.live_heap.proofs.Told.{moment-meant}
 
 -- a call on a block that the pass owns is under way behind its begin
 pub begun-calling :
@@ -55,7 +55,7 @@ pub steps-on :
     (first : Pass) (call : Call) (steps : ℕ) (p q : Pass) (told : Step) → IsCalling first call steps p → HasStepped p q told → ¬ IsDone told
     → IsCalling first call (suc steps) q
 steps-on first call steps p q told calling stepped undone =
-    calls-go_on first call steps p q (progress_of told) stepped.moment calling (not-done told undone)
+    calls-go_on first call steps p q (progress_of told) stepped.moment stepped.accesses calling (not-done told undone)
 
 pub steps-end :
     (first : Pass) (call : Call) (steps : ℕ) (p q : Pass) (end : Ending) → IsCalling first call steps p → HasStepped p q (step.Done end)

@@ -35,9 +35,9 @@ still-of h p q n of table empty is s =
       before = s.after;
       one = s.now;
       sight = s.seen;
-      served = subst S number (subst (λ c. IsServed h.layout c (settle_of p.errand x) (seen q)) (sym (settle-caller p.errand x)) served);
-      alone = λ one. subst (λ (f : ErrandFields). f.lost ≡ 0) number (s.alone (ap (λ (g : Geometry). g.callers) laid ∙ one));
       begun = inl (is ∙ number);
+      served = subst S (sym is) (subst (λ c. IsServed h.layout c (settle_of p.errand x) (seen q)) (sym (settle-caller p.errand x)) served);
+      alone = λ one. subst (λ (f : ErrandFields). f.lost ≡ 0) (sym is) (s.alone (ap (λ (g : Geometry). g.callers) laid ∙ one));
     }
 
 -- the moment of the step, as the code made it

@@ -33,9 +33,9 @@ pub record IsOf (h : Heap) (p : Pass) : Type 0 where
   pub before : Standing
   pub one : (view p).callers ≡ before ∷ []
   pub sight : before.seen ≡ seen p
-  pub served : IsServed h.layout before.errand.caller before.errand (seen p)
-  pub alone : h.layout.callers ≡ 1 → before.errand.lost ≡ 0
   pub begun : IsBegun (seen p) before.errand p.errand
+  pub served : IsServed h.layout p.errand.caller p.errand (seen p)
+  pub alone : h.layout.callers ≡ 1 → p.errand.lost ≡ 0
 
 -- the pass owns the block, after the events that it has seen
 abbrev pub Owns : Pass → Block → Type 0

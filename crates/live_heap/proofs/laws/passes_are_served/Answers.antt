@@ -1,8 +1,7 @@
-use Rattle.live_heap.proofs.LawsServed.{pass-served, pass-alone}
 use Rattle.live_heap.proofs.laws.passes_are_served.Goals as goal
 
 pub returns-clause-served : goal.returns-clause-served
-returns-clause-served c = pass-served
+returns-clause-served c = λ h p of. of.served
 
 pub returns-clause-alone : goal.returns-clause-alone
-returns-clause-alone c = pass-alone
+returns-clause-alone c = λ h p of. of.alone

@@ -19,7 +19,7 @@ alloc_on-requires c =
     let q : Pass = record { seat = p.seat; errand = c.take_turn.new.self } in
     let active = c.alloc_from-active.result in
     let same = allocs-from p c.args.need c.args.class active q.errand r.class r.left c.alloc_from-active.ensures c.take_turn.ensures in
-    let rule = alloc-errand p.errand c.args.need (of-rule c.args.self.now p r.of r.idle) r.idle in (
+    let rule = alloc-errand p.errand c.args.need (of-rule c.args.self.now p r.of) r.idle in (
       walk-begins p call q active (Alloc c.args.need) same c.args.self.now c.args.tries r.of r.idle tt (subst IsIdle (sym c.take_turn.ensures) r.idle) rule r.tries,
       (p, subst (IsCalling p call 0) (sym same) (alloc-call p c.args.need c.args.class r.idle r.class r.left)),
     )

@@ -19,7 +19,7 @@ free_on-requires c =
     let place = c.args.block.place in
     let call : Call = free place (Small c.args.class) in
     let same = frees-from p place c.args.class c.free_from-prefix.result c.free_from-prefix.ensures in
-    let rule = free-errand p.errand place (Small c.args.class) r.block (of-rule c.args.self.now p r.of r.idle) r.idle in
+    let rule = free-errand p.errand place (Small c.args.class) r.block (of-rule c.args.self.now p r.of) r.idle in
     walk-begins p call p c.free_from-prefix.result Free same c.args.self.now c.args.tries r.of r.idle r.may r.idle rule r.tries
 
 pub returns-clause-of : goal.returns-clause-of
