@@ -14,7 +14,7 @@ use Rattle.errand_steps.proofs.AnswerLemmas.{done-told}
 use Rattle.step_core.specs.Cores.{OwnsAfter}
 use Rattle.step_core.specs.Keeping.{Leaves}
 use Rattle.step_core.specs.Moments.{IsMoment}
-use Rattle.step_core.proofs.MomentAnswers.{found, moment-meant, moment-settles}
+use Rattle.step_core.proofs.MomentAnswers.{found, moment-given, moment-settles}
 use Rattle.live_heap.specs.declared.answers.Ending.TheVariants as ending
 use Rattle.live_heap.specs.declared.answers.Full.{Full}
 use Rattle.live_heap.specs.declared.answers.Step.{Step}
@@ -106,13 +106,10 @@ given-owned p q told block caller idle busy is =
           let r : Reply = reply.Given block.place block.need in
           let m : IsMoment p.errand q.errand (seen p) (seen q) (progress.Done r) =
           subst (λ (t : Step). IsMoment p.errand q.errand (seen p) (seen q) (progress_of t)) is (busy moves).moment in
-          let x = found p.errand q.errand (seen p) (seen q) (progress.Done r) m in
           let settled = moment-settles p.errand q.errand (seen p) (seen q) (progress.Done r) m in
-          let rests : IsIdle (settle_of p.errand x) = (done-told p.errand x moves).1 (r, sym m.answers) in
-          let given = moment-meant p.errand q.errand (seen p) (seen q) (progress.Done r) m r refl in
-          let owned : OwnsAfter m.next.history p.errand.caller block.place block.need = given.3.block in (
+          let rests : IsIdle (settle_of p.errand (found p.errand q.errand (seen p) (seen q) (progress.Done r) m)) =
+          (done-told p.errand (found p.errand q.errand (seen p) (seen q) (progress.Done r) m) moves).1 (r, sym m.answers) in (
             subst IsIdle (sym settled) rests,
-            subst (λ k. OwnsAfter (seen q) k block.place block.need) (sym caller)
-                (subst (λ (l : List Event). OwnsAfter l p.errand.caller block.place block.need) m.now owned),
+            moment-given p.errand q.errand (seen p) (seen q) (progress.Done r) m block.place block.need refl,
           )
     ]

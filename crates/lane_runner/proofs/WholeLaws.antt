@@ -9,15 +9,16 @@ use Rattle.heap_geometry.specs.Need.{need_of}
 use Rattle.pool_model.specs.Pool.{pool_of}
 use Rattle.errand_steps.specs.Calls.{Call, alloc, free, write, read, put, begun_by}
 use Rattle.errand_steps.specs.declared.reply.Offer.{Offer}
+use Rattle.errand_steps.specs.declared.reply.Progress.TheVariants.{Done}
 use Rattle.errand_steps.specs.declared.reply.Reply.{Reply}
 use Rattle.errand_steps.specs.declared.reply.Reply.TheVariants as reply
+use Rattle.step_core.proofs.MomentAnswers.{moment-given}
 use Rattle.live_heap.specs.declared.heap.Heap.{Heap}
 use Rattle.live_heap.specs.declared.pass.Pass.{Pass}
 use Rattle.live_heap.specs.Answers.{IsSpentAtOnce}
 use Rattle.live_heap.specs.Calls.{HasCalled}
 use Rattle.live_heap.specs.Passes.{seen}
 use Rattle.live_heap.specs.Whole.{IsAtRest, IsWhole, MadeByPass, by_steps, at_once}
-use Rattle.live_heap.proofs.WholeLaws.{pass-hands}
 use Rattle.trace_text.specs.declared.limits.TheConstants.{REGISTERS}
 use Rattle.trace_text.specs.declared.trace.Op.{Op}
 use Rattle.trace_text.specs.declared.trace.Op.TheVariants as op
@@ -192,7 +193,7 @@ module _ (h : Heap) (operations rest : List Op) (results : List Outcome) (regist
       next empty (alloc-started p.errand need rests.1 started.busy) started in
       let i = last-in h operations o rest results next p t rests of (alloc need) made.0 answer tt made.1 registers stage.Calling lane0 in
       let block : Offer = record { place = held.place; need = n } in
-      let owned = pass-hands h h p t (alloc need) answer held.place n (one.0, tt, refl, one.2) (refl, refl) in
+      let owned = moment-given made.1.last t.errand made.1.sight (seen t) (Done answer) made.1.moment held.place n refl in
       let some = less-suc held.words (subst (λ m. 0 < m) (sym words.0) (owned-words h.layout (seen t) t.errand.caller held.place n of.served.legal owned)) in
       let so_many : LeadsBy (WholeAt h) t (wrote held.place n v (suc some.0)) q =
       subst (λ m. LeadsBy (WholeAt h) t (wrote held.place n v m) q) (sym some.1) leads in

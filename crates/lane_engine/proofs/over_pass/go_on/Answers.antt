@@ -1,4 +1,4 @@
-use Rattle.std.proofs.Common.{ℕ}
+use Rattle.std.proofs.Common.{ℕ, suc}
 use Rattle.errand_steps.specs.Calls.{Call}
 use Rattle.live_heap.specs.declared.pass.Pass.{Pass}
 use Rattle.live_heap.specs.Calls.{IsCalling}
@@ -17,7 +17,7 @@ loop-preserved g c = record {
   calls = λ first call made was.
       let i = c.loop.invariant.calls first call made was in
       let over = c.in-Busy.ensures.tells first call i.0 i.1 in
-      (over.steps, over.calling);
+      (suc over.steps, over.calling);
 }
 
 pub returns-in_default : goal.returns-in_default

@@ -1,4 +1,4 @@
-use Rattle.std.proofs.Common.{refl}
+use Rattle.std.proofs.Common.{suc, refl}
 use Rattle.errand_steps.specs.declared.reply.Reply.TheVariants as reply
 use Rattle.errand_steps.specs.Calls.{alloc}
 use Rattle.live_heap.specs.Whole.{by_steps}
@@ -9,7 +9,7 @@ pub unreachable-requires-in_default : goal.unreachable-requires-in_default
 unreachable-requires-in_default g c =
     let over = c.in-Busy.ensures.tells in
     let p = c.args.self.now.pass.now in
-    alloc-resumes p c.args.need c.go_on.result c.go_on.new.pass (c.go_on.ensures.ended p (alloc c.args.need) over.steps over.calling)
+    alloc-resumes p c.args.need c.go_on.result c.go_on.new.pass (c.go_on.ensures.ended p (alloc c.args.need) (suc over.steps) over.calling)
     c.in_default.not-Given c.in_default.not-Refused c.in_default.not-Spent
 
 pub returns-in-Spent-clause-called : goal.returns-in-Spent-clause-called
@@ -21,14 +21,14 @@ returns-in-Spent-clause-called g c =
 pub returns-in-Given-go_on-clause-called : goal.returns-in-Given-go_on-clause-called
 returns-in-Given-go_on-clause-called g c =
     let over = c.in-Busy.ensures.tells in
-    (by_steps (c.in-Given-go_on.ensures.ended c.args.self.now.pass.now (alloc c.args.need) over.steps over.calling), tt, refl, c.go_on.ensures.rests)
+    (by_steps (c.in-Given-go_on.ensures.ended c.args.self.now.pass.now (alloc c.args.need) (suc over.steps) over.calling), tt, refl, c.go_on.ensures.rests)
 
 pub returns-in-Refused-go_on-clause-called : goal.returns-in-Refused-go_on-clause-called
 returns-in-Refused-go_on-clause-called g c =
     let over = c.in-Busy.ensures.tells in
-    (by_steps (c.in-Refused-go_on.ensures.ended c.args.self.now.pass.now (alloc c.args.need) over.steps over.calling), tt, refl, c.go_on.ensures.rests)
+    (by_steps (c.in-Refused-go_on.ensures.ended c.args.self.now.pass.now (alloc c.args.need) (suc over.steps) over.calling), tt, refl, c.go_on.ensures.rests)
 
 pub returns-in-Spent-go_on-clause-called : goal.returns-in-Spent-go_on-clause-called
 returns-in-Spent-go_on-clause-called g c =
     let over = c.in-Busy.ensures.tells in
-    (by_steps (c.in-Spent-go_on.ensures.ended c.args.self.now.pass.now (alloc c.args.need) over.steps over.calling), tt, refl, c.go_on.ensures.rests)
+    (by_steps (c.in-Spent-go_on.ensures.ended c.args.self.now.pass.now (alloc c.args.need) (suc over.steps) over.calling), tt, refl, c.go_on.ensures.rests)

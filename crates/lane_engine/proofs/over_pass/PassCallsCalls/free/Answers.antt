@@ -1,4 +1,4 @@
-use Rattle.std.proofs.Common.{refl}
+use Rattle.std.proofs.Common.{suc, refl}
 use Rattle.errand_steps.specs.Calls.{free}
 use Rattle.live_heap.specs.Whole.{by_steps}
 use Rattle.lane_engine.proofs.WholeLemmas.{free-resumes}
@@ -9,4 +9,4 @@ returns-in-Busy-clause-called g c =
     let over = c.in-Busy.ensures.tells in
     let p = c.args.self.now.pass.now in
     let b = c.args.held in
-    (by_steps (free-resumes p b.place b.need c.go_on.result c.go_on.new.pass (c.go_on.ensures.ended p (free b.place b.need) over.steps over.calling)), c.requires.owned, refl, c.go_on.ensures.rests)
+    (by_steps (free-resumes p b.place b.need c.go_on.result c.go_on.new.pass (c.go_on.ensures.ended p (free b.place b.need) (suc over.steps) over.calling)), c.requires.owned, refl, c.go_on.ensures.rests)
