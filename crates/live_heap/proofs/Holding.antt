@@ -28,18 +28,10 @@ use Rattle.live_heap.specs.Calls.{EndsInTime, HasCalled, IsCalling, IsInterrupte
 use Rattle.live_heap.specs.Hands.{IsHand, IsWaiting, given_by, resumed_by, returned_by, taken_by}
 use Rattle.live_heap.specs.Holdings.{Holds}
 use Rattle.live_heap.specs.Passes.{IsOf, Owns}
-
--- the laws of `passes_keep_their_blocks` that a hand needs: a call keeps the other blocks, and a block that it brings is none of those
-pub record IsKept : Type 0 where
-  pub called : (h : Heap) (p q : Pass) (call : Call) (steps : ℕ) (answer : Reply) (block : Block) → IsOf h p → IsOf h q
-      → HasCalled p call steps answer q → Leaves call block.place → Owns p block → Owns q block
-  pub given : (h : Heap) (p q : Pass) (call : Call) (steps place : ℕ) (need : Need) (block : Block) → IsOf h p → IsOf h q
-      → HasCalled p call steps (reply.Given place need) q → Owns p block → block.place ≢ place
-  pub got : (h : Heap) (p q : Pass) (call : Call) (steps place : ℕ) (need : Need) (block : Block) → IsOf h p → IsOf h q
-      → HasCalled p call steps (reply.Got place need) q → Owns p block → block.place ≢ place
+use Rattle.live_heap.proofs.LawsKept.{called-given, called-got, called-keeps}
 
 -- who is idle isn't busy
-idle-free : (e : ErrandFields) → IsIdle e → IsBusy e → ⊥
+pub idle-free : (e : ErrandFields) → IsIdle e → IsBusy e → ⊥
 idle-free e idle busy = true≢false (sym idle ∙ busy)
 
 -- blocks that are kept one by one are held on
@@ -131,14 +123,14 @@ holds-removed p blocks rest number block within is left held =
 
 -- a call that has ended leaves in the hand what it gives not away
 pub ended-hand :
-    IsKept → (h : Heap) (p q : Pass) (blocks : List Block) (call : Call) (steps : ℕ) (answer : Reply) → IsOf h p → IsOf h q
+    (h : Heap) (p q : Pass) (blocks : List Block) (call : Call) (steps : ℕ) (answer : Reply) → IsOf h p → IsOf h q
     → HasCalled p call steps answer q → All (λ block. Leaves call block.place) blocks → Holds p blocks → IsHand h q blocks
-ended-hand kept h p q blocks call steps answer of of_new called leaves held =
+ended-hand h p q blocks call steps answer of of_new called leaves held =
     record {
       of = of_new;
       holds = λ idle.
           holds-kept (λ block. Leaves call block.place) p q
-          (λ block left owns. kept.called h p q call steps answer block of of_new called left owns) blocks leaves held;
+          (λ block left owns. called-keeps h p q call steps answer block of of_new called left owns) blocks leaves held;
       waits = λ busy. absurd (idle-free q.errand called.idle busy);
     }
 
@@ -187,7 +179,7 @@ interrupted-hand h first p q blocks call made tries of of_new i tried leaves hel
     }
 
 -- a hand to which nothing comes
-plus-nothing : (h : Heap) (q : Pass) (blocks : List Block) → IsHand h q blocks → IsHand h q (blocks ++ [])
+pub plus-nothing : (h : Heap) (q : Pass) (blocks : List Block) → IsHand h q blocks → IsHand h q (blocks ++ [])
 plus-nothing h q blocks hand = subst (IsHand h q) (sym (append-nil blocks)) hand
 
 -- no call of an allocation gives a block away
@@ -196,31 +188,31 @@ alloc-leaves need blocks k d within = tt
 
 -- a resumed or a first allocation or free: what it was given is in the hand
 pub resume-hand :
-    IsKept → (h : Heap) (first p q : Pass) (blocks : List Block) (call : Call) (made tries : ℕ) (answer : Resumed) → IsOf h first → IsOf h q
+    (h : Heap) (first p q : Pass) (blocks : List Block) (call : Call) (made tries : ℕ) (answer : Resumed) → IsOf h first → IsOf h q
     → ResumeTells first call made p tries answer q → IsTried call → All (λ block. Leaves call block.place) blocks → Holds first blocks
     → IsHand h q (blocks ++ resumed_by answer)
-resume-hand kept h first p q blocks call made tries (resumed.Given block) of of_new tells tried leaves held =
+resume-hand h first p q blocks call made tries (resumed.Given block) of of_new tells tried leaves held =
     let e : EndsInTime first call made p tries (reply.Given block.place block.need) q = tells.0 in
     brought-hand h q blocks block e.called.idle tells.1
     (holds-all first (λ other. other.place ≢ block.place)
-    (λ other owns. kept.given h first q call e.steps block.place block.need other of of_new e.called owns) blocks held)
-    (ended-hand kept h first q blocks call e.steps _ of of_new e.called leaves held)
-resume-hand kept h first p q blocks call made tries resumed.Freed of of_new tells tried leaves held =
-    plus-nothing h q blocks (ended-hand kept h first q blocks call tells.steps _ of of_new tells.called leaves held)
-resume-hand kept h first p q blocks call made tries resumed.Refused of of_new tells tried leaves held =
-    plus-nothing h q blocks (ended-hand kept h first q blocks call tells.steps _ of of_new tells.called leaves held)
-resume-hand kept h first p q blocks call made tries resumed.Spent of of_new tells tried leaves held =
-    plus-nothing h q blocks (ended-hand kept h first q blocks call tells.0.steps _ of of_new tells.0.called leaves held)
-resume-hand kept h first p q blocks call made tries resumed.Busy of of_new tells tried leaves held =
+    (λ other owns. called-given h first q call e.steps block.place block.need other of of_new e.called owns) blocks held)
+    (ended-hand h first q blocks call e.steps _ of of_new e.called leaves held)
+resume-hand h first p q blocks call made tries resumed.Freed of of_new tells tried leaves held =
+    plus-nothing h q blocks (ended-hand h first q blocks call tells.steps _ of of_new tells.called leaves held)
+resume-hand h first p q blocks call made tries resumed.Refused of of_new tells tried leaves held =
+    plus-nothing h q blocks (ended-hand h first q blocks call tells.steps _ of of_new tells.called leaves held)
+resume-hand h first p q blocks call made tries resumed.Spent of of_new tells tried leaves held =
+    plus-nothing h q blocks (ended-hand h first q blocks call tells.0.steps _ of of_new tells.0.called leaves held)
+resume-hand h first p q blocks call made tries resumed.Busy of of_new tells tried leaves held =
     plus-nothing h q blocks (interrupted-hand h first p q blocks call made tries of of_new tells tried leaves held)
 
 -- the same of the hand of a call that was waiting
 pub waiting-hand :
-    IsKept → (h : Heap) (p q : Pass) (blocks : List Block) (tries : ℕ) (answer : Resumed) → IsWaiting h p blocks → IsOf h q
+    (h : Heap) (p q : Pass) (blocks : List Block) (tries : ℕ) (answer : Resumed) → IsWaiting h p blocks → IsOf h q
     → ((first : Pass) (call : Call) (made : ℕ) → IsCalling first call made p → ResumeTells first call made p tries answer q)
     → IsHand h q (blocks ++ resumed_by answer)
-waiting-hand kept h p q blocks tries answer w of_new tells =
-    resume-hand kept h w.first p q blocks w.call w.steps tries answer w.of of_new (tells w.first w.call w.steps w.calling) w.tried w.leaves w.holds
+waiting-hand h p q blocks tries answer w of_new tells =
+    resume-hand h w.first p q blocks w.call w.steps tries answer w.of of_new (tells w.first w.call w.steps w.calling) w.tried w.leaves w.holds
 
 -- an idle pass that has changed in nothing
 same-hand : (h : Heap) (p q : Pass) (blocks : List Block) → q ≡ p → IsIdle p.errand → IsOf h q → Holds p blocks → IsHand h q (blocks ++ [])
@@ -234,51 +226,51 @@ same-hand h p q blocks same idle of_new held =
 
 -- an allocation
 pub alloc-hand :
-    IsKept → (h : Heap) (p q : Pass) (blocks : List Block) (need tries : ℕ) (answer : AllocAnswer) → IsOf h p → IsIdle p.errand → Holds p blocks
+    (h : Heap) (p q : Pass) (blocks : List Block) (need tries : ℕ) (answer : AllocAnswer) → IsOf h p → IsIdle p.errand → Holds p blocks
     → IsOf h q → AllocTells p need tries answer q → IsHand h q (blocks ++ given_by answer)
-alloc-hand kept h p q blocks need tries (alloc_answer.Given block) of idle held of_new tells =
-    resume-hand kept h p p q blocks (alloc need) 0 tries (resumed.Given block) of of_new tells tt (alloc-leaves need blocks) held
-alloc-hand kept h p q blocks need tries alloc_answer.Refused of idle held of_new tells =
-    resume-hand kept h p p q blocks (alloc need) 0 tries resumed.Refused of of_new tells tt (alloc-leaves need blocks) held
-alloc-hand kept h p q blocks need tries alloc_answer.TooLarge of idle held of_new tells = same-hand h p q blocks tells idle of_new held
-alloc-hand kept h p q blocks need tries alloc_answer.Spent of idle held of_new (inl at_once) = same-hand h p q blocks at_once.same idle of_new held
-alloc-hand kept h p q blocks need tries alloc_answer.Spent of idle held of_new (inr later) =
-    resume-hand kept h p p q blocks (alloc need) 0 tries resumed.Spent of of_new later tt (alloc-leaves need blocks) held
-alloc-hand kept h p q blocks need tries alloc_answer.Busy of idle held of_new tells =
-    resume-hand kept h p p q blocks (alloc need) 0 tries resumed.Busy of of_new tells tt (alloc-leaves need blocks) held
+alloc-hand h p q blocks need tries (alloc_answer.Given block) of idle held of_new tells =
+    resume-hand h p p q blocks (alloc need) 0 tries (resumed.Given block) of of_new tells tt (alloc-leaves need blocks) held
+alloc-hand h p q blocks need tries alloc_answer.Refused of idle held of_new tells =
+    resume-hand h p p q blocks (alloc need) 0 tries resumed.Refused of of_new tells tt (alloc-leaves need blocks) held
+alloc-hand h p q blocks need tries alloc_answer.TooLarge of idle held of_new tells = same-hand h p q blocks tells idle of_new held
+alloc-hand h p q blocks need tries alloc_answer.Spent of idle held of_new (inl at_once) = same-hand h p q blocks at_once.same idle of_new held
+alloc-hand h p q blocks need tries alloc_answer.Spent of idle held of_new (inr later) =
+    resume-hand h p p q blocks (alloc need) 0 tries resumed.Spent of of_new later tt (alloc-leaves need blocks) held
+alloc-hand h p q blocks need tries alloc_answer.Busy of idle held of_new tells =
+    resume-hand h p p q blocks (alloc need) 0 tries resumed.Busy of of_new tells tt (alloc-leaves need blocks) held
 
 -- a free of a block that lies apart from the others
 pub free-hand :
-    IsKept → (h : Heap) (p q : Pass) (blocks : List Block) (block : Block) (tries : ℕ) (answer : FreeAnswer) → IsOf h p
+    (h : Heap) (p q : Pass) (blocks : List Block) (block : Block) (tries : ℕ) (answer : FreeAnswer) → IsOf h p
     → All (λ other. other.place ≢ block.place) blocks → Holds p blocks → IsOf h q → FreeTells p block tries answer q → IsHand h q blocks
-free-hand kept h p q blocks block tries free_answer.Freed of apart held of_new tells =
-    ended-hand kept h p q blocks (free block.place block.need) tells.steps _ of of_new tells.called apart held
-free-hand kept h p q blocks block tries free_answer.Busy of apart held of_new tells =
+free-hand h p q blocks block tries free_answer.Freed of apart held of_new tells =
+    ended-hand h p q blocks (free block.place block.need) tells.steps _ of of_new tells.called apart held
+free-hand h p q blocks block tries free_answer.Busy of apart held of_new tells =
     interrupted-hand h p p q blocks (free block.place block.need) 0 tries of of_new tells tt apart held
 
 -- a put, from which the block may come back
 pub put-hand :
-    {A : Type 0} → IsKept → (h : Heap) (p q : Pass) (blocks : List Block) (block : Block) (shelf : ℕ) (answer : Result A Full) → IsOf h p
+    {A : Type 0} (h : Heap) (p q : Pass) (blocks : List Block) (block : Block) (shelf : ℕ) (answer : Result A Full) → IsOf h p
     → All (λ other. other.place ≢ block.place) blocks → Holds p blocks → IsOf h q
     → IfOk answer (λ _. HasCalled p (put block.place block.need shelf) 0 reply.Put q)
     → IfErr answer (λ full. PutTellsFull p block shelf full q) → IsHand h q (blocks ++ returned_by answer)
-put-hand kept h p q blocks block shelf (Ok _) of apart held of_new lies back =
-    plus-nothing h q blocks (ended-hand kept h p q blocks (put block.place block.need shelf) 0 _ of of_new lies apart held)
-put-hand kept h p q blocks block shelf (Err full) of apart held of_new lies back =
+put-hand h p q blocks block shelf (Ok _) of apart held of_new lies back =
+    plus-nothing h q blocks (ended-hand h p q blocks (put block.place block.need shelf) 0 _ of of_new lies apart held)
+put-hand h p q blocks block shelf (Err full) of apart held of_new lies back =
     brought-hand h q blocks full.block back.called.idle back.owned
     (subst (λ (x : Block). All (λ other. other.place ≢ x.place) blocks) (sym back.same) apart)
-    (ended-hand kept h p q blocks (put block.place block.need shelf) 0 _ of of_new back.called apart held)
+    (ended-hand h p q blocks (put block.place block.need shelf) 0 _ of of_new back.called apart held)
 
 -- a take
 pub take-hand :
-    IsKept → (h : Heap) (p q : Pass) (blocks : List Block) (shelf : ℕ) (answer : Taken) → IsOf h p → Holds p blocks → IsOf h q
+    (h : Heap) (p q : Pass) (blocks : List Block) (shelf : ℕ) (answer : Taken) → IsOf h p → Holds p blocks → IsOf h q
     → TakeTells p shelf answer q → IsHand h q (blocks ++ taken_by answer)
-take-hand kept h p q blocks shelf (taken.Got block) of held of_new tells =
+take-hand h p q blocks shelf (taken.Got block) of held of_new tells =
     brought-hand h q blocks block tells.0.idle tells.1
     (holds-all p (λ other. other.place ≢ block.place)
-    (λ other owns. kept.got h p q (take_call shelf) 1 block.place block.need other of of_new tells.0 owns) blocks held)
-    (ended-hand kept h p q blocks (take_call shelf) 1 _ of of_new tells.0 (λ k d within. tt) held)
-take-hand kept h p q blocks shelf taken.Empty of held of_new tells =
-    plus-nothing h q blocks (ended-hand kept h p q blocks (take_call shelf) 1 _ of of_new tells (λ k d within. tt) held)
-take-hand kept h p q blocks shelf (taken.Missed expected found) of held of_new tells =
-    plus-nothing h q blocks (ended-hand kept h p q blocks (take_call shelf) 1 _ of of_new tells.0 (λ k d within. tt) held)
+    (λ other owns. called-got h p q (take_call shelf) 1 block.place block.need other of of_new tells.0 owns) blocks held)
+    (ended-hand h p q blocks (take_call shelf) 1 _ of of_new tells.0 (λ k d within. tt) held)
+take-hand h p q blocks shelf taken.Empty of held of_new tells =
+    plus-nothing h q blocks (ended-hand h p q blocks (take_call shelf) 1 _ of of_new tells (λ k d within. tt) held)
+take-hand h p q blocks shelf (taken.Missed expected found) of held of_new tells =
+    plus-nothing h q blocks (ended-hand h p q blocks (take_call shelf) 1 _ of of_new tells.0 (λ k d within. tt) held)

@@ -28,6 +28,7 @@ pub mod RefusedPoints
 pub mod RefusedSteps
 pub mod Seats
 pub mod StepByStep
+pub mod StepHands
 pub mod Stepped
 pub mod Straight
 pub mod Told

@@ -12,11 +12,14 @@ use Rattle.errand_steps.specs.declared.point.Point.TheVariants as point
 use Rattle.errand_steps.specs.declared.reply.Progress.TheVariants as progress
 use Rattle.errand_steps.specs.declared.reply.Reply.{Reply}
 use Rattle.errand_steps.specs.declared.reply.Reply.TheVariants as reply
-use Rattle.errand_steps.specs.Begins.{IsIdle, put_begun, read_begun, take_begun, write_begun}
+use Rattle.errand_steps.specs.Begins.{alloc_answer, IsIdle, put_begun, read_begun, take_begun, write_begun}
 use Rattle.errand_steps.specs.Calls.{Call, alloc, begun_by, free, write, read, put, take}
 use Rattle.errand_steps.specs.Errands.{ErrandFields}
 use Rattle.errand_steps.specs.Nexts.{next_of}
 use Rattle.step_core.proofs.MomentAnswers.{moment-meant}
+use Rattle.errand_steps.specs.declared.reply.Begun.{Begun}
+use Rattle.errand_steps.specs.declared.reply.Begun.TheVariants as begun
+use Rattle.live_heap.proofs.CallsCounts.{never-idle}
 use Rattle.live_heap.specs.declared.answers.Ending.{Ending}
 use Rattle.live_heap.specs.declared.answers.Ending.TheVariants as ending
 use Rattle.live_heap.specs.declared.answers.Step.{Step}
@@ -29,7 +32,7 @@ use Rattle.live_heap.specs.Passes.{IsOf, seen}
 use Rattle.live_heap.specs.Steps.{EndTells, HasStarted, IsDone, IsLastStep}
 use Rattle.live_heap.specs.Whole.{OwnsFor}
 use Rattle.live_heap.proofs.Begun.{heap-at}
-use Rattle.live_heap.proofs.CallsAnswers.{given-owns, got-owns, spent-limit}
+use Rattle.live_heap.proofs.CallsAnswers.{given-owns, got-owns, spent-at_once, spent-limit, step-moment, too_large-same}
 use Rattle.live_heap.proofs.CallsGrow.{alloc-calling, calls-go_on, other-calling, settled-of}
 use Rattle.live_heap.proofs.CallsOne.{end-answers, ends-one, full-tells, load-ends, missed-lost, put-lost, put-won, read-contents, second-stands, shelf-loads, store-ends, take-told, told-done, told-more}
 
@@ -151,3 +154,18 @@ take-loses first p q shelf expected found idle calling stepped =
     let at =
     second-stands first.errand.caller shelf first.errand on.0 p.errand on.1 (seen p) calling.added on.2 on.3.0 on.4 calling.under_way in
     missed-lost first.errand on.0 p q shelf one.x (step.Done (ending.Missed expected found)) expected found refl idle on.3.0 one.settled at stepped
+
+-- an allocation that its begin has not started leaves the pass as it was
+unstarted-as :
+    (p q : Pass) (words : ℕ) (a : Begun) → alloc_answer p.errand words ≡ a → HasBegun p (alloc words) q
+    → alloc_answer p.errand words ≢ begun.Started → q ≡ p
+unstarted-as p q words begun.Started is since not = absurd (not is)
+unstarted-as p q words begun.TooLarge is since not = too_large-same p q words is since
+unstarted-as p q words begun.Spent is since not = (spent-at_once p q words is since).same
+
+pub unstarted : (p q : Pass) (words : ℕ) → HasBegun p (alloc words) q → alloc_answer p.errand words ≢ begun.Started → q ≡ p
+unstarted p q words since not = unstarted-as p q words (alloc_answer p.errand words) refl since not
+
+-- a step of a call is told as one
+pub step-moves : (p q : Pass) (told : Step) → HasStepped p q told → told ≢ step.Idle
+step-moves p q told stepped is = never-idle p.errand q.errand (seen p) (seen q) (step-moment p q told step.Idle is stepped)

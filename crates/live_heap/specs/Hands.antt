@@ -5,9 +5,13 @@ use Rattle.errand_steps.specs.Calls.{Call}
 use Rattle.step_core.specs.Keeping.{Leaves}
 use Rattle.live_heap.specs.declared.answers.AllocAnswer.{AllocAnswer}
 use Rattle.live_heap.specs.declared.answers.AllocAnswer.TheVariants as alloc_answer
+use Rattle.live_heap.specs.declared.answers.Ending.{Ending}
+use Rattle.live_heap.specs.declared.answers.Ending.TheVariants as ending
 use Rattle.live_heap.specs.declared.answers.Full.{Full}
 use Rattle.live_heap.specs.declared.answers.Resumed.{Resumed}
 use Rattle.live_heap.specs.declared.answers.Resumed.TheVariants as resumed
+use Rattle.live_heap.specs.declared.answers.Step.{Step}
+use Rattle.live_heap.specs.declared.answers.Step.TheVariants as step
 use Rattle.live_heap.specs.declared.answers.Taken.{Taken}
 use Rattle.live_heap.specs.declared.answers.Taken.TheVariants as taken
 use Rattle.live_heap.specs.declared.block.Block.{Block}
@@ -51,3 +55,14 @@ taken_by answer = []
 abbrev pub returned_by : {A : Type 0} → Result A Full → List Block
 returned_by (Ok put) = []
 returned_by (Err full) = full.block ∷ []
+
+-- the block that the end of a call brings, if any; and a step
+abbrev pub brought_by : Ending → List Block
+brought_by (ending.Given block) = block ∷ []
+brought_by (ending.Full block found) = block ∷ []
+brought_by (ending.Got block) = block ∷ []
+brought_by told = []
+
+abbrev pub brought_in : Step → List Block
+brought_in (step.Done told) = brought_by told
+brought_in told = []

@@ -1,8 +1,9 @@
 //! The law of calls that are made step by step.
 
-ghost use Rattle.std.specs.Prelude.{ℕ, suc, ◌≡◌};
-ghost use Rattle.errand_steps.specs.Begins.{IsIdle};
-ghost use Rattle.errand_steps.specs.Calls.{Call, take};
+ghost use Rattle.std.specs.Prelude.{ℕ, suc, ◌≡◌, ◌≢◌};
+ghost use Rattle.errand_steps.specs.declared.reply.Begun.TheVariants as begun;
+ghost use Rattle.errand_steps.specs.Begins.{IsIdle, alloc_answer};
+ghost use Rattle.errand_steps.specs.Calls.{Call, alloc, take};
 ghost use Rattle.live_heap.specs.declared.answers.Ending.{Ending};
 ghost use Rattle.live_heap.specs.declared.answers.Ending.TheVariants as ending;
 ghost use Rattle.live_heap.specs.declared.answers.Step.{Step};
@@ -17,7 +18,8 @@ ghost use Rattle.live_heap.specs.Whole.{OwnsFor};
 
 /// A call that is made step by step is a call, and says what the whole call says: it begins; each step that
 /// doesn't end it goes on with it, and so it may be resumed; and the one that does ends it. A write, a read
-/// and a put end with their first step, a take with its second; one that misses has lost one exchange more.
+/// and a put end with their first step, a take with its second; one that misses has lost one exchange more. An
+/// allocation that its begin has not started leaves the pass as it was.
 pub fn calls_go_step_by_step()
     ensures begins { (h : Heap) (p q : Pass) (call : Call) → IsOf h p → IsIdle p.errand → OwnsFor p call → HasStarted p call
         → HasBegun p call q → IsCalling p call 0 q }
@@ -30,6 +32,8 @@ pub fn calls_go_step_by_step()
     ensures last { (first : Pass) (call : Call) (steps : ℕ) (p q : Pass) (told : Step) → IsCalling first call steps p
         → IsLastStep call steps → HasStepped p q told → IsDone told }
     ensures take { (first p q : Pass) (shelf : ℕ) (told : Step) → IsCalling first (take shelf) 0 p → HasStepped p q told → told ≡ step.More }
+    ensures moves { (p q : Pass) (told : Step) → HasStepped p q told → told ≢ step.Idle }
+    ensures unstarted { (p q : Pass) (words : ℕ) → HasBegun p (alloc words) q → alloc_answer p.errand words ≢ begun.Started → q ≡ p }
     ensures missed { (first p q : Pass) (shelf expected found : ℕ) → IsIdle first.errand → IsCalling first (take shelf) 1 p
         → HasStepped p q (step.Done (ending.Missed expected found)) → q.errand ≡ with_lost first.errand }
 {}

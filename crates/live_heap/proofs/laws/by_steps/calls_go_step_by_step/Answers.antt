@@ -1,4 +1,4 @@
-use Rattle.live_heap.proofs.StepByStep.{begun-calling, last-done, steps-end, steps-on, steps-tell, take-first, take-loses}
+use Rattle.live_heap.proofs.StepByStep.{begun-calling, last-done, steps-end, steps-on, step-moves, steps-tell, take-first, take-loses, unstarted}
 use Rattle.live_heap.proofs.laws.by_steps.calls_go_step_by_step.Goals as goal
 
 pub returns-clause-begins : goal.returns-clause-begins
@@ -21,3 +21,9 @@ returns-clause-take c = take-first
 
 pub returns-clause-missed : goal.returns-clause-missed
 returns-clause-missed c = take-loses
+
+pub returns-clause-moves : goal.returns-clause-moves
+returns-clause-moves c = step-moves
+
+pub returns-clause-unstarted : goal.returns-clause-unstarted
+returns-clause-unstarted c = unstarted
