@@ -2,7 +2,7 @@
 
 ghost use Rattle.std.specs.Prelude.{◌≡◌, ◌<◌, ◌++◌, vec_len, vec_capacity};
 ghost use Rattle.live_heap.specs.Hands.{given_by, resumed_by, returned_by, taken_by};
-ghost use Rattle.heap_scripts.specs.Brought.{brought_by, brought_in};
+ghost use Rattle.live_heap.specs.Hands.{brought_by, brought_in};
 
 use crate::request::Told;
 use live_heap::answers::{AllocAnswer, Ending, Full, Resumed, Step, Taken};

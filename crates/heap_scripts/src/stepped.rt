@@ -1,8 +1,8 @@
 //! The same calls step by step, as far as a pace allows.
 
 ghost use Rattle.std.specs.Prelude.{◌<◌, vec_len, vec_capacity};
-ghost use Rattle.live_heap.specs.Hands.{IsHand, IsWaiting};
-ghost use Rattle.live_heap.specs.Passes.{IsOf};
+ghost use Rattle.errand_steps.specs.Begins.{IsBusy};
+ghost use Rattle.live_heap.specs.Hands.{IsHand};
 
 use crate::brought::{take_ending, take_step};
 use crate::request::{Request, Told};
@@ -11,7 +11,10 @@ use heap_geometry::limits::SHELVES;
 use live_heap::answers::{Ending, Step};
 use live_heap::block::Block;
 use live_heap::heap::Heap;
-use live_heap::laws::passes_keep_their_blocks;
+use live_heap::laws::by_steps::calls_go_step_by_step;
+use live_heap::laws::hands::{
+    hands_give_out_blocks, hands_go_through_calls, hands_go_through_steps,
+};
 use live_heap::pass::Pass;
 use std::alloc::AllocError;
 
@@ -26,12 +29,13 @@ pub struct Pace {
 
 /// Goes on with the call that is under way.
 fn go_on(heap: &Heap, pass: &mut Pass, blocks: &mut Vec<Block>, pace: Pace, made: &mut u64) -> Told
-    requires of { IsOf heap.now pass.old }
-    requires waits { IsWaiting heap.now pass.old blocks.old.items }
+    requires hand { IsHand heap.now pass.old blocks.old.items }
+    requires busy { IsBusy pass.old.errand }
     requires room { vec_len blocks.old < vec_capacity blocks.old }
     ensures { IsHand heap.now pass.new blocks.new.items }
 {
-    passes_keep_their_blocks();
+    calls_go_step_by_step();
+    hands_go_through_steps();
     let mut left = pace.tries;
     for _ in 0..pace.steps {
         if left == 0 {
@@ -70,6 +74,8 @@ fn alloc(
     if !pass.idle() {
         return Ok(None);
     }
+    calls_go_step_by_step();
+    hands_go_through_steps();
     match heap.begin_alloc(pass, need) {
         Begun::TooLarge => Ok(Some(Told::TooLarge)),
         Begun::Spent => Ok(Some(Told::Spent)),
@@ -92,6 +98,9 @@ fn free(
     if !pass.idle() || number >= blocks.len() {
         return None;
     }
+    calls_go_step_by_step();
+    hands_give_out_blocks();
+    hands_go_through_steps();
     let block = blocks.remove(number);
     heap.begin_free(pass, block);
     Some(go_on(heap, pass, blocks, pace, made))
@@ -131,7 +140,9 @@ fn write(
     if !pass.idle() || number >= blocks.len() || i >= blocks[number].words() {
         return None;
     }
-    passes_keep_their_blocks();
+    calls_go_step_by_step();
+    hands_give_out_blocks();
+    hands_go_through_calls();
     heap.begin_write(pass, &blocks[number], i, v);
     count(made);
     told_word(heap.step(pass))
@@ -152,7 +163,9 @@ fn read(
     if !pass.idle() || number >= blocks.len() || i >= blocks[number].words() {
         return None;
     }
-    passes_keep_their_blocks();
+    calls_go_step_by_step();
+    hands_give_out_blocks();
+    hands_go_through_calls();
     heap.begin_read(pass, &blocks[number], i);
     count(made);
     told_word(heap.step(pass))
@@ -182,7 +195,9 @@ fn put(
     if !pass.idle() || number >= blocks.len() || shelf >= SHELVES {
         return None;
     }
-    passes_keep_their_blocks();
+    calls_go_step_by_step();
+    hands_give_out_blocks();
+    hands_go_through_calls();
     let block = blocks.remove(number);
     heap.begin_put(pass, block, shelf);
     count(made);
@@ -204,7 +219,8 @@ fn take(
     if !pass.idle() || shelf >= SHELVES {
         return Ok(None);
     }
-    passes_keep_their_blocks();
+    calls_go_step_by_step();
+    hands_go_through_calls();
     heap.begin_take(pass, shelf);
     count(made);
     let _ = heap.step(pass);

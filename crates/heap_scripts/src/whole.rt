@@ -10,7 +10,7 @@ use heap_geometry::limits::SHELVES;
 use live_heap::answers::FreeAnswer;
 use live_heap::block::Block;
 use live_heap::heap::Heap;
-use live_heap::laws::passes_keep_their_blocks;
+use live_heap::laws::hands::{hands_give_out_blocks, hands_go_through_calls};
 use live_heap::pass::Pass;
 use std::alloc::AllocError;
 
@@ -30,7 +30,7 @@ fn alloc(
     if !pass.idle() {
         return Ok(None);
     }
-    passes_keep_their_blocks();
+    hands_go_through_calls();
     let answer = heap.alloc(pass, need, tries);
     Ok(Some(take_given(blocks, answer)))
 }
@@ -50,7 +50,8 @@ fn free(
     if !pass.idle() || number >= blocks.len() {
         return None;
     }
-    passes_keep_their_blocks();
+    hands_give_out_blocks();
+    hands_go_through_calls();
     let block = blocks.remove(number);
     Some(heap.free(pass, block, tries))
 }
@@ -70,7 +71,7 @@ fn resume(
     if pass.idle() {
         return Ok(None);
     }
-    passes_keep_their_blocks();
+    hands_go_through_calls();
     let answer = heap.resume(pass, tries);
     Ok(Some(take_resumed(blocks, answer)))
 }
@@ -90,7 +91,8 @@ fn write(
     if !pass.idle() || number >= blocks.len() || i >= blocks[number].words() {
         return None;
     }
-    passes_keep_their_blocks();
+    hands_give_out_blocks();
+    hands_go_through_calls();
     heap.write(pass, &blocks[number], i, v);
     Some(())
 }
@@ -103,7 +105,8 @@ fn read(heap: &Heap, pass: &mut Pass, blocks: &[Block], number: usize, i: u32) -
     if !pass.idle() || number >= blocks.len() || i >= blocks[number].words() {
         return None;
     }
-    passes_keep_their_blocks();
+    hands_give_out_blocks();
+    hands_go_through_calls();
     Some(heap.read(pass, &blocks[number], i))
 }
 
@@ -121,7 +124,8 @@ fn put(
     if !pass.idle() || number >= blocks.len() || shelf >= SHELVES {
         return None;
     }
-    passes_keep_their_blocks();
+    hands_give_out_blocks();
+    hands_go_through_calls();
     let block = blocks.remove(number);
     let answer = heap.put(pass, block, shelf);
     Some(take_returned(blocks, answer))
@@ -141,7 +145,7 @@ fn take(
     if !pass.idle() || shelf >= SHELVES {
         return Ok(None);
     }
-    passes_keep_their_blocks();
+    hands_go_through_calls();
     let answer = heap.take(pass, shelf);
     Ok(Some(take_got(blocks, answer)))
 }

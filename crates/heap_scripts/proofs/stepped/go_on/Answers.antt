@@ -1,56 +1,52 @@
-use Rattle.std.proofs.Common.{◌≡◌, ◌≢◌, sym, subst}
-use Rattle.errand_steps.specs.declared.reply.Progress.TheVariants.{Done}
-use Rattle.errand_steps.specs.declared.reply.Reply.{Reply}
+use Rattle.std.proofs.Common.{◌≡◌, ◌++◌, append-nil, sym, subst}
+use Rattle.errand_steps.specs.Begins.{IsBusy}
+use Rattle.live_heap.specs.declared.answers.Ending.{Ending}
 use Rattle.live_heap.specs.declared.answers.Step.{Step}
 use Rattle.live_heap.specs.declared.answers.Step.TheVariants as step
-use Rattle.live_heap.specs.Answers.{progress_of}
-use Rattle.live_heap.specs.Hands.{IsHand, IsWaiting}
-use Rattle.live_heap.proofs.CallsAnswers.{step-moment}
-use Rattle.live_heap.proofs.CallsCounts.{cleared-undone, lost-undone, more-undone, never-idle}
-use Rattle.live_heap.proofs.Holding.{IsKept}
-use Rattle.heap_scripts.proofs.SteppedLemmas.{waited-hand, waiting-hand, waits-on}
+use Rattle.live_heap.specs.Answers.{HasStepped}
+use Rattle.live_heap.specs.Hands.{IsHand, brought_in}
+use Rattle.live_heap.specs.Steps.{IsDone}
 use Rattle.heap_scripts.proofs.stepped.go_on.Goals as goal
 use Rattle.heap_scripts.proofs.stepped.go_on.Goals.{in-More, in-Lost, in-Cleared}
 
 pub loop-init : goal.loop-init
-loop-init c = record { of = c.requires.of; waits = c.requires.waits; room = c.requires.room }
+loop-init c = record { hand = c.requires.hand; busy = c.requires.busy; room = c.requires.room }
 
 pub unreachable-requires : goal.unreachable-requires
 unreachable-requires c =
-    let w = c.loop.invariant.waits in
-    never-idle c.loop.pass.errand c.step.new.pass.errand _ _
-    (step-moment c.loop.pass c.step.new.pass _ _ c.in-Idle.is (c.step.ensures.busy w.calling.busy))
+    c.calls_go_step_by_step.ensures.moves c.loop.pass c.step.new.pass c.step.result (c.step.ensures.busy c.loop.invariant.busy) c.in-Idle.is
 
 pub loop-preserved : goal.loop-preserved
 loop-preserved c =
     let i = c.loop.invariant in
-    let on : (same : Step) → c.step.result ≡ same → ((r : Reply) → progress_of same ≢ Done r) → IsWaiting c.args.heap.now c.step.new.pass c.loop.blocks.items =
+    let w = i.hand.waits i.busy in
+    let stepped : HasStepped c.loop.pass c.step.new.pass c.step.result = c.step.ensures.busy i.busy in
+    let on : (same : Step) → c.step.result ≡ same → ¬ IsDone same → IsHand c.args.heap.now c.step.new.pass (c.loop.blocks.items ++ brought_in same) × IsBusy c.step.new.pass.errand =
     λ same is undone.
-    waits-on c.args.heap.now c.loop.pass c.step.new.pass c.loop.blocks.items c.step.result same is (c.step.ensures.busy i.waits.calling.busy) undone i.waits in
+    let told = subst (HasStepped c.loop.pass c.step.new.pass) is stepped in (
+      c.hands_go_through_steps.ensures.stepped c.args.heap.now c.loop.pass c.step.new.pass c.loop.blocks.items same i.hand i.busy c.step.ensures.of told,
+      (c.calls_go_step_by_step.ensures.goes_on w.first w.call w.steps c.loop.pass c.step.new.pass same w.calling told undone).busy,
+    ) in
+    let both = elim c.match-step.branch [
+      | in-More w ↦ on step.More w.in-More.is (λ (end, is). absurd (let e : step.More ≡ step.Done end = is in cc))
+      | in-Lost w ↦ on step.Lost w.in-Lost.is (λ (end, is). absurd (let e : step.Lost ≡ step.Done end = is in cc))
+      | in-Cleared w ↦ on step.Cleared w.in-Cleared.is (λ (end, is). absurd (let e : step.Cleared ≡ step.Done end = is in cc))
+    ] in
     record {
-      of = c.step.ensures.of;
-      waits = elim c.match-step.branch [
-        | in-More w ↦ on step.More w.in-More.is more-undone
-        | in-Lost w ↦ on step.Lost w.in-Lost.is lost-undone
-        | in-Cleared w ↦ on step.Cleared w.in-Cleared.is cleared-undone
-      ];
+      hand = subst (IsHand c.args.heap.now c.step.new.pass) (append-nil c.loop.blocks.items) both.0;
+      busy = both.1;
       room = i.room;
     }
 
 pub returns-in-Done : goal.returns-in-Done
 returns-in-Done c =
-    let kept : IsKept = record {
-      called = c.passes_keep_their_blocks.ensures.called;
-      given = c.passes_keep_their_blocks.ensures.given;
-      got = c.passes_keep_their_blocks.ensures.got;
-    } in
-    let w = c.loop.invariant.waits in
+    let i = c.loop.invariant in
     subst (IsHand c.args.heap.now c.step.new.pass) (sym c.take_ending.ensures)
-    (waited-hand kept c.args.heap.now c.loop.pass c.step.new.pass c.loop.blocks.items c.step.result c.in-Done.ending c.in-Done.is
-    (c.step.ensures.busy w.calling.busy) c.step.ensures.of w)
+    (c.hands_go_through_steps.ensures.stepped c.args.heap.now c.loop.pass c.step.new.pass c.loop.blocks.items (step.Done c.in-Done.ending) i.hand
+    i.busy c.step.ensures.of (subst (HasStepped c.loop.pass c.step.new.pass) c.in-Done.is (c.step.ensures.busy i.busy)))
 
 pub returns-then-left-eq0 : goal.returns-then-left-eq0
-returns-then-left-eq0 c = waiting-hand c.args.heap.now c.loop.pass c.loop.blocks.items c.loop.invariant.of c.loop.invariant.waits
+returns-then-left-eq0 c = c.loop.invariant.hand
 
 pub returns : goal.returns
-returns c = waiting-hand c.args.heap.now c.loop.pass c.loop.blocks.items c.loop.invariant.of c.loop.invariant.waits
+returns c = c.loop.invariant.hand

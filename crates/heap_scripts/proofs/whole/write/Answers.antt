@@ -1,20 +1,19 @@
-use Rattle.std.proofs.Common.{◌<◌, length, rules}
+use Rattle.std.proofs.Common.{◌<◌, length, append-nil, subst, rules}
 use Rattle.errand_steps.specs.Begins.{IsIdle}
-use Rattle.live_heap.proofs.Holding.{IsKept, ended-hand, holds-at}
+use Rattle.live_heap.specs.declared.answers.Ending.TheVariants as ending
+use Rattle.live_heap.specs.Hands.{IsHand}
 use Rattle.heap_scripts.proofs.whole.write.Goals as goal
 
 pub write-requires-clause-owned : goal.write-requires-clause-owned
 write-requires-clause-owned c =
     let idle : IsIdle c.args.pass.now.errand = search rules in
     let within : c.args.number < length c.args.blocks.now = search rules in
-    holds-at c.args.pass.now c.args.blocks.now c.args.number c.index-blocks-number-2.result within c.index-blocks-number-2.is (c.requires.hand.holds idle)
+    c.hands_give_out_blocks.ensures.owned c.args.pass.now c.args.blocks.now c.args.number c.index-blocks-number-2.result within
+    c.index-blocks-number-2.is (c.requires.hand.holds idle)
 
 pub returns : goal.returns
 returns c =
-    let kept : IsKept = record {
-      called = c.passes_keep_their_blocks.ensures.called;
-      given = c.passes_keep_their_blocks.ensures.given;
-      got = c.passes_keep_their_blocks.ensures.got;
-    } in
     let idle : IsIdle c.args.pass.now.errand = search rules in
-    ended-hand kept c.args.heap.now c.args.pass.now c.write.new.pass c.args.blocks.now _ _ _ c.requires.hand.of c.write.ensures.of c.write.ensures.called (λ k d within. tt) (c.requires.hand.holds idle)
+    subst (IsHand c.args.heap.now c.write.new.pass) (append-nil c.args.blocks.now)
+    (c.hands_go_through_calls.ensures.ended c.args.heap.now c.args.pass.now c.write.new.pass c.args.blocks.now _ 0 ending.Wrote c.requires.hand.of
+    (c.requires.hand.holds idle) c.write.ensures.of (λ k d within. tt) c.write.ensures.called tt)
