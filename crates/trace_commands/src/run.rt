@@ -53,9 +53,10 @@ pub fn run<R: Threads + Wait + Sync, S: Source, K: Sink, G: Gate + Sync>(
     ensures known { IsStatus result.status }
 
     // Where the words are no command, neither edge is called; a command without an input doesn't call the source.
-    ensures usage { result.status ≡ USAGE → (¬ IsCommand (map string_bytes words.now)) × (source.new ≡ source.old) }
+    ensures usage { result.status ≡ USAGE → ¬ IsCommand (map string_bytes words.now) }
     ensures unknown { (¬ IsCommand (map string_bytes words.now))
         → (result.status ≡ USAGE) ⊎ (result.status ≡ OUT_OF_MEMORY) }
+    ensures untouched { (¬ IsCommand (map string_bytes words.now)) → (source.new ≡ source.old) × (sink.new ≡ sink.old) }
     ensures unread { (command : Command) → IsCommandLine command (map string_bytes words.now) → has_input command ≡ false
         → source.new ≡ source.old }
 
