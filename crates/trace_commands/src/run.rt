@@ -1,6 +1,7 @@
 //! The top call: from the words and the input to the answer and the status.
 
 ghost use Rattle.std.specs.Prelude.{◌≡◌, ◌≢◌, ◌⊎◌, None, false, map, string_bytes};
+ghost use Rattle.std.specs.Process.{exit_status};
 ghost use Rattle.edge_io.specs.Faults.{FaultsRose};
 ghost use Rattle.trace_commands.specs.Answers.{IsRefusal, IsReport};
 ghost use Rattle.command_parts.specs.Command.{IsCommand, IsCommandLine, has_input};
@@ -11,6 +12,7 @@ ghost use Rattle.trace_commands.specs.Runs.{AsksInput, IsAnswer, IsStatus, Reads
 
 use crate::answer::{Answer, answer_to};
 use crate::closing::Closing;
+use command_parts::exit::code_of;
 use command_parts::output::write_text;
 use command_parts::parsing::{NoCommand, read_words};
 use command_parts::status::{OUT_OF_MEMORY, USAGE, WRITE_FAULT};
@@ -18,6 +20,7 @@ use edge_io::gate::Gate;
 use edge_io::sink::Sink;
 use edge_io::source::Source;
 use std::alloc::Global;
+use std::process::ExitCode;
 use std::sync::Wait;
 use std::thread::Threads;
 use trace_text::limits::MAX_INPUT;
@@ -27,18 +30,32 @@ use trace_text::limits::MAX_INPUT;
 pub struct Ended {
     /// The status that the program ends with.
     pub status: u8,
+    /// The code that says it, for `main` to answer.
+    pub code: ExitCode,
     /// The heap, where one was run to its end.
     pub closed: Option<Closing>,
 }
 
-/// An end before a heap was run.
-fn ended_early(status: u8) -> Ended
-    ensures { result ≡ record { status = status; closed = None } }
+/// An end at this status.
+fn ended_at(status: u8, closed: Option<Closing>) -> Ended
+    ensures status { result.status ≡ status }
+    ensures code { exit_status result.code ≡ status }
+    ensures closed { result.closed ≡ closed }
 {
     Ended {
         status,
-        closed: None,
+        code: code_of(status),
+        closed,
     }
+}
+
+/// An end before a heap was run.
+fn ended_early(status: u8) -> Ended
+    ensures status { result.status ≡ status }
+    ensures code { exit_status result.code ≡ status }
+    ensures closed { result.closed ≡ None }
+{
+    ended_at(status, None)
 }
 
 /// Runs the command that the words are, from the source to the sink.
@@ -51,6 +68,7 @@ pub fn run<R: Threads + Wait + Sync, S: Source, K: Sink, G: Gate + Sync>(
     gate: &G,
 ) -> Ended
     ensures known { IsStatus result.status }
+    ensures code { exit_status result.code ≡ result.status }
 
     // Where the words are no command, neither edge is called; a command without an input doesn't call the source.
     ensures usage { result.status ≡ USAGE → ¬ IsCommand (map string_bytes words.now) }
@@ -105,10 +123,7 @@ pub fn run<R: Threads + Wait + Sync, S: Source, K: Sink, G: Gate + Sync>(
         closed,
     } = answer;
     match write_text(sink, text.as_slice()) {
-        Ok(()) => Ended { status, closed },
-        Err(_) => Ended {
-            status: WRITE_FAULT,
-            closed,
-        },
+        Ok(()) => ended_at(status, closed),
+        Err(_) => ended_at(WRITE_FAULT, closed),
     }
 }
