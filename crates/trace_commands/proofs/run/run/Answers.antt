@@ -38,3 +38,9 @@ returns-clause-known g c = rw c.ended_at-in-Err-write_text.ensures.status (4, li
 
 pub returns-in-Err-Usage-clause-usage : goal.returns-in-Err-Usage-clause-usage
 returns-in-Err-Usage-clause-usage g c = search rules
+
+pub returns-in-Err-Usage-clause-untouched : goal.returns-in-Err-Usage-clause-untouched
+returns-in-Err-Usage-clause-untouched g c = search rules
+
+pub returns-clause-write_fault : goal.returns-clause-write_fault
+returns-clause-write_fault g c = search rules
