@@ -1,5 +1,5 @@
 -- What calls that have ended answer.
-use Rattle.std.proofs.Common.{ℕ, ◌≡◌, ◌≢◌, ◌<◌, ◌+◌, inl, inr, List, Some, refl, sym, ap, ◌∙◌, subst, arith}
+use Rattle.std.proofs.Common.{ℕ, ◌≡◌, ◌≢◌, ◌<◌, ◌+◌, inl, inr, Some, refl, sym, ap, ◌∙◌, subst, arith}
 use Rattle.std.proofs.lemmas.Bool.{cases_lt, le-leb, lt-leb}
 use Rattle.heap_geometry.specs.declared.geometry.Geometry.{Geometry}
 use Rattle.heap_geometry.specs.declared.limits.TheConstants.{SMALL_MOST, LARGE_MOST}
@@ -7,22 +7,17 @@ use Rattle.heap_geometry.specs.declared.need.Need.{Need}
 use Rattle.heap_geometry.specs.declared.need.Need.TheVariants.{Small, Large, TooLarge}
 use Rattle.heap_geometry.specs.Need.{need_of}
 use Rattle.heap_geometry.proofs.NeedLemmas.{need_of-is}
-use Rattle.pool_model.specs.declared.event.Event.{Event}
 use Rattle.pool_model.specs.Calls.{Ended}
 use Rattle.errand_steps.specs.declared.reply.Begun.TheVariants as begun
-use Rattle.errand_steps.specs.declared.reply.Progress.{Progress}
 use Rattle.errand_steps.specs.declared.reply.Progress.TheVariants as progress
 use Rattle.errand_steps.specs.declared.reply.Reply.{Reply}
 use Rattle.errand_steps.specs.declared.reply.Reply.TheVariants as reply
 use Rattle.errand_steps.specs.Begins.{alloc_answer, begins_with, alloc_begun, free_begun, write_begun, read_begun, put_begun, take_begun}
 use Rattle.errand_steps.specs.Calls.{Call, alloc, free, begun_by}
 use Rattle.errand_steps.specs.Errands.{ErrandFields}
-use Rattle.errand_steps.specs.Steps.{found_at}
 use Rattle.errand_steps.proofs.SpentLemmas.{begins-at_limit}
 use Rattle.call_events.specs.Ends.{end_of}
 use Rattle.call_events.proofs.BeginsLemmas.{too_large-stays, spent-begins}
-use Rattle.sound_state.specs.Recalls.{IsOwned}
-use Rattle.step_core.specs.Cores.{OwnsAfter}
 use Rattle.step_core.specs.Moments.{IsMoment}
 use Rattle.step_core.proofs.MomentAnswers.{moment-geometry, moment-given, moment-got, moment-meant}
 use Rattle.live_heap.specs.declared.answers.AllocAnswer.TheVariants as alloc_answers

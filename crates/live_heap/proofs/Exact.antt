@@ -194,4 +194,3 @@ pub calling-exact :
     → ChangesHandSoFar call (stage_of q.errand.point) had has → HoldsExactly p had → HoldsExactly q has
 calling-exact h p q call steps had has of calling =
     so_far-exact p q call (stage_of q.errand.point) calling.added had has calling.under_way (calling-changes h p q call steps of calling)
-

@@ -35,3 +35,4 @@ pub mod Told
 pub mod Totals
 pub mod WalkLemmas
 pub mod WholeLaws
+pub mod WordsKept

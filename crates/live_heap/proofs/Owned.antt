@@ -1,19 +1,13 @@
 -- What a caller owns where its own events leave pools as they are, and where they end with one that does not.
-use Rattle.std.proofs.Common.{ℕ, eqb, true, false, zero, suc, ◌≡◌, ◌≢◌, ◌++◌, List, [], ◌∷◌, Option, Some, None, refl, sym, ◌∙◌, ap, subst, inl, inr, eq-eqb, eqb-true, ne_eqb, append_assoc, append-nil, true≢false}
-use Rattle.std.proofs.lemmas.Bool.{cases_Bool, cases_eq, eqb-false}
-use Rattle.std.proofs.lemmas.Option.{none-some}
+use Rattle.std.proofs.Common.{ℕ, eqb, zero, suc, ◌≡◌, ◌++◌, List, [], ◌∷◌, refl, sym, ◌∙◌, ap, subst, inl, inr, eq-eqb, append_assoc, append-nil}
+use Rattle.std.proofs.lemmas.Bool.{cases_Bool, eqb-false}
 use Rattle.heap_geometry.specs.declared.geometry.Geometry.{Geometry}
-use Rattle.heap_geometry.specs.Need.{need_of}
-use Rattle.pool_model.specs.declared.owner.Owner.{Owner}
-use Rattle.pool_model.specs.declared.owner.Owner.TheVariants.{Caller, Shelf}
 use Rattle.pool_model.specs.declared.event.Event.{Event}
-use Rattle.pool_model.specs.declared.event.Event.TheVariants.{Alloc, Looked, Refuse, Free, Write, Put, Take, TakeNone}
 use Rattle.pool_model.specs.Calls.{looks}
 use Rattle.pool_model.specs.Histories.{caller_of, own}
 use Rattle.pool_model.specs.Owned.{if_of}
-use Rattle.pool_model.specs.Pool.{Block, Pool, block_at, fresh_block, written, handed_to, pool_after, pool_of, with_changed}
-use Rattle.pool_model.specs.Legal.{IsAllowed, IsFree, IsLegalWithoutCounts, IsLegalEventWithoutCounts}
-use Rattle.pool_model.proofs.PoolLemmas.{Differ, Pairs, block_at-here, block_at-past, block_at-without_other, block_at-without_same, block_at-changed_other, block_at-changed_same}
+use Rattle.pool_model.specs.Pool.{Pool, block_at, pool_after, pool_of}
+use Rattle.pool_model.specs.Legal.{IsAllowed, IsLegalWithoutCounts, IsLegalEventWithoutCounts}
 use Rattle.pool_model.proofs.HistoryLemmas.{pool_of-push, push-append, EachAfter-cut, own-append}
 use Rattle.pool_model.proofs.OwnedLemmas.{others-event}
 use Rattle.pool_model.proofs.WellFormedLemmas.{sound-of, sound-differ}

@@ -1,8 +1,7 @@
 -- What the caller of a pass owns, place by place, and what a call makes of it.
-use Rattle.std.specs.Prelude.{ℕ, Bool, false, ◌≡◌, ◌≢◌, ◌==◌, ◌++◌, List, [], ◌∷◌, Option, Some, None, option_map, if◌then◌else◌}
+use Rattle.std.specs.Prelude.{ℕ, ◌≡◌, ◌≢◌, ◌++◌, ◌⊎◌, List, [], ◌∷◌, Option, Some, None, option_map, slice_index_or}
 use Rattle.pool_model.specs.declared.event.Event.{Event}
 use Rattle.pool_model.specs.declared.event.Event.TheVariants as event
-use Rattle.pool_model.specs.declared.owner.Owner.{Owner}
 use Rattle.pool_model.specs.declared.owner.Owner.TheVariants.{Caller, Shelf}
 use Rattle.pool_model.specs.Histories.{EndsWith}
 use Rattle.pool_model.specs.Owned.{owned_at}
@@ -12,6 +11,7 @@ use Rattle.errand_steps.specs.declared.reply.Reply.TheVariants as reply
 use Rattle.errand_steps.specs.Calls.{Call, alloc, free, put, take, write}
 use Rattle.call_events.specs.Stages.{Stage}
 use Rattle.call_events.specs.Stages as stage
+use Rattle.step_core.specs.Keeping.{Leaves}
 use Rattle.live_heap.specs.declared.pass.Pass.{Pass}
 use Rattle.live_heap.specs.Passes.{seen}
 
@@ -22,6 +22,19 @@ owned_after events caller place = owned_at caller place (pool_of events)
 -- so it is of a pass, after the events that it has seen
 abbrev pub owned_in : Pass → ℕ → Option Block
 owned_in p place = owned_after (seen p) p.errand.caller place
+
+-- what a usable word of the caller's block at a place holds, where that was written
+abbrev pub word_of : Option Block → ℕ → Option ℕ
+word_of None i = None
+word_of (Some block) i = slice_index_or block.contents i None
+
+abbrev pub word_in : Pass → ℕ → ℕ → Option ℕ
+word_in p place i = word_of (owned_in p place) i
+
+-- the call neither writes this word nor gives its block away
+abbrev pub LeavesWord : Call → ℕ → ℕ → Type 0
+LeavesWord (write at need j value) place i = (place ≢ at) ⊎ (i ≢ j)
+LeavesWord call place i = Leaves call place
 
 -- the pass owns the same blocks, with the same words
 abbrev pub OwnsSame : Pass → Pass → Type 0

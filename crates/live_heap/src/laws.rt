@@ -3,6 +3,7 @@
 pub mod blocks;
 pub mod by_steps;
 pub mod hands;
+pub mod words;
 
 ghost use Rattle.std.specs.Prelude.{ℕ, ◌≡◌, ◌≢◌, ◌<◌, ◌≤◌, ◌+◌, ◌-◌, ◌*◌, ◌^◌, List, ◌++◌, Some, length, count_by};
 ghost use Rattle.heap_geometry.specs.declared.need.Need.{Need};
