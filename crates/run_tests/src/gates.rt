@@ -1,4 +1,4 @@
-//! In which order operations pass a gate.
+//! In which order operations on a machine pass a gate.
 
 use crate::printed::trace_of;
 use edge_io::gate::Gate;

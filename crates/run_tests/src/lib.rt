@@ -37,4 +37,6 @@ mod statuses;
 #[cfg(test)]
 mod texts;
 #[cfg(test)]
+mod turns;
+#[cfg(test)]
 mod workload_texts;
