@@ -1,4 +1,4 @@
-use Rattle.std.proofs.Common.{◌≡◌, ◌++◌, append-nil, sym, subst}
+use Rattle.std.proofs.Common.{◌≡◌, ◌++◌, [], append-nil, sym, subst}
 use Rattle.errand_steps.specs.Begins.{IsBusy}
 use Rattle.live_heap.specs.declared.answers.Ending.{Ending}
 use Rattle.live_heap.specs.declared.answers.Step.{Step}
@@ -27,7 +27,8 @@ loop-preserved c =
       c.hands_go_through_steps.ensures.stepped c.args.heap.now c.loop.pass c.step.new.pass c.loop.blocks.items same i.hand i.busy c.step.ensures.of told,
       (c.calls_go_step_by_step.ensures.goes_on w.first w.call w.steps c.loop.pass c.step.new.pass same w.calling told undone).busy,
     ) in
-    let both = elim c.match-step.branch [
+    let both : IsHand c.args.heap.now c.step.new.pass (c.loop.blocks.items ++ []) × IsBusy c.step.new.pass.errand =
+    elim c.match-step.branch [
       | in-More w ↦ on step.More w.in-More.is (λ (end, is). absurd (let e : step.More ≡ step.Done end = is in cc))
       | in-Lost w ↦ on step.Lost w.in-Lost.is (λ (end, is). absurd (let e : step.Lost ≡ step.Done end = is in cc))
       | in-Cleared w ↦ on step.Cleared w.in-Cleared.is (λ (end, is). absurd (let e : step.Cleared ≡ step.Done end = is in cc))
