@@ -1,4 +1,4 @@
-use Rattle.std.proofs.Common.{inl, inr}
+use Rattle.std.proofs.Common.{suc, inl, inr}
 use Rattle.errand_steps.specs.declared.reply.Reply.TheVariants as reply
 use Rattle.errand_steps.specs.Calls.{alloc}
 use Rattle.benches.proofs.MadeLemmas.{made-given, made-none, made-nothing}
@@ -14,7 +14,7 @@ returns-in-Given g c =
 pub returns-in-Busy : goal.returns-in-Busy
 returns-in-Busy g c =
     let t = c.in-Busy.ensures.tells in
-    c.finish.ensures c.args.pass.now (alloc c.args.need) t.steps c.requires.rests.0 t.calling
+    c.finish.ensures c.args.pass.now (alloc c.args.need) (suc t.steps) c.requires.rests.0 t.calling
 
 pub returns-in-Refused : goal.returns-in-Refused
 returns-in-Refused g c =

@@ -1,3 +1,4 @@
+use Rattle.std.proofs.Common.{suc}
 use Rattle.errand_steps.specs.declared.reply.Reply.TheVariants as reply
 use Rattle.benches.proofs.MadeLemmas.{made-given, made-none}
 use Rattle.benches.proofs.heap.calls.finish.Goals as goal
@@ -11,11 +12,11 @@ loop-preserved g c =
       can_next = tt;
       is_finite = tt;
       of = c.resume.ensures.of;
-      under_way = record { first = u.first; call = u.call; steps = t.steps; calling = t.calling; tried = u.tried };
+      under_way = record { first = u.first; call = u.call; steps = suc t.steps; calling = t.calling; tried = u.tried };
       goes = λ first call made calling.
           let s = i.goes first call made calling in
           let n = c.in-Busy.ensures.tells first call s.0 s.1 in
-          (n.steps, n.calling);
+          (suc n.steps, n.calling);
     }
 
 pub returns-in-Given : goal.returns-in-Given

@@ -1,3 +1,4 @@
+use Rattle.std.proofs.Common.{suc}
 use Rattle.errand_steps.specs.declared.reply.Reply.TheVariants as reply
 use Rattle.errand_steps.specs.Calls.{free}
 use Rattle.benches.proofs.MadeLemmas.{made-none, made-without}
@@ -16,4 +17,4 @@ returns-in-Busy g c =
     let block = c.args.block in
     let call = free block.place block.need in
     made-without c.args.heap.now c.args.pass.now c.finish.new.pass call c.finish.result
-    (c.finish.ensures c.args.pass.now call t.steps c.requires.rests.0 t.calling)
+    (c.finish.ensures c.args.pass.now call (suc t.steps) c.requires.rests.0 t.calling)
