@@ -12,9 +12,10 @@ use Rattle.trace_text.specs.Traces.{IsTrace}
 use Rattle.step_core.specs.Cores.{CoreFields, IsCore}
 use Rattle.step_core.proofs.CoreLemmas.{core-sound}
 use Rattle.lane_outcomes.specs.declared.outcome.Outcome.{Outcome}
-use Rattle.lane_outcomes.specs.Fits.{LanesFit, OutcomesFit}
+use Rattle.lane_outcomes.specs.Fits.{OutcomesFit}
 use Rattle.lane_outcomes.specs.Passed.{AllPassed}
 use Rattle.lane_outcomes.specs.Report.{report_of}
+use Rattle.lane_outcomes.proofs.LanesLemmas.{lanes-many}
 use Rattle.lane_runner.specs.Driven.{IsDriven}
 use Rattle.lane_runner.specs.Threads.{HaveRun}
 use Rattle.lane_runner.proofs.ClosedFits.{all-taken, closed-fit, driven-taken}
@@ -106,20 +107,12 @@ told-behind passed trace kept closing outcomes more told lines text named run re
           (is ∙ one-report trace (history_of closing) (lost_of closing) outcomes named roomy run.legal run.fit);
     }
 
--- lanes have as many lists of outcomes
-fit-lanes :
-    (g : Geometry) (history : List Event) (lost lane : ℕ) (lanes : List (List Op)) (outcomes : List (List Outcome))
-    → LanesFit g history lost lane lanes outcomes → length outcomes ≡ length lanes
-fit-lanes g history lost lane [] [] fit = refl
-fit-lanes g history lost lane [] (results ∷ outcomes) fit = absurd fit
-fit-lanes g history lost lane (operations ∷ lanes) [] fit = absurd fit
-fit-lanes g history lost lane (operations ∷ lanes) (results ∷ outcomes) fit = ap suc (fit-lanes g history lost (suc lane) lanes outcomes fit.1)
-
+-- a trace has few lanes, and lanes have as many lists of outcomes
 pub few-outcomes :
     (passed : ℕ → ℕ → Type 0) (trace : Trace) (closed : ClosedFields) (outcomes : List (List Outcome))
     → IsTrace trace → IsRun passed trace (IsSharedIn trace) (Ran closed) outcomes → length outcomes ≤ MAX_LANES
 few-outcomes passed trace closed outcomes named run =
-    omega (arith, named.few_lanes, fit-lanes trace.heap closed.events (lost_by_threads closed) 0 trace.lanes outcomes run.fit.lanes_fit)
+    omega (arith, named.few_lanes, lanes-many trace.heap closed.events (lost_by_threads closed) 0 trace.lanes outcomes run.fit.lanes_fit)
 
 -- what `make` tells
 pub make-told :
