@@ -10,6 +10,9 @@ mod both_ways;
 mod calls;
 #[cfg(test)]
 mod censuses;
+pub mod embedded;
+#[cfg(test)]
+mod embedding;
 #[cfg(test)]
 mod hand;
 #[cfg(test)]

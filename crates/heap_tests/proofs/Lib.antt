@@ -1,0 +1,5 @@
+pub mod EmbeddedCalls
+pub mod EmbeddedCounts
+pub mod EmbeddedEnds
+pub mod EmbeddedHands
+pub mod EmbeddedWays
