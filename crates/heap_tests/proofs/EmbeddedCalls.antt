@@ -137,9 +137,10 @@ pub ends-behind :
 ends-behind h from p q calls place need call answer has made = push h from p q calls call answer has.made made
 
 pub stops-behind :
-    (h : Heap) (from p q : Pass) (calls : List Made) (place : ℕ) (need : Need) (stop : Stop) → Has h from calls p place need → Stops h p stop q
-    → HasStopped h from stop
-stops-behind h from p q calls place need stop has stops = record { calls = calls; p = p; made = has.made; q = q; stops = stops }
+    (h : Heap) (from p q : Pass) (calls : List Made) (place : ℕ) (need : Need) (IsNext : List Made → Call → Type 0) (call : Call) (stop : Stop)
+    → Has h from calls p place need → IsNext calls call → Stops h p call stop q → HasStopped h from IsNext stop
+stops-behind h from p q calls place need IsNext call stop has next stops =
+    record { calls = calls; p = p; made = has.made; call = call; next = next; q = q; stops = stops }
 
 -- an error that goes on through a `?`
 pub err-as : {A : Type 0} (r : Result A Stop) (stop : Stop) (P : Stop → Type 0) → IsErrAnd r (λ s. s ≡ stop) → P stop → IfErr r P

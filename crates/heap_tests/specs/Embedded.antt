@@ -26,15 +26,15 @@ use Rattle.heap_tests.specs.declared.embedded.Stop.TheVariants as stop
 abbrev pub Makes : Heap → Pass → Call → Reply → Pass → Type 0
 Makes h p call answer q = IsWhole h p call answer h q × TellsContents call answer q
 
--- the call that a pass made last was answered so, and the program goes no further
-abbrev pub Stops : Heap → Pass → Stop → Pass → Type 0
-Stops h p stop.Refused q = (words : ℕ) × Makes h p (alloc words) reply.Refused q
-Stops h p stop.Spent q = (words : ℕ) × Makes h p (alloc words) reply.Spent q
-Stops h p stop.Busy q = (call : Call) × IsInterrupted p call 0 p TRIES q
-Stops h p stop.Full q = (place : ℕ) × (need : Need) × (found : ℕ) × Makes h p (put place need SHELF) (reply.Full found) q
-Stops h p stop.Empty q = Makes h p (take SHELF) reply.Empty q
-Stops h p stop.Missed q = (expected : ℕ) × (found : ℕ) × Makes h p (take SHELF) (reply.Missed expected found) q
-Stops h p stop.Short q = (place : ℕ) × (need : Need) × Makes h p (take SHELF) (reply.Got place need) q × (usable_words need ≤ 1)
+-- a pass made this call, which was answered so, and the program goes no further
+abbrev pub Stops : Heap → Pass → Call → Stop → Pass → Type 0
+Stops h p call stop.Refused q = Makes h p call reply.Refused q
+Stops h p call stop.Spent q = Makes h p call reply.Spent q
+Stops h p call stop.Busy q = IsInterrupted p call 0 p TRIES q
+Stops h p call stop.Full q = (found : ℕ) × Makes h p call (reply.Full found) q
+Stops h p call stop.Empty q = Makes h p call reply.Empty q
+Stops h p call stop.Missed q = (expected : ℕ) × (found : ℕ) × Makes h p call (reply.Missed expected found) q
+Stops h p call stop.Short q = (place : ℕ) × (need : Need) × Makes h p call (reply.Got place need) q × (usable_words need ≤ 1)
 
 -- what the first pass does with a block of 3 words and another one, and the second pass with the one that it takes
 abbrev pub first_calls : ℕ → Need → ℕ → Need → ℕ → List Made
@@ -69,21 +69,36 @@ pub record Fetches (h : Heap) (second : Pass) (handed : ℕ) (q : Pass) : Type 0
   pub need : Need
   pub made : LeadsBy (Makes h) second (second_calls place need handed) q
 
--- since it stood so a pass has made such calls, and then the one that was answered so
-pub record HasStopped (h : Heap) (from : Pass) (stop : Stop) : Type 0 where
+-- behind such calls this is the next one of the first pass; and of the second one
+abbrev pub IsNextOfFirst : List Made → Call → Type 0
+IsNextOfFirst calls call =
+    (place : ℕ) × (need : Need) × (other : ℕ) × (wide : Need) × (kept : ℕ) × (answer : Reply) × (rest : List Made)
+    × (first_calls place need other wide kept ≡ calls ++ answered call answer ∷ rest)
+
+abbrev pub IsNextOfSecond : List Made → Call → Type 0
+IsNextOfSecond calls call =
+    (place : ℕ) × (need : Need) × (handed : ℕ) × (answer : Reply) × (rest : List Made)
+    × (second_calls place need handed ≡ calls ++ answered call answer ∷ rest)
+
+-- since it stood so a pass has made the first ones of its calls, and then the next one, which was answered so
+pub record HasStopped (h : Heap) (from : Pass) (IsNext : List Made → Call → Type 0) (stop : Stop) : Type 0 where
   pub calls : List Made
   pub p : Pass
   pub made : LeadsBy (Makes h) from calls p
+  pub call : Call
+  pub next : IsNext calls call
   pub q : Pass
-  pub stops : Stops h p stop q
+  pub stops : Stops h p call stop q
 
--- so did one of the two passes of a heap, which had made no step before
+-- so did the first one of the two passes of a heap, which had made no step before, or the second one behind all calls of the first
 pub record WasStopped (stop : Stop) : Type 0 where
   pub heap : Heap
   pub first : Pass
   pub second : Pass
   pub fresh : AreFrom heap 0 (first ∷ second ∷ [])
-  pub stopped : HasStopped heap first stop ⊎ HasStopped heap second stop
+  pub stopped :
+      HasStopped heap first IsNextOfFirst stop
+      ⊎ ((kept : ℕ) × (p : Pass) × Keeps heap first kept p × HasStopped heap second IsNextOfSecond stop)
 
 -- in such a heap both passes have made their calls, and then it was closed: the first pass read what it wrote, behind its other calls, and so did the second one behind the hand-over; and no block is live
 pub record HasRun (report : Report) : Type 0 where

@@ -11,7 +11,7 @@ ghost use Rattle.errand_steps.specs.Calls.{alloc, free, put, take};
 ghost use Rattle.sound_state.specs.Sums.{sum_below};
 ghost use Rattle.live_heap.specs.Passes.{IsFresh, Owns};
 ghost use Rattle.live_heap.specs.Whole.{IsAtRest};
-ghost use Rattle.heap_tests.specs.Embedded.{Fetches, HasRun, HasStopped, Keeps, Makes, Stops, WasStopped, lines_of, live_in};
+ghost use Rattle.heap_tests.specs.Embedded.{Fetches, HasRun, HasStopped, IsNextOfFirst, IsNextOfSecond, Keeps, Makes, Stops, WasStopped, lines_of, live_in};
 
 use heap_census::census::CLASS_COUNT;
 use heap_census::counting::census;
@@ -72,7 +72,7 @@ fn allocate(heap: &Heap, pass: &mut Pass, words: u32) -> Result<Block, Stop>
     requires rest { IsAtRest heap.now pass.old }
     requires words { words ≤ LARGE_MOST }
     ensures given { IfOk result (λ block. Makes heap.now pass.old (alloc words) (reply.Given block.place block.need) pass.new) }
-    ensures stopped { IfErr result (λ stop. Stops heap.now pass.old stop pass.new) }
+    ensures stopped { IfErr result (λ stop. Stops heap.now pass.old (alloc words) stop pass.new) }
 {
     match heap.alloc(pass, words, TRIES) {
         AllocAnswer::Given(block) => Ok(block),
@@ -88,7 +88,7 @@ fn give_back(heap: &Heap, pass: &mut Pass, block: Block) -> Result<(), Stop>
     requires rest { IsAtRest heap.now pass.old }
     requires owned { Owns pass.old block }
     ensures freed { IfOk result (λ _. Makes heap.now pass.old (free block.place block.need) reply.Freed pass.new) }
-    ensures stopped { IfErr result (λ stop. Stops heap.now pass.old stop pass.new) }
+    ensures stopped { IfErr result (λ stop. Stops heap.now pass.old (free block.place block.need) stop pass.new) }
 {
     match heap.free(pass, block, TRIES) {
         FreeAnswer::Freed => Ok(()),
@@ -101,7 +101,7 @@ fn pick_up(heap: &Heap, pass: &mut Pass) -> Result<Block, Stop>
     requires rest { IsAtRest heap.now pass.old }
     ensures got { IfOk result (λ block. Makes heap.now pass.old (take SHELF) (reply.Got block.place block.need) pass.new) }
     ensures word { IfOk result (λ block. 1 < usable_words block.need) }
-    ensures stopped { IfErr result (λ stop. Stops heap.now pass.old stop pass.new) }
+    ensures stopped { IfErr result (λ stop. Stops heap.now pass.old (take SHELF) stop pass.new) }
 {
     match heap.take(pass, SHELF) {
         Taken::Got(block) => {
@@ -121,7 +121,7 @@ fn hand_over(heap: &Heap, pass: &mut Pass, block: Block) -> Result<(), Stop>
     requires rest { IsAtRest heap.now pass.old }
     requires owned { Owns pass.old block }
     ensures put { IfOk result (λ _. Makes heap.now pass.old (put block.place block.need SHELF) reply.Put pass.new) }
-    ensures stopped { IfErr result (λ stop. Stops heap.now pass.old stop pass.new) }
+    ensures stopped { IfErr result (λ stop. Stops heap.now pass.old (put block.place block.need SHELF) stop pass.new) }
 {
     match heap.put(pass, block, SHELF) {
         Ok(()) => Ok(()),
@@ -133,7 +133,7 @@ fn hand_over(heap: &Heap, pass: &mut Pass, block: Block) -> Result<(), Stop>
 fn keep(heap: &Heap, pass: &mut Pass) -> Result<u64, Stop>
     requires { IsFresh heap.now pass.old }
     ensures kept { IfOk result (λ kept. Keeps heap.now pass.old kept pass.new) }
-    ensures stopped { IfErr result (λ stop. HasStopped heap.now pass.old stop) }
+    ensures stopped { IfErr result (λ stop. HasStopped heap.now pass.old IsNextOfFirst stop) }
 {
     whole_calls_keep_blocks();
     given_blocks_have_enough_words();
@@ -151,7 +151,7 @@ fn keep(heap: &Heap, pass: &mut Pass) -> Result<u64, Stop>
 fn fetch(heap: &Heap, pass: &mut Pass) -> Result<u64, Stop>
     requires { IsFresh heap.now pass.old }
     ensures fetched { IfOk result (λ handed. Fetches heap.now pass.old handed pass.new) }
-    ensures stopped { IfErr result (λ stop. HasStopped heap.now pass.old stop) }
+    ensures stopped { IfErr result (λ stop. HasStopped heap.now pass.old IsNextOfSecond stop) }
 {
     whole_calls_keep_blocks();
     let block = pick_up(heap, pass)?;

@@ -7,13 +7,13 @@ use Rattle.heap_tests.proofs.embedded.allocate.Goals as goal
 pub returns-in-Refused-clause-stopped : goal.returns-in-Refused-clause-stopped
 returns-in-Refused-clause-stopped c =
     let told = c.in-Refused.ensures.tells in
-    (c.args.words, ((by_steps (told.steps, told.called), tt, refl, (c.alloc.ensures.of, told.called.idle)), tt))
+    ((by_steps (told.steps, told.called), tt, refl, (c.alloc.ensures.of, told.called.idle)), tt)
 
 pub returns-in-Spent-clause-stopped : goal.returns-in-Spent-clause-stopped
 returns-in-Spent-clause-stopped c =
     elim c.in-Spent.ensures.tells [
       | inl once ↦
           let idle = subst (λ (p : Pass). IsIdle p.errand) (sym once.same) c.requires.rest.1 in
-          (c.args.words, ((at_once c.args.words refl refl once, tt, refl, (c.alloc.ensures.of, idle)), tt))
-      | inr told ↦ (c.args.words, ((by_steps (told.0.steps, told.0.called), tt, refl, (c.alloc.ensures.of, told.0.called.idle)), tt))
+          ((at_once c.args.words refl refl once, tt, refl, (c.alloc.ensures.of, idle)), tt)
+      | inr told ↦ ((by_steps (told.0.steps, told.0.called), tt, refl, (c.alloc.ensures.of, told.0.called.idle)), tt)
     ]

@@ -1,8 +1,9 @@
-use Rattle.std.proofs.Common.{[], refl}
+use Rattle.std.proofs.Common.{drop, [], refl}
+use Rattle.heap_geometry.specs.declared.need.Need.TheVariants.{TooLarge}
 use Rattle.errand_steps.specs.declared.reply.Reply.TheVariants as reply
-use Rattle.errand_steps.specs.Calls.{free}
+use Rattle.errand_steps.specs.Calls.{free, take}
 use Rattle.heap_tests.specs.declared.embedded.TheConstants.{SHELF}
-use Rattle.heap_tests.specs.Embedded.{HasStopped}
+use Rattle.heap_tests.specs.Embedded.{HasStopped, IsNextOfSecond, second_calls}
 use Rattle.heap_tests.proofs.EmbeddedCalls.{ends-behind, err-as, has-read, has-taken, stops-behind}
 use Rattle.heap_tests.proofs.embedded.fetch.Goals as goal
 
@@ -10,8 +11,8 @@ pub returns-in_err-block-clause-stopped : goal.returns-in_err-block-clause-stopp
 returns-in_err-block-clause-stopped c =
     let h = c.args.heap.now in
     let p = c.args.pass.now in
-    err-as c.from_residual.result c.in_err-block.field-0.0 (HasStopped h p) c.from_residual.ensures.1
-    (record { calls = []; p = p; made = refl; q = c.pick_up.new.pass; stops = c.in_err-block.ensures.stopped })
+    err-as c.from_residual.result c.in_err-block.field-0.0 (HasStopped h p IsNextOfSecond) c.from_residual.ensures.1
+    (record { calls = []; p = p; made = refl; call = take SHELF; next = (0, TooLarge, 0, reply.Got 0 TooLarge, drop 1 (second_calls 0 TooLarge 0), refl); q = c.pick_up.new.pass; stops = c.in_err-block.ensures.stopped })
 
 pub read-handed-requires-clause-owned : goal.read-handed-requires-clause-owned
 read-handed-requires-clause-owned c =
@@ -41,8 +42,9 @@ returns-in_err-give_back-clause-stopped c =
     let two =
     has-read h p c.pick_up.new.pass c.read-handed.new.pass _ b.place b.need 1 c.read-handed.result c.whole_calls_keep_blocks.ensures.keeps one c.read-handed.ensures.called
     c.read-handed.ensures.of c.read-handed.ensures.contents in
-    err-as c.from_residual-in_err-give_back.result c.in_err-give_back.field-0.0 (HasStopped h p) c.from_residual-in_err-give_back.ensures.1
-    (stops-behind h p c.read-handed.new.pass c.give_back.new.pass _ b.place b.need _ two c.in_err-give_back.ensures.stopped)
+    err-as c.from_residual-in_err-give_back.result c.in_err-give_back.field-0.0 (HasStopped h p IsNextOfSecond) c.from_residual-in_err-give_back.ensures.1
+    (stops-behind h p c.read-handed.new.pass c.give_back.new.pass _ b.place b.need IsNextOfSecond (free b.place b.need) _ two
+    (b.place, b.need, c.read-handed.result, reply.Freed, drop 3 (second_calls b.place b.need c.read-handed.result), refl) c.in_err-give_back.ensures.stopped)
 
 pub returns-clause-fetched : goal.returns-clause-fetched
 returns-clause-fetched c =

@@ -5,4 +5,4 @@ use Rattle.heap_tests.proofs.embedded.hand_over.Goals as goal
 pub returns-in-Err-clause-stopped : goal.returns-in-Err-clause-stopped
 returns-in-Err-clause-stopped c =
     let told = c.in-Err.ensures.full in
-    (c.args.block.place, c.args.block.need, _, ((by_steps (0, told.called), c.requires.owned, refl, (c.put.ensures.of, told.called.idle)), tt))
+    (_, ((by_steps (0, told.called), c.requires.owned, refl, (c.put.ensures.of, told.called.idle)), tt))
