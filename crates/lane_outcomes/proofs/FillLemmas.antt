@@ -9,9 +9,13 @@ use Rattle.pool_model.proofs.PoolLemmas.{block_at-changed_other, block_at-change
 use Rattle.lane_outcomes.specs.declared.registers.Held.{Held}
 use Rattle.lane_outcomes.specs.Standing.{OwnsHeld}
 
--- writes of words from `first` on
+-- writes of words from `first` on, each with its value
+abbrev pub writes_of : ℕ → ℕ → (ℕ → ℕ) → ℕ → ℕ → List Event
+writes_of caller place value first count = map (λ i. Write caller place i (value i)) (range_with_len first count)
+
+-- with values that rise
 abbrev pub writes : ℕ → ℕ → ℕ → ℕ → ℕ → List Event
-writes caller place v first count = map (λ i. Write caller place i ((v + i) % 2 ^ 64)) (range_with_len first count)
+writes caller place v first count = writes_of caller place (λ i. (v + i) % 2 ^ 64) first count
 
 -- a caller's block is still its own after a write of some block, and has as many words
 pub owns-written :

@@ -9,7 +9,7 @@ use Rattle.lane_outcomes.specs.declared.registers.Held.{Held}
 use Rattle.lane_outcomes.specs.declared.outcome.Outcome.{Outcome}
 use Rattle.lane_outcomes.specs.declared.outcome.Outcome.TheVariants as outcome
 use Rattle.lane_outcomes.specs.Lane.{Position, position_after, held_in}
-use Rattle.lane_outcomes.specs.Rows.{Setting, Moment, AllocRow, FreeRow, FillRow, CheckRow, PutRow, TakeRow, FitsRow, IsSpent}
+use Rattle.lane_outcomes.specs.Rows.{Setting, Moment, AllocRow, FreeRow, FillRow, CheckRow, PutRow, TakeRow, ResizeRow, FitsRow, IsCopy, IsSpent}
 use Rattle.lane_outcomes.specs.Fits.{Walks, Fits}
 
 -- the setting with a longer history, and more exchanges lost
@@ -75,6 +75,22 @@ take-later setting rest lost position shelf None (outcome.Took words place need)
     (row.0, moment-later setting rest lost position.done row.1, row.2, begins-longer (row.1.before ++ piece) setting.history rest row.3, row.4, row.5, row.6)
 take-later setting rest lost position shelf held result piece row = row
 
+copy-later :
+    (setting : Setting) (rest : List Event) (lost : ℕ) (position : Position) (held : Held) (words : ℕ) (value : ℕ → ℕ)
+    → IsCopy setting position held words value → IsCopy (later setting rest lost) position held words value
+copy-later setting rest lost position held words value copy =
+    record { moment = moment-later setting rest lost position.done copy.moment; block = copy.block; live = copy.live; each = copy.each }
+
+resize-later :
+    (setting : Setting) (rest : List Event) (lost : ℕ) → setting.lost ≤ lost
+    → (position : Position) (need : ℕ) (held : Option Held) (result : Outcome) (piece : List Event)
+    → ResizeRow setting position need held result piece → ResizeRow (later setting rest lost) position need held result piece
+resize-later setting rest lost more position need (Some held) (outcome.Resized words place) piece row =
+    (row.0, row.1, row.2, row.3, row.4, row.5, copy-later setting rest lost position held words row.5 row.6, row.7)
+resize-later setting rest lost more position need (Some held) outcome.Spent piece row =
+    (row.0, spent-later setting rest lost more position need piece position.spent row.1)
+resize-later setting rest lost more position need held result piece row = row
+
 -- a row that fits still fits
 pub row-later :
     (setting : Setting) (rest : List Event) (lost : ℕ) → setting.lost ≤ lost
@@ -86,6 +102,7 @@ row-later setting rest lost more position (op.Fill r v) result piece row = fill-
 row-later setting rest lost more position (op.Check r) result piece row = check-later setting rest lost position (held_in position.registers r) result piece row
 row-later setting rest lost more position (op.Put r shelf) result piece row = put-later setting rest lost position shelf (held_in position.registers r) result piece row
 row-later setting rest lost more position (op.Take r shelf) result piece row = take-later setting rest lost position shelf (held_in position.registers r) result piece row
+row-later setting rest lost more position (op.Resize r need) result piece row = resize-later setting rest lost more position need (held_in position.registers r) result piece row
 
 -- and so does a walk
 pub walks-later :

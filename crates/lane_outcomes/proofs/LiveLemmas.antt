@@ -22,7 +22,7 @@ use Rattle.lane_outcomes.specs.declared.outcome.Outcome.TheVariants as outcome
 use Rattle.lane_outcomes.specs.declared.live.Amount.{Amount}
 use Rattle.lane_outcomes.specs.declared.live.TheConstants.{NOTHING}
 use Rattle.lane_outcomes.specs.Lane.{Position, start, held_in, position_after}
-use Rattle.lane_outcomes.specs.Rows.{Setting, Moment, AllocRow, FitsRow}
+use Rattle.lane_outcomes.specs.Rows.{Setting, Moment, AllocRow, ResizeRow, FitsRow}
 use Rattle.lane_outcomes.specs.Fits.{Walks, Fits, LanesFit, OutcomesFit}
 use Rattle.lane_outcomes.specs.LaneCounts.{words_given, count_with, as_one, as_words, lane_given, lane_freed, lanes_given, lanes_freed, GrowsBy}
 use Rattle.lane_outcomes.specs.Standing.{HoldsOwn}
@@ -111,10 +111,19 @@ few-alloc f setting position r need v None (outcome.Given words place) piece few
 few-alloc f setting position r need v (Some held) (outcome.Given words place) piece few row = absurd row
 few-alloc f setting position r need v held result piece few row = omega arith
 
+few-resize :
+    (f : ℕ → ℕ) (setting : Setting) (position : Position) (r need : ℕ) (held : Option Held) (result : Outcome) (piece : List Event) → IsFew f
+    → ResizeRow setting position need held result piece → count_with f (words_given (op.Resize r need) result) ≤ LARGE_MOST
+few-resize f setting position r need None (outcome.Resized words place) piece few row = absurd row
+few-resize f setting position r need (Some held) (outcome.Resized words place) piece few row =
+    subst (λ n. f n ≤ LARGE_MOST) (sym row.2) (few need)
+few-resize f setting position r need held result piece few row = omega arith
+
 few-row :
     (f : ℕ → ℕ) (setting : Setting) (position : Position) (operation : Op) (result : Outcome) (piece : List Event) → IsFew f
     → FitsRow setting position operation result piece → count_with f (words_given operation result) ≤ LARGE_MOST
 few-row f setting position (op.Alloc r need v) result piece few row = few-alloc f setting position r need v (held_in position.registers r) result piece few row
+few-row f setting position (op.Resize r need) result piece few row = few-resize f setting position r need (held_in position.registers r) result piece few row
 few-row f setting position operation result piece few row = omega arith
 
 few-lane :

@@ -1,5 +1,5 @@
 -- Along a lane's operations its registers hold its blocks, at each moment of the history.
-use Rattle.std.proofs.Common.{ℕ, zero, suc, false, true, Bool, ◌≡◌, ◌+◌, List, [], ◌∷◌, ◌++◌, Option, Some, None, refl, sym, ◌∙◌, ap, subst, arith, append_assoc}
+use Rattle.std.proofs.Common.{ℕ, zero, suc, false, true, Bool, ◌≡◌, ◌≢◌, ◌+◌, ◌%◌, ◌^◌, List, [], ◌∷◌, ◌++◌, Option, Some, None, refl, sym, ◌∙◌, ap, subst, arith, append_assoc}
 use Rattle.std.specs.Prelude.{slice_set}
 use Rattle.std.specs.List.{AllByRecursion}
 use Rattle.heap_geometry.specs.declared.geometry.Geometry.{Geometry}
@@ -9,7 +9,8 @@ use Rattle.heap_geometry.specs.Need.{need_of, usable_words}
 use Rattle.pool_model.specs.declared.event.Event.{Event}
 use Rattle.pool_model.specs.declared.event.Event.TheVariants.{Alloc, Free, Put, Take}
 use Rattle.pool_model.specs.Calls.{IsGiving, IsRefusing, IsSpending, looks}
-use Rattle.pool_model.specs.Pool.{block_at, pool_of}
+use Rattle.pool_model.specs.Histories.{own, Begins}
+use Rattle.pool_model.specs.Pool.{Pool, block_at, pool_of}
 use Rattle.pool_model.specs.Legal.{IsLegalWithoutCounts}
 use Rattle.pool_model.proofs.HistoryLemmas.{push-append}
 use Rattle.trace_text.specs.declared.trace.Op.{Op}
@@ -17,13 +18,13 @@ use Rattle.trace_text.specs.declared.trace.Op.TheVariants as op
 use Rattle.lane_outcomes.specs.declared.registers.Held.{Held}
 use Rattle.lane_outcomes.specs.declared.outcome.Outcome.{Outcome}
 use Rattle.lane_outcomes.specs.declared.outcome.Outcome.TheVariants as outcome
-use Rattle.lane_outcomes.specs.Lane.{Position, held_in, registers_after, position_after, filling}
-use Rattle.lane_outcomes.specs.Rows.{Setting, IsSpent, AllocRow, FreeRow, FillRow, CheckRow, PutRow, TakeRow, FitsRow}
+use Rattle.lane_outcomes.specs.Lane.{Position, held_in, registers_after, position_after, filling, writing}
+use Rattle.lane_outcomes.specs.Rows.{Setting, IsSpent, AllocRow, FreeRow, FillRow, CheckRow, PutRow, TakeRow, ResizeRow, FitsRow}
 use Rattle.lane_outcomes.specs.Fits.{Walks}
 use Rattle.lane_outcomes.specs.LaneCounts.{words_given, words_freed, count_with, lane_given, lane_freed}
 use Rattle.lane_outcomes.specs.Standing.{HoldsOwn, OwnsHeld}
-use Rattle.lane_outcomes.proofs.FillLemmas.{writes}
-use Rattle.lane_outcomes.proofs.HoldLemmas.{held_of, holds-fresh, holds-freed, holds-put, holds-taken}
+use Rattle.lane_outcomes.proofs.FillLemmas.{writes_of}
+use Rattle.lane_outcomes.proofs.HoldLemmas.{held_of, held-apart, holds-beside, holds-fresh, owns-freed, holds-freed, holds-put, holds-taken}
 use Rattle.lane_outcomes.proofs.FollowLemmas.{FollowsAt, IsStill, at-step, at-stills, at-as, same-moment}
 use Rattle.lane_outcomes.proofs.MeasureLemmas.{block_with}
 
@@ -32,12 +33,15 @@ stills-looks : (caller class count : ℕ) → AllByRecursion (IsStill caller) (l
 stills-looks caller class zero = tt
 stills-looks caller class (suc count) = (refl, stills-looks caller class count)
 
-stills-writes : (count first caller place v : ℕ) → AllByRecursion (IsStill caller) (writes caller place v first count)
-stills-writes zero first caller place v = tt
-stills-writes (suc count) first caller place v = (refl, stills-writes count (first + 1) caller place v)
+stills-writes : (count first caller place : ℕ) (value : ℕ → ℕ) → AllByRecursion (IsStill caller) (writes_of caller place value first count)
+stills-writes zero first caller place value = tt
+stills-writes (suc count) first caller place value = (refl, stills-writes count (first + 1) caller place value)
+
+pub stills-writing : (caller place words : ℕ) (value : ℕ → ℕ) → AllByRecursion (IsStill caller) (writing caller place words value)
+stills-writing caller place words value = stills-writes words 0 caller place value
 
 pub stills-filling : (caller place words v : ℕ) → AllByRecursion (IsStill caller) (filling caller place words v)
-stills-filling caller place words v = stills-writes words 0 caller place v
+stills-filling caller place words v = stills-writing caller place words (λ i. (v + i) % 2 ^ 64)
 
 stills-append :
     (caller : ℕ) (events more : List Event) → AllByRecursion (IsStill caller) events → AllByRecursion (IsStill caller) more
@@ -72,17 +76,15 @@ given-of caller need place (Small class) events giving =
 given-of caller need place (Large units) events giving = record { looked = []; stills = tt; whole = giving }
 given-of caller need place TooLarge events giving = absurd giving
 
--- the events of an allocation that was given a block and filled it
+-- the events of an allocation that was given a block, and of what fills it
 pub given-events :
-    (caller need place words v : ℕ) (done calls piece : List Event) (is : IsGiven caller need place calls)
-    → piece ≡ calls ++ filling caller place words v
-    → ((done ++ is.looked) ++ Alloc caller need place ∷ []) ++ filling caller place words v ≡ done ++ piece
-given-events caller need place words v done calls piece is piece_is =
-    append_assoc (done ++ is.looked) (Alloc caller need place ∷ []) (filling caller place words v)
-    ∙ append_assoc done is.looked (Alloc caller need place ∷ filling caller place words v)
+    (caller need place : ℕ) (fill done calls piece : List Event) (is : IsGiven caller need place calls) → piece ≡ calls ++ fill
+    → ((done ++ is.looked) ++ Alloc caller need place ∷ []) ++ fill ≡ done ++ piece
+given-events caller need place fill done calls piece is piece_is =
+    append_assoc (done ++ is.looked) (Alloc caller need place ∷ []) fill
+    ∙ append_assoc done is.looked (Alloc caller need place ∷ fill)
     ∙ ap (λ xs. done ++ xs)
-    (sym (append_assoc is.looked (Alloc caller need place ∷ []) (filling caller place words v))
-    ∙ ap (λ xs. xs ++ filling caller place words v) (sym is.whole) ∙ sym piece_is)
+    (sym (append_assoc is.looked (Alloc caller need place ∷ []) fill) ∙ ap (λ xs. xs ++ fill) (sym is.whole) ∙ sym piece_is)
 
 -- where the lane stands after an operation
 abbrev pub After : (ℕ → ℕ) → Setting → Position → Op → Outcome → List Event → ℕ → ℕ → Type 0
@@ -107,29 +109,102 @@ quiet f g setting position piece given freed legal stills at =
 abbrev pub none-still : (caller : ℕ) (piece : List Event) → piece ≡ [] → AllByRecursion (IsStill caller) piece
 none-still caller piece none = rw none tt
 
-given-after :
-    (f : ℕ → ℕ) (g : Geometry) (setting : Setting) (position : Position) (r need v words place : ℕ) (calls piece : List Event) (given freed : ℕ)
+-- a block is given and filled: what the registers hold behind the allocation they hold from there on
+alloc-filled :
+    (f : ℕ → ℕ) (g : Geometry) (setting : Setting) (position : Position) (need words place : ℕ) (value : ℕ → ℕ) (after : List (Option Held))
+    (calls piece : List Event) (given freed : ℕ)
     → IsLegalWithoutCounts g setting.history → words ≡ usable_words (need_of need) → IsGiven setting.caller need place calls
-    → piece ≡ calls ++ filling setting.caller place words v → Before f setting position given freed
-    → FollowsAt f setting.history setting.caller (position.done ++ piece)
-    (slice_set position.registers r (Some (record { place = place; words = words; need = need_of need }))) (given + f words) (freed + 0)
-given-after f g setting position r need v words place calls piece given freed legal words_are is piece_is at =
+    → piece ≡ calls ++ writing setting.caller place words value
+    → ((before : List Event) → IsLegalWithoutCounts g (before ++ Alloc setting.caller need place ∷ []) → HoldsOwn (pool_of before) setting.caller position.registers
+    → HoldsOwn (pool_of (before ++ Alloc setting.caller need place ∷ [])) setting.caller after)
+    → Before f setting position given freed
+    → FollowsAt f setting.history setting.caller (position.done ++ piece) after (given + f words) (freed + 0)
+alloc-filled f g setting position need words place value after calls piece given freed legal words_are is piece_is allocated at =
     let caller = setting.caller in
+    let fill : List Event = writing caller place words value in
     let looked : List Event = position.done ++ is.looked in
-    let set : List (Option Held) = slice_set position.registers r (Some (record { place = place; words = words; need = need_of need })) in
     let at_looked = at-stills f g setting.history caller position.done is.looked position.registers given freed legal is.stills at in
-    let at_alloc : FollowsAt f setting.history caller (looked ++ Alloc caller need place ∷ []) set (given + f words) (freed + 0) =
-    at-step f g setting.history caller looked (Alloc caller need place) position.registers set given freed (given + f words) (freed + 0) legal refl
+    let at_alloc : FollowsAt f setting.history caller (looked ++ Alloc caller need place ∷ []) after (given + f words) (freed + 0) =
+    at-step f g setting.history caller looked (Alloc caller need place) position.registers after given freed (given + f words) (freed + 0) legal refl
     (λ before legal_here begins own_is holds. record {
-      holds = holds-fresh g before caller need place words r position.registers legal_here words_are holds;
+      holds = allocated before legal_here holds;
       given_is = ap (λ n. given + f n) words_are;
       freed_is = refl;
     }) at_looked in
-    let at_filled = at-stills f g setting.history caller (looked ++ Alloc caller need place ∷ []) (filling caller place words v) set (given + f words)
-    (freed + 0) legal (stills-filling caller place words v) at_alloc in
-    at-as f setting.history caller _ (position.done ++ piece) set (given + f words) (freed + 0) (given + f words) (freed + 0)
-    (given-events caller need place words v position.done calls piece is piece_is)
+    let at_filled = at-stills f g setting.history caller (looked ++ Alloc caller need place ∷ []) fill after (given + f words)
+    (freed + 0) legal (stills-writing caller place words value) at_alloc in
+    at-as f setting.history caller _ (position.done ++ piece) after (given + f words) (freed + 0) (given + f words) (freed + 0)
+    (given-events caller need place fill position.done calls piece is piece_is)
     refl refl at_filled
+
+given-after :
+    (f : ℕ → ℕ) (g : Geometry) (setting : Setting) (position : Position) (r need words place : ℕ) (value : ℕ → ℕ) (calls piece : List Event)
+    (given freed : ℕ) → IsLegalWithoutCounts g setting.history → words ≡ usable_words (need_of need) → IsGiven setting.caller need place calls
+    → piece ≡ calls ++ writing setting.caller place words value → Before f setting position given freed
+    → FollowsAt f setting.history setting.caller (position.done ++ piece)
+    (slice_set position.registers r (Some (record { place = place; words = words; need = need_of need }))) (given + f words) (freed + 0)
+given-after f g setting position r need words place value calls piece given freed legal words_are is piece_is at =
+    alloc-filled f g setting position need words place value _ calls piece given freed legal words_are is piece_is
+    (λ before legal_here holds. holds-fresh g before setting.caller need place words r position.registers legal_here words_are holds) at
+
+-- a block that is given in place of a held one, with the writes into it
+abbrev pub made_for : Setting → ℕ → ℕ → (ℕ → ℕ) → List Event → List Event
+made_for setting place words value calls = calls ++ writing setting.caller place words value
+
+-- as the held block is about to be freed, the lane still owns it, and what the registers are about to hold lies elsewhere
+pub record IsLeaving (pool : Pool) (caller : ℕ) (held : Held) (registers : List (Option Held)) : Type 0 where
+  pub owned : OwnsHeld pool caller held
+  pub apart : (q : ℕ) (other : Held) → held_in registers q ≡ Some other → other.place ≢ held.place
+
+pub leaving :
+    (f : ℕ → ℕ) (g : Geometry) (setting : Setting) (position : Position) (r need words place : ℕ) (held : Held) (value : ℕ → ℕ) (calls : List Event)
+    (given freed : ℕ) → IsLegalWithoutCounts g setting.history → held_in position.registers r ≡ Some held → need_of need ≢ held.need
+    → words ≡ usable_words (need_of need) → IsGiven setting.caller need place calls → Before f setting position given freed
+    → (before : List Event) → Begins before setting.history → own setting.caller before ≡ position.done ++ made_for setting place words value calls
+    → IsLeaving (pool_of before) setting.caller held
+    (slice_set position.registers r (Some (record { place = place; words = words; need = need_of need })))
+leaving f g setting position r need words place held value calls given freed legal full differ words_are is at before begins own_is =
+    let piece : List Event = made_for setting place words value calls in
+    let old = (alloc-filled f g setting position need words place value position.registers calls piece given freed legal words_are is refl
+    (λ earlier legal_here holds. holds-beside g earlier setting.caller need place position.registers legal_here holds) at before begins own_is).holds in
+    let now = (given-after f g setting position r need words place value calls piece given freed legal words_are is refl at before begins own_is).holds in
+    record {
+      owned = old.owned r held full;
+      apart =
+          held-apart (pool_of before) setting.caller r (record { place = place; words = words; need = need_of need }) held position.registers full differ
+          old now;
+    }
+
+resized-after :
+    (f : ℕ → ℕ) (g : Geometry) (setting : Setting) (position : Position) (r need words place : ℕ) (held : Held) (value : ℕ → ℕ)
+    (calls piece : List Event) (given freed : ℕ) → IsLegalWithoutCounts g setting.history → held_in position.registers r ≡ Some held
+    → need_of need ≢ held.need → words ≡ usable_words (need_of need) → IsGiven setting.caller need place calls
+    → piece ≡ made_for setting place words value calls ++ Free setting.caller held.place ∷ [] → Before f setting position given freed
+    → FollowsAt f setting.history setting.caller (position.done ++ piece)
+    (slice_set position.registers r (Some (record { place = place; words = words; need = need_of need }))) (given + f words) (freed + f held.words)
+resized-after f g setting position r need words place held value calls piece given freed legal full differ words_are is piece_is at =
+    let caller = setting.caller in
+    let made : List Event = made_for setting place words value calls in
+    let set : List (Option Held) = slice_set position.registers r (Some (record { place = place; words = words; need = need_of need })) in
+    let at_made = given-after f g setting position r need words place value calls made given freed legal words_are is refl at in
+    let at_freed =
+    at-step f g setting.history caller (position.done ++ made) (Free caller held.place) set set (given + f words) (freed + 0) (given + f words)
+    (freed + f held.words) legal refl
+    (λ before legal_here begins own_is holds.
+    let left = leaving f g setting position r need words place held value calls given freed legal full differ words_are is at before
+    (Free caller held.place ∷ begins.0, begins.1 ∙ push-append before begins.0 (Free caller held.place)) own_is in
+    let frees : f held.words ≡ block_with f (block_at held.place (pool_of before)) =
+    ap f left.owned.words_are ∙ ap (block_with f) (sym left.owned.live) in
+    record {
+      holds = record {
+        owned = λ q other there. owns-freed before caller other caller held.place (left.apart q other there) (holds.owned q other there);
+        once = holds.once;
+      };
+      given_is = omega arith;
+      freed_is = omega (arith, frees);
+    }) at_made in
+    at-as f setting.history caller _ (position.done ++ piece) set (given + f words) (freed + f held.words) (given + f words) (freed + f held.words)
+    (append_assoc position.done made (Free caller held.place ∷ []) ∙ ap (λ xs. position.done ++ xs) (sym piece_is)) refl refl at_freed
 
 alloc-after :
     (f : ℕ → ℕ) (g : Geometry) (setting : Setting) (position : Position) (r need v : ℕ) (held : Option Held) (result : Outcome) (piece : List Event)
@@ -138,8 +213,8 @@ alloc-after :
 alloc-after f g setting position r need v (Some held) outcome.Skipped piece given freed legal row at =
     quiet f g setting position piece given freed legal (none-still setting.caller piece row) at
 alloc-after f g setting position r need v None (outcome.Given words place) piece given freed legal row at =
-    given-after f g setting position r need v words place row.2 piece given freed legal row.1 (given-of setting.caller need place (need_of need) row.2 row.3)
-    row.4 at
+    given-after f g setting position r need words place (λ i. (v + i) % 2 ^ 64) row.2 piece given freed legal row.1
+    (given-of setting.caller need place (need_of need) row.2 row.3) row.4 at
 alloc-after f g setting position r need v None outcome.Refused piece given freed legal row at =
     quiet f g setting position piece given freed legal (stills-refusing setting.caller need (need_of need) piece row.1) at
 alloc-after f g setting position r need v None outcome.Spent piece given freed legal row at =
@@ -238,6 +313,24 @@ take-after f g setting position r shelf None (outcome.Took words place need) pie
     }) at)
 take-after f g setting position r shelf held result piece given freed legal row at = absurd row
 
+resize-after :
+    (f : ℕ → ℕ) (g : Geometry) (setting : Setting) (position : Position) (r need : ℕ) (held : Option Held) (result : Outcome) (piece : List Event)
+    (given freed : ℕ) → IsLegalWithoutCounts g setting.history → held_in position.registers r ≡ held → ResizeRow setting position need held result piece
+    → Before f setting position given freed → After f setting position (op.Resize r need) result piece given freed
+resize-after f g setting position r need None outcome.Skipped piece given freed legal full row at =
+    quiet f g setting position piece given freed legal (none-still setting.caller piece row) at
+resize-after f g setting position r need (Some held) (outcome.Kept words place) piece given freed legal full row at =
+    quiet f g setting position piece given freed legal (none-still setting.caller piece row.0) at
+resize-after f g setting position r need (Some held) (outcome.Resized words place) piece given freed legal full row at =
+    rw full
+    (resized-after f g setting position r need words place held row.5 row.3 piece given freed legal full row.0 row.2
+    (given-of setting.caller need place (need_of need) row.3 row.4) row.7 at)
+resize-after f g setting position r need (Some held) outcome.Refused piece given freed legal full row at =
+    quiet f g setting position piece given freed legal (stills-refusing setting.caller need (need_of need) piece row.2) at
+resize-after f g setting position r need (Some held) outcome.Spent piece given freed legal full row at =
+    quiet f g setting position piece given freed legal (stills-spent setting position need piece position.spent row.1) at
+resize-after f g setting position r need held result piece given freed legal full row at = absurd row
+
 pub row-after :
     (f : ℕ → ℕ) (g : Geometry) (setting : Setting) (position : Position) (operation : Op) (result : Outcome) (piece : List Event) (given freed : ℕ)
     → IsLegalWithoutCounts g setting.history → FitsRow setting position operation result piece → Before f setting position given freed
@@ -254,6 +347,8 @@ row-after f g setting position (op.Put r shelf) result piece given freed legal r
     put-after f g setting position r shelf (held_in position.registers r) result piece given freed legal refl row at
 row-after f g setting position (op.Take r shelf) result piece given freed legal row at =
     take-after f g setting position r shelf (held_in position.registers r) result piece given freed legal row at
+row-after f g setting position (op.Resize r need) result piece given freed legal row at =
+    resize-after f g setting position r need (held_in position.registers r) result piece given freed legal refl row at
 
 -- and so to the end of a walk
 pub walk-after :

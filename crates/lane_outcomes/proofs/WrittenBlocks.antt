@@ -1,5 +1,5 @@
 -- Blocks whose words are written, through each event of their owner.
-use Rattle.std.proofs.Common.{ℕ, zero, suc, ◌≡◌, ◌≢◌, ◌<◌, ◌≤◌, ◌+◌, ◌%◌, ◌^◌, List, [], ◌∷◌, ◌++◌, Option, Some, None, map, length, get_or, refl, sym, ◌∙◌, ap, subst, inl, inr, arith, append_assoc, append-nil, length-append, get_or-set_same, get_or-set_other}
+use Rattle.std.proofs.Common.{ℕ, zero, suc, ◌≡◌, ◌≢◌, ◌<◌, ◌≤◌, ◌+◌, List, [], ◌∷◌, ◌++◌, Option, Some, None, map, length, get_or, refl, sym, ◌∙◌, ap, subst, inl, inr, arith, append_assoc, append-nil, length-append, get_or-set_same, get_or-set_other}
 use Rattle.std.specs.Prelude.{slice_set}
 use Rattle.std.specs.List.{AllByRecursion, AllZip}
 use Rattle.std.proofs.lemmas.Bool.{cases_eq, cases_lt}
@@ -16,7 +16,7 @@ use Rattle.pool_model.proofs.OwnerLemmas.{others-keep_all}
 use Rattle.pool_model.proofs.PoolLemmas.{block_at-changed_other, block_at-changed_same}
 use Rattle.lane_outcomes.specs.Rows.{IsWord}
 use Rattle.lane_outcomes.specs.Written.{AreWritten}
-use Rattle.lane_outcomes.proofs.FillLemmas.{writes}
+use Rattle.lane_outcomes.proofs.FillLemmas.{writes_of}
 use Rattle.lane_outcomes.proofs.FollowLemmas.{IsStill, cut-last}
 
 -- a word was written, the first words were, and all words were
@@ -176,27 +176,27 @@ module _ (g : Geometry) (history : List Event) (legal : IsLegalWithoutCounts g h
 
   -- a fill writes word after word
   at-filled :
-      (place words v count first : ℕ) (done : List Event) → first + count ≤ words
+      (place words : ℕ) (value : ℕ → ℕ) (count first : ℕ) (done : List Event) → first + count ≤ words
       → At done (λ pool. OwnsSuch (IsPart words first) pool caller place)
-      → At (done ++ writes caller place v first count) (λ pool. OwnsSuch (IsPart words (first + count)) pool caller place)
-  at-filled place words v zero first done within at =
+      → At (done ++ writes_of caller place value first count) (λ pool. OwnsSuch (IsPart words (first + count)) pool caller place)
+  at-filled place words value zero first done within at =
       at-as (λ pool. OwnsSuch (IsPart words (first + 0)) pool caller place) done (done ++ []) (sym (append-nil done))
       (subst (λ n. At done (λ pool. OwnsSuch (IsPart words n) pool caller place)) (omega arith) at)
-  at-filled place words v (suc count) first done within at =
-      let event = Write caller place first ((v + first) % 2 ^ 64) in
-      at-as (λ pool. OwnsSuch (IsPart words (first + suc count)) pool caller place) ((done ++ event ∷ []) ++ writes caller place v (first + 1) count)
-      (done ++ event ∷ writes caller place v (first + 1) count) (push-append done (writes caller place v (first + 1) count) event)
-      (subst (λ n. At ((done ++ event ∷ []) ++ writes caller place v (first + 1) count) (λ pool. OwnsSuch (IsPart words n) pool caller place)) (omega arith)
-      (at-filled place words v count (first + 1) (done ++ event ∷ []) (omega (arith, within))
+  at-filled place words value (suc count) first done within at =
+      let event = Write caller place first (value first) in
+      at-as (λ pool. OwnsSuch (IsPart words (first + suc count)) pool caller place) ((done ++ event ∷ []) ++ writes_of caller place value (first + 1) count)
+      (done ++ event ∷ writes_of caller place value (first + 1) count) (push-append done (writes_of caller place value (first + 1) count) event)
+      (subst (λ n. At ((done ++ event ∷ []) ++ writes_of caller place value (first + 1) count) (λ pool. OwnsSuch (IsPart words n) pool caller place)) (omega arith)
+      (at-filled place words value count (first + 1) (done ++ event ∷ []) (omega (arith, within))
       (at-own (IsPart words (first + 1)) done event place
       (λ before few begins own_is legal_here.
-      fills-one caller place words first ((v + first) % 2 ^ 64) before (omega (arith, within)) (at before few begins own_is)))))
+      fills-one caller place words first (value first) before (omega (arith, within)) (at before few begins own_is)))))
 
   pub at-full :
-      (place words v : ℕ) (done : List Event) → At done (λ pool. OwnsSuch (IsPart words 0) pool caller place)
-      → At (done ++ writes caller place v 0 words) (λ pool. OwnsSuch AllSet pool caller place)
-  at-full place words v done at before few begins own_is =
-      let h = at-filled place words v words 0 done (omega arith) at before few begins own_is in
+      (place words : ℕ) (value : ℕ → ℕ) (done : List Event) → At done (λ pool. OwnsSuch (IsPart words 0) pool caller place)
+      → At (done ++ writes_of caller place value 0 words) (λ pool. OwnsSuch AllSet pool caller place)
+  at-full place words value done at before few begins own_is =
+      let h = at-filled place words value words 0 done (omega arith) at before few begins own_is in
       record {
         block = h.block;
         live = h.live;

@@ -1,5 +1,5 @@
 -- Where all callers are lanes whose outcomes fit, blocks on shelves, blocks in registers and blocks that are checked have all their words written.
-use Rattle.std.proofs.Common.{ℕ, zero, suc, ◌≡◌, ◌<◌, ◌≤◌, ◌∷◌, ◌++◌, List, [], Option, Some, None, sum, length, get_or, replicate, refl, sym, ◌∙◌, ap, subst, inl, inr, arith, ◌%◌, ◌^◌, eq-eqb, length-append}
+use Rattle.std.proofs.Common.{ℕ, zero, suc, ◌≡◌, ◌<◌, ◌≤◌, ◌+◌, map, ◌∷◌, ◌++◌, List, [], Option, Some, None, sum, length, get_or, replicate, refl, sym, ◌∙◌, ap, subst, inl, inr, arith, ◌%◌, ◌^◌, eq-eqb, length-append}
 use Rattle.std.specs.List.{AllByRecursion, AllZip}
 use Rattle.std.proofs.lemmas.Bool.{cases_eq, cases_lt}
 use Rattle.std.proofs.lemmas.List.{get_or_past}
@@ -20,16 +20,17 @@ use Rattle.lane_outcomes.specs.declared.registers.Held.{Held}
 use Rattle.lane_outcomes.specs.declared.outcome.Outcome.{Outcome}
 use Rattle.lane_outcomes.specs.declared.outcome.Outcome.TheVariants as outcome
 use Rattle.lane_outcomes.specs.Fits.{OutcomesFit, Walks}
-use Rattle.lane_outcomes.specs.Lane.{Position, held_in, position_after, start}
+use Rattle.lane_outcomes.specs.Lane.{Position, held_in, position_after, start, writing}
 use Rattle.lane_outcomes.specs.LaneCounts.{as_one}
-use Rattle.lane_outcomes.specs.Rows.{CheckRow, FitsRow, IsWord, Moment, Setting}
+use Rattle.lane_outcomes.specs.Rows.{CheckRow, ResizeRow, FitsRow, IsWord, Moment, Setting}
 use Rattle.lane_outcomes.specs.Standing.{setting_in}
-use Rattle.lane_outcomes.specs.Written.{HoldsWritten, ShelvesWritten, SumsWritten}
+use Rattle.lane_outcomes.specs.Written.{HoldsWritten, ShelvesWritten, SumsWritten, CopiesWritten}
 use Rattle.lane_outcomes.proofs.HoldLemmas.{held-nothing}
 use Rattle.lane_outcomes.proofs.LanesLemmas.{lane-fits}
 use Rattle.lane_outcomes.proofs.LiveLemmas.{at-start}
 use Rattle.lane_outcomes.proofs.WrittenBlocks.{AllSet, OwnsSuch, known-words, words-of}
-use Rattle.lane_outcomes.proofs.WrittenRows.{HeldSet, ShelfSet, put-full, walk-set}
+use Rattle.lane_outcomes.proofs.WrittenRows.{HeldSet, ShelfSet, put-full, walk-adds, walk-set}
+use Rattle.lane_outcomes.proofs.FillLemmas.{writes_of}
 
 -- what an event makes of the blocks on shelves
 shelf-given : (pool : Pool) (caller need at : ℕ) → ShelfSet pool → ShelfSet (fresh_block caller need at ∷ pool)
@@ -172,18 +173,19 @@ record IsCutAt (setting : Setting) (from to : Position) (earlier later : List Op
   pub walks : Walks setting from earlier results at
   pub piece : List Event
   pub row : FitsRow setting at operation result piece
+  pub rest : Walks setting (position_after at operation result piece) later more to
 
 cut-at :
     (setting : Setting) (from to : Position) (earlier later : List Op) (results more : List Outcome) (operation : Op) (result : Outcome)
     → length results ≡ length earlier → Walks setting from (earlier ++ operation ∷ later) (results ++ result ∷ more) to
     → IsCutAt setting from to earlier later results more operation result
 cut-at setting from to [] later [] more operation result same (piece, row, walks) =
-    record { at = from; walks = refl; piece = piece; row = row }
+    record { at = from; walks = refl; piece = piece; row = row; rest = walks }
 cut-at setting from to [] later (first ∷ results) more operation result same walks = absurd (omega (arith, same))
 cut-at setting from to (first ∷ earlier) later [] more operation result same walks = absurd (omega (arith, same))
 cut-at setting from to (first ∷ earlier) later (second ∷ results) more operation result same (piece, row, walks) =
     let cut = cut-at setting (position_after from first second piece) to earlier later results more operation result (omega (arith, same)) walks in
-    record { at = cut.at; walks = (piece, row, cut.walks); piece = cut.piece; row = cut.row }
+    record { at = cut.at; walks = (piece, row, cut.walks); piece = cut.piece; row = cut.row; rest = cut.rest }
 
 -- the sum of a check
 check-sum :
@@ -213,6 +215,28 @@ check-at :
     → FitsRow setting position (op.Check r) (outcome.Sum total) piece → SumsWritten setting position r total
 check-at setting position r total piece all row = check-sum setting position r total piece (held_in position.registers r) refl all row
 
+-- a lane's walk is cut at an operation
+lane-cut :
+    (g : Geometry) (history : List Event) (lost : ℕ) (lanes : List (List Op)) (outcomes : List (List Outcome)) (lane : ℕ) (earlier later : List Op)
+    (results more : List Outcome) (operation : Op) (result : Outcome) → OutcomesFit g history lost lanes outcomes
+    → get_or lanes lane [] ≡ earlier ++ operation ∷ later → get_or outcomes lane [] ≡ results ++ result ∷ more → length results ≡ length earlier
+    → (end : Position) × IsCutAt (setting_in history lane g.turn_limit lost) start end earlier later results more operation result
+    × (own lane history ≡ end.done)
+lane-cut g history lost lanes outcomes lane earlier later results more operation result fit operations_are results_are same =
+    let below : lane < length lanes =
+    elim (cases_lt lane (length lanes)) [
+      | inl lt ↦ lt
+      | inr past ↦
+          let none : get_or lanes lane [] ≡ [] = get_or_past lanes lane [] past in
+          absurd (omega (arith, ap length (sym none ∙ operations_are), length-append earlier (operation ∷ later)))
+    ] in
+    let setting = setting_in history lane g.turn_limit lost in
+    let fits = lane-fits g history lost lanes outcomes fit.lanes_fit lane below in
+    let walks : Walks setting start (earlier ++ operation ∷ later) (results ++ result ∷ more) fits.end =
+    subst (λ rs. Walks setting start (earlier ++ operation ∷ later) rs fits.end) results_are
+    (subst (λ ops. Walks setting start ops (get_or outcomes lane []) fits.end) operations_are fits.walks) in
+    (fits.end, cut-at setting start fits.end earlier later results more operation result same walks, fits.all_used)
+
 pub check-written :
     (g : Geometry) (history : List Event) (lost : ℕ) (lanes : List (List Op)) (outcomes : List (List Outcome)) (lane r total : ℕ)
     (earlier later : List Op) (results more : List Outcome) → IsLegalWithoutCounts g history → OutcomesFit g history lost lanes outcomes
@@ -221,20 +245,79 @@ pub check-written :
     → (position : Position) × Walks (setting_in history lane g.turn_limit lost) start earlier results position
     × SumsWritten (setting_in history lane g.turn_limit lost) position r total
 check-written g history lost lanes outcomes lane r total earlier later results more legal fit operations_are results_are same =
-    let below : lane < length lanes =
-    elim (cases_lt lane (length lanes)) [
-      | inl lt ↦ lt
-      | inr past ↦
-          let none : get_or lanes lane [] ≡ [] = get_or_past lanes lane [] past in
-          absurd (omega (arith, ap length (sym none ∙ operations_are), length-append earlier (op.Check r ∷ later)))
-    ] in
     let setting = setting_in history lane g.turn_limit lost in
-    let fits = lane-fits g history lost lanes outcomes fit.lanes_fit lane below in
-    let walks : Walks setting start (earlier ++ op.Check r ∷ later) (results ++ outcome.Sum total ∷ more) fits.end =
-    subst (λ rs. Walks setting start (earlier ++ op.Check r ∷ later) rs fits.end) results_are
-    (subst (λ ops. Walks setting start ops (get_or outcomes lane []) fits.end) operations_are fits.walks) in
-    let cut = cut-at setting start fits.end earlier later results more (op.Check r) (outcome.Sum total) same walks in (
+    let (end, cut, used) = lane-cut g history lost lanes outcomes lane earlier later results more (op.Check r) (outcome.Sum total) fit operations_are results_are same in (
       cut.at,
       cut.walks,
       check-at setting cut.at r total cut.piece (held-written g setting lost lanes outcomes earlier results cut.at legal fit cut.walks) cut.row,
+    )
+
+-- a number for a copied word is the word that was written, and 0 past the end
+copied-word : (values : List ℕ) (i n : ℕ) → IsWord (get_or (map (λ word. Some word) values) i (Some 0)) n → n ≡ get_or values i 0
+copied-word [] i n is = is
+copied-word (value ∷ values) zero n is = is
+copied-word (value ∷ values) (suc i) n is = copied-word values i n is
+
+-- writes with the same values
+writes-same :
+    (caller place count first : ℕ) (value other : ℕ → ℕ) → ((i : ℕ) → i < first + count → value i ≡ other i)
+    → writes_of caller place value first count ≡ writes_of caller place other first count
+writes-same caller place zero first value other same = refl
+writes-same caller place (suc count) first value other same =
+    ap (λ n. Write caller place first n ∷ writes_of caller place value (first + 1) count) (same first (omega arith))
+    ∙ ap (λ es. Write caller place first (other first) ∷ es)
+    (writes-same caller place count (first + 1) value other (λ i lt. same i (omega (arith, lt))))
+
+-- the copy of a resize
+resize-copy :
+    (setting : Setting) (position : Position) (r need words place : ℕ) (piece : List Event) (held : Option Held) → held_in position.registers r ≡ held
+    → ((moment : Moment setting position.done) → HoldsWritten (pool_of moment.before) position.registers)
+    → Begins (position.done ++ piece) (own setting.caller setting.history) → ResizeRow setting position need held (outcome.Resized words place) piece
+    → CopiesWritten setting position r need words place
+resize-copy setting position r need words place piece None full all goes_on row = absurd row
+resize-copy setting position r need words place piece (Some held) full all goes_on (differ, asks, words_are, calls, given, value, copy, piece_is) =
+    let values = all copy.moment r held copy.block full copy.live in
+    let each : (i : ℕ) → i < 0 + words → value i ≡ get_or values.0 i 0 =
+    λ i lt.
+    copied-word values.0 i (value i) (subst (λ (cs : List (Option ℕ)). IsWord (get_or cs i (Some 0)) (value i)) values.1 (copy.each i (omega (arith, lt)))) in
+    let freed : List Event = Free setting.caller held.place ∷ [] in
+    let piece_same : piece ≡ (calls ++ writing setting.caller place words (λ i. get_or values.0 i 0)) ++ freed =
+    piece_is ∙ ap (λ es. (calls ++ es) ++ freed) (writes-same setting.caller place words 0 value (λ i. get_or values.0 i 0) each) in
+    record {
+      held = held;
+      holds = full;
+      moment = copy.moment;
+      block = copy.block;
+      live = copy.live;
+      values = values.0;
+      written = values.1;
+      calls = calls;
+      allocates = given;
+      goes_on = subst (λ (es : List Event). Begins (position.done ++ es) (own setting.caller setting.history)) piece_same goes_on;
+    }
+
+resize-at :
+    (setting : Setting) (position : Position) (r need words place : ℕ) (piece : List Event)
+    → ((moment : Moment setting position.done) → HoldsWritten (pool_of moment.before) position.registers)
+    → Begins (position.done ++ piece) (own setting.caller setting.history) → FitsRow setting position (op.Resize r need) (outcome.Resized words place) piece
+    → CopiesWritten setting position r need words place
+resize-at setting position r need words place piece all goes_on row =
+    resize-copy setting position r need words place piece (held_in position.registers r) refl all goes_on row
+
+pub resize-written :
+    (g : Geometry) (history : List Event) (lost : ℕ) (lanes : List (List Op)) (outcomes : List (List Outcome)) (lane r need words place : ℕ)
+    (earlier later : List Op) (results more : List Outcome) → IsLegalWithoutCounts g history → OutcomesFit g history lost lanes outcomes
+    → get_or lanes lane [] ≡ earlier ++ op.Resize r need ∷ later → get_or outcomes lane [] ≡ results ++ outcome.Resized words place ∷ more
+    → length results ≡ length earlier
+    → (position : Position) × Walks (setting_in history lane g.turn_limit lost) start earlier results position
+    × CopiesWritten (setting_in history lane g.turn_limit lost) position r need words place
+resize-written g history lost lanes outcomes lane r need words place earlier later results more legal fit operations_are results_are same =
+    let setting = setting_in history lane g.turn_limit lost in
+    let (end, cut, used) =
+    lane-cut g history lost lanes outcomes lane earlier later results more (op.Resize r need) (outcome.Resized words place) fit operations_are results_are same in
+    let adds = walk-adds setting (position_after cut.at (op.Resize r need) (outcome.Resized words place) cut.piece) end later more cut.rest in (
+      cut.at,
+      cut.walks,
+      resize-at setting cut.at r need words place cut.piece (held-written g setting lost lanes outcomes earlier results cut.at legal fit cut.walks)
+          (adds.0, used ∙ adds.1) cut.row,
     )

@@ -1,5 +1,5 @@
 -- Along a lane's operations the blocks in its registers have all their words written.
-use Rattle.std.proofs.Common.{ℕ, ◌≡◌, ◌≢◌, ◌<◌, ◌≤◌, ◌+◌, ◌⊎◌, List, [], ◌∷◌, ◌++◌, Option, Some, None, length, refl, sym, ◌∙◌, ap, subst, inl, inr, arith, append_assoc, append-nil, length-append}
+use Rattle.std.proofs.Common.{ℕ, ◌≡◌, ◌≢◌, ◌<◌, ◌≤◌, ◌+◌, ◌%◌, ◌^◌, ◌⊎◌, List, [], ◌∷◌, ◌++◌, Option, Some, None, length, refl, sym, ◌∙◌, ap, subst, inl, inr, arith, append_assoc, append-nil, length-append}
 use Rattle.std.specs.Prelude.{slice_set}
 use Rattle.std.specs.List.{AllByRecursion}
 use Rattle.std.proofs.lemmas.Bool.{cases_lt}
@@ -22,13 +22,13 @@ use Rattle.lane_outcomes.specs.declared.registers.Held.{Held}
 use Rattle.lane_outcomes.specs.declared.outcome.Outcome.{Outcome}
 use Rattle.lane_outcomes.specs.declared.outcome.Outcome.TheVariants as outcome
 use Rattle.lane_outcomes.specs.Fits.{Walks}
-use Rattle.lane_outcomes.specs.Lane.{Position, filling, held_in, position_after, registers_after}
+use Rattle.lane_outcomes.specs.Lane.{Position, filling, held_in, position_after, registers_after, writing}
 use Rattle.lane_outcomes.specs.LaneCounts.{as_one, count_with, words_freed, words_given}
-use Rattle.lane_outcomes.specs.Rows.{AllocRow, CheckRow, FillRow, FitsRow, FreeRow, PutRow, Setting, TakeRow}
+use Rattle.lane_outcomes.specs.Rows.{AllocRow, CheckRow, FillRow, FitsRow, FreeRow, PutRow, ResizeRow, Setting, TakeRow}
 use Rattle.lane_outcomes.specs.Standing.{HoldsOwn}
 use Rattle.lane_outcomes.proofs.FollowLemmas.{IsStill}
 use Rattle.lane_outcomes.proofs.HoldLemmas.{fresh-differs, held-inside, held-set}
-use Rattle.lane_outcomes.proofs.WalkLemmas.{Before, IsGiven, given-events, given-of, none-still, row-after, stills-filling, stills-refusing, stills-spent}
+use Rattle.lane_outcomes.proofs.WalkLemmas.{Before, IsGiven, given-events, given-of, leaving, made_for, none-still, row-after, stills-filling, stills-refusing, stills-spent, stills-writing}
 use Rattle.lane_outcomes.proofs.WrittenBlocks.{AllSet, At, IsPart, OwnsSuch, at-as, at-full, at-own, at-stills, kept-all}
 
 -- each block on a shelf has all its words written
@@ -135,14 +135,19 @@ IsPutOf caller registers piece =
     (r : ℕ) × (held : Held) × (shelf : ℕ) × (held_in registers r ≡ Some held) × (piece ≡ Put caller held.place shelf ∷ [])
 
 module _ (setting : Setting) (position : Position) (piece : List Event) where
+  made-puts :
+      (need words place : ℕ) (value : ℕ → ℕ) (calls : List Event) → IsGiven setting.caller need place calls
+      → AllByRecursion IsNoPut (made_for setting place words value calls)
+  made-puts need words place value calls given =
+      rw given.whole
+      (no_puts-append (given.looked ++ Alloc setting.caller need place ∷ []) (writing setting.caller place words value)
+      (no_puts-append given.looked (Alloc setting.caller need place ∷ []) (still-no_puts setting.caller given.looked given.stills) (tt, tt))
+      (still-no_puts setting.caller (writing setting.caller place words value) (stills-writing setting.caller place words value)))
+
   alloc-puts : (need v : ℕ) (held : Option Held) (result : Outcome) → AllocRow setting position need v held result piece → AllByRecursion IsNoPut piece
   alloc-puts need v (Some held) outcome.Skipped row = rw row tt
   alloc-puts need v None (outcome.Given words place) row =
-      let given = given-of setting.caller need place (need_of need) row.2 row.3 in
-      rw (row.4, given.whole)
-      (no_puts-append (given.looked ++ Alloc setting.caller need place ∷ []) (filling setting.caller place words v)
-      (no_puts-append given.looked (Alloc setting.caller need place ∷ []) (still-no_puts setting.caller given.looked given.stills) (tt, tt))
-      (still-no_puts setting.caller (filling setting.caller place words v) (stills-filling setting.caller place words v)))
+      rw row.4 (made-puts need words place (λ i. (v + i) % 2 ^ 64) row.2 (given-of setting.caller need place (need_of need) row.2 row.3))
   alloc-puts need v None outcome.Refused row = still-no_puts setting.caller piece (stills-refusing setting.caller need (need_of need) piece row.1)
   alloc-puts need v None outcome.Spent row = still-no_puts setting.caller piece (stills-spent setting position need piece position.spent row)
   alloc-puts need v held result row = absurd row
@@ -177,6 +182,17 @@ module _ (setting : Setting) (position : Position) (piece : List Event) where
   take-puts shelf None outcome.ShelfEmpty row = rw row (tt, tt)
   take-puts shelf held result row = absurd row
 
+  resize-puts : (need : ℕ) (held : Option Held) (result : Outcome) → ResizeRow setting position need held result piece → AllByRecursion IsNoPut piece
+  resize-puts need None outcome.Skipped row = rw row tt
+  resize-puts need (Some held) (outcome.Kept words place) row = rw row.0 tt
+  resize-puts need (Some held) (outcome.Resized words place) row =
+      rw row.7
+      (no_puts-append (made_for setting place words row.5 row.3) (Free setting.caller held.place ∷ [])
+      (made-puts need words place row.5 row.3 (given-of setting.caller need place (need_of need) row.3 row.4)) (tt, tt))
+  resize-puts need (Some held) outcome.Refused row = still-no_puts setting.caller piece (stills-refusing setting.caller need (need_of need) piece row.2)
+  resize-puts need (Some held) outcome.Spent row = still-no_puts setting.caller piece (stills-spent setting position need piece position.spent row.1)
+  resize-puts need held result row = absurd row
+
   row-puts :
       (operation : Op) (result : Outcome) → FitsRow setting position operation result piece
       → AllByRecursion IsNoPut piece ⊎ IsPutOf setting.caller position.registers piece
@@ -186,9 +202,10 @@ module _ (setting : Setting) (position : Position) (piece : List Event) where
   row-puts (op.Check r) result row = inl (check-puts (held_in position.registers r) result row)
   row-puts (op.Put r shelf) result row = put-puts r shelf (held_in position.registers r) result refl row
   row-puts (op.Take r shelf) result row = inl (take-puts shelf (held_in position.registers r) result row)
+  row-puts (op.Resize r need) result row = inl (resize-puts need (held_in position.registers r) result row)
 
 -- what a walk adds
-walk-adds :
+pub walk-adds :
     (setting : Setting) (from to : Position) (operations : List Op) (results : List Outcome) → Walks setting from operations results to
     → (more : List Event) × (to.done ≡ from.done ++ more)
 walk-adds setting from to [] [] walks = ([], ap (λ (p : Position). p.done) walks ∙ sym (append-nil from.done))
@@ -247,25 +264,25 @@ module _ (g : Geometry) (setting : Setting) (legal : IsLegalWithoutCounts g sett
       ]
 
   given-set :
-      (position : Position) (r need v words place : ℕ) (calls piece : List Event) → words ≡ usable_words (need_of need)
-      → (is : IsGiven setting.caller need place calls) → piece ≡ calls ++ filling setting.caller place words v
+      (position : Position) (r need words place : ℕ) (value : ℕ → ℕ) (calls piece : List Event) → words ≡ usable_words (need_of need)
+      → (is : IsGiven setting.caller need place calls) → piece ≡ calls ++ writing setting.caller place words value
       → HeldSet position.done position.registers
       → HeldSet (position.done ++ piece) (slice_set position.registers r (Some (record { place = place; words = words; need = need_of need })))
-  given-set position r need v words place calls piece words_are is piece_is all =
+  given-set position r need words place value calls piece words_are is piece_is all =
       let caller = setting.caller in
       let event : Event = Alloc caller need place in
       let looked : List Event = position.done ++ is.looked in
-      let whole = given-events caller need place words v position.done calls piece is piece_is in
-      let new : Now ((looked ++ event ∷ []) ++ filling caller place words v) (IsFull place) =
-      at-full g setting.history legal caller most place words v (looked ++ event ∷ [])
+      let whole = given-events caller need place (writing caller place words value) position.done calls piece is piece_is in
+      let new : Now ((looked ++ event ∷ []) ++ writing caller place words value) (IsFull place) =
+      at-full g setting.history legal caller most place words value (looked ++ event ∷ [])
       (at-own g setting.history legal caller most (IsPart words 0) looked event place
       (λ before few begins own_is legal_here. fresh-owns before caller need place words words_are)) in
       set-full (position.done ++ piece) position.registers r (record { place = place; words = words; need = need_of need })
       (at-as g setting.history legal caller most (IsFull place) _ (position.done ++ piece) whole new)
       (λ q held full.
       at-as g setting.history legal caller most (IsFull held.place) _ (position.done ++ piece) whole
-      (at-stills g setting.history legal caller most AllSet held.place (looked ++ event ∷ []) (filling caller place words v) kept-all
-      (stills-filling caller place words v)
+      (at-stills g setting.history legal caller most AllSet held.place (looked ++ event ∷ []) (writing caller place words value) kept-all
+      (stills-writing caller place words value)
       (at-own g setting.history legal caller most AllSet looked event held.place
       (λ before few begins own_is legal_here.
       other-given AllSet g before caller need place held.place legal_here
@@ -278,7 +295,7 @@ module _ (g : Geometry) (setting : Setting) (legal : IsLegalWithoutCounts g sett
   alloc-set position r need v (Some held) outcome.Skipped piece row all =
       quiet position.done piece position.registers (none-still setting.caller piece row) all
   alloc-set position r need v None (outcome.Given words place) piece row all =
-      given-set position r need v words place row.2 piece row.1 (given-of setting.caller need place (need_of need) row.2 row.3) row.4 all
+      given-set position r need words place (λ i. (v + i) % 2 ^ 64) row.2 piece row.1 (given-of setting.caller need place (need_of need) row.2 row.3) row.4 all
   alloc-set position r need v None outcome.Refused piece row all =
       quiet position.done piece position.registers (stills-refusing setting.caller need (need_of need) piece row.1) all
   alloc-set position r need v None outcome.Spent piece row all =
@@ -367,16 +384,62 @@ module _ (g : Geometry) (setting : Setting) (legal : IsLegalWithoutCounts g sett
       (λ e. let s : Shelf shelf ≡ Caller caller = e in cc)) h))))
   take-set position r shelf held result piece row all = absurd row
 
+  resized-set :
+      (position : Position) (r need words place : ℕ) (held : Held) (value : ℕ → ℕ) (calls piece : List Event) (given freed : ℕ)
+      → held_in position.registers r ≡ Some held → need_of need ≢ held.need → words ≡ usable_words (need_of need)
+      → IsGiven setting.caller need place calls → piece ≡ made_for setting place words value calls ++ Free setting.caller held.place ∷ []
+      → Before as_one setting position given freed → HeldSet position.done position.registers
+      → HeldSet (position.done ++ piece) (slice_set position.registers r (Some (record { place = place; words = words; need = need_of need })))
+  resized-set position r need words place held value calls piece given freed full differ words_are is piece_is at all =
+      let caller = setting.caller in
+      let made : List Event = made_for setting place words value calls in
+      let event : Event = Free caller held.place in
+      let set : List (Option Held) = slice_set position.registers r (Some (record { place = place; words = words; need = need_of need })) in
+      let all_made : HeldSet (position.done ++ made) set = given-set position r need words place value calls made words_are is refl all in
+      let freed_set : HeldSet ((position.done ++ made) ++ event ∷ []) set =
+      λ q other there.
+      at-own g setting.history legal caller most AllSet (position.done ++ made) event other.place
+      (λ before few begins own_is legal_here.
+      other-freed AllSet before caller held.place other.place
+      ((leaving as_one g setting position r need words place held value calls given freed legal full differ words_are is at before begins own_is).apart q
+      other there)
+      (all_made q other there before few begins own_is)) in
+      subst (λ (es : List Event). HeldSet es set)
+      (append_assoc position.done made (event ∷ []) ∙ ap (λ es. position.done ++ es) (sym piece_is)) freed_set
+
+  resize-set :
+      (position : Position) (r need : ℕ) (held : Option Held) (result : Outcome) (piece : List Event) (given freed : ℕ)
+      → held_in position.registers r ≡ held → ResizeRow setting position need held result piece → Before as_one setting position given freed
+      → HeldSet position.done position.registers → HeldSet (position.done ++ piece) (registers_after position.registers (op.Resize r need) result)
+  resize-set position r need None outcome.Skipped piece given freed full row at all =
+      quiet position.done piece position.registers (none-still setting.caller piece row) all
+  resize-set position r need (Some held) (outcome.Kept words place) piece given freed full row at all =
+      quiet position.done piece position.registers (none-still setting.caller piece row.0) all
+  resize-set position r need (Some held) (outcome.Resized words place) piece given freed full row at all =
+      resized-set position r need words place held row.5 row.3 piece given freed full row.0 row.2
+      (given-of setting.caller need place (need_of need) row.3 row.4) row.7 at all
+  resize-set position r need (Some held) outcome.Refused piece given freed full row at all =
+      quiet position.done piece position.registers (stills-refusing setting.caller need (need_of need) piece row.2) all
+  resize-set position r need (Some held) outcome.Spent piece given freed full row at all =
+      quiet position.done piece position.registers (stills-spent setting position need piece position.spent row.1) all
+  resize-set position r need held result piece given freed full row at all = absurd row
+
   row-set :
-      (position : Position) (operation : Op) (result : Outcome) (piece : List Event) → FitsRow setting position operation result piece
-      → HoldsAt position → HeldSet position.done position.registers
+      (position : Position) (operation : Op) (result : Outcome) (piece : List Event) (given freed : ℕ)
+      → FitsRow setting position operation result piece → Before as_one setting position given freed → HeldSet position.done position.registers
       → HeldSet (position.done ++ piece) (registers_after position.registers operation result)
-  row-set position (op.Alloc r need v) result piece row holds all = alloc-set position r need v (held_in position.registers r) result piece row all
-  row-set position (op.Free r) result piece row holds all = free-set position r (held_in position.registers r) result piece refl row holds all
-  row-set position (op.Fill r v) result piece row holds all = fill-set position r v (held_in position.registers r) result piece row all
-  row-set position (op.Check r) result piece row holds all = check-set position r (held_in position.registers r) result piece row all
-  row-set position (op.Put r shelf) result piece row holds all = put-set position r shelf (held_in position.registers r) result piece refl row holds all
-  row-set position (op.Take r shelf) result piece row holds all = take-set position r shelf (held_in position.registers r) result piece row all
+  row-set position (op.Alloc r need v) result piece given freed row at all =
+      alloc-set position r need v (held_in position.registers r) result piece row all
+  row-set position (op.Free r) result piece given freed row at all =
+      free-set position r (held_in position.registers r) result piece refl row (λ before few begins own_is. (at before begins own_is).holds) all
+  row-set position (op.Fill r v) result piece given freed row at all = fill-set position r v (held_in position.registers r) result piece row all
+  row-set position (op.Check r) result piece given freed row at all = check-set position r (held_in position.registers r) result piece row all
+  row-set position (op.Put r shelf) result piece given freed row at all =
+      put-set position r shelf (held_in position.registers r) result piece refl row (λ before few begins own_is. (at before begins own_is).holds) all
+  row-set position (op.Take r shelf) result piece given freed row at all =
+      take-set position r shelf (held_in position.registers r) result piece row all
+  row-set position (op.Resize r need) result piece given freed row at all =
+      resize-set position r need (held_in position.registers r) result piece given freed refl row at all
 
   -- so it is to the end of a walk
   pub walk-set :
@@ -390,7 +453,7 @@ module _ (g : Geometry) (setting : Setting) (legal : IsLegalWithoutCounts g sett
       walk-set (position_after from operation result piece) to operations results (given + count_with as_one (words_given operation result))
       (freed + count_with as_one (words_freed from.registers operation result)) walks
       (row-after as_one g setting from operation result piece given freed legal row at)
-      (row-set from operation result piece row (λ before few begins own_is. (at before begins own_is).holds) all)
+      (row-set from operation result piece given freed row at all)
 
   -- a put of a register's block is the one that is looked for, or stands before it
   put-here :
@@ -434,7 +497,7 @@ module _ (g : Geometry) (setting : Setting) (legal : IsLegalWithoutCounts g sett
       let meets : xs ++ event ∷ ys ≡ piece ++ more.0 =
       append_cancel_left from.done (xs ++ event ∷ ys) (piece ++ more.0) (sym ends ∙ more.1 ∙ append_assoc from.done piece more.0) in
       let next_holds = row-after as_one g setting from operation result piece given freed legal row at in
-      let next_all = row-set from operation result piece row (λ before few begins own_is. (at before begins own_is).holds) all in
+      let next_all = row-set from operation result piece given freed row at all in
       let later : (rest : List Event) → xs ≡ piece ++ rest → more.0 ≡ rest ++ event ∷ ys → IsFull place (pool_of before) =
       λ rest xs_are zs_are.
       put-full next to operations results (given + count_with as_one (words_given operation result))

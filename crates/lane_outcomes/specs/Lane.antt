@@ -14,7 +14,7 @@ use Rattle.lane_outcomes.specs.declared.outcome.Outcome.{Outcome}
 use Rattle.lane_outcomes.specs.declared.outcome.Outcome.TheVariants as outcome
 
 -- a lane between two operations: what each of its registers holds, its own events so far, how many of its small
--- allocations were given a block or refused, and whether it has no turn left
+-- allocations, resizes among them, were given a block or refused, and whether it has no turn left
 pub record Position : Type 0 where
   pub registers : List (Option Held)
   pub done : List Event
@@ -35,6 +35,8 @@ registers_after registers (op.Alloc r need v) (outcome.Given words place) =
     slice_set registers r (Some (record { place = place; words = words; need = need_of need }))
 registers_after registers (op.Take r shelf) (outcome.Took words place need) =
     slice_set registers r (Some (record { place = place; words = words; need = need }))
+registers_after registers (op.Resize r need) (outcome.Resized words place) =
+    slice_set registers r (Some (record { place = place; words = words; need = need_of need }))
 registers_after registers (op.Free r) outcome.Freed = slice_set registers r None
 registers_after registers (op.Put r shelf) outcome.Put = slice_set registers r None
 registers_after registers operation result = registers
@@ -49,6 +51,8 @@ is_small TooLarge = false
 abbrev pub answered_after : ℕ → Op → Outcome → ℕ
 answered_after answered (op.Alloc r need v) (outcome.Given words place) = if is_small (need_of need) then suc answered else answered
 answered_after answered (op.Alloc r need v) outcome.Refused = if is_small (need_of need) then suc answered else answered
+answered_after answered (op.Resize r need) (outcome.Resized words place) = if is_small (need_of need) then suc answered else answered
+answered_after answered (op.Resize r need) outcome.Refused = if is_small (need_of need) then suc answered else answered
 answered_after answered operation result = answered
 
 -- whether the lane has no turn left, after one operation more
@@ -66,6 +70,10 @@ position_after position operation result piece =
       spent = spent_after position.spent result;
     }
 
+-- the writes of a block's usable words, the first word first, each with its value
+abbrev pub writing : ℕ → ℕ → ℕ → (ℕ → ℕ) → List Event
+writing caller place words value = map (λ i. Write caller place i (value i)) (range_with_len 0 words)
+
 -- the writes that fill a block of so many usable words: word i with v + i
 abbrev pub filling : ℕ → ℕ → ℕ → ℕ → List Event
-filling caller place words v = map (λ i. Write caller place i ((v + i) % 2 ^ 64)) (range_with_len 0 words)
+filling caller place words v = writing caller place words (λ i. (v + i) % 2 ^ 64)

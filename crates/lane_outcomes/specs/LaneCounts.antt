@@ -13,11 +13,13 @@ use Rattle.lane_outcomes.specs.Lane.{held_in, registers_after}
 -- the words of the block that an operation was given
 abbrev pub words_given : Op → Outcome → Option ℕ
 words_given (op.Alloc r need v) (outcome.Given words place) = Some words
+words_given (op.Resize r need) (outcome.Resized words place) = Some words
 words_given operation result = None
 
 -- the words of the block that an operation freed
 abbrev pub words_freed : List (Option Held) → Op → Outcome → Option ℕ
 words_freed registers (op.Free r) outcome.Freed = option_map (λ held. held.words) (held_in registers r)
+words_freed registers (op.Resize r need) (outcome.Resized words place) = option_map (λ held. held.words) (held_in registers r)
 words_freed registers operation result = None
 
 -- what a block counts, if there is one, where one of so many words counts as `f` says

@@ -7,7 +7,7 @@ use Rattle.trace_text.specs.declared.trace.Trace.{Trace}
 use Rattle.std.specs.List.{flat_map}
 use Rattle.trace_text.specs.Text.{heap_fields, line}
 use Rattle.lane_outcomes.specs.declared.outcome.Outcome.{Outcome}
-use Rattle.lane_outcomes.specs.declared.outcome.Outcome.TheVariants.{Given, Refused, Spent, Freed, Filled, Sum, Put, ShelfFull, Took, ShelfEmpty, Skipped}
+use Rattle.lane_outcomes.specs.declared.outcome.Outcome.TheVariants.{Given, Refused, Spent, Freed, Filled, Sum, Put, ShelfFull, Took, ShelfEmpty, Kept, Resized, Skipped}
 
 -- the fields of an outcome's line
 abbrev pub outcome_fields : Outcome → List (List ℕ)
@@ -21,6 +21,8 @@ outcome_fields Put = codes "put" ∷ []
 outcome_fields ShelfFull = codes "shelf" ∷ codes "full" ∷ []
 outcome_fields (Took words place need) = codes "took" ∷ decimal words ∷ []
 outcome_fields ShelfEmpty = codes "shelf" ∷ codes "empty" ∷ []
+outcome_fields (Kept words place) = codes "kept" ∷ decimal words ∷ []
+outcome_fields (Resized words place) = codes "resized" ∷ decimal words ∷ []
 outcome_fields Skipped = codes "skipped" ∷ []
 
 -- the lines of a lane: its number, and a line for each outcome

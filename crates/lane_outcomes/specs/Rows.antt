@@ -1,6 +1,6 @@
 -- Which outcome an operation may have, and which events of its lane it then adds.
-use Rattle.std.specs.Prelude.{ℕ, ◌+◌, ◌%◌, ◌^◌, ◌≤◌, ◌≡◌, ◌∷◌, ◌++◌, List, [], Bool, true, false, Option, Some, None, count_by, not, sum, ◌&&◌, ◌==◌}
-use Rattle.std.specs.List.{AllZip}
+use Rattle.std.specs.Prelude.{ℕ, ◌+◌, ◌%◌, ◌^◌, ◌<◌, ◌≤◌, ◌≡◌, ◌≢◌, ◌∷◌, ◌++◌, List, [], Bool, true, false, Option, Some, None, count_by, not, sum, ◌&&◌, ◌==◌}
+use Rattle.std.specs.List.{AllZip, slice_index_or}
 use Rattle.heap_geometry.specs.Need.{need_of, usable_words}
 use Rattle.pool_model.specs.declared.event.Event.{Event}
 use Rattle.pool_model.specs.declared.event.Event.TheVariants.{Alloc, Free, Put, Take, TakeNone}
@@ -13,7 +13,7 @@ use Rattle.trace_text.specs.declared.trace.Op.TheVariants as op
 use Rattle.lane_outcomes.specs.declared.registers.Held.{Held}
 use Rattle.lane_outcomes.specs.declared.outcome.Outcome.{Outcome}
 use Rattle.lane_outcomes.specs.declared.outcome.Outcome.TheVariants as outcome
-use Rattle.lane_outcomes.specs.Lane.{Position, held_in, is_small, filling}
+use Rattle.lane_outcomes.specs.Lane.{Position, held_in, is_small, filling, writing}
 
 -- what a lane's outcomes are held against: its number, the most turns of a caller, and the history and the lost exchanges of the closed heap
 pub record Setting : Type 0 where
@@ -45,7 +45,7 @@ pub record IsFullShelf (pool : Pool) (shelf : ℕ) : Type 0 where
   pub live : block_at block.place pool ≡ Some block
   pub shelved : block.owner ≡ Shelf shelf
 
--- an allocation on an empty register may still ask the heap: it is large, or the lane has turns left
+-- an allocation on an empty register, or a resize to another need, may still ask the heap: it is large, or the lane has turns left
 abbrev pub MayAsk : Position → ℕ → Type 0
 MayAsk position need = (is_small (need_of need) && position.spent) ≡ false
 
@@ -114,6 +114,30 @@ TakeRow setting position shelf None (outcome.Took words place need) piece =
 TakeRow setting position shelf None outcome.ShelfEmpty piece = piece ≡ TakeNone setting.caller shelf ∷ []
 TakeRow setting position shelf held result piece = ⊥
 
+-- the values that a resized block of so many words is written with: those of the held block after the lane's events so far, an unwritten word
+-- standing for some number, and 0 past its end
+pub record IsCopy (setting : Setting) (position : Position) (held : Held) (words : ℕ) (value : ℕ → ℕ) : Type 0 where
+  pub moment : Moment setting position.done
+  pub block : Block
+  pub live : block_at held.place (pool_of moment.before) ≡ Some block
+  pub each : (i : ℕ) → i < words → IsWord (slice_index_or block.contents i (Some 0)) (value i)
+
+-- a resize leaves a block that has the need; for another one it allocates a block, copies the held block's words there and then frees that block
+abbrev pub ResizeRow : Setting → Position → ℕ → Option Held → Outcome → List Event → Type 0
+ResizeRow setting position need None outcome.Skipped piece = piece ≡ []
+ResizeRow setting position need (Some held) (outcome.Kept words place) piece =
+    (piece ≡ []) × (need_of need ≡ held.need) × (words ≡ held.words) × (place ≡ held.place)
+ResizeRow setting position need (Some held) (outcome.Resized words place) piece =
+    (need_of need ≢ held.need) × MayAsk position need × (words ≡ usable_words (need_of need))
+    × (calls : List Event) × EventsOf setting.caller (alloc_given need place) calls
+    × (value : ℕ → ℕ) × IsCopy setting position held words value
+    × (piece ≡ calls ++ writing setting.caller place words value ++ Free setting.caller held.place ∷ [])
+ResizeRow setting position need (Some held) outcome.Refused piece =
+    (need_of need ≢ held.need) × MayAsk position need × EventsOf setting.caller (alloc_refused need) piece
+ResizeRow setting position need (Some held) outcome.Spent piece =
+    (need_of need ≢ held.need) × IsSpent setting position need piece position.spent
+ResizeRow setting position need held result piece = ⊥
+
 -- the operation may have this outcome, and then adds this piece to its lane's own events
 abbrev pub FitsRow : Setting → Position → Op → Outcome → List Event → Type 0
 FitsRow setting position (op.Alloc r need v) result piece = AllocRow setting position need v (held_in position.registers r) result piece
@@ -122,3 +146,4 @@ FitsRow setting position (op.Fill r v) result piece = FillRow setting v (held_in
 FitsRow setting position (op.Check r) result piece = CheckRow setting position (held_in position.registers r) result piece
 FitsRow setting position (op.Put r shelf) result piece = PutRow setting position shelf (held_in position.registers r) result piece
 FitsRow setting position (op.Take r shelf) result piece = TakeRow setting position shelf (held_in position.registers r) result piece
+FitsRow setting position (op.Resize r need) result piece = ResizeRow setting position need (held_in position.registers r) result piece

@@ -4,10 +4,11 @@ ghost use Rattle.std.specs.Prelude.{ℕ, ◌≡◌, ◌-◌, ◌^◌, List, map,
 ghost use Rattle.pool_model.specs.declared.event.Event.{Event};
 ghost use Rattle.pool_model.specs.Pool.{pool_of, live_words as words_of};
 ghost use Rattle.pool_model.specs.Legal.{IsLegalWithoutCounts};
+ghost use Rattle.std.specs.Option.{option_map};
 ghost use Rattle.trace_text.specs.declared.limits.TheConstants.{REGISTERS};
 ghost use Rattle.trace_text.specs.Traces.{IsTrace};
 ghost use Rattle.lane_outcomes.specs.Fits.{OutcomesFit};
-ghost use Rattle.lane_outcomes.specs.Lane.{registers_after};
+ghost use Rattle.lane_outcomes.specs.Lane.{held_in, registers_after};
 ghost use Rattle.lane_outcomes.specs.LaneCounts.{words_given, words_freed, count_with, as_one, as_words, lane_given, lane_freed, lanes_given, lanes_freed, live_of, GrowsBy};
 
 use crate::outcome::Outcome;
@@ -56,7 +57,18 @@ fn given_block(operation: Op, outcome: Outcome) -> Option<u32>
 {
     match (operation, outcome) {
         (Op::Alloc { .. }, Outcome::Given { words, .. }) => Some(words),
+        (Op::Resize { .. }, Outcome::Resized { words, .. }) => Some(words),
         _ => None,
+    }
+}
+
+/// The words of the block that the register holds.
+fn held_words(registers: &Registers, r: u16) -> Option<u32>
+    ensures { result ≡ option_map (λ held. held.words) (held_in registers.now r) }
+{
+    match registers.get(r) {
+        Some(held) => Some(held.words),
+        None => None,
     }
 }
 
@@ -65,10 +77,8 @@ fn freed_block(registers: &Registers, operation: Op, outcome: Outcome) -> Option
     ensures { result ≡ words_freed registers.now operation outcome }
 {
     match (operation, outcome) {
-        (Op::Free { r }, Outcome::Freed) => match registers.get(r) {
-            Some(held) => Some(held.words),
-            None => None,
-        },
+        (Op::Free { r }, Outcome::Freed) => held_words(registers, r),
+        (Op::Resize { r, .. }, Outcome::Resized { .. }) => held_words(registers, r),
         _ => None,
     }
 }
@@ -79,6 +89,10 @@ fn follow(registers: &mut Registers, operation: Op, outcome: Outcome)
 {
     match (operation, outcome) {
         (Op::Alloc { r, need, .. }, Outcome::Given { words, place }) => {
+            let need = class_of(need);
+            registers.set(r, Some(Held { place, words, need }));
+        }
+        (Op::Resize { r, need }, Outcome::Resized { words, place }) => {
             let need = class_of(need);
             registers.set(r, Some(Held { place, words, need }));
         }

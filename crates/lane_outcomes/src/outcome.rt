@@ -8,9 +8,9 @@ use heap_geometry::need::Need;
 pub enum Outcome {
     /// A block of `words` usable words was given, and filled.
     Given { words: u32, place: u32 },
-    /// The allocation was refused.
+    /// The allocation, or that of a resize, was refused.
     Refused,
-    /// The lane has no turn left for a small allocation.
+    /// The lane has no turn left for a small allocation, or for a resize to a small need.
     Spent,
     /// The held block was given back.
     Freed,
@@ -26,6 +26,11 @@ pub enum Outcome {
     Took { words: u32, place: u32, need: Need },
     /// The shelf held nothing.
     ShelfEmpty,
+    /// The held block has the need that was asked for, and stays. It has `words` usable words.
+    Kept { words: u32, place: u32 },
+    /// A block of `words` usable words was given in place of the held one, whose words it has as far
+    /// as both go.
+    Resized { words: u32, place: u32 },
     /// The register was full where the operation wants an empty one, or the other way round.
     Skipped,
 }

@@ -43,6 +43,8 @@ fn write_outcome(text: &mut Text, outcome: Outcome) -> Result<(), AllocError>
         Outcome::ShelfFull => text.line("shelf full"),
         Outcome::Took { words, .. } => text.line_with("took", u64::from(words)),
         Outcome::ShelfEmpty => text.line("shelf empty"),
+        Outcome::Kept { words, .. } => text.line_with("kept", u64::from(words)),
+        Outcome::Resized { words, .. } => text.line_with("resized", u64::from(words)),
         Outcome::Skipped => text.line("skipped"),
     }
 }

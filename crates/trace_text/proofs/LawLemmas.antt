@@ -4,8 +4,10 @@ use Rattle.trace_text.specs.declared.fault.Cause.{Cause}
 use Rattle.trace_text.specs.declared.stage.Stage.{Stage}
 use Rattle.trace_text.specs.declared.stage.Stage.TheVariants.{Before, Inside, Ended}
 use Rattle.trace_text.specs.declared.trace.Trace.{Trace}
+use Rattle.trace_text.specs.declared.trace.Version.{Version}
+use Rattle.trace_text.specs.declared.trace.Version.TheVariants.{Two}
 use Rattle.trace_text.specs.Lines.{lines_of}
-use Rattle.trace_text.specs.Reading.{Reading, Read, at_end, continued, reading_from, reading_of}
+use Rattle.trace_text.specs.Reading.{Reading, Read, at_end, continued, reading_from, reading_up_to, reading_of}
 use Rattle.trace_text.specs.Said.{after_line}
 use Rattle.trace_text.specs.Stages.{HasTrace}
 use Rattle.trace_text.specs.Traces.{IsTrace}
@@ -20,19 +22,20 @@ end_named number Before t is e = absurd cc
 end_named number (Inside trace) t is e = absurd cc
 end_named number (Ended trace) t is e = subst IsTrace (read_is trace t e) is
 
-went_on :
+pub went_on :
     (number : ℕ) (said : Result Stage Cause) (next : Stage → Reading) (t : Trace) → continued number said next ≡ Read t
     → (stage : Stage) × (said ≡ Ok stage) × (next stage ≡ Read t)
 went_on number (Ok stage) next t e = (stage, refl, e)
 went_on number (Err cause) next t e = absurd cc
 
-lines_named : (lines : List (List ℕ)) (number : ℕ) (stage : Stage) (t : Trace) → HasTrace stage → reading_from lines number stage ≡ Read t → IsTrace t
+lines_named :
+    (known : Version) (lines : List (List ℕ)) (number : ℕ) (stage : Stage) (t : Trace) → HasTrace stage → reading_from known lines number stage ≡ Read t → IsTrace t
 unfolding reading_from
-lines_named [] number stage t is e = end_named number stage t is e
-lines_named (line ∷ lines) number stage t is e =
-    let next = went_on number (after_line stage line) (λ next. reading_from lines (number + 1) next) t e in
-    lines_named lines (number + 1) next.0 t (line_named stage next.0 line is next.1) next.2
+lines_named known [] number stage t is e = end_named number stage t is e
+lines_named known (line ∷ lines) number stage t is e =
+    let next = went_on number (after_line known stage line) (λ next. reading_from known lines (number + 1) next) t e in
+    lines_named known lines (number + 1) next.0 t (line_named known stage next.0 line is next.1) next.2
 
 pub read_is_named : (text : List ℕ) (t : Trace) → reading_of text ≡ Read t → IsTrace t
-unfolding reading_of
-read_is_named text t e = lines_named (lines_of text) 1 Before t tt e
+unfolding reading_of reading_up_to
+read_is_named text t e = lines_named Two (lines_of text) 1 Before t tt e

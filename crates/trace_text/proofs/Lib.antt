@@ -7,3 +7,4 @@ pub mod PrintedLemmas
 pub mod RoundLemmas
 pub mod StageLemmas
 pub mod TextLemmas
+pub mod VersionLemmas

@@ -9,19 +9,21 @@ use Rattle.heap_geometry.specs.Geometry.{IsWithin}
 use Rattle.heap_geometry.specs.declared.limits.TheConstants.{MAX_FRAMES, MAX_HEAPS, MAX_UNITS, MAX_TURNS, LARGE_MOST, SHELVES}
 use Rattle.trace_text.specs.declared.limits.TheConstants.{REGISTERS, MAX_LANES, ORDER_MOST}
 use Rattle.trace_text.specs.declared.fault.Cause.{Cause}
-use Rattle.trace_text.specs.declared.fault.Cause.TheVariants.{BadGeometry, OutOfRange, UnknownOp, NoHeapLine, NotAscii, TooManyLanes}
+use Rattle.trace_text.specs.declared.fault.Cause.TheVariants.{BadGeometry, OutOfRange, UnknownOp, NotAscii, TooManyLanes}
 use Rattle.trace_text.specs.declared.stage.Stage.{Stage}
 use Rattle.trace_text.specs.declared.stage.Stage.TheVariants.{Before, Inside, Ended}
 use Rattle.trace_text.specs.declared.trace.Op.{Op}
-use Rattle.trace_text.specs.declared.trace.Op.TheVariants.{Alloc, Free, Fill, Check, Put, Take}
+use Rattle.trace_text.specs.declared.trace.Op.TheVariants.{Alloc, Free, Fill, Check, Put, Take, Resize}
 use Rattle.trace_text.specs.declared.trace.OrderRun.{OrderRun}
 use Rattle.trace_text.specs.declared.trace.Trace.{Trace}
+use Rattle.trace_text.specs.declared.trace.Version.{Version}
+use Rattle.trace_text.specs.declared.trace.Version.TheVariants.{One, Two}
 use Rattle.trace_text.specs.Causes.{◌>>=◌}
 use Rattle.trace_text.specs.Lines.{is_plain, is_comment, fields_of}
 use Rattle.trace_text.specs.Numbers.{number_in}
-use Rattle.trace_text.specs.Said.{numeral_in, ranged, up_to, register_of, shelf_of, none_in, one_in, two_in, three_in, heap_numbers_in, heap_in, alloc_in, free_in, fill_in, check_in, put_in, take_in, op_in, order_in, last_with, with_lane, with_op, with_order, is_unordered, after_lane, after_order, after_end, after_op, after_inner, after_first, after_word, after_fields, after_line}
+use Rattle.trace_text.specs.Said.{numeral_in, ranged, register_of, need_of, shelf_of, none_in, one_in, two_in, three_in, heap_numbers_in, version_in, heap_in, alloc_in, free_in, fill_in, check_in, put_in, take_in, resize_in, op_in, op_of, order_in, last_with, with_lane, with_op, with_order, is_unordered, after_lane, after_order, after_end, after_op, after_inner, after_first, after_word, after_fields, after_line}
 use Rattle.trace_text.specs.Stages.{HasTrace}
-use Rattle.trace_text.specs.Traces.{IsOp, IsOrder, IsTrace, callers_of}
+use Rattle.trace_text.specs.Traces.{IsOp, IsAllowed, IsOrder, IsTrace, callers_of}
 use Rattle.trace_text.proofs.NumberLemmas.{number_found}
 
 -- the value of a step that did not fail
@@ -37,7 +39,7 @@ kept false r cause y e = absurd cc
 abbrev done : {A : Type 0} → A → Result A Cause
 done x = Ok x
 
-ok_is : {A : Type 0} (x y : A) → done x ≡ done y → x ≡ y
+pub ok_is : {A : Type 0} (x y : A) → done x ≡ done y → x ≡ y
 ok_is x y e = cc
 
 -- one of two ways
@@ -85,71 +87,90 @@ three_ok (a ∷ b ∷ c ∷ []) n e =
     rw (← is) (numeral_ok c z.0 z.1)
 three_ok (a ∷ b ∷ c ∷ d ∷ fields) n e = absurd cc
 
-alloc_ok : (fields : List (List ℕ)) (op : Op) → alloc_in fields ≡ Ok op → IsOp op
+-- an operation that a text of this version can name
+abbrev IsNamed : Version → Op → Type 0
+IsNamed version op = IsOp op × IsAllowed version op
+
+alloc_ok : (version : Version) (fields : List (List ℕ)) (op : Op) → alloc_in fields ≡ Ok op → IsNamed version op
 unfolding alloc_in
-alloc_ok fields op e =
-    let n = bind_ok (three_in fields) (λ n. register_of n.0 >>= λ r. up_to LARGE_MOST n.1 >>= λ need. Ok (Alloc r need n.2)) op e in
-    let r = bind_ok (register_of n.0.0) (λ r. up_to LARGE_MOST n.0.1 >>= λ need. Ok (Alloc r need n.0.2)) op n.2 in
-    let need = bind_ok (up_to LARGE_MOST n.0.1) (λ need. Ok (Alloc r.0 need n.0.2)) op r.2 in
+alloc_ok version fields op e =
+    let n = bind_ok (three_in fields) (λ n. register_of n.0 >>= λ r. need_of n.1 >>= λ need. Ok (Alloc r need n.2)) op e in
+    let r = bind_ok (register_of n.0.0) (λ r. need_of n.0.1 >>= λ need. Ok (Alloc r need n.0.2)) op n.2 in
+    let need = bind_ok (need_of n.0.1) (λ need. Ok (Alloc r.0 need n.0.2)) op r.2 in
     let in_r = ranged_ok OutOfRange 0 (REGISTERS - 1) n.0.0 r.0 r.1 in
     let in_need = ranged_ok OutOfRange 0 LARGE_MOST n.0.1 need.0 need.1 in
-    subst IsOp (ok_is (Alloc r.0 need.0 n.0.2) op need.2) (omega (arith, in_r.1), in_need.1.1, three_ok fields n.0 n.1)
+    subst (IsNamed version) (ok_is (Alloc r.0 need.0 n.0.2) op need.2) ((omega (arith, in_r.1), in_need.1.1, three_ok fields n.0 n.1), tt)
 
-free_ok : (fields : List (List ℕ)) (op : Op) → free_in fields ≡ Ok op → IsOp op
+free_ok : (version : Version) (fields : List (List ℕ)) (op : Op) → free_in fields ≡ Ok op → IsNamed version op
 unfolding free_in
-free_ok fields op e =
+free_ok version fields op e =
     let n = bind_ok (one_in fields) (λ n. register_of n >>= λ r. Ok (Free r)) op e in
     let r = bind_ok (register_of n.0) (λ r. Ok (Free r)) op n.2 in
     let in_r = ranged_ok OutOfRange 0 (REGISTERS - 1) n.0 r.0 r.1 in
     let below : r.0 < REGISTERS = omega (arith, in_r.1) in
-    subst IsOp (ok_is (Free r.0) op r.2) below
+    subst (IsNamed version) (ok_is (Free r.0) op r.2) (below, tt)
 
-check_ok : (fields : List (List ℕ)) (op : Op) → check_in fields ≡ Ok op → IsOp op
+check_ok : (version : Version) (fields : List (List ℕ)) (op : Op) → check_in fields ≡ Ok op → IsNamed version op
 unfolding check_in
-check_ok fields op e =
+check_ok version fields op e =
     let n = bind_ok (one_in fields) (λ n. register_of n >>= λ r. Ok (Check r)) op e in
     let r = bind_ok (register_of n.0) (λ r. Ok (Check r)) op n.2 in
     let in_r = ranged_ok OutOfRange 0 (REGISTERS - 1) n.0 r.0 r.1 in
     let below : r.0 < REGISTERS = omega (arith, in_r.1) in
-    subst IsOp (ok_is (Check r.0) op r.2) below
+    subst (IsNamed version) (ok_is (Check r.0) op r.2) (below, tt)
 
-fill_ok : (fields : List (List ℕ)) (op : Op) → fill_in fields ≡ Ok op → IsOp op
+fill_ok : (version : Version) (fields : List (List ℕ)) (op : Op) → fill_in fields ≡ Ok op → IsNamed version op
 unfolding fill_in
-fill_ok fields op e =
+fill_ok version fields op e =
     let n = bind_ok (two_in fields) (λ n. register_of n.0 >>= λ r. Ok (Fill r n.1)) op e in
     let r = bind_ok (register_of n.0.0) (λ r. Ok (Fill r n.0.1)) op n.2 in
     let in_r = ranged_ok OutOfRange 0 (REGISTERS - 1) n.0.0 r.0 r.1 in
-    subst IsOp (ok_is (Fill r.0 n.0.1) op r.2) (omega (arith, in_r.1), two_ok fields n.0 n.1)
+    subst (IsNamed version) (ok_is (Fill r.0 n.0.1) op r.2) ((omega (arith, in_r.1), two_ok fields n.0 n.1), tt)
 
-put_ok : (fields : List (List ℕ)) (op : Op) → put_in fields ≡ Ok op → IsOp op
+put_ok : (version : Version) (fields : List (List ℕ)) (op : Op) → put_in fields ≡ Ok op → IsNamed version op
 unfolding put_in
-put_ok fields op e =
+put_ok version fields op e =
     let n = bind_ok (two_in fields) (λ n. register_of n.0 >>= λ r. shelf_of n.1 >>= λ shelf. Ok (Put r shelf)) op e in
     let r = bind_ok (register_of n.0.0) (λ r. shelf_of n.0.1 >>= λ shelf. Ok (Put r shelf)) op n.2 in
     let shelf = bind_ok (shelf_of n.0.1) (λ shelf. Ok (Put r.0 shelf)) op r.2 in
     let in_r = ranged_ok OutOfRange 0 (REGISTERS - 1) n.0.0 r.0 r.1 in
     let in_shelf = ranged_ok OutOfRange 0 (SHELVES - 1) n.0.1 shelf.0 shelf.1 in
-    subst IsOp (ok_is (Put r.0 shelf.0) op shelf.2) (omega (arith, in_r.1), omega (arith, in_shelf.1))
+    subst (IsNamed version) (ok_is (Put r.0 shelf.0) op shelf.2) ((omega (arith, in_r.1), omega (arith, in_shelf.1)), tt)
 
-take_ok : (fields : List (List ℕ)) (op : Op) → take_in fields ≡ Ok op → IsOp op
+take_ok : (version : Version) (fields : List (List ℕ)) (op : Op) → take_in fields ≡ Ok op → IsNamed version op
 unfolding take_in
-take_ok fields op e =
+take_ok version fields op e =
     let n = bind_ok (two_in fields) (λ n. register_of n.0 >>= λ r. shelf_of n.1 >>= λ shelf. Ok (Take r shelf)) op e in
     let r = bind_ok (register_of n.0.0) (λ r. shelf_of n.0.1 >>= λ shelf. Ok (Take r shelf)) op n.2 in
     let shelf = bind_ok (shelf_of n.0.1) (λ shelf. Ok (Take r.0 shelf)) op r.2 in
     let in_r = ranged_ok OutOfRange 0 (REGISTERS - 1) n.0.0 r.0 r.1 in
     let in_shelf = ranged_ok OutOfRange 0 (SHELVES - 1) n.0.1 shelf.0 shelf.1 in
-    subst IsOp (ok_is (Take r.0 shelf.0) op shelf.2) (omega (arith, in_r.1), omega (arith, in_shelf.1))
+    subst (IsNamed version) (ok_is (Take r.0 shelf.0) op shelf.2) ((omega (arith, in_r.1), omega (arith, in_shelf.1)), tt)
 
-pub op_ok : (word : List ℕ) (fields : List (List ℕ)) (op : Op) → op_in word fields ≡ Ok op → IsOp op
+resize_ok : (fields : List (List ℕ)) (op : Op) → resize_in fields ≡ Ok op → IsNamed Two op
+unfolding resize_in
+resize_ok fields op e =
+    let n = bind_ok (two_in fields) (λ n. register_of n.0 >>= λ r. need_of n.1 >>= λ need. Ok (Resize r need)) op e in
+    let r = bind_ok (register_of n.0.0) (λ r. need_of n.0.1 >>= λ need. Ok (Resize r need)) op n.2 in
+    let need = bind_ok (need_of n.0.1) (λ need. Ok (Resize r.0 need)) op r.2 in
+    let in_r = ranged_ok OutOfRange 0 (REGISTERS - 1) n.0.0 r.0 r.1 in
+    let in_need = ranged_ok OutOfRange 0 LARGE_MOST n.0.1 need.0 need.1 in
+    subst (IsNamed Two) (ok_is (Resize r.0 need.0) op need.2) ((omega (arith, in_r.1), in_need.1.1), refl)
+
+op_ok : (version : Version) (word : List ℕ) (fields : List (List ℕ)) (op : Op) → op_in word fields ≡ Ok op → IsNamed version op
 unfolding op_in
-op_ok word fields op e =
-    either (bytes_eq word (codes "a")) _ _ _ (IsOp op) e (alloc_ok fields op)
-    (λ e. either (bytes_eq word (codes "f")) _ _ _ (IsOp op) e (free_ok fields op)
-    (λ e. either (bytes_eq word (codes "w")) _ _ _ (IsOp op) e (fill_ok fields op)
-    (λ e. either (bytes_eq word (codes "c")) _ _ _ (IsOp op) e (check_ok fields op)
-    (λ e. either (bytes_eq word (codes "p")) _ _ _ (IsOp op) e (put_ok fields op)
-    (λ e. either (bytes_eq word (codes "t")) _ _ _ (IsOp op) e (take_ok fields op) (λ e. absurd cc))))))
+op_ok version word fields op e =
+    either (bytes_eq word (codes "a")) _ _ _ (IsNamed version op) e (alloc_ok version fields op)
+    (λ e. either (bytes_eq word (codes "f")) _ _ _ (IsNamed version op) e (free_ok version fields op)
+    (λ e. either (bytes_eq word (codes "w")) _ _ _ (IsNamed version op) e (fill_ok version fields op)
+    (λ e. either (bytes_eq word (codes "c")) _ _ _ (IsNamed version op) e (check_ok version fields op)
+    (λ e. either (bytes_eq word (codes "p")) _ _ _ (IsNamed version op) e (put_ok version fields op)
+    (λ e. either (bytes_eq word (codes "t")) _ _ _ (IsNamed version op) e (take_ok version fields op) (λ e. absurd cc))))))
+
+op_of_ok : (version : Version) (word : List ℕ) (fields : List (List ℕ)) (op : Op) → op_of version word fields ≡ Ok op → IsNamed version op
+unfolding op_of
+op_of_ok One word fields op e = op_ok One word fields op e
+op_of_ok Two word fields op e = either (bytes_eq word (codes "r")) _ _ _ (IsNamed Two op) e (resize_ok fields op) (op_ok Two word fields op)
 
 pub order_ok : (lanes : List (List Op)) (fields : List (List ℕ)) (run : OrderRun) → order_in (length lanes) fields ≡ Ok run → IsOrder lanes run
 unfolding order_in
@@ -162,14 +183,25 @@ order_ok lanes fields run e =
 
 -- ---- the trace after each line
 
+-- a trace of this version that a text can name
+abbrev IsTraceOf : Version → Trace → Type 0
+IsTraceOf version trace = IsTrace trace × (trace.version ≡ version)
+
+-- behind a heap line of this version
+abbrev pub IsBehind : Version → Stage → Type 0
+IsBehind version Before = ⊥
+IsBehind version (Inside trace) = IsTraceOf version trace
+IsBehind version (Ended trace) = IsTraceOf version trace
+
 limit_named : (n : Option ℕ) (limit : ℕ) → unwrap_or n MAX_TURNS ≡ limit → (is_some n ≡ true) ⊎ (limit ≡ MAX_TURNS)
 limit_named (Some m) limit e = inl refl
 limit_named None limit e = inr (sym e)
 
-pub heap_ok : (fields : List (List ℕ)) (trace : Trace) → heap_in fields ≡ Ok trace → IsTrace trace
+heap_ok : (version : Version) (fields : List (List ℕ)) (trace : Trace) → heap_in version fields ≡ Ok trace → IsTraceOf version trace
 unfolding heap_in
-heap_ok fields trace e =
+heap_ok version fields trace e =
     let made : ℕ → ℕ → ℕ → ℕ → Bool → Trace = λ frames heaps units limit named. record {
+      version = version;
       heap = record { frames = frames; heaps = heaps; units = units; callers = callers_of []; turn_limit = limit };
       named_limit = named;
       lanes = [];
@@ -181,33 +213,36 @@ heap_ok fields trace e =
     let units = bind_ok (ranged BadGeometry 0 MAX_UNITS n.0.2) (λ units. ranged BadGeometry 1 MAX_TURNS (unwrap_or n.0.3 MAX_TURNS) >>= λ limit. Ok (made frames.0 heaps.0 units limit (is_some n.0.3))) trace heaps.2 in
     let limit = bind_ok (ranged BadGeometry 1 MAX_TURNS (unwrap_or n.0.3 MAX_TURNS)) (λ limit. Ok (made frames.0 heaps.0 units.0 limit (is_some n.0.3))) trace units.2 in
     let in_limit = ranged_ok BadGeometry 1 MAX_TURNS (unwrap_or n.0.3 MAX_TURNS) limit.0 limit.1 in
-    subst IsTrace (ok_is (made frames.0 heaps.0 units.0 limit.0 (is_some n.0.3)) trace limit.2) (record {
-      heap = record {
-        frames = (ranged_ok BadGeometry 1 MAX_FRAMES n.0.0 frames.0 frames.1).1;
-        heaps = (ranged_ok BadGeometry 1 MAX_HEAPS n.0.1 heaps.0 heaps.1).1;
-        units = (ranged_ok BadGeometry 0 MAX_UNITS n.0.2 units.0 units.1).1;
-        callers = (omega arith, omega arith);
-        turn_limit = in_limit.1;
-      };
-      callers = refl;
-      turn_limit = limit_named n.0.3 limit.0 in_limit.0;
-      few_lanes = omega arith;
-      ops = All-nil (All IsOp);
-      orders = All-nil (IsOrder []);
-    })
+    subst (IsTraceOf version) (ok_is (made frames.0 heaps.0 units.0 limit.0 (is_some n.0.3)) trace limit.2) (
+      record {
+        heap = record {
+          frames = (ranged_ok BadGeometry 1 MAX_FRAMES n.0.0 frames.0 frames.1).1;
+          heaps = (ranged_ok BadGeometry 1 MAX_HEAPS n.0.1 heaps.0 heaps.1).1;
+          units = (ranged_ok BadGeometry 0 MAX_UNITS n.0.2 units.0 units.1).1;
+          callers = (omega arith, omega arith);
+          turn_limit = in_limit.1;
+        };
+        callers = refl;
+        turn_limit = limit_named n.0.3 limit.0 in_limit.0;
+        few_lanes = omega arith;
+        ops = All-nil (All IsOp);
+        version = All-nil (All (IsAllowed version));
+        orders = All-nil (IsOrder []);
+      },
+      refl,
+    )
 
 length-last_with : (op : Op) (lanes : List (List Op)) → length (last_with op lanes) ≡ length lanes
 length-last_with op [] = refl
 length-last_with op (last ∷ []) = refl
 length-last_with op (lane ∷ next ∷ more) = ap (λ (n : ℕ). suc n) (length-last_with op (next ∷ more))
 
-All-last_with : (op : Op) (lanes : List (List Op)) → All (All IsOp) lanes → IsOp op → All (All IsOp) (last_with op lanes)
-All-last_with op [] h is = h
-All-last_with op (last ∷ []) h is =
-    All-cons (All IsOp) (last ++ op ∷ []) [] (All-push IsOp last op (All-head (All IsOp) last [] h) is) (All-nil (All IsOp))
-All-last_with op (lane ∷ next ∷ more) h is =
-    All-cons (All IsOp) lane (last_with op (next ∷ more)) (All-head (All IsOp) lane (next ∷ more) h)
-    (All-last_with op (next ∷ more) (All-tail (All IsOp) lane (next ∷ more) h) is)
+All-last_with : (P : Op → Type 0) (op : Op) (lanes : List (List Op)) → All (All P) lanes → P op → All (All P) (last_with op lanes)
+All-last_with P op [] h is = h
+All-last_with P op (last ∷ []) h is = All-cons (All P) (last ++ op ∷ []) [] (All-push P last op (All-head (All P) last [] h) is) (All-nil (All P))
+All-last_with P op (lane ∷ next ∷ more) h is =
+    All-cons (All P) lane (last_with op (next ∷ more)) (All-head (All P) lane (next ∷ more) h)
+    (All-last_with P op (next ∷ more) (All-tail (All P) lane (next ∷ more) h) is)
 
 -- no order run is in any range
 no_orders : (lanes : List (List Op)) (orders : List OrderRun) → length orders ≡ 0 → All (IsOrder lanes) orders
@@ -236,10 +271,11 @@ lane_more trace is none few =
       turn_limit = is.turn_limit;
       few_lanes = omega (arith, count);
       ops = All-push (All IsOp) trace.lanes [] is.ops (All-nil IsOp);
+      version = All-push (All (IsAllowed trace.version)) trace.lanes [] is.version (All-nil (IsAllowed trace.version));
       orders = no_orders (trace.lanes ++ [] ∷ []) trace.orders none;
     }
 
-pub op_more : (trace : Trace) (op : Op) → IsTrace trace → IsOp op → IsTrace (with_op trace op)
+pub op_more : (trace : Trace) (op : Op) → IsTrace trace → IsNamed trace.version op → IsTrace (with_op trace op)
 op_more trace op is in_range =
     let count = length-last_with op trace.lanes in
     record {
@@ -247,7 +283,8 @@ op_more trace op is in_range =
       callers = is.callers ∙ ap (λ n. max 1 n) (sym count);
       turn_limit = is.turn_limit;
       few_lanes = omega (arith, count, is.few_lanes);
-      ops = All-last_with op trace.lanes is.ops in_range;
+      ops = All-last_with IsOp op trace.lanes is.ops in_range.0;
+      version = All-last_with (IsAllowed trace.version) op trace.lanes is.version in_range.1;
       orders = same_orders trace.lanes (last_with op trace.lanes) trace.orders count is.orders;
     }
 
@@ -259,70 +296,103 @@ order_more trace run is in_range =
       turn_limit = is.turn_limit;
       few_lanes = is.few_lanes;
       ops = is.ops;
+      version = is.version;
       orders = All-push (IsOrder trace.lanes) trace.orders run is.orders in_range;
     }
 
 -- ---- the stage after each line
 
-after_lane_named : (trace : Trace) (fields : List (List ℕ)) (next : Stage) → IsTrace trace → after_lane trace fields ≡ Ok next → HasTrace next
+after_lane_named : (trace : Trace) (fields : List (List ℕ)) (next : Stage) → IsTrace trace → after_lane trace fields ≡ Ok next → IsBehind trace.version next
 unfolding after_lane
 after_lane_named trace fields next is e =
     let unordered = kept (is_unordered trace) (none_in fields >>= λ _. cond (ltb (length trace.lanes) MAX_LANES) (Ok (Inside (with_lane trace))) (Err TooManyLanes)) UnknownOp next e in
     let none = bind_ok (none_in fields) (λ _. cond (ltb (length trace.lanes) MAX_LANES) (Ok (Inside (with_lane trace))) (Err TooManyLanes)) next unordered.1 in
     let few = kept (ltb (length trace.lanes) MAX_LANES) (Ok (Inside (with_lane trace))) TooManyLanes next none.2 in
-    subst HasTrace (ok_is (Inside (with_lane trace)) next few.1)
-    (lane_more trace is (eqb-true (length trace.orders) 0 unordered.0) (ltb-true (length trace.lanes) MAX_LANES few.0))
+    subst (IsBehind trace.version) (ok_is (Inside (with_lane trace)) next few.1)
+    (lane_more trace is (eqb-true (length trace.orders) 0 unordered.0) (ltb-true (length trace.lanes) MAX_LANES few.0), refl)
 
-after_order_named : (trace : Trace) (fields : List (List ℕ)) (next : Stage) → IsTrace trace → after_order trace fields ≡ Ok next → HasTrace next
+after_order_named : (trace : Trace) (fields : List (List ℕ)) (next : Stage) → IsTrace trace → after_order trace fields ≡ Ok next → IsBehind trace.version next
 unfolding after_order
 after_order_named trace fields next is e =
     let run = bind_ok (order_in (length trace.lanes) fields) (λ run. Ok (Inside (with_order trace run))) next e in
-    subst HasTrace (ok_is (Inside (with_order trace run.0)) next run.2) (order_more trace run.0 is (order_ok trace.lanes fields run.0 run.1))
+    subst (IsBehind trace.version) (ok_is (Inside (with_order trace run.0)) next run.2)
+    (order_more trace run.0 is (order_ok trace.lanes fields run.0 run.1), refl)
 
-after_end_named : (trace : Trace) (fields : List (List ℕ)) (next : Stage) → IsTrace trace → after_end trace fields ≡ Ok next → HasTrace next
+after_end_named : (trace : Trace) (fields : List (List ℕ)) (next : Stage) → IsTrace trace → after_end trace fields ≡ Ok next → IsBehind trace.version next
 unfolding after_end
 after_end_named trace fields next is e =
     let none = bind_ok (none_in fields) (λ _. Ok (Ended trace)) next e in
-    subst HasTrace (ok_is (Ended trace) next none.2) is
+    subst (IsBehind trace.version) (ok_is (Ended trace) next none.2) (is, refl)
 
-after_op_named : (trace : Trace) (word : List ℕ) (fields : List (List ℕ)) (next : Stage) → IsTrace trace → after_op trace word fields ≡ Ok next → HasTrace next
+after_op_named : (trace : Trace) (word : List ℕ) (fields : List (List ℕ)) (next : Stage) → IsTrace trace → after_op trace word fields ≡ Ok next → IsBehind trace.version next
 unfolding after_op
 after_op_named trace word fields next is e =
-    let in_lane = kept _ (op_in word fields >>= λ op. Ok (Inside (with_op trace op))) UnknownOp next e in
-    let op = bind_ok (op_in word fields) (λ op. Ok (Inside (with_op trace op))) next in_lane.1 in
-    subst HasTrace (ok_is (Inside (with_op trace op.0)) next op.2) (op_more trace op.0 is (op_ok word fields op.0 op.1))
+    let in_lane = kept _ (op_of trace.version word fields >>= λ op. Ok (Inside (with_op trace op))) UnknownOp next e in
+    let op = bind_ok (op_of trace.version word fields) (λ op. Ok (Inside (with_op trace op))) next in_lane.1 in
+    subst (IsBehind trace.version) (ok_is (Inside (with_op trace op.0)) next op.2) (op_more trace op.0 is (op_of_ok trace.version word fields op.0 op.1), refl)
 
-after_inner_named : (trace : Trace) (word : List ℕ) (fields : List (List ℕ)) (next : Stage) → IsTrace trace → after_inner trace word fields ≡ Ok next → HasTrace next
+after_inner_named : (trace : Trace) (word : List ℕ) (fields : List (List ℕ)) (next : Stage) → IsTrace trace → after_inner trace word fields ≡ Ok next → IsBehind trace.version next
 unfolding after_inner
 after_inner_named trace word fields next is e =
-    either (bytes_eq word (codes "lane")) _ _ _ (HasTrace next) e (after_lane_named trace fields next is)
-    (λ e. either (bytes_eq word (codes "order")) _ _ _ (HasTrace next) e (after_order_named trace fields next is)
-    (λ e. either (bytes_eq word (codes "end")) _ _ _ (HasTrace next) e (after_end_named trace fields next is)
+    either (bytes_eq word (codes "lane")) _ _ _ (IsBehind trace.version next) e (after_lane_named trace fields next is)
+    (λ e. either (bytes_eq word (codes "order")) _ _ _ (IsBehind trace.version next) e (after_order_named trace fields next is)
+    (λ e. either (bytes_eq word (codes "end")) _ _ _ (IsBehind trace.version next) e (after_end_named trace fields next is)
     (after_op_named trace word fields next is)))
 
-after_first_named : (word : List ℕ) (fields : List (List ℕ)) (next : Stage) → after_first word fields ≡ Ok next → HasTrace next
+-- a heap line begins a trace of the version that its word says
+pub after_first_named :
+    (known : Version) (word : List ℕ) (fields : List (List ℕ)) (next : Stage) → after_first known word fields ≡ Ok next
+    → (version : Version) × (version_in known word ≡ Ok version) × IsBehind version next
 unfolding after_first
-after_first_named word fields next e =
-    let heap = kept (bytes_eq word (codes "heap")) (heap_in fields >>= λ trace. Ok (Inside trace)) NoHeapLine next e in
-    let trace = bind_ok (heap_in fields) (λ trace. Ok (Inside trace)) next heap.1 in
-    subst HasTrace (ok_is (Inside trace.0) next trace.2) (heap_ok fields trace.0 trace.1)
+after_first_named known word fields next e =
+    let version = bind_ok (version_in known word) (λ version. heap_in version fields >>= λ trace. Ok (Inside trace)) next e in
+    let trace = bind_ok (heap_in version.0 fields) (λ trace. Ok (Inside trace)) next version.2 in
+    (version.0, version.1, subst (IsBehind version.0) (ok_is (Inside trace.0) next trace.2) (heap_ok version.0 fields trace.0 trace.1))
 
-after_word_named : (stage next : Stage) (word : List ℕ) (fields : List (List ℕ)) → HasTrace stage → after_word stage word fields ≡ Ok next → HasTrace next
+-- from one stage to the next: a trace stays of its version
+abbrev pub Goes : Stage → Stage → Type 0
+Goes Before next = (next ≡ Before) ⊎ ((version : Version) × IsBehind version next)
+Goes (Inside trace) next = IsBehind trace.version next
+Goes (Ended trace) next = IsBehind trace.version next
+
+stays : (stage next : Stage) → HasTrace stage → done stage ≡ Ok next → Goes stage next
+stays Before next is e = inl (sym (ok_is Before next e))
+stays (Inside trace) next is e = subst (IsBehind trace.version) (ok_is (Inside trace) next e) (is, refl)
+stays (Ended trace) next is e = subst (IsBehind trace.version) (ok_is (Ended trace) next e) (is, refl)
+
+after_word_named : (known : Version) (stage next : Stage) (word : List ℕ) (fields : List (List ℕ)) → HasTrace stage → after_word known stage word fields ≡ Ok next → Goes stage next
 unfolding after_word
-after_word_named Before next word fields is e = after_first_named word fields next e
-after_word_named (Inside trace) next word fields is e = after_inner_named trace word fields next is e
-after_word_named (Ended trace) next word fields is e = absurd cc
+after_word_named known Before next word fields is e =
+    let begun = after_first_named known word fields next e in
+    inr (begun.0, begun.2)
+after_word_named known (Inside trace) next word fields is e = after_inner_named trace word fields next is e
+after_word_named known (Ended trace) next word fields is e = absurd cc
 
-after_fields_named : (stage next : Stage) (fields : List (List ℕ)) → HasTrace stage → after_fields stage fields ≡ Ok next → HasTrace next
+after_fields_named : (known : Version) (stage next : Stage) (fields : List (List ℕ)) → HasTrace stage → after_fields known stage fields ≡ Ok next → Goes stage next
 unfolding after_fields
-after_fields_named stage next [] is e = subst HasTrace (ok_is stage next e) is
-after_fields_named stage next (word ∷ fields) is e =
-    either (is_comment word) (done stage) (after_word stage word fields) _ (HasTrace next) e (λ e. subst HasTrace (ok_is stage next e) is)
-    (after_word_named stage next word fields is)
+after_fields_named known stage next [] is e = stays stage next is e
+after_fields_named known stage next (word ∷ fields) is e =
+    either (is_comment word) (done stage) (after_word known stage word fields) _ (Goes stage next) e (stays stage next is)
+    (after_word_named known stage next word fields is)
+
+-- a line that is not refused
+pub line_goes : (known : Version) (stage next : Stage) (line : List ℕ) → HasTrace stage → after_line known stage line ≡ Ok next → Goes stage next
+unfolding after_line
+line_goes known stage next line is e =
+    let plain = kept (list_all is_plain line) (after_fields known stage (fields_of line)) NotAscii next e in
+    after_fields_named known stage next (fields_of line) is plain.1
+
+pub behind_named : (version : Version) (stage : Stage) → IsBehind version stage → HasTrace stage
+behind_named version Before is = absurd is
+behind_named version (Inside trace) is = is.0
+behind_named version (Ended trace) is = is.0
+
+goes_named : (stage next : Stage) → Goes stage next → HasTrace next
+goes_named Before next (inl passed) = subst HasTrace (sym passed) tt
+goes_named Before next (inr begun) = behind_named begun.0 next begun.1
+goes_named (Inside trace) next goes = behind_named trace.version next goes
+goes_named (Ended trace) next goes = behind_named trace.version next goes
 
 -- a line that is not refused leaves such a trace
-pub line_named : (stage next : Stage) (line : List ℕ) → HasTrace stage → after_line stage line ≡ Ok next → HasTrace next
-unfolding after_line
-line_named stage next line is e =
-    let plain = kept (list_all is_plain line) (after_fields stage (fields_of line)) NotAscii next e in
-    after_fields_named stage next (fields_of line) is plain.1
+pub line_named : (known : Version) (stage next : Stage) (line : List ℕ) → HasTrace stage → after_line known stage line ≡ Ok next → HasTrace next
+line_named known stage next line is e = goes_named stage next (line_goes known stage next line is e)

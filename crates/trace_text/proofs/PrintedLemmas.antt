@@ -10,6 +10,7 @@ use Rattle.std.proofs.lemmas.List.Splits.{slice_split_at, slice_split_none}
 use Rattle.std.proofs.lemmas.Str.Parse.{digit_at}
 use Rattle.trace_text.specs.declared.limits.TheConstants.{SPACE, LINE_FEED}
 use Rattle.trace_text.specs.declared.stage.Stage.{Stage}
+use Rattle.trace_text.specs.declared.trace.Version.TheVariants.{Two}
 use Rattle.trace_text.specs.Lines.{without_return, lines_in, lines_of, is_blank, is_plain, has_bytes, fields_of}
 use Rattle.trace_text.specs.Reading.{Reading, reading_from}
 use Rattle.trace_text.specs.Said.{after_line, after_fields}
@@ -117,12 +118,12 @@ lines_of-line fields rest h =
 
 -- a text is read so from here, whatever the number of its first line
 abbrev pub ReadsTo : Reading → Stage → List ℕ → Type 0
-ReadsTo reading stage text = (number : ℕ) → reading_from (lines_of text) number stage ≡ reading
+ReadsTo reading stage text = (number : ℕ) → reading_from Two (lines_of text) number stage ≡ reading
 
 -- a line that is printed, and what comes behind it
 pub reads_line :
     (reading : Reading) (stage next : Stage) (fields : List (List ℕ)) (rest : List ℕ) → AreFields fields → 0 < length fields
-    → after_fields stage fields ≡ Ok next → ReadsTo reading next rest → ReadsTo reading stage (line fields ++ rest)
+    → after_fields Two stage fields ≡ Ok next → ReadsTo reading next rest → ReadsTo reading stage (line fields ++ rest)
 unfolding reading_from after_line
 reads_line reading stage next fields rest h some said reads number =
     rw (lines_of-line fields rest h, plain_line _ (Printed-joined fields h), fields_of-joined fields h some, said) (reads (number + 1))

@@ -1,5 +1,7 @@
 -- A loop over the lines, one after the other.
-use Rattle.std.proofs.Common.{◌≡◌, ℕ, ◌+◌, List, [], ◌∷◌, ◌++◌, map, Ok, Err, refl, sym, ap, subst}
+use Rattle.std.proofs.Common.{◌≡◌, ℕ, ◌+◌, ◌<◌, true, ◌&&◌, List, [], ◌∷◌, ◌++◌, length, map, Ok, Err, refl, sym, ap, subst, arith}
+use Rattle.std.specs.Prelude.{nat_lt}
+use Rattle.std.proofs.lemmas.Bool.{lt-ltb}
 use Rattle.std.proofs.lemmas.List.{map-append}
 use Rattle.trace_text.specs.declared.fault.Stop.{Stop}
 use Rattle.trace_text.specs.declared.fault.Stop.TheVariants as stops
@@ -7,29 +9,30 @@ use Rattle.trace_text.specs.declared.fault.Cause.TheVariants.{NoHeapLine, NoEnd}
 use Rattle.trace_text.specs.declared.stage.Stage.{Stage}
 use Rattle.trace_text.specs.declared.stage.Stage.TheVariants.{Before, Inside, Ended}
 use Rattle.trace_text.specs.declared.trace.Trace.{Trace}
+use Rattle.trace_text.specs.declared.trace.Version.TheVariants.{Two}
 use Rattle.trace_text.specs.declared.trace.Op.{Op}
 use Rattle.trace_text.specs.Causes.{Stops}
-use Rattle.trace_text.specs.Said.{after_line, last_with}
+use Rattle.trace_text.specs.Said.{after_line, after_op, op_of, is_unordered, last_with}
 use Rattle.trace_text.specs.Reading.{Reading, Read, Answers, at_end, fault_of, reading_from}
 
 -- the lines after one that was read
 pub goes_on :
     (line : List ℕ) (after lines : List (List ℕ)) (number : ℕ) (stage next : Stage) (reading : Reading) → lines ≡ line ∷ after
-    → reading_from lines number stage ≡ reading → after_line stage line ≡ Ok next → reading_from after (number + 1) next ≡ reading
+    → reading_from Two lines number stage ≡ reading → after_line Two stage line ≡ Ok next → reading_from Two after (number + 1) next ≡ reading
 unfolding reading_from
 goes_on line after lines number stage next reading is reads said = rw (is, said) at reads
 
 -- a line that is refused
 pub stopped :
     (stop : Stop) (line : List ℕ) (after lines : List (List ℕ)) (number : ℕ) (stage : Stage) (reading : Reading) → lines ≡ line ∷ after
-    → reading_from lines number stage ≡ reading → Stops stop (after_line stage line) → Answers (Err (fault_of number stop)) reading
+    → reading_from Two lines number stage ≡ reading → Stops stop (after_line Two stage line) → Answers (Err (fault_of number stop)) reading
 unfolding reading_from
 stopped stops.OutOfMemory line after lines number stage reading is reads said = tt
 stopped (stops.Because cause) line after lines number stage reading is reads said =
     subst (λ r. Answers (Err (fault_of number (stops.Because cause))) r) (rw (is, said) at reads) (refl, refl)
 
 -- the end of the text
-pub ended : (lines : List (List ℕ)) (number : ℕ) (stage : Stage) (reading : Reading) → lines ≡ [] → reading_from lines number stage ≡ reading → at_end number stage ≡ reading
+pub ended : (lines : List (List ℕ)) (number : ℕ) (stage : Stage) (reading : Reading) → lines ≡ [] → reading_from Two lines number stage ≡ reading → at_end number stage ≡ reading
 unfolding reading_from
 ended lines number stage reading is reads = rw is at reads
 
@@ -60,3 +63,18 @@ pub no_end : (trace : Trace) (number : ℕ) (stage : Stage) (reading : Reading) 
 unfolding at_end
 no_end trace number stage reading is e =
     subst (λ r. Answers (Err (fault_of number (stops.Because NoEnd))) r) (rw is at e) (refl, refl)
+
+-- in a lane: some lane and no order run has come
+in_lane : (trace : Trace) → (trace.lanes ≡ [] → ⊥) → trace.orders ≡ [] → (nat_lt 0 (length trace.lanes) && is_unordered trace) ≡ true
+in_lane trace some none = rw (none, lt-ltb 0 (length trace.lanes) (some_length trace.lanes some)) refl
+  where
+    some_length : (lanes : List (List Op)) → (lanes ≡ [] → ⊥) → 0 < length lanes
+    some_length [] some = absurd (some refl)
+    some_length (lane ∷ lanes) some = omega arith
+
+-- an operation more in the last lane
+pub op_taken :
+    (trace : Trace) (word : List ℕ) (fields : List (List ℕ)) (op : Op) (lanes : List (List Op)) → (trace.lanes ≡ [] → ⊥) → trace.orders ≡ []
+    → op_of trace.version word fields ≡ Ok op → lanes ≡ last_with op trace.lanes → after_op trace word fields ≡ Ok (Inside (record trace { lanes = lanes }))
+unfolding after_op
+op_taken trace word fields op lanes some none said more = rw (in_lane trace some none, said, more) refl

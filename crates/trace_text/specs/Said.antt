@@ -7,15 +7,17 @@ use Rattle.trace_text.specs.declared.limits.TheConstants.{REGISTERS, MAX_LANES, 
 use Rattle.trace_text.specs.declared.fault.Cause.{Cause}
 use Rattle.trace_text.specs.declared.fault.Cause.TheVariants.{NotAscii, NoHeapLine, BadGeometry, UnknownOp, WrongFields, BadNumber, OutOfRange, TooManyLanes}
 use Rattle.trace_text.specs.declared.trace.Op.{Op}
-use Rattle.trace_text.specs.declared.trace.Op.TheVariants.{Alloc, Free, Fill, Check, Put, Take}
+use Rattle.trace_text.specs.declared.trace.Op.TheVariants.{Alloc, Free, Fill, Check, Put, Take, Resize}
 use Rattle.trace_text.specs.declared.trace.OrderRun.{OrderRun}
 use Rattle.trace_text.specs.declared.trace.Trace.{Trace}
+use Rattle.trace_text.specs.declared.trace.Version.{Version}
+use Rattle.trace_text.specs.declared.trace.Version.TheVariants.{One, Two}
 use Rattle.trace_text.specs.declared.stage.Stage.{Stage}
 use Rattle.trace_text.specs.declared.stage.Stage.TheVariants.{Before, Inside, Ended}
 use Rattle.trace_text.specs.Causes.{◌>>=◌}
 use Rattle.trace_text.specs.Lines.{fields_of, is_plain, is_comment}
 use Rattle.trace_text.specs.Numbers.{number_in}
-use Rattle.trace_text.specs.Traces.{callers_of}
+use Rattle.trace_text.specs.Traces.{heap_word, callers_of}
 
 -- a field as a number
 unfoldable pub numeral_in : List ℕ → Result ℕ Cause
@@ -32,6 +34,10 @@ up_to most n = ranged OutOfRange 0 most n
 -- the register of a number
 abbrev pub register_of : ℕ → Result ℕ Cause
 register_of n = up_to (REGISTERS - 1) n
+
+-- the need of a number
+abbrev pub need_of : ℕ → Result ℕ Cause
+need_of n = up_to LARGE_MOST n
 
 -- the shelf of a number
 abbrev pub shelf_of : ℕ → Result ℕ Cause
@@ -69,7 +75,7 @@ three_in (a ∷ b ∷ c ∷ []) = do
   Ok (a, b, c)
 three_in fields = Err WrongFields
 
--- the three or four fields behind the word `heap`
+-- the three or four fields behind the word of a heap line
 abbrev pub heap_fields_in : List (List ℕ) → Result (List ℕ × List ℕ × List ℕ × Option (List ℕ)) Cause
 heap_fields_in (frames ∷ heaps ∷ units ∷ []) = Ok (frames, heaps, units, None)
 heap_fields_in (frames ∷ heaps ∷ units ∷ limit ∷ []) = Ok (frames, heaps, units, Some limit)
@@ -90,15 +96,23 @@ heap_numbers_in fields = do
   limit ← limit_in f.3
   Ok (frames, heaps, units, limit)
 
--- the trace that a heap line begins: no lane yet, and so one caller
-unfoldable pub heap_in : List (List ℕ) → Result Trace Cause
-heap_in fields = do
+-- the version that the word of a heap line says, where the versions up to this one are known
+unfoldable pub version_in : Version → List ℕ → Result Version Cause
+version_in One word = if bytes_eq word (heap_word One) then Ok One else Err NoHeapLine
+version_in Two word =
+    if bytes_eq word (heap_word One) then Ok One
+    else (if bytes_eq word (heap_word Two) then Ok Two else Err NoHeapLine)
+
+-- the trace of this version that a heap line begins: no lane yet, and so one caller
+unfoldable pub heap_in : Version → List (List ℕ) → Result Trace Cause
+heap_in version fields = do
   n ← heap_numbers_in fields
   frames ← ranged BadGeometry 1 MAX_FRAMES n.0
   heaps ← ranged BadGeometry 1 MAX_HEAPS n.1
   units ← ranged BadGeometry 0 MAX_UNITS n.2
   limit ← ranged BadGeometry 1 MAX_TURNS (unwrap_or n.3 MAX_TURNS)
   Ok (record {
+    version = version;
     heap = record { frames = frames; heaps = heaps; units = units; callers = callers_of []; turn_limit = limit };
     named_limit = is_some n.3;
     lanes = [];
@@ -110,7 +124,7 @@ unfoldable pub alloc_in : List (List ℕ) → Result Op Cause
 alloc_in fields = do
   n ← three_in fields
   r ← register_of n.0
-  need ← up_to LARGE_MOST n.1
+  need ← need_of n.1
   Ok (Alloc r need n.2)
 
 -- the free that the field `R` says
@@ -150,7 +164,15 @@ take_in fields = do
   shelf ← shelf_of n.1
   Ok (Take r shelf)
 
--- the operation that a line in a lane says
+-- the resize that the fields `R N` say
+unfoldable pub resize_in : List (List ℕ) → Result Op Cause
+resize_in fields = do
+  n ← two_in fields
+  r ← register_of n.0
+  need ← need_of n.1
+  Ok (Resize r need)
+
+-- the operation that a line in a lane says in every version
 unfoldable pub op_in : List ℕ → List (List ℕ) → Result Op Cause
 op_in word fields =
     if bytes_eq word (codes "a") then alloc_in fields
@@ -160,6 +182,11 @@ op_in word fields =
     else (if bytes_eq word (codes "p") then put_in fields
     else (if bytes_eq word (codes "t") then take_in fields
     else Err UnknownOp)))))
+
+-- the operation that a line in a lane says in a text of this version
+unfoldable pub op_of : Version → List ℕ → List (List ℕ) → Result Op Cause
+op_of One word fields = op_in word fields
+op_of Two word fields = if bytes_eq word (codes "r") then resize_in fields else op_in word fields
 
 -- the order run that an order line says, where there are so many lanes
 unfoldable pub order_in : ℕ → List (List ℕ) → Result OrderRun Cause
@@ -214,7 +241,7 @@ after_end trace fields = none_in fields >>= λ _. Ok (Ended trace)
 unfoldable pub after_op : Trace → List ℕ → List (List ℕ) → Result Stage Cause
 after_op trace word fields =
     if nat_lt 0 (length trace.lanes) && is_unordered trace
-    then (op_in word fields >>= λ op. Ok (Inside (with_op trace op)))
+    then (op_of trace.version word fields >>= λ op. Ok (Inside (with_op trace op)))
     else Err UnknownOp
 
 -- a line between the heap line and `end`, by its word and the fields behind it
@@ -225,22 +252,24 @@ after_inner trace word fields =
     else (if bytes_eq word (codes "end") then after_end trace fields
     else after_op trace word fields))
 
--- the first line that is not passed over is the heap line
-unfoldable pub after_first : List ℕ → List (List ℕ) → Result Stage Cause
-after_first word fields =
-    if bytes_eq word (codes "heap") then (heap_in fields >>= λ trace. Ok (Inside trace)) else Err NoHeapLine
+-- the first line that is not passed over is the heap line, of one of the versions up to the known one
+unfoldable pub after_first : Version → List ℕ → List (List ℕ) → Result Stage Cause
+after_first known word fields = do
+  version ← version_in known word
+  trace ← heap_in version fields
+  Ok (Inside trace)
 
 -- a line with a word, at its place: before the heap line, behind it, or behind `end`
-unfoldable pub after_word : Stage → List ℕ → List (List ℕ) → Result Stage Cause
-after_word Before word fields = after_first word fields
-after_word (Inside trace) word fields = after_inner trace word fields
-after_word (Ended trace) word fields = Err UnknownOp
+unfoldable pub after_word : Version → Stage → List ℕ → List (List ℕ) → Result Stage Cause
+after_word known Before word fields = after_first known word fields
+after_word known (Inside trace) word fields = after_inner trace word fields
+after_word known (Ended trace) word fields = Err UnknownOp
 
 -- a line of these fields: one without a field, and a comment, are passed over
-unfoldable pub after_fields : Stage → List (List ℕ) → Result Stage Cause
-after_fields stage [] = Ok stage
-after_fields stage (word ∷ fields) = if is_comment word then Ok stage else after_word stage word fields
+unfoldable pub after_fields : Version → Stage → List (List ℕ) → Result Stage Cause
+after_fields known stage [] = Ok stage
+after_fields known stage (word ∷ fields) = if is_comment word then Ok stage else after_word known stage word fields
 
 -- a line, whose bytes are tested first
-unfoldable pub after_line : Stage → List ℕ → Result Stage Cause
-after_line stage line = if list_all is_plain line then after_fields stage (fields_of line) else Err NotAscii
+unfoldable pub after_line : Version → Stage → List ℕ → Result Stage Cause
+after_line known stage line = if list_all is_plain line then after_fields known stage (fields_of line) else Err NotAscii

@@ -4,9 +4,10 @@ use Rattle.std.specs.List.{flat_map, join_with_byte}
 use Rattle.std.specs.Fmt.{decimal}
 use Rattle.trace_text.specs.declared.limits.TheConstants.{SPACE, LINE_FEED}
 use Rattle.trace_text.specs.declared.trace.Op.{Op}
-use Rattle.trace_text.specs.declared.trace.Op.TheVariants.{Alloc, Free, Fill, Check, Put, Take}
+use Rattle.trace_text.specs.declared.trace.Op.TheVariants.{Alloc, Free, Fill, Check, Put, Take, Resize}
 use Rattle.trace_text.specs.declared.trace.OrderRun.{OrderRun}
 use Rattle.trace_text.specs.declared.trace.Trace.{Trace}
+use Rattle.trace_text.specs.Traces.{heap_word}
 
 -- a line: its fields parted by one space, and one line feed
 abbrev pub line : List (List ℕ) → List ℕ
@@ -16,10 +17,10 @@ line fields = join_with_byte SPACE fields ++ LINE_FEED ∷ []
 abbrev pub limit_fields : Trace → List (List ℕ)
 limit_fields trace = if trace.named_limit then decimal trace.heap.turn_limit ∷ [] else []
 
--- the fields of the heap line
+-- the fields of the heap line, which begins with the word of the version
 abbrev pub heap_fields : Trace → List (List ℕ)
 heap_fields trace =
-    codes "heap" ∷ decimal trace.heap.frames ∷ decimal trace.heap.heaps ∷ decimal trace.heap.units ∷ limit_fields trace
+    heap_word trace.version ∷ decimal trace.heap.frames ∷ decimal trace.heap.heaps ∷ decimal trace.heap.units ∷ limit_fields trace
 
 -- the fields of an operation
 unfoldable pub op_fields : Op → List (List ℕ)
@@ -29,6 +30,7 @@ op_fields (Fill r v) = codes "w" ∷ decimal r ∷ decimal v ∷ []
 op_fields (Check r) = codes "c" ∷ decimal r ∷ []
 op_fields (Put r shelf) = codes "p" ∷ decimal r ∷ decimal shelf ∷ []
 op_fields (Take r shelf) = codes "t" ∷ decimal r ∷ decimal shelf ∷ []
+op_fields (Resize r need) = codes "r" ∷ decimal r ∷ decimal need ∷ []
 
 -- the line of an operation
 abbrev pub op_line : Op → List ℕ

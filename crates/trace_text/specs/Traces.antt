@@ -1,13 +1,20 @@
 -- The traces that texts name.
-use Rattle.std.specs.Prelude.{◌≡◌, ℕ, ◌<◌, ◌≤◌, ◌^◌, ◌⊎◌, List, length, max, true}
+use Rattle.std.specs.Prelude.{◌≡◌, ℕ, ◌<◌, ◌≤◌, ◌^◌, ◌⊎◌, List, codes, length, max, true}
 use Rattle.std.specs.List.{All}
 use Rattle.heap_geometry.specs.Geometry.{IsChecked, IsWithin}
 use Rattle.heap_geometry.specs.declared.limits.TheConstants.{LARGE_MOST, MAX_TURNS, SHELVES}
 use Rattle.trace_text.specs.declared.limits.TheConstants.{REGISTERS, MAX_LANES, ORDER_MOST}
 use Rattle.trace_text.specs.declared.trace.Op.{Op}
-use Rattle.trace_text.specs.declared.trace.Op.TheVariants.{Alloc, Free, Fill, Check, Put, Take}
+use Rattle.trace_text.specs.declared.trace.Op.TheVariants.{Alloc, Free, Fill, Check, Put, Take, Resize}
 use Rattle.trace_text.specs.declared.trace.OrderRun.{OrderRun}
 use Rattle.trace_text.specs.declared.trace.Trace.{Trace}
+use Rattle.trace_text.specs.declared.trace.Version.{Version}
+use Rattle.trace_text.specs.declared.trace.Version.TheVariants.{One, Two}
+
+-- the word that begins the heap line of a trace of this version
+abbrev pub heap_word : Version → List ℕ
+heap_word One = codes "heap"
+heap_word Two = codes "heap2"
 
 -- the numbers of an operation are in their ranges
 abbrev pub IsOp : Op → Type 0
@@ -17,6 +24,12 @@ IsOp (Fill r v) = (r < REGISTERS) × (v < 2 ^ 64)
 IsOp (Check r) = r < REGISTERS
 IsOp (Put r shelf) = (r < REGISTERS) × (shelf < SHELVES)
 IsOp (Take r shelf) = (r < REGISTERS) × (shelf < SHELVES)
+IsOp (Resize r need) = (r < REGISTERS) × (need ≤ LARGE_MOST)
+
+-- a trace of this version may have the operation: a resize came with version 2
+abbrev pub IsAllowed : Version → Op → Type 0
+IsAllowed version (Resize r need) = version ≡ Two
+IsAllowed version op = Unit {0}
 
 -- an order run names one of the lanes, and some steps
 abbrev pub IsOrder : List (List Op) → OrderRun → Type 0
@@ -33,4 +46,5 @@ pub record IsTrace (trace : Trace) : Type 0 where
   pub turn_limit : (trace.named_limit ≡ true) ⊎ (trace.heap.turn_limit ≡ MAX_TURNS)
   pub few_lanes : length trace.lanes ≤ MAX_LANES
   pub ops : All (All IsOp) trace.lanes
+  pub version : All (All (IsAllowed trace.version)) trace.lanes
   pub orders : All (IsOrder trace.lanes) trace.orders

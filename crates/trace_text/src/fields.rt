@@ -5,13 +5,13 @@ ghost use Rattle.std.specs.Option.{option_copied};
 ghost use Rattle.trace_text.specs.declared.limits.TheConstants.{MAX_LANES};
 ghost use Rattle.trace_text.specs.Causes.{Tells};
 ghost use Rattle.trace_text.specs.Lines.{fields_of};
-ghost use Rattle.trace_text.specs.Said.{numeral_in, ranged, register_of, shelf_of, some_in, none_in, one_in, two_in, three_in, heap_fields_in, limit_in, heap_numbers_in, alloc_in, free_in, fill_in, check_in, put_in, take_in, op_in, order_in};
+ghost use Rattle.trace_text.specs.Said.{numeral_in, ranged, register_of, need_of, shelf_of, some_in, none_in, one_in, two_in, three_in, heap_fields_in, limit_in, heap_numbers_in, alloc_in, free_in, fill_in, check_in, put_in, take_in, resize_in, op_in, op_of, order_in};
 
 use crate::fault::Cause;
 use crate::limits::{ORDER_MOST, REGISTERS};
 use crate::lines::first_field;
 use crate::numbers::number;
-use crate::trace::{Op, OrderRun};
+use crate::trace::{Op, OrderRun, Version};
 use heap_geometry::limits::{LARGE_MOST, SHELVES};
 
 /// A field as a number.
@@ -40,6 +40,13 @@ fn register(n: u64) -> Result<u16, Cause>
     ensures { result ≡ register_of n }
 {
     Ok(ranged(Cause::OutOfRange, 0, u64::from(REGISTERS) - 1, n)? as u16)
+}
+
+/// The need of a number.
+fn need(n: u64) -> Result<u32, Cause>
+    ensures { result ≡ need_of n }
+{
+    Ok(ranged(Cause::OutOfRange, 0, u64::from(LARGE_MOST), n)? as u32)
 }
 
 /// The shelf of a number.
@@ -106,9 +113,9 @@ fn three(fields: &[u8]) -> Result<(u64, u64, u64), Cause>
 fn alloc(fields: &[u8]) -> Result<Op, Cause>
     ensures { result ≡ alloc_in (fields_of fields.now) }
 {
-    let (r, need, v) = three(fields)?;
+    let (r, words, v) = three(fields)?;
     let r = register(r)?;
-    let need = ranged(Cause::OutOfRange, 0, u64::from(LARGE_MOST), need)? as u32;
+    let need = need(words)?;
     Ok(Op::Alloc { r, need, v })
 }
 
@@ -157,9 +164,19 @@ fn take(fields: &[u8]) -> Result<Op, Cause>
     Ok(Op::Take { r, shelf })
 }
 
-/// The operation that a line in a lane says.
+#[tactic(auto, unfolding(crate::specs::Said::resize_in))]
+fn resize(fields: &[u8]) -> Result<Op, Cause>
+    ensures { result ≡ resize_in (fields_of fields.now) }
+{
+    let (r, words) = two(fields)?;
+    let r = register(r)?;
+    let need = need(words)?;
+    Ok(Op::Resize { r, need })
+}
+
+/// The operation that a line in a lane says in every version.
 #[tactic(auto, unfolding(crate::specs::Said::op_in))]
-pub(crate) fn op(word: &[u8], fields: &[u8]) -> Result<Op, Cause>
+fn common_op(word: &[u8], fields: &[u8]) -> Result<Op, Cause>
     ensures { result ≡ op_in word.now (fields_of fields.now) }
 {
     if word == b"a".as_slice() {
@@ -176,6 +193,17 @@ pub(crate) fn op(word: &[u8], fields: &[u8]) -> Result<Op, Cause>
         take(fields)
     } else {
         Err(Cause::UnknownOp)
+    }
+}
+
+/// The operation that a line in a lane says in a text of this version.
+#[tactic(auto, unfolding(crate::specs::Said::op_of))]
+pub(crate) fn op(version: Version, word: &[u8], fields: &[u8]) -> Result<Op, Cause>
+    ensures { result ≡ op_of version word.now (fields_of fields.now) }
+{
+    match version {
+        Version::Two if word == b"r".as_slice() => resize(fields),
+        _ => common_op(word, fields),
     }
 }
 
@@ -197,7 +225,7 @@ pub(crate) fn order(lanes: usize, fields: &[u8]) -> Result<OrderRun, Cause>
     }
 }
 
-/// The three or four fields behind the word `heap`.
+/// The three or four fields behind the word of a heap line.
 fn heap_fields(fields: &[u8]) -> Result<(&[u8], &[u8], &[u8], Option<&[u8]>), Cause>
     ensures { Tells (λ p. (p.0.now, p.1.now, p.2.now, option_copied p.3)) result
         (heap_fields_in (fields_of fields.now)) }

@@ -24,7 +24,7 @@ fn write_limit(text: &mut Text, trace: &Trace) -> Result<(), AllocError>
 pub fn write_heap(text: &mut Text, trace: &Trace) -> Result<(), AllocError>
     ensures { OnOk result (text.new ≡ text.old ++ join_with_byte SPACE (heap_fields trace.now)) }
 {
-    text.begin("heap")?;
+    text.begin(trace.version.heap_word())?;
     text.number(u64::from(trace.heap.frames))?;
     text.number(u64::from(trace.heap.heaps))?;
     text.number(u64::from(trace.heap.units))?;
@@ -72,6 +72,7 @@ fn write_op(text: &mut Text, op: Op) -> Result<(), AllocError>
         Op::Check { r } => text.line_with("c", u64::from(r)),
         Op::Put { r, shelf } => line_of_two(text, "p", u64::from(r), u64::from(shelf)),
         Op::Take { r, shelf } => line_of_two(text, "t", u64::from(r), u64::from(shelf)),
+        Op::Resize { r, need } => line_of_two(text, "r", u64::from(r), u64::from(need)),
     }
 }
 

@@ -3,15 +3,16 @@
 ghost use Rattle.std.specs.Prelude.{◌≡◌};
 ghost use Rattle.trace_text.specs.Causes.{Gives};
 ghost use Rattle.trace_text.specs.Lines.{fields_of};
-ghost use Rattle.trace_text.specs.Said.{heap_in, after_lane, after_order, after_end, after_op, after_inner, after_first, after_word, after_line, after_fields};
+ghost use Rattle.trace_text.specs.Said.{heap_in, version_in, after_lane, after_order, after_end, after_op, after_inner, after_first, after_word, after_line, after_fields};
 ghost use Rattle.trace_text.specs.Stages.{HasTrace};
 ghost use Rattle.trace_text.specs.Traces.{IsTrace};
+ghost use Rattle.trace_text.specs.declared.trace.Version.TheVariants.{Two};
 
 use crate::fault::{Cause, Stop};
 use crate::fields::{heap_numbers, none, op, order, ranged};
 use crate::limits::MAX_LANES;
 use crate::lines::{first_field, is_comment, is_plain};
-use crate::trace::{Lanes, Orders, Trace};
+use crate::trace::{Lanes, Orders, Trace, Version};
 use heap_geometry::geometry::Geometry;
 use heap_geometry::limits::{MAX_FRAMES, MAX_HEAPS, MAX_TURNS, MAX_UNITS};
 use std::alloc::Global;
@@ -25,10 +26,24 @@ pub(crate) enum Stage {
     Ended(Trace),
 }
 
-/// The trace that a heap line begins.
+/// The version that the word of a heap line says.
+#[tactic(auto, unfolding(crate::specs::Said::version_in))]
+fn version(word: &[u8]) -> Result<Version, Cause>
+    ensures { result ≡ version_in Two word.now }
+{
+    if word == b"heap".as_slice() {
+        Ok(Version::One)
+    } else if word == b"heap2".as_slice() {
+        Ok(Version::Two)
+    } else {
+        Err(Cause::NoHeapLine)
+    }
+}
+
+/// The trace of this version that a heap line begins.
 #[tactic(auto, unfolding(crate::specs::Said::heap_in))]
-fn heap(alloc: Global, fields: &[u8]) -> Result<Trace, Cause>
-    ensures { result ≡ heap_in (fields_of fields.now) }
+fn heap(alloc: Global, version: Version, fields: &[u8]) -> Result<Trace, Cause>
+    ensures { result ≡ heap_in version (fields_of fields.now) }
 {
     let (frames, heaps, units, limit) = heap_numbers(fields)?;
     let frames = ranged(Cause::BadGeometry, 1, u64::from(MAX_FRAMES), frames)? as u32;
@@ -36,6 +51,7 @@ fn heap(alloc: Global, fields: &[u8]) -> Result<Trace, Cause>
     let units = ranged(Cause::BadGeometry, 0, u64::from(MAX_UNITS), units)? as u32;
     let turn_limit = ranged(Cause::BadGeometry, 1, MAX_TURNS, limit.unwrap_or(MAX_TURNS))?;
     Ok(Trace {
+        version,
         heap: Geometry {
             frames,
             heaps,
@@ -95,7 +111,7 @@ fn operation(mut trace: Trace, word: &[u8], fields: &[u8]) -> Result<Stage, Stop
     if trace.lanes.is_empty() || !trace.orders.is_empty() {
         return Err(Stop::Because(Cause::UnknownOp));
     }
-    let op = op(word, fields)?;
+    let op = op(trace.version, word, fields)?;
     trace.lanes.push_op(op)?;
     Ok(Stage::Inside(trace))
 }
@@ -120,13 +136,10 @@ fn inner(alloc: Global, trace: Trace, word: &[u8], fields: &[u8]) -> Result<Stag
 /// The first line that is not passed over.
 #[tactic(auto, unfolding(crate::specs::Said::after_first))]
 fn first(alloc: Global, word: &[u8], fields: &[u8]) -> Result<Stage, Cause>
-    ensures { result ≡ after_first word.now (fields_of fields.now) }
+    ensures { result ≡ after_first Two word.now (fields_of fields.now) }
 {
-    if word == b"heap".as_slice() {
-        Ok(Stage::Inside(heap(alloc, fields)?))
-    } else {
-        Err(Cause::NoHeapLine)
-    }
+    let version = version(word)?;
+    Ok(Stage::Inside(heap(alloc, version, fields)?))
 }
 
 impl Stage {
@@ -134,7 +147,7 @@ impl Stage {
     #[tactic(auto, unfolding(crate::specs::Said::after_word))]
     fn after_word(self, alloc: Global, word: &[u8], fields: &[u8]) -> Result<Stage, Stop>
         requires { HasTrace self }
-        ensures { Gives result (after_word self word.now (fields_of fields.now)) }
+        ensures { Gives result (after_word Two self word.now (fields_of fields.now)) }
     {
         match self {
             Stage::Before => Ok(first(alloc, word, fields)?),
@@ -147,7 +160,7 @@ impl Stage {
     #[tactic(auto, unfolding(crate::specs::Said::after_line, crate::specs::Said::after_fields))]
     pub(crate) fn after_line(self, alloc: Global, line: &[u8]) -> Result<Stage, Stop>
         requires { HasTrace self }
-        ensures { Gives result (after_line self line.now) }
+        ensures { Gives result (after_line Two self line.now) }
     {
         if !is_plain(line) {
             return Err(Stop::Because(Cause::NotAscii));

@@ -2,6 +2,7 @@
 
 ghost use Rattle.std.specs.Prelude.{◌≡◌, ◌↔◌, ◌++◌, ◌∷◌, [], length, map, IsTrue, OnOk, OnErr};
 ghost use Rattle.trace_text.specs.Said.{last_with};
+ghost use Rattle.trace_text.specs.Traces.{heap_word};
 
 use heap_geometry::geometry::Geometry;
 use std::alloc::{AllocError, Global};
@@ -10,6 +11,8 @@ use std::marker::Model;
 /// A trace. Contracts see it as plain data: a lane is a list of operations.
 #[derive(Debug, Drop)]
 pub struct Trace {
+    /// The version of the trace language that the text is of.
+    pub version: Version,
     /// The heap that the trace runs on. Each lane is a caller, and there is one caller where there
     /// is no lane.
     pub heap: Geometry,
@@ -19,6 +22,27 @@ pub struct Trace {
     pub lanes: Lanes,
     /// The order in which lanes take their steps, where the trace gives one.
     pub orders: Orders,
+}
+
+/// A version of the trace language. A later one has all that an earlier one has.
+#[derive(Clone, Copy, Debug, PartialEq, Eq)]
+pub enum Version {
+    /// Has each operation but `Op::Resize`.
+    One,
+    /// Has each operation.
+    Two,
+}
+
+impl Version {
+    /// The word that begins the heap line.
+    pub fn heap_word(self) -> &'static str
+        ensures { result.now ≡ heap_word self }
+    {
+        match self {
+            Version::One => "heap",
+            Version::Two => "heap2",
+        }
+    }
 }
 
 /// What a lane does next. `r` is one of its registers, below `REGISTERS`.
@@ -36,6 +60,9 @@ pub enum Op {
     Put { r: u16, shelf: u8 },
     /// Takes a block from a shelf into the register.
     Take { r: u16, shelf: u8 },
+    /// Resizes the register's block to `need` words: what it holds stays as far as there is room, and
+    /// the words behind that are 0. An operation of `Version::Two` alone.
+    Resize { r: u16, need: u32 },
 }
 
 /// A run of steps of one lane.

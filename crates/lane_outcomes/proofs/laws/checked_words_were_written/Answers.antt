@@ -1,4 +1,4 @@
-use Rattle.lane_outcomes.proofs.WrittenLemmas.{check-written, held-written, shelved}
+use Rattle.lane_outcomes.proofs.WrittenLemmas.{check-written, resize-written, held-written, shelved}
 use Rattle.lane_outcomes.proofs.laws.checked_words_were_written.Goals as goal
 
 pub returns-clause-shelved : goal.returns-clause-shelved
@@ -9,3 +9,6 @@ returns-clause-held c = held-written
 
 pub returns-clause-checked : goal.returns-clause-checked
 returns-clause-checked c = check-written
+
+pub returns-clause-copied : goal.returns-clause-copied
+returns-clause-copied c = resize-written

@@ -1,13 +1,14 @@
 use Rattle.std.proofs.Common.{subst, refl, arith}
+use Rattle.trace_text.specs.declared.trace.Version.TheVariants.{Two}
 use Rattle.trace_text.specs.Lines.{lines_of}
-use Rattle.trace_text.specs.Reading.{reading_of}
+use Rattle.trace_text.specs.Reading.{reading_of, reading_up_to}
 use Rattle.trace_text.specs.Stages.{HasTrace}
 use Rattle.trace_text.proofs.StageLemmas.{goes_on, stopped, ended, read_at_end, no_heap_line, no_end}
 use Rattle.trace_text.proofs.NamedLemmas.{line_named}
 use Rattle.trace_text.proofs.reading.read_trace.Goals as goal
 
 pub loop-line-init : goal.loop-line-init
-unfolding reading_of
+unfolding reading_of reading_up_to
 loop-line-init c = record { reads = refl; named = tt; few = omega arith }
 
 pub returns-in-Err-clause-reads : goal.returns-in-Err-clause-reads
@@ -21,7 +22,7 @@ loop-line-preserved c = record {
   reads =
       goes_on c.in-Some.line.now (lines_of c.in-Some.after.now) (lines_of c.loop-line.rest.now) c.loop-line.number c.loop-line.stage c.in-Ok.next (reading_of c.args.text.now)
       c.in-Some.ensures.lines c.loop-line.invariant.reads c.in-Ok.ensures;
-  named = line_named c.loop-line.stage c.in-Ok.next c.in-Some.line.now c.loop-line.invariant.named c.in-Ok.ensures;
+  named = line_named Two c.loop-line.stage c.in-Ok.next c.in-Some.line.now c.loop-line.invariant.named c.in-Ok.ensures;
   few = omega (arith, c.in-Some.ensures.shorter);
 }
 

@@ -1,6 +1,9 @@
-use Rattle.std.proofs.Common.{arith}
+use Rattle.std.proofs.Common.{sym, refl, arith}
+use Rattle.std.proofs.lemmas.Bool.{false≢true}
 use Rattle.std.proofs.lemmas.Grind.{common_steps}
+use Rattle.trace_text.specs.Lines.{fields_of}
 use Rattle.trace_text.specs.Said.{after_op}
+use Rattle.trace_text.proofs.StageLemmas.{op_taken}
 use Rattle.trace_text.proofs.stage.operation.Goals as goal
 
 pub returns-in_err-op : goal.returns-in_err-op
@@ -8,5 +11,6 @@ unfolding after_op
 returns-in_err-op c = grind (arith, common_steps)
 
 pub returns : goal.returns
-unfolding after_op
-returns c = grind (arith, common_steps)
+returns c =
+    op_taken c.args.trace c.args.word.now (fields_of c.args.fields.now) c.in_ok-op.op c.push_op.new.self
+    (λ none. false≢true (c.if-is_empty.ensures.1 none)) (c.if-not-is_empty.ensures.0 refl) (sym c.in_ok-op.ensures) c.in_ok-push_op.ensures
