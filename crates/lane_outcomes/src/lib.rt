@@ -5,5 +5,5 @@
 pub mod laws;
 pub mod live;
 pub mod outcome;
-mod registers;
+pub mod registers;
 pub mod report;
