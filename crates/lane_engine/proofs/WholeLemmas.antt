@@ -83,3 +83,10 @@ pub words-lead :
 words-lead e p q [] leads = ap (with_pass e) leads
 words-lead e p q (m ∷ made) (t, one, leads) =
     (with_pass e t, (by_steps (0, one.called), one.owned, refl, (one.of, one.called.idle)), words-lead e t q made leads)
+
+-- so are whole calls of its pass
+pub passes-lead :
+    (e : PassCalls) (p q : Pass) (made : List Made) → LeadsBy (λ p call answer q. IsWhole e.heap.now p call answer e.heap.now q) p made q
+    → LeadsBy (λ f call answer g. IsWhole f.heap.now f.pass.now call answer g.heap.now g.pass.now) (with_pass e p) made (with_pass e q)
+passes-lead e p q [] leads = ap (with_pass e) leads
+passes-lead e p q (m ∷ made) (t, one, leads) = (with_pass e t, one, passes-lead e t q made leads)

@@ -7,7 +7,7 @@ ghost use Rattle.heap_geometry.specs.Need.{usable_words};
 ghost use Rattle.errand_steps.specs.declared.reply.Reply.{Reply};
 ghost use Rattle.errand_steps.specs.declared.reply.Reply.TheVariants as reply;
 ghost use Rattle.errand_steps.specs.Calls.{Call, alloc, free, put, take};
-ghost use Rattle.lane_engine.specs.Whole.{KeepBlocks, PutTells, TakeTells, allocated_as};
+ghost use Rattle.lane_engine.specs.Whole.{Copies, KeepBlocks, PutTells, TakeTells, allocated_as};
 ghost use Rattle.call_events.specs.Made.{LeadsBy, Sums, wrote};
 
 use crate::token::Token;
@@ -87,6 +87,17 @@ pub trait Calls {
         ensures stands { stands self.new }
         ensures base { runs_on self.new ≡ runs_on self.old }
         ensures called { Sums called self.old (Self.Held.place_of held.now) (Self.Held.need_of held.now) result self.new };
+
+    /// Copies the caller's block into another one of its blocks, the first word first: each word is read and
+    /// then written. What the other one has beyond them is filled with 0.
+    fn copy(&mut self, from: &Self::Held, to: &Self::Held)
+        requires stands { stands self.old }
+        requires owned { owns self.old (Self.Held.place_of from.now) (Self.Held.need_of from.now) }
+        requires owned_too { owns self.old (Self.Held.place_of to.now) (Self.Held.need_of to.now) }
+        ensures stands { stands self.new }
+        ensures base { runs_on self.new ≡ runs_on self.old }
+        ensures called { Copies called self.old (Self.Held.place_of from.now) (Self.Held.need_of from.now)
+            (Self.Held.place_of to.now) (Self.Held.need_of to.now) self.new };
 
     /// Puts the caller's block on a shelf; where a block lies there already it comes back.
     fn put(&mut self, held: Self::Held, shelf: u8) -> Option<Self::Held>
