@@ -194,7 +194,7 @@ unfolding settle_of
 settled-geometry e x = refl
 
 -- the events of the step
-moved-on :
+pub moved-on :
     (e f : ErrandFields) (before after : List Event) (answer : Progress) (s : IsSettled e f before after answer)
     → HasMovedOn e f before after (with_event [] (event_of e.caller e.point s.x))
 moved-on e f before after answer s =

@@ -4,7 +4,7 @@ use Rattle.std.specs.Prelude.{slice_set}
 use Rattle.std.proofs.lemmas.List.{length-set}
 use Rattle.heap_geometry.specs.declared.geometry.Geometry.{Geometry}
 use Rattle.heap_geometry.specs.declared.need.Need.{Need}
-use Rattle.heap_geometry.specs.Need.{usable_words}
+use Rattle.heap_geometry.specs.Need.{IsNeed, need_of, usable_words}
 use Rattle.pool_model.specs.Histories.{own}
 use Rattle.pool_model.specs.Legal.{IsLegal}
 use Rattle.pool_model.specs.Pool.{Pool, pool_of}
@@ -23,19 +23,19 @@ use Rattle.lane_outcomes.specs.declared.registers.Held.{Held}
 use Rattle.lane_outcomes.specs.declared.outcome.Outcome.{Outcome}
 use Rattle.lane_outcomes.specs.declared.outcome.Outcome.TheVariants as outcome
 use Rattle.lane_outcomes.specs.Lane.{Position, held_in, registers_after}
-use Rattle.lane_outcomes.specs.Rows.{AllocRow, CheckRow, FillRow, FitsRow, FreeRow, PutRow, Setting, TakeRow}
+use Rattle.lane_outcomes.specs.Rows.{AllocRow, CheckRow, FillRow, FitsRow, FreeRow, PutRow, ResizeRow, Setting, TakeRow}
 use Rattle.lane_outcomes.specs.Standing.{HoldsOwn, OwnsHeld, setting_in}
 use Rattle.lane_outcomes.proofs.HoldLemmas.{held-inside, held-set, holds-emptied}
 use Rattle.lane_steps.specs.declared.stage.Stage.{Stage}
 use Rattle.lane_steps.specs.declared.stage.Stage.TheVariants as stage
 use Rattle.lane_steps.specs.Lanes.{IsAt, IsLane}
 use Rattle.lane_steps.specs.Operations.{IsGivingAway, Serves}
-use Rattle.lane_steps.proofs.AnswerLemmas.{HasBegun, HasNotBegun, heap-block}
+use Rattle.lane_steps.proofs.AnswerLemmas.{HasBegun, HasNotBegun, heap-block, owned-need}
 use Rattle.lane_steps.proofs.CheckLemmas.{summed-none, summing-of}
 use Rattle.lane_steps.proofs.EndedLemmas.{lane-between}
 use Rattle.lane_steps.proofs.OutcomeLemmas.{later-begun, later-same, lane-ends, lane-goes}
 use Rattle.lane_steps.proofs.ScriptLemmas.{need-some}
-use Rattle.lane_steps.proofs.TurnLemmas.{may-ask, spent-row}
+use Rattle.lane_steps.proofs.TurnLemmas.{may-ask, resize-spent_row, spent-row}
 
 -- a block of the caller's has a word
 pub owned-words :
@@ -105,6 +105,7 @@ skip-keeps registers (op.Fill r v) = refl
 skip-keeps registers (op.Check r) = refl
 skip-keeps registers (op.Put r shelf) = refl
 skip-keeps registers (op.Take r shelf) = refl
+skip-keeps registers (op.Resize r need) = refl
 
 -- the register is full where the operation wants an empty one, or the other way round
 abbrev pub IsSkipped : List (Option Held) → Op → Type 0
@@ -114,6 +115,7 @@ IsSkipped registers (op.Fill r v) = held_in registers r ≡ None
 IsSkipped registers (op.Check r) = held_in registers r ≡ None
 IsSkipped registers (op.Put r shelf) = held_in registers r ≡ None
 IsSkipped registers (op.Take r shelf) = (held : Held) × (held_in registers r ≡ Some held)
+IsSkipped registers (op.Resize r need) = held_in registers r ≡ None
 
 skip-row :
     (setting : Setting) (position : Position) (operation : Op) → IsSkipped position.registers operation
@@ -124,6 +126,7 @@ skip-row setting position (op.Fill r v) is = subst (λ h. FillRow setting v h ou
 skip-row setting position (op.Check r) is = subst (λ h. CheckRow setting position h outcome.Skipped []) (sym is) refl
 skip-row setting position (op.Put r shelf) is = subst (λ h. PutRow setting position shelf h outcome.Skipped []) (sym is) refl
 skip-row setting position (op.Take r shelf) is = subst (λ h. TakeRow setting position shelf h outcome.Skipped []) (sym is.1) refl
+skip-row setting position (op.Resize r need) is = subst (λ h. ResizeRow setting position need h outcome.Skipped []) (sym is) refl
 
 pub begin-skips :
     (g : Geometry) (events : List Event) (e : ErrandFields) (operations : List Op) (registers : List (Option Held)) (results : List Outcome)
@@ -149,6 +152,63 @@ begin-spent g events e f operations registers results r need v rest lane next se
     (spent-row g e.caller events e lane.position r need v [] served (lane-between g e.caller events e operations registers results stage.Between lane refl).0
     limit (done-none g events e operations registers results operation rest lane next served) lane.answered not_begun.all (λ is. refl)
     (ap (λ rs. held_in rs r) (sym same) ∙ empty)) same (λ is. limit)
+
+-- a resize of a held block that has the need leaves it; one to another need finds no turn left
+module _ (g : Geometry) (events : List Event) (e : ErrandFields) (operations : List Op) (registers : List (Option Held)) (results : List Outcome) (rest : List Op) (lane : IsLane g e.caller events e operations registers results stage.Between) (served : IsServed g e.caller e events) (r need : ℕ) (held : Held) (next : drop (length results) operations ≡ op.Resize r need ∷ rest) (full : held_in registers r ≡ Some held) where
+  resize-stood : registers ≡ lane.position.registers
+  resize-stood = stood g events e operations registers results (op.Resize r need) rest lane next served
+
+  resize-was : held_in lane.position.registers r ≡ Some held
+  resize-was = ap (λ rs. held_in rs r) (sym resize-stood) ∙ full
+
+  pub begin-kept :
+      need_of need ≡ held.need → IsLane g e.caller events e operations registers (results ++ outcome.Kept held.words held.place ∷ []) stage.Between
+  begin-kept same =
+      lane-ends_at_once g events e operations registers results (op.Resize r need) rest lane next served e registers (outcome.Kept held.words held.place) refl
+      (subst (λ h. ResizeRow (setting_in events e.caller g.turn_limit e.lost) lane.position need h (outcome.Kept held.words held.place) []) (sym resize-was)
+      (refl, same, refl, refl)) resize-stood (λ is. absurd (cc))
+
+  pub begin-resize_spent :
+      (f : ErrandFields) → need_of need ≢ held.need → HasNotBegun e f need
+      → IsLane g e.caller events f operations registers (results ++ outcome.Spent ∷ []) stage.Between
+  begin-resize_spent f differ not_begun =
+      let limit : e.turns ≡ g.turn_limit = not_begun.limit ∙ ap (λ (h : Geometry). h.turn_limit) served.own_errand.geometry in
+      lane-ends_at_once g events e operations registers results (op.Resize r need) rest lane next served f registers outcome.Spent not_begun.same
+      (resize-spent_row g e.caller events e lane.position r need held [] served
+      (lane-between g e.caller events e operations registers results stage.Between lane refl).0 limit
+      (done-none g events e operations registers results (op.Resize r need) rest lane next served) lane.answered not_begun.all (λ is. refl) resize-was differ)
+      resize-stood (λ is. limit)
+
+  pub begin-resize :
+      (f : ErrandFields) → need_of need ≢ held.need → alloc_answer e need ≡ begun.Started → HasBegun e f (alloc need)
+      → IsLane g e.caller events f operations registers results stage.Calling
+  begin-resize f differ starts has_begun =
+      let owns = lane.holds.owned r held full in
+      let is_need : IsNeed held.need =
+      owned-need g events e.caller held.place held.need served.legal (owns.block, owns.live, owns.owned, sym owns.need_is) in
+      let asks = may-ask e lane.position need (λ is. lane.spent is ∙ ap (λ (h : Geometry). h.turn_limit) (sym served.own_errand.geometry)) starts in
+      lane-begins g events e operations registers results (op.Resize r need) rest lane next served f (alloc need) registers stage.Calling has_begun (
+        op.Resize r need,
+        rest,
+        next,
+        record {
+          old = held;
+          same = resize-stood;
+          was = full;
+          serves = (is_need, owns.words_are ∙ ap (λ (n : Need). usable_words n) (sym owns.need_is), refl);
+          other_need = differ;
+          asks = asks;
+          was_held =
+              record {
+                before = events;
+                begins = ([], sym (append-nil events));
+                own_done = done g events e operations registers results (op.Resize r need) rest lane next served;
+                had = owns;
+              };
+          still = owns.live;
+          under_way = has_begun.under_way;
+        },
+      ) lane.size lane.holds
 
 module _ (g : Geometry) (events : List Event) (e f : ErrandFields) (operations : List Op) (registers : List (Option Held)) (results : List Outcome) (rest : List Op) (lane : IsLane g e.caller events e operations registers results stage.Between) (served : IsServed g e.caller e events) where
   pub begin-alloc :

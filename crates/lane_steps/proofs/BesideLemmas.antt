@@ -1,5 +1,5 @@
 -- A lane stands as it stood, whatever others did in the meantime.
-use Rattle.std.proofs.Common.{ℕ, ◌≡◌, ◌++◌, List, [], Option, Some, ◌≤◌, sym, ap, ◌∙◌, subst, append-nil, arith}
+use Rattle.std.proofs.Common.{ℕ, ◌≡◌, ◌++◌, List, [], Option, Some, None, ◌≤◌, sym, ap, ◌∙◌, subst, append-nil, arith}
 use Rattle.heap_geometry.specs.declared.geometry.Geometry.{Geometry}
 use Rattle.heap_geometry.specs.declared.need.Need.{Need}
 use Rattle.pool_model.specs.declared.event.Event.{Event}
@@ -28,6 +28,7 @@ use Rattle.lane_steps.specs.declared.stage.Stage.TheVariants as stage
 use Rattle.lane_steps.specs.Lanes.{IsAt, IsLane}
 use Rattle.lane_steps.specs.Operations.{IsDoing, IsSumming}
 use Rattle.lane_steps.specs.States.{IsLaneOf}
+use Rattle.lane_steps.proofs.ResizeLemmas.{replacing-later, was-later}
 
 -- a caller that has seen more events of others
 record IsBeside (g : Geometry) (caller : ℕ) (before after : List Event) : Type 0 where
@@ -94,8 +95,8 @@ summing-beside g caller before after point held next total b owns s =
 doing-beside :
     (g : Geometry) (caller : ℕ) (before after : List Event) (point : Point) (position : Position) (registers : List (Option Held)) (operation : Op)
     (at : Stage) (added : List Event) → IsBeside g caller before after → HoldsOwn (pool_of before) caller registers
-    → IsDoing caller (pool_of before) point position registers operation at added
-    → IsDoing caller (pool_of after) point position registers operation at added
+    → IsDoing caller before point position registers operation at added
+    → IsDoing caller after point position registers operation at added
 doing-beside g caller before after point position registers (op.Check r) (stage.Summing next total) added b holds doing = (
   doing.0,
   doing.1,
@@ -103,6 +104,58 @@ doing-beside g caller before after point position registers (op.Check r) (stage.
   summing-beside g caller before after point doing.0 next total b (holds.owned r doing.0 doing.2) doing.3,
   doing.4,
 )
+doing-beside g caller before after point position registers (op.Resize r need) stage.Calling added b holds doing =
+    record {
+      old = doing.old;
+      same = doing.same;
+      was = doing.was;
+      serves = doing.serves;
+      other_need = doing.other_need;
+      asks = doing.asks;
+      was_held = was-later caller before after position.done doing.old (b.more, b.seen) doing.was_held;
+      still = block-beside g caller before after doing.old.place doing.was_held.had.block b doing.still doing.was_held.had.owned;
+      under_way = doing.under_way;
+    }
+doing-beside g caller before after point position registers (op.Resize r need) (stage.Copying old next None) added b holds doing =
+    record {
+      new = doing.new;
+      copied = doing.copied;
+      replacing =
+          replacing-later caller before after position registers r need old doing.new doing.copied next added (b.more, b.seen) doing.replacing;
+      still =
+          block-beside g caller before after old.place doing.replacing.was_held.had.block b doing.still doing.replacing.was_held.had.owned;
+      all = doing.all;
+      inside = doing.inside;
+      within = doing.within;
+      under_way = doing.under_way;
+    }
+doing-beside g caller before after point position registers (op.Resize r need) (stage.Copying old next (Some word)) added b holds doing =
+    record {
+      new = doing.new;
+      copied = doing.copied;
+      replacing =
+          replacing-later caller before after position registers r need old doing.new doing.copied next added (b.more, b.seen) doing.replacing;
+      still =
+          block-beside g caller before after old.place doing.replacing.was_held.had.block b doing.still doing.replacing.was_held.had.owned;
+      all = doing.all;
+      within = doing.within;
+      word_is = doing.word_is;
+      under_way = doing.under_way;
+    }
+doing-beside g caller before after point position registers (op.Resize r need) stage.Releasing added b holds doing =
+    record {
+      old = doing.old;
+      new = doing.new;
+      copied = doing.copied;
+      copies = doing.copies;
+      replacing =
+          replacing-later caller before after position registers r need doing.old doing.new doing.copied doing.new.words doing.copies (b.more, b.seen)
+          doing.replacing;
+      all = doing.all;
+      part = doing.part;
+      under_way = doing.under_way;
+      so_far = doing.so_far;
+    }
 doing-beside g caller before after point position registers operation at added b holds doing = doing
 
 at-beside :
@@ -116,6 +169,10 @@ at-beside g caller before after e position registers operations (stage.Filling n
     (stands.0, stands.1, stands.2, doing-beside g caller before after e.point position registers stands.0 (stage.Filling next) added b holds stands.3)
 at-beside g caller before after e position registers operations (stage.Summing next total) added b holds stands =
     (stands.0, stands.1, stands.2, doing-beside g caller before after e.point position registers stands.0 (stage.Summing next total) added b holds stands.3)
+at-beside g caller before after e position registers operations (stage.Copying old next word) added b holds stands =
+    (stands.0, stands.1, stands.2, doing-beside g caller before after e.point position registers stands.0 (stage.Copying old next word) added b holds stands.3)
+at-beside g caller before after e position registers operations stage.Releasing added b holds stands =
+    (stands.0, stands.1, stands.2, doing-beside g caller before after e.point position registers stands.0 stage.Releasing added b holds stands.3)
 
 -- the outcomes walk on a longer history, and where more was lost
 pub walks-on :

@@ -1,9 +1,7 @@
 -- The words of a check, one after the other, and their sum.
-use Rattle.std.proofs.Common.{ℕ, suc, ◌≡◌, ◌<◌, ◌+◌, ◌%◌, ◌^◌, ◌∷◌, ◌++◌, List, [], Option, Some, None, length, sum, refl, sym, ap, ◌∙◌, subst, inl, inr, arith}
+use Rattle.std.proofs.Common.{ℕ, suc, ◌≡◌, ◌<◌, ◌+◌, ◌%◌, ◌^◌, ◌∷◌, ◌++◌, List, [], Option, Some, None, length, sum, refl, sym, ap, ◌∙◌, subst, arith}
 use Rattle.std.specs.List.{AllZip, slice_index_or}
-use Rattle.std.proofs.lemmas.Bool.{cases_lt}
-use Rattle.std.proofs.lemmas.List.{get_or_append_left, length-append}
-use Rattle.std.proofs.Math.Seq.{get_or-append_seam}
+use Rattle.std.proofs.lemmas.List.{length-append}
 use Rattle.heap_geometry.specs.declared.geometry.Geometry.{Geometry}
 use Rattle.heap_geometry.specs.declared.need.Need.{Need}
 use Rattle.pool_model.specs.Legal.{IsLegal}
@@ -25,6 +23,7 @@ use Rattle.lane_outcomes.specs.Standing.{OwnsHeld}
 use Rattle.lane_steps.specs.Operations.{IsSumming, Serves}
 use Rattle.lane_steps.proofs.AnswerLemmas.{EndsRead, HasMovedOn}
 use Rattle.lane_steps.proofs.BesideLemmas.{live-seen}
+use Rattle.lane_steps.proofs.ResizeLemmas.{word-each}
 
 -- the words of the block before this one, each as the block holds it, have this sum
 pub record IsSummed (pool : Pool) (held : Held) (next total : ℕ) : Type 0 where
@@ -78,23 +77,6 @@ seen-more e f before after more moved none = record { more = moved.rest; seen = 
 pub read-adds_none :
     (e f : ErrandFields) (place i word : ℕ) (before after : List Event) → EndsRead e f place i word before after [] → HasSeenMore e.caller before after
 read-adds_none e f place i word before after ends = seen-more e f before after ends.ends.more ends.ends.moved_on ends.ends.all
-
--- one word more
-word-each :
-    (contents : List (Option ℕ)) (words : List ℕ) (next word : ℕ) → length words ≡ next
-    → ((i : ℕ) → i < next → IsWord (slice_index_or contents i None) (slice_index_or words i 0)) → IsWord (slice_index_or contents next None) word
-    → (i : ℕ) → i < next + 1 → IsWord (slice_index_or contents i None) (slice_index_or (words ++ word ∷ []) i 0)
-word-each contents words next word all each last i below =
-    elim (cases_lt i next) [
-      | inl before ↦
-          subst (IsWord (slice_index_or contents i None)) (sym (get_or_append_left words (word ∷ []) 0 i (omega arith))) (each i before)
-      | inr here ↦
-          let same : next ≡ i = omega arith in
-          let found : slice_index_or (words ++ word ∷ []) next 0 ≡ word =
-          ap (λ k. slice_index_or (words ++ word ∷ []) k 0) (sym all) ∙ get_or-append_seam words word [] 0 in
-          subst (λ k. IsWord (slice_index_or contents k None) (slice_index_or (words ++ word ∷ []) k 0)) same
-          (subst (IsWord (slice_index_or contents next None)) (sym found) last)
-    ]
 
 pub summed-more :
     (g : Geometry) (caller : ℕ) (before after : List Event) (held : Held) (next total : ℕ) (e f : ErrandFields) (word : ℕ) (added : List Event)

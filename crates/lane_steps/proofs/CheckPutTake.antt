@@ -8,7 +8,6 @@ use Rattle.pool_model.specs.Calls.{Ended}
 use Rattle.pool_model.specs.Calls as ended
 use Rattle.pool_model.specs.Histories.{own}
 use Rattle.pool_model.specs.Legal.{IsLegal}
-use Rattle.pool_model.specs.Pool.{pool_of}
 use Rattle.pool_model.specs.declared.event.Event.{Event}
 use Rattle.errand_steps.specs.Begins.{IsIdle}
 use Rattle.errand_steps.specs.Calls.{read as read_call, take as take_call}
@@ -103,7 +102,7 @@ module _ {B : Type 0} (place_of : B → ℕ) (need_of : B → Need) (g : Geometr
   pub put-puts :
       (r shelf : ℕ) (at : Stage) (lane : IsLane g e.caller before e operations registers results at)
       → drop (length results) operations ≡ op.Put r shelf ∷ rest
-      → IsDoing e.caller (pool_of before) e.point lane.position registers (op.Put r shelf) at lane.added
+      → IsDoing e.caller before e.point lane.position registers (op.Put r shelf) at lane.added
       → HasStepped place_of need_of e f before events stepped.Put → EndsCalling at registers outcome.Put
   put-puts r shelf stage.Calling lane next doing step =
       let ends = told-of_put place_of need_of e f before events lane.added doing.held.place doing.need shelf stepped.Put step doing.under_way in
@@ -115,11 +114,13 @@ module _ {B : Type 0} (place_of : B → ℕ) (need_of : B → Need) (g : Geometr
   put-puts r shelf stage.Between lane next doing step = absurd doing
   put-puts r shelf (stage.Filling i) lane next doing step = absurd doing
   put-puts r shelf (stage.Summing i total) lane next doing step = absurd doing
+  put-puts r shelf (stage.Copying from i w) lane next doing step = absurd doing
+  put-puts r shelf stage.Releasing lane next doing step = absurd doing
 
   pub put-finds :
       (r shelf : ℕ) (block : B) (at : Stage) (lane : IsLane g e.caller before e operations registers results at)
       → drop (length results) operations ≡ op.Put r shelf ∷ rest
-      → IsDoing e.caller (pool_of before) e.point lane.position registers (op.Put r shelf) at lane.added
+      → IsDoing e.caller before e.point lane.position registers (op.Put r shelf) at lane.added
       → HasStepped place_of need_of e f before events (stepped.Full block) → EndsWithBlock at r block outcome.ShelfFull
   put-finds r shelf block stage.Calling lane next doing step =
       let full = told-of_put place_of need_of e f before events lane.added doing.held.place doing.need shelf (stepped.Full block) step doing.under_way in
@@ -137,11 +138,13 @@ module _ {B : Type 0} (place_of : B → ℕ) (need_of : B → Need) (g : Geometr
   put-finds r shelf block stage.Between lane next doing step = absurd doing
   put-finds r shelf block (stage.Filling i) lane next doing step = absurd doing
   put-finds r shelf block (stage.Summing i total) lane next doing step = absurd doing
+  put-finds r shelf block (stage.Copying from i w) lane next doing step = absurd doing
+  put-finds r shelf block stage.Releasing lane next doing step = absurd doing
 
   pub take-gets :
       (r shelf : ℕ) (block : B) (at : Stage) (lane : IsLane g e.caller before e operations registers results at)
       → drop (length results) operations ≡ op.Take r shelf ∷ rest
-      → IsDoing e.caller (pool_of before) e.point lane.position registers (op.Take r shelf) at lane.added
+      → IsDoing e.caller before e.point lane.position registers (op.Take r shelf) at lane.added
       → HasStepped place_of need_of e f before events (stepped.Got block)
       → EndsWithBlock at r block (outcome.Took (usable_words (need_of block)) (place_of block) (need_of block))
   take-gets r shelf block stage.Calling lane next doing step =
@@ -158,11 +161,13 @@ module _ {B : Type 0} (place_of : B → ℕ) (need_of : B → Need) (g : Geometr
   take-gets r shelf block stage.Between lane next doing step = absurd doing
   take-gets r shelf block (stage.Filling i) lane next doing step = absurd doing
   take-gets r shelf block (stage.Summing i total) lane next doing step = absurd doing
+  take-gets r shelf block (stage.Copying from i w) lane next doing step = absurd doing
+  take-gets r shelf block stage.Releasing lane next doing step = absurd doing
 
   pub take-finds :
       (r shelf : ℕ) (at : Stage) (lane : IsLane g e.caller before e operations registers results at)
       → drop (length results) operations ≡ op.Take r shelf ∷ rest
-      → IsDoing e.caller (pool_of before) e.point lane.position registers (op.Take r shelf) at lane.added
+      → IsDoing e.caller before e.point lane.position registers (op.Take r shelf) at lane.added
       → HasStepped place_of need_of e f before events stepped.Empty → EndsCalling at registers outcome.ShelfEmpty
   take-finds r shelf stage.Calling lane next doing step =
       let ends = told-of_take place_of need_of e f before events lane.added shelf stepped.Empty step doing.2 in
@@ -174,6 +179,8 @@ module _ {B : Type 0} (place_of : B → ℕ) (need_of : B → Need) (g : Geometr
   take-finds r shelf stage.Between lane next doing step = absurd doing
   take-finds r shelf (stage.Filling i) lane next doing step = absurd doing
   take-finds r shelf (stage.Summing i total) lane next doing step = absurd doing
+  take-finds r shelf (stage.Copying from i w) lane next doing step = absurd doing
+  take-finds r shelf stage.Releasing lane next doing step = absurd doing
 
   -- a take missed: it added nothing, and when it has begun again the lane stands as before
   pub record HasMissed (at : Stage) (shelf : ℕ) : Type 0 where
@@ -185,7 +192,7 @@ module _ {B : Type 0} (place_of : B → ℕ) (need_of : B → Need) (g : Geometr
   pub take-misses :
       (r shelf : ℕ) (at : Stage) (lane : IsLane g e.caller before e operations registers results at)
       → drop (length results) operations ≡ op.Take r shelf ∷ rest
-      → IsDoing e.caller (pool_of before) e.point lane.position registers (op.Take r shelf) at lane.added
+      → IsDoing e.caller before e.point lane.position registers (op.Take r shelf) at lane.added
       → HasStepped place_of need_of e f before events stepped.Missed → HasMissed at shelf
   take-misses r shelf stage.Calling lane next doing step =
       let ends = told-of_take place_of need_of e f before events lane.added shelf stepped.Missed step doing.2 in
@@ -198,6 +205,8 @@ module _ {B : Type 0} (place_of : B → ℕ) (need_of : B → Need) (g : Geometr
   take-misses r shelf stage.Between lane next doing step = absurd doing
   take-misses r shelf (stage.Filling i) lane next doing step = absurd doing
   take-misses r shelf (stage.Summing i total) lane next doing step = absurd doing
+  take-misses r shelf (stage.Copying from i w) lane next doing step = absurd doing
+  take-misses r shelf stage.Releasing lane next doing step = absurd doing
 
   -- a word of a check was read: it was the last one, or the check goes on with the next one
   pub record HasRead (at : Stage) (r word : ℕ) : Type 0 where
@@ -218,7 +227,7 @@ module _ {B : Type 0} (place_of : B → ℕ) (need_of : B → Need) (g : Geometr
   pub check-reads :
       (r word : ℕ) (at : Stage) (lane : IsLane g e.caller before e operations registers results at)
       → drop (length results) operations ≡ op.Check r ∷ rest
-      → IsDoing e.caller (pool_of before) e.point lane.position registers (op.Check r) at lane.added
+      → IsDoing e.caller before e.point lane.position registers (op.Check r) at lane.added
       → HasStepped place_of need_of e f before events (stepped.Word word) → HasRead at r word
   check-reads r word (stage.Summing i total) lane next doing step =
       let held = doing.0 in
@@ -239,3 +248,5 @@ module _ {B : Type 0} (place_of : B → ℕ) (need_of : B → Need) (g : Geometr
   check-reads r word stage.Between lane next doing step = absurd doing
   check-reads r word stage.Calling lane next doing step = absurd doing
   check-reads r word (stage.Filling i) lane next doing step = absurd doing
+  check-reads r word (stage.Copying from i w) lane next doing step = absurd doing
+  check-reads r word stage.Releasing lane next doing step = absurd doing

@@ -69,7 +69,7 @@ module _ (g : Geometry) (e f : ErrandFields) (before events : List Event) (opera
 
   pub free-ends_lane :
       (r : ℕ) → drop (length results) operations ≡ op.Free r ∷ rest
-      → (doing : IsDoing e.caller (pool_of before) e.point lane.position registers (op.Free r) stage.Calling lane.added)
+      → (doing : IsDoing e.caller before e.point lane.position registers (op.Free r) stage.Calling lane.added)
       → Ends e f (ended.freed doing.held.place) before events lane.added
       → IsLane g e.caller events f operations registers (results ++ outcome.Freed ∷ []) stage.Between
   free-ends_lane r next doing ends =
@@ -80,7 +80,7 @@ module _ (g : Geometry) (e f : ErrandFields) (before events : List Event) (opera
 
   pub put-ends_lane :
       (r shelf : ℕ) → drop (length results) operations ≡ op.Put r shelf ∷ rest
-      → (doing : IsDoing e.caller (pool_of before) e.point lane.position registers (op.Put r shelf) stage.Calling lane.added)
+      → (doing : IsDoing e.caller before e.point lane.position registers (op.Put r shelf) stage.Calling lane.added)
       → Ends e f (ended.put_done doing.held.place shelf) before events lane.added
       → IsLane g e.caller events f operations registers (results ++ outcome.Put ∷ []) stage.Between
   put-ends_lane r shelf next doing ends =
@@ -93,7 +93,7 @@ module _ (g : Geometry) (e f : ErrandFields) (before events : List Event) (opera
   -- the shelf is full: the block is in its register again
   pub put-full_lane :
       (r shelf back : ℕ) (back_need : Need) → drop (length results) operations ≡ op.Put r shelf ∷ rest
-      → (doing : IsDoing e.caller (pool_of before) e.point lane.position registers (op.Put r shelf) stage.Calling lane.added)
+      → (doing : IsDoing e.caller before e.point lane.position registers (op.Put r shelf) stage.Calling lane.added)
       → EndsFull e f doing.held.place doing.need shelf back back_need before events lane.added
       → IsLane g e.caller events f operations (slice_set registers r (Some (record { place = back; words = usable_words back_need; need = back_need })))
       (results ++ outcome.ShelfFull ∷ []) stage.Between
@@ -120,7 +120,7 @@ module _ (g : Geometry) (e f : ErrandFields) (before events : List Event) (opera
 
   pub take-got_lane :
       (r shelf place : ℕ) (need : Need) → drop (length results) operations ≡ op.Take r shelf ∷ rest
-      → IsDoing e.caller (pool_of before) e.point lane.position registers (op.Take r shelf) stage.Calling lane.added
+      → IsDoing e.caller before e.point lane.position registers (op.Take r shelf) stage.Calling lane.added
       → EndsGot e f shelf place need before events lane.added
       → IsLane g e.caller events f operations (slice_set registers r (Some (record { place = place; words = usable_words need; need = need })))
       (results ++ outcome.Took (usable_words need) place need ∷ []) stage.Between
@@ -149,7 +149,7 @@ module _ (g : Geometry) (e f : ErrandFields) (before events : List Event) (opera
 
   pub take-empty_lane :
       (r shelf : ℕ) → drop (length results) operations ≡ op.Take r shelf ∷ rest
-      → IsDoing e.caller (pool_of before) e.point lane.position registers (op.Take r shelf) stage.Calling lane.added
+      → IsDoing e.caller before e.point lane.position registers (op.Take r shelf) stage.Calling lane.added
       → Ends e f (ended.take_empty shelf) before events lane.added
       → IsLane g e.caller events f operations registers (results ++ outcome.ShelfEmpty ∷ []) stage.Between
   take-empty_lane r shelf next doing ends =
@@ -161,19 +161,19 @@ module _ (g : Geometry) (e f : ErrandFields) (before events : List Event) (opera
       ends.all) doing.0 (λ is. absurd (cc))
 
   -- a take missed: nothing was added; it begins again
-  missed-none : (r shelf : ℕ) → IsDoing e.caller (pool_of before) e.point lane.position registers (op.Take r shelf) stage.Calling lane.added
+  missed-none : (r shelf : ℕ) → IsDoing e.caller before e.point lane.position registers (op.Take r shelf) stage.Calling lane.added
       → (ends : Ends e f ended.take_missed before events lane.added) → ends.more ≡ []
   missed-none r shelf doing ends =
       let none = taking-none e.caller shelf (stage_of e.point) lane.added doing.2 in ap (λ xs. xs ++ ends.more) (sym none) ∙ ends.all
 
-  pub missed-own : (r shelf : ℕ) → IsDoing e.caller (pool_of before) e.point lane.position registers (op.Take r shelf) stage.Calling lane.added
+  pub missed-own : (r shelf : ℕ) → IsDoing e.caller before e.point lane.position registers (op.Take r shelf) stage.Calling lane.added
       → Ends e f ended.take_missed before events lane.added → own e.caller events ≡ own e.caller before
   missed-own r shelf doing ends =
       ends.moved_on.own_events ∙ ap (λ xs. own e.caller before ++ xs) (missed-none r shelf doing ends) ∙ append-nil (own e.caller before)
 
   pub take-again_lane :
       (r shelf : ℕ) (d : ErrandFields) → drop (length results) operations ≡ op.Take r shelf ∷ rest
-      → IsDoing e.caller (pool_of before) e.point lane.position registers (op.Take r shelf) stage.Calling lane.added
+      → IsDoing e.caller before e.point lane.position registers (op.Take r shelf) stage.Calling lane.added
       → Ends e f ended.take_missed before events lane.added → HasBegun f d (take_call shelf)
       → IsLane g e.caller events d operations registers results stage.Calling
   take-again_lane r shelf d next doing ends begun =
@@ -188,7 +188,7 @@ module _ (g : Geometry) (e f : ErrandFields) (before events : List Event) (opera
       aside.holds
 
 -- a check: its last word is read, or the next one follows
-module _ (g : Geometry) (e f : ErrandFields) (before events : List Event) (operations : List Op) (registers : List (Option Held)) (results : List Outcome) (i total : ℕ) (lane : IsLane g e.caller before e operations registers results (stage.Summing i total)) (heap : e.geometry ≡ g) (legal : IsLegal g events) (rest : List Op) (r : ℕ) (next : drop (length results) operations ≡ op.Check r ∷ rest) (doing : IsDoing e.caller (pool_of before) e.point lane.position registers (op.Check r) (stage.Summing i total) lane.added) (word : ℕ) (read : EndsRead e f doing.0.place i word before events []) where
+module _ (g : Geometry) (e f : ErrandFields) (before events : List Event) (operations : List Op) (registers : List (Option Held)) (results : List Outcome) (i total : ℕ) (lane : IsLane g e.caller before e operations registers results (stage.Summing i total)) (heap : e.geometry ≡ g) (legal : IsLegal g events) (rest : List Op) (r : ℕ) (next : drop (length results) operations ≡ op.Check r ∷ rest) (doing : IsDoing e.caller before e.point lane.position registers (op.Check r) (stage.Summing i total) lane.added) (word : ℕ) (read : EndsRead e f doing.0.place i word before events []) where
   seen : HasSeenMore e.caller before events
   seen = read-adds_none e f doing.0.place i word before events read
 

@@ -107,13 +107,13 @@ spares-ended e f end before events added registers ends leaves q other full =
 
 module _ {B : Type 0} (place_of : B → ℕ) (block_need : B → Need) (g : Geometry) (e f : ErrandFields) (before events : List Event) (operations : List Op) (registers : List (Option Held)) (results : List Outcome) (heap : e.geometry ≡ g) (served : IsServed g e.caller f events) (rest : List Op) where
   -- the caller's events, with those of the step
-  own-more :
+  pub own-more :
       (at : Stage) (lane : IsLane g e.caller before e operations registers results at) (more : List Event) → HasMovedOn e f before events more
       → own e.caller events ≡ lane.position.done ++ (lane.added ++ more)
   own-more at lane more moved = moved.own_events ∙ ap (λ xs. xs ++ more) lane.own_events ∙ append_assoc lane.position.done lane.added more
 
   -- the operation ends
-  ends-lane :
+  pub ends-lane :
       (at : Stage) (operation : Op) (lane : IsLane g e.caller before e operations registers results at)
       → drop (length results) operations ≡ operation ∷ rest → (end : Ended) (added : List Event) (ends : Ends e f end before events added)
       → (now : List (Option Held)) (result : Outcome)
@@ -129,7 +129,7 @@ module _ {B : Type 0} (place_of : B → ℕ) (block_need : B → Need) (g : Geom
   pub alloc-ends_refused :
       (r need v : ℕ) (at : Stage) (lane : IsLane g e.caller before e operations registers results at)
       → drop (length results) operations ≡ op.Alloc r need v ∷ rest
-      → IsDoing e.caller (pool_of before) e.point lane.position registers (op.Alloc r need v) at lane.added
+      → IsDoing e.caller before e.point lane.position registers (op.Alloc r need v) at lane.added
       → HasStepped place_of block_need e f before events stepped.Refused
       → EndsSo g e f before events operations registers registers results at outcome.Refused
   alloc-ends_refused r need v stage.Calling lane next doing step =
@@ -152,12 +152,14 @@ module _ {B : Type 0} (place_of : B → ℕ) (block_need : B → Need) (g : Geom
   alloc-ends_refused r need v (stage.Filling i) lane next doing step =
       absurd (told-of_write place_of block_need e f before events [] doing.0.place doing.4.writing.need i ((v + i) % 2 ^ 64) stepped.Refused step doing.4.writing.under_way)
   alloc-ends_refused r need v (stage.Summing i total) lane next doing step = absurd doing
+  alloc-ends_refused r need v (stage.Copying from i w) lane next doing step = absurd doing
+  alloc-ends_refused r need v stage.Releasing lane next doing step = absurd doing
 
   -- an allocation finds no turn left
   pub alloc-ends_spent :
       (r need v : ℕ) (at : Stage) (lane : IsLane g e.caller before e operations registers results at)
       → drop (length results) operations ≡ op.Alloc r need v ∷ rest
-      → IsDoing e.caller (pool_of before) e.point lane.position registers (op.Alloc r need v) at lane.added
+      → IsDoing e.caller before e.point lane.position registers (op.Alloc r need v) at lane.added
       → HasStepped place_of block_need e f before events stepped.Spent
       → EndsSo g e f before events operations registers registers results at outcome.Spent
   alloc-ends_spent r need v stage.Calling lane next doing step =
@@ -182,12 +184,14 @@ module _ {B : Type 0} (place_of : B → ℕ) (block_need : B → Need) (g : Geom
   alloc-ends_spent r need v (stage.Filling i) lane next doing step =
       absurd (told-of_write place_of block_need e f before events [] doing.0.place doing.4.writing.need i ((v + i) % 2 ^ 64) stepped.Spent step doing.4.writing.under_way)
   alloc-ends_spent r need v (stage.Summing i total) lane next doing step = absurd doing
+  alloc-ends_spent r need v (stage.Copying from i w) lane next doing step = absurd doing
+  alloc-ends_spent r need v stage.Releasing lane next doing step = absurd doing
 
   -- a free has ended
   pub free-ends_so :
       (r : ℕ) (at : Stage) (lane : IsLane g e.caller before e operations registers results at)
       → drop (length results) operations ≡ op.Free r ∷ rest
-      → IsDoing e.caller (pool_of before) e.point lane.position registers (op.Free r) at lane.added
+      → IsDoing e.caller before e.point lane.position registers (op.Free r) at lane.added
       → HasStepped place_of block_need e f before events stepped.Freed
       → EndsSo g e f before events operations registers registers results at outcome.Freed
   free-ends_so r stage.Calling lane next doing step =
@@ -208,12 +212,14 @@ module _ {B : Type 0} (place_of : B → ℕ) (block_need : B → Need) (g : Geom
   free-ends_so r stage.Between lane next doing step = absurd doing
   free-ends_so r (stage.Filling i) lane next doing step = absurd doing
   free-ends_so r (stage.Summing i total) lane next doing step = absurd doing
+  free-ends_so r (stage.Copying from i w) lane next doing step = absurd doing
+  free-ends_so r stage.Releasing lane next doing step = absurd doing
 
   -- the last word of a given block is written
   pub alloc-ends_given :
       (r need v i : ℕ) (lane : IsLane g e.caller before e operations registers results (stage.Filling i))
       → drop (length results) operations ≡ op.Alloc r need v ∷ rest
-      → (doing : IsDoing e.caller (pool_of before) e.point lane.position registers (op.Alloc r need v) (stage.Filling i) lane.added)
+      → (doing : IsDoing e.caller before e.point lane.position registers (op.Alloc r need v) (stage.Filling i) lane.added)
       → HasStepped place_of block_need e f before events stepped.Wrote → doing.0.words ≤ i + 1 → held_in registers r ≡ Some doing.0
       → EndsSo g e f before events operations registers registers results (stage.Filling i) (outcome.Given doing.0.words doing.0.place)
   alloc-ends_given r need v i lane next doing step last full =
@@ -251,7 +257,7 @@ module _ {B : Type 0} (place_of : B → ℕ) (block_need : B → Need) (g : Geom
   pub fill-ends_so :
       (r v i : ℕ) (lane : IsLane g e.caller before e operations registers results (stage.Filling i))
       → drop (length results) operations ≡ op.Fill r v ∷ rest
-      → (doing : IsDoing e.caller (pool_of before) e.point lane.position registers (op.Fill r v) (stage.Filling i) lane.added)
+      → (doing : IsDoing e.caller before e.point lane.position registers (op.Fill r v) (stage.Filling i) lane.added)
       → HasStepped place_of block_need e f before events stepped.Wrote → doing.0.words ≤ i + 1
       → EndsSo g e f before events operations registers registers results (stage.Filling i) outcome.Filled
   fill-ends_so r v i lane next doing step last =
@@ -306,7 +312,7 @@ module _ {B : Type 0} (place_of : B → ℕ) (block_need : B → Need) (g : Geom
     pub fill-goes_so :
         (r v i : ℕ) (n : Need) (lane : IsLane g e.caller before e operations registers results (stage.Filling i))
         → drop (length results) operations ≡ op.Fill r v ∷ rest
-        → (doing : IsDoing e.caller (pool_of before) e.point lane.position registers (op.Fill r v) (stage.Filling i) lane.added)
+        → (doing : IsDoing e.caller before e.point lane.position registers (op.Fill r v) (stage.Filling i) lane.added)
         → HasStepped place_of block_need e f before events stepped.Wrote → i + 1 < doing.0.words → Serves doing.0 n
         → HasBegun f h (write doing.0.place n (i + 1) ((v + (i + 1)) % 2 ^ 64))
         → GoesSo g e f h (write doing.0.place n (i + 1) ((v + (i + 1)) % 2 ^ 64)) before events operations registers registers results (stage.Filling i) (stage.Filling (i + 1))
@@ -345,7 +351,7 @@ module _ {B : Type 0} (place_of : B → ℕ) (block_need : B → Need) (g : Geom
     pub alloc-goes_so :
         (r need v i : ℕ) (n : Need) (lane : IsLane g e.caller before e operations registers results (stage.Filling i))
         → drop (length results) operations ≡ op.Alloc r need v ∷ rest
-        → (doing : IsDoing e.caller (pool_of before) e.point lane.position registers (op.Alloc r need v) (stage.Filling i) lane.added)
+        → (doing : IsDoing e.caller before e.point lane.position registers (op.Alloc r need v) (stage.Filling i) lane.added)
         → HasStepped place_of block_need e f before events stepped.Wrote → i + 1 < doing.0.words → Serves doing.0 n
         → held_in registers r ≡ Some doing.0 → HasBegun f h (write doing.0.place n (i + 1) ((v + (i + 1)) % 2 ^ 64))
         → GoesSo g e f h (write doing.0.place n (i + 1) ((v + (i + 1)) % 2 ^ 64)) before events operations registers registers results (stage.Filling i) (stage.Filling (i + 1))
@@ -394,7 +400,7 @@ module _ {B : Type 0} (place_of : B → ℕ) (block_need : B → Need) (g : Geom
     pub alloc-given_so :
         (r need v : ℕ) (block : B) (at : Stage) (lane : IsLane g e.caller before e operations registers results at)
         → drop (length results) operations ≡ op.Alloc r need v ∷ rest
-        → IsDoing e.caller (pool_of before) e.point lane.position registers (op.Alloc r need v) at lane.added
+        → IsDoing e.caller before e.point lane.position registers (op.Alloc r need v) at lane.added
         → HasStepped place_of block_need e f before events (stepped.Given block) → r < REGISTERS
         → HasBegun f h (write (place_of block) (block_need block) 0 ((v + 0) % 2 ^ 64))
         → GoesSo g e f h (write (place_of block) (block_need block) 0 ((v + 0) % 2 ^ 64)) before events operations registers
@@ -452,3 +458,5 @@ module _ {B : Type 0} (place_of : B → ℕ) (block_need : B → Need) (g : Geom
     alloc-given_so r need v block (stage.Filling i) lane next doing step within begun =
         absurd (told-of_write place_of block_need e f before events [] doing.0.place doing.4.writing.need i ((v + i) % 2 ^ 64) (stepped.Given block) step doing.4.writing.under_way)
     alloc-given_so r need v block (stage.Summing i total) lane next doing step within begun = absurd doing
+    alloc-given_so r need v block (stage.Copying from i w) lane next doing step within begun = absurd doing
+    alloc-given_so r need v block stage.Releasing lane next doing step within begun = absurd doing

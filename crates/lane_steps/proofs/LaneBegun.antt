@@ -1,12 +1,13 @@
 -- The next operation of a lane has begun, or has its outcome at once.
-use Rattle.std.proofs.Common.{ℕ, Bool, true, false, ◌↔◌, ◌≡◌, ◌<◌, ◌≤◌, ◌+◌, ◌%◌, ◌^◌, ◌∷◌, ◌++◌, List, [], Option, Some, None, refl, sym, ap, ◌∙◌, subst, inl, inr, arith, vec_capacity}
+use Rattle.std.proofs.Common.{ℕ, Bool, true, false, ◌↔◌, ◌≡◌, ◌≢◌, ◌<◌, ◌≤◌, ◌+◌, ◌%◌, ◌^◌, ◌∷◌, ◌++◌, List, [], Option, Some, None, refl, sym, ap, ◌∙◌, subst, inl, inr, arith, vec_capacity}
 use Rattle.std.specs.Prelude.{slice_set, IsTrue, IsSome}
 use Rattle.std.specs.List.{slice_index_or}
+use Rattle.std.specs.Option.{option_map}
 use Rattle.heap_geometry.specs.declared.geometry.Geometry.{Geometry}
 use Rattle.heap_geometry.specs.declared.need.Need.{Need}
 use Rattle.heap_geometry.specs.declared.need.Need.TheVariants.{Small, Large, TooLarge}
 use Rattle.heap_geometry.specs.declared.limits.TheConstants.{LARGE_MOST}
-use Rattle.heap_geometry.specs.Need.{need_of, usable_words}
+use Rattle.heap_geometry.specs.Need.{need_of as need_of_words, usable_words}
 use Rattle.pool_model.specs.declared.event.Event.{Event}
 use Rattle.errand_steps.specs.Begins.{IsIdle, alloc_answer, begins_with}
 use Rattle.errand_steps.specs.Calls.{Call, alloc, free, write, read, put, take, begun_by}
@@ -32,13 +33,14 @@ use Rattle.lane_steps.specs.declared.lane.LaneState.{LaneState}
 use Rattle.lane_steps.specs.declared.stage.Stage.{Stage}
 use Rattle.lane_steps.specs.declared.stage.Stage.TheVariants as stage
 use Rattle.lane_steps.specs.Lanes.{IsLane}
-use Rattle.lane_steps.specs.Operations.{Serves}
+use Rattle.lane_steps.specs.Operations.{IsUnasked, Serves}
 use Rattle.lane_steps.specs.Paths.{held_by, held_blocks}
 use Rattle.lane_steps.specs.Scripts.{IsOnScript, script_left, stage_begun}
 use Rattle.lane_steps.proofs.AnswerLemmas.{HasBegun, MayCall, call-begun, alloc-not_begun, owned-need}
-use Rattle.lane_steps.proofs.BeginLemmas.{IsSkipped, begin-skips, begin-spent, begin-alloc, begin-free, begin-put, begin-fill, begin-check, begin-take, owned-words}
+use Rattle.lane_steps.proofs.BeginLemmas.{IsSkipped, begin-skips, begin-spent, begin-alloc, begin-free, begin-put, begin-fill, begin-check, begin-take, begin-kept, begin-resize, begin-resize_spent, owned-words}
 use Rattle.lane_steps.proofs.EndedLemmas.{lane-between}
 use Rattle.lane_steps.proofs.LaneParts.{Became, OwnsBlocks, slot-full, slot-empty, set-held, blocks-emptied, gone-on, count-ends}
+use Rattle.lane_steps.proofs.ResizeScripts.{resize-begins, resize-keeps, resize-spent_at_once}
 use Rattle.lane_steps.proofs.ScriptLemmas.{IsHere, lane-here, script-skips, alloc-begins, alloc-spent_at_once, free-begins, fill-begins, check-begins, put-begins, take-begins, left-rises, left-ends}
 
 -- over a machine after the call began
@@ -165,6 +167,70 @@ module _ {B : Type 0} (place_of : B → ℕ) (need_of : B → Need) (g : Geometr
       alloc-begins operations lane.outcomes.items (stood (op.Alloc r need v) b).position.registers held held r need v calls (here (op.Alloc r need v) b)
       script) (omega arith)
 
+  -- a resize keeps its block, finds no turn left, or asks for another block
+  full-before :
+      (operation : Op) → Before operation → (r : ℕ) (block : B) → slice_index_or lane.registers.items r None ≡ Some block
+      → held_in held r ≡ Some (held_by place_of need_of block)
+  full-before operation b r block full = slot-full place_of need_of lane.registers.items r block full
+
+  pub part-kept :
+      (r need : ℕ) → Before (op.Resize r need) → (block : B) → slice_index_or lane.registers.items r None ≡ Some block
+      → need_of_words need ≡ need_of block
+      → Became lane new lane.registers.items (lane.outcomes.items ++ outcome.Kept (usable_words (need_of block)) (place_of block) ∷ []) stage.Between
+      → Gone e None
+  part-kept r need b block full same became =
+      ends-part (op.Resize r need) b e None (outcome.Kept (usable_words (need_of block)) (place_of block)) became
+      (begin-kept g events e operations held lane.outcomes.items b.next.0 (stood (op.Resize r need) b) (served (op.Resize r need) b) r need
+      (held_by place_of need_of block) b.next.1 (full-before (op.Resize r need) b r block full) same)
+      (λ calls script.
+      resize-keeps operations lane.outcomes.items (stood (op.Resize r need) b).position.registers held held r need calls (here (op.Resize r need) b)
+      (usable_words (need_of block)) (place_of block) script)
+
+  -- it asks for no block
+  unasked-at :
+      (r need : ℕ) (result : Outcome) → Before (op.Resize r need) → (slot : Option B) → slice_index_or lane.registers.items r None ≡ slot
+      → IsUnasked (option_map (held_by place_of need_of) slot) need (Some result)
+      → Became lane new lane.registers.items (lane.outcomes.items ++ result ∷ []) stage.Between → Gone e None
+  unasked-at r need result b None is unasked became =
+      let same : result ≡ outcome.Skipped = cc in
+      part-skips (op.Resize r need) b (slot-empty place_of need_of lane.registers.items r is)
+      (subst (λ (x : Outcome). Became lane new lane.registers.items (lane.outcomes.items ++ x ∷ []) stage.Between) same became)
+  unasked-at r need result b (Some block) is unasked became =
+      part-kept r need b block is unasked.0
+      (subst (λ (x : Outcome). Became lane new lane.registers.items (lane.outcomes.items ++ x ∷ []) stage.Between) unasked.1 became)
+
+  pub part-unasked :
+      (r need : ℕ) (result : Outcome) → Before (op.Resize r need)
+      → IsUnasked (option_map (held_by place_of need_of) (slice_index_or lane.registers.items r None)) need (Some result)
+      → Became lane new lane.registers.items (lane.outcomes.items ++ result ∷ []) stage.Between → Gone e None
+  part-unasked r need result b unasked became = unasked-at r need result b (slice_index_or lane.registers.items r None) refl unasked became
+
+  pub part-resize_spent :
+      (r need : ℕ) → Before (op.Resize r need) → (block : B) → slice_index_or lane.registers.items r None ≡ Some block
+      → need_of_words need ≢ need_of block → alloc_answer e need ≡ begun.Spent
+      → Became lane new lane.registers.items (lane.outcomes.items ++ outcome.Spent ∷ []) stage.Between → Gone (begun_by e (alloc need)) (Some (alloc need))
+  part-resize_spent r need b block full differ answer became =
+      ends-part (op.Resize r need) b (begun_by e (alloc need)) (Some (alloc need)) outcome.Spent became
+      (begin-resize_spent g events e operations held lane.outcomes.items b.next.0 (stood (op.Resize r need) b) (served (op.Resize r need) b) r need
+      (held_by place_of need_of block) b.next.1 (full-before (op.Resize r need) b r block full) (begun_by e (alloc need)) differ
+      (alloc-not_begun e need answer))
+      (λ calls script.
+      resize-spent_at_once operations lane.outcomes.items (stood (op.Resize r need) b).position.registers held held r need calls
+      (here (op.Resize r need) b) script)
+
+  pub part-resize :
+      (r need : ℕ) → Before (op.Resize r need) → (block : B) → slice_index_or lane.registers.items r None ≡ Some block
+      → need_of_words need ≢ need_of block → alloc_answer e need ≡ begun.Started
+      → Became lane new lane.registers.items lane.outcomes.items stage.Calling → Gone (begun_by e (alloc need)) (Some (alloc need))
+  part-resize r need b block full differ answer became =
+      begins-part (op.Resize r need) b (begun_by e (alloc need)) (alloc need) lane.registers.items stage.Calling became
+      (begin-resize g events e operations held lane.outcomes.items b.next.0 (stood (op.Resize r need) b) (served (op.Resize r need) b) r need
+      (held_by place_of need_of block) b.next.1 (full-before (op.Resize r need) b r block full) (begun_by e (alloc need)) differ answer
+      (begun-call (op.Resize r need) b (alloc need) answer)) b.stands.owned
+      (λ calls script.
+      resize-begins operations lane.outcomes.items (stood (op.Resize r need) b).position.registers held held r need calls (here (op.Resize r need) b) script)
+      (omega arith)
+
   pub part-take :
       (r shelf : ℕ) → Before (op.Take r shelf) → slice_index_or lane.registers.items r None ≡ None
       → Became lane new lane.registers.items lane.outcomes.items stage.Calling → Gone (begun_by e (take shelf)) (Some (take shelf))
@@ -279,6 +345,13 @@ pub slot-some : {B : Type 0} (found : Bool) (slot : Option B) → (IsTrue found 
 slot-some found None h is = absurd (let e : false ≡ true = h.0 is in cc)
 slot-some found (Some block) h is = (block, refl)
 
+-- the block that a resize to another need finds
+pub unasked-none :
+    {B : Type 0} (place_of : B → ℕ) (need_of : B → Need) (slot : Option B) (need : ℕ) → IsUnasked (option_map (held_by place_of need_of) slot) need None
+    → (block : B) × (slot ≡ Some block) × (need_of_words need ≢ need_of block)
+unasked-none place_of need_of None need unasked = absurd (cc)
+unasked-none place_of need_of (Some block) need unasked = (block, refl, unasked)
+
 -- the caller of a lane between two operations is in no call
 pub before-idle :
     (c : CoreFields) (lane : LaneState Grip) (operation : Op) → (operations : List Op) × MayBegin operation c operations lane
@@ -347,7 +420,7 @@ too-large e TooLarge answer = refl
 
 -- no operation of a trace asks for more words than blocks have
 pub large-need : (e : ErrandFields) (need : ℕ) → need ≤ LARGE_MOST → alloc_answer e need ≡ begun.TooLarge → ⊥
-large-need e need most answer = need-fits need most (too-large e (need_of need) answer)
+large-need e need most answer = need-fits need most (too-large e (need_of_words need) answer)
 
 -- a lane at another stage
 pub staged :

@@ -1,11 +1,12 @@
 -- A lane whose operation goes on: the call under way makes a step, or the next one begins behind it.
-use Rattle.std.proofs.Common.{ℕ, ◌≡◌, ◌≤◌, ◌+◌, ◌%◌, ◌^◌, ◌∷◌, ◌++◌, List, [], Option, Some, length, drop, take, sym, ap, ◌∙◌, subst, append-nil, append_assoc}
+use Rattle.std.proofs.Common.{ℕ, ◌≡◌, ◌≤◌, ◌+◌, ◌%◌, ◌^◌, ◌∷◌, ◌++◌, List, [], Option, Some, None, length, drop, take, sym, ap, ◌∙◌, subst, append-nil, append_assoc}
 use Rattle.heap_geometry.specs.declared.geometry.Geometry.{Geometry}
 use Rattle.heap_geometry.specs.declared.need.Need.{Need}
+use Rattle.heap_geometry.specs.Need.{need_of as need_of_words}
 use Rattle.pool_model.specs.declared.event.Event.{Event}
 use Rattle.pool_model.specs.declared.owner.Owner.TheVariants.{Caller}
 use Rattle.pool_model.specs.Legal.{IsLegalWithoutCounts}
-use Rattle.pool_model.specs.Pool.{Block, Pool, block_at, pool_of}
+use Rattle.pool_model.specs.Pool.{Block, block_at, pool_of}
 use Rattle.pool_model.proofs.OwnerLemmas.{others-keep_all}
 use Rattle.errand_steps.specs.Begins.{IsBusy}
 use Rattle.errand_steps.specs.Calls.{Call, alloc, free, write, read, put, take as take_call}
@@ -33,6 +34,8 @@ use Rattle.step_core.proofs.KeepLemmas.{spare-append}
 use Rattle.step_core.specs.Keeping.{Leaves}
 use Rattle.step_core.proofs.SpareLemmas.{so_far-spares, write-none, read-none}
 use Rattle.lane_steps.proofs.LaneSpares.{SparesAll, holds-rest}
+use Rattle.lane_steps.proofs.QuietLemmas.{quiet-append, quiet-asking}
+use Rattle.lane_steps.proofs.ResizeLemmas.{moved-begins, replacing-later, still-moved, was-later}
 
 -- a call that begins directly behind a step
 pub moved-begun :
@@ -59,39 +62,42 @@ moved-none e f before events more none moved = subst (HasMovedOn e f before even
 
 -- between two operations none is under way
 pub no-between :
-    (caller : ℕ) (pool : Pool) (point : Point) (position : Position) (registers : List (Option Held)) (operation : Op) (added : List Event)
-    → IsDoing caller pool point position registers operation stage.Between added → ⊥
+    (caller : ℕ) (events : List Event) (point : Point) (position : Position) (registers : List (Option Held)) (operation : Op) (added : List Event)
+    → IsDoing caller events point position registers operation stage.Between added → ⊥
 no-between caller pool point position registers (op.Alloc r need v) added h = h
 no-between caller pool point position registers (op.Free r) added h = h
 no-between caller pool point position registers (op.Fill r v) added h = h
 no-between caller pool point position registers (op.Check r) added h = h
 no-between caller pool point position registers (op.Put r shelf) added h = h
 no-between caller pool point position registers (op.Take r shelf) added h = h
+no-between caller pool point position registers (op.Resize r need) added h = h
 
 -- the operation at hand is under way
 pub at-doing :
     (caller : ℕ) (events : List Event) (e : ErrandFields) (position : Position) (registers : List (Option Held)) (operations rest : List Op)
     (operation : Op) (at : Stage) (added : List Event) → operations ≡ operation ∷ rest
-    → IsDoing caller (pool_of events) e.point position registers operation at added → IsAt caller events e position registers operations at added
+    → IsDoing caller events e.point position registers operation at added → IsAt caller events e position registers operations at added
 at-doing caller events e position registers operations rest operation stage.Between added next doing =
-    absurd (no-between caller (pool_of events) e.point position registers operation added doing)
+    absurd (no-between caller events e.point position registers operation added doing)
 at-doing caller events e position registers operations rest operation stage.Calling added next doing = (operation, rest, next, doing)
 at-doing caller events e position registers operations rest operation (stage.Filling i) added next doing = (operation, rest, next, doing)
 at-doing caller events e position registers operations rest operation (stage.Summing i total) added next doing = (operation, rest, next, doing)
+at-doing caller events e position registers operations rest operation (stage.Copying old i word) added next doing = (operation, rest, next, doing)
+at-doing caller events e position registers operations rest operation stage.Releasing added next doing = (operation, rest, next, doing)
 
 same-operation :
     (caller : ℕ) (events : List Event) (e : ErrandFields) (position : Position) (registers : List (Option Held)) (operations rest : List Op)
     (operation : Op) (at : Stage) (added : List Event) → operations ≡ operation ∷ rest
-    → ((other : Op) × (others : List Op) × (operations ≡ other ∷ others) × IsDoing caller (pool_of events) e.point position registers other at added)
-    → IsDoing caller (pool_of events) e.point position registers operation at added
+    → ((other : Op) × (others : List Op) × (operations ≡ other ∷ others) × IsDoing caller events e.point position registers other at added)
+    → IsDoing caller events e.point position registers operation at added
 same-operation caller events e position registers operations rest operation at added next h =
     let same : h.0 ≡ operation = let s : h.0 ∷ h.1 ≡ operation ∷ rest = sym h.2 ∙ next in cc in
-    subst (λ o. IsDoing caller (pool_of events) e.point position registers o at added) same h.3
+    subst (λ o. IsDoing caller events e.point position registers o at added) same h.3
 
 pub doing-at :
     (caller : ℕ) (events : List Event) (e : ErrandFields) (position : Position) (registers : List (Option Held)) (operations rest : List Op)
     (operation : Op) (at : Stage) (added : List Event) → operations ≡ operation ∷ rest → IsBusy e
-    → IsAt caller events e position registers operations at added → IsDoing caller (pool_of events) e.point position registers operation at added
+    → IsAt caller events e position registers operations at added → IsDoing caller events e.point position registers operation at added
 doing-at caller events e position registers operations rest operation stage.Between added next busy at = absurd (let idle = at.0 in cc)
 doing-at caller events e position registers operations rest operation stage.Calling added next busy at =
     same-operation caller events e position registers operations rest operation stage.Calling added next at
@@ -99,12 +105,16 @@ doing-at caller events e position registers operations rest operation (stage.Fil
     same-operation caller events e position registers operations rest operation (stage.Filling i) added next at
 doing-at caller events e position registers operations rest operation (stage.Summing i total) added next busy at =
     same-operation caller events e position registers operations rest operation (stage.Summing i total) added next at
+doing-at caller events e position registers operations rest operation (stage.Copying old i word) added next busy at =
+    same-operation caller events e position registers operations rest operation (stage.Copying old i word) added next at
+doing-at caller events e position registers operations rest operation stage.Releasing added next busy at =
+    same-operation caller events e position registers operations rest operation stage.Releasing added next at
 
 -- the lane stands behind a step of its caller, where the operation at hand is under way still
 module _ (g : Geometry) (e f : ErrandFields) (before events : List Event) (operations : List Op) (registers : List (Option Held)) (results : List Outcome) (at : Stage) (lane : IsLane g e.caller before e operations registers results at) (heap : e.geometry ≡ g) (operation : Op) (rest : List Op) (next : drop (length results) operations ≡ operation ∷ rest) where
   pub lane-stays :
       (more : List Event) → HasMovedOn e f before events more → (after : List (Option Held)) (to : Stage)
-      → IsDoing e.caller (pool_of events) f.point lane.position after operation to (lane.added ++ more) → length after ≡ REGISTERS
+      → IsDoing e.caller events f.point lane.position after operation to (lane.added ++ more) → length after ≡ REGISTERS
       → HoldsOwn (pool_of events) e.caller after → IsLane g e.caller events f operations after results to
   lane-stays more moved after to doing size holds =
       record {
@@ -129,11 +139,11 @@ module _ (g : Geometry) (e f : ErrandFields) (before events : List Event) (opera
   -- where the caller adds no event
   pub lane-stays_so :
       HasMovedOn e f before events [] → (after : List (Option Held)) (to : Stage)
-      → IsDoing e.caller (pool_of events) f.point lane.position after operation to lane.added → length after ≡ REGISTERS
+      → IsDoing e.caller events f.point lane.position after operation to lane.added → length after ≡ REGISTERS
       → HoldsOwn (pool_of events) e.caller after → IsLane g e.caller events f operations after results to
   lane-stays_so moved after to doing size holds =
       lane-stays [] moved after to
-      (subst (IsDoing e.caller (pool_of events) f.point lane.position after operation to) (sym (append-nil lane.added)) doing) size holds
+      (subst (IsDoing e.caller events f.point lane.position after operation to) (sym (append-nil lane.added)) doing) size holds
 
   -- the registers hold their blocks still
   pub lane-holds :
@@ -218,7 +228,7 @@ module _ {B : Type 0} (place_of : B → ℕ) (need_of : B → Need) (g : Geometr
   alloc-stays :
       (r need v : ℕ) (at : Stage) (lane : IsLane g e.caller before e operations registers results at)
       → drop (length results) operations ≡ op.Alloc r need v ∷ rest
-      → IsDoing e.caller (pool_of before) e.point lane.position registers (op.Alloc r need v) at lane.added → StaysSo at
+      → IsDoing e.caller before e.point lane.position registers (op.Alloc r need v) at lane.added → StaysSo at
   alloc-stays r need v stage.Calling lane next doing =
       let goes = alloc-on place_of need_of e f before events lane.added need told on step doing.3 in
       let spares = spares-on e f (alloc need) before events lane.added registers goes (λ q other full. tt) in
@@ -266,11 +276,13 @@ module _ {B : Type 0} (place_of : B → ℕ) (need_of : B → Need) (g : Geometr
       }
   alloc-stays r need v stage.Between lane next doing = absurd doing
   alloc-stays r need v (stage.Summing i total) lane next doing = absurd doing
+  alloc-stays r need v (stage.Copying from i w) lane next doing = absurd doing
+  alloc-stays r need v stage.Releasing lane next doing = absurd doing
 
   free-stays :
       (r : ℕ) (at : Stage) (lane : IsLane g e.caller before e operations registers results at)
       → drop (length results) operations ≡ op.Free r ∷ rest
-      → IsDoing e.caller (pool_of before) e.point lane.position registers (op.Free r) at lane.added → StaysSo at
+      → IsDoing e.caller before e.point lane.position registers (op.Free r) at lane.added → StaysSo at
   free-stays r stage.Calling lane next doing =
       let goes = free-on place_of need_of e f before events lane.added doing.held.place doing.need told on step doing.under_way in
       let spares = spares-on e f (free doing.held.place doing.need) before events lane.added registers goes (λ q other full. doing.apart q other full) in
@@ -289,11 +301,13 @@ module _ {B : Type 0} (place_of : B → ℕ) (need_of : B → Need) (g : Geometr
   free-stays r stage.Between lane next doing = absurd doing
   free-stays r (stage.Filling i) lane next doing = absurd doing
   free-stays r (stage.Summing i total) lane next doing = absurd doing
+  free-stays r (stage.Copying from i w) lane next doing = absurd doing
+  free-stays r stage.Releasing lane next doing = absurd doing
 
   fill-stays :
       (r v : ℕ) (at : Stage) (lane : IsLane g e.caller before e operations registers results at)
       → drop (length results) operations ≡ op.Fill r v ∷ rest
-      → IsDoing e.caller (pool_of before) e.point lane.position registers (op.Fill r v) at lane.added → StaysSo at
+      → IsDoing e.caller before e.point lane.position registers (op.Fill r v) at lane.added → StaysSo at
   fill-stays r v (stage.Filling i) lane next doing =
       let held = doing.0 in
       let writing = doing.3 in
@@ -322,11 +336,13 @@ module _ {B : Type 0} (place_of : B → ℕ) (need_of : B → Need) (g : Geometr
   fill-stays r v stage.Between lane next doing = absurd doing
   fill-stays r v stage.Calling lane next doing = absurd doing
   fill-stays r v (stage.Summing i total) lane next doing = absurd doing
+  fill-stays r v (stage.Copying from i w) lane next doing = absurd doing
+  fill-stays r v stage.Releasing lane next doing = absurd doing
 
   put-stays :
       (r shelf : ℕ) (at : Stage) (lane : IsLane g e.caller before e operations registers results at)
       → drop (length results) operations ≡ op.Put r shelf ∷ rest
-      → IsDoing e.caller (pool_of before) e.point lane.position registers (op.Put r shelf) at lane.added → StaysSo at
+      → IsDoing e.caller before e.point lane.position registers (op.Put r shelf) at lane.added → StaysSo at
   put-stays r shelf stage.Calling lane next doing =
       let goes = put-on place_of need_of e f before events lane.added doing.held.place doing.need shelf told on step doing.under_way in
       let spares = spares-on e f (put doing.held.place doing.need shelf) before events lane.added registers goes (λ q other full. doing.apart q other full) in
@@ -345,11 +361,13 @@ module _ {B : Type 0} (place_of : B → ℕ) (need_of : B → Need) (g : Geometr
   put-stays r shelf stage.Between lane next doing = absurd doing
   put-stays r shelf (stage.Filling i) lane next doing = absurd doing
   put-stays r shelf (stage.Summing i total) lane next doing = absurd doing
+  put-stays r shelf (stage.Copying from i w) lane next doing = absurd doing
+  put-stays r shelf stage.Releasing lane next doing = absurd doing
 
   take-stays :
       (r shelf : ℕ) (at : Stage) (lane : IsLane g e.caller before e operations registers results at)
       → drop (length results) operations ≡ op.Take r shelf ∷ rest
-      → IsDoing e.caller (pool_of before) e.point lane.position registers (op.Take r shelf) at lane.added → StaysSo at
+      → IsDoing e.caller before e.point lane.position registers (op.Take r shelf) at lane.added → StaysSo at
   take-stays r shelf stage.Calling lane next doing =
       let goes = take-on place_of need_of e f before events lane.added shelf told on step doing.2 in
       let spares = spares-on e f (take_call shelf) before events lane.added registers goes (λ q other full. tt) in
@@ -366,11 +384,13 @@ module _ {B : Type 0} (place_of : B → ℕ) (need_of : B → Need) (g : Geometr
   take-stays r shelf stage.Between lane next doing = absurd doing
   take-stays r shelf (stage.Filling i) lane next doing = absurd doing
   take-stays r shelf (stage.Summing i total) lane next doing = absurd doing
+  take-stays r shelf (stage.Copying from i w) lane next doing = absurd doing
+  take-stays r shelf stage.Releasing lane next doing = absurd doing
 
   check-stays :
       (r : ℕ) (at : Stage) (lane : IsLane g e.caller before e operations registers results at)
       → drop (length results) operations ≡ op.Check r ∷ rest
-      → IsDoing e.caller (pool_of before) e.point lane.position registers (op.Check r) at lane.added → StaysSo at
+      → IsDoing e.caller before e.point lane.position registers (op.Check r) at lane.added → StaysSo at
   check-stays r (stage.Summing i total) lane next doing =
       let held = doing.0 in
       let summing = doing.3 in
@@ -418,15 +438,140 @@ module _ {B : Type 0} (place_of : B → ℕ) (need_of : B → Need) (g : Geometr
   check-stays r stage.Between lane next doing = absurd doing
   check-stays r stage.Calling lane next doing = absurd doing
   check-stays r (stage.Filling i) lane next doing = absurd doing
+  check-stays r (stage.Copying from i w) lane next doing = absurd doing
+  check-stays r stage.Releasing lane next doing = absurd doing
+
+  resize-stays :
+      (r need : ℕ) (at : Stage) (lane : IsLane g e.caller before e operations registers results at)
+      → drop (length results) operations ≡ op.Resize r need ∷ rest
+      → IsDoing e.caller before e.point lane.position registers (op.Resize r need) at lane.added → StaysSo at
+  resize-stays r need stage.Calling lane next doing =
+      let goes = alloc-on place_of need_of e f before events lane.added need told on step doing.under_way in
+      let spares = spares-on e f (alloc need) before events lane.added registers goes (λ q other full. tt) in
+      let quiet = quiet-append doing.old.place lane.added goes.more
+      (quiet-asking doing.old.place e.caller need (stage_of f.point) (lane.added ++ goes.more) goes.under_way) in
+      record {
+        more = goes.more;
+        moved_on = goes.moved_on;
+        spares = spares;
+        stands =
+            lane-stays g e f before events operations registers results stage.Calling lane heap (op.Resize r need) rest next goes.more goes.moved_on
+            registers stage.Calling
+            (record {
+              old = doing.old;
+              same = doing.same;
+              was = doing.was;
+              serves = doing.serves;
+              other_need = doing.other_need;
+              asks = doing.asks;
+              was_held = was-later e.caller before events lane.position.done doing.old (moved-begins e f before events goes.more goes.moved_on) doing.was_held;
+              still =
+                  still-moved g e f before events goes.more doing.old.place doing.was_held.had.block goes.moved_on legal quiet doing.still
+                  doing.was_held.had.owned;
+              under_way = goes.under_way;
+            }) lane.size
+            (lane-holds g e f before events operations registers results stage.Calling lane heap (op.Resize r need) rest next goes.more goes.moved_on
+            legal spares);
+      }
+  resize-stays r need (stage.Copying old i None) lane next doing =
+      let goes = read-on place_of need_of e f before events [] old.place old.need i told on step doing.under_way in
+      let none : goes.more ≡ [] = read-none e.caller old.place old.need i (stage_of f.point) goes.more goes.under_way in
+      let moved = moved-none e f before events goes.more none goes.moved_on in
+      let spares : SparesAll registers [] = λ q other full. tt in
+      record {
+        more = [];
+        moved_on = moved;
+        spares = spares;
+        stands =
+            lane-stays_so g e f before events operations registers results (stage.Copying old i None) lane heap (op.Resize r need) rest next moved
+            registers (stage.Copying old i None)
+            (record {
+              new = doing.new;
+              copied = doing.copied;
+              replacing =
+                  replacing-later e.caller before events lane.position registers r need old doing.new doing.copied i lane.added
+                  (moved-begins e f before events [] moved) doing.replacing;
+              still =
+                  still-moved g e f before events [] old.place doing.replacing.was_held.had.block moved legal tt doing.still
+                  doing.replacing.was_held.had.owned;
+              all = doing.all;
+              inside = doing.inside;
+              within = doing.within;
+              under_way = subst (IsUnderWay e.caller (read old.place old.need i) f.point) none goes.under_way;
+            }) lane.size
+            (lane-holds g e f before events operations registers results (stage.Copying old i None) lane heap (op.Resize r need) rest next [] moved
+            legal spares);
+      }
+  resize-stays r need (stage.Copying old i (Some word)) lane next doing =
+      let to = doing.new.place in
+      let goes = write-on place_of need_of e f before events [] to (need_of_words need) i word told on step doing.under_way in
+      let none : goes.more ≡ [] = write-none e.caller to (need_of_words need) i word (stage_of f.point) goes.more goes.under_way in
+      let moved = moved-none e f before events goes.more none goes.moved_on in
+      let spares : SparesAll registers [] = λ q other full. tt in
+      record {
+        more = [];
+        moved_on = moved;
+        spares = spares;
+        stands =
+            lane-stays_so g e f before events operations registers results (stage.Copying old i (Some word)) lane heap (op.Resize r need) rest next moved
+            registers (stage.Copying old i (Some word))
+            (record {
+              new = doing.new;
+              copied = doing.copied;
+              replacing =
+                  replacing-later e.caller before events lane.position registers r need old doing.new doing.copied i lane.added
+                  (moved-begins e f before events [] moved) doing.replacing;
+              still =
+                  still-moved g e f before events [] old.place doing.replacing.was_held.had.block moved legal tt doing.still
+                  doing.replacing.was_held.had.owned;
+              all = doing.all;
+              within = doing.within;
+              word_is = doing.word_is;
+              under_way = subst (IsUnderWay e.caller (write to (need_of_words need) i word) f.point) none goes.under_way;
+            }) lane.size
+            (lane-holds g e f before events operations registers results (stage.Copying old i (Some word)) lane heap (op.Resize r need) rest next [] moved
+            legal spares);
+      }
+  resize-stays r need stage.Releasing lane next doing =
+      let goes = free-on place_of need_of e f before events doing.part doing.old.place doing.old.need told on step doing.under_way in
+      let spares = spares-on e f (free doing.old.place doing.old.need) before events doing.part registers goes
+      (λ q other full. doing.replacing.apart q other full) in
+      record {
+        more = goes.more;
+        moved_on = goes.moved_on;
+        spares = spares;
+        stands =
+            lane-stays g e f before events operations registers results stage.Releasing lane heap (op.Resize r need) rest next goes.more goes.moved_on
+            registers stage.Releasing
+            (record {
+              old = doing.old;
+              new = doing.new;
+              copied = doing.copied;
+              copies = doing.copies;
+              replacing =
+                  replacing-later e.caller before events lane.position registers r need doing.old doing.new doing.copied doing.new.words doing.copies
+                  (moved-begins e f before events goes.more goes.moved_on) doing.replacing;
+              all = doing.all;
+              part = doing.part ++ goes.more;
+              under_way = goes.under_way;
+              so_far = ap (λ xs. xs ++ goes.more) doing.so_far ∙ append_assoc doing.copies doing.part goes.more;
+            }) lane.size
+            (lane-holds g e f before events operations registers results stage.Releasing lane heap (op.Resize r need) rest next goes.more goes.moved_on
+            legal spares);
+      }
+  resize-stays r need stage.Between lane next doing = absurd doing
+  resize-stays r need (stage.Filling i) lane next doing = absurd doing
+  resize-stays r need (stage.Summing i total) lane next doing = absurd doing
 
   -- whatever the operation is
   pub lane-goes_on :
       (operation : Op) (at : Stage) (lane : IsLane g e.caller before e operations registers results at)
       → drop (length results) operations ≡ operation ∷ rest
-      → IsDoing e.caller (pool_of before) e.point lane.position registers operation at lane.added → StaysSo at
+      → IsDoing e.caller before e.point lane.position registers operation at lane.added → StaysSo at
   lane-goes_on (op.Alloc r need v) at lane next doing = alloc-stays r need v at lane next doing
   lane-goes_on (op.Free r) at lane next doing = free-stays r at lane next doing
   lane-goes_on (op.Fill r v) at lane next doing = fill-stays r v at lane next doing
   lane-goes_on (op.Check r) at lane next doing = check-stays r at lane next doing
   lane-goes_on (op.Put r shelf) at lane next doing = put-stays r shelf at lane next doing
   lane-goes_on (op.Take r shelf) at lane next doing = take-stays r shelf at lane next doing
+  lane-goes_on (op.Resize r need) at lane next doing = resize-stays r need at lane next doing

@@ -1,8 +1,8 @@
 -- An advance of a lane, part after part.
-use Rattle.std.proofs.Common.{ℕ, suc, true, false, ◌≡◌, ◌≢◌, ◌<◌, ◌+◌, ◌-◌, ◌%◌, ◌^◌, ◌∷◌, List, [], Option, length, min, drop, refl, sym, ap, ◌∙◌, subst, arith, get_or, drop-cons, below_more}
+use Rattle.std.proofs.Common.{ℕ, suc, true, false, ◌≡◌, ◌≢◌, ◌<◌, ◌+◌, ◌-◌, ◌%◌, ◌^◌, ◌∷◌, List, [], Option, Some, None, length, min, drop, refl, sym, ap, ◌∙◌, subst, arith, get_or, drop-cons, below_more}
 use Rattle.heap_geometry.specs.declared.geometry.Geometry.{Geometry}
+use Rattle.heap_geometry.specs.Need.{need_of}
 use Rattle.pool_model.specs.declared.event.Event.{Event}
-use Rattle.pool_model.specs.Pool.{Pool, pool_of}
 use Rattle.errand_steps.specs.Begins.{IsBusy}
 use Rattle.errand_steps.specs.Errands.{ErrandFields}
 use Rattle.errand_steps.specs.Calls.{alloc, free, write, read, put, take}
@@ -34,32 +34,54 @@ use Rattle.lane_steps.proofs.PartAdvances.{calls-kept, part-begins, part-steps}
 
 -- where an operation is under way its caller is busy
 doing-busy :
-    (caller : ℕ) (pool : Pool) (e : ErrandFields) (position : Position) (registers : List (Option Held)) (operation : Op) (at : Stage)
-    (added : List Event) → IsDoing caller pool e.point position registers operation at added → IsBusy e
+    (caller : ℕ) (events : List Event) (e : ErrandFields) (position : Position) (registers : List (Option Held)) (operation : Op) (at : Stage)
+    (added : List Event) → IsDoing caller events e.point position registers operation at added → IsBusy e
 doing-busy caller pool e position registers (op.Alloc r need v) stage.Calling added doing = way-busy caller (alloc need) e.point added doing.3
 doing-busy caller pool e position registers (op.Alloc r need v) (stage.Filling i) added doing = way-busy caller (write doing.0.place doing.4.writing.need i ((v + i) % 2 ^ 64)) e.point [] doing.4.writing.under_way
 doing-busy caller pool e position registers (op.Alloc r need v) stage.Between added doing = absurd doing
 doing-busy caller pool e position registers (op.Alloc r need v) (stage.Summing i total) added doing = absurd doing
+doing-busy caller pool e position registers (op.Alloc r need v) (stage.Copying from i w) added doing = absurd doing
+doing-busy caller pool e position registers (op.Alloc r need v) stage.Releasing added doing = absurd doing
 doing-busy caller pool e position registers (op.Free r) stage.Calling added doing = way-busy caller (free doing.held.place doing.need) e.point added doing.under_way
 doing-busy caller pool e position registers (op.Free r) stage.Between added doing = absurd doing
 doing-busy caller pool e position registers (op.Free r) (stage.Filling i) added doing = absurd doing
 doing-busy caller pool e position registers (op.Free r) (stage.Summing i total) added doing = absurd doing
+doing-busy caller pool e position registers (op.Free r) (stage.Copying from i w) added doing = absurd doing
+doing-busy caller pool e position registers (op.Free r) stage.Releasing added doing = absurd doing
 doing-busy caller pool e position registers (op.Fill r v) (stage.Filling i) added doing = way-busy caller (write doing.0.place doing.3.need i ((v + i) % 2 ^ 64)) e.point [] doing.3.under_way
 doing-busy caller pool e position registers (op.Fill r v) stage.Between added doing = absurd doing
 doing-busy caller pool e position registers (op.Fill r v) stage.Calling added doing = absurd doing
 doing-busy caller pool e position registers (op.Fill r v) (stage.Summing i total) added doing = absurd doing
+doing-busy caller pool e position registers (op.Fill r v) (stage.Copying from i w) added doing = absurd doing
+doing-busy caller pool e position registers (op.Fill r v) stage.Releasing added doing = absurd doing
 doing-busy caller pool e position registers (op.Check r) (stage.Summing i total) added doing = way-busy caller (read doing.0.place doing.3.need i) e.point [] doing.3.under_way
 doing-busy caller pool e position registers (op.Check r) stage.Between added doing = absurd doing
 doing-busy caller pool e position registers (op.Check r) stage.Calling added doing = absurd doing
 doing-busy caller pool e position registers (op.Check r) (stage.Filling i) added doing = absurd doing
+doing-busy caller pool e position registers (op.Check r) (stage.Copying from i w) added doing = absurd doing
+doing-busy caller pool e position registers (op.Check r) stage.Releasing added doing = absurd doing
 doing-busy caller pool e position registers (op.Put r shelf) stage.Calling added doing = way-busy caller (put doing.held.place doing.need shelf) e.point added doing.under_way
 doing-busy caller pool e position registers (op.Put r shelf) stage.Between added doing = absurd doing
 doing-busy caller pool e position registers (op.Put r shelf) (stage.Filling i) added doing = absurd doing
 doing-busy caller pool e position registers (op.Put r shelf) (stage.Summing i total) added doing = absurd doing
+doing-busy caller pool e position registers (op.Put r shelf) (stage.Copying from i w) added doing = absurd doing
+doing-busy caller pool e position registers (op.Put r shelf) stage.Releasing added doing = absurd doing
 doing-busy caller pool e position registers (op.Take r shelf) stage.Calling added doing = way-busy caller (take shelf) e.point added doing.2
 doing-busy caller pool e position registers (op.Take r shelf) stage.Between added doing = absurd doing
 doing-busy caller pool e position registers (op.Take r shelf) (stage.Filling i) added doing = absurd doing
 doing-busy caller pool e position registers (op.Take r shelf) (stage.Summing i total) added doing = absurd doing
+doing-busy caller pool e position registers (op.Take r shelf) (stage.Copying from i w) added doing = absurd doing
+doing-busy caller pool e position registers (op.Take r shelf) stage.Releasing added doing = absurd doing
+doing-busy caller pool e position registers (op.Resize r need) stage.Calling added doing = way-busy caller (alloc need) e.point added doing.under_way
+doing-busy caller pool e position registers (op.Resize r need) (stage.Copying old i None) added doing =
+    way-busy caller (read old.place old.need i) e.point [] doing.under_way
+doing-busy caller pool e position registers (op.Resize r need) (stage.Copying old i (Some word)) added doing =
+    way-busy caller (write doing.new.place (need_of need) i word) e.point [] doing.under_way
+doing-busy caller pool e position registers (op.Resize r need) stage.Releasing added doing =
+    way-busy caller (free doing.old.place doing.old.need) e.point doing.part doing.under_way
+doing-busy caller pool e position registers (op.Resize r need) stage.Between added doing = absurd doing
+doing-busy caller pool e position registers (op.Resize r need) (stage.Filling i) added doing = absurd doing
+doing-busy caller pool e position registers (op.Resize r need) (stage.Summing i total) added doing = absurd doing
 
 -- which counts as begun
 pub count-under : (results : List Outcome) (at : Stage) → at ≢ stage.Between → begun_count results at ≡ length results + 1
@@ -67,6 +89,9 @@ count-under results stage.Between not = absurd (not refl)
 count-under results stage.Calling not = omega arith
 count-under results (stage.Filling i) not = omega arith
 count-under results (stage.Summing i total) not = omega arith
+count-under results (stage.Copying old i None) not = omega arith
+count-under results (stage.Copying old i (Some word)) not = omega arith
+count-under results stage.Releasing not = omega arith
 
 -- an operation of the script is under way
 pub record IsUnder (e : ErrandFields) (operations : List Op) : Type 0 where
@@ -80,11 +105,15 @@ under-at :
     (added : List Event) → at ≢ stage.Between → IsAt caller events e position registers operations at added → IsUnder e operations
 under-at caller events e position registers operations stage.Between added not stands = absurd (not refl)
 under-at caller events e position registers operations stage.Calling added not (o, rest, next, doing) =
-    record { operation = o; rest = rest; next = next; busy = doing-busy caller (pool_of events) e position registers o stage.Calling added doing }
+    record { operation = o; rest = rest; next = next; busy = doing-busy caller events e position registers o stage.Calling added doing }
 under-at caller events e position registers operations (stage.Filling i) added not (o, rest, next, doing) =
-    record { operation = o; rest = rest; next = next; busy = doing-busy caller (pool_of events) e position registers o (stage.Filling i) added doing }
+    record { operation = o; rest = rest; next = next; busy = doing-busy caller events e position registers o (stage.Filling i) added doing }
 under-at caller events e position registers operations (stage.Summing i total) added not (o, rest, next, doing) =
-    record { operation = o; rest = rest; next = next; busy = doing-busy caller (pool_of events) e position registers o (stage.Summing i total) added doing }
+    record { operation = o; rest = rest; next = next; busy = doing-busy caller events e position registers o (stage.Summing i total) added doing }
+under-at caller events e position registers operations (stage.Copying old i word) added not (o, rest, next, doing) =
+    record { operation = o; rest = rest; next = next; busy = doing-busy caller events e position registers o (stage.Copying old i word) added doing }
+under-at caller events e position registers operations stage.Releasing added not (o, rest, next, doing) =
+    record { operation = o; rest = rest; next = next; busy = doing-busy caller events e position registers o stage.Releasing added doing }
 
 -- a list from one of its elements on
 pub next-op :

@@ -3,7 +3,6 @@ use Rattle.std.proofs.Common.{ℕ, ◌≡◌, ◌+◌, ◌%◌, ◌^◌, List, [
 use Rattle.heap_geometry.specs.declared.geometry.Geometry.{Geometry}
 use Rattle.heap_geometry.specs.declared.need.Need.{Need}
 use Rattle.pool_model.specs.declared.event.Event.{Event}
-use Rattle.pool_model.specs.Pool.{pool_of}
 use Rattle.errand_steps.specs.Errands.{ErrandFields}
 use Rattle.trace_text.specs.declared.trace.Op.{Op}
 use Rattle.trace_text.specs.declared.trace.Op.TheVariants as op
@@ -55,7 +54,7 @@ module _ {B : Type 0} (place_of : B → ℕ) (need_of : B → Need) (e f : Erran
 
   module _ (position : Position) (registers : List (Option Held)) (added : List Event) (told : Stepped B) (step : HasStepped place_of need_of e f before events told) where
     alloc-on_rest :
-        (r need v : ℕ) (at : Stage) → IsDoing e.caller (pool_of before) e.point position registers (op.Alloc r need v) at added
+        (r need v : ℕ) (at : Stage) → IsDoing e.caller before e.point position registers (op.Alloc r need v) at added
         → ((b : B) → told ≡ stepped.Given b → ⊥) → (told ≡ stepped.Refused → ⊥) → (told ≡ stepped.Spent → ⊥) → (told ≡ stepped.Wrote → ⊥) → IsOn told
     alloc-on_rest r need v stage.Calling doing one two three four =
         alloc-only added need told (told-of_alloc place_of need_of e f before events added need told step doing.3) one two three
@@ -64,9 +63,11 @@ module _ {B : Type 0} (place_of : B → ℕ) (need_of : B → Need) (e f : Erran
         (told-of_write place_of need_of e f before events [] doing.0.place doing.4.writing.need i ((v + i) % 2 ^ 64) told step doing.4.writing.under_way) four
     alloc-on_rest r need v stage.Between doing one two three four = absurd doing
     alloc-on_rest r need v (stage.Summing i total) doing one two three four = absurd doing
+    alloc-on_rest r need v (stage.Copying from i w) doing one two three four = absurd doing
+    alloc-on_rest r need v stage.Releasing doing one two three four = absurd doing
 
     fill-on_rest :
-        (r v : ℕ) (at : Stage) → IsDoing e.caller (pool_of before) e.point position registers (op.Fill r v) at added
+        (r v : ℕ) (at : Stage) → IsDoing e.caller before e.point position registers (op.Fill r v) at added
         → (told ≡ stepped.Wrote → ⊥) → IsOn told
     fill-on_rest r v (stage.Filling i) doing one =
         write-only [] doing.0.place doing.3.need i ((v + i) % 2 ^ 64) told
@@ -74,9 +75,11 @@ module _ {B : Type 0} (place_of : B → ℕ) (need_of : B → Need) (e f : Erran
     fill-on_rest r v stage.Calling doing one = absurd doing
     fill-on_rest r v stage.Between doing one = absurd doing
     fill-on_rest r v (stage.Summing i total) doing one = absurd doing
+    fill-on_rest r v (stage.Copying from i w) doing one = absurd doing
+    fill-on_rest r v stage.Releasing doing one = absurd doing
 
     free-on_rest :
-        (r : ℕ) (at : Stage) → IsDoing e.caller (pool_of before) e.point position registers (op.Free r) at added
+        (r : ℕ) (at : Stage) → IsDoing e.caller before e.point position registers (op.Free r) at added
         → (told ≡ stepped.Freed → ⊥) → IsOn told
     free-on_rest r stage.Calling doing one =
         free-only added doing.held.place doing.need told
@@ -84,9 +87,11 @@ module _ {B : Type 0} (place_of : B → ℕ) (need_of : B → Need) (e f : Erran
     free-on_rest r (stage.Filling i) doing one = absurd doing
     free-on_rest r stage.Between doing one = absurd doing
     free-on_rest r (stage.Summing i total) doing one = absurd doing
+    free-on_rest r (stage.Copying from i w) doing one = absurd doing
+    free-on_rest r stage.Releasing doing one = absurd doing
 
     check-on_rest :
-        (r : ℕ) (at : Stage) → IsDoing e.caller (pool_of before) e.point position registers (op.Check r) at added
+        (r : ℕ) (at : Stage) → IsDoing e.caller before e.point position registers (op.Check r) at added
         → ((word : ℕ) → told ≡ stepped.Word word → ⊥) → IsOn told
     check-on_rest r (stage.Summing i total) doing one =
         elim (read-only place_of need_of e f before events [] doing.0.place doing.3.need i told
@@ -97,9 +102,11 @@ module _ {B : Type 0} (place_of : B → ℕ) (need_of : B → Need) (e f : Erran
     check-on_rest r stage.Calling doing one = absurd doing
     check-on_rest r stage.Between doing one = absurd doing
     check-on_rest r (stage.Filling i) doing one = absurd doing
+    check-on_rest r (stage.Copying from i w) doing one = absurd doing
+    check-on_rest r stage.Releasing doing one = absurd doing
 
     put-on_rest :
-        (r shelf : ℕ) (at : Stage) → IsDoing e.caller (pool_of before) e.point position registers (op.Put r shelf) at added
+        (r shelf : ℕ) (at : Stage) → IsDoing e.caller before e.point position registers (op.Put r shelf) at added
         → (told ≡ stepped.Put → ⊥) → ((b : B) → told ≡ stepped.Full b → ⊥) → IsOn told
     put-on_rest r shelf stage.Calling doing one two =
         elim (put-only place_of need_of e f before events added doing.held.place doing.need shelf told
@@ -110,9 +117,11 @@ module _ {B : Type 0} (place_of : B → ℕ) (need_of : B → Need) (e f : Erran
     put-on_rest r shelf (stage.Filling i) doing one two = absurd doing
     put-on_rest r shelf stage.Between doing one two = absurd doing
     put-on_rest r shelf (stage.Summing i total) doing one two = absurd doing
+    put-on_rest r shelf (stage.Copying from i w) doing one two = absurd doing
+    put-on_rest r shelf stage.Releasing doing one two = absurd doing
 
     take-on_rest :
-        (r shelf : ℕ) (at : Stage) → IsDoing e.caller (pool_of before) e.point position registers (op.Take r shelf) at added
+        (r shelf : ℕ) (at : Stage) → IsDoing e.caller before e.point position registers (op.Take r shelf) at added
         → ((b : B) → told ≡ stepped.Got b → ⊥) → (told ≡ stepped.Empty → ⊥) → (told ≡ stepped.Missed → ⊥) → IsOn told
     take-on_rest r shelf stage.Calling doing one two three =
         elim (take-only place_of need_of e f before events added shelf told
@@ -126,13 +135,15 @@ module _ {B : Type 0} (place_of : B → ℕ) (need_of : B → Need) (e f : Erran
     take-on_rest r shelf (stage.Filling i) doing one two three = absurd doing
     take-on_rest r shelf stage.Between doing one two three = absurd doing
     take-on_rest r shelf (stage.Summing i total) doing one two three = absurd doing
+    take-on_rest r shelf (stage.Copying from i w) doing one two three = absurd doing
+    take-on_rest r shelf stage.Releasing doing one two three = absurd doing
 
 -- so the lane stays as it is
 module _ {B : Type 0} (place_of : B → ℕ) (need_of : B → Need) (g : Geometry) (events : List Event) (f : ErrandFields) (seen : List Event) (operations : List Op) (lane : LaneState B) (told : Stepped B) where
   abbrev Stays : Type 0
   Stays = HasGoneOn place_of need_of g events f None (IsAgain lane.caller seen events) operations lane lane
 
-  stays-so : (operation : Op) → IsTold place_of need_of g events f operation told seen operations lane → IsOn told → Stays
+  pub stays-so : (operation : Op) → IsTold place_of need_of g events f operation told seen operations lane → IsOn told → Stays
   stays-so operation t on =
       told-on place_of need_of g events f seen operations lane operation told t (IsAgain lane.caller seen events) lane (inl refl) on
       (record { caller = refl; blocks_are = refl; results_are = refl; at_is = refl; room = omega arith })

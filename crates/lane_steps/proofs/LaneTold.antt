@@ -6,7 +6,6 @@ use Rattle.heap_geometry.specs.declared.geometry.Geometry.{Geometry}
 use Rattle.heap_geometry.specs.declared.need.Need.{Need}
 use Rattle.pool_model.specs.declared.event.Event.{Event}
 use Rattle.pool_model.specs.Histories.{own}
-use Rattle.pool_model.specs.Pool.{pool_of}
 use Rattle.pool_model.proofs.HistoryLemmas.{legal-weaker}
 use Rattle.errand_steps.specs.Begins.{IsIdle, IsBusy}
 use Rattle.errand_steps.specs.Calls.{Call, begun_by}
@@ -36,12 +35,15 @@ use Rattle.lane_steps.proofs.ScriptLemmas.{left-rises, left-ends, script-stays}
 -- an operation that is under way has begun
 pub doing-begun :
     (caller : ℕ) (events : List Event) (e : ErrandFields) (position : Position) (registers : List (Option Held)) (operation : Op) (at : Stage)
-    (added : List Event) → IsDoing caller (pool_of events) e.point position registers operation at added → 0 < stage_begun at
+    (added : List Event) → IsDoing caller events e.point position registers operation at added → 0 < stage_begun at
 doing-begun caller events e position registers operation stage.Between added doing =
-    absurd (no-between caller (pool_of events) e.point position registers operation added doing)
+    absurd (no-between caller events e.point position registers operation added doing)
 doing-begun caller events e position registers operation stage.Calling added doing = omega arith
 doing-begun caller events e position registers operation (stage.Filling i) added doing = omega arith
 doing-begun caller events e position registers operation (stage.Summing i total) added doing = omega arith
+doing-begun caller events e position registers operation (stage.Copying old i None) added doing = omega arith
+doing-begun caller events e position registers operation (stage.Copying old i (Some word)) added doing = omega arith
+doing-begun caller events e position registers operation stage.Releasing added doing = omega arith
 
 -- the word behind, or none
 pub behind-some : (i words next : ℕ) → Some next ≡ behind i words → (next ≡ i + 1) × (i + 1 < words)
@@ -82,7 +84,7 @@ module _ {B : Type 0} (place_of : B → ℕ) (need_of : B → Need) (g : Geometr
 
   pub doing-here :
       (at : Stage) (is : lane.stage ≡ at)
-      → IsDoing t.e.caller (pool_of seen) t.e.point (stood-at at is).position registers operation at (stood-at at is).added
+      → IsDoing t.e.caller seen t.e.point (stood-at at is).position registers operation at (stood-at at is).added
   doing-here at is =
       let stood = stood-at at is in
       doing-at t.e.caller seen t.e stood.position registers (drop (length lane.outcomes.items) operations) t.next.0 operation at stood.added t.next.1 is-busy

@@ -9,7 +9,6 @@ use Rattle.heap_geometry.specs.declared.need.Need.{Need}
 use Rattle.heap_geometry.specs.Need.{usable_words}
 use Rattle.pool_model.specs.declared.event.Event.{Event}
 use Rattle.pool_model.specs.Calls as ended
-use Rattle.pool_model.specs.Pool.{pool_of}
 use Rattle.errand_steps.specs.Begins.{IsIdle}
 use Rattle.errand_steps.specs.Calls.{Call, write, begun_by}
 use Rattle.errand_steps.specs.Errands.{ErrandFields}
@@ -42,7 +41,7 @@ use Rattle.lane_steps.proofs.LaneTold.{behind-some, behind-none, heap, served-no
 -- an allocation that is given a block is at its first call; a word that is written is one of a fill
 module _ {B : Type 0} (place_of : B → ℕ) (block_need : B → Need) (e f : ErrandFields) (before events : List Event) (position : Position) (registers : List (Option Held)) (added : List Event) where
   is-given :
-      (r need v : ℕ) (block : B) (at : Stage) → IsDoing e.caller (pool_of before) e.point position registers (op.Alloc r need v) at added
+      (r need v : ℕ) (block : B) (at : Stage) → IsDoing e.caller before e.point position registers (op.Alloc r need v) at added
       → HasStepped place_of block_need e f before events (stepped.Given block)
       → EndsGiven e f need (place_of block) (block_need block) before events added
   is-given r need v block stage.Calling doing step =
@@ -51,22 +50,28 @@ module _ {B : Type 0} (place_of : B → ℕ) (block_need : B → Need) (e f : Er
   is-given r need v block (stage.Filling i) doing step =
       absurd (told-of_write place_of block_need e f before events [] doing.0.place doing.4.writing.need i ((v + i) % 2 ^ 64) (stepped.Given block) step doing.4.writing.under_way)
   is-given r need v block (stage.Summing i total) doing step = absurd doing
+  is-given r need v block (stage.Copying from i w) doing step = absurd doing
+  is-given r need v block stage.Releasing doing step = absurd doing
 
   alloc-fills :
-      (r need v : ℕ) (at : Stage) → IsDoing e.caller (pool_of before) e.point position registers (op.Alloc r need v) at added
+      (r need v : ℕ) (at : Stage) → IsDoing e.caller before e.point position registers (op.Alloc r need v) at added
       → HasStepped place_of block_need e f before events stepped.Wrote → (i : ℕ) × (at ≡ stage.Filling i)
   alloc-fills r need v stage.Calling doing step =
       absurd (told-of_alloc place_of block_need e f before events added need stepped.Wrote step doing.3)
   alloc-fills r need v stage.Between doing step = absurd doing
   alloc-fills r need v (stage.Filling i) doing step = (i, refl)
   alloc-fills r need v (stage.Summing i total) doing step = absurd doing
+  alloc-fills r need v (stage.Copying from i w) doing step = absurd doing
+  alloc-fills r need v stage.Releasing doing step = absurd doing
 
   fill-fills :
-      (r v : ℕ) (at : Stage) → IsDoing e.caller (pool_of before) e.point position registers (op.Fill r v) at added → (i : ℕ) × (at ≡ stage.Filling i)
+      (r v : ℕ) (at : Stage) → IsDoing e.caller before e.point position registers (op.Fill r v) at added → (i : ℕ) × (at ≡ stage.Filling i)
   fill-fills r v stage.Calling doing = absurd doing
   fill-fills r v stage.Between doing = absurd doing
   fill-fills r v (stage.Filling i) doing = (i, refl)
   fill-fills r v (stage.Summing i total) doing = absurd doing
+  fill-fills r v (stage.Copying from i w) doing = absurd doing
+  fill-fills r v stage.Releasing doing = absurd doing
 
   -- a write has ended
   is-written :
@@ -77,7 +82,7 @@ module _ {B : Type 0} (place_of : B → ℕ) (block_need : B → Need) (e f : Er
 
   -- the block in hand, in place of what the register holds of it
   given-by :
-      (r need v i : ℕ) (block : B) (doing : IsDoing e.caller (pool_of before) e.point position registers (op.Alloc r need v) (stage.Filling i) added)
+      (r need v i : ℕ) (block : B) (doing : IsDoing e.caller before e.point position registers (op.Alloc r need v) (stage.Filling i) added)
       → held_by place_of block_need block ≡ doing.0
       → (held_in position.registers r ≡ None) × (registers ≡ slice_set position.registers r (Some (held_by place_of block_need block))) × MayAsk position need
       × IsGivenAndFilling e.caller e.point (held_by place_of block_need block) need v i added

@@ -23,3 +23,9 @@ pub mod PartAdvances
 pub mod ScriptLemmas
 pub mod TurnLemmas
 pub mod MadeLemmas
+pub mod QuietLemmas
+pub mod ResizeLemmas
+pub mod ResizeScripts
+pub mod ResizeAnswers
+pub mod ResizeSays
+pub mod ResizeParts

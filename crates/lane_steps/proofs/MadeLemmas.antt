@@ -1,9 +1,9 @@
 -- Whole calls one after the other, and what they leave in the registers of their lane.
 use Rattle.std.proofs.Common.{ℕ, zero, suc, ◌≡◌, ◌≢◌, ◌<◌, ◌+◌, ◌%◌, ◌^◌, ◌∷◌, ◌++◌, List, [], Option, Some, None, length, map, drop, refl, sym, ap, ◌∙◌, subst, inl, inr, arith, append_assoc, append-nil, vec_capacity}
-use Rattle.std.specs.Prelude.{slice_set}
-use Rattle.std.specs.List.{range_with_len, slice_index_or}
+use Rattle.std.specs.Prelude.{min, slice_set}
+use Rattle.std.specs.List.{flat_map, range_with_len, slice_index_or}
 use Rattle.std.specs.Option.{option_map}
-use Rattle.std.proofs.lemmas.Bool.{cases_eq}
+use Rattle.std.proofs.lemmas.Bool.{cases_eq, cases_lt}
 use Rattle.std.proofs.lemmas.List.{get_or_default, length-append, length-set}
 use Rattle.std.proofs.Math.Seq.{drop-nil}
 use Rattle.heap_geometry.specs.declared.need.Need.{Need}
@@ -15,6 +15,8 @@ use Rattle.step_core.specs.Keeping.{Leaves}
 use Rattle.trace_text.specs.declared.trace.Op.{Op}
 use Rattle.trace_text.specs.declared.trace.Op.TheVariants as op
 use Rattle.call_events.specs.Made.{LeadsBy, Made, Sums, answered, found_from, wrote}
+use Rattle.lane_engine.specs.Whole.{Copies, copied, copied_word}
+use Rattle.lane_engine.proofs.CopyLemmas.{copied-past, copied-read}
 use Rattle.lane_outcomes.specs.declared.registers.Held.{Held}
 use Rattle.lane_outcomes.specs.declared.outcome.Outcome.{Outcome}
 use Rattle.lane_outcomes.specs.declared.outcome.Outcome.TheVariants as outcome
@@ -22,6 +24,7 @@ use Rattle.lane_outcomes.specs.Lane.{held_in, registers_after}
 use Rattle.lane_steps.specs.declared.lane.LaneState.{LaneState}
 use Rattle.lane_steps.specs.Advances.{IsNext}
 use Rattle.lane_steps.specs.Made.{AllMade, AreMisses, HasRun, HoldsBlocks, MadeFor, Makes, OneMade, Skips, Takes, register_of}
+use Rattle.lane_steps.specs.Operations.{IsUnasked}
 use Rattle.lane_steps.specs.declared.stage.Stage.TheVariants as stage
 use Rattle.lane_steps.specs.Paths.{held_by, held_blocks}
 use Rattle.lane_steps.specs.Scripts.{registers_from}
@@ -84,6 +87,31 @@ leave-wrote at place need v words = leave-writes at place need v (range_with_len
 pub leave-found : (at place : ℕ) (need : Need) (i : ℕ) (words : List ℕ) → AllLeave at (found_from place need i words)
 leave-found at place need i [] = tt
 leave-found at place need i (word ∷ words) = (tt, leave-found at place need (suc i) words)
+
+leave-append : (at : ℕ) (made more : List Made) → AllLeave at made → AllLeave at more → AllLeave at (made ++ more)
+leave-append at [] more leave rest = rest
+leave-append at (m ∷ made) more leave rest = (leave.0, leave-append at made more leave.1 rest)
+
+leave-word :
+    (at from : ℕ) (from_need : Need) (to : ℕ) (to_need : Need) (words : List ℕ) (i : ℕ) → AllLeave at (copied_word from from_need to to_need words i)
+leave-word at from from_need to to_need words i =
+    elim (cases_lt i (length words)) [
+      | inl inside ↦ subst (AllLeave at) (sym (copied-read from from_need to to_need words i inside)) (tt, (tt, tt))
+      | inr past ↦ subst (AllLeave at) (sym (copied-past from from_need to to_need words i past)) (tt, tt)
+    ]
+
+leave-words :
+    (at from : ℕ) (from_need : Need) (to : ℕ) (to_need : Need) (words is : List ℕ)
+    → AllLeave at (flat_map (copied_word from from_need to to_need words) is)
+leave-words at from from_need to to_need words [] = tt
+leave-words at from from_need to to_need words (i ∷ is) =
+    leave-append at (copied_word from from_need to to_need words i) (flat_map (copied_word from from_need to to_need words) is)
+    (leave-word at from from_need to to_need words i) (leave-words at from from_need to to_need words is)
+
+pub leave-copied :
+    (at from : ℕ) (from_need : Need) (to : ℕ) (to_need : Need) (words : List ℕ) (count : ℕ)
+    → AllLeave at (copied from from_need to to_need words count)
+leave-copied at from from_need to to_need words count = leave-words at from from_need to to_need words (range_with_len 0 count)
 
 pub leave-misses : (at shelf : ℕ) (misses : List Made) → AreMisses shelf misses → AllLeave at misses
 leave-misses at shelf [] are = tt
@@ -221,10 +249,12 @@ skip-for (Some held) (op.Free r) is = absurd is
 skip-for (Some held) (op.Fill r v) is = absurd is
 skip-for (Some held) (op.Check r) is = absurd is
 skip-for (Some held) (op.Put r shelf) is = absurd is
+skip-for (Some held) (op.Resize r need) is = absurd is
 skip-for None (op.Free r) is = (tt, refl)
 skip-for None (op.Fill r v) is = (tt, refl)
 skip-for None (op.Check r) is = (tt, refl)
 skip-for None (op.Put r shelf) is = (tt, refl)
+skip-for None (op.Resize r need) is = (tt, refl)
 skip-for None (op.Alloc r need v) is = absurd is
 skip-for None (op.Take r shelf) is = absurd is
 
@@ -235,6 +265,7 @@ skip-leaves registers (op.Fill r v) = refl
 skip-leaves registers (op.Check r) = refl
 skip-leaves registers (op.Put r shelf) = refl
 skip-leaves registers (op.Take r shelf) = refl
+skip-leaves registers (op.Resize r need) = refl
 
 -- an operation that was made, by what its code did
 module _ {B S : Type 0} (place_of : B → ℕ) (need_of_block : B → Need) (owns : S → ℕ → Need → Type 0) (called : S → Call → Reply → S → Type 0) (keeps : (s t : S) (call : Call) (answer : Reply) (place : ℕ) (need : Need) → called s call answer t → Leaves call place → owns s place need → owns t place need) (s t : S) (old new : LaneState B) (holds : HoldsBlocks place_of need_of_block (owns s) old.registers.items) where
@@ -462,6 +493,117 @@ module _ {B S : Type 0} (place_of : B → ℕ) (need_of_block : B → Need) (own
       (holds-filled place_of need_of_block (owns s) (owns t) old.registers.items r block holds
       (λ q k owned. leads-keep called owns keeps s t made q k leads (leave-takes q shelf misses answer are) owned) mine
       (λ q other differ there. apart (place_of other) (need_of_block other) (holds.owned q other there)))
+
+  -- a resize that finds no block, or gives none
+  pub made-unasked :
+      (r need : ℕ) (slot : Option B) (result : Outcome) → slice_index_or old.registers.items r None ≡ slot
+      → IsUnasked (option_map (held_by place_of need_of_block) slot) need (Some result) → Done old.registers.items result → s ≡ t
+      → Makes place_of need_of_block owns called (op.Resize r need) s t old new
+  made-unasked r need None result is unasked done same =
+      let skipped : result ≡ outcome.Skipped = let e : Some result ≡ Some outcome.Skipped = unasked in cc in
+      makes-of place_of need_of_block owns called s t old new (op.Resize r need) outcome.Skipped old.registers.items
+      (subst (Done old.registers.items) skipped done) (
+        [],
+        subst (λ h. MadeFor h (op.Resize r need) outcome.Skipped []) (sym (slot-empty place_of need_of_block old.registers.items r is)) (tt, refl),
+        sym same,
+      ) refl (subst (λ x. HoldsBlocks place_of need_of_block (owns x) old.registers.items) same holds)
+  made-unasked r need (Some block) result is (serves, kept) done same =
+      let held : Held = held_by place_of need_of_block block in
+      makes-of place_of need_of_block owns called s t old new (op.Resize r need) (outcome.Kept held.words held.place) old.registers.items
+      (subst (Done old.registers.items) kept done) (
+        [],
+        subst (λ h. MadeFor h (op.Resize r need) (outcome.Kept held.words held.place) [])
+            (sym (slot-full place_of need_of_block old.registers.items r block is)) (serves, refl, refl, refl),
+        sym same,
+      ) refl (subst (λ x. HoldsBlocks place_of need_of_block (owns x) old.registers.items) same holds)
+
+  pub made-unresized :
+      (r need : ℕ) (block : B) → slice_index_or old.registers.items r None ≡ Some block → need_of need ≢ need_of_block block
+      → Done old.registers.items outcome.Refused → called s (alloc need) reply.Refused t
+      → Makes place_of need_of_block owns called (op.Resize r need) s t old new
+  made-unresized r need block full other done one =
+      let made : List Made = answered (alloc need) reply.Refused ∷ [] in
+      makes-of place_of need_of_block owns called s t old new (op.Resize r need) outcome.Refused old.registers.items done (
+        made,
+        subst (λ h. MadeFor h (op.Resize r need) outcome.Refused made) (sym (slot-full place_of need_of_block old.registers.items r block full))
+            (other, refl),
+        (t, one, refl),
+      ) refl
+      (holds-still place_of need_of_block (owns s) (owns t) old.registers.items holds
+      (λ place n owned. keeps s t (alloc need) reply.Refused place n one tt owned))
+
+  pub made-respent :
+      (r need : ℕ) (block : B) → slice_index_or old.registers.items r None ≡ Some block → need_of need ≢ need_of_block block
+      → Done old.registers.items outcome.Spent → called s (alloc need) reply.Spent t
+      → Makes place_of need_of_block owns called (op.Resize r need) s t old new
+  made-respent r need block full other done one =
+      let made : List Made = answered (alloc need) reply.Spent ∷ [] in
+      makes-of place_of need_of_block owns called s t old new (op.Resize r need) outcome.Spent old.registers.items done (
+        made,
+        subst (λ h. MadeFor h (op.Resize r need) outcome.Spent made) (sym (slot-full place_of need_of_block old.registers.items r block full))
+            (other, refl),
+        (t, one, refl),
+      ) refl
+      (holds-still place_of need_of_block (owns s) (owns t) old.registers.items holds
+      (λ place n owned. keeps s t (alloc need) reply.Spent place n one tt owned))
+
+  -- the block's words are in the one that was given, and it is freed
+  pub made-resized :
+      (r need words place : ℕ) (was block : B) (m u : S) → slice_index_or old.registers.items r None ≡ Some was
+      → Done (slice_set (slice_set old.registers.items r None) r (Some block)) (outcome.Resized words place) → words ≡ usable_words (need_of_block block)
+      → place ≡ place_of block → need_of need ≢ need_of_block was → called s (alloc need) (reply.Given (place_of block) (need_of_block block)) m
+      → need_of_block block ≡ need_of need → owns m (place_of block) (need_of_block block)
+      → ((other : ℕ) (had : Need) → owns s other had → other ≢ place_of block)
+      → Copies called m (place_of was) (need_of_block was) (place_of block) (need_of_block block) u
+      → called u (free (place_of was) (need_of_block was)) reply.Freed t
+      → Makes place_of need_of_block owns called (op.Resize r need) s t old new
+  made-resized r need words place was block m u full done words_are place_is other one serves mine apart (found, all, leads) freed =
+      let blocks = old.registers.items in
+      let from : Held = held_by place_of need_of_block was in
+      let to : Held = held_by place_of need_of_block block in
+      let n = need_of_block block in
+      let result : Outcome = outcome.Resized to.words to.place in
+      let now = slice_set (slice_set blocks r None) r (Some block) in
+      let done_so : Done now result =
+      subst (λ w. Done now (outcome.Resized w to.place)) words_are (subst (λ p. Done now (outcome.Resized words p)) place_is done) in
+      let moves = copied from.place from.need to.place n found to.words in
+      let then : List Made = answered (free from.place from.need) reply.Freed ∷ [] in
+      let made : List Made = answered (alloc need) (reply.Given to.place n) ∷ moves ++ then in
+      let so : MadeFor (Some from) (op.Resize r need) result made =
+      subst
+      (λ (k : Need). MadeFor (Some from) (op.Resize r need) (outcome.Resized (usable_words k) to.place)
+      (answered (alloc need) (reply.Given to.place k) ∷ copied from.place from.need to.place k found (usable_words k) ++ then)) (sym serves)
+      (other, refl, refl, found, subst (λ (k : Need). length found ≡ min from.words (usable_words k)) serves all, refl) in
+      let differ : to.place ≢ from.place = λ e. apart from.place from.need (holds.owned r was full) (sym e) in
+      let later : (q : ℕ) (k : Need) → q ≢ from.place → owns m q k → owns t q k =
+      λ q k not owned.
+      keeps u t (free from.place from.need) reply.Freed q k freed not
+      (leads-keep called owns keeps m u moves q k leads (leave-copied q from.place from.need to.place n found to.words) owned) in
+      let emptied = holds-emptied place_of need_of_block (owns s) (owns t) blocks r was full holds
+      (λ q k not owned. later q k not (keeps s m (alloc need) (reply.Given to.place n) q k one tt owned)) in
+      makes-of place_of need_of_block owns called s t old new (op.Resize r need) result now done_so (
+        made,
+        subst (λ h. MadeFor h (op.Resize r need) result made) (sym (slot-full place_of need_of_block blocks r was full)) so,
+        (m, one, leads-then called m u t moves then leads (t, freed, refl)),
+      )
+      (ap (held_blocks place_of need_of_block) (set-twice blocks r None (Some block)) ∙ set-held place_of need_of_block blocks r (Some block)
+      ∙ ap (λ (k : Need). slice_set (held_blocks place_of need_of_block blocks) r (Some (record { place = to.place; words = to.words; need = k })))
+      serves)
+      (holds-filled place_of need_of_block (owns t) (owns t) (slice_set blocks r None) r block emptied (λ q k owned. owned)
+      (later to.place n differ mine)
+      (λ q another not there.
+      apart (place_of another) (need_of_block another)
+      (holds.owned q another (sym (set-other place_of need_of_block blocks r q None not) ∙ there))))
+
+-- a resize that asks for a block: its register holds one of another need
+pub asked-full :
+    {B : Type 0} (place_of : B → ℕ) (need_of_block : B → Need) (slot : Option B) (need : ℕ) (result : Option Outcome) → result ≡ None
+    → IsUnasked (option_map (held_by place_of need_of_block) slot) need result
+    → (block : B) × (slot ≡ Some block) × (need_of need ≢ need_of_block block)
+asked-full place_of need_of_block None need result none unasked =
+    absurd (let both : None ≡ Some outcome.Skipped = sym none ∙ unasked in cc)
+asked-full place_of need_of_block (Some block) need None none unasked = (block, refl, unasked)
+asked-full place_of need_of_block (Some block) need (Some result) none unasked = absurd (cc)
 
 -- an operation that is skipped
 pub made-skip :

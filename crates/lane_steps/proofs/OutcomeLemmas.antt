@@ -116,6 +116,8 @@ registers-size registers (op.Alloc r need v) (outcome.Given words place) =
     length-set registers r (Some (record { place = place; words = words; need = need_of need }))
 registers-size registers (op.Take r shelf) (outcome.Took words place need) =
     length-set registers r (Some (record { place = place; words = words; need = need }))
+registers-size registers (op.Resize r need) (outcome.Resized words place) =
+    length-set registers r (Some (record { place = place; words = words; need = need_of need }))
 registers-size registers (op.Free r) outcome.Freed = length-set registers r None
 registers-size registers (op.Put r shelf) outcome.Put = length-set registers r None
 registers-size registers operation result = refl

@@ -128,6 +128,12 @@ begun-of before registers operations rest operation (stage.Filling next_word) pr
 begun-of before registers operations rest operation (stage.Summing next_word total) present next under begun =
     let same : begun.0 ≡ operation = let e : begun.0 ∷ begun.1 ≡ operation ∷ rest = sym begun.2 ∙ next in cc in
     subst (λ o. BegunOf before registers o (stage.Summing next_word total) present) same begun.3
+begun-of before registers operations rest operation (stage.Copying old next_word word) present next under begun =
+    let same : begun.0 ≡ operation = let e : begun.0 ∷ begun.1 ≡ operation ∷ rest = sym begun.2 ∙ next in cc in
+    subst (λ o. BegunOf before registers o (stage.Copying old next_word word) present) same begun.3
+begun-of before registers operations rest operation stage.Releasing present next under begun =
+    let same : begun.0 ≡ operation = let e : begun.0 ∷ begun.1 ≡ operation ∷ rest = sym begun.2 ∙ next in cc in
+    subst (λ o. BegunOf before registers o stage.Releasing present) same begun.3
 
 begun-in :
     (before registers : List (Option Held)) (operations rest : List Op) (operation : Op) (at : Stage) (present : List Call)
@@ -136,6 +142,8 @@ begun-in before registers operations rest operation stage.Between present next u
 begun-in before registers operations rest operation stage.Calling present next under begun = (operation, rest, next, begun)
 begun-in before registers operations rest operation (stage.Filling next_word) present next under begun = (operation, rest, next, begun)
 begun-in before registers operations rest operation (stage.Summing next_word total) present next under begun = (operation, rest, next, begun)
+begun-in before registers operations rest operation (stage.Copying old next_word word) present next under begun = (operation, rest, next, begun)
+begun-in before registers operations rest operation stage.Releasing present next under begun = (operation, rest, next, begun)
 
 -- what the operation at hand has begun so far; before it begins nothing
 abbrev pub BegunSoFar : List (Option Held) → List (Option Held) → Op → Stage → List Call → Type 0
@@ -152,6 +160,10 @@ so-far-of before registers operations rest operation (stage.Filling next_word) p
     begun-of before registers operations rest operation (stage.Filling next_word) present next tt begun
 so-far-of before registers operations rest operation (stage.Summing next_word total) present next begun =
     begun-of before registers operations rest operation (stage.Summing next_word total) present next tt begun
+so-far-of before registers operations rest operation (stage.Copying old next_word word) present next begun =
+    begun-of before registers operations rest operation (stage.Copying old next_word word) present next tt begun
+so-far-of before registers operations rest operation stage.Releasing present next begun =
+    begun-of before registers operations rest operation stage.Releasing present next tt begun
 
 -- the operation begins, or goes on with more calls
 pub script-changes :
@@ -272,6 +284,7 @@ skipped-calls before (op.Fill r v) calls none = none
 skipped-calls before (op.Check r) calls none = none
 skipped-calls before (op.Put r shelf) calls none = none
 skipped-calls before (op.Take r shelf) calls none = none
+skipped-calls before (op.Resize r need) calls none = none
 
 pub script-skips :
     (operations : List Op) (results : List Outcome) (operation : Op) (before registers after : List (Option Held)) (calls : List Call)

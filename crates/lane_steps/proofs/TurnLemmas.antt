@@ -1,5 +1,5 @@
 -- How many small allocations of a lane were answered, and where it has no turn left.
-use Rattle.std.proofs.Common.{ℕ, zero, suc, Bool, true, false, eqb, ◌≡◌, ◌≤◌, ◌+◌, ◌%◌, ◌^◌, ◌&&◌, ◌∷◌, ◌++◌, List, [], Option, Some, None, append-nil, refl, sym, ap, ◌∙◌, subst, inl, inr, arith}
+use Rattle.std.proofs.Common.{ℕ, zero, suc, Bool, true, false, eqb, ◌≡◌, ◌≢◌, ◌≤◌, ◌+◌, ◌%◌, ◌^◌, ◌&&◌, ◌∷◌, ◌++◌, List, [], Option, Some, None, append-nil, refl, sym, ap, ◌∙◌, subst, inl, inr, arith}
 use Rattle.std.specs.Prelude.{count_by, if◌then◌else◌, nat_le}
 use Rattle.std.proofs.lemmas.Bool.{cases_Bool, true≢false, eq-eqb}
 use Rattle.std.proofs.lemmas.List.Sums.{sum_by-append, sum_by-cons}
@@ -26,10 +26,10 @@ use Rattle.trace_text.specs.declared.trace.Op.TheVariants as op
 use Rattle.lane_outcomes.specs.declared.registers.Held.{Held}
 use Rattle.lane_outcomes.specs.declared.outcome.Outcome.{Outcome}
 use Rattle.lane_outcomes.specs.declared.outcome.Outcome.TheVariants as outcome
-use Rattle.lane_outcomes.specs.Lane.{Position, answered_after, filling, held_in, is_small}
-use Rattle.lane_outcomes.specs.Rows.{AllocRow, CheckRow, FillRow, FitsRow, FreeRow, IsSpent, MayAsk, Moment, PutRow, Setting, TakeRow, gives_another_small}
+use Rattle.lane_outcomes.specs.Lane.{Position, answered_after, filling, held_in, is_small, writing}
+use Rattle.lane_outcomes.specs.Rows.{AllocRow, CheckRow, FillRow, FitsRow, FreeRow, IsSpent, MayAsk, Moment, PutRow, ResizeRow, Setting, TakeRow, gives_another_small}
 use Rattle.lane_outcomes.specs.Standing.{setting_in}
-use Rattle.lane_outcomes.proofs.FillLemmas.{writes}
+use Rattle.lane_outcomes.proofs.FillLemmas.{writes_of}
 
 -- how many small allocations of a caller were given a block or refused
 abbrev pub answered_in : ℕ → List Event → ℕ
@@ -58,11 +58,11 @@ looks-none : (caller by class count : ℕ) → answered_in caller (looks by clas
 looks-none caller by class zero = refl
 looks-none caller by class (suc count) = answered-cons caller (Looked by class) (looks by class count) ∙ ap (λ n. 0 + n) (looks-none caller by class count)
 
-writes-none : (caller count first by place v : ℕ) → answered_in caller (writes by place v first count) ≡ 0
-writes-none caller zero first by place v = refl
-writes-none caller (suc count) first by place v =
-    answered-cons caller (Write by place first ((v + first) % 2 ^ 64)) (writes by place v (first + 1) count)
-    ∙ ap (λ n. 0 + n) (writes-none caller count (first + 1) by place v)
+writes-none : (caller count first by place : ℕ) (value : ℕ → ℕ) → answered_in caller (writes_of by place value first count) ≡ 0
+writes-none caller zero first by place value = refl
+writes-none caller (suc count) first by place value =
+    answered-cons caller (Write by place first (value first)) (writes_of by place value (first + 1) count)
+    ∙ ap (λ n. 0 + n) (writes-none caller count (first + 1) by place value)
 
 -- which needs are small
 small-need : (need : ℕ) → is_small (need_of need) ≡ nat_le need SMALL_MOST
@@ -143,7 +143,7 @@ alloc-answered setting position r need v (Some held) outcome.Skipped piece row s
 alloc-answered setting position r need v None (outcome.Given words place) piece row so_far =
     let caller = setting.caller in
     let gives = giving-count caller need place (need_of need) row.2 row.3 in
-    let fills = writes-none caller words 0 caller place v in
+    let fills = writes-none caller words 0 caller place (λ i. (v + i) % 2 ^ 64) in
     let all = answered-append caller row.2 (filling caller place words v) in
     let count : answered_in caller piece ≡ one_if (nat_le need SMALL_MOST) = ap (answered_in caller) row.4 ∙ omega arith in
     ap (λ b. if b then suc position.answered else position.answered) (small-need need) ∙ counted (nat_le need SMALL_MOST) position.answered
@@ -174,7 +174,7 @@ fill-answered setting position r v None outcome.Skipped piece row so_far =
     piece-none setting.caller position.done piece position.answered so_far (ap (answered_in setting.caller) row)
 fill-answered setting position r v (Some held) outcome.Filled piece row so_far =
     piece-none setting.caller position.done piece position.answered so_far
-    (ap (answered_in setting.caller) row ∙ writes-none setting.caller held.words 0 setting.caller held.place v)
+    (ap (answered_in setting.caller) row ∙ writes-none setting.caller held.words 0 setting.caller held.place (λ i. (v + i) % 2 ^ 64))
 fill-answered setting position r v held result piece row so_far = absurd row
 
 check-answered :
@@ -211,6 +211,34 @@ take-answered setting position r shelf None (outcome.Took words place need) piec
     piece-none setting.caller position.done piece position.answered so_far (ap (answered_in setting.caller) row.0)
 take-answered setting position r shelf held result piece row so_far = absurd row
 
+resize-answered :
+    (setting : Setting) (position : Position) (r need : ℕ) (held : Option Held) (result : Outcome) (piece : List Event)
+    → ResizeRow setting position need held result piece → position.answered ≡ answered_in setting.caller position.done
+    → answered_after position.answered (op.Resize r need) result ≡ answered_in setting.caller (position.done ++ piece)
+resize-answered setting position r need None outcome.Skipped piece row so_far =
+    piece-none setting.caller position.done piece position.answered so_far (ap (answered_in setting.caller) row)
+resize-answered setting position r need (Some held) (outcome.Kept words place) piece row so_far =
+    piece-none setting.caller position.done piece position.answered so_far (ap (answered_in setting.caller) row.0)
+resize-answered setting position r need (Some held) (outcome.Resized words place) piece row so_far =
+    let caller = setting.caller in
+    let copies = writing caller place words row.5 in
+    let frees : List Event = Free caller held.place ∷ [] in
+    let gives = giving-count caller need place (need_of need) row.3 row.4 in
+    let writes = writes-none caller words 0 caller place row.5 in
+    let made = answered-append caller row.3 copies in
+    let all : answered_in caller (row.3 ++ copies ++ frees) ≡ answered_in caller (row.3 ++ copies) + 0 = answered-append caller (row.3 ++ copies) frees in
+    let pieces : answered_in caller (row.3 ++ copies ++ frees) ≡ one_if (nat_le need SMALL_MOST) = omega arith in
+    let count : answered_in caller piece ≡ one_if (nat_le need SMALL_MOST) = ap (answered_in caller) row.7 ∙ pieces in
+    ap (λ b. if b then suc position.answered else position.answered) (small-need need) ∙ counted (nat_le need SMALL_MOST) position.answered
+    ∙ piece-count caller position.done piece position.answered (one_if (nat_le need SMALL_MOST)) so_far count
+resize-answered setting position r need (Some held) outcome.Refused piece row so_far =
+    ap (λ b. if b then suc position.answered else position.answered) (small-need need) ∙ counted (nat_le need SMALL_MOST) position.answered
+    ∙ piece-count setting.caller position.done piece position.answered (one_if (nat_le need SMALL_MOST)) so_far
+    (refusing-count setting.caller need (need_of need) piece row.2)
+resize-answered setting position r need (Some held) outcome.Spent piece row so_far =
+    piece-none setting.caller position.done piece position.answered so_far (spent-count setting position need piece position.spent row.1)
+resize-answered setting position r need held result piece row so_far = absurd row
+
 -- one operation more
 pub answered-row :
     (setting : Setting) (position : Position) (operation : Op) (result : Outcome) (piece : List Event) → FitsRow setting position operation result piece
@@ -222,6 +250,7 @@ answered-row setting position (op.Fill r v) result piece row so_far = fill-answe
 answered-row setting position (op.Check r) result piece row so_far = check-answered setting position r (held_in position.registers r) result piece row so_far
 answered-row setting position (op.Put r shelf) result piece row so_far = put-answered setting position r shelf (held_in position.registers r) result piece row so_far
 answered-row setting position (op.Take r shelf) result piece row so_far = take-answered setting position r shelf (held_in position.registers r) result piece row so_far
+answered-row setting position (op.Resize r need) result piece row so_far = resize-answered setting position r need (held_in position.registers r) result piece row so_far
 
 -- an event of another caller's is no answer to this one
 others-answer : (caller : ℕ) (event : Event) → eqb (caller_of event) caller ≡ false → answers caller event ≡ 0
@@ -295,13 +324,12 @@ spending-small caller (Small class) piece spending = refl
 spending-small caller (Large units) piece spending = absurd spending
 spending-small caller TooLarge piece spending = absurd spending
 
-pub spent-row :
-    (g : Geometry) (caller : ℕ) (after : List Event) (f : ErrandFields) (position : Position) (r need v : ℕ) (piece : List Event)
+pub is-spent :
+    (g : Geometry) (caller : ℕ) (after : List Event) (f : ErrandFields) (position : Position) (need : ℕ) (piece : List Event)
     → IsServed g caller f after → IsIdle f → f.turns ≡ g.turn_limit → own caller after ≡ position.done ++ piece
     → position.answered ≡ answered_in caller position.done → EventsOf caller (alloc_spent need) piece → (position.spent ≡ true → piece ≡ [])
-    → held_in position.registers r ≡ None
-    → FitsRow (setting_in after caller g.turn_limit f.lost) position (op.Alloc r need v) outcome.Spent piece
-spent-row g caller after f position r need v piece served idle limit own_is answered events none empty =
+    → IsSpent (setting_in after caller g.turn_limit f.lost) position need piece position.spent
+is-spent g caller after f position need piece served idle limit own_is answered events none =
     let stage = point-answered f.point idle in
     let seen = answered-own caller after in
     let told : answered_in caller (own caller after) ≡ answered_in caller (position.done ++ piece) = ap (answered_in caller) own_is in
@@ -314,8 +342,29 @@ spent-row g caller after f position r need v piece served idle limit own_is answ
     let given : g.turn_limit ≤ position.answered + count_by (gives_another_small caller) after = omega arith in
     let moment : Moment (setting_in after caller g.turn_limit f.lost) (position.done ++ piece) =
     record { before = after; begins = ([], sym (append-nil after)); own_done = own_is } in
+    spent-rows (setting_in after caller g.turn_limit f.lost) position need piece position.spent events (spending-small caller (need_of need) piece events)
+    none few moment given
+
+pub spent-row :
+    (g : Geometry) (caller : ℕ) (after : List Event) (f : ErrandFields) (position : Position) (r need v : ℕ) (piece : List Event)
+    → IsServed g caller f after → IsIdle f → f.turns ≡ g.turn_limit → own caller after ≡ position.done ++ piece
+    → position.answered ≡ answered_in caller position.done → EventsOf caller (alloc_spent need) piece → (position.spent ≡ true → piece ≡ [])
+    → held_in position.registers r ≡ None
+    → FitsRow (setting_in after caller g.turn_limit f.lost) position (op.Alloc r need v) outcome.Spent piece
+spent-row g caller after f position r need v piece served idle limit own_is answered events none empty =
     subst (λ h. AllocRow (setting_in after caller g.turn_limit f.lost) position need v h outcome.Spent piece) (sym empty)
-    (spent-rows (setting_in after caller g.turn_limit f.lost) position need piece position.spent events (spending-small caller (need_of need) piece events) none few moment given)
+    (is-spent g caller after f position need piece served idle limit own_is answered events none)
+
+-- so does a resize to another need
+pub resize-spent_row :
+    (g : Geometry) (caller : ℕ) (after : List Event) (f : ErrandFields) (position : Position) (r need : ℕ) (held : Held) (piece : List Event)
+    → IsServed g caller f after → IsIdle f → f.turns ≡ g.turn_limit → own caller after ≡ position.done ++ piece
+    → position.answered ≡ answered_in caller position.done → EventsOf caller (alloc_spent need) piece → (position.spent ≡ true → piece ≡ [])
+    → held_in position.registers r ≡ Some held → need_of need ≢ held.need
+    → FitsRow (setting_in after caller g.turn_limit f.lost) position (op.Resize r need) outcome.Spent piece
+resize-spent_row g caller after f position r need held piece served idle limit own_is answered events none full differ =
+    subst (λ h. ResizeRow (setting_in after caller g.turn_limit f.lost) position need h outcome.Spent piece) (sym full)
+    (differ, is-spent g caller after f position need piece served idle limit own_is answered events none)
 
 -- a lane that is spent is answered so: so an allocation that starts may ask
 started-asks :

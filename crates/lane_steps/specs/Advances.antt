@@ -38,6 +38,7 @@ behind next words = if nat_lt (next + 1) words then Some (next + 1) else None
 abbrev pub word_behind : Stage → ℕ → Option ℕ
 word_behind (stage.Filling next) words = behind next words
 word_behind (stage.Summing next total) words = behind next words
+word_behind (stage.Copying old next word) words = behind next words
 word_behind at words = None
 
 -- the sum of the words so far, with one more

@@ -23,7 +23,7 @@ abbrev pub IsAt : ℕ → List Event → ErrandFields → Position → List (Opt
 IsAt caller events e position registers operations stage.Between added = IsIdle e × (registers ≡ position.registers) × (added ≡ [])
 IsAt caller events e position registers operations stage added =
     (operation : Op) × (rest : List Op) × (operations ≡ operation ∷ rest)
-    × IsDoing caller (pool_of events) e.point position registers operation stage added
+    × IsDoing caller events e.point position registers operation stage added
 
 -- a lane of these operations has these outcomes so far, and these registers, and is at this stage; its caller has this errand, and these events are seen: the outcomes walk the first operations, and what the caller has added beyond them belongs to the operation under way
 pub record IsLane (g : Geometry) (caller : ℕ) (events : List Event) (e : ErrandFields) (operations : List Op) (registers : List (Option Held)) (results : List Outcome) (at : Stage) : Type 0 where

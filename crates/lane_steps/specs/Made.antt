@@ -1,5 +1,5 @@
 -- The whole calls that a lane has made: those of its operations with their outcomes, in the script's order, each with its answer.
-use Rattle.std.specs.Prelude.{ℕ, ◌≡◌, ◌≢◌, ◌%◌, ◌^◌, ◌∷◌, ◌++◌, List, [], Option, Some, None, map, sum, length, drop, vec_capacity}
+use Rattle.std.specs.Prelude.{ℕ, ◌≡◌, ◌≢◌, ◌%◌, ◌^◌, ◌∷◌, ◌++◌, List, [], Option, Some, None, map, sum, length, min, drop, vec_capacity}
 use Rattle.std.specs.List.{slice_index_or}
 use Rattle.heap_geometry.specs.declared.need.Need.{Need}
 use Rattle.heap_geometry.specs.Need.{need_of, usable_words}
@@ -10,6 +10,7 @@ use Rattle.trace_text.specs.declared.limits.TheConstants.{REGISTERS}
 use Rattle.trace_text.specs.declared.trace.Op.{Op}
 use Rattle.trace_text.specs.declared.trace.Op.TheVariants as op
 use Rattle.call_events.specs.Made.{LeadsBy, Made, answered, found_from, wrote}
+use Rattle.lane_engine.specs.Whole.{copied}
 use Rattle.lane_outcomes.specs.declared.registers.Held.{Held}
 use Rattle.lane_outcomes.specs.declared.outcome.Outcome.{Outcome}
 use Rattle.lane_outcomes.specs.declared.outcome.Outcome.TheVariants as outcome
@@ -42,6 +43,7 @@ Skips None (op.Free r) = Unit {0}
 Skips None (op.Fill r v) = Unit {0}
 Skips None (op.Check r) = Unit {0}
 Skips None (op.Put r shelf) = Unit {0}
+Skips None (op.Resize r need) = Unit {0}
 Skips register operation = ⊥
 
 -- the register that an operation is on
@@ -52,6 +54,7 @@ register_of (op.Fill r v) = r
 register_of (op.Check r) = r
 register_of (op.Put r shelf) = r
 register_of (op.Take r shelf) = r
+register_of (op.Resize r need) = r
 
 -- the whole calls of an operation with its outcome, where its register held this
 abbrev pub MadeFor : Option Held → Op → Outcome → List Made → Type 0
@@ -73,6 +76,18 @@ MadeFor None (op.Take r shelf) (outcome.Took words place need) made =
     × (made ≡ misses ++ answered (take shelf) (reply.Got place need) ∷ [])
 MadeFor None (op.Take r shelf) outcome.ShelfEmpty made =
     (misses : List Made) × AreMisses shelf misses × (made ≡ misses ++ answered (take shelf) reply.Empty ∷ [])
+MadeFor (Some held) (op.Resize r need) (outcome.Kept words place) made =
+    (need_of need ≡ held.need) × (words ≡ held.words) × (place ≡ held.place) × (made ≡ [])
+MadeFor (Some held) (op.Resize r need) (outcome.Resized words place) made =
+    (need_of need ≢ held.need) × (words ≡ usable_words (need_of need)) × (held.words ≡ usable_words held.need)
+    × (read : List ℕ) × (length read ≡ min held.words words)
+    × (made
+    ≡ answered (alloc need) (reply.Given place (need_of need))
+    ∷ copied held.place held.need place (need_of need) read words ++ answered (free held.place held.need) reply.Freed ∷ [])
+MadeFor (Some held) (op.Resize r need) outcome.Refused made =
+    (need_of need ≢ held.need) × (made ≡ answered (alloc need) reply.Refused ∷ [])
+MadeFor (Some held) (op.Resize r need) outcome.Spent made =
+    (need_of need ≢ held.need) × (made ≡ answered (alloc need) reply.Spent ∷ [])
 MadeFor held operation result made = ⊥
 
 module _ {S : Type 0} (called : S → Call → Reply → S → Type 0) where

@@ -1,19 +1,23 @@
 -- How far an operation of a lane is: its call under way, the events that it has added so far, and what the registers hold meanwhile.
-use Rattle.std.specs.Prelude.{ℕ, ◌≡◌, ◌≢◌, ◌<◌, ◌+◌, ◌%◌, ◌^◌, List, [], ◌++◌, Option, Some, None, length, sum, take, slice_set}
+use Rattle.std.specs.Prelude.{ℕ, ◌≡◌, ◌≢◌, ◌<◌, ◌+◌, ◌%◌, ◌^◌, List, [], ◌++◌, Option, Some, None, length, min, sum, take, slice_set}
 use Rattle.std.specs.List.{slice_index_or}
 use Rattle.heap_geometry.specs.declared.need.Need.{Need}
 use Rattle.heap_geometry.specs.Need.{IsNeed, need_of, usable_words}
 use Rattle.pool_model.specs.declared.event.Event.{Event}
 use Rattle.pool_model.specs.Calls.{IsGiving}
-use Rattle.pool_model.specs.Pool.{Block, Pool, block_at}
+use Rattle.pool_model.specs.Histories.{own, Begins}
+use Rattle.pool_model.specs.Pool.{Block, Pool, block_at, pool_of}
 use Rattle.errand_steps.specs.declared.point.Point.{Point}
 use Rattle.errand_steps.specs.Calls as call
 use Rattle.call_events.specs.UnderWay.{IsUnderWay}
 use Rattle.trace_text.specs.declared.trace.Op.{Op}
 use Rattle.trace_text.specs.declared.trace.Op.TheVariants as op
 use Rattle.lane_outcomes.specs.declared.registers.Held.{Held}
-use Rattle.lane_outcomes.specs.Lane.{Position, held_in, filling}
+use Rattle.lane_outcomes.specs.declared.outcome.Outcome.{Outcome}
+use Rattle.lane_outcomes.specs.declared.outcome.Outcome.TheVariants as outcome
+use Rattle.lane_outcomes.specs.Lane.{Position, held_in, filling, writing}
 use Rattle.lane_outcomes.specs.Rows.{IsWord, MayAsk}
+use Rattle.lane_outcomes.specs.Standing.{OwnsHeld}
 use Rattle.lane_steps.specs.declared.stage.Stage.{Stage}
 use Rattle.lane_steps.specs.declared.stage.Stage.TheVariants as stage
 
@@ -59,23 +63,106 @@ pub record IsGivingAway (caller : ℕ) (point : Point) (before registers : List 
   pub serves : Serves held need
   pub under_way : IsUnderWay caller (call_of held.place need) point added
 
--- an operation is under way in a lane that stood so when it began: this is its stage, these are the events that it has added, and this is what the registers hold meanwhile; the events seen leave this pool
-abbrev pub IsDoing : ℕ → Pool → Point → Position → List (Option Held) → Op → Stage → List Event → Type 0
-IsDoing caller pool point position registers (op.Alloc r need v) stage.Calling added =
+-- the lane held this block when its own events were these
+pub record WasHeld (caller : ℕ) (events done : List Event) (held : Held) : Type 0 where
+  pub before : List Event
+  pub begins : Begins before events
+  pub own_done : own caller before ≡ done
+  pub had : OwnsHeld (pool_of before) caller held
+
+-- the outcome of a resize that asks for no block: its register is empty, or the block there serves the need
+abbrev pub IsUnasked : Option Held → ℕ → Option Outcome → Type 0
+IsUnasked None need result = result ≡ Some outcome.Skipped
+IsUnasked (Some held) need None = need_of need ≢ held.need
+IsUnasked (Some held) need (Some result) = (need_of need ≡ held.need) × (result ≡ outcome.Kept held.words held.place)
+
+-- a resize asks for its new block; the old one stays in its register, and is as it was when the operation began
+pub record IsAsking (caller : ℕ) (events : List Event) (point : Point) (position : Position) (registers : List (Option Held)) (r need : ℕ) (added : List Event) : Type 0 where
+  pub old : Held
+  pub same : registers ≡ position.registers
+  pub was : held_in registers r ≡ Some old
+  pub serves : Serves old old.need
+  pub other_need : need_of need ≢ old.need
+  pub asks : MayAsk position need
+  pub was_held : WasHeld caller events position.done old
+  pub still : block_at old.place (pool_of events) ≡ Some was_held.had.block
+  pub under_way : IsUnderWay caller (call.alloc need) point added
+
+-- a resize has its new block in the register, and its old one in none; these first words of the old block were read, in their order, each as the block
+-- held it when the operation began; and `count` words are written
+pub record IsReplacing (caller : ℕ) (events : List Event) (position : Position) (registers : List (Option Held)) (r need : ℕ) (old new : Held) (copied : List ℕ) (count : ℕ) (added : List Event) : Type 0 where
+  pub was : held_in position.registers r ≡ Some old
+  pub other_need : need_of need ≢ old.need
+  pub asks : MayAsk position need
+  pub serves : Serves old old.need
+  pub new_serves : Serves new (need_of need)
+  pub replaced : registers ≡ slice_set position.registers r (Some new)
+  pub apart : (q : ℕ) (other : Held) → held_in registers q ≡ Some other → other.place ≢ old.place
+  pub was_held : WasHeld caller events position.done old
+  pub each : (i : ℕ) → i < length copied → IsWord (slice_index_or was_held.had.block.contents i None) (slice_index_or copied i 0)
+  pub given : List Event
+  pub giving : IsGiving caller need new.place (need_of need) given
+  pub so_far : added ≡ given ++ writing caller new.place count (λ i. slice_index_or copied i 0)
+
+-- it copies word `next`: the read of it is under way
+pub record IsCopyingFrom (caller : ℕ) (events : List Event) (point : Point) (position : Position) (registers : List (Option Held)) (r need : ℕ) (old : Held) (next : ℕ) (added : List Event) : Type 0 where
+  pub new : Held
+  pub copied : List ℕ
+  pub replacing : IsReplacing caller events position registers r need old new copied next added
+  pub still : block_at old.place (pool_of events) ≡ Some replacing.was_held.had.block
+  pub all : length copied ≡ next
+  pub inside : next < old.words
+  pub within : next < new.words
+  pub under_way : IsUnderWay caller (call.read old.place old.need next) point []
+
+-- or the write of this word, 0 behind the old block's end
+pub record IsCopyingTo (caller : ℕ) (events : List Event) (point : Point) (position : Position) (registers : List (Option Held)) (r need : ℕ) (old : Held) (next word : ℕ) (added : List Event) : Type 0 where
+  pub new : Held
+  pub copied : List ℕ
+  pub replacing : IsReplacing caller events position registers r need old new copied next added
+  pub still : block_at old.place (pool_of events) ≡ Some replacing.was_held.had.block
+  pub all : length copied ≡ min old.words (next + 1)
+  pub within : next < new.words
+  pub word_is : word ≡ slice_index_or copied next 0
+  pub under_way : IsUnderWay caller (call.write new.place (need_of need) next word) point []
+
+-- all words are copied, and the free of the old block is under way
+pub record IsReleasing (caller : ℕ) (events : List Event) (point : Point) (position : Position) (registers : List (Option Held)) (r need : ℕ) (added : List Event) : Type 0 where
+  pub old : Held
+  pub new : Held
+  pub copied : List ℕ
+  pub copies : List Event
+  pub replacing : IsReplacing caller events position registers r need old new copied new.words copies
+  pub all : length copied ≡ min old.words new.words
+  pub part : List Event
+  pub under_way : IsUnderWay caller (call.free old.place old.need) point part
+  pub so_far : added ≡ copies ++ part
+
+-- an operation is under way in a lane that stood so when it began: this is its stage, these are the events that it has added, and this is what the registers hold meanwhile; these events are seen
+abbrev pub IsDoing : ℕ → List Event → Point → Position → List (Option Held) → Op → Stage → List Event → Type 0
+IsDoing caller events point position registers (op.Alloc r need v) stage.Calling added =
     (registers ≡ position.registers) × (held_in registers r ≡ None) × MayAsk position need × IsUnderWay caller (call.alloc need) point added
-IsDoing caller pool point position registers (op.Alloc r need v) (stage.Filling next) added =
+IsDoing caller events point position registers (op.Alloc r need v) (stage.Filling next) added =
     (held : Held) × (held_in position.registers r ≡ None) × (registers ≡ slice_set position.registers r (Some held)) × MayAsk position need
     × IsGivenAndFilling caller point held need v next added
-IsDoing caller pool point position registers (op.Free r) stage.Calling added =
+IsDoing caller events point position registers (op.Free r) stage.Calling added =
     IsGivingAway caller point position.registers registers r (λ place need. call.free place need) added
-IsDoing caller pool point position registers (op.Fill r v) (stage.Filling next) added =
+IsDoing caller events point position registers (op.Fill r v) (stage.Filling next) added =
     (held : Held) × (registers ≡ position.registers) × (held_in registers r ≡ Some held) × IsWriting caller point held next v
     × (added ≡ take next (filling caller held.place held.words v))
-IsDoing caller pool point position registers (op.Check r) (stage.Summing next total) added =
-    (held : Held) × (registers ≡ position.registers) × (held_in registers r ≡ Some held) × IsSumming caller point pool held next total
+IsDoing caller events point position registers (op.Check r) (stage.Summing next total) added =
+    (held : Held) × (registers ≡ position.registers) × (held_in registers r ≡ Some held) × IsSumming caller point (pool_of events) held next total
     × (added ≡ [])
-IsDoing caller pool point position registers (op.Put r shelf) stage.Calling added =
+IsDoing caller events point position registers (op.Put r shelf) stage.Calling added =
     IsGivingAway caller point position.registers registers r (λ place need. call.put place need shelf) added
-IsDoing caller pool point position registers (op.Take r shelf) stage.Calling added =
+IsDoing caller events point position registers (op.Take r shelf) stage.Calling added =
     (registers ≡ position.registers) × (held_in registers r ≡ None) × IsUnderWay caller (call.take shelf) point added
-IsDoing caller pool point position registers operation stage added = ⊥
+IsDoing caller events point position registers (op.Resize r need) stage.Calling added =
+    IsAsking caller events point position registers r need added
+IsDoing caller events point position registers (op.Resize r need) (stage.Copying old next None) added =
+    IsCopyingFrom caller events point position registers r need old next added
+IsDoing caller events point position registers (op.Resize r need) (stage.Copying old next (Some word)) added =
+    IsCopyingTo caller events point position registers r need old next word added
+IsDoing caller events point position registers (op.Resize r need) stage.Releasing added =
+    IsReleasing caller events point position registers r need added
+IsDoing caller events point position registers operation stage added = ⊥

@@ -1,6 +1,6 @@
 -- Which calls a lane begins: those of its operations with their outcomes, in the script's order.
-use Rattle.std.specs.Prelude.{ℕ, suc, ◌≡◌, ◌+◌, ◌-◌, ◌*◌, ◌%◌, ◌^◌, ◌∷◌, ◌++◌, List, [], Option, Some, None, map, take, drop, length, replicate}
-use Rattle.std.specs.List.{range_with_len}
+use Rattle.std.specs.Prelude.{ℕ, suc, ◌≡◌, ◌+◌, ◌-◌, ◌*◌, ◌%◌, ◌^◌, ◌∷◌, ◌++◌, List, [], Option, Some, None, map, take, drop, length, min, replicate, nat_lt, if◌then◌else◌}
+use Rattle.std.specs.List.{flat_map, range_with_len, slice_index_or}
 use Rattle.trace_text.specs.declared.limits.TheConstants.{REGISTERS}
 use Rattle.heap_geometry.specs.declared.limits.TheConstants.{LARGE_MOST}
 use Rattle.heap_geometry.specs.declared.need.Need.{Need}
@@ -23,12 +23,32 @@ writes_of held need v = map (λ i. write held.place need i ((v + i) % 2 ^ 64)) (
 abbrev pub reads_of : Held → Need → List Call
 reads_of held need = map (λ i. read held.place need i) (range_with_len 0 held.words)
 
+-- the calls that copy word i of a block into another one, where these of its first words are read: the read of the word and the write of what it
+-- holds, or the write of 0 where it is none of these
+abbrev pub copying_word : ℕ → Need → ℕ → Need → List ℕ → ℕ → List Call
+copying_word place need to to_need words i =
+    if nat_lt i (length words) then read place need i ∷ write to to_need i (slice_index_or words i 0) ∷ [] else write to to_need i 0 ∷ []
+
+-- those that copy the first words, in their order
+abbrev pub copying : ℕ → Need → ℕ → Need → List ℕ → ℕ → List Call
+copying place need to to_need words count = flat_map (copying_word place need to to_need words) (range_with_len 0 count)
+
 -- the calls on the block of a full register, with the need that it was given or taken with
 abbrev pub OnHeld : Option Held → (Held → Need → List Call) → List Call → Type 0
 OnHeld None calls_on calls = ⊥
 OnHeld (Some held) calls_on calls = Serves held held.need × (calls ≡ calls_on held held.need)
 
--- the calls of an operation with its outcome, where the registers held these blocks before it: one that is skipped has none, and a take that missed the shelf's block is tried again
+-- the calls that replace the block of a full register by one at this place: the allocation, the copy of as many words as both have, in their order,
+-- with 0 behind them, and then the free of the old block
+abbrev pub Replaces : Option Held → ℕ → ℕ → ℕ → List Call → Type 0
+Replaces None need words place calls = ⊥
+Replaces (Some held) need words place calls =
+    Serves held held.need
+    × (copied : List ℕ) × (length copied ≡ min held.words words)
+    × (calls ≡ alloc need ∷ copying held.place held.need place (need_of need) copied words ++ free held.place held.need ∷ [])
+
+-- the calls of an operation with its outcome, where the registers held these blocks before it: one that is skipped has none, and neither has a resize
+-- that keeps its block; a take that missed the shelf's block is tried again
 abbrev pub CallsOf : List (Option Held) → Op → Outcome → List Call → Type 0
 CallsOf registers operation outcome.Skipped calls = calls ≡ []
 CallsOf registers (op.Alloc r need v) (outcome.Given words place) calls =
@@ -38,6 +58,9 @@ CallsOf registers (op.Free r) result calls = OnHeld (held_in registers r) (λ he
 CallsOf registers (op.Fill r v) result calls = OnHeld (held_in registers r) (λ held need. writes_of held need v) calls
 CallsOf registers (op.Check r) result calls = OnHeld (held_in registers r) reads_of calls
 CallsOf registers (op.Put r shelf) result calls = OnHeld (held_in registers r) (λ held need. put held.place need shelf ∷ []) calls
+CallsOf registers (op.Resize r need) (outcome.Kept words place) calls = calls ≡ []
+CallsOf registers (op.Resize r need) (outcome.Resized words place) calls = Replaces (held_in registers r) need words place calls
+CallsOf registers (op.Resize r need) result calls = calls ≡ alloc need ∷ []
 CallsOf registers (op.Take r shelf) result calls = (misses : ℕ) × (calls ≡ replicate (suc misses) (take_call shelf))
 
 -- the calls of operations with these outcomes, from these registers on
@@ -55,6 +78,15 @@ registers_from registers [] (result ∷ results) = registers
 registers_from registers (operation ∷ operations) (result ∷ results) =
     registers_from (registers_after registers operation result) operations results
 
+-- the calls of a resize so far, where it has its new block, and the read of word `next` of the old one is under way, or the write of this one
+abbrev pub HasCopied : Held → Held → ℕ → ℕ → Option ℕ → List Call → Type 0
+HasCopied old new need next None calls =
+    (copied : List ℕ) × (length copied ≡ next)
+    × (calls ≡ alloc need ∷ copying old.place old.need new.place (need_of need) copied next ++ read old.place old.need next ∷ [])
+HasCopied old new need next (Some word) calls =
+    (copied : List ℕ) × (length copied ≡ min old.words (suc next)) × (word ≡ slice_index_or copied next 0)
+    × (calls ≡ alloc need ∷ copying old.place old.need new.place (need_of need) copied (suc next))
+
 -- the calls that the operation under way has begun so far, where the registers held `before` when it began and hold `registers` now
 abbrev pub BegunOf : List (Option Held) → List (Option Held) → Op → Stage → List Call → Type 0
 BegunOf before registers (op.Alloc r need v) stage.Calling calls = calls ≡ alloc need ∷ []
@@ -67,6 +99,11 @@ BegunOf before registers (op.Check r) (stage.Summing next total) calls =
     OnHeld (held_in before r) (λ held need. take (suc next) (reads_of held need)) calls
 BegunOf before registers (op.Put r shelf) stage.Calling calls =
     OnHeld (held_in before r) (λ held need. put held.place need shelf ∷ []) calls
+BegunOf before registers (op.Resize r need) stage.Calling calls = calls ≡ alloc need ∷ []
+BegunOf before registers (op.Resize r need) (stage.Copying old next word) calls =
+    (new : Held) × (held_in before r ≡ Some old) × (held_in registers r ≡ Some new) × HasCopied old new need next word calls
+BegunOf before registers (op.Resize r need) stage.Releasing calls =
+    (new : Held) × (held_in registers r ≡ Some new) × Replaces (held_in before r) need new.words new.place calls
 BegunOf before registers (op.Take r shelf) stage.Calling calls = (misses : ℕ) × (calls ≡ replicate (suc misses) (take_call shelf))
 BegunOf before registers operation stage calls = ⊥
 
@@ -90,10 +127,13 @@ stage_begun stage.Between = 0
 stage_begun stage.Calling = 1
 stage_begun (stage.Filling next) = next + 2
 stage_begun (stage.Summing next total) = next + 2
+stage_begun (stage.Copying old next None) = 2 * next + 2
+stage_begun (stage.Copying old next (Some word)) = 2 * next + 3
+stage_begun stage.Releasing = 2 * LARGE_MOST + 2
 
 -- it is below this: no block has more words than the largest
 abbrev pub begun_bound : ℕ
-begun_bound = LARGE_MOST + 2
+begun_bound = 2 * LARGE_MOST + 3
 
 -- how much of its script a lane has left, in a number that falls as it goes on
 abbrev pub script_left : List Op → List Outcome → Stage → ℕ

@@ -9,16 +9,18 @@ ghost use Rattle.trace_text.specs.declared.trace.Op.TheVariants as op;
 ghost use Rattle.trace_text.specs.declared.limits.TheConstants.{REGISTERS};
 ghost use Rattle.heap_geometry.specs.declared.limits.TheConstants.{SHELVES};
 ghost use Rattle.trace_text.specs.Traces.{IsOp};
+ghost use Rattle.lane_engine.specs.declared.stepped.Stepped.TheVariants as stepped;
 ghost use Rattle.lane_engine.specs.Machines.{Serves};
 ghost use Rattle.lane_steps.specs.Advances.{MayAnswer, Answers, word_behind, total_with};
 
 use super::LaneState;
-use super::registers::put_in;
+use super::registers::{put_in, take_out};
 use crate::stage::Stage;
 use lane_engine::grip::Grip;
 use lane_engine::stepped::Stepped;
 use lane_engine::token::Token;
 use lane_outcomes::outcome::Outcome;
+use lane_outcomes::registers::Held;
 use step_core::machine::Core;
 use trace_text::trace::Op;
 
@@ -51,7 +53,9 @@ impl LaneState<Grip> {
     fn next_word(&self, words: u32) -> Option<u32>
         ensures { result ≡ word_behind self.now.stage words }
     {
-        let (Stage::Filling { next } | Stage::Summing { next, total: _ }) = self.stage else {
+        let (Stage::Filling { next } | Stage::Summing { next, .. } | Stage::Copying { next, .. }) =
+            self.stage
+        else {
             return None;
         };
         if words > 0 && next < words - 1 {
@@ -85,6 +89,7 @@ impl LaneState<Grip> {
             Op::Check { r } => self.after_check(core, r, told),
             Op::Put { r, shelf: _ } => self.after_put(core, r, told),
             Op::Take { r, shelf } => self.after_take(core, r, shelf, told),
+            Op::Resize { r, need: _ } => self.after_resize(core, r, told),
         }
     }
 
@@ -197,6 +202,83 @@ impl LaneState<Grip> {
             Stepped::Empty => self.finish(Outcome::ShelfEmpty),
             Stepped::Missed => core.begin_take(self.caller, shelf),
             _ => {}
+        }
+    }
+
+    /// A resize: the block that is given goes into the register, the old one is copied there word by word, and then it
+    /// is freed.
+    fn after_resize(&mut self, core: &mut Core, r: u16, told: Stepped<Grip>)
+        requires serves { Serves core.old self.old.caller }
+        requires register { r < REGISTERS }
+        requires ready { (need : ℕ) × (seen : List Event) × (operations : List Op) × MayAnswer (op.Resize r need) told core.old seen operations self.old }
+        ensures answered { (need : ℕ) → Answers (op.Resize r need) told core.old core.new self.old self.new }
+    {
+        match told {
+            Stepped::Given(block) => self.copy_into(core, r, block),
+            Stepped::Refused => self.finish(Outcome::Refused),
+            Stepped::Spent => self.finish(Outcome::Spent),
+            Stepped::Word(word) => self.copy_word(core, r, word),
+            Stepped::Wrote => self.copy_next(core, r),
+            Stepped::Freed => {
+                let words = self.words_in(r);
+                let place = self.place_in(r);
+                self.finish(Outcome::Resized { words, place });
+            }
+            _ => {}
+        }
+    }
+
+    /// The new block of a resize is given: it goes into the register, and the copy of the old one begins.
+    fn copy_into(&mut self, core: &mut Core, r: u16, block: Grip)
+        requires serves { Serves core.old self.old.caller }
+        requires register { r < REGISTERS }
+        requires ready { (need : ℕ) × (seen : List Event) × (operations : List Op)
+            × MayAnswer (op.Resize r need) (stepped.Given block) core.old seen operations self.old }
+        ensures answered { (need : ℕ) → Answers (op.Resize r need) (stepped.Given block) core.old core.new self.old self.new }
+    {
+        let Some(old) = take_out(&mut self.registers, r) else {
+            unreachable!()
+        };
+        put_in(&mut self.registers, r, block);
+        let old = Held {
+            place: old.place(),
+            words: old.words(),
+            need: old.need(),
+        };
+        self.read_old(core, old, 0);
+    }
+
+    /// A word of the old block of a resize was read: the write of it begins.
+    fn copy_word(&mut self, core: &mut Core, r: u16, word: u64)
+        requires serves { Serves core.old self.old.caller }
+        requires register { r < REGISTERS }
+        requires ready { (need : ℕ) × (seen : List Event) × (operations : List Op)
+            × MayAnswer (op.Resize r need) (stepped.Word word) core.old seen operations self.old }
+        ensures answered { (need : ℕ) → Answers (op.Resize r need) (stepped.Word word) core.old core.new self.old self.new }
+    {
+        let Stage::Copying { old, next, word: _ } = self.stage else {
+            unreachable!()
+        };
+        self.write_new(core, r, old, next, word);
+    }
+
+    /// A word of the new block of a resize was written: the next one follows, 0 behind the old block's end, and behind
+    /// the last one the free of the old block.
+    fn copy_next(&mut self, core: &mut Core, r: u16)
+        requires serves { Serves core.old self.old.caller }
+        requires register { r < REGISTERS }
+        requires ready { (need : ℕ) × (seen : List Event) × (operations : List Op)
+            × MayAnswer (op.Resize r need) stepped.Wrote core.old seen operations self.old }
+        ensures answered { (need : ℕ) → Answers (op.Resize r need) stepped.Wrote core.old core.new self.old self.new }
+    {
+        let Stage::Copying { old, .. } = self.stage else {
+            unreachable!()
+        };
+        let words = self.words_in(r);
+        match self.next_word(words) {
+            Some(next) if next < old.words => self.read_old(core, old, next),
+            Some(next) => self.write_new(core, r, old, next, 0),
+            None => self.release(core, old),
         }
     }
 }

@@ -4,7 +4,7 @@ ghost use Rattle.std.specs.Prelude.{ℕ, ◌≡◌, ◌<◌, ◌≤◌, ◌+◌,
 ghost use Rattle.std.specs.List.{slice_index_or};
 ghost use Rattle.heap_geometry.specs.Need.{usable_words};
 ghost use Rattle.errand_steps.specs.Begins.{IsIdle};
-ghost use Rattle.errand_steps.specs.Calls.{write, read};
+ghost use Rattle.errand_steps.specs.Calls.{free, write, read};
 ghost use Rattle.sound_state.specs.Runs.{begins};
 ghost use Rattle.step_core.specs.Cores.{OwnsAfter, errand_at};
 ghost use Rattle.trace_text.specs.declared.trace.Op.{Op};
@@ -17,11 +17,12 @@ ghost use Rattle.lane_engine.specs.Machines.{MovesCore, Serves};
 ghost use Rattle.lane_steps.specs.Advances.{MayBegin, Begins};
 
 use super::LaneState;
-use super::registers::{is_full, take_out};
+use super::registers::{is_full, take_out, unasked};
 use crate::stage::Stage;
 use errand_steps::reply::Begun;
 use lane_engine::grip::Grip;
 use lane_outcomes::outcome::Outcome;
+use lane_outcomes::registers::Held;
 use step_core::machine::Core;
 use trace_text::trace::Op;
 
@@ -40,6 +41,7 @@ impl LaneState<Grip> {
             Op::Check { r } => self.begin_check(core, r),
             Op::Put { r, shelf } => self.begin_put(core, r, shelf),
             Op::Take { r, shelf } => self.begin_take(core, r, shelf),
+            Op::Resize { r, need } => self.begin_resize(core, r, need),
         }
     }
 
@@ -133,6 +135,25 @@ impl LaneState<Grip> {
         self.stage = Stage::Calling;
     }
 
+    /// Begins the allocation of the new block of a resize; where the register is empty, or its block serves the need,
+    /// none is asked for.
+    fn begin_resize(&mut self, core: &mut Core, r: u16, need: u32)
+        requires serves { Serves core.old self.old.caller }
+        requires register { r < REGISTERS }
+        requires need { need ≤ LARGE_MOST }
+        requires ready { (operations : List Op) × MayBegin (op.Resize r need) core.old operations self.old }
+        ensures begun { Begins (op.Resize r need) core.old core.new self.old self.new }
+    {
+        if let Some(outcome) = unasked(&self.registers, r, need) {
+            return self.finish(outcome);
+        }
+        match core.begin_alloc(self.caller, need) {
+            Begun::Started => self.stage = Stage::Calling,
+            Begun::Spent => self.finish(Outcome::Spent),
+            Begun::TooLarge => unreachable!(),
+        }
+    }
+
     /// Begins the write of word `next` of a full register's block, which is filled from `v` on.
     pub(super) fn write_word(&mut self, core: &mut Core, r: u16, v: u64, next: u32)
         requires serves { Serves core.old self.old.caller }
@@ -171,5 +192,57 @@ impl LaneState<Grip> {
         };
         core.begin_read(self.caller, block.place, block.need, next);
         self.stage = Stage::Summing { next, total };
+    }
+
+    /// Begins to copy word `next` of the old block of a resize, where it has such a word: the read of it.
+    pub(super) fn read_old(&mut self, core: &mut Core, old: Held, next: u32)
+        requires serves { Serves core.old self.old.caller }
+        requires idle { IsIdle (errand_at core.old.errands self.old.caller) }
+        requires owned { OwnsAfter core.old.events self.old.caller old.place old.need }
+        requires inside { next < usable_words old.need }
+        ensures called { MovesCore core.old (begins self.old.caller (read old.place old.need next)) core.new }
+        ensures lane { self.new ≡ record self.old { stage = stage.Copying old next None } }
+    {
+        core.begin_read(self.caller, old.place, old.need, next);
+        self.stage = Stage::Copying {
+            old,
+            next,
+            word: None,
+        };
+    }
+
+    /// Begins the write of word `next` of the new block of a resize, which is in the register.
+    pub(super) fn write_new(&mut self, core: &mut Core, r: u16, old: Held, next: u32, word: u64)
+        requires serves { Serves core.old self.old.caller }
+        requires idle { IsIdle (errand_at core.old.errands self.old.caller) }
+        requires held { (block : Grip) × (slice_index_or self.old.registers.items r None ≡ Some block)
+            × OwnsAfter core.old.events self.old.caller block.place block.need
+            × (next < usable_words block.need) }
+        requires register { r < length self.old.registers.items }
+        ensures called { (block : Grip) → slice_index_or self.old.registers.items r None ≡ Some block
+            → MovesCore core.old (begins self.old.caller (write block.place block.need next word)) core.new }
+        ensures lane { self.new ≡ record self.old { stage = stage.Copying old next (Some word) } }
+    {
+        let Some(block) = &self.registers[usize::from(r)] else {
+            unreachable!()
+        };
+        core.begin_write(self.caller, block.place, block.need, next, word);
+        self.stage = Stage::Copying {
+            old,
+            next,
+            word: Some(word),
+        };
+    }
+
+    /// Begins the free of the old block of a resize.
+    pub(super) fn release(&mut self, core: &mut Core, old: Held)
+        requires serves { Serves core.old self.old.caller }
+        requires idle { IsIdle (errand_at core.old.errands self.old.caller) }
+        requires owned { OwnsAfter core.old.events self.old.caller old.place old.need }
+        ensures called { MovesCore core.old (begins self.old.caller (free old.place old.need)) core.new }
+        ensures lane { self.new ≡ record self.old { stage = stage.Releasing } }
+    {
+        core.begin_free(self.caller, old.place, old.need);
+        self.stage = Stage::Releasing;
     }
 }

@@ -10,7 +10,7 @@ ghost use Rattle.lane_steps.specs.Made.{HasRun, HoldsBlocks, Makes, Takes};
 ghost use Rattle.lane_steps.specs.Paths.{FirstPassed};
 ghost use Rattle.lane_steps.specs.declared.stage.Stage.TheVariants as stage;
 
-use super::registers::{is_full, put_in, take_out};
+use super::registers::{is_full, put_in, take_out, unasked};
 use super::{LaneState, number_of};
 use edge_io::gate::Gate;
 use lane_engine::calls::{Allocated, Calls, Taken};
@@ -62,6 +62,7 @@ impl<B: Token + Drop> LaneState<B> {
             Op::Check { r } => self.make_check(calls, r),
             Op::Put { r, shelf } => self.make_put(calls, r, shelf),
             Op::Take { r, shelf } => self.make_take(rt, calls, r, shelf),
+            Op::Resize { r, need } => self.make_resize(rt, calls, r, need),
         }
     }
 
@@ -208,6 +209,39 @@ impl<B: Token + Drop> LaneState<B> {
                 self.finish(Outcome::Took { words, place, need });
             }
             None => self.finish(Outcome::ShelfEmpty),
+        }
+    }
+
+    /// A resize of a full register's block: it stays where it serves the need. Else another one is allocated,
+    /// its words are copied there, and it is freed; where none is given it stays.
+    fn make_resize<R: Wait, C: Calls<Held = B>>(&mut self, rt: &R, calls: &mut C, r: u16, need: u32)
+        requires stands { C.stands calls.old }
+        requires register { r < REGISTERS }
+        requires need { need ≤ LARGE_MOST }
+        requires holds { HoldsBlocks B.place_of B.need_of (C.owns calls.old) self.old.registers.items }
+        requires room { length self.old.outcomes.items < vec_capacity self.old.outcomes }
+        ensures stands { C.stands calls.new }
+        ensures base { C.runs_on calls.new ≡ C.runs_on calls.old }
+        ensures made { Makes B.place_of B.need_of C.owns C.called (op.Resize r need) calls.old calls.new self.old self.new }
+    {
+        C::calls_keep_blocks();
+        if let Some(outcome) = unasked(&self.registers, r, need) {
+            return self.finish(outcome);
+        }
+        match calls.allocate(rt, need) {
+            Allocated::Given(block) => {
+                let Some(old) = take_out(&mut self.registers, r) else {
+                    unreachable!()
+                };
+                calls.copy(&old, &block);
+                calls.free(rt, old);
+                let words = block.words();
+                let place = block.place();
+                put_in(&mut self.registers, r, block);
+                self.finish(Outcome::Resized { words, place });
+            }
+            Allocated::Refused => self.finish(Outcome::Refused),
+            Allocated::Spent => self.finish(Outcome::Spent),
         }
     }
 

@@ -2,6 +2,13 @@
 
 ghost use Rattle.std.specs.Prelude.{◌≡◌, ◌<◌, ◌↔◌, length, Some, None, slice_set, IsTrue, IsSome};
 ghost use Rattle.std.specs.List.{slice_index_or};
+ghost use Rattle.std.specs.Option.{option_map};
+ghost use Rattle.lane_steps.specs.Operations.{IsUnasked};
+ghost use Rattle.lane_steps.specs.Paths.{held_by};
+
+use heap_geometry::need::class_of;
+use lane_engine::token::Token;
+use lane_outcomes::outcome::Outcome;
 
 /// Whether the register holds a block.
 pub(super) fn is_full<B>(registers: &Vec<Option<B>>, r: u16) -> bool
@@ -26,4 +33,22 @@ pub(super) fn put_in<B: Drop>(registers: &mut Vec<Option<B>>, r: u16, block: B)
     ensures { registers.new.items ≡ slice_set registers.old.items r (Some block) }
 {
     registers[usize::from(r)] = Some(block);
+}
+
+/// The outcome of a resize that asks for no block: the register is empty, or its block serves the need.
+pub(super) fn unasked<B: Token>(registers: &Vec<Option<B>>, r: u16, need: u32) -> Option<Outcome>
+    requires { r < length registers.now.items }
+    ensures { IsUnasked (option_map (held_by B.place_of B.need_of) (slice_index_or registers.now.items r None)) need result }
+{
+    let Some(block) = &registers[usize::from(r)] else {
+        return Some(Outcome::Skipped);
+    };
+    if block.need() == class_of(need) {
+        Some(Outcome::Kept {
+            words: block.words(),
+            place: block.place(),
+        })
+    } else {
+        None
+    }
 }
