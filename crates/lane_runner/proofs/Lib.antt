@@ -9,6 +9,7 @@ pub mod ThreadLemmas
 pub mod WholeSteps
 pub mod WholeOps
 pub mod WholeWalks
+pub mod WholeResize
 pub mod WholeLaws
 mod WholeScripts
 pub mod StopLemmas

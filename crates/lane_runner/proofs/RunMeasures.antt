@@ -9,7 +9,6 @@ use Rattle.packed_words.specs.declared.shelf.ShelfWord.TheVariants as word
 use Rattle.packed_words.specs.Shelf.{shelf_of}
 use Rattle.pool_model.specs.declared.event.Event.{Event}
 use Rattle.pool_model.specs.Histories.{caller_of, own}
-use Rattle.pool_model.specs.Pool.{Pool, pool_of}
 use Rattle.pool_model.proofs.HistoryLemmas.{own-append}
 use Rattle.pool_model.proofs.OwnerLemmas.{own-none}
 use Rattle.trace_text.specs.declared.trace.Op.{Op}
@@ -115,33 +114,41 @@ missed-lost caller k e (point.Large p o) x added way idle none = absurd way
 
 -- where a take has begun again and the stage is the same, a take was under way before
 doing-take :
-    (caller shelf : ℕ) (pool pool' : Pool) (p : Point) (position position' : Position) (registers registers' : List (Option Held)) (operation : Op)
-    (at : Stage) (added added' : List Event) → IsDoing caller pool p position registers operation at added
-    → IsDoing caller pool' (point.Large (large.LoadShelf shelf) continuation.Nothing) position' registers' operation at added'
+    (caller shelf : ℕ) (events events' : List Event) (p : Point) (position position' : Position) (registers registers' : List (Option Held)) (operation : Op)
+    (at : Stage) (added added' : List Event) → IsDoing caller events p position registers operation at added
+    → IsDoing caller events' (point.Large (large.LoadShelf shelf) continuation.Nothing) position' registers' operation at added'
     → (k : ℕ) × IsUnderWay caller (take k) p added
-doing-take caller shelf pool pool' p position position' registers registers' (op.Alloc r need v) stage.Calling added added' d d' = absurd d'.3
-doing-take caller shelf pool pool' p position position' registers registers' (op.Alloc r need v) (stage.Filling next) added added' d d' =
+doing-take caller shelf events events' p position position' registers registers' (op.Alloc r need v) stage.Calling added added' d d' = absurd d'.3
+doing-take caller shelf events events' p position position' registers registers' (op.Alloc r need v) (stage.Filling next) added added' d d' =
     absurd d'.4.writing.under_way
-doing-take caller shelf pool pool' p position position' registers registers' (op.Free r) stage.Calling added added' d d' = absurd d'.under_way
-doing-take caller shelf pool pool' p position position' registers registers' (op.Fill r v) (stage.Filling next) added added' d d' =
+doing-take caller shelf events events' p position position' registers registers' (op.Free r) stage.Calling added added' d d' = absurd d'.under_way
+doing-take caller shelf events events' p position position' registers registers' (op.Fill r v) (stage.Filling next) added added' d d' =
     absurd d'.3.under_way
-doing-take caller shelf pool pool' p position position' registers registers' (op.Check r) (stage.Summing next total) added added' d d' =
+doing-take caller shelf events events' p position position' registers registers' (op.Check r) (stage.Summing next total) added added' d d' =
     absurd d'.3.under_way
-doing-take caller shelf pool pool' p position position' registers registers' (op.Put r k) stage.Calling added added' d d' = absurd d'.under_way
-doing-take caller shelf pool pool' p position position' registers registers' (op.Take r k) stage.Calling added added' d d' = (k, d.2)
-doing-take caller shelf pool pool' p position position' registers registers' operation at added added' d d' = absurd d
+doing-take caller shelf events events' p position position' registers registers' (op.Put r k) stage.Calling added added' d d' = absurd d'.under_way
+doing-take caller shelf events events' p position position' registers registers' (op.Take r k) stage.Calling added added' d d' = (k, d.2)
+doing-take caller shelf events events' p position position' registers registers' (op.Resize r need) stage.Calling added added' d d' =
+    absurd d'.under_way
+doing-take caller shelf events events' p position position' registers registers' (op.Resize r need) (stage.Copying old next None) added added' d d' =
+    absurd d'.under_way
+doing-take caller shelf events events' p position position' registers registers' (op.Resize r need) (stage.Copying old next (Some word)) added added' d d' =
+    absurd d'.under_way
+doing-take caller shelf events events' p position position' registers registers' (op.Resize r need) stage.Releasing added added' d d' =
+    absurd d'.under_way
+doing-take caller shelf events events' p position position' registers registers' operation at added added' d d' = absurd d
 
 under-take :
-    (caller shelf : ℕ) (pool pool' : Pool) (p : Point) (position position' : Position) (registers registers' : List (Option Held)) (operations : List Op)
+    (caller shelf : ℕ) (events events' : List Event) (p : Point) (position position' : Position) (registers registers' : List (Option Held)) (operations : List Op)
     (at : Stage) (added added' : List Event)
-    → (operation : Op) × (rest : List Op) × (operations ≡ operation ∷ rest) × IsDoing caller pool p position registers operation at added
+    → (operation : Op) × (rest : List Op) × (operations ≡ operation ∷ rest) × IsDoing caller events p position registers operation at added
     → (operation : Op) × (rest : List Op) × (operations ≡ operation ∷ rest)
-    × IsDoing caller pool' (point.Large (large.LoadShelf shelf) continuation.Nothing) position' registers' operation at added'
+    × IsDoing caller events' (point.Large (large.LoadShelf shelf) continuation.Nothing) position' registers' operation at added'
     → (k : ℕ) × IsUnderWay caller (take k) p added
-under-take caller shelf pool pool' p position position' registers registers' operations at added added' d d' =
+under-take caller shelf events events' p position position' registers registers' operations at added added' d d' =
     let same : d'.0 ≡ d.0 = (let e = d.2 in let f = d'.2 in cc) in
-    doing-take caller shelf pool pool' p position position' registers registers' d.0 at added added' d.3
-    (subst (λ operation. IsDoing caller pool' (point.Large (large.LoadShelf shelf) continuation.Nothing) position' registers' operation at added') same d'.3)
+    doing-take caller shelf events events' p position position' registers registers' d.0 at added added' d.3
+    (subst (λ operation. IsDoing caller events' (point.Large (large.LoadShelf shelf) continuation.Nothing) position' registers' operation at added') same d'.3)
 
 at-take :
     (caller shelf : ℕ) (events events' : List Event) (e e' : ErrandFields) (position position' : Position) (registers registers' : List (Option Held))
@@ -151,14 +158,20 @@ at-take :
 at-take caller shelf events events' e e' position position' registers registers' operations stage.Between added added' d d' is =
     absurd (true≢false (sym d'.0 ∙ ap is_idle is))
 at-take caller shelf events events' e e' position position' registers registers' operations stage.Calling added added' d d' is =
-    under-take caller shelf (pool_of events) (pool_of events') e.point position position' registers registers' operations stage.Calling added added' d
-    (d'.0, d'.1, d'.2, subst (λ p. IsDoing caller (pool_of events') p position' registers' d'.0 stage.Calling added') is d'.3)
+    under-take caller shelf events events' e.point position position' registers registers' operations stage.Calling added added' d
+    (d'.0, d'.1, d'.2, subst (λ p. IsDoing caller events' p position' registers' d'.0 stage.Calling added') is d'.3)
 at-take caller shelf events events' e e' position position' registers registers' operations (stage.Filling next) added added' d d' is =
-    under-take caller shelf (pool_of events) (pool_of events') e.point position position' registers registers' operations (stage.Filling next) added added' d
-    (d'.0, d'.1, d'.2, subst (λ p. IsDoing caller (pool_of events') p position' registers' d'.0 (stage.Filling next) added') is d'.3)
+    under-take caller shelf events events' e.point position position' registers registers' operations (stage.Filling next) added added' d
+    (d'.0, d'.1, d'.2, subst (λ p. IsDoing caller events' p position' registers' d'.0 (stage.Filling next) added') is d'.3)
 at-take caller shelf events events' e e' position position' registers registers' operations (stage.Summing next total) added added' d d' is =
-    under-take caller shelf (pool_of events) (pool_of events') e.point position position' registers registers' operations (stage.Summing next total) added added' d
-    (d'.0, d'.1, d'.2, subst (λ p. IsDoing caller (pool_of events') p position' registers' d'.0 (stage.Summing next total) added') is d'.3)
+    under-take caller shelf events events' e.point position position' registers registers' operations (stage.Summing next total) added added' d
+    (d'.0, d'.1, d'.2, subst (λ p. IsDoing caller events' p position' registers' d'.0 (stage.Summing next total) added') is d'.3)
+at-take caller shelf events events' e e' position position' registers registers' operations (stage.Copying old next word) added added' d d' is =
+    under-take caller shelf events events' e.point position position' registers registers' operations (stage.Copying old next word) added added' d
+    (d'.0, d'.1, d'.2, subst (λ p. IsDoing caller events' p position' registers' d'.0 (stage.Copying old next word) added') is d'.3)
+at-take caller shelf events events' e e' position position' registers registers' operations stage.Releasing added added' d d' is =
+    under-take caller shelf events events' e.point position position' registers registers' operations stage.Releasing added added' d
+    (d'.0, d'.1, d'.2, subst (λ p. IsDoing caller events' p position' registers' d'.0 stage.Releasing added') is d'.3)
 
 -- an event of the caller's would be seen
 append-none : (xs ys : List Event) → xs ++ ys ≡ xs → ys ≡ []

@@ -1,5 +1,5 @@
 -- A lane that made whole calls of a pass stands by its rule.
-use Rattle.std.proofs.Common.{ℕ, zero, suc, ◌≡◌, ◌<◌, ◌≤◌, ◌+◌, ◌%◌, ◌^◌, ◌∷◌, ◌++◌, List, [], Option, Some, None, drop, length, refl, sym, ap, ◌∙◌, subst, arith, append_assoc, append-nil}
+use Rattle.std.proofs.Common.{ℕ, zero, suc, ◌≡◌, ◌≢◌, ◌<◌, ◌≤◌, ◌+◌, ◌%◌, ◌^◌, ◌∷◌, ◌++◌, List, [], Option, Some, None, drop, length, refl, sym, ap, ◌∙◌, subst, arith, append_assoc, append-nil}
 use Rattle.std.specs.Prelude.{All, slice_set, sum}
 use Rattle.std.specs.List.{slice_index_or}
 use Rattle.std.proofs.lemmas.List.{length-append, length-set}
@@ -46,6 +46,7 @@ use Rattle.lane_steps.specs.Scripts.{registers_from}
 use Rattle.lane_steps.proofs.BeginLemmas.{IsSkipped, begin-alloc, begin-check, begin-fill, begin-skips, owned-words}
 use Rattle.lane_steps.proofs.LaneAnswers.{alloc-given_so, held-here}
 use Rattle.lane_runner.proofs.WholeOps.{HasNeed, StandsAt, begun, begun-at, free-stands, last-in, put-stands, put_full-stands, refused-stands, served-last, serves-held, spent-stands, spent_at_once-stands, step-of, to-pass}
+use Rattle.lane_runner.proofs.WholeResize.{kept-stands, resized-stands, respent-stands, respent_at_once-stands, unresized-stands}
 use Rattle.lane_runner.proofs.WholeSteps.{alloc-started, doing-in, need_in, place_in}
 use Rattle.lane_runner.proofs.WholeWalks.{BegunAt, check-walk, fill-walk, given-walk, steps-of, take_empty-stands, take_got-stands}
 
@@ -75,12 +76,14 @@ skipped-so registers (op.Free r) None is skips = is
 skipped-so registers (op.Fill r v) None is skips = is
 skipped-so registers (op.Check r) None is skips = is
 skipped-so registers (op.Put r shelf) None is skips = is
+skipped-so registers (op.Resize r need) None is skips = is
 skipped-so registers (op.Alloc r need v) None is skips = absurd skips
 skipped-so registers (op.Take r shelf) None is skips = absurd skips
 skipped-so registers (op.Free r) (Some held) is skips = absurd skips
 skipped-so registers (op.Fill r v) (Some held) is skips = absurd skips
 skipped-so registers (op.Check r) (Some held) is skips = absurd skips
 skipped-so registers (op.Put r shelf) (Some held) is skips = absurd skips
+skipped-so registers (op.Resize r need) (Some held) is skips = absurd skips
 
 given-steps : (p q : Pass) (call : Call) (place : ℕ) (need : Need) → MadeByPass p call (reply.Given place need) q
     → (steps : ℕ) × HasCalled p call steps (reply.Given place need) q
@@ -150,6 +153,31 @@ module _ (h : Heap) (operations rest : List Op) (results : List Outcome) (regist
   spent-by r need v next empty (at_once words is spent once, owned, of) =
       let same : words ≡ need = let e : alloc need ≡ alloc words = is in cc in
       spent_at_once-stands h operations rest results registers r need v p q next rests lane empty (subst (λ n. IsSpentAtOnce p n q) same once)
+
+  unresized-by : (r need : ℕ) (held : Held) → drop (length results) operations ≡ op.Resize r need ∷ rest → held_in registers r ≡ Some held
+      → need_of need ≢ held.need → WholeAt h p (alloc need) reply.Refused q
+      → StandsAt h q operations registers (results ++ outcome.Refused ∷ [])
+  unresized-by r need held next full differ (by_steps ended, owned, of) =
+      unresized-stands h operations rest results registers r need held p q next rests lane full differ ended.0 of ended.1
+  unresized-by r need held next full differ (at_once words is spent once, owned, of) = absurd (cc)
+
+  respent-by : (r need : ℕ) (held : Held) → drop (length results) operations ≡ op.Resize r need ∷ rest → held_in registers r ≡ Some held
+      → need_of need ≢ held.need → WholeAt h p (alloc need) reply.Spent q
+      → StandsAt h q operations registers (results ++ outcome.Spent ∷ [])
+  respent-by r need held next full differ (by_steps ended, owned, of) =
+      respent-stands h operations rest results registers r need held p q next rests lane full differ ended.0 of ended.1
+  respent-by r need held next full differ (at_once words is spent once, owned, of) =
+      let same : words ≡ need = let e : alloc need ≡ alloc words = is in cc in
+      respent_at_once-stands h operations rest results registers r need held p q next rests lane full differ
+      (subst (λ n. IsSpentAtOnce p n q) same once)
+
+  kept-by : (r need words place : ℕ) (held : Held) → drop (length results) operations ≡ op.Resize r need ∷ rest → held_in registers r ≡ Some held
+      → need_of need ≡ held.need → words ≡ held.words → place ≡ held.place → q ≡ p
+      → StandsAt h q operations registers (results ++ outcome.Kept words place ∷ [])
+  kept-by r need words place held next full serves words_are place_is same =
+      subst (λ w. StandsAt h q operations registers (results ++ outcome.Kept w place ∷ [])) (sym words_are)
+      (subst (λ a. StandsAt h q operations registers (results ++ outcome.Kept held.words a ∷ [])) (sym place_is)
+      (kept-stands h operations rest results registers r need held p q next rests lane full serves same))
 
   filled : (r v : ℕ) (held : Held) (need : Need) → drop (length results) operations ≡ op.Fill r v ∷ rest → held_in registers r ≡ Some held
       → r < REGISTERS → HasNeed held need → LeadsBy (WholeAt h) p (wrote held.place need v held.words) q
@@ -246,6 +274,15 @@ module _ (h : Heap) (operations rest : List Op) (results : List Outcome) (regist
   op-stands (op.Take r shelf) outcome.ShelfEmpty None made is_op next is (misses, are, calls) leads =
       take_empty-stands h operations rest results registers r shelf misses p q next are rests lane is
       (subst (λ ms. LeadsBy (WholeAt h) p ms q) calls leads)
+  op-stands (op.Resize r need) (outcome.Kept words place) (Some held) made is_op next is (serves, words_are, place_is, calls) leads =
+      kept-by r need words place held next is serves words_are place_is (subst (λ ms. LeadsBy (WholeAt h) p ms q) calls leads)
+  op-stands (op.Resize r need) (outcome.Resized words place) (Some held) made is_op next is (differ, words_are, has, copied, all, calls) leads =
+      resized-stands h operations rest results registers r need held p q next rests lane is differ place words copied words_are has all
+      (subst (λ ms. LeadsBy (WholeAt h) p ms q) calls leads)
+  op-stands (op.Resize r need) outcome.Refused (Some held) made is_op next is (differ, calls) leads =
+      unresized-by r need held next is differ (one-call (alloc need) reply.Refused (subst (λ ms. LeadsBy (WholeAt h) p ms q) calls leads))
+  op-stands (op.Resize r need) outcome.Spent (Some held) made is_op next is (differ, calls) leads =
+      respent-by r need held next is differ (one-call (alloc need) reply.Spent (subst (λ ms. LeadsBy (WholeAt h) p ms q) calls leads))
   op-stands (op.Alloc r need v) result None made is_op next is calls leads = absurd calls
   op-stands (op.Alloc r need v) result (Some held) made is_op next is calls leads = absurd calls
   op-stands (op.Free r) result None made is_op next is calls leads = absurd calls
@@ -258,6 +295,8 @@ module _ (h : Heap) (operations rest : List Op) (results : List Outcome) (regist
   op-stands (op.Put r shelf) result (Some held) made is_op next is calls leads = absurd calls
   op-stands (op.Take r shelf) result None made is_op next is calls leads = absurd calls
   op-stands (op.Take r shelf) result (Some held) made is_op next is calls leads = absurd calls
+  op-stands (op.Resize r need) result None made is_op next is calls leads = absurd calls
+  op-stands (op.Resize r need) result (Some held) made is_op next is calls leads = absurd calls
 
 -- the operations that are left, behind one of them
 pub drop-next : {X : Type 0} (n : ℕ) (xs rest : List X) (x : X) → drop n xs ≡ x ∷ rest → drop (suc n) xs ≡ rest

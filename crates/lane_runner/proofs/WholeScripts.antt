@@ -1,10 +1,11 @@
 -- The whole calls of a lane are the calls of its script.
-use Rattle.std.proofs.Common.{ℕ, suc, ◌≡◌, ◌+◌, ◌%◌, ◌^◌, ◌∷◌, ◌++◌, List, [], Option, Some, None, drop, length, map, replicate, refl, sym, ap, ◌∙◌, subst, arith}
-use Rattle.std.specs.Prelude.{All}
-use Rattle.std.specs.List.{range_with_len}
+use Rattle.std.proofs.Common.{ℕ, suc, ◌≡◌, ◌+◌, ◌%◌, ◌^◌, ◌∷◌, ◌++◌, List, [], Option, Some, None, drop, length, map, replicate, refl, sym, ap, ◌∙◌, subst, inl, inr, arith}
+use Rattle.std.specs.Prelude.{All, min, nat_lt}
+use Rattle.std.specs.List.{flat_map, range_with_len}
+use Rattle.std.proofs.lemmas.Bool.{cases_Bool}
 use Rattle.std.proofs.lemmas.List.{length-append, map-append}
 use Rattle.heap_geometry.specs.declared.need.Need.{Need}
-use Rattle.heap_geometry.specs.Need.{need_of}
+use Rattle.heap_geometry.specs.Need.{need_of, usable_words}
 use Rattle.errand_steps.specs.Calls.{Call, alloc, free, write, read, put, take}
 use Rattle.errand_steps.specs.declared.reply.Reply.{Reply}
 use Rattle.errand_steps.specs.declared.reply.Reply.TheVariants as reply
@@ -18,13 +19,14 @@ use Rattle.live_heap.specs.declared.pass.Pass.{Pass}
 use Rattle.live_heap.specs.Passes.{seen}
 use Rattle.live_heap.specs.Whole.{IsAtRest}
 use Rattle.call_events.specs.Made.{LeadsBy, Made, answered, found_from, wrote}
+use Rattle.lane_engine.specs.Whole.{copied, copied_word}
 use Rattle.lane_outcomes.specs.declared.registers.Held.{Held}
 use Rattle.lane_outcomes.specs.declared.outcome.Outcome.{Outcome}
 use Rattle.lane_outcomes.specs.declared.outcome.Outcome.TheVariants as outcome
 use Rattle.lane_outcomes.specs.Lane.{held_in, registers_after}
 use Rattle.lane_steps.specs.Made.{AllMade, AreMisses, MadeFor, calls_made, register_of}
 use Rattle.lane_steps.specs.Operations.{Serves}
-use Rattle.lane_steps.specs.Scripts.{CallsOf, OnHeld, Scripts, reads_of, writes_of}
+use Rattle.lane_steps.specs.Scripts.{CallsOf, OnHeld, Replaces, Scripts, copying, copying_word, reads_of, writes_of}
 use Rattle.lane_steps.proofs.EndedLemmas.{lane-start}
 use Rattle.lane_steps.proofs.MadeLemmas.{leads-then}
 use Rattle.lane_runner.specs.Threads.{HasMadeCalls, WholeAt}
@@ -51,6 +53,30 @@ found-calls place need i (word ∷ words) =
     let next : suc i ≡ i + 1 = omega arith in
     ap (λ calls. read place need i ∷ calls)
     (found-calls place need (suc i) words ∙ ap (λ k. map (λ j. read place need j) (range_with_len k (length words))) next)
+
+-- copies without their answers
+word-calls :
+    (from : ℕ) (from_need : Need) (to : ℕ) (to_need : Need) (words : List ℕ) (i : ℕ)
+    → calls_made (copied_word from from_need to to_need words i) ≡ copying_word from from_need to to_need words i
+word-calls from from_need to to_need words i =
+    elim (cases_Bool (nat_lt i (length words))) [
+      | inl inside ↦ rw inside refl
+      | inr past ↦ rw past refl
+    ]
+
+words-calls :
+    (from : ℕ) (from_need : Need) (to : ℕ) (to_need : Need) (words is : List ℕ)
+    → calls_made (flat_map (copied_word from from_need to to_need words) is) ≡ flat_map (copying_word from from_need to to_need words) is
+words-calls from from_need to to_need words [] = refl
+words-calls from from_need to to_need words (i ∷ is) =
+    map-append (λ (m : Made). m.call) (copied_word from from_need to to_need words i) (flat_map (copied_word from from_need to to_need words) is)
+    ∙ ap (λ cs. cs ++ calls_made (flat_map (copied_word from from_need to to_need words) is)) (word-calls from from_need to to_need words i)
+    ∙ ap (λ cs. copying_word from from_need to to_need words i ++ cs) (words-calls from from_need to to_need words is)
+
+copied-calls :
+    (from : ℕ) (from_need : Need) (to : ℕ) (to_need : Need) (words : List ℕ) (count : ℕ)
+    → calls_made (copied from from_need to to_need words count) ≡ copying from from_need to to_need words count
+copied-calls from from_need to to_need words count = words-calls from from_need to to_need words (range_with_len 0 count)
 
 misses-script :
     (shelf : ℕ) (misses : List Made) (answer : Reply) → AreMisses shelf misses
@@ -99,6 +125,33 @@ module _ (h : Heap) (operations rest : List Op) (results : List Outcome) (regist
   one-script r held need call answer made is serves calls =
       on-held r held need (λ held need. call held need ∷ []) made is serves (ap calls_made calls)
 
+  -- the block of a full register is the lane's
+  serves-here : (r : ℕ) (held : Held) → held_in registers r ≡ Some held → Serves held held.need
+  serves-here r held is =
+      let owns = lane.holds.owned r held is in
+      serves-held h p held held.need rests (owns.block, owns.live, owns.owned, sym owns.need_is)
+      (owns.words_are ∙ ap (λ (n : Need). usable_words n) (sym owns.need_is), refl)
+
+  resized-script :
+      (r need words place : ℕ) (held : Held) (found : List ℕ) (made : List Made) → held_in registers r ≡ Some held
+      → length found ≡ min held.words words
+      → made
+      ≡ answered (alloc need) (reply.Given place (need_of need))
+      ∷ copied held.place held.need place (need_of need) found words ++ answered (free held.place held.need) reply.Freed ∷ []
+      → Replaces (held_in registers r) need words place (calls_made made)
+  resized-script r need words place held found made is all calls =
+      let moves = copied held.place held.need place (need_of need) found words in
+      let end : List Made = answered (free held.place held.need) reply.Freed ∷ [] in
+      subst (λ slot. Replaces slot need words place (calls_made made)) (sym is) (
+        serves-here r held is,
+        found,
+        all,
+        ap calls_made calls
+            ∙ ap (λ cs. alloc need ∷ cs)
+            (map-append (λ (m : Made). m.call) moves end
+            ∙ ap (λ cs. cs ++ free held.place held.need ∷ []) (copied-calls held.place held.need place (need_of need) found words)),
+      )
+
   pub op-script :
       (operation : Op) (result : Outcome) (slot : Option Held) (made : List Made) → held_in registers (register_of operation) ≡ slot
       → MadeFor slot operation result made → LeadsBy (WholeAt h) p made q → CallsOf registers operation result (calls_made made)
@@ -125,6 +178,11 @@ module _ (h : Heap) (operations rest : List Op) (results : List Outcome) (regist
       (length misses, ap calls_made calls ∙ misses-script shelf misses (reply.Got place need) are)
   op-script (op.Take r shelf) outcome.ShelfEmpty None made is (misses, are, calls) leads =
       (length misses, ap calls_made calls ∙ misses-script shelf misses reply.Empty are)
+  op-script (op.Resize r need) (outcome.Kept words place) (Some held) made is (serves, words_are, place_is, calls) leads = ap calls_made calls
+  op-script (op.Resize r need) (outcome.Resized words place) (Some held) made is (differ, words_are, has, found, all, calls) leads =
+      resized-script r need words place held found made is all calls
+  op-script (op.Resize r need) outcome.Refused (Some held) made is (differ, calls) leads = ap calls_made calls
+  op-script (op.Resize r need) outcome.Spent (Some held) made is (differ, calls) leads = ap calls_made calls
   op-script (op.Alloc r need v) result None made is calls leads = absurd calls
   op-script (op.Alloc r need v) result (Some held) made is calls leads = absurd calls
   op-script (op.Free r) result None made is calls leads = absurd calls
@@ -137,6 +195,8 @@ module _ (h : Heap) (operations rest : List Op) (results : List Outcome) (regist
   op-script (op.Put r shelf) result (Some held) made is calls leads = absurd calls
   op-script (op.Take r shelf) result None made is calls leads = absurd calls
   op-script (op.Take r shelf) result (Some held) made is calls leads = absurd calls
+  op-script (op.Resize r need) result None made is calls leads = absurd calls
+  op-script (op.Resize r need) result (Some held) made is calls leads = absurd calls
 
 -- and those of a lane are those of the whole script
 module _ (h : Heap) (operations : List Op) (ops : All IsOp operations) where

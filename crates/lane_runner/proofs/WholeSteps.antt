@@ -4,7 +4,6 @@ use Rattle.heap_geometry.specs.declared.geometry.Geometry.{Geometry}
 use Rattle.heap_geometry.specs.declared.need.Need.{Need}
 use Rattle.pool_model.specs.declared.event.Event.{Event}
 use Rattle.pool_model.specs.Legal.{IsLegal}
-use Rattle.pool_model.specs.Pool.{pool_of}
 use Rattle.pool_model.proofs.HistoryLemmas.{legal-weaker}
 use Rattle.errand_steps.specs.Begins.{IsBusy, IsIdle, alloc_answer}
 use Rattle.errand_steps.specs.Calls.{Call, alloc, free, write, read, put, take, begun_by}
@@ -92,7 +91,7 @@ module _ (g : Geometry) (operations : List Op) (operation : Op) (rest : List Op)
 
   pub doing-in :
       (e : ErrandFields) (events : List Event) (registers : List (Option Held)) (at : Stage) (i : InCall e events registers at)
-      → IsDoing e.caller (pool_of events) e.point i.lane.position registers operation at i.lane.added
+      → IsDoing e.caller events e.point i.lane.position registers operation at i.lane.added
   doing-in e events registers at i =
       doing-at e.caller events e i.lane.position registers (drop (length results) operations) rest operation at i.lane.added next i.busy i.lane.stands
 
