@@ -1,5 +1,5 @@
 -- Blocks that an operation gives and frees, and those in the registers before and after it.
-use Rattle.std.proofs.Common.{ℕ, get_or, ◌≡◌, ◌⊎◌, ◌+◌, ◌<◌, List, Option, Some, None, length, set, refl, sym, ap, subst, inl, inr, arith}
+use Rattle.std.proofs.Common.{ℕ, get_or, ◌≡◌, ◌⊎◌, ◌+◌, ◌<◌, ◌≤◌, true, List, Option, Some, None, length, set, refl, sym, ap, subst, inl, inr, arith}
 use Rattle.std.proofs.lemmas.List.Sums.{sum_by-set}
 use Rattle.heap_geometry.specs.Need.{need_of}
 use Rattle.pool_model.specs.declared.event.Event.{Event}
@@ -12,10 +12,10 @@ use Rattle.lane_outcomes.specs.declared.outcome.Outcome.{Outcome}
 use Rattle.lane_outcomes.specs.declared.outcome.Outcome.TheVariants as outcome
 use Rattle.lane_outcomes.specs.Lane.{Position, held_in, registers_after}
 use Rattle.lane_outcomes.specs.LaneCounts.{words_given, words_freed, count_with, as_one}
-use Rattle.lane_outcomes.specs.Rows.{Setting, AllocRow, FreeRow, FitsRow}
+use Rattle.lane_outcomes.specs.Rows.{Setting, AllocRow, FreeRow, ResizeRow, FitsRow}
 use Rattle.lane_outcomes.proofs.HoldLemmas.{held-inside}
-use Rattle.roomy_traces.specs.Roomy.{IsPlain}
-use Rattle.roomy_traces.proofs.RegisterLemmas.{words_held, own_by}
+use Rattle.roomy_traces.specs.Roomy.{Filled, IsPlain, filled_in, moves}
+use Rattle.roomy_traces.proofs.RegisterLemmas.{IsAlike, words_held, own_by, words_filled, need_held, need_filled, alike-at, need-at, mismatch, moves-on}
 
 -- what a register holds counts so much
 abbrev weigh : (ℕ → ℕ) → Option Held → ℕ
@@ -51,6 +51,21 @@ free-balance f setting position r (Some held) outcome.Freed piece full row =
     rw full (set-balance f position.registers r (Some held) None (held-inside position.registers r held full) full)
 free-balance f setting position r held result piece full row = absurd row
 
+resize-balance :
+    (f : ℕ → ℕ) (setting : Setting) (position : Position) (r need : ℕ) (held : Option Held) (result : Outcome) (piece : List Event)
+    → held_in position.registers r ≡ held → ResizeRow setting position need held result piece
+    → count_with f (words_given (op.Resize r need) result) + own_by f position.registers
+    ≡ count_with f (words_freed position.registers (op.Resize r need) result) + own_by f (registers_after position.registers (op.Resize r need) result)
+resize-balance f setting position r need None outcome.Skipped piece full row = refl
+resize-balance f setting position r need (Some held) (outcome.Kept words place) piece full row = refl
+resize-balance f setting position r need (Some held) (outcome.Resized words place) piece full row =
+    rw full
+    (set-balance f position.registers r (Some held) (Some (record { place = place; words = words; need = need_of need }))
+    (held-inside position.registers r held full) full)
+resize-balance f setting position r need (Some held) outcome.Refused piece full row = refl
+resize-balance f setting position r need (Some held) outcome.Spent piece full row = refl
+resize-balance f setting position r need held result piece full row = absurd row
+
 -- what is given and what was held are together what is freed and what is held then
 pub row-balance :
     (f : ℕ → ℕ) (setting : Setting) (position : Position) (operation : Op) (result : Outcome) (piece : List Event) → IsPlain operation → IsOp operation
@@ -63,12 +78,40 @@ row-balance f setting position (op.Free r) result piece plain ranges many row =
     free-balance f setting position r (held_in position.registers r) result piece refl row
 row-balance f setting position (op.Fill r v) result piece plain ranges many row = refl
 row-balance f setting position (op.Check r) result piece plain ranges many row = refl
+row-balance f setting position (op.Resize r need) result piece plain ranges many row =
+    resize-balance f setting position r need (held_in position.registers r) result piece refl row
 row-balance f setting position (op.Put r shelf) result piece plain ranges many row = absurd plain
 row-balance f setting position (op.Take r shelf) result piece plain ranges many row = absurd plain
 
--- no operation both gives a block and frees one
-pub gives-or-frees :
-    (registers : List (Option Held)) (operation : Op) (result : Outcome)
-    → (count_with as_one (words_given operation result) ≡ 0) ⊎ (count_with as_one (words_freed registers operation result) ≡ 0)
-gives-or-frees registers (op.Free r) result = inl refl
-gives-or-frees registers operation result = inr refl
+-- an operation gives no block, or frees none, or moves one
+abbrev pub IsOneSided : List (Option Held) → Option Filled → Op → Outcome → Type 0
+IsOneSided registers now operation result =
+    (count_with as_one (words_given operation result) ≡ 0)
+    ⊎ ((count_with as_one (words_freed registers operation result) ≡ 0) ⊎ (moves now operation ≡ true))
+
+resize-sided :
+    (setting : Setting) (position : Position) (r need : ℕ) (held : Option Held) (result : Outcome) (now : Option Filled) (piece : List Event)
+    → words_held held ≡ words_filled now → need_held held ≡ need_filled now → ResizeRow setting position need held result piece
+    → IsOneSided position.registers now (op.Resize r need) result
+resize-sided setting position r need (Some held) (outcome.Resized words place) (Some now) piece same same_need row =
+    let goes = moves-on need held now same_need row.0 in
+    inr (inr (rw goes refl))
+resize-sided setting position r need (Some held) (outcome.Resized words place) None piece same same_need row = mismatch held _ same
+resize-sided setting position r need None (outcome.Resized words place) now piece same same_need row = absurd row
+resize-sided setting position r need held result now piece same same_need row = inl refl
+
+pub row-sided :
+    (setting : Setting) (position : Position) (filled : List (Option Filled)) (operation : Op) (result : Outcome) (piece : List Event)
+    → IsAlike position.registers filled → FitsRow setting position operation result piece
+    → IsOneSided position.registers (filled_in filled operation) operation result
+row-sided setting position filled (op.Free r) result piece alike row = inl refl
+row-sided setting position filled (op.Resize r need) result piece alike row =
+    resize-sided setting position r need (held_in position.registers r) result (filled_in filled (op.Resize r need)) piece
+    (alike-at position.registers filled r alike) (need-at position.registers filled r alike) row
+row-sided setting position filled operation result piece alike row = inr (inl refl)
+
+-- it gives at most one block
+pub gives-one : (operation : Op) (result : Outcome) → count_with as_one (words_given operation result) ≤ 1
+gives-one (op.Alloc r need v) (outcome.Given words place) = omega arith
+gives-one (op.Resize r need) (outcome.Resized words place) = omega arith
+gives-one operation result = omega arith

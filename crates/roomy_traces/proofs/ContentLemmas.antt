@@ -1,6 +1,6 @@
 -- What a caller's block contains at the moments of a history, through the caller's events.
-use Rattle.std.proofs.Common.{ℕ, zero, suc, replicate, set, sum, ◌≡◌, ◌≢◌, ◌+◌, ◌%◌, ◌^◌, List, [], ◌∷◌, ◌++◌, Option, Some, None, map, length, refl, sym, ◌∙◌, ap, subst, arith, append_assoc, append-nil}
-use Rattle.std.specs.Prelude.{slice_set}
+use Rattle.std.proofs.Common.{ℕ, zero, suc, replicate, set, sum, ◌≡◌, ◌≢◌, ◌<◌, ◌+◌, ◌%◌, ◌^◌, List, [], ◌∷◌, ◌++◌, Option, Some, None, map, length, refl, sym, ◌∙◌, ap, subst, arith, append_assoc, append-nil}
+use Rattle.std.specs.Prelude.{slice_set, slice_index_or}
 use Rattle.std.specs.List.{AllByRecursion, AllZip, range_with_len}
 use Rattle.std.proofs.lemmas.List.{set_at, length_push, length-replicate}
 use Rattle.heap_geometry.specs.declared.geometry.Geometry.{Geometry}
@@ -14,12 +14,12 @@ use Rattle.pool_model.specs.Legal.{IsLegalWithoutCounts, IsLegalEventWithoutCoun
 use Rattle.pool_model.proofs.HistoryLemmas.{pool_of-push, push-append, EachAfter-cut}
 use Rattle.pool_model.proofs.OwnerLemmas.{others-keep_all}
 use Rattle.pool_model.proofs.PoolLemmas.{block_at-here, block_at-past, block_at-without_other, block_at-changed_other, block_at-changed_same}
-use Rattle.lane_outcomes.specs.Lane.{filling}
+use Rattle.lane_outcomes.specs.Lane.{filling, writing}
 use Rattle.lane_outcomes.specs.Rows.{IsWord, IsSumOf}
-use Rattle.lane_outcomes.proofs.FillLemmas.{writes}
+use Rattle.lane_outcomes.proofs.FillLemmas.{writes_of}
 use Rattle.lane_outcomes.proofs.FollowLemmas.{cut-last}
 use Rattle.lane_outcomes.proofs.WrittenBlocks.{known-words}
-use Rattle.roomy_traces.specs.Serial.{numbers_from}
+use Rattle.roomy_traces.specs.Roomy.{copied, numbers_from}
 use Rattle.roomy_traces.proofs.PieceLemmas.{IsGivenBy}
 
 -- the caller owns a live block at the place, with these contents
@@ -107,22 +107,22 @@ at-away g history caller done (event ∷ events) place contents legal away at =
       contents_are = h.contents_are;
     }) at))
 
--- the numbers of words from one on
-abbrev somes : ℕ → ℕ → ℕ → List (Option ℕ)
-somes v first count = map (λ i. Some ((v + i) % 2 ^ 64)) (range_with_len first count)
+-- the values of words from one on
+abbrev somes : (ℕ → ℕ) → ℕ → ℕ → List (Option ℕ)
+somes value first count = map (λ i. Some (value i)) (range_with_len first count)
 
--- writes in a row put their numbers behind what stands before them
+-- writes in a row put their values behind what stands before them
 at-writes :
-    (g : Geometry) (history : List Event) (caller place v : ℕ) (count first : ℕ) (done : List Event) (front back : List (Option ℕ))
+    (g : Geometry) (history : List Event) (caller place : ℕ) (value : ℕ → ℕ) (count first : ℕ) (done : List Event) (front back : List (Option ℕ))
     → IsLegalWithoutCounts g history → length front ≡ first → length back ≡ count
     → AtMoments history caller done (HasContents caller place (front ++ back))
-    → AtMoments history caller (done ++ writes caller place v first count) (HasContents caller place (front ++ somes v first count))
-at-writes g history caller place v zero first done front [] legal at_first many at =
+    → AtMoments history caller (done ++ writes_of caller place value first count) (HasContents caller place (front ++ somes value first count))
+at-writes g history caller place value zero first done front [] legal at_first many at =
     subst (λ (xs : List Event). AtMoments history caller xs (HasContents caller place (front ++ []))) (sym (append-nil done)) at
-at-writes g history caller place v zero first done front (x ∷ back) legal at_first many at = absurd (omega (arith, many))
-at-writes g history caller place v (suc count) first done front [] legal at_first many at = absurd (omega (arith, many))
-at-writes g history caller place v (suc count) first done front (x ∷ back) legal at_first many at =
-    let n : ℕ = (v + first) % 2 ^ 64 in
+at-writes g history caller place value zero first done front (x ∷ back) legal at_first many at = absurd (omega (arith, many))
+at-writes g history caller place value (suc count) first done front [] legal at_first many at = absurd (omega (arith, many))
+at-writes g history caller place value (suc count) first done front (x ∷ back) legal at_first many at =
+    let n : ℕ = value first in
     let event : Event = Write caller place first n in
     let longer : List (Option ℕ) = front ++ Some n ∷ [] in
     let now : set (front ++ x ∷ back) first (Some n) ≡ longer ++ back =
@@ -135,38 +135,46 @@ at-writes g history caller place v (suc count) first done front (x ∷ back) leg
       owned = h.owned;
       contents_are = ap (λ cs. slice_set cs first (Some n)) h.contents_are ∙ now;
     }) at in
-    let later = at-writes g history caller place v count (first + 1) (done ++ event ∷ []) longer back legal
+    let later = at-writes g history caller place value count (first + 1) (done ++ event ∷ []) longer back legal
     (length_push front (Some n) ∙ ap (λ k. k + 1) at_first) (omega (arith, many)) stepped in
-    let events : List Event = writes caller place v (first + 1) count in
+    let events : List Event = writes_of caller place value (first + 1) count in
     subst (λ (cs : List (Option ℕ)). AtMoments history caller (done ++ event ∷ events) (HasContents caller place cs))
-    (append_assoc front (Some n ∷ []) (somes v (first + 1) count))
-    (subst (λ (xs : List Event). AtMoments history caller xs (HasContents caller place (longer ++ somes v (first + 1) count)))
+    (append_assoc front (Some n ∷ []) (somes value (first + 1) count))
+    (subst (λ (xs : List Event). AtMoments history caller xs (HasContents caller place (longer ++ somes value (first + 1) count)))
     (push-append done events event) later)
 
 map-map : {X Y Z : Type 0} (f : Y → Z) (h : X → Y) (xs : List X) → map (λ x. f (h x)) xs ≡ map f (map h xs)
 map-map f h [] = refl
 map-map f h (x ∷ xs) = ap (λ ys. f (h x) ∷ ys) (map-map f h xs)
 
--- the contents of a block of so many words that was filled from a number on
-abbrev pub filled_from : ℕ → ℕ → List (Option ℕ)
-filled_from v words = map (λ n. Some n) (numbers_from v words)
+-- the contents of a block with these numbers in it
+abbrev pub with_numbers : List ℕ → List (Option ℕ)
+with_numbers numbers = map (λ n. Some n) numbers
 
--- a filling puts them there, whatever the block contained
+-- a write of each word puts its value there, whatever the block contained
+at-writing :
+    (g : Geometry) (history : List Event) (caller place words : ℕ) (value : ℕ → ℕ) (done : List Event) (contents : List (Option ℕ))
+    → IsLegalWithoutCounts g history → length contents ≡ words → AtMoments history caller done (HasContents caller place contents)
+    → AtMoments history caller (done ++ writing caller place words value) (HasContents caller place (with_numbers (map value (range_with_len 0 words))))
+at-writing g history caller place words value done contents legal many at =
+    subst (λ (cs : List (Option ℕ)). AtMoments history caller (done ++ writing caller place words value) (HasContents caller place cs))
+    (map-map (λ n. Some n) value (range_with_len 0 words))
+    (at-writes g history caller place value words 0 done [] contents legal refl many at)
+
+-- so does a filling
 pub at-filling :
     (g : Geometry) (history : List Event) (caller place words v : ℕ) (done : List Event) (contents : List (Option ℕ))
     → IsLegalWithoutCounts g history → length contents ≡ words → AtMoments history caller done (HasContents caller place contents)
-    → AtMoments history caller (done ++ filling caller place words v) (HasContents caller place (filled_from v words))
+    → AtMoments history caller (done ++ filling caller place words v) (HasContents caller place (with_numbers (numbers_from v words)))
 at-filling g history caller place words v done contents legal many at =
-    subst (λ (cs : List (Option ℕ)). AtMoments history caller (done ++ filling caller place words v) (HasContents caller place cs))
-    (map-map (λ n. Some n) (λ i. (v + i) % 2 ^ 64) (range_with_len 0 words))
-    (at-writes g history caller place v words 0 done [] contents legal refl many at)
+    at-writing g history caller place words (λ i. (v + i) % 2 ^ 64) done contents legal many at
 
--- and so does an allocation that is given a block and fills it
+-- and so does an allocation that is given a block and writes it
 pub at-given :
-    (g : Geometry) (history : List Event) (caller need place words v : ℕ) (done calls : List Event) → IsLegalWithoutCounts g history
+    (g : Geometry) (history : List Event) (caller need place words : ℕ) (value : ℕ → ℕ) (done calls : List Event) → IsLegalWithoutCounts g history
     → words ≡ usable_words (need_of need) → IsGivenBy caller need place calls
-    → AtMoments history caller (done ++ (calls ++ filling caller place words v)) (HasContents caller place (filled_from v words))
-at-given g history caller need place words v done calls legal words_are given =
+    → AtMoments history caller (done ++ (calls ++ writing caller place words value)) (HasContents caller place (with_numbers (map value (range_with_len 0 words))))
+at-given g history caller need place words value done calls legal words_are given =
     let fresh : List (Option ℕ) = replicate (usable_words (need_of need)) None in
     let alloc : Event = Alloc caller need place in
     let called : AtMoments history caller ((done ++ given.looked) ++ alloc ∷ []) (HasContents caller place fresh) =
@@ -178,21 +186,68 @@ at-given g history caller need place words v done calls legal words_are given =
       contents_are = refl;
     })
     (λ before begins own_is. tt) in
-    let all : List Event = filling caller place words v in
-    let filled : AtMoments history caller (((done ++ given.looked) ++ alloc ∷ []) ++ all) (HasContents caller place (filled_from v words)) =
-    at-filling g history caller place words v ((done ++ given.looked) ++ alloc ∷ []) fresh legal
+    let all : List Event = writing caller place words value in
+    let numbers : List ℕ = map value (range_with_len 0 words) in
+    let filled : AtMoments history caller (((done ++ given.looked) ++ alloc ∷ []) ++ all) (HasContents caller place (with_numbers numbers)) =
+    at-writing g history caller place words value ((done ++ given.looked) ++ alloc ∷ []) fresh legal
     (length-replicate {A = Option ℕ} (usable_words (need_of need)) None ∙ sym words_are) called in
     let same : ((done ++ given.looked) ++ alloc ∷ []) ++ all ≡ done ++ (calls ++ all) =
     ap (λ xs. xs ++ all) (append_assoc done given.looked (alloc ∷ []) ∙ ap (λ xs. done ++ xs) (sym given.whole)) ∙ append_assoc done calls all in
-    subst (λ (xs : List Event). AtMoments history caller xs (HasContents caller place (filled_from v words))) same filled
+    subst (λ (xs : List Event). AtMoments history caller xs (HasContents caller place (with_numbers numbers))) same filled
+
+-- after the free of another block, which lies elsewhere at that moment, the contents are the same
+pub at-freed :
+    (g : Geometry) (history : List Event) (caller place gone : ℕ) (done : List Event) (contents : List (Option ℕ)) → IsLegalWithoutCounts g history
+    → AtMoments history caller done (λ pool. place ≢ gone) → AtMoments history caller done (HasContents caller place contents)
+    → AtMoments history caller (done ++ Free caller gone ∷ []) (HasContents caller place contents)
+at-freed g history caller place gone done contents legal apart at =
+    contents-step g history caller done (Free caller gone) place contents (λ pool. (place ≢ gone) × HasContents caller place contents pool) legal
+    (λ pool h. record {
+      block = h.1.block;
+      live = away-live place (Free caller gone) pool h.0 ∙ h.1.live;
+      owned = h.1.owned;
+      contents_are = h.1.contents_are;
+    })
+    (λ before begins own_is. (apart before begins own_is, at before begins own_is))
+
+-- what a live block contains whose numbers are known
+pub known-contents :
+    (pool : Pool) (caller place : ℕ) (numbers : List ℕ) (block : Block) → HasContents caller place (with_numbers numbers) pool
+    → block_at place pool ≡ Some block → block.contents ≡ with_numbers numbers
+known-contents pool caller place numbers block h found =
+    let same : h.block ≡ block = let e : Some h.block ≡ Some block = sym h.live ∙ found in cc in
+    ap (λ (b : Block). b.contents) (sym same) ∙ h.contents_are
 
 -- a sum of known contents is the sum of their numbers
 pub known-sum :
-    (pool : Pool) (caller place v words total : ℕ) (block : Block) → HasContents caller place (filled_from v words) pool
-    → block_at place pool ≡ Some block → IsSumOf block.contents total → total ≡ sum (numbers_from v words) % 2 ^ 64
-known-sum pool caller place v words total block h found summed =
-    let same : h.block ≡ block = let e : Some h.block ≡ Some block = sym h.live ∙ found in cc in
-    let contents : block.contents ≡ filled_from v words = ap (λ (b : Block). b.contents) (sym same) ∙ h.contents_are in
+    (pool : Pool) (caller place : ℕ) (numbers : List ℕ) (total : ℕ) (block : Block) → HasContents caller place (with_numbers numbers) pool
+    → block_at place pool ≡ Some block → IsSumOf block.contents total → total ≡ sum numbers % 2 ^ 64
+known-sum pool caller place numbers total block h found summed =
     summed.total_is
     ∙ ap (λ ns. sum ns % 2 ^ 64)
-    (known-words (numbers_from v words) summed.words (subst (λ (cs : List (Option ℕ)). AllZip IsWord cs summed.words) contents summed.each))
+    (known-words numbers summed.words
+    (subst (λ (cs : List (Option ℕ)). AllZip IsWord cs summed.words) (known-contents pool caller place numbers block h found) summed.each))
+
+-- the value of a copied word is the number that the old block has there, and 0 past its end
+copied-word : (numbers : List ℕ) (i n : ℕ) → IsWord (slice_index_or (with_numbers numbers) i (Some 0)) n → n ≡ slice_index_or numbers i 0
+copied-word [] i n is = is
+copied-word (number ∷ numbers) zero n is = is
+copied-word (number ∷ numbers) (suc i) n is = copied-word numbers i n is
+
+range-same :
+    (value other : ℕ → ℕ) (count first : ℕ) → ((i : ℕ) → i < first + count → value i ≡ other i)
+    → map value (range_with_len first count) ≡ map other (range_with_len first count)
+range-same value other zero first same = refl
+range-same value other (suc count) first same =
+    ap (λ n. n ∷ map value (range_with_len (first + 1) count)) (same first (omega arith))
+    ∙ ap (λ ns. other first ∷ ns) (range-same value other count (first + 1) (λ i lt. same i (omega (arith, lt))))
+
+-- so what a resize writes is a copy of the old block's numbers
+pub known-copy :
+    (numbers : List ℕ) (contents : List (Option ℕ)) (words : ℕ) (value : ℕ → ℕ) → contents ≡ with_numbers numbers
+    → ((i : ℕ) → i < words → IsWord (slice_index_or contents i (Some 0)) (value i)) → map value (range_with_len 0 words) ≡ copied numbers words
+known-copy numbers contents words value are each =
+    range-same value (λ i. slice_index_or numbers i 0) words 0
+    (λ i lt.
+    copied-word numbers i (value i)
+    (subst (λ (cs : List (Option ℕ)). IsWord (slice_index_or cs i (Some 0)) (value i)) are (each i (omega (arith, lt)))))

@@ -1,5 +1,5 @@
 -- At each moment before a refusal a lane holds at most its most blocks.
-use Rattle.std.proofs.Common.{ℕ, count_by, cond, ◌≡◌, ◌⊎◌, ◌+◌, ◌≤◌, List, [], ◌∷◌, ◌++◌, Option, Some, None, max, refl, sym, ◌∙◌, ap, subst, inl, inr, arith, append_assoc, append-nil}
+use Rattle.std.proofs.Common.{ℕ, count_by, cond, true, ◌≡◌, ◌⊎◌, ◌+◌, ◌≤◌, List, [], ◌∷◌, ◌++◌, Option, Some, None, max, refl, sym, ◌∙◌, ap, subst, inl, inr, arith, append_assoc, append-nil}
 use Rattle.std.specs.List.{AllByRecursion}
 use Rattle.std.proofs.lemmas.List.Sums.{sum_by-append}
 use Rattle.heap_geometry.specs.Need.{need_of}
@@ -15,13 +15,13 @@ use Rattle.lane_outcomes.specs.declared.outcome.Outcome.{Outcome}
 use Rattle.lane_outcomes.specs.declared.outcome.Outcome.TheVariants as outcome
 use Rattle.lane_outcomes.specs.Lane.{Position, held_in, registers_after, position_after}
 use Rattle.lane_outcomes.specs.LaneCounts.{words_given, words_freed, count_with, as_one}
-use Rattle.lane_outcomes.specs.Rows.{Setting, AllocRow, FreeRow, FillRow, CheckRow, FitsRow}
+use Rattle.lane_outcomes.specs.Rows.{Setting, AllocRow, FreeRow, FillRow, CheckRow, ResizeRow, FitsRow}
 use Rattle.lane_outcomes.specs.Fits.{Walks}
-use Rattle.roomy_traces.specs.Roomy.{Filled, IsPlain, serial_after, held_by, most_held}
+use Rattle.roomy_traces.specs.Roomy.{Filled, IsPlain, filled_in, moves, serial_after, held_by, held_during, most_held}
 use Rattle.roomy_traces.proofs.LaneLemmas.{all-ends, all-begins, count-begins}
 use Rattle.roomy_traces.proofs.PieceLemmas.{Counts, row-counts, refused-by}
 use Rattle.roomy_traces.proofs.SpentLemmas.{IsUnspent}
-use Rattle.roomy_traces.proofs.BalanceLemmas.{row-balance, gives-or-frees}
+use Rattle.roomy_traces.proofs.BalanceLemmas.{row-balance, row-sided, gives-one}
 use Rattle.roomy_traces.proofs.RegisterLemmas.{IsAlike, IsAnswered, alike-count, row-alike}
 
 -- the events that a walk adds
@@ -75,6 +75,14 @@ check-refuses : (setting : Setting) (position : Position) (held : Option Held) (
 check-refuses setting position None piece row = row
 check-refuses setting position (Some held) piece row = row
 
+resize-refuses :
+    (setting : Setting) (position : Position) (need : ℕ) (held : Option Held) (piece : List Event) → ResizeRow setting position need held outcome.Refused piece
+    → AllByRecursion IsUnrefusing piece → ⊥
+resize-refuses setting position need (Some held) piece row none =
+    let refused = refused-by setting.caller need (need_of need) piece row.2 in
+    (all-ends IsUnrefusing refused.looked (Refuse setting.caller need ∷ []) (subst (AllByRecursion IsUnrefusing) refused.whole none)).0
+resize-refuses setting position need None piece row none = row
+
 pub row-refuses :
     (setting : Setting) (position : Position) (operation : Op) (piece : List Event) → IsPlain operation
     → FitsRow setting position operation outcome.Refused piece → AllByRecursion IsUnrefusing piece → ⊥
@@ -82,11 +90,13 @@ row-refuses setting position (op.Alloc r need v) piece plain row none = alloc-re
 row-refuses setting position (op.Free r) piece plain row none = free-refuses setting (held_in position.registers r) piece row
 row-refuses setting position (op.Fill r v) piece plain row none = fill-refuses setting v (held_in position.registers r) piece row
 row-refuses setting position (op.Check r) piece plain row none = check-refuses setting position (held_in position.registers r) piece row
+row-refuses setting position (op.Resize r need) piece plain row none = resize-refuses setting position need (held_in position.registers r) piece row none
 row-refuses setting position (op.Put r shelf) piece plain row none = plain
 row-refuses setting position (op.Take r shelf) piece plain row none = plain
 
 refused-gives : (operation : Op) → count_with as_one (words_given operation outcome.Refused) ≡ 0
 refused-gives (op.Alloc r need v) = refl
+refused-gives (op.Resize r need) = refl
 refused-gives operation = refl
 
 -- a part of two lists in a row is a part of the first, or the first and a part of the second
@@ -114,30 +124,33 @@ IsBounded filled operations tail =
     (part : List Event) → Begins part tail → AllByRecursion IsUnrefusing part
     → count_by is_alloc part + held_by as_one filled ≤ count_by is_free part + most_held filled operations
 
--- inside the events of one operation
+-- inside the events of one operation, during which the lane holds so many blocks at most
 inside-most :
-    (filled next : List (Option Filled)) (operations : List Op) (part piece : List Event) (given freed : ℕ) → Counts piece given freed
-    → given + held_by as_one filled ≡ freed + held_by as_one next → (given ≡ 0) ⊎ (freed ≡ 0) → Begins part piece
-    → count_by is_alloc part + held_by as_one filled ≤ count_by is_free part + max (held_by as_one filled) (most_held next operations)
-inside-most filled next operations part piece given freed counts balance (inl none) begins =
-    omega (arith, counts.gives, count-begins is_alloc part piece begins)
-inside-most filled next operations part piece given freed counts balance (inr none) begins =
+    (filled next : List (Option Filled)) (operations : List Op) (part piece : List Event) (given freed during : ℕ) → Counts piece given freed
+    → given + held_by as_one filled ≡ freed + held_by as_one next → held_by as_one filled ≤ during
+    → (given ≡ 0) ⊎ ((freed ≡ 0) ⊎ (given + held_by as_one filled ≤ during)) → Begins part piece
+    → count_by is_alloc part + held_by as_one filled ≤ count_by is_free part + max during (most_held next operations)
+inside-most filled next operations part piece given freed during counts balance least (inl none) begins =
+    omega (arith, counts.gives, least, count-begins is_alloc part piece begins)
+inside-most filled next operations part piece given freed during counts balance least (inr (inl none)) begins =
     omega (arith, counts.gives, balance, count-begins is_alloc part piece begins, most-now next operations)
+inside-most filled next operations part piece given freed during counts balance least (inr (inr both)) begins =
+    omega (arith, counts.gives, both, count-begins is_alloc part piece begins)
 
 refused-most :
-    (filled next : List (Option Filled)) (operations : List Op) (part piece : List Event) (freed : ℕ) → Counts piece 0 freed
-    → Begins part piece
-    → count_by is_alloc part + held_by as_one filled ≤ count_by is_free part + max (held_by as_one filled) (most_held next operations)
-refused-most filled next operations part piece freed counts begins =
-    omega (arith, counts.gives, count-begins is_alloc part piece begins)
+    (filled next : List (Option Filled)) (operations : List Op) (part piece : List Event) (freed during : ℕ) → Counts piece 0 freed
+    → held_by as_one filled ≤ during → Begins part piece
+    → count_by is_alloc part + held_by as_one filled ≤ count_by is_free part + max during (most_held next operations)
+refused-most filled next operations part piece freed during counts least begins =
+    omega (arith, counts.gives, least, count-begins is_alloc part piece begins)
 
 -- behind them
 behind-most :
-    (filled next : List (Option Filled)) (operations : List Op) (part piece more : List Event) (given freed : ℕ) → Counts piece given freed
+    (filled next : List (Option Filled)) (operations : List Op) (part piece more : List Event) (given freed during : ℕ) → Counts piece given freed
     → given + held_by as_one filled ≡ freed + held_by as_one next → part ≡ piece ++ more
     → count_by is_alloc more + held_by as_one next ≤ count_by is_free more + most_held next operations
-    → count_by is_alloc part + held_by as_one filled ≤ count_by is_free part + max (held_by as_one filled) (most_held next operations)
-behind-most filled next operations part piece more given freed counts balance is later =
+    → count_by is_alloc part + held_by as_one filled ≤ count_by is_free part + max during (most_held next operations)
+behind-most filled next operations part piece more given freed during counts balance is later =
     omega (
       arith,
       counts.gives,
@@ -149,6 +162,15 @@ behind-most filled next operations part piece more given freed counts balance is
       sum_by-append (λ e. cond (is_alloc e) 1 0) piece more,
       sum_by-append (λ e. cond (is_free e) 1 0) piece more,
     )
+
+-- the blocks between two operations are among those during the next one, and where one moves there is one more
+during-least : (filled : List (Option Filled)) (operation : Op) → held_by as_one filled ≤ held_during filled operation
+during-least filled operation = omega arith
+
+during-moved :
+    (filled : List (Option Filled)) (operation : Op) (given : ℕ) → given ≤ 1 → moves (filled_in filled operation) operation ≡ true
+    → given + held_by as_one filled ≤ held_during filled operation
+during-moved filled operation given one moved = rw moved (omega (arith, one))
 
 pub record WalkHolds (from to : Position) (filled : List (Option Filled)) (operations : List Op) : Type 0 where
   pub adds : Adds from to
@@ -174,13 +196,20 @@ answered-holds setting from to filled operation operations result piece plain ra
       alike-count as_one from.registers filled alike,
       alike-count as_one (registers_after from.registers operation result) next after,
     ) in
+    let sided : (given ≡ 0) ⊎ ((freed ≡ 0) ⊎ (given + held_by as_one filled ≤ held_during filled operation)) =
+    elim (row-sided setting from filled operation result piece alike row) [
+      | inl none ↦ inl none
+      | inr (inl none) ↦ inr (inl none)
+      | inr (inr moved) ↦ inr (inr (during-moved filled operation given (gives-one operation result) moved))
+    ] in
     record {
       adds = adds-more from to operation result piece later.adds;
       bounded = λ part begins none. elim (begins-cases part piece later.adds.tail begins) [
         | inl inside ↦
-            inside-most filled next operations part piece given freed counts balance (gives-or-frees from.registers operation result) inside
+            inside-most filled next operations part piece given freed (held_during filled operation) counts balance (during-least filled operation)
+            sided inside
         | inr past ↦
-            behind-most filled next operations part piece past.0 given freed counts balance past.1
+            behind-most filled next operations part piece past.0 given freed (held_during filled operation) counts balance past.1
             (later.bounded past.0 past.2 (all-ends IsUnrefusing piece past.0 (subst (AllByRecursion IsUnrefusing) past.1 none)))
       ];
     }
@@ -196,7 +225,9 @@ refused-holds setting from to filled operation operations piece plain row later 
     record {
       adds = adds-more from to operation outcome.Refused piece later;
       bounded = λ part begins none. elim (begins-cases part piece later.tail begins) [
-        | inl inside ↦ refused-most filled (serial_after filled operation) operations part piece _ none_given inside
+        | inl inside ↦
+            refused-most filled (serial_after filled operation) operations part piece _ (held_during filled operation) none_given
+            (during-least filled operation) inside
         | inr past ↦
             absurd (row-refuses setting from operation piece plain row
             (all-begins IsUnrefusing piece past.0 (subst (AllByRecursion IsUnrefusing) past.1 none)))

@@ -1,5 +1,5 @@
 -- The events of an operation: which they are, and how many blocks they give and free.
-use Rattle.std.proofs.Common.{ℕ, zero, suc, Bool, true, false, cond, count_by, ◌≡◌, ◌+◌, ◌≤◌, List, [], ◌∷◌, ◌++◌, Option, Some, None, refl, sym, ap, subst, arith}
+use Rattle.std.proofs.Common.{ℕ, zero, suc, Bool, true, false, cond, count_by, ◌≡◌, ◌+◌, ◌≤◌, ◌%◌, ◌^◌, List, [], ◌∷◌, ◌++◌, Option, Some, None, refl, sym, ap, subst, arith}
 use Rattle.std.specs.List.{AllByRecursion}
 use Rattle.std.proofs.lemmas.List.Sums.{sum_by-cons, sum_by-append}
 use Rattle.heap_geometry.specs.declared.limits.TheConstants.{SMALL_MOST}
@@ -7,7 +7,7 @@ use Rattle.heap_geometry.specs.declared.need.Need.{Need}
 use Rattle.heap_geometry.specs.declared.need.Need.TheVariants.{Small, Large, TooLarge}
 use Rattle.heap_geometry.specs.Need.{need_of}
 use Rattle.pool_model.specs.declared.event.Event.{Event}
-use Rattle.pool_model.specs.declared.event.Event.TheVariants.{Alloc, Looked, Refuse, Write}
+use Rattle.pool_model.specs.declared.event.Event.TheVariants.{Alloc, Looked, Refuse, Free, Write}
 use Rattle.pool_model.specs.Calls.{IsGiving, IsRefusing, IsSpending, looks}
 use Rattle.pool_model.specs.Counts.{is_alloc, is_free}
 use Rattle.trace_text.specs.declared.trace.Op.{Op}
@@ -15,10 +15,10 @@ use Rattle.trace_text.specs.declared.trace.Op.TheVariants as op
 use Rattle.lane_outcomes.specs.declared.registers.Held.{Held}
 use Rattle.lane_outcomes.specs.declared.outcome.Outcome.{Outcome}
 use Rattle.lane_outcomes.specs.declared.outcome.Outcome.TheVariants as outcome
-use Rattle.lane_outcomes.specs.Lane.{Position, held_in, filling}
+use Rattle.lane_outcomes.specs.Lane.{Position, held_in, filling, writing}
 use Rattle.lane_outcomes.specs.LaneCounts.{words_given, words_freed, count_with, as_one}
-use Rattle.lane_outcomes.specs.Rows.{Setting, IsSpent, AllocRow, FreeRow, FillRow, CheckRow, FitsRow}
-use Rattle.lane_outcomes.proofs.FillLemmas.{writes}
+use Rattle.lane_outcomes.specs.Rows.{Setting, IsSpent, AllocRow, FreeRow, FillRow, CheckRow, ResizeRow, FitsRow}
+use Rattle.lane_outcomes.proofs.FillLemmas.{writes_of}
 use Rattle.roomy_traces.specs.Roomy.{IsPlain}
 use Rattle.roomy_traces.proofs.LaneLemmas.{all-append, all-map}
 
@@ -37,14 +37,19 @@ pub all-looks :
 all-looks P caller events holds all = all-map (IsLook caller) P events (λ event look. subst P (sym look.1) (holds look.0)) all
 
 all-writes :
-    (P : Event → Type 0) (caller place v : ℕ) → ((i n : ℕ) → P (Write caller place i n)) → (count first : ℕ)
-    → AllByRecursion P (writes caller place v first count)
-all-writes P caller place v holds zero first = tt
-all-writes P caller place v holds (suc count) first = (holds first _, all-writes P caller place v holds count (first + 1))
+    (P : Event → Type 0) (caller place : ℕ) (value : ℕ → ℕ) → ((i n : ℕ) → P (Write caller place i n)) → (count first : ℕ)
+    → AllByRecursion P (writes_of caller place value first count)
+all-writes P caller place value holds zero first = tt
+all-writes P caller place value holds (suc count) first = (holds first _, all-writes P caller place value holds count (first + 1))
+
+pub all-writing :
+    (P : Event → Type 0) (caller place words : ℕ) (value : ℕ → ℕ) → ((i n : ℕ) → P (Write caller place i n))
+    → AllByRecursion P (writing caller place words value)
+all-writing P caller place words value holds = all-writes P caller place value holds words 0
 
 pub all-filling :
     (P : Event → Type 0) (caller place words v : ℕ) → ((i n : ℕ) → P (Write caller place i n)) → AllByRecursion P (filling caller place words v)
-all-filling P caller place words v holds = all-writes P caller place v holds words 0
+all-filling P caller place words v holds = all-writing P caller place words (λ i. (v + i) % 2 ^ 64) holds
 
 -- an allocation that is given a block, is refused or finds no turn: looks, and then what it came to
 pub record IsGivenBy (caller need place : ℕ) (calls : List Event) : Type 0 where
@@ -116,26 +121,26 @@ quiet-none piece none = rw none tt
 quiet-looks : (caller : ℕ) (events : List Event) → AllByRecursion (IsLook caller) events → AllByRecursion IsQuiet events
 quiet-looks caller events look = all-looks IsQuiet caller events (λ class. (refl, refl)) look
 
-quiet-filling : (caller place words v : ℕ) → AllByRecursion IsQuiet (filling caller place words v)
-quiet-filling caller place words v = all-filling IsQuiet caller place words v (λ i n. (refl, refl))
+quiet-writing : (caller place words : ℕ) (value : ℕ → ℕ) → AllByRecursion IsQuiet (writing caller place words value)
+quiet-writing caller place words value = all-writing IsQuiet caller place words value (λ i n. (refl, refl))
 
 given-counts :
-    (caller need place words v : ℕ) (calls piece : List Event) → IsGivenBy caller need place calls → piece ≡ calls ++ filling caller place words v
-    → Counts piece 1 0
-given-counts caller need place words v calls piece given is =
+    (caller need place words : ℕ) (value : ℕ → ℕ) (calls piece : List Event) → IsGivenBy caller need place calls
+    → piece ≡ calls ++ writing caller place words value → Counts piece 1 0
+given-counts caller need place words value calls piece given is =
     let looked = quiet-counts given.looked (quiet-looks caller given.looked given.look) in
     let one : Counts (Alloc caller need place ∷ []) 1 0 = record { gives = refl; frees = refl } in
-    let filled = quiet-counts (filling caller place words v) (quiet-filling caller place words v) in
+    let filled = quiet-counts (writing caller place words value) (quiet-writing caller place words value) in
     let called : Counts calls 1 0 =
     subst (λ xs. Counts xs 1 0) (sym given.whole) (counts-append given.looked (Alloc caller need place ∷ []) 0 0 1 0 looked one) in
-    subst (λ xs. Counts xs 1 0) (sym is) (counts-append calls (filling caller place words v) 1 0 0 0 called filled)
+    subst (λ xs. Counts xs 1 0) (sym is) (counts-append calls (writing caller place words value) 1 0 0 0 called filled)
 
 alloc-counts :
     (setting : Setting) (position : Position) (r need v : ℕ) (held : Option Held) (result : Outcome) (piece : List Event)
     → AllocRow setting position need v held result piece → Counts piece (count_with as_one (words_given (op.Alloc r need v) result)) 0
 alloc-counts setting position r need v (Some held) outcome.Skipped piece row = quiet-counts piece (quiet-none piece row)
 alloc-counts setting position r need v None (outcome.Given words place) piece row =
-    given-counts setting.caller need place words v row.2 piece (given-by setting.caller need place (need_of need) row.2 row.3) row.4
+    given-counts setting.caller need place words (λ i. (v + i) % 2 ^ 64) row.2 piece (given-by setting.caller need place (need_of need) row.2 row.3) row.4
 alloc-counts setting position r need v None outcome.Refused piece row =
     let refused = refused-by setting.caller need (need_of need) piece row.1 in
     quiet-counts piece
@@ -157,7 +162,7 @@ fill-counts :
     (setting : Setting) (v : ℕ) (held : Option Held) (result : Outcome) (piece : List Event) → FillRow setting v held result piece → Counts piece 0 0
 fill-counts setting v None outcome.Skipped piece row = quiet-counts piece (quiet-none piece row)
 fill-counts setting v (Some held) outcome.Filled piece row =
-    quiet-counts piece (rw row (quiet-filling setting.caller held.place held.words v))
+    quiet-counts piece (rw row (quiet-writing setting.caller held.place held.words (λ i. (v + i) % 2 ^ 64)))
 fill-counts setting v held result piece row = absurd row
 
 check-counts :
@@ -166,6 +171,34 @@ check-counts :
 check-counts setting position None outcome.Skipped piece row = quiet-counts piece (quiet-none piece row)
 check-counts setting position (Some held) (outcome.Sum total) piece row = quiet-counts piece (quiet-none piece row.0)
 check-counts setting position held result piece row = absurd row
+
+-- a resize to another need gives a block, writes it and frees the held one
+resized-counts :
+    (caller need place old words : ℕ) (value : ℕ → ℕ) (calls piece : List Event) → IsGivenBy caller need place calls
+    → piece ≡ (calls ++ writing caller place words value) ++ Free caller old ∷ [] → Counts piece 1 1
+resized-counts caller need place old words value calls piece given is =
+    let made : List Event = calls ++ writing caller place words value in
+    let freed : Counts (Free caller old ∷ []) 0 1 = record { gives = refl; frees = refl } in
+    subst (λ xs. Counts xs 1 1) (sym is)
+    (counts-append made (Free caller old ∷ []) 1 0 0 1 (given-counts caller need place words value calls made given refl) freed)
+
+resize-counts :
+    (setting : Setting) (position : Position) (r need : ℕ) (held : Option Held) (result : Outcome) (piece : List Event)
+    → held_in position.registers r ≡ held → ResizeRow setting position need held result piece
+    → Counts piece (count_with as_one (words_given (op.Resize r need) result)) (count_with as_one (words_freed position.registers (op.Resize r need) result))
+resize-counts setting position r need None outcome.Skipped piece full row = quiet-counts piece (quiet-none piece row)
+resize-counts setting position r need (Some held) (outcome.Kept words place) piece full row = quiet-counts piece (quiet-none piece row.0)
+resize-counts setting position r need (Some held) (outcome.Resized words place) piece full row =
+    rw full
+    (resized-counts setting.caller need place held.place words row.5 row.3 piece (given-by setting.caller need place (need_of need) row.3 row.4) row.7)
+resize-counts setting position r need (Some held) outcome.Refused piece full row =
+    let refused = refused-by setting.caller need (need_of need) piece row.2 in
+    quiet-counts piece
+    (subst (AllByRecursion IsQuiet) (sym refused.whole)
+    (all-append IsQuiet refused.looked (Refuse setting.caller need ∷ []) (quiet-looks setting.caller refused.looked refused.look) ((refl, refl), tt)))
+resize-counts setting position r need (Some held) outcome.Spent piece full row =
+    quiet-counts piece (quiet-looks setting.caller piece (spent-looks setting position need piece position.spent row.1))
+resize-counts setting position r need held result piece full row = absurd row
 
 -- a plain operation gives and frees what its outcome says
 pub row-counts :
@@ -177,6 +210,8 @@ row-counts setting position (op.Alloc r need v) result piece plain row =
 row-counts setting position (op.Free r) result piece plain row = free-counts setting position.registers r (held_in position.registers r) result piece refl row
 row-counts setting position (op.Fill r v) result piece plain row = fill-counts setting v (held_in position.registers r) result piece row
 row-counts setting position (op.Check r) result piece plain row = check-counts setting position (held_in position.registers r) result piece row
+row-counts setting position (op.Resize r need) result piece plain row =
+    resize-counts setting position r need (held_in position.registers r) result piece refl row
 row-counts setting position (op.Put r shelf) result piece plain row = absurd plain
 row-counts setting position (op.Take r shelf) result piece plain row = absurd plain
 
@@ -185,17 +220,22 @@ abbrev pub IsTame : Event → Type 0
 IsTame (Refuse by need) = need ≤ SMALL_MOST
 IsTame event = Unit {0}
 
+tame-made :
+    (caller need place words : ℕ) (value : ℕ → ℕ) (calls : List Event) → IsGivenBy caller need place calls
+    → AllByRecursion IsTame (calls ++ writing caller place words value)
+tame-made caller need place words value calls given =
+    let called : AllByRecursion IsTame calls =
+    subst (AllByRecursion IsTame) (sym given.whole)
+    (all-append IsTame given.looked (Alloc caller need place ∷ []) (all-looks IsTame caller given.looked (λ class. tt) given.look) (tt, tt)) in
+    all-append IsTame calls (writing caller place words value) called (all-writing IsTame caller place words value (λ i n. tt))
+
 tame-alloc :
     (setting : Setting) (position : Position) (need v : ℕ) (held : Option Held) (result : Outcome) (piece : List Event) → need ≤ SMALL_MOST
     → AllocRow setting position need v held result piece → AllByRecursion IsTame piece
 tame-alloc setting position need v (Some held) outcome.Skipped piece small row = rw row tt
 tame-alloc setting position need v None (outcome.Given words place) piece small row =
-    let given = given-by setting.caller need place (need_of need) row.2 row.3 in
-    let called : AllByRecursion IsTame row.2 =
-    subst (AllByRecursion IsTame) (sym given.whole)
-    (all-append IsTame given.looked (Alloc setting.caller need place ∷ []) (all-looks IsTame setting.caller given.looked (λ class. tt) given.look) (tt, tt)) in
     subst (AllByRecursion IsTame) (sym row.4)
-    (all-append IsTame row.2 (filling setting.caller place words v) called (all-filling IsTame setting.caller place words v (λ i n. tt)))
+    (tame-made setting.caller need place words (λ i. (v + i) % 2 ^ 64) row.2 (given-by setting.caller need place (need_of need) row.2 row.3))
 tame-alloc setting position need v None outcome.Refused piece small row =
     let refused = refused-by setting.caller need (need_of need) piece row.1 in
     subst (AllByRecursion IsTame) (sym refused.whole)
@@ -224,6 +264,24 @@ tame-check setting position None outcome.Skipped piece row = rw row tt
 tame-check setting position (Some held) (outcome.Sum total) piece row = rw row.0 tt
 tame-check setting position held result piece row = absurd row
 
+tame-resize :
+    (setting : Setting) (position : Position) (need : ℕ) (held : Option Held) (result : Outcome) (piece : List Event) → need ≤ SMALL_MOST
+    → ResizeRow setting position need held result piece → AllByRecursion IsTame piece
+tame-resize setting position need None outcome.Skipped piece small row = rw row tt
+tame-resize setting position need (Some held) (outcome.Kept words place) piece small row = rw row.0 tt
+tame-resize setting position need (Some held) (outcome.Resized words place) piece small row =
+    let made : List Event = row.3 ++ writing setting.caller place words row.5 in
+    subst (AllByRecursion IsTame) (sym row.7)
+    (all-append IsTame made (Free setting.caller held.place ∷ [])
+    (tame-made setting.caller need place words row.5 row.3 (given-by setting.caller need place (need_of need) row.3 row.4)) (tt, tt))
+tame-resize setting position need (Some held) outcome.Refused piece small row =
+    let refused = refused-by setting.caller need (need_of need) piece row.2 in
+    subst (AllByRecursion IsTame) (sym refused.whole)
+    (all-append IsTame refused.looked (Refuse setting.caller need ∷ []) (all-looks IsTame setting.caller refused.looked (λ class. tt) refused.look) (small, tt))
+tame-resize setting position need (Some held) outcome.Spent piece small row =
+    all-looks IsTame setting.caller piece (λ class. tt) (spent-looks setting position need piece position.spent row.1)
+tame-resize setting position need held result piece small row = absurd row
+
 -- so are those of a plain operation
 pub row-tame :
     (setting : Setting) (position : Position) (operation : Op) (result : Outcome) (piece : List Event) → IsPlain operation
@@ -232,5 +290,6 @@ row-tame setting position (op.Alloc r need v) result piece plain row = tame-allo
 row-tame setting position (op.Free r) result piece plain row = tame-free setting (held_in position.registers r) result piece row
 row-tame setting position (op.Fill r v) result piece plain row = tame-fill setting v (held_in position.registers r) result piece row
 row-tame setting position (op.Check r) result piece plain row = tame-check setting position (held_in position.registers r) result piece row
+row-tame setting position (op.Resize r need) result piece plain row = tame-resize setting position need (held_in position.registers r) result piece plain row
 row-tame setting position (op.Put r shelf) result piece plain row = absurd plain
 row-tame setting position (op.Take r shelf) result piece plain row = absurd plain

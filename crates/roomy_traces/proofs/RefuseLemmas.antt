@@ -31,7 +31,7 @@ use Rattle.lane_outcomes.proofs.LanesLemmas.{lane-fits}
 use Rattle.roomy_traces.proofs.LaneLemmas.{sum-lanes, sum_from-both, by-caller, all-begins, all-ends, all-append, all-own, own-begins}
 use Rattle.roomy_traces.proofs.PieceLemmas.{IsTame, row-tame}
 use Rattle.roomy_traces.proofs.SpentLemmas.{lane-plain, never-spent}
-use Rattle.roomy_traces.proofs.RegisterLemmas.{IsAlike, words_held, words_filled}
+use Rattle.roomy_traces.proofs.RegisterLemmas.{IsAlike, words_held, words_filled, need_held, need_filled}
 use Rattle.roomy_traces.proofs.MostHeldLemmas.{IsUnrefusing, walk-holds}
 use Rattle.roomy_traces.proofs.FrameLemmas.{crowded-live}
 
@@ -40,8 +40,12 @@ nothing-held : (n : ℕ) → map words_held (replicate n None) ≡ map words_fil
 nothing-held zero = refl
 nothing-held (suc n) = ap (λ ws. None ∷ ws) (nothing-held n)
 
+no-needs : (n : ℕ) → map need_held (replicate n None) ≡ map need_filled (replicate n None)
+no-needs zero = refl
+no-needs (suc n) = ap (λ ns. None ∷ ns) (no-needs n)
+
 pub alike-start : IsAlike start.registers no_blocks
-alike-start = record { words = nothing-held REGISTERS; many = length-replicate {A = Option Held} REGISTERS None }
+alike-start = record { words = nothing-held REGISTERS; needs = no-needs REGISTERS; many = length-replicate {A = Option Held} REGISTERS None }
 
 -- each lane's operations are in their ranges
 pub lane-ranges : (trace : Trace) → IsTrace trace → (k : ℕ) → k < length trace.lanes → AllByRecursion IsOp (get_or trace.lanes k [])

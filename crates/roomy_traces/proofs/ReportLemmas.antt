@@ -29,6 +29,8 @@ use Rattle.roomy_traces.proofs.SerialLemmas.{lane-serial, outcomes-serial}
 fields-same : (result : Outcome) → outcome_fields (without_place result) ≡ outcome_fields result
 fields-same (outcome.Given words place) = refl
 fields-same (outcome.Took words place need) = refl
+fields-same (outcome.Kept words place) = refl
+fields-same (outcome.Resized words place) = refl
 fields-same result = refl
 
 lines-same :

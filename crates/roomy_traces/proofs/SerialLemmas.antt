@@ -82,7 +82,8 @@ row-goes g setting from to filled operation result piece plain ranges legal answ
     record {
       stands = record {
         alike = row-alike setting from filled operation result piece plain stands.alike answered row;
-        are_filled = row-filled g setting from filled operation result piece plain ranges legal stands.alike answered row once once_after stands.are_filled;
+        are_filled = row-filled g setting from filled operation result piece stands.given stands.freed plain ranges legal stands.alike answered row stands.before once
+            once_after stands.are_filled;
         given = _;
         freed = _;
         before = after;

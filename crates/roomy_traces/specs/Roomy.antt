@@ -1,18 +1,36 @@
 -- Traces with frames and turns to spare, and without shelves.
-use Rattle.std.specs.Prelude.{ℕ, ◌+◌, ◌*◌, ◌≤◌, ◌∷◌, List, [], Option, Some, None, Bool, true, false, All, count_by, sum_by, max, replicate, slice_index_or, slice_set}
+use Rattle.std.specs.Prelude.{ℕ, ◌+◌, ◌*◌, ◌%◌, ◌^◌, ◌≤◌, ◌==◌, ◌∷◌, List, [], Option, Some, None, Bool, true, false, not, if◌then◌else◌, All, count_by, length, map, sum_by, max, replicate, slice_index_or, slice_set}
+use Rattle.std.specs.List.{range_with_len}
 use Rattle.std.specs.Option.{option_map}
+use Rattle.heap_geometry.specs.declared.need.Need.{Need}
+use Rattle.heap_geometry.specs.declared.need.Need.TheVariants.{Small, Large, TooLarge}
 use Rattle.heap_geometry.specs.Need.{need_of, usable_words}
 use Rattle.heap_geometry.specs.declared.limits.TheConstants.{CLASSES, SMALL_MOST}
 use Rattle.trace_text.specs.declared.limits.TheConstants.{REGISTERS}
 use Rattle.trace_text.specs.declared.trace.Op.{Op}
-use Rattle.trace_text.specs.declared.trace.Op.TheVariants.{Alloc, Free, Fill, Check, Put, Take}
+use Rattle.trace_text.specs.declared.trace.Op.TheVariants.{Alloc, Free, Fill, Check, Put, Take, Resize}
 use Rattle.trace_text.specs.declared.trace.Trace.{Trace}
 use Rattle.lane_outcomes.specs.LaneCounts.{as_one, count_with}
 
--- a block that a lane holds: its usable words, and the number with which it was last filled
+-- a block that a lane holds: the need that it serves, and the number in each of its usable words
 pub record Filled : Type 0 where
-  pub words : ℕ
-  pub first : ℕ
+  pub need : Need
+  pub numbers : List ℕ
+
+-- the numbers in a block of so many words that was filled from a number on
+abbrev pub numbers_from : ℕ → ℕ → List ℕ
+numbers_from first words = map (λ i. (first + i) % 2 ^ 64) (range_with_len 0 words)
+
+-- the numbers in a block of so many words to which these were copied: 0 past their end
+abbrev pub copied : List ℕ → ℕ → List ℕ
+copied numbers words = map (λ i. slice_index_or numbers i 0) (range_with_len 0 words)
+
+-- whether the same blocks serve both
+abbrev pub is_same : Need → Need → Bool
+is_same (Small class) (Small other) = class == other
+is_same (Large units) (Large other) = units == other
+is_same TooLarge TooLarge = true
+is_same need other = false
 
 -- the register of an operation
 abbrev pub register_of : Op → ℕ
@@ -22,16 +40,28 @@ register_of (Fill r v) = r
 register_of (Check r) = r
 register_of (Put r shelf) = r
 register_of (Take r shelf) = r
+register_of (Resize r need) = r
 
 -- what the register of an operation holds
 abbrev pub filled_in : List (Option Filled) → Op → Option Filled
 filled_in registers operation = slice_index_or registers (register_of operation) None
 
--- the registers after an operation whose register holds this, an allocation on an empty one being given
+-- whether a resize, whose register holds this, is to another need, so that the block moves
+abbrev pub moves : Option Filled → Op → Bool
+moves (Some filled) (Resize r need) = not (is_same (need_of need) filled.need)
+moves held operation = false
+
+-- the block to which a held one moves
+abbrev pub moved_to : ℕ → Filled → Filled
+moved_to need filled = record { need = need_of need; numbers = copied filled.numbers (usable_words (need_of need)) }
+
+-- the registers after an operation whose register holds this, an allocation on an empty one and a resize of a held block being given
 abbrev pub serial_step : List (Option Filled) → Option Filled → Op → List (Option Filled)
-serial_step registers None (Alloc r need v) = slice_set registers r (Some (record { words = usable_words (need_of need); first = v }))
+serial_step registers None (Alloc r need v) = slice_set registers r (Some (record { need = need_of need; numbers = numbers_from v (usable_words (need_of need)) }))
 serial_step registers (Some filled) (Free r) = slice_set registers r None
-serial_step registers (Some filled) (Fill r v) = slice_set registers r (Some (record { words = filled.words; first = v }))
+serial_step registers (Some filled) (Fill r v) = slice_set registers r (Some (record { need = filled.need; numbers = numbers_from v (length filled.numbers) }))
+serial_step registers (Some filled) (Resize r need) =
+    if moves (Some filled) (Resize r need) then slice_set registers r (Some (moved_to need filled)) else registers
 serial_step registers filled operation = registers
 
 -- the registers after an operation
@@ -40,32 +70,38 @@ serial_after registers operation = serial_step registers (filled_in registers op
 
 -- what the blocks in registers count, where one of so many words counts as `f` says
 abbrev pub held_by : (ℕ → ℕ) → List (Option Filled) → ℕ
-held_by f registers = sum_by (λ held. count_with f (option_map (λ filled. filled.words) held)) registers
+held_by f registers = sum_by (λ held. count_with f (option_map (λ filled. length filled.numbers) held)) registers
+
+-- the most blocks that a lane holds from the beginning of an operation until it ends: both count while a block moves
+abbrev pub held_during : List (Option Filled) → Op → ℕ
+held_during registers operation = held_by as_one registers + (if moves (filled_in registers operation) operation then 1 else 0)
 
 -- the most blocks that a lane holds at any moment, from these registers on
 abbrev pub most_held : List (Option Filled) → List Op → ℕ
 most_held registers [] = held_by as_one registers
-most_held registers (operation ∷ operations) = max (held_by as_one registers) (most_held (serial_after registers operation) operations)
+most_held registers (operation ∷ operations) = max (held_during registers operation) (most_held (serial_after registers operation) operations)
 
 -- before the first operation
 abbrev pub no_blocks : List (Option Filled)
 no_blocks = replicate REGISTERS None
 
--- an allocation
-abbrev pub is_allocation : Op → Bool
-is_allocation (Alloc r need v) = true
-is_allocation operation = false
+-- an allocation or a resize
+abbrev pub may_allocate : Op → Bool
+may_allocate (Alloc r need v) = true
+may_allocate (Resize r need) = true
+may_allocate operation = false
 
--- no put and no take, and an allocation only of a small need
+-- no put and no take, and an allocation or a resize only of a small need
 abbrev pub IsPlain : Op → Type 0
 IsPlain (Alloc r need v) = need ≤ SMALL_MOST
+IsPlain (Resize r need) = need ≤ SMALL_MOST
 IsPlain (Put r shelf) = ⊥
 IsPlain (Take r shelf) = ⊥
 IsPlain operation = Unit {0}
 
--- each operation is plain; there is a turn for each allocation; and a frame for each block that lanes hold at their fullest, one for each active
--- superblock and one for each caller
+-- each operation is plain; there is a turn for each allocation and each resize; and a frame for each block that lanes hold at their fullest,
+-- one for each active superblock and one for each caller
 pub record IsRoomy (trace : Trace) : Type 0 where
   pub plain : All (All IsPlain) trace.lanes
-  pub turns : sum_by (count_by is_allocation) trace.lanes ≤ trace.heap.turn_limit
+  pub turns : sum_by (count_by may_allocate) trace.lanes ≤ trace.heap.turn_limit
   pub frames : sum_by (most_held no_blocks) trace.lanes + trace.heap.heaps * CLASSES + trace.heap.callers ≤ trace.heap.frames

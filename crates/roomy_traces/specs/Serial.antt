@@ -1,6 +1,5 @@
--- The report of a trace whose lanes are computed one after the other, each on its own, every allocation being given.
-use Rattle.std.specs.Prelude.{ℕ, ◌+◌, ◌%◌, ◌^◌, ◌∷◌, List, [], Option, Some, None, map, sum, sum_by}
-use Rattle.std.specs.List.{range_with_len}
+-- The report of a trace whose lanes are computed one after the other, each on its own, every allocation and every resize being given.
+use Rattle.std.specs.Prelude.{ℕ, ◌%◌, ◌^◌, ◌∷◌, List, [], Option, Some, None, if◌then◌else◌, length, map, sum, sum_by}
 use Rattle.heap_geometry.specs.Need.{need_of, usable_words}
 use Rattle.trace_text.specs.declared.trace.Op.{Op}
 use Rattle.trace_text.specs.declared.trace.Op.TheVariants as op
@@ -9,18 +8,16 @@ use Rattle.lane_outcomes.specs.declared.outcome.Outcome.{Outcome}
 use Rattle.lane_outcomes.specs.declared.outcome.Outcome.TheVariants as outcome
 use Rattle.lane_outcomes.specs.LaneCounts.{as_one, as_words}
 use Rattle.lane_outcomes.specs.Report.{report_with}
-use Rattle.roomy_traces.specs.Roomy.{Filled, filled_in, serial_after, held_by, no_blocks}
-
--- the numbers in a block of so many words that was filled from a number on
-abbrev pub numbers_from : ℕ → ℕ → List ℕ
-numbers_from first words = map (λ i. (first + i) % 2 ^ 64) (range_with_len 0 words)
+use Rattle.roomy_traces.specs.Roomy.{Filled, moves, filled_in, serial_after, held_by, no_blocks}
 
 -- what becomes of an operation whose register holds this; a place isn't printed, and 0 stands for it
 abbrev pub serial_outcome : Option Filled → Op → Outcome
 serial_outcome None (op.Alloc r need v) = outcome.Given (usable_words (need_of need)) 0
 serial_outcome (Some filled) (op.Free r) = outcome.Freed
 serial_outcome (Some filled) (op.Fill r v) = outcome.Filled
-serial_outcome (Some filled) (op.Check r) = outcome.Sum (sum (numbers_from filled.first filled.words) % 2 ^ 64)
+serial_outcome (Some filled) (op.Check r) = outcome.Sum (sum filled.numbers % 2 ^ 64)
+serial_outcome (Some filled) (op.Resize r need) =
+    if moves (Some filled) (op.Resize r need) then outcome.Resized (usable_words (need_of need)) 0 else outcome.Kept (length filled.numbers) 0
 serial_outcome held operation = outcome.Skipped
 
 -- the outcomes of a lane from these registers on
@@ -46,6 +43,8 @@ left_by f lanes = sum_by (λ operations. held_by f (serial_end no_blocks operati
 abbrev pub without_place : Outcome → Outcome
 without_place (outcome.Given words place) = outcome.Given words 0
 without_place (outcome.Took words place need) = outcome.Took words 0 need
+without_place (outcome.Kept words place) = outcome.Kept words 0
+without_place (outcome.Resized words place) = outcome.Resized words 0
 without_place result = result
 
 -- the report of a trace, computed lane by lane

@@ -14,7 +14,7 @@ ghost use Rattle.roomy_traces.specs.Roomy.{IsRoomy};
 ghost use Rattle.roomy_traces.specs.Serial.{left_by, serial_outcomes, serial_report_of, without_place};
 
 /// Whatever legal history the lanes of a roomy trace ran in: their outcomes are those of each lane on
-/// its own, every allocation being given, but for the places of the blocks.
+/// its own, every allocation and every resize being given, but for the places of the blocks.
 pub fn roomy_outcomes_are_serial()
     ensures { (trace : Trace) (history : List Event) (lost : ℕ) (outcomes : List (List Outcome))
         → IsTrace trace → IsRoomy trace → IsLegal trace.heap history

@@ -13,14 +13,14 @@ use Rattle.workloads.specs.Draws.{Draws, draw}
 use Rattle.workloads.specs.Held.{is_held, frees_below}
 use Rattle.workloads.specs.Lanes.{scalability, scalability_round, batch_allocs, batch_frees, batch, full_batches, threadtest, given_back, larson_round, larson_rounds, larson}
 use Rattle.workloads.specs.Made.{lane_of}
-use Rattle.roomy_traces.specs.Roomy.{IsPlain, is_allocation}
+use Rattle.roomy_traces.specs.Roomy.{IsPlain, may_allocate}
 use Rattle.roomy_workloads.proofs.NarrowLemmas.{IsLow}
 
 -- operations that are plain, on the first 64 registers, with at most so many allocations among them
 pub record IsSlim (most : ℕ) (operations : List Op) : Type 0 where
   pub plain : All IsPlain operations
   pub low : All (IsLow 64) operations
-  pub few : count_by is_allocation operations ≤ most
+  pub few : count_by may_allocate operations ≤ most
 
 -- such a lane, whatever the draws
 abbrev IsSlimDrawn : ℕ → Draws (List Op) → Type 0
@@ -59,7 +59,7 @@ joined m n most before after below is also =
     record {
       plain = All-append IsPlain before after is.plain also.plain;
       low = All-append (IsLow 64) before after is.low also.low;
-      few = omega (arith, sum_by-append (λ operation. cond (is_allocation operation) 1 0) before after, is.few, also.few);
+      few = omega (arith, sum_by-append (λ operation. cond (may_allocate operation) 1 0) before after, is.few, also.few);
     }
 
 checked : (r : ℕ) → r < 64 → IsSlim 0 (Check r ∷ Free r ∷ [])

@@ -1,26 +1,27 @@
--- A lane that uses the first registers alone never holds more blocks than those.
-use Rattle.std.proofs.Common.{ℕ, zero, suc, ◌<◌, ◌≤◌, ◌≡◌, List, [], ◌∷◌, Option, Some, None, get_or, set, replicate, option_map, refl, ◌∙◌, arith}
+-- A lane that uses the first registers alone, and never resizes, never holds more blocks than those.
+use Rattle.std.proofs.Common.{ℕ, zero, suc, ◌<◌, ◌≤◌, ◌≡◌, List, [], ◌∷◌, Option, Some, None, get_or, set, replicate, option_map, false, length, refl, ◌∙◌, arith}
 use Rattle.std.proofs.lemmas.List.{get_or-set_other}
 use Rattle.std.proofs.lemmas.List.Elements.{All-head, All-tail}
 use Rattle.std.proofs.lemmas.List.Sums.{sum_by-cons}
 use Rattle.std.specs.List.{All}
 use Rattle.trace_text.specs.declared.limits.TheConstants.{REGISTERS}
 use Rattle.trace_text.specs.declared.trace.Op.{Op}
-use Rattle.trace_text.specs.declared.trace.Op.TheVariants.{Alloc, Free, Fill}
+use Rattle.trace_text.specs.declared.trace.Op.TheVariants.{Alloc, Free, Fill, Resize}
 use Rattle.lane_outcomes.specs.LaneCounts.{as_one, count_with}
-use Rattle.roomy_traces.specs.Roomy.{Filled, register_of, filled_in, serial_step, serial_after, held_by, most_held, no_blocks}
+use Rattle.roomy_traces.specs.Roomy.{Filled, moves, register_of, filled_in, serial_step, serial_after, held_by, held_during, most_held, no_blocks}
 
 -- the registers are empty from this one on
 abbrev pub IsNarrow : ℕ → List (Option Filled) → Type 0
 IsNarrow n registers = (k : ℕ) → n ≤ k → get_or registers k None ≡ None
 
--- an operation on one of the first registers
+-- an operation on one of the first registers that is no resize
 abbrev pub IsLow : ℕ → Op → Type 0
+IsLow n (Resize r need) = ⊥
 IsLow n operation = register_of operation < n
 
 -- what a register counts
 abbrev weigh : Option Filled → ℕ
-weigh held = count_with as_one (option_map (λ (filled : Filled). filled.words) held)
+weigh held = count_with as_one (option_map (λ (filled : Filled). length filled.numbers) held)
 
 weighs-one : (held : Option Filled) → weigh held ≤ 1
 weighs-one None = omega arith
@@ -58,7 +59,19 @@ step-narrow :
 step-narrow n registers None (Alloc r need v) low narrow = set-narrow n registers r _ low narrow
 step-narrow n registers (Some filled) (Free r) low narrow = set-narrow n registers r None low narrow
 step-narrow n registers (Some filled) (Fill r v) low narrow = set-narrow n registers r _ low narrow
+step-narrow n registers held (Resize r need) low narrow = absurd low
 step-narrow n registers held operation low narrow = narrow
+
+-- no block moves
+never-moves : (n : ℕ) (held : Option Filled) (operation : Op) → IsLow n operation → moves held operation ≡ false
+never-moves n None operation low = refl
+never-moves n (Some filled) (Resize r need) low = absurd low
+never-moves n (Some filled) operation low = refl
+
+during-narrow :
+    (n : ℕ) (registers : List (Option Filled)) (operation : Op) → IsLow n operation → IsNarrow n registers → held_during registers operation ≤ n
+during-narrow n registers operation low narrow =
+    rw (never-moves n (filled_in registers operation) operation low) (omega (arith, narrow-held n registers narrow))
 
 -- at no moment does the lane hold more
 narrow-most :
@@ -67,7 +80,7 @@ narrow-most n registers [] low narrow = narrow-held n registers narrow
 narrow-most n registers (operation ∷ operations) low narrow =
     omega (
       arith,
-      narrow-held n registers narrow,
+      during-narrow n registers operation (All-head (IsLow n) operation operations low) narrow,
       narrow-most n (serial_after registers operation) operations (All-tail (IsLow n) operation operations low)
           (step-narrow n registers (filled_in registers operation) operation (All-head (IsLow n) operation operations low) narrow),
     )

@@ -10,14 +10,14 @@ use Rattle.workloads.specs.declared.kind.Kind.TheVariants as kinds
 use Rattle.workloads.specs.declared.making.TheConstants.{MAX_SIZE}
 use Rattle.workloads.specs.Draws.{seeded_by}
 use Rattle.workloads.specs.Made.{rounds_of, lanes_of, made}
-use Rattle.roomy_traces.specs.Roomy.{IsPlain, is_allocation, most_held, no_blocks, IsRoomy}
+use Rattle.roomy_traces.specs.Roomy.{IsPlain, may_allocate, most_held, no_blocks, IsRoomy}
 use Rattle.roomy_workloads.proofs.NarrowLemmas.{lane-most}
 use Rattle.roomy_workloads.proofs.LaneLemmas.{IsSlim, lane-slim}
 
 -- so many lanes: plain, each with at most so many allocations, and with at most 64 blocks at a time
 record AreSlim (many most : ℕ) (lanes : List (List Op)) : Type 0 where
   plain : All (All IsPlain) lanes
-  turns : sum_by (count_by is_allocation) lanes ≤ many * most
+  turns : sum_by (count_by may_allocate) lanes ≤ many * most
   frames : sum_by (most_held no_blocks) lanes ≤ many * 64
 
 lanes-none : (most : ℕ) → AreSlim 0 most []
@@ -29,7 +29,7 @@ lanes-push :
 lanes-push many most rounds lanes operations below are is =
     record {
       plain = All-push (All IsPlain) lanes operations are.plain is.plain;
-      turns = omega (arith, sum_by_push (count_by is_allocation) lanes operations, are.turns, is.few);
+      turns = omega (arith, sum_by_push (count_by may_allocate) lanes operations, are.turns, is.few);
       frames = omega (arith, sum_by_push (most_held no_blocks) lanes operations, are.frames, lane-most 64 operations is.low);
     }
 

@@ -3,6 +3,7 @@ use Rattle.std.proofs.Common.{◌≡◌, ℕ, ◌+◌, List, [], ◌∷◌, ◌+
 use Rattle.rand_pcg.specs.Lcg.{Lcg}
 use Rattle.trace_text.specs.declared.trace.Op.{Op}
 use Rattle.trace_text.specs.declared.trace.OrderRun.{OrderRun}
+use Rattle.trace_text.specs.declared.trace.Version.TheVariants.{One}
 use Rattle.workloads.specs.declared.kind.Kind.{Kind}
 use Rattle.workloads.specs.Draws.{just, ◌>>=◌, seeded_by}
 use Rattle.workloads.specs.Made.{rounds_of, lane_of, lanes_of, workload_heap, made}
@@ -20,6 +21,6 @@ lanes-more kind size lane rounds before ops g h k is share e =
 pub trace-made :
     (kind : Kind) (size start : ℕ) (lanes listed : List (List Op)) (orders : List OrderRun) (g h : Lcg) → g ≡ seeded_by start
     → (lanes, h) ≡ lanes_of kind size 8 g → listed ≡ lanes → orders ≡ []
-    → record { heap = workload_heap; named_limit = false; lanes = listed; orders = orders } ≡ made kind size start
+    → record { version = One; heap = workload_heap; named_limit = false; lanes = listed; orders = orders } ≡ made kind size start
 unfolding made
 trace-made kind size start lanes listed orders g h seeded is same none = rw (same, none, ← seeded, ← is) refl

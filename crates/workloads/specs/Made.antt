@@ -4,6 +4,7 @@ use Rattle.heap_geometry.specs.declared.geometry.Geometry.{Geometry}
 use Rattle.heap_geometry.specs.declared.limits.TheConstants.{MAX_TURNS}
 use Rattle.trace_text.specs.declared.trace.Op.{Op}
 use Rattle.trace_text.specs.declared.trace.Trace.{Trace}
+use Rattle.trace_text.specs.declared.trace.Version.TheVariants.{One}
 use Rattle.workloads.specs.declared.kind.Kind.{Kind}
 use Rattle.workloads.specs.declared.kind.Kind.TheVariants as kinds
 use Rattle.workloads.specs.declared.making.TheConstants.{FRAMES}
@@ -33,9 +34,10 @@ lanes_of kind size (suc lane) = do
 abbrev pub workload_heap : Geometry
 workload_heap = record { frames = FRAMES; heaps = 8; units = 0; callers = 8; turn_limit = MAX_TURNS }
 
--- the trace of a kind, a size and a number: eight lanes, and no order runs
+-- the trace of a kind, a size and a number: of version 1, with eight lanes, and no order runs
 unfoldable pub made : Kind → ℕ → ℕ → Trace
 made kind size start = record {
+  version = One;
   heap = workload_heap;
   named_limit = false;
   lanes = (lanes_of kind size 8 (seeded_by start)).0;

@@ -15,7 +15,7 @@ use heap_geometry::limits::MAX_TURNS;
 use rand_core::SeedableRng;
 use rand_pcg::Lcg64Xsh32;
 use std::alloc::{AllocError, Global};
-use trace_text::trace::{Lanes, Op, Orders, Trace};
+use trace_text::trace::{Lanes, Op, Orders, Trace, Version};
 
 /// The most rounds of a workload, all lanes together.
 pub const MAX_SIZE: u32 = 1_000_000;
@@ -78,6 +78,7 @@ pub fn make_trace(alloc: Global, kind: Kind, size: u32, start: u64) -> Result<Tr
     let mut draws = Lcg64Xsh32::seed_from_u64(start);
     let lanes = all_lanes(alloc, kind, &mut draws, size)?;
     Ok(Trace {
+        version: Version::One,
         heap: Geometry {
             frames: FRAMES,
             heaps: 8,
