@@ -8,7 +8,7 @@ use lane_outcomes::outcome::Outcome;
 use lane_outcomes::report::report;
 use std::alloc::{AllocError, Global};
 use std::test::Fail;
-use trace_text::trace::{Lanes, Op, Orders, Trace};
+use trace_text::trace::{Lanes, Op, Orders, Trace, Version};
 
 /// Lane 0 puts one of two blocks on a shelf, and lane 1 takes and frees it.
 fn two_lanes(alloc: Global) -> Result<Trace, AllocError> {
@@ -28,6 +28,7 @@ fn two_lanes(alloc: Global) -> Result<Trace, AllocError> {
     let second = [Op::Take { r: 0, shelf: 5 }, Op::Free { r: 0 }];
     let lanes = vec![in alloc; first.to_vec(alloc)?, second.to_vec(alloc)?]?;
     Ok(Trace {
+        version: Version::One,
         heap: Geometry {
             frames: 4,
             heaps: 1,
@@ -68,7 +69,63 @@ fn a_block_that_was_taken_and_freed_is_not_live(rt: HostRuntime) -> Result<(), F
     Ok(())
 }
 
-const EACH_OUTCOME: &str = "heap 4 1 2 lanes 1
+/// A lane of a text of version 2, which resizes its block to the need that it has, to more words and to fewer.
+fn resizing_lane(alloc: Global) -> Result<Trace, AllocError> {
+    let lane = [
+        Op::Alloc {
+            r: 0,
+            need: 3,
+            v: 10,
+        },
+        Op::Resize { r: 0, need: 2 },
+        Op::Resize { r: 0, need: 7 },
+        Op::Resize { r: 0, need: 1 },
+    ];
+    let lanes = vec![in alloc; lane.to_vec(alloc)?]?;
+    Ok(Trace {
+        version: Version::Two,
+        heap: Geometry {
+            frames: 4,
+            heaps: 1,
+            units: 2,
+            callers: 1,
+            turn_limit: MAX_TURNS,
+        },
+        named_limit: false,
+        lanes: Lanes::new(lanes),
+        orders: Orders::new(Vec::new(alloc)),
+    })
+}
+
+#[test]
+fn a_resized_block_is_live_in_place_of_the_old_one(rt: HostRuntime) -> Result<(), Fail> {
+    let alloc = rt.alloc();
+    let trace = resizing_lane(alloc)?;
+    let given = Outcome::Given { words: 3, place: 0 };
+    let kept = Outcome::Kept { words: 3, place: 0 };
+    let larger = Outcome::Resized {
+        words: 7,
+        place: 2048,
+    };
+    let smaller = Outcome::Resized {
+        words: 1,
+        place: 4096,
+    };
+    let mut lane = Vec::new(alloc);
+    for (outcome, live) in [
+        (given, (1, 3)),
+        (kept, (1, 3)),
+        (larger, (1, 7)),
+        (smaller, (1, 1)),
+    ] {
+        lane.push(outcome)?;
+        let outcomes = vec![in alloc; lane.as_slice().to_vec(alloc)?]?;
+        assert_eq!(rt; live_count(&trace, outcomes.as_slice()), live);
+    }
+    Ok(())
+}
+
+const EACH_OUTCOME: &str = "heap2 4 1 2 lanes 1
 lane 0
 given 1
 refused
@@ -80,6 +137,8 @@ put
 shelf full
 took 3
 shelf empty
+kept 3
+resized 7
 skipped
 live 1 words 3
 ";
@@ -97,6 +156,7 @@ fn one_lane(alloc: Global) -> Result<Trace, AllocError> {
         turn_limit: MAX_TURNS,
     };
     Ok(Trace {
+        version: Version::Two,
         heap,
         named_limit: false,
         lanes: Lanes::new(vec![in alloc; Vec::new(alloc)]?),
@@ -113,6 +173,7 @@ fn no_lane(alloc: Global) -> Trace {
         turn_limit: 2,
     };
     Trace {
+        version: Version::One,
         heap,
         named_limit: true,
         lanes: Lanes::new(Vec::new(alloc)),
@@ -136,6 +197,11 @@ fn each_outcome(alloc: Global) -> Result<Vec<Outcome>, AllocError> {
             need: Need::Small(1),
         },
         Outcome::ShelfEmpty,
+        Outcome::Kept { words: 3, place: 7 },
+        Outcome::Resized {
+            words: 7,
+            place: 11,
+        },
         Outcome::Skipped,
     ]
     .to_vec(alloc)

@@ -30,6 +30,7 @@ fn refused_texts_are_told(rt: HostRuntime) -> Result<(), Fail> {
         ("heap 4 1 2\nlane\na 1024 1 1\nend\n", "line 3 cause 7\n"),
         ("heap 1 1 64\nlane\na 0 131072 1\nend\n", "line 3 cause 7\n"),
         ("heap 4 1 2\nlane\nr 0 5\nend\n", "line 3 cause 4\n"),
+        ("heap2 4 1 2\nlane\nr 0 131072\nend\n", "line 3 cause 7\n"),
         ("heap 4 1 2\na 0 1 1\nend\n", "line 2 cause 4\n"),
         ("heap 4 1 2\nend\nlane\n", "line 3 cause 4\n"),
         (

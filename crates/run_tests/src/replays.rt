@@ -64,6 +64,11 @@ fn turns_are_used_up(rt: HostRuntime) -> Result<(), Fail> {
             "heap 4 1 2 2\nlane\na 0 1 1\na 1 1 2\na 2 1 3\nend\n",
             "heap 4 1 2 2 lanes 1\nlane 0\ngiven 1\ngiven 1\nspent\nlive 2 words 2\n",
         ),
+        // A resize to another small need takes a turn, and none to a large one or to the need that the block has.
+        (
+            "heap2 4 1 2 2\nlane\na 0 1 1\nr 0 3\nr 0 1\na 1 1 1\nr 0 2048\nr 0 1\nr 0 2048\nend\n",
+            "heap2 4 1 2 2 lanes 1\nlane 0\ngiven 1\nresized 3\nspent\nspent\nresized 4095\nspent\nkept 4095\nlive 1 words 4095\n",
+        ),
     ];
     all_are_reported(&rt, &cases)
 }
@@ -100,6 +105,24 @@ fn an_arena_is_used_up(rt: HostRuntime) -> Result<(), Fail> {
         (
             "heap 1 1 64\nlane\na 0 131071 1\nend\n",
             "heap 1 1 64 lanes 1\nlane 0\ngiven 131071\nlive 1 words 131071\n",
+        ),
+    ];
+    all_are_reported(&rt, &cases)
+}
+
+#[test]
+fn blocks_are_resized(rt: HostRuntime) -> Result<(), Fail> {
+    let cases = [
+        // Two words and three have the same blocks. The four words behind the three that are copied are 0, and then
+        // one of the seven is left. An empty register has nothing to resize.
+        (
+            "heap2 4 1 2\nlane\na 0 3 10\nr 0 2\nc 0\nr 0 7\nc 0\nr 0 1\nc 0\nr 1 5\nf 0\nend\n",
+            "heap2 4 1 2 lanes 1\nlane 0\ngiven 3\nkept 3\nsum 33\nresized 7\nsum 33\nresized 1\nsum 10\nskipped\nfreed\nlive 0 words 0\n",
+        ),
+        // The only frame holds the largest small blocks, so no smaller one is found, and the register keeps its own.
+        (
+            "heap2 1 1 0\nlane\na 0 2047 1\na 1 2047 2\nr 0 1\nc 0\nend\n",
+            "heap2 1 1 0 lanes 1\nlane 0\ngiven 2047\ngiven 2047\nrefused\nsum 2096128\nlive 2 words 4094\n",
         ),
     ];
     all_are_reported(&rt, &cases)

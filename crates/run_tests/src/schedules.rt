@@ -75,6 +75,17 @@ fn slow_free_keeps_its_frame(rt: HostRuntime) -> Result<(), Fail> {
     )
 }
 
+/// Lane 0 stops while it copies a block of two units to one of three. Lane 1 is refused two units, and has
+/// the two of the old block behind the copy.
+#[test]
+fn old_block_is_held_until_it_is_copied(rt: HostRuntime) -> Result<(), Fail> {
+    is_scheduled(
+        &rt,
+        "heap2 1 1 5\nlane\na 0 2048 1\nr 0 4096\nlane\na 0 2048 2\na 0 2048 3\norder 0 10000\norder 1 2\nend\n",
+        "heap2 1 1 5 lanes 2\nlane 0\ngiven 4095\nresized 6143\nlane 1\nrefused\ngiven 4095\nlive 2 words 10238\nsteps 18441 lost 0 cleared 0\n",
+    )
+}
+
 /// Lane 0 has a superblock ready when lane 1 installs its own: lane 0 gives its frame back, and takes
 /// the other block of lane 1's.
 #[test]

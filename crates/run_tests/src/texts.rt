@@ -7,7 +7,7 @@ use std::test::Fail;
 use trace_text::fault::{Cause, TraceFault};
 use trace_text::limits::MAX_INPUT;
 use trace_text::reading::read_trace;
-use trace_text::trace::{Lanes, Op, OrderRun, Orders};
+use trace_text::trace::{Lanes, Op, OrderRun, Orders, Version};
 
 /// A text is refused at this line for this cause.
 fn is_refused(rt: &HostRuntime, text: &[u8], number: u32, cause: u8) -> bool {
@@ -39,6 +39,7 @@ fn a_plain_text(rt: HostRuntime) -> Result<(), Fail> {
     };
     let orders = trace.orders.as_slice().len();
     assert_eq!(rt; (trace.heap, trace.named_limit, orders), (heap, false, 0));
+    assert_eq!(rt; trace.version, Version::One);
     let ops = [
         Op::Alloc {
             r: 0,
@@ -55,6 +56,27 @@ fn a_plain_text(rt: HostRuntime) -> Result<(), Fail> {
         Op::Free { r: 1 },
     ];
     is_one_lane(&rt, PLAIN, &ops)
+}
+
+#[test]
+fn a_text_of_version_2(rt: HostRuntime) -> Result<(), Fail> {
+    let text = b"heap2 4 1 2\nlane\na 0 3 10\nr 0 2\nr 1023 131071\nr 1 0\nend\n";
+    let trace = trace_of(rt.alloc(), text)?;
+    assert_eq!(rt; trace.version, Version::Two);
+    let ops = [
+        Op::Alloc {
+            r: 0,
+            need: 3,
+            v: 10,
+        },
+        Op::Resize { r: 0, need: 2 },
+        Op::Resize {
+            r: 1023,
+            need: 131_071,
+        },
+        Op::Resize { r: 1, need: 0 },
+    ];
+    is_one_lane(&rt, text, &ops)
 }
 
 #[test]
@@ -95,7 +117,7 @@ fn the_largest_need(rt: HostRuntime) -> Result<(), Fail> {
 
 #[test]
 fn refused_texts(rt: HostRuntime) {
-    let refused: [(&[u8], u32, u8); 27] = [
+    let refused: [(&[u8], u32, u8); 37] = [
         (b"", 1, 2),
         (b"a 0 1 1\n", 1, 2),
         (b"heap 0 1 2\nend\n", 1, 3),
@@ -127,6 +149,16 @@ fn refused_texts(rt: HostRuntime) {
         (b"heap 4 1 2\nlane\norder 0 1000001\nend\n", 3, 7),
         (b"heap 4 1 2\nlane\nt 0 64\nend\n", 3, 7),
         (b"heap 4 1 2\r\r\nend\n", 1, 1),
+        (b"heap2 4 1 2\nlane\nr 0 131072\nend\n", 3, 7),
+        (b"heap2 4 1 2\nlane\nr 1024 5\nend\n", 3, 7),
+        (b"heap2 4 1 2\nlane\nr 0\nend\n", 3, 5),
+        (b"heap2 4 1 2\nlane\nr 0 5 1\nend\n", 3, 5),
+        (b"heap2 4 1 2\nlane\nr 0 x\nend\n", 3, 6),
+        (b"heap2 4 1 2\nr 0 5\nend\n", 2, 4),
+        (b"heap2 4 1 2\nheap 4 1 2\nend\n", 2, 4),
+        (b"heap 4 1 2\nheap2 4 1 2\nend\n", 2, 4),
+        (b"heap2 0 1 2\nend\n", 1, 3),
+        (b"heap3 4 1 2\nend\n", 1, 2),
     ];
     for (text, number, cause) in refused {
         assert!(rt; is_refused(&rt, text, number, cause));
@@ -210,7 +242,9 @@ fn every_line_is_printed_again(rt: HostRuntime) -> Result<(), Fail> {
     ];
     let orders = trace.orders.as_slice();
     assert_eq!(rt; (trace.heap.callers, orders), (3, runs.as_slice()));
-    is_printed(&rt, text, text)
+    is_printed(&rt, text, text)?;
+    let resizes = b"heap2 4 2 64 7\nlane\na 0 3 10\nr 0 131071\nr 1023 0\nend\n";
+    is_printed(&rt, resizes, resizes)
 }
 
 #[test]

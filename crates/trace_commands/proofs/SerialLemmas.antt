@@ -31,22 +31,26 @@ count-same :
     → count_by p (map without_place results) ≡ count_by p results
 count-same p same results = sums-same (λ o. if p o then 1 else 0) (λ o. ap (λ (b : Bool). if b then 1 else 0) (same o)) results
 
--- what sees no place of a block that is given or taken is the same without places
+-- what sees no place of a block is the same without places
 same-without-place :
     {T : Type 0} (f : Outcome → T) → ((words place : ℕ) → f (outcome.Given words 0) ≡ f (outcome.Given words place))
-    → ((words place : ℕ) (need : Need) → f (outcome.Took words 0 need) ≡ f (outcome.Took words place need)) → (o : Outcome) → f (without_place o) ≡ f o
-same-without-place f given took (outcome.Given words place) = given words place
-same-without-place f given took (outcome.Took words place need) = took words place need
-same-without-place f given took o = refl
+    → ((words place : ℕ) (need : Need) → f (outcome.Took words 0 need) ≡ f (outcome.Took words place need))
+    → ((words place : ℕ) → f (outcome.Kept words 0) ≡ f (outcome.Kept words place))
+    → ((words place : ℕ) → f (outcome.Resized words 0) ≡ f (outcome.Resized words place)) → (o : Outcome) → f (without_place o) ≡ f o
+same-without-place f given took kept resized (outcome.Given words place) = given words place
+same-without-place f given took kept resized (outcome.Took words place need) = took words place need
+same-without-place f given took kept resized (outcome.Kept words place) = kept words place
+same-without-place f given took kept resized (outcome.Resized words place) = resized words place
+same-without-place f given took kept resized o = refl
 
 tallies-same : (results : List Outcome) → tally_of (map without_place results) ≡ tally_of results
 tallies-same results =
-    rw (count-same is_given (same-without-place is_given (λ words place. refl) (λ words place need. refl)) results)
-    (rw (sums-same given_words (same-without-place given_words (λ words place. refl) (λ words place need. refl)) results)
-    (rw (count-same is_refused (same-without-place is_refused (λ words place. refl) (λ words place need. refl)) results)
-    (rw (count-same is_spent (same-without-place is_spent (λ words place. refl) (λ words place need. refl)) results)
-    (rw (count-same is_freed (same-without-place is_freed (λ words place. refl) (λ words place need. refl)) results)
-    (rw (count-same is_sum (same-without-place is_sum (λ words place. refl) (λ words place need. refl)) results) refl)))))
+    rw (count-same is_given (same-without-place is_given (λ w p. refl) (λ w p n. refl) (λ w p. refl) (λ w p. refl)) results)
+    (rw (sums-same given_words (same-without-place given_words (λ w p. refl) (λ w p n. refl) (λ w p. refl) (λ w p. refl)) results)
+    (rw (count-same is_refused (same-without-place is_refused (λ w p. refl) (λ w p n. refl) (λ w p. refl) (λ w p. refl)) results)
+    (rw (count-same is_spent (same-without-place is_spent (λ w p. refl) (λ w p n. refl) (λ w p. refl) (λ w p. refl)) results)
+    (rw (count-same is_freed (same-without-place is_freed (λ w p. refl) (λ w p n. refl) (λ w p. refl) (λ w p. refl)) results)
+    (rw (count-same is_sum (same-without-place is_sum (λ w p. refl) (λ w p n. refl) (λ w p. refl) (λ w p. refl)) results) refl)))))
 
 all-same : (outcomes : List (List Outcome)) → all_of (map (map without_place) outcomes) ≡ map without_place (all_of outcomes)
 all-same [] = refl
