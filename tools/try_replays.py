@@ -26,17 +26,18 @@ def random_trace(rng):
     heaps = rng.randint(1, 2) if kind == "roomy" else rng.randint(1, MAX_HEAPS)
     units = MAX_UNITS if kind == "roomy" else rng.choice([0, 1, 4, 16])
     turns = f" {rng.randint(1, 30)}" if kind == "turns" else ""
-    lines = [f"heap {frames} {heaps} {units}{turns}"]
+    version = rng.choice([1, 2])
+    lines = [f"{'heap' if version == 1 else 'heap2'} {frames} {heaps} {units}{turns}"]
     shelves = kind != "roomy" and rng.random() < 0.5
     large = 0.03 if units > 0 and kind != "roomy" else 0
     for _ in range(rng.randint(2, 16)):
         lines.append("lane")
-        lines += (random_operation(rng, shelves, large) for _ in range(rng.randint(0, 60)))
+        lines += (random_operation(rng, shelves, large, version) for _ in range(rng.randint(0, 60)))
     return "\n".join(lines + ["end", ""])
 
 
-def random_operation(rng, shelves, large):
-    """An operation on one of six registers and one of three shelves."""
+def random_operation(rng, shelves, large, version):
+    """An operation on one of six registers and one of three shelves; a trace of version 2 has resizes too."""
     register = rng.randrange(6)
     shelf = rng.randrange(3)
     operations = {
@@ -46,6 +47,7 @@ def random_operation(rng, shelves, large):
         f"c {register}": 13,
         f"p {register} {shelf}": 8 if shelves else 0,
         f"t {register} {shelf}": 7 if shelves else 0,
+        f"r {register} {random_words(rng, large)}": 25 if version == 2 else 0,
     }
     return rng.choices(list(operations), list(operations.values()))[0]
 
@@ -75,7 +77,7 @@ def main():
             reports.add((ran.returncode, ran.stdout.decode()))
         several += len(reports) > 1
         for status, report in reports:
-            complaints, exact = check(trace, report, PROFILES["wide"], False)
+            complaints, exact = check(trace, report, PROFILES["wide"], True)
             whole += exact
             if status != 0 or complaints:
                 wrong += 1
