@@ -1,5 +1,5 @@
-//! Tests of the heap for running threads: its calls, one after another and step by step, its census, and
-//! what a lane is told of a machine's steps.
+//! Tests of the heap for running threads: its calls, one after another and step by step, its census, what
+//! a lane is told of a machine's steps, and a pipeline over it.
 #![tactic(auto)]
 
 #[cfg(test)]
@@ -17,3 +17,7 @@ mod embedding;
 mod hand;
 #[cfg(test)]
 mod machine_calls;
+pub mod pipes;
+#[cfg(test)]
+mod piping;
+pub mod relay;

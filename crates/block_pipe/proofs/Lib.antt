@@ -1,0 +1,4 @@
+pub mod EndLemmas
+pub mod Gathering
+pub mod HeldNotes
+pub mod NoteMoves
