@@ -1,0 +1,207 @@
+-- Whole calls through a cache.
+use Rattle.std.proofs.Common.{ℕ, ◌≡◌, ◌≢◌, ◌<◌, ◌⊎◌, inl, inr, refl, sym, ap, ◌∙◌, subst, arith, length}
+use Rattle.std.specs.Prelude.{All}
+use Rattle.std.proofs.lemmas.Bool.{cases_lt}
+use Rattle.heap_geometry.specs.declared.need.Need.{Need}
+use Rattle.heap_geometry.specs.declared.need.Need.TheVariants.{Small, Large, TooLarge}
+use Rattle.heap_geometry.specs.Need.{need_of}
+use Rattle.errand_steps.specs.declared.reply.Reply.{Reply}
+use Rattle.errand_steps.specs.declared.reply.Reply.TheVariants as reply
+use Rattle.errand_steps.specs.Begins.{IsIdle}
+use Rattle.errand_steps.specs.Calls.{Call, alloc, free, put, read, take, write}
+use Rattle.step_core.specs.Cores.{OwnsAfter}
+use Rattle.step_core.specs.Keeping.{Leaves}
+use Rattle.live_heap.specs.declared.answers.AllocAnswer.{AllocAnswer}
+use Rattle.live_heap.specs.declared.answers.AllocAnswer.TheVariants as answer
+use Rattle.live_heap.specs.declared.answers.FreeAnswer.TheVariants as free_answer
+use Rattle.live_heap.specs.declared.block.Block.{Block}
+use Rattle.live_heap.specs.declared.heap.Heap.{Heap}
+use Rattle.live_heap.specs.declared.pass.Pass.{Pass}
+use Rattle.live_heap.specs.Answers.{AllocTells, FreeTells}
+use Rattle.live_heap.specs.Passes.{seen}
+use Rattle.live_heap.specs.Whole.{HasEndedCall, Hands, MadeByPass, OwnsFor, at_once, by_steps}
+use Rattle.live_heap.proofs.Holding.{all-in, all-out, holds-all, holds-out}
+use Rattle.live_heap.specs.Holdings.{Holds}
+use Rattle.live_heap.proofs.WholeLaws.{pass-apart, pass-hands, pass-keeps}
+use Rattle.block_cache.specs.declared.cache.Cache.{Cache}
+use Rattle.block_cache.specs.declared.magazines.Magazines.{Magazines}
+use Rattle.block_cache.specs.Magazines.{all_in, stacks_of}
+use Rattle.block_cache.specs.Caches.{HasFor, HasKept, HasRoom, HasServed, HoldsBlock, IsCache, KeepsMagazines, cached_in, magazine_in, stacks_in}
+use Rattle.block_cache.specs.Whole.{Asks, EndsAs, HoldsAt, IsWholeCall, RestsAt, asked, kept, served}
+use Rattle.block_cache.proofs.MagazineLemmas.{top-splits}
+
+-- it is known whether a magazine has a block for a need, and whether one has room
+for-or-not : (c : Cache) (need : Need) → HasFor c need ⊎ ¬ HasFor c need
+for-or-not c (Small class) =
+    elim (cases_lt 0 (length (magazine_in c class))) [
+      | inl some_there ↦ inl (class, refl, some_there)
+      | inr none_there ↦
+          inr (λ (other, is, has).
+          let same : class ≡ other = let e : Small class ≡ Small other = is in cc in
+          absurd (omega (arith, none_there, subst (λ k. 0 < length (magazine_in c k)) (sym same) has)))
+    ]
+for-or-not c (Large units) = inr (λ (other, is, has). let e : Large units ≡ Small other = is in absurd (cc))
+for-or-not c TooLarge = inr (λ (other, is, has). let e : TooLarge ≡ Small other = is in absurd (cc))
+
+room-or-not : (c : Cache) (need : Need) → HasRoom c need ⊎ ¬ HasRoom c need
+room-or-not c (Small class) =
+    elim (cases_lt (length (magazine_in c class)) c.magazines.depth) [
+      | inl some_there ↦ inl (class, refl, some_there)
+      | inr none_there ↦
+          inr (λ (other, is, has).
+          let same : class ≡ other = let e : Small class ≡ Small other = is in cc in
+          absurd (omega (arith, none_there, subst (λ k. length (magazine_in c k) < c.magazines.depth) (sym same) has)))
+    ]
+room-or-not c (Large units) = inr (λ (other, is, has). let e : Large units ≡ Small other = is in absurd (cc))
+room-or-not c TooLarge = inr (λ (other, is, has). let e : TooLarge ≡ Small other = is in absurd (cc))
+
+-- who asks for a call on a block owns it
+asks-owns : (c : Cache) (call : Call) → Asks c call → OwnsFor c.pass call
+asks-owns c (alloc words) asks = tt
+asks-owns c (take shelf) asks = tt
+asks-owns c (free place need) asks = asks.1.0
+asks-owns c (write place need i value) asks = asks.0
+asks-owns c (read place need i) asks = asks.0
+asks-owns c (put place need shelf) asks = asks.0
+
+made-idle : (p : Pass) (call : Call) (ended : Reply) (q : Pass) → IsIdle p.errand → MadeByPass p call ended q → IsIdle q.errand
+made-idle p call ended q idle (by_steps made) = made.1.idle
+made-idle p call ended q idle (at_once words is_alloc spent once) = subst (λ (r : Pass). IsIdle r.errand) (sym once.same) idle
+
+-- a call that the heap was asked for
+made-whole :
+    (h : Heap) (c d : Cache) (call : Call) (ended : Reply) → RestsAt h c → IsCache h d → Asks c call → MadeByPass c.pass call ended d.pass
+    → KeepsMagazines c d → IsWholeCall h c call ended d
+made-whole h c d call ended rests is asks made keeps =
+    let idle = made-idle c.pass call ended d.pass rests.1 made in
+    record {
+      before = rests;
+      after = (is, idle);
+      made = asked asks (made, asks-owns c call asks, refl, (is.hand.of, idle)) keeps;
+    }
+
+pub asked-whole :
+    (h : Heap) (c d : Cache) (call : Call) (ended : Reply) → RestsAt h c → IsCache h d → Asks c call → HasEndedCall c.pass call ended d.pass
+    → KeepsMagazines c d → IsWholeCall h c call ended d
+asked-whole h c d call ended rests is asks made keeps = made-whole h c d call ended rests is asks (by_steps made) keeps
+
+-- an allocation of the heap that has ended
+alloc-made : (p : Pass) (words tries : ℕ) (told : AllocAnswer) (ended : Reply) (q : Pass) → AllocTells p words tries told q → EndsAs told ended
+    → MadeByPass p (alloc words) ended q
+alloc-made p words tries (answer.Given block) ended q tells is =
+    subst (λ (r : Reply). MadeByPass p (alloc words) r q) (sym is) (by_steps (tells.0.steps, tells.0.called))
+alloc-made p words tries answer.Refused ended q tells is =
+    subst (λ (r : Reply). MadeByPass p (alloc words) r q) (sym is) (by_steps (tells.steps, tells.called))
+alloc-made p words tries answer.Spent ended q (inl once) is =
+    subst (λ (r : Reply). MadeByPass p (alloc words) r q) (sym is) (at_once words refl refl once)
+alloc-made p words tries answer.Spent ended q (inr later) is =
+    subst (λ (r : Reply). MadeByPass p (alloc words) r q) (sym is) (by_steps (later.0.steps, later.0.called))
+alloc-made p words tries answer.TooLarge ended q tells is = absurd is
+alloc-made p words tries answer.Busy ended q tells is = absurd is
+
+pub alloc-whole :
+    (h : Heap) (c d : Cache) (words tries : ℕ) (told : AllocAnswer) (ended : Reply) → RestsAt h c → IsCache h d
+    → (HasFor c (need_of words) → (block : Block) × (told ≡ answer.Given block) × HasServed c words block d)
+    → ((¬ HasFor c (need_of words)) → AllocTells c.pass words tries told d.pass × KeepsMagazines c d)
+    → EndsAs told ended → IsWholeCall h c (alloc words) ended d
+alloc-whole h c d words tries told ended rests is if_for if_not ends =
+    elim (for-or-not c (need_of words)) [
+      | inl has ↦
+          let s = if_for has in
+          record {
+            before = rests;
+            after = (is, subst (λ (p : Pass). IsIdle p.errand) (sym s.2.pass) rests.1);
+            made = served words s.0 refl (subst (λ (a : AllocAnswer). EndsAs a ended) s.1 ends) s.2;
+          }
+      | inr none ↦
+          let s = if_not none in made-whole h c d (alloc words) ended rests is none (alloc-made c.pass words tries told ended d.pass s.0 ends) s.1
+    ]
+
+pub free-whole :
+    (h : Heap) (c d : Cache) (block : Block) (tries : ℕ) → RestsAt h c → IsCache h d → HoldsBlock c block
+    → (HasRoom c block.need → HasKept c block d)
+    → ((¬ HasRoom c block.need) → FreeTells c.pass block tries free_answer.Freed d.pass × KeepsMagazines c d)
+    → IsWholeCall h c (free block.place block.need) reply.Freed d
+free-whole h c d block tries rests is holds if_room if_not =
+    elim (room-or-not c block.need) [
+      | inl room ↦
+          let k = if_room room in
+          record {
+            before = rests;
+            after = (is, subst (λ (p : Pass). IsIdle p.errand) (sym k.pass) rests.1);
+            made = kept block refl refl holds room k;
+          }
+      | inr none ↦
+          let k = if_not none in
+          made-whole h c d (free block.place block.need) reply.Freed rests is (none, holds) (by_steps (k.0.steps, k.0.called)) k.1
+    ]
+
+-- the magazines of the two
+abbrev OwnsAt : Pass → ℕ → Need → Type 0
+OwnsAt p place need = OwnsAfter (seen p) p.errand.caller place need
+
+pub same-cached : (c d : Cache) → KeepsMagazines c d → cached_in d ≡ cached_in c
+same-cached c d keeps = ap (λ (m : Magazines). all_in (stacks_of m.stacks.items)) keeps.magazines
+
+pub whole-keeps : (h : Heap) (c d : Cache) (call : Call) (ended : Reply) (place : ℕ) (need : Need) → IsWholeCall h c call ended d
+    → Leaves call place → HoldsAt c place need → HoldsAt d place need
+whole-keeps h c d call ended place need w leaves holds =
+    elim w.made [
+      | served words block is_alloc is_given has ↦
+          let split = top-splits has.class block (stacks_in c) (stacks_in d) has.top in (
+            subst (λ (p : Pass). OwnsAt p place need) (sym has.pass) holds.0,
+            subst (All (λ (other : Block). other.place ≢ place)) (sym split.without_it)
+                (all-out (λ other. other.place ≢ place) split.front split.back block
+                (subst (All (λ (other : Block). other.place ≢ place)) split.with_it holds.1)).1,
+          )
+      | kept block is_free is_freed held room has ↦
+          let split = top-splits has.class block (stacks_in d) (stacks_in c) has.top in
+          let ne : place ≢ block.place = subst (λ (x : Call). Leaves x place) is_free leaves in (
+            subst (λ (p : Pass). OwnsAt p place need) (sym has.pass) holds.0,
+            subst (All (λ (other : Block). other.place ≢ place)) (sym split.with_it)
+                (all-in (λ other. other.place ≢ place) split.front split.back block (λ same. ne (sym same))
+                (subst (All (λ (other : Block). other.place ≢ place)) split.without_it holds.1)),
+          )
+      | asked asks whole keeps ↦ (
+        pass-keeps h h c.pass d.pass call ended place need whole leaves holds.0,
+        subst (All (λ (other : Block). other.place ≢ place)) (sym (same-cached c d keeps)) holds.1,
+      )
+    ]
+
+pub whole-hands : (h : Heap) (c d : Cache) (call : Call) (ended : Reply) (place : ℕ) (need : Need) → IsWholeCall h c call ended d
+    → Hands ended place need → HoldsAt d place need
+whole-hands h c d call ended place need w hands =
+    let hand = w.before.0.hand.holds w.before.1 in
+    elim w.made [
+      | served words block is_alloc is_given has ↦
+          let split = top-splits has.class block (stacks_in c) (stacks_in d) has.top in
+          let out = holds-out c.pass split.front split.back block (subst (Holds c.pass) split.with_it hand) in
+          let is : (block.place ≡ place) × (block.need ≡ need) = subst (λ (r : Reply). Hands r place need) is_given hands in
+          subst (λ k. HoldsAt d k need) is.0
+          (subst (λ n. HoldsAt d block.place n) is.1 (
+            subst (λ (p : Pass). OwnsAt p block.place block.need) (sym has.pass) out.0,
+            subst (All (λ (other : Block). other.place ≢ block.place)) (sym split.without_it) out.1,
+          ))
+      | kept block is_free is_freed held room has ↦ absurd (subst (λ (r : Reply). Hands r place need) is_freed hands)
+      | asked asks whole keeps ↦ (
+        pass-hands h h c.pass d.pass call ended place need whole hands,
+        subst (All (λ (other : Block). other.place ≢ place)) (sym (same-cached c d keeps))
+            (holds-all c.pass (λ other. other.place ≢ place)
+            (λ other owns. pass-apart h h c.pass d.pass call ended place other.place need other.need whole hands owns) (cached_in c) hand),
+      )
+    ]
+
+pub whole-apart : (h : Heap) (c d : Cache) (call : Call) (ended : Reply) (place other : ℕ) (need had : Need) → IsWholeCall h c call ended d
+    → Hands ended place need → HoldsAt c other had → other ≢ place
+whole-apart h c d call ended place other need had w hands holds =
+    elim w.made [
+      | served words block is_alloc is_given has ↦
+          let split = top-splits has.class block (stacks_in c) (stacks_in d) has.top in
+          let is : (block.place ≡ place) × (block.need ≡ need) = subst (λ (r : Reply). Hands r place need) is_given hands in
+          let ne : block.place ≢ other =
+          (all-out (λ b. b.place ≢ other) split.front split.back block
+          (subst (All (λ (b : Block). b.place ≢ other)) split.with_it holds.1)).0 in
+          λ same. ne (is.0 ∙ sym same)
+      | kept block is_free is_freed held room has ↦ absurd (subst (λ (r : Reply). Hands r place need) is_freed hands)
+      | asked asks whole keeps ↦ pass-apart h h c.pass d.pass call ended place other need had whole hands holds.0
+    ]
