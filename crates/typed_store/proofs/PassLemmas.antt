@@ -1,0 +1,153 @@
+-- What reads and writes of a store's pass leave, and what a node's block contains.
+use Rattle.std.proofs.Common.{ℕ, zero, suc, ◌≡◌, ◌<◌, List, [], ◌∷◌, Option, Some, None, length, refl, sym, ◌∙◌, ap, subst, arith, slice_index_or}
+use Rattle.std.specs.Prelude.{option_map}
+use Rattle.std.proofs.lemmas.Option.{none-some, some_pair_parts}
+use Rattle.heap_geometry.specs.Need.{least, need_of, usable_words}
+use Rattle.heap_geometry.specs.declared.need.Need.{Need}
+use Rattle.pool_model.specs.Owned.{if_of}
+use Rattle.pool_model.specs.Pool.{Block as PoolBlock, block_at, fresh_block, pool_of, written}
+use Rattle.pool_model.specs.WellFormed.{IsWellFormed}
+use Rattle.pool_model.proofs.HistoryLemmas.{legal-weaker}
+use Rattle.pool_model.proofs.OwnedLemmas.{of-self, owned-found}
+use Rattle.pool_model.proofs.PoolLemmas.{every-each}
+use Rattle.pool_model.proofs.WellFormedLemmas.{sound-of}
+use Rattle.errand_steps.specs.declared.reply.Reply.{Reply}
+use Rattle.errand_steps.specs.declared.reply.Reply.TheVariants as reply
+use Rattle.errand_steps.specs.Calls.{Call, read, write}
+use Rattle.live_heap.specs.declared.block.Block.{Block}
+use Rattle.live_heap.specs.declared.heap.Heap.{Heap}
+use Rattle.live_heap.specs.declared.pass.Pass.{Pass}
+use Rattle.live_heap.specs.Calls.{HasCalled}
+use Rattle.live_heap.specs.Contents.{OwnsBut, OwnsSame, owned_in, word_in, word_of}
+use Rattle.live_heap.specs.Holdings.{ChangesHand}
+use Rattle.live_heap.specs.Passes.{IsOf, Owns, seen}
+use Rattle.live_heap.proofs.Changes.{called-changes}
+use Rattle.live_heap.proofs.Exact.{called-exact}
+use Rattle.typed_store.specs.Nodes.{node_at, node_of}
+use Rattle.typed_store.specs.Passings.{Reads, Rests}
+
+-- a call that leaves the hand
+pub called-rests :
+    (h : Heap) (p q : Pass) (call : Call) (steps : ℕ) (answer : Reply) → IsOf h q → HasCalled p call steps answer q
+    → ((blocks : List Block) → ChangesHand call answer blocks blocks) → Rests h p q
+called-rests h p q call steps answer of called same = record {
+  of = of;
+  idle = called.idle;
+  caller = called.caller;
+  hand = λ blocks holds. called-exact h p q call steps answer blocks blocks of called (same blocks) holds;
+}
+
+pub read-reads :
+    (h : Heap) (p q : Pass) (place i word : ℕ) (need : Need) → IsOf h q → HasCalled p (read place need i) 0 (reply.Word word) q → Reads h p q
+read-reads h p q place i word need of called = record {
+  rests = called-rests h p q (read place need i) 0 (reply.Word word) of called (λ blocks. refl);
+  same = called-changes h p q (read place need i) 0 (reply.Word word) of called;
+}
+
+pub write-rests :
+    (h : Heap) (p q : Pass) (place i v : ℕ) (need : Need) → IsOf h q → HasCalled p (write place need i v) 0 reply.Wrote q → Rests h p q
+write-rests h p q place i v need of called = called-rests h p q (write place need i v) 0 reply.Wrote of called (λ blocks. refl)
+
+pub write-changes :
+    (h : Heap) (p q : Pass) (place i v : ℕ) (need : Need) → IsOf h q → HasCalled p (write place need i v) 0 reply.Wrote q
+    → OwnsBut p q place (option_map (written i v) (owned_in p place))
+write-changes h p q place i v need of called = called-changes h p q (write place need i v) 0 reply.Wrote of called
+
+pub rests-on : (h : Heap) (p q r : Pass) → Rests h p q → Rests h q r → Rests h p r
+rests-on h p q r a b = record { of = b.of; idle = b.idle; caller = b.caller ∙ a.caller; hand = λ blocks holds. b.hand blocks (a.hand blocks holds) }
+
+pub reads-on : (h : Heap) (p q r : Pass) → Reads h p q → Reads h q r → Reads h p r
+reads-on h p q r a b = record { rests = rests-on h p q r a.rests b.rests; same = λ place. b.same place ∙ a.same place }
+
+pub reads-self : (h : Heap) (p : Pass) → IsOf h p → Rattle.errand_steps.specs.Begins.IsIdle p.errand → Reads h p p
+reads-self h p of idle =
+    record { rests = record { of = of; idle = idle; caller = refl; hand = λ blocks holds. holds }; same = λ place. refl }
+
+-- the block of a token
+pub owned-token : (p : Pass) (token : Block) → (owns : Owns p token) → owned_in p token.place ≡ Some owns.0
+owned-token p token owns = ap (if_of p.errand.caller) owns.1 ∙ of-self p.errand.caller owns.0 owns.2
+
+-- what is owned after a write or a read is owned still
+pub owned-owns :
+    (p q : Pass) (token : Block) (now : PoolBlock) → q.errand.caller ≡ p.errand.caller → owned_in q token.place ≡ Some now
+    → now.need ≡ token.need → Owns q token
+owned-owns p q token now caller owned need =
+    let found = owned-found q.errand.caller (block_at token.place (pool_of (seen q))) now owned in
+    (now, found.0, found.1, need)
+
+pub same-owns : (p q : Pass) (token : Block) → OwnsSame p q → q.errand.caller ≡ p.errand.caller → Owns p token → Owns q token
+same-owns p q token same caller owns = owned-owns p q token owns.0 caller (same token.place ∙ owned-token p token owns) owns.3
+
+pub wrote-owns :
+    (p q : Pass) (token : Block) (i v : ℕ) → OwnsBut p q token.place (option_map (written i v) (owned_in p token.place))
+    → q.errand.caller ≡ p.errand.caller → Owns p token → Owns q token
+wrote-owns p q token i v changes caller owns =
+    owned-owns p q token (written i v owns.0) caller (changes.here ∙ ap (option_map (written i v)) (owned-token p token owns)) owns.3
+
+-- a word that is written is one of the block's
+index-within : (words : List (Option ℕ)) (i v : ℕ) → slice_index_or words i None ≡ Some v → i < length words
+index-within [] i v is = absurd (none-some v is)
+index-within (w ∷ ws) zero v is = omega arith
+index-within (w ∷ ws) (suc i) v is = omega (arith, index-within ws i v is)
+
+pub word-within :
+    (h : Heap) (p : Pass) (token : Block) (i v : ℕ) → IsOf h p → Owns p token → word_in p token.place i ≡ Some v → i < usable_words token.need
+word-within h p token i v of owns is =
+    let formed =
+    every-each (IsWellFormed h.layout) (pool_of (seen p)) (sound-of h.layout (seen p) (legal-weaker h.layout (seen p) of.served.legal)).each
+    token.place owns.0 owns.1 in
+    let written_there : slice_index_or owns.0.contents i None ≡ Some v =
+    sym (ap (λ (o : Option PoolBlock). word_of o i) (owned-token p token owns)) ∙ is in
+    let within : i < length owns.0.contents = index-within owns.0.contents i v written_there in
+    subst (λ n. i < n) (formed.full ∙ ap usable_words owns.3) within
+
+-- the three words of a node
+node-of-words :
+    (words : List (Option ℕ)) (next : ℕ) (pair : ℕ × ℕ) → node_of words ≡ Some (next, pair)
+    → words ≡ Some next ∷ Some pair.0 ∷ Some pair.1 ∷ []
+node-of-words [] next pair is = absurd (none-some (next, pair) is)
+node-of-words (None ∷ ws) next pair is = absurd (none-some (next, pair) is)
+node-of-words (Some a ∷ []) next pair is = absurd (none-some (next, pair) is)
+node-of-words (Some a ∷ None ∷ ws) next pair is = absurd (none-some (next, pair) is)
+node-of-words (Some a ∷ Some b ∷ []) next pair is = absurd (none-some (next, pair) is)
+node-of-words (Some a ∷ Some b ∷ None ∷ ws) next pair is = absurd (none-some (next, pair) is)
+node-of-words (Some a ∷ Some b ∷ Some c ∷ []) next pair is =
+    let parts = some_pair_parts a next (b, c) pair is in
+    ap (λ (n : ℕ). Some n ∷ Some b ∷ Some c ∷ []) parts.0 ∙ ap (λ (p : ℕ × ℕ). Some next ∷ Some p.0 ∷ Some p.1 ∷ []) parts.1
+node-of-words (Some a ∷ Some b ∷ Some c ∷ w ∷ ws) next pair is = absurd (none-some (next, pair) is)
+
+pub node-is :
+    (o : Option PoolBlock) (next : ℕ) (pair : ℕ × ℕ) → node_at o ≡ Some (next, pair)
+    → (block : PoolBlock) × (o ≡ Some block) × (block.contents ≡ Some next ∷ Some pair.0 ∷ Some pair.1 ∷ [])
+node-is None next pair is = absurd (none-some (next, pair) is)
+node-is (Some block) next pair is = (block, refl, node-of-words block.contents next pair is)
+
+pub node-words :
+    (o : Option PoolBlock) (next : ℕ) (pair : ℕ × ℕ) → node_at o ≡ Some (next, pair)
+    → (word_of o 0 ≡ Some next) × (word_of o 1 ≡ Some pair.0) × (word_of o 2 ≡ Some pair.1)
+node-words o next pair is =
+    let n = node-is o next pair is in
+    let word : (i : ℕ) → word_of o i ≡ slice_index_or (Some next ∷ Some pair.0 ∷ Some pair.1 ∷ []) i None =
+    λ i. ap (λ (x : Option PoolBlock). word_of x i) n.1 ∙ ap (λ (l : List (Option ℕ)). slice_index_or l i None) n.2 in
+    (word 0, word 1, word 2)
+
+-- a node that leads elsewhere
+pub node-led :
+    (o : Option PoolBlock) (was next : ℕ) (pair : ℕ × ℕ) → node_at o ≡ Some (was, pair) → node_at (option_map (written 0 next) o) ≡ Some (next, pair)
+node-led o was next pair is =
+    let n = node-is o was pair is in
+    ap (λ (x : Option PoolBlock). node_at (option_map (written 0 next) x)) n.1
+    ∙ ap (λ (l : List (Option ℕ)). node_of (Rattle.std.specs.List.slice_set l 0 (Some next))) n.2
+
+-- a block of a node's need has three words
+three-words : usable_words (need_of 3) ≡ 3
+unfolding need_of least
+three-words = refl
+
+-- and when they are written, it holds the node
+pub node-made :
+    (caller place next key value : ℕ)
+    → node_at (Some (written 2 value (written 1 key (written 0 next (fresh_block caller 3 place))))) ≡ Some (next, (key, value))
+node-made caller place next key value =
+    ap (λ (n : ℕ). node_of (Rattle.std.specs.List.slice_set (Rattle.std.specs.List.slice_set (Rattle.std.specs.List.slice_set (Rattle.std.specs.Prelude.replicate n None) 0 (Some next)) 1 (Some key)) 2 (Some value)))
+    three-words

@@ -1,0 +1,61 @@
+-- What the store's pass may do between two changes of its blocks, and where a walk along the list stands.
+use Rattle.std.specs.Prelude.{ℕ, suc, ◌≡◌, ◌==◌, ◌⊎◌, List, [], ◌∷◌, ◌++◌, Option, Some, None, length, if◌then◌else◌}
+use Rattle.errand_steps.specs.Begins.{IsIdle}
+use Rattle.live_heap.specs.declared.block.Block.{Block}
+use Rattle.live_heap.specs.declared.heap.Heap.{Heap}
+use Rattle.live_heap.specs.declared.pass.Pass.{Pass}
+use Rattle.live_heap.specs.Contents.{OwnsSame}
+use Rattle.live_heap.specs.Holdings.{HoldsExactly}
+use Rattle.live_heap.specs.Passes.{IsOf}
+use Rattle.typed_store.specs.declared.seeking.Sought.{Sought}
+use Rattle.typed_store.specs.Links.{Leads}
+use Rattle.typed_store.specs.Nodes.{first_with}
+
+-- the pass is in no call, and holds the blocks that it held
+pub record Rests (h : Heap) (p q : Pass) : Type 0 where
+  pub of : IsOf h q
+  pub idle : IsIdle q.errand
+  pub caller : q.errand.caller ≡ p.errand.caller
+  pub hand : (blocks : List Block) → HoldsExactly p blocks → HoldsExactly q blocks
+
+-- and they have the words that they had
+pub record Reads (h : Heap) (p q : Pass) : Type 0 where
+  pub rests : Rests h p q
+  pub same : OwnsSame p q
+
+-- who leads from the head, behind these pairs, to this number: nobody, or the last of the pairs
+abbrev pub IsLink : (ℕ → Option (ℕ × (ℕ × ℕ))) → ℕ → List (ℕ × ℕ) → ℕ → ℕ → Type 0
+IsLink at head before previous here =
+    ((before ≡ []) × (previous ≡ 0))
+    ⊎ ((front : List (ℕ × ℕ)) × (pair : ℕ × ℕ) × (slot : ℕ) × (before ≡ front ++ pair ∷ []) × (previous ≡ suc slot)
+    × Leads at head front (suc slot) × (at slot ≡ Some (here, pair)))
+
+-- a walk along the list has passed so many of its pairs, and stands at this number
+pub record IsPassing (at : ℕ → Option (ℕ × (ℕ × ℕ))) (head previous here passed : ℕ) (pairs : List (ℕ × ℕ)) : Type 0 where
+  pub before : List (ℕ × ℕ)
+  pub after : List (ℕ × ℕ)
+  pub whole : pairs ≡ before ++ after
+  pub passed_is : length before ≡ passed
+  pub come : Leads at head before here
+  pub left : Leads at here after 0
+  pub link : IsLink at head before previous here
+
+-- a node of the list stands behind these pairs and in front of those
+pub record Stands (at : ℕ → Option (ℕ × (ℕ × ℕ))) (head : ℕ) (before : List (ℕ × ℕ)) (sought : Sought) (after : List (ℕ × ℕ)) : Type 0 where
+  pub come : Leads at head before (suc sought.slot)
+  pub here : at sought.slot ≡ Some (sought.node.next, (sought.node.key, sought.node.value))
+  pub left : Leads at sought.node.next after 0
+  pub link : IsLink at head before sought.previous (suc sought.slot)
+
+-- it is that of the first pair with this key
+pub record Finds (at : ℕ → Option (ℕ × (ℕ × ℕ))) (head key : ℕ) (pairs : List (ℕ × ℕ)) (sought : Sought) : Type 0 where
+  pub before : List (ℕ × ℕ)
+  pub after : List (ℕ × ℕ)
+  pub whole : pairs ≡ before ++ (sought.node.key, sought.node.value) ∷ after
+  pub key_is : sought.node.key ≡ key
+  pub first : first_with key before ≡ None
+  pub stands : Stands at head before sought after
+
+-- a slot without its node
+abbrev pub but : (ℕ → Option (ℕ × (ℕ × ℕ))) → ℕ → ℕ → Option (ℕ × (ℕ × ℕ))
+but at gone slot = if slot == gone then None else at slot
