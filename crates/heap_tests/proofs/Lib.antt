@@ -1,3 +1,4 @@
+pub mod CachedHands
 pub mod EmbeddedCalls
 pub mod EmbeddedCounts
 pub mod EmbeddedEnds

@@ -7,6 +7,10 @@ mod alone;
 #[cfg(test)]
 mod both_ways;
 #[cfg(test)]
+mod cached;
+#[cfg(test)]
+mod caches;
+#[cfg(test)]
 mod calls;
 #[cfg(test)]
 mod censuses;
