@@ -87,7 +87,7 @@ fn a_full_magazine_sends_frees_on(rt: HostRuntime) -> Result<(), Fail> {
         (Asked::Alloc(1), Told::Given(2), 0),
         (Asked::Free(1), Told::FreedAt(2), 0),
         (Asked::Free(0), Told::FreedAt(0), 0),
-        (Asked::Alloc(3), Told::Given(2048), 0),
+        (Asked::Alloc(3), Told::Given(4096), 0),
         (Asked::Alloc(1), Told::Given(2), 1),
         (Asked::Alloc(1), Told::Given(0), 1),
     ];
