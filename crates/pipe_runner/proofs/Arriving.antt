@@ -1,0 +1,36 @@
+-- How the receiver comes to a note, over receives that miss.
+use Rattle.std.proofs.Common.{◌≡◌, ◌++◌, ◌⊎◌, List, [], ◌∷◌, Some, None, sym, ap, ◌∙◌, subst, inl, inr}
+use Rattle.std.proofs.lemmas.Option.{none-some}
+use Rattle.block_pipe.specs.declared.note.Note.{Note}
+use Rattle.block_pipe.specs.declared.pipe.Pipe.{Pipe}
+use Rattle.block_pipe.specs.declared.receiver.Receiver.{Receiver}
+use Rattle.block_pipe.specs.Ends.{ComesTo, IsNextIn, popped_by}
+
+-- it has kept the note, which is the next one behind those that it had popped
+pub record HasKept (pipe : Pipe) (r : Receiver) (note : Note) (t : Receiver) : Type 0 where
+  pub kept : t.kept ≡ Some note
+  pub popped : popped_by t ≡ popped_by r ++ note ∷ []
+  pub next : IsNextIn pipe (popped_by r) note
+
+-- it has come to no note yet, or to one that it keeps
+abbrev pub HasCome : Pipe → Receiver → Receiver → Type 0
+HasCome pipe r t = ((t.kept ≡ None) × (popped_by t ≡ popped_by r)) ⊎ ((note : Note) × HasKept pipe r note t)
+
+pub comes-to :
+    (pipe : Pipe) (r t u : Receiver) (note : Note) → HasCome pipe r t → ComesTo pipe t note u
+    → (popped_by u ≡ popped_by r ++ note ∷ []) × IsNextIn pipe (popped_by r) note
+comes-to pipe r t u note (inl here) (inl comes) = absurd (none-some note (sym here.0 ∙ comes.0))
+comes-to pipe r t u note (inl here) (inr comes) =
+    (comes.1 ∙ ap (λ (l : List Note). l ++ note ∷ []) here.1, subst (λ (l : List Note). IsNextIn pipe l note) here.1 comes.2)
+comes-to pipe r t u note (inr has) (inl comes) =
+    let both : Some note ≡ Some has.0 = sym comes.0 ∙ has.1.kept in
+    let same : note ≡ has.0 = cc in (
+      comes.1 ∙ has.1.popped ∙ ap (λ (x : Note). popped_by r ++ x ∷ []) (sym same),
+      subst (IsNextIn pipe (popped_by r)) (sym same) has.1.next,
+    )
+comes-to pipe r t u note (inr has) (inr comes) = absurd (none-some has.0 (sym comes.0 ∙ has.1.kept))
+
+-- where it finds the queue empty it has come to none
+pub comes-to-nothing : (pipe : Pipe) (r t u : Receiver) → HasCome pipe r t → t.kept ≡ None → popped_by u ≡ popped_by t → popped_by u ≡ popped_by r
+comes-to-nothing pipe r t u (inl here) none same = same ∙ here.1
+comes-to-nothing pipe r t u (inr has) none same = absurd (none-some has.0 (sym none ∙ has.1.kept))

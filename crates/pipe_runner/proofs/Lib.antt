@@ -1,0 +1,15 @@
+pub mod Arriving
+pub mod CallSteps
+pub mod ClosedLemmas
+pub mod HandLemmas
+pub mod MessageLemmas
+pub mod MoveLemmas
+pub mod NoteCounts
+pub mod PairLemmas
+pub mod RoundLemmas
+pub mod RunEnds
+pub mod RunLemmas
+pub mod SendLemmas
+pub mod SendStep
+pub mod TakeLemmas
+pub mod TakeStep

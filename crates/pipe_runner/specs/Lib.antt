@@ -1,0 +1,5 @@
+pub mod Messages
+pub mod Moves
+pub mod Receivers
+pub mod Runs
+pub mod Senders

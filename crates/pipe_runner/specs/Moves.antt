@@ -1,0 +1,65 @@
+-- How a pass goes on between the hand-overs of its blocks.
+use Rattle.std.specs.Prelude.{ℕ, ◌≡◌, ◌++◌, ◌∷◌, List, [], All, Some}
+use Rattle.heap_geometry.specs.Need.{need_of}
+use Rattle.pool_model.specs.declared.event.Event.{Event}
+use Rattle.pool_model.specs.declared.event.Event.TheVariants.{Put, Take}
+use Rattle.pool_model.specs.Histories.{own}
+use Rattle.errand_steps.specs.declared.reply.Reply.TheVariants as reply
+use Rattle.errand_steps.specs.Calls.{put, take}
+use Rattle.pool_model.specs.Pool.{fresh_block}
+use Rattle.live_heap.specs.declared.block.Block.{Block}
+use Rattle.live_heap.specs.declared.heap.Heap.{Heap}
+use Rattle.live_heap.specs.declared.pass.Pass.{Pass}
+use Rattle.live_heap.specs.Calls.{HasCalled}
+use Rattle.live_heap.specs.Contents.{OwnsSame, owned_in}
+use Rattle.live_heap.specs.Holdings.{HoldsExactly}
+use Rattle.live_heap.specs.Passes.{Owns, seen}
+use Rattle.live_heap.specs.Whole.{IsAtRest}
+
+-- the event hands no block over
+abbrev pub StaysHome : Event → Type 0
+StaysHome (Put caller place shelf) = ⊥
+StaysHome (Take caller shelf place) = ⊥
+StaysHome event = Unit {0}
+
+-- the pass has gone on, and seen these events more; its caller has handed no block over among them
+pub record GoesOn (p q : Pass) : Type 0 where
+  pub caller : q.errand.caller ≡ p.errand.caller
+  pub more : List Event
+  pub grows : seen q ≡ seen p ++ more
+  pub home : All StaysHome (own p.errand.caller more)
+
+-- a pass at rest has gone on so, and is at rest
+pub record Moves (h : Heap) (p q : Pass) : Type 0 where
+  pub goes : GoesOn p q
+  pub rest : IsAtRest h q
+
+-- it owns just this block now, as it is given, and nothing else; before it owned nothing
+pub record HasAllocated (h : Heap) (p : Pass) (words : ℕ) (block : Block) (q : Pass) : Type 0 where
+  pub moves : Moves h p q
+  pub given : owned_in q block.place ≡ Some (fresh_block p.errand.caller words block.place)
+  pub owned : Owns q block
+  pub serves : block.need ≡ need_of words
+  pub holds : HoldsExactly p [] → HoldsExactly q (block ∷ [])
+
+-- it has changed nothing of what it owns but the words in its block
+pub record KeepsBlocks (h : Heap) (p q : Pass) : Type 0 where
+  pub moves : Moves h p q
+  pub owns : (block : Block) → Owns p block → Owns q block
+  pub holds : (blocks : List Block) → HoldsExactly p blocks → HoldsExactly q blocks
+
+-- it has gone on so, without a change of what it owns, and then put its block on a shelf; and then it may have gone on
+pub record HasHandedOver (h : Heap) (p : Pass) (block : Block) (shelf : ℕ) (q : Pass) : Type 0 where
+  pub last : Pass
+  pub keeps : KeepsBlocks h p last
+  pub same : OwnsSame p last
+  pub called : HasCalled last (put block.place block.need shelf) 0 reply.Put q
+  pub rest : IsAtRest h q
+
+-- it has gone on so, and then taken a block from a shelf
+pub record HasTakenOff (h : Heap) (p : Pass) (shelf : ℕ) (block : Block) (q : Pass) : Type 0 where
+  pub last : Pass
+  pub keeps : KeepsBlocks h p last
+  pub called : HasCalled last (take shelf) 1 (reply.Got block.place block.need) q
+  pub owned : Owns q block
+  pub rest : IsAtRest h q

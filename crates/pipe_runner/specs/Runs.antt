@@ -1,0 +1,65 @@
+-- A whole run of a pipeline.
+use Rattle.std.specs.Prelude.{ℕ, suc, ◌≡◌, ◌<◌, ◌≤◌, ◌+◌, List, [], ◌∷◌, None, length, slice_index, vec_capacity}
+use Rattle.heap_geometry.specs.declared.geometry.Geometry.{Geometry}
+use Rattle.heap_geometry.specs.declared.limits.TheConstants.{MAX_TURNS}
+use Rattle.pool_model.specs.Pool.{pool_of}
+use Rattle.shelf_laws.specs.Quiet.{IsQuiet, sent, taken}
+use Rattle.live_heap.specs.declared.heap.Heap.{Heap}
+use Rattle.live_heap.specs.declared.pass.Pass.{Pass}
+use Rattle.live_heap.specs.Endings.{IsResting}
+use Rattle.block_pipe.specs.declared.pipe.Pipe.{Pipe}
+use Rattle.block_pipe.specs.declared.sender.Sender.{Sender}
+use Rattle.block_pipe.specs.Ends.{IsSender, pushed_by}
+use Rattle.pipe_runner.specs.declared.run.Parts.{Parts}
+use Rattle.pipe_runner.specs.declared.run.PipeRun.{PipeRun}
+use Rattle.pipe_runner.specs.declared.sender.TheConstants.{SHELVES_EACH}
+use Rattle.pipe_runner.specs.Messages.{contents_of, fold_of, messages}
+use Rattle.pipe_runner.specs.Receivers.{IsReceiving}
+use Rattle.pipe_runner.specs.Senders.{AreSending, HasSent}
+
+-- the numbers of the heap, with a caller for each sender and one for the receiver
+abbrev pub pipe_heap : ℕ → Geometry
+pipe_heap senders = record { frames = 64; heaps = 1; units = 0; callers = senders + 1; turn_limit = MAX_TURNS }
+
+-- the heap and the pipe are new, no message has been sent, and there is room for what the end takes
+pub record IsReadyToRun (passed : ℕ → ℕ → Type 0) (senders start : ℕ) (parts : Parts) : Type 0 where
+  pub layout : parts.heap.layout ≡ pipe_heap senders
+  pub pipe : parts.pipe.senders ≡ senders
+  pub stands : AreSending passed parts.heap parts.pipe start 0 0 parts.threads.items
+  pub all : length parts.threads.items ≡ senders
+  pub receives : IsReceiving parts.heap parts.pipe parts.receiver
+  pub no_pass : parts.passes.items ≡ []
+  pub passes : senders + 1 ≤ vec_capacity parts.passes
+  pub no_end : parts.ends.items ≡ []
+  pub ends : senders ≤ vec_capacity parts.ends
+
+-- a sender of this number has sent so many messages, with a note of each
+pub record HasDone (passed : ℕ → ℕ → Type 0) (h : Heap) (pipe : Pipe) (start count number : ℕ) (p : Pass) (e : Sender) : Type 0 where
+  pub has : HasSent passed h pipe.senders start count p
+  pub caller : p.errand.caller ≡ number
+  pub end : IsSender pipe e
+  pub number_is : e.number ≡ number
+  pub pending : e.pending ≡ None
+  pub pushed : length (pushed_by e) ≡ count
+
+-- so have all senders from a number on
+abbrev pub AreDone : (ℕ → ℕ → Type 0) → Heap → Pipe → ℕ → ℕ → ℕ → List Pass → List Sender → Type 0
+AreDone passed h pipe start count number [] [] = Unit {0}
+AreDone passed h pipe start count number (p ∷ ps) (e ∷ es) =
+    HasDone passed h pipe start count number p e × AreDone passed h pipe start count (suc number) ps es
+AreDone passed h pipe start count number (p ∷ ps) [] = ⊥
+AreDone passed h pipe start count number [] (e ∷ es) = ⊥
+
+-- a pipeline has run to its end: the closed heap's history is quiet for it; of each sender just that was taken which was sent, the sender's messages,
+-- each of which has passed the gate before; the log has as many notes pushed and popped; the fold is the one over what was taken; and no block is live
+pub record IsPipeRun (passed : ℕ → ℕ → Type 0) (senders count start : ℕ) (run : PipeRun) : Type 0 where
+  pub heap : run.closed.geometry ≡ pipe_heap senders
+  pub rests : IsResting run.closed
+  pub quiet : IsQuiet senders SHELVES_EACH run.closed.events
+  pub equal : (k : ℕ) → k < senders → taken senders SHELVES_EACH k run.closed.events ≡ sent SHELVES_EACH k run.closed.events
+  pub all : (k : ℕ) → k < senders → contents_of (sent SHELVES_EACH k run.closed.events) ≡ messages start k count
+  pub pushed : (k : ℕ) → k < senders → slice_index run.log.sent.counts k ≡ count
+  pub popped : (k : ℕ) → k < senders → slice_index run.log.taken.counts k ≡ count
+  pub folds : (k : ℕ) → k < senders → slice_index run.folds.numbers k ≡ fold_of (taken senders SHELVES_EACH k run.closed.events)
+  pub nothing : pool_of run.closed.events ≡ []
+  pub gate : (k i : ℕ) → k < senders → i < count → passed k i

@@ -1,0 +1,95 @@
+//! What a pass does with a message between its hand-overs.
+
+ghost use Rattle.std.specs.Prelude.{ℕ, ◌≡◌, ◌≤◌, ◌%◌, ◌^◌, ◌+◌, ◌*◌, Some, None, IfSome};
+ghost use Rattle.heap_geometry.specs.Need.{usable_words};
+ghost use Rattle.errand_steps.specs.declared.reply.Reply.TheVariants as reply;
+ghost use Rattle.errand_steps.specs.Calls.{alloc, free};
+ghost use Rattle.pool_model.specs.Pool.{Block as PoolBlock, fresh_block};
+ghost use Rattle.live_heap.specs.Contents.{owned_in};
+ghost use Rattle.live_heap.specs.Passes.{Owns};
+ghost use Rattle.live_heap.specs.Whole.{IsAtRest, IsWhole};
+ghost use Rattle.pipe_runner.specs.Messages.{HasThreeWords, three_from, with_word, with_words};
+ghost use Rattle.pipe_runner.specs.Moves.{HasAllocated, KeepsBlocks};
+
+use lane_engine::calls::{Allocated, Calls};
+use lane_engine::over_pass::PassCalls;
+use live_heap::block::Block;
+use live_heap::heap::Heap;
+use live_heap::pass::Pass;
+use std::sync::Wait;
+use std::thread;
+
+/// A block of three words, where the heap gives one.
+fn try_allocate<R: Wait>(rt: &R, heap: &Heap, pass: &mut Pass) -> Option<Block>
+    requires rest { IsAtRest heap.now pass.old }
+    ensures given { IfSome result (λ block. IsWhole heap.now pass.old (alloc 3) (reply.Given block.place block.need) heap.now pass.new) }
+    ensures none { result ≡ None → KeepsBlocks heap.now pass.old pass.new }
+{
+    let mut calls = PassCalls::new(heap, pass);
+    match calls.allocate(rt, 3) {
+        Allocated::Given(block) => Some(block),
+        _ => None,
+    }
+}
+
+/// A block of three words. Where the heap gives none the same call is made again.
+pub(crate) fn allocate<R: Wait>(rt: &R, heap: &Heap, pass: &mut Pass) -> Block
+    requires rest { IsAtRest heap.now pass.old }
+    ensures { HasAllocated heap.now pass.old 3 result pass.new }
+{
+    for _ in rt.forever() {
+        match try_allocate(rt, heap, pass) {
+            Some(block) => return block,
+            None => thread::yield_now(),
+        }
+    }
+    unreachable!()
+}
+
+/// Frees the pass's block.
+pub(crate) fn release<R: Wait>(rt: &R, heap: &Heap, pass: &mut Pass, block: Block)
+    requires rest { IsAtRest heap.now pass.old }
+    requires owned { Owns pass.old block }
+    ensures { IsWhole heap.now pass.old (free block.place block.need) reply.Freed heap.now pass.new }
+{
+    let mut calls = PassCalls::new(heap, pass);
+    calls.free(rt, block);
+}
+
+/// Writes three words into the pass's block, which count from this number, modulo 2^64.
+pub(crate) fn write_message(heap: &Heap, pass: &mut Pass, block: &Block, first: u64)
+    requires rest { IsAtRest heap.now pass.old }
+    requires owned { Owns pass.old block.now }
+    requires words { 3 ≤ usable_words block.now.need }
+    ensures keeps { KeepsBlocks heap.now pass.old pass.new }
+    ensures written { owned_in pass.old block.now.place ≡ Some (fresh_block pass.old.errand.caller 3 block.now.place)
+        → (b : PoolBlock) × (owned_in pass.new block.now.place ≡ Some b) × (b.contents ≡ three_from first) }
+{
+    heap.write(pass, block, 0, first);
+    heap.write(pass, block, 1, first.wrapping_add(1));
+    heap.write(pass, block, 2, first.wrapping_add(2));
+}
+
+/// The fold with one word more.
+fn with_word(fold: u64, word: u64) -> u64
+    ensures { result ≡ with_word fold word }
+{
+    fold.wrapping_mul(31).wrapping_add(word)
+}
+
+/// The fold with the three words of the pass's block; a block with fewer words leaves it.
+pub(crate) fn fold_block(heap: &Heap, pass: &mut Pass, block: &Block, fold: u64) -> u64
+    requires rest { IsAtRest heap.now pass.old }
+    requires owned { Owns pass.old block.now }
+    ensures keeps { KeepsBlocks heap.now pass.old pass.new }
+    ensures folded { (b : PoolBlock) → owned_in pass.old block.now.place ≡ Some b → HasThreeWords b.contents
+        → result ≡ with_words fold b.contents }
+{
+    if block.words() < 3 {
+        return fold;
+    }
+    let a = heap.read(pass, block, 0);
+    let b = heap.read(pass, block, 1);
+    let c = heap.read(pass, block, 2);
+    with_word(with_word(with_word(fold, a), b), c)
+}
