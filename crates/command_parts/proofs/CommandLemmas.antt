@@ -1,12 +1,13 @@
 -- Words name one command.
-use Rattle.std.proofs.Common.{ℕ, ◌≡◌, ◌∷◌, List, [], Some, codes, get_or, length, refl, ap, ◌∙◌, arith}
+use Rattle.std.proofs.Common.{ℕ, ◌≡◌, ◌≢◌, ◌∷◌, List, [], None, Some, codes, get_or, length, refl, sym, ap, ◌∙◌, arith}
 use Rattle.std.specs.Fmt.{decimal}
 use Rattle.std.proofs.lemmas.Fmt.{decimal_injective}
 use Rattle.workloads.specs.declared.kind.Kind.{Kind}
 use Rattle.workloads.specs.declared.kind.Kind.TheVariants as kinds
-use Rattle.command_parts.specs.Command.{IsCommandLine, IsWorkload, kind_name, workload_words}
+use Rattle.command_parts.specs.Command.{IsCommandLine, IsPiping, IsWorkload, kind_name, piping_words, workload_words}
 use Rattle.command_parts.specs.declared.command.Command.{Command}
-use Rattle.command_parts.specs.declared.command.Command.TheVariants.{Replay, Schedule, Census, Make, Print}
+use Rattle.command_parts.specs.declared.command.Command.TheVariants.{Replay, Schedule, Census, Make, Print, Pipe}
+use Rattle.command_parts.specs.declared.command.Piping.{Piping}
 use Rattle.command_parts.specs.declared.command.Workload.{Workload}
 
 -- a kind by its name
@@ -50,6 +51,12 @@ one_workload name other a b in_a in_b e =
 first_letter : List (List ℕ) → ℕ
 first_letter words = get_or (get_or words 0 []) 0 0
 
+second_letter : List (List ℕ) → ℕ
+second_letter words = get_or (get_or words 0 []) 1 0
+
+first_word : List (List ℕ) → List ℕ
+first_word words = get_or words 0 []
+
 -- which command has this name and this workload
 pub only_make :
     (word : List ℕ) (workload : Workload) (command : Command) → word ≡ codes "make" → IsWorkload workload
@@ -62,11 +69,13 @@ only_make word workload (Make other) is ranges line =
     ap (λ w. Some (Make w)) (one_workload word (codes "make") workload other ranges line.0 line.1)
 only_make word workload (Print other) is ranges line =
     absurd (omega (arith, ap (λ w. get_or w 0 0) is, ap first_letter line.1))
+only_make word workload (Pipe piping) is ranges line =
+    absurd (omega (arith, ap (λ w. get_or w 0 0) is, ap first_letter line.1))
 
 pub only_print :
     (word : List ℕ) (workload : Workload) (command : Command) → word ≡ codes "print" → IsWorkload workload
     → IsCommandLine command (word ∷ workload_words workload) → Some (Print workload) ≡ Some command
-unfolding first_letter
+unfolding first_letter second_letter
 only_print word workload Replay is ranges line = absurd (omega (arith, ap length line.1))
 only_print word workload Schedule is ranges line = absurd (omega (arith, ap length line.1))
 only_print word workload Census is ranges line = absurd (omega (arith, ap length line.1))
@@ -74,3 +83,48 @@ only_print word workload (Make other) is ranges line =
     absurd (omega (arith, ap (λ w. get_or w 0 0) is, ap first_letter line.1))
 only_print word workload (Print other) is ranges line =
     ap (λ w. Some (Print w)) (one_workload word (codes "print") workload other ranges line.0 line.1)
+only_print word workload (Pipe piping) is ranges line =
+    absurd (omega (arith, ap (λ w. get_or w 1 0) is, ap second_letter line.1))
+
+-- no other name with a workload is a command
+pub no_other :
+    (word : List ℕ) (workload : Workload) (command : Command) → word ≢ codes "make" → word ≢ codes "print" → word ≢ codes "pipe"
+    → IsCommandLine command (word ∷ workload_words workload) → None ≡ Some command
+unfolding first_word
+no_other word workload Replay one two three line = absurd (omega (arith, ap length line.1))
+no_other word workload Schedule one two three line = absurd (omega (arith, ap length line.1))
+no_other word workload Census one two three line = absurd (omega (arith, ap length line.1))
+no_other word workload (Make other) one two three line = absurd (one (ap first_word line.1))
+no_other word workload (Print other) one two three line = absurd (two (ap first_word line.1))
+no_other word workload (Pipe piping) one two three line = absurd (three (ap first_word line.1))
+
+-- a pipeline by its words
+pub one_piping : (a b : Piping) → IsPiping a → IsPiping b → piping_words a ≡ piping_words b → a ≡ b
+unfolding word_at
+one_piping a b in_a in_b e =
+    let (a_least, a_senders, a_messages, a_start) = in_a in
+    let (b_least, b_senders, b_messages, b_start) = in_b in
+    let senders = decimal_injective a.senders b.senders (omega (arith, a_senders)) (omega (arith, b_senders)) (ap (λ w. word_at w 0) e) in
+    let messages = decimal_injective a.messages b.messages (omega (arith, a_messages)) (omega (arith, b_messages)) (ap (λ w. word_at w 1) e) in
+    let start = decimal_injective a.start b.start a_start b_start (ap (λ w. word_at w 2) e) in
+    let with_senders : ℕ → Piping = λ n. record { senders = n; messages = a.messages; start = a.start } in
+    let with_messages : ℕ → Piping = λ n. record { senders = b.senders; messages = n; start = a.start } in
+    let with_start : ℕ → Piping = λ n. record { senders = b.senders; messages = b.messages; start = n } in
+    ap with_senders senders ∙ ap with_messages messages ∙ ap with_start start
+
+rest_of : List (List ℕ) → List (List ℕ)
+rest_of [] = []
+rest_of (word ∷ words) = words
+
+-- which command is a pipeline
+pub only_pipe :
+    (words : List (List ℕ)) (piping : Piping) (command : Command) → IsPiping piping → words ≡ piping_words piping
+    → IsCommandLine command (codes "pipe" ∷ words) → Some (Pipe piping) ≡ Some command
+unfolding first_letter second_letter rest_of
+only_pipe words piping Replay ranges is line = absurd (omega (arith, ap first_letter line.1))
+only_pipe words piping Schedule ranges is line = absurd (omega (arith, ap first_letter line.1))
+only_pipe words piping Census ranges is line = absurd (omega (arith, ap first_letter line.1))
+only_pipe words piping (Make other) ranges is line = absurd (omega (arith, ap first_letter line.1))
+only_pipe words piping (Print other) ranges is line = absurd (omega (arith, ap second_letter line.1))
+only_pipe words piping (Pipe other) ranges is line =
+    ap (λ p. Some (Pipe p)) (one_piping piping other ranges line.0 (sym is ∙ ap rest_of line.1))

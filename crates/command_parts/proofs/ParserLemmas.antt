@@ -9,9 +9,10 @@ use Rattle.clap.specs.Walk.{Held, Rule, Text, Waiting, Walk, all_of, is_empty, a
 use Rattle.clap.specs.Simple.{built, entered, matches_of}
 use Rattle.clap.specs.Simple.{Shape}
 use Rattle.clap.specs.Takes.{bundle_passes, default_passes, entered_passes, flag_word_passes, is_valid, settle_passes, step_passes, takes, turn_passes, walk_passes, word_passes}
-use Rattle.command_parts.specs.Command.{HasRanges, IsCommand, IsCommandLine, IsWorkload, begins_with_hyphen, kind_name, parser_app, words_of, workload_words}
+use Rattle.command_parts.specs.Command.{HasRanges, IsCommand, IsCommandLine, IsPiping, IsWorkload, begins_with_hyphen, kind_name, parser_app, piping_words, words_of, workload_words}
 use Rattle.command_parts.specs.declared.command.Command.{Command}
-use Rattle.command_parts.specs.declared.command.Command.TheVariants.{Replay, Schedule, Census, Make, Print}
+use Rattle.command_parts.specs.declared.command.Command.TheVariants.{Replay, Schedule, Census, Make, Print, Pipe}
+use Rattle.command_parts.specs.declared.command.Piping.{Piping}
 use Rattle.command_parts.specs.declared.command.Workload.{Workload}
 use Rattle.command_parts.specs.declared.parsing.NoCommand.{NoCommand}
 use Rattle.command_parts.specs.declared.parsing.NoCommand.TheVariants.{Usage}
@@ -189,6 +190,8 @@ takes_command (Make workload) words line plain =
     subst Taken (sym line.1) (words_pass (codes "make") (workload_words workload) (subst NoOptions line.1 plain) (omega arith))
 takes_command (Print workload) words line plain =
     subst Taken (sym line.1) (words_pass (codes "print") (workload_words workload) (subst NoOptions line.1 plain) (omega arith))
+takes_command (Pipe piping) words line plain =
+    subst Taken (sym line.1) (words_pass (codes "pipe") (piping_words piping) (subst NoOptions line.1 plain) (omega arith))
 
 -- what the parser refuses is no command
 pub refused : (words : List Text) → NoOptions words → ¬ (takes parser_app words ≡ true) → ¬ IsCommand words
@@ -210,6 +213,7 @@ has_words Schedule = refl
 has_words Census = refl
 has_words (Make workload) = refl
 has_words (Print workload) = refl
+has_words (Pipe piping) = refl
 
 -- a command has words
 pub some_words : (words : List Text) → words ≡ [] → ¬ IsCommand words
@@ -236,12 +240,17 @@ plain_workload : (name : Text) (workload : Workload) → begins_with_hyphen name
 plain_workload name workload plain ranges =
     rw (plain, plain_kind workload.kind, plain_number workload.size (omega (arith, ranges.0)), plain_number workload.start ranges.1) refl
 
+plain_piping : (piping : Piping) → IsPiping piping → list_any begins_with_hyphen (codes "pipe" ∷ piping_words piping) ≡ false
+plain_piping piping (least, senders, messages, start) =
+    rw (plain_number piping.senders (omega (arith, senders)), plain_number piping.messages (omega (arith, messages)), plain_number piping.start start) refl
+
 plain_command : (command : Command) → HasRanges command → list_any begins_with_hyphen (words_of command) ≡ false
 plain_command Replay ranges = refl
 plain_command Schedule ranges = refl
 plain_command Census ranges = refl
 plain_command (Make workload) ranges = plain_workload (codes "make") workload refl ranges
 plain_command (Print workload) ranges = plain_workload (codes "print") workload refl ranges
+plain_command (Pipe piping) ranges = plain_piping piping ranges
 
 -- a command has no option
 pub no_command : (words : List Text) → list_any begins_with_hyphen words ≡ true → ¬ IsCommand words

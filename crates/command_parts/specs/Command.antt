@@ -6,7 +6,9 @@ use Rattle.workloads.specs.declared.kind.Kind.{Kind}
 use Rattle.workloads.specs.declared.kind.Kind.TheVariants as kinds
 use Rattle.workloads.specs.declared.making.TheConstants.{MAX_SIZE}
 use Rattle.command_parts.specs.declared.command.Command.{Command}
-use Rattle.command_parts.specs.declared.command.Command.TheVariants.{Replay, Schedule, Census, Make, Print}
+use Rattle.command_parts.specs.declared.command.Command.TheVariants.{Replay, Schedule, Census, Make, Print, Pipe}
+use Rattle.command_parts.specs.declared.command.Piping.{Piping}
+use Rattle.command_parts.specs.declared.command.TheConstants.{MAX_MESSAGES}
 use Rattle.command_parts.specs.declared.command.Workload.{Workload}
 
 -- how a kind of workload is named
@@ -20,6 +22,10 @@ kind_name kinds.Pipeline = codes "pipeline"
 abbrev pub workload_words : Workload → List (List ℕ)
 workload_words workload = kind_name workload.kind ∷ decimal workload.size ∷ decimal workload.start ∷ []
 
+-- the words that name a pipeline: how many senders, how many messages of each, and where the words count from
+abbrev pub piping_words : Piping → List (List ℕ)
+piping_words piping = decimal piping.senders ∷ decimal piping.messages ∷ decimal piping.start ∷ []
+
 -- the words of a command
 abbrev pub words_of : Command → List (List ℕ)
 words_of Replay = codes "replay" ∷ []
@@ -27,10 +33,15 @@ words_of Schedule = codes "schedule" ∷ []
 words_of Census = codes "census" ∷ []
 words_of (Make workload) = codes "make" ∷ workload_words workload
 words_of (Print workload) = codes "print" ∷ workload_words workload
+words_of (Pipe piping) = codes "pipe" ∷ piping_words piping
 
 -- the numbers of a workload are in their ranges
 abbrev pub IsWorkload : Workload → Type 0
 IsWorkload workload = (workload.size ≤ MAX_SIZE) × (workload.start < 2 ^ 64)
+
+-- so are those of a pipeline
+abbrev pub IsPiping : Piping → Type 0
+IsPiping piping = (1 ≤ piping.senders) × (piping.senders ≤ 4) × (piping.messages ≤ MAX_MESSAGES) × (piping.start < 2 ^ 64)
 
 -- so are those of a command
 abbrev pub HasRanges : Command → Type 0
@@ -39,6 +50,7 @@ HasRanges Schedule = Unit {0}
 HasRanges Census = Unit {0}
 HasRanges (Make workload) = IsWorkload workload
 HasRanges (Print workload) = IsWorkload workload
+HasRanges (Pipe piping) = IsPiping piping
 
 -- these are the words of the command
 abbrev pub IsCommandLine : Command → List (List ℕ) → Type 0
@@ -55,6 +67,7 @@ has_input Schedule = true
 has_input Census = true
 has_input (Make workload) = false
 has_input (Print workload) = false
+has_input (Pipe piping) = false
 
 -- the word would be an option
 abbrev pub begins_with_hyphen : List ℕ → Bool

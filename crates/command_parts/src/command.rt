@@ -1,11 +1,12 @@
 //! The commands of the program, and how they are written.
 
-ghost use Rattle.std.specs.Prelude.{ℕ, ◌≡◌, ◌≤◌, ◌∷◌, [], Some, IfSome, decimal};
+ghost use Rattle.std.specs.Prelude.{ℕ, ◌≡◌, ◌≢◌, ◌≤◌, ◌∷◌, [], Some, IfSome, codes, decimal};
 ghost use Rattle.clap.specs.Walk.{texts};
 ghost use Rattle.workloads.specs.declared.kind.Kind.{Kind};
 ghost use Rattle.workloads.specs.declared.making.TheConstants.{MAX_SIZE};
-ghost use Rattle.command_parts.specs.Command.{IsCommandLine, IsWorkload, kind_name, workload_words};
+ghost use Rattle.command_parts.specs.Command.{IsCommandLine, IsPiping, IsWorkload, kind_name, piping_words, workload_words};
 ghost use Rattle.command_parts.specs.declared.command.Command.{Command};
+ghost use Rattle.command_parts.specs.declared.command.Piping.{Piping};
 ghost use Rattle.command_parts.specs.declared.command.Workload.{Workload};
 
 use trace_text::numbers::number;
@@ -22,6 +23,18 @@ pub struct Workload {
     pub start: u64,
 }
 
+/// The most messages that each sender of a pipeline sends.
+pub const MAX_MESSAGES: u32 = 100_000;
+
+/// A pipeline that a command names: how many senders, from 1 to 4, how many messages each of them sends,
+/// at most `MAX_MESSAGES`, and the number from which the words count.
+#[derive(Clone, Copy, Debug, PartialEq, Eq)]
+pub struct Piping {
+    pub senders: u8,
+    pub messages: u32,
+    pub start: u64,
+}
+
 /// A command of the program.
 #[derive(Clone, Copy, Debug, PartialEq, Eq)]
 pub enum Command {
@@ -35,6 +48,8 @@ pub enum Command {
     Make(Workload),
     /// Make the trace of a workload, and print it.
     Print(Workload),
+    /// Run a pipeline of blocks, and print what was received of each sender.
+    Pipe(Piping),
 }
 
 /// The name of a kind of workload.
@@ -89,6 +104,27 @@ fn workload_of(kind: &str, size: &str, start: &str) -> Option<Workload>
     Some(Workload { kind, size, start })
 }
 
+/// The pipeline that these words name.
+fn piping_of(senders: &str, messages: &str, start: &str) -> Option<Piping>
+    ensures some { IfSome result (λ piping.
+        IsPiping piping × (senders.now ∷ messages.now ∷ start.now ∷ [] ≡ piping_words piping)) }
+    ensures only { (piping : Piping) → IsPiping piping
+        → senders.now ∷ messages.now ∷ start.now ∷ [] ≡ piping_words piping → result ≡ Some piping }
+{
+    let senders = number(senders.as_bytes())?;
+    let messages = number(messages.as_bytes())?;
+    let start = number(start.as_bytes())?;
+    if 1 <= senders && senders <= 4 && messages <= u64::from(MAX_MESSAGES) {
+        Some(Piping {
+            senders: senders as u8,
+            messages: messages as u32,
+            start,
+        })
+    } else {
+        None
+    }
+}
+
 /// The command that is this one word.
 fn short_command(word: &str) -> Option<Command>
     ensures some { IfSome result (λ command. IsCommandLine command (word.now ∷ [])) }
@@ -104,7 +140,8 @@ fn short_command(word: &str) -> Option<Command>
 
 /// The command on a workload that has this name.
 fn workload_command(word: &str, workload: Workload) -> Option<Command>
-    requires { IsWorkload workload }
+    requires ranges { IsWorkload workload }
+    requires other { word.now ≢ codes "pipe" }
     ensures some { IfSome result (λ command. IsCommandLine command (word.now ∷ workload_words workload)) }
     ensures only { (command : Command) → IsCommandLine command (word.now ∷ workload_words workload) → result ≡ Some command }
 {
@@ -115,6 +152,19 @@ fn workload_command(word: &str, workload: Workload) -> Option<Command>
     }
 }
 
+/// The command that is a word and three more.
+fn long_command(word: &str, first: &str, second: &str, third: &str) -> Option<Command>
+    ensures some { IfSome result (λ command.
+        IsCommandLine command (word.now ∷ first.now ∷ second.now ∷ third.now ∷ [])) }
+    ensures only { (command : Command) → IsCommandLine command (word.now ∷ first.now ∷ second.now ∷ third.now ∷ [])
+        → result ≡ Some command }
+{
+    match word {
+        "pipe" => Some(Command::Pipe(piping_of(first, second, third)?)),
+        _ => workload_command(word, workload_of(first, second, third)?),
+    }
+}
+
 /// The command that is written so.
 pub fn command_of(words: &[&str]) -> Option<Command>
     ensures some { IfSome result (λ command. IsCommandLine command (texts words.now)) }
@@ -122,7 +172,7 @@ pub fn command_of(words: &[&str]) -> Option<Command>
 {
     match words {
         [word] => short_command(word),
-        [word, kind, size, start] => workload_command(word, workload_of(kind, size, start)?),
+        [word, first, second, third] => long_command(word, first, second, third),
         _ => None,
     }
 }

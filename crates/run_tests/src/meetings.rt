@@ -85,16 +85,17 @@ fn short_report(alloc: Global, heap: &str, lanes: usize) -> Result<String, Alloc
     Ok(report)
 }
 
-/// How the lanes' run ends, what it writes, and whether all of them met.
+/// How the run of a command ends, what it writes, and whether all of its lanes met.
 fn run_meeting<R: Threads + Wait + AllocGlobal + Sync>(
     rt: &R,
+    line: &str,
     trace: &str,
     lanes: usize,
 ) -> Result<(Told, MemorySink, bool), AllocError> {
     let gate = Meeting::of(rt.alloc(), lanes)?;
     let mut source = steady_source(rt.alloc(), trace.as_bytes())?;
     let mut sink = wide_sink(rt.alloc())?;
-    let told = run_through(rt, rt.alloc(), "replay", &mut source, &mut sink, &gate)?;
+    let told = run_through(rt, rt.alloc(), line, &mut source, &mut sink, &gate)?;
     Ok((told, sink, gate.missed.get().is_none()))
 }
 
@@ -105,7 +106,7 @@ fn meets<R: Threads + Wait + Abort + AllocGlobal + Sync>(
     lanes: usize,
 ) -> Result<(), Fail> {
     let trace = short_lanes(rt.alloc(), heap, lanes)?;
-    let (told, sink, all_met) = run_meeting(rt, trace.as_str(), lanes)?;
+    let (told, sink, all_met) = run_meeting(rt, "replay", trace.as_str(), lanes)?;
     assert_eq!(rt;
         (told, all_met),
         ((REPORTED, Left::Shared), true),
@@ -120,4 +121,33 @@ fn meets<R: Threads + Wait + Abort + AllocGlobal + Sync>(
 fn all_lanes_are_on_their_way_at_once(rt: HostRuntime) -> Result<(), Fail> {
     meets(&rt, "4 2 0", 2)?;
     meets(&rt, "64 1 0", 16)
+}
+
+/// A pipeline ends so, and its senders meet, where there are some.
+fn pipes<R: Threads + Wait + Abort + AllocGlobal + Sync>(
+    rt: &R,
+    line: &str,
+    senders: usize,
+    text: &str,
+) -> Result<(), Fail> {
+    let (told, sink, all_met) = run_meeting(rt, line, "", senders)?;
+    assert_eq!(rt; (told, all_met), ((REPORTED, Left::Shared), true), "{line}");
+    assert_eq!(rt; sink.bytes(), text.as_bytes(), "{line}");
+    Ok(())
+}
+
+#[test]
+fn senders_of_a_pipeline_are_on_their_way_at_once(rt: HostRuntime) -> Result<(), Fail> {
+    pipes(
+        &rt,
+        "pipe 2 2 5",
+        2,
+        "pipe 2 2 5\nsender 0 sent 2 fold 148901409\nsender 1 sent 2 fold 29732357409\nlive 0 words 0\n",
+    )?;
+    pipes(
+        &rt,
+        "pipe 1 0 7",
+        1,
+        "pipe 1 0 7\nsender 0 sent 0 fold 0\nlive 0 words 0\n",
+    )
 }

@@ -37,7 +37,7 @@ fn told_of(ended: &Ended) -> Told {
     let left = match &ended.closed {
         None => Left::Nothing,
         Some(Closing::Plain(_)) => Left::Pool,
-        Some(Closing::Ran(_)) => Left::Shared,
+        Some(Closing::Ran(_) | Closing::Piped(_)) => Left::Shared,
         Some(Closing::Stepped(_)) => Left::Machine,
     };
     (ended.status, left)

@@ -1,12 +1,11 @@
 -- The runs of traces, on a machine and on threads.
-use Rattle.std.proofs.Common.{ℕ, suc, ◌≡◌, ◌≤◌, ◌∷◌, ◌++◌, List, [], Some, length, map, refl, ap, ◌∙◌, subst, arith}
+use Rattle.std.proofs.Common.{ℕ, ◌≡◌, ◌≤◌, ◌++◌, List, Some, length, map, refl, ap, ◌∙◌, subst, arith}
 use Rattle.heap_geometry.specs.declared.geometry.Geometry.{Geometry}
 use Rattle.pool_model.specs.declared.event.Event.{Event}
 use Rattle.pool_model.specs.Legal.{IsLegal, IsLegalWithoutCounts}
 use Rattle.pool_model.specs.Pool.{live_words, pool_of}
 use Rattle.pool_model.proofs.HistoryLemmas.{legal-weaker}
 use Rattle.trace_text.specs.declared.limits.TheConstants.{MAX_LANES}
-use Rattle.trace_text.specs.declared.trace.Op.{Op}
 use Rattle.trace_text.specs.declared.trace.Trace.{Trace}
 use Rattle.trace_text.specs.Traces.{IsTrace}
 use Rattle.step_core.specs.Cores.{CoreFields, IsCore}

@@ -19,9 +19,10 @@ use Rattle.trace_commands.specs.Censuses.{IsCensusOf, census_text}
 use Rattle.trace_commands.specs.Closings.{IsDrivenIn, IsSharedIn, geometry_of, history_of, lost_of, steps_of, turns_of}
 use Rattle.command_parts.specs.Command.{has_input}
 use Rattle.command_parts.specs.Summaries.{serial_summary_of, summary_of, trace_of}
+use Rattle.trace_commands.specs.Pipes.{IsPiped}
 use Rattle.trace_commands.specs.declared.closing.Closing.{Closing}
 use Rattle.command_parts.specs.declared.command.Command.{Command}
-use Rattle.command_parts.specs.declared.command.Command.TheVariants.{Replay, Schedule, Census, Make, Print}
+use Rattle.command_parts.specs.declared.command.Command.TheVariants.{Replay, Schedule, Census, Make, Print, Pipe}
 use Rattle.command_parts.specs.declared.command.Workload.{Workload}
 use Rattle.command_parts.specs.declared.status.TheConstants.{REPORTED, REFUSED}
 
@@ -81,7 +82,7 @@ HasOneSummary workload text = workload.kind ≢ Pipeline → text ≡ serial_sum
 
 -- what each command writes where nothing is refused: `replay` runs the trace that the bytes are read as on threads,
 -- `schedule` on a machine in the order of its order runs, `census` on threads and counts the closed heap, and `make` the trace
--- of its workload on threads; `print` runs none
+-- of its workload on threads; `print` runs none; `pipe` runs a pipeline on threads
 abbrev pub IsReport : (ℕ → ℕ → Type 0) → Command → List ℕ → Option Closing → List ℕ → Type 0
 IsReport passed Replay bytes closed text =
     (trace : Trace) × (reading_of bytes ≡ Read trace) × IsTold passed trace (IsSharedIn trace) (replay_text trace) (serial_replay trace) closed text
@@ -94,6 +95,7 @@ IsReport passed Census bytes closed text =
 IsReport passed (Make workload) bytes closed text =
     IsTold passed (trace_of workload) (IsSharedIn (trace_of workload)) (make_text workload) (serial_make workload) closed text × HasOneSummary workload text
 IsReport passed (Print workload) bytes closed text = (closed ≡ None) × (text ≡ canonical_of (trace_of workload))
+IsReport passed (Pipe piping) bytes closed text = IsPiped passed piping closed text
 
 -- the line that tells where a text is refused, and for which cause
 abbrev pub refusal_line : ℕ → ℕ → List ℕ

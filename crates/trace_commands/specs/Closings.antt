@@ -15,19 +15,21 @@ use Rattle.lane_runner.specs.Driven.{IsDriven, lost_by_all}
 use Rattle.lane_runner.specs.Shared.{IsShared}
 use Rattle.trace_commands.specs.declared.closing.Closing.{Closing}
 use Rattle.live_heap.specs.Endings.{ClosedFields}
-use Rattle.trace_commands.specs.declared.closing.Closing.TheVariants.{Plain, Stepped, Ran}
+use Rattle.trace_commands.specs.declared.closing.Closing.TheVariants.{Plain, Stepped, Ran, Piped}
 
 -- the numbers that the heap was opened with
 abbrev pub geometry_of : Closing → Geometry
 geometry_of (Plain pool) = pool.geometry
 geometry_of (Stepped core) = core.geometry
 geometry_of (Ran closed) = closed.geometry
+geometry_of (Piped run) = run.closed.geometry
 
 -- its history
 abbrev pub history_of : Closing → List Event
 history_of (Plain pool) = pool.events
 history_of (Stepped core) = core.events
 history_of (Ran closed) = closed.events
+history_of (Piped run) = run.closed.events
 
 -- what all callers of a closed heap lost, as a whole number
 abbrev pub lost_by_threads : ClosedFields → ℕ
@@ -38,12 +40,14 @@ abbrev pub turns_of : Closing → ℕ → ℕ
 turns_of (Plain pool) caller = 0
 turns_of (Stepped core) caller = (errand_at core.errands caller).turns
 turns_of (Ran closed) caller = (errand_at closed.errands caller).turns
+turns_of (Piped run) caller = (errand_at run.closed.errands caller).turns
 
 -- the exchanges that its callers lost, as a whole number
 abbrev pub lost_of : Closing → ℕ
 lost_of (Plain pool) = 0
 lost_of (Stepped core) = lost_by_all core
 lost_of (Ran closed) = lost_by_threads closed
+lost_of (Piped run) = lost_by_threads run.closed
 
 -- a machine kept the heap: the lanes of the trace ran on it from its opening on, in the order of these order runs
 -- and then one lane after another, and had these outcomes
@@ -51,6 +55,7 @@ abbrev pub IsDrivenIn : Trace → List OrderRun → Closing → List (List Outco
 IsDrivenIn trace orders (Plain pool) outcomes = ⊥
 IsDrivenIn trace orders (Stepped core) outcomes = IsDriven trace orders core outcomes
 IsDrivenIn trace orders (Ran closed) outcomes = ⊥
+IsDrivenIn trace orders (Piped run) outcomes = ⊥
 
 -- threads shared the heap: each lane of the trace ran on one, from the heap's opening on, in the order that the hardware made,
 -- by the whole calls of its script, and had these outcomes
@@ -58,6 +63,7 @@ abbrev pub IsSharedIn : Trace → Closing → List (List Outcome) → Type 0
 IsSharedIn trace (Plain pool) outcomes = ⊥
 IsSharedIn trace (Stepped core) outcomes = ⊥
 IsSharedIn trace (Ran closed) outcomes = IsShared trace closed outcomes
+IsSharedIn trace (Piped run) outcomes = ⊥
 
 -- what all callers of a machine cleared, as a whole number
 abbrev pub cleared_of : ErrandFields → ℕ
@@ -79,3 +85,4 @@ abbrev pub steps_of : Closing → List ℕ
 steps_of (Plain pool) = []
 steps_of (Stepped core) = steps_line core
 steps_of (Ran closed) = []
+steps_of (Piped run) = []

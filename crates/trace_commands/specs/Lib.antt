@@ -2,3 +2,4 @@ pub mod Closings
 pub mod Answers
 pub mod Censuses
 pub mod Runs
+pub mod Pipes

@@ -12,6 +12,7 @@ ghost use Rattle.trace_commands.specs.Runs.{ReadsInVain, TakesFor};
 
 use crate::closing::Closing;
 use crate::made::{make, print};
+use crate::piped::pipe;
 use crate::told::{Told, counted, replay, schedule};
 use command_parts::command::Command;
 use command_parts::input::read_input;
@@ -79,7 +80,7 @@ fn told_of<R: Threads + Wait + Sync, G: Gate + Sync>(
         Command::Replay => replay(rt, alloc, gate, &trace),
         Command::Schedule => schedule(alloc, gate, &trace),
         Command::Census => counted(rt, alloc, gate, &trace),
-        Command::Make(_) | Command::Print(_) => unreachable!(),
+        Command::Make(_) | Command::Print(_) | Command::Pipe(_) => unreachable!(),
     }
 }
 
@@ -128,6 +129,10 @@ fn answer_alone<R: Threads + Wait + Sync, G: Gate + Sync>(
             Ok(reported(text, Some(closing)))
         }
         Command::Print(workload) => Ok(reported(print(alloc, workload)?, None)),
+        Command::Pipe(piping) => {
+            let Told { text, closing } = pipe(rt, alloc, gate, piping)?;
+            Ok(reported(text, Some(closing)))
+        }
         Command::Replay | Command::Schedule | Command::Census => unreachable!(),
     }
 }

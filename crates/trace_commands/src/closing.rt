@@ -1,6 +1,7 @@
 //! What a run of the program leaves of its heap.
 
 use live_heap::closed::Closed;
+use pipe_runner::run::PipeRun;
 use pool_model::plain::PlainPool;
 use step_core::machine::Core;
 
@@ -13,4 +14,6 @@ pub enum Closing {
     Stepped(Core),
     /// A heap that threads shared, with the events of all their steps.
     Ran(Closed),
+    /// A heap that the threads of a pipeline shared, with what they pushed, popped and folded.
+    Piped(PipeRun),
 }

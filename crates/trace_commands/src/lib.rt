@@ -9,6 +9,7 @@ mod census;
 pub mod closing;
 pub mod driven;
 mod made;
+mod piped;
 pub mod run;
 mod steps;
 mod threaded;
