@@ -4,9 +4,9 @@
 usage: python3 tools/try_failures.py PROGRAM, at the top of the repository; PROGRAM is the built one, as
 crates/balloc/out/balloc. Needs gcc. Ends with 1 where a run says something untrue.
 
-A run of `replay` and one of `census` on the plain trace, and a run of `schedule` on a race, are made again
-for every call of the C library that the program makes for memory, for input or for output: the n-th one
-fails. Each such run has to end
+A run of `replay` and one of `census` on the plain trace, a run of `schedule` on a race, and a pipeline, which
+has no input, are made again for every call of the C library that the program makes for memory, for input or
+for output: the n-th one fails. Each such run has to end
 
 - with status 0 and its whole text, where the call wasn't needed after all,
 - with status 6 and nothing written, where memory was refused,
@@ -23,7 +23,12 @@ import tempfile
 from pathlib import Path
 
 TRACES = Path(__file__).resolve().parent.parent / "traces"
-RUNS = [("replay", "plain_run"), ("census", "plain_run"), ("schedule", "two_installs")]
+RUNS = [
+    (["replay"], TRACES / "plain_run.trace"),
+    (["census"], TRACES / "plain_run.trace"),
+    (["schedule"], TRACES / "two_installs.trace"),
+    (["pipe", "4", "3", "7"], Path(os.devnull)),
+]
 
 # Stands before the C library: the call number FAIL_AT of the kind FAIL fails, or calls are cut to CUT bytes.
 # The calls of that kind are counted in the file with the descriptor COUNT_IN, since the program ends at once.
@@ -86,14 +91,14 @@ def build(folder):
     return library
 
 
-def run(program, library, command, trace, **settings):
+def run(program, library, words, text, **settings):
     """The status, what was written, and the number of calls of the kind that may fail."""
-    with open(TRACES / f"{trace}.trace", "rb") as source, tempfile.TemporaryFile() as count:
+    with open(text, "rb") as source, tempfile.TemporaryFile() as count:
         count.write(bytes(8))
         count.flush()
         environment = {**os.environ, "LD_PRELOAD": str(library), "COUNT_IN": str(count.fileno())}
         environment.update({name.upper(): str(value) for name, value in settings.items()})
-        ran = subprocess.run([program, command], stdin=source, stdout=subprocess.PIPE, env=environment,
+        ran = subprocess.run([program, *words], stdin=source, stdout=subprocess.PIPE, env=environment,
                              pass_fds=(count.fileno(),), timeout=60)
         count.seek(0)
         return ran.returncode, ran.stdout, int.from_bytes(count.read(8), sys.byteorder)
@@ -115,25 +120,26 @@ def main():
     wrong = 0
     with tempfile.TemporaryDirectory() as folder:
         library = build(Path(folder))
-        for command, trace in RUNS:
-            status, text, _ = run(program, library, command, trace)
+        for words, source in RUNS:
+            name = " ".join(words)
+            status, text, _ = run(program, library, words, source)
             if status != 0:
-                sys.exit(f"{command} {trace}: status {status}")
+                sys.exit(f"{name}: status {status}")
             for kind in ("malloc", "read", "write"):
-                _, _, count = run(program, library, command, trace, fail=kind)
+                _, _, count = run(program, library, words, source, fail=kind)
                 ended = {}
                 for at in range(1, count + 1):
-                    status, written, _ = run(program, library, command, trace, fail=kind, fail_at=at)
+                    status, written, _ = run(program, library, words, source, fail=kind, fail_at=at)
                     ended[status] = ended.get(status, 0) + 1
                     if not is_true(kind, status, written, text):
                         wrong += 1
-                        print(f"WRONG: {command} {trace}, {kind} {at}: status {status}, {len(written)} bytes")
+                        print(f"WRONG: {name}, {kind} {at}: status {status}, {len(written)} bytes")
                 statuses = ", ".join(f"{many} with status {status}" for status, many in sorted(ended.items()))
-                print(f"{command} {trace}: {kind} fails, each of {count}: {statuses}")
-            status, written, _ = run(program, library, command, trace, cut=1)
+                print(f"{name}: {kind} fails, each of {count}: {statuses}")
+            status, written, _ = run(program, library, words, source, cut=1)
             same = status == 0 and written == text
             wrong += not same
-            print(f"{command} {trace}: calls of one byte: {'the same text' if same else 'WRONG'}")
+            print(f"{name}: calls of one byte: {'the same text' if same else 'WRONG'}")
     return 1 if wrong else 0
 
 

@@ -3,6 +3,7 @@
 #![tactic(auto)]
 
 pub mod cache;
+mod counts;
 mod flushes;
 pub mod laws;
 pub mod magazines;

@@ -1,0 +1,2 @@
+mod FlushLemmas
+mod ThroughLemmas

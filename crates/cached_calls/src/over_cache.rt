@@ -1,0 +1,306 @@
+//! A cache in front of a heap, whose lane makes whole calls.
+
+ghost use Rattle.std.specs.Prelude.{ℕ, ◌≡◌, ◌<◌, ◌≤◌, ◌%◌, ◌^◌};
+ghost use Rattle.heap_geometry.specs.declared.limits.TheConstants.{LARGE_MOST};
+ghost use Rattle.heap_geometry.specs.Need.{usable_words};
+ghost use Rattle.errand_steps.specs.declared.reply.Reply.TheVariants as reply;
+ghost use Rattle.errand_steps.specs.Calls.{Call, alloc, free, read, write};
+ghost use Rattle.call_events.specs.Made.{LeadsBy, Sums, wrote};
+ghost use Rattle.live_heap.specs.declared.pass.Pass.{Pass};
+ghost use Rattle.live_heap.specs.Answers.{IsResumable};
+ghost use Rattle.live_heap.specs.Calls.{IsCalling};
+ghost use Rattle.live_heap.specs.Whole.{ResumesTo};
+ghost use Rattle.lane_engine.specs.Whole.{Copies, allocated_as};
+ghost use Rattle.block_cache.specs.Caches.{IsCache, KeepsMagazines};
+ghost use Rattle.block_cache.specs.Whole.{HoldsAt, RestsAt};
+ghost use Rattle.cached_calls.specs.Calls.{HasEmptied, IsCachedCall};
+
+use block_cache::cache::Cache;
+use block_cache::laws::{ended_calls_are_whole, whole_calls_keep_blocks};
+use lane_engine::calls::{Allocated, Calls, Taken};
+use live_heap::answers::{AllocAnswer, FreeAnswer, Resumed, Taken as Found};
+use live_heap::block::Block;
+use live_heap::heap::Heap;
+use std::sync::Wait;
+use std::thread;
+
+/// By how many lost exchanges and cleared superblocks, together, a pass's count grows between two yields.
+const YIELD_AFTER: u32 = 64;
+
+/// A cache through which whole calls are made. It yields once each time the exchanges that its pass lost
+/// and the superblocks that it cleared have grown by 64.
+#[derive(Drop)]
+pub struct CachedCalls<'a> {
+    heap: &'a Heap,
+    cache: &'a mut Cache,
+    /// The pass's count when it last yielded.
+    last: u64,
+}
+
+/// How many exchanges a cache's pass has lost and how many empty superblocks it has cleared, together, at
+/// most 2^64 - 1.
+fn setbacks(cache: &Cache) -> u64 {
+    cache.lost().saturating_add(cache.cleared())
+}
+
+/// How many more it may lose or clear before it yields; it yields where that is due.
+fn tries(cache: &Cache, last: &mut u64) -> u32
+    ensures { 0 < result }
+{
+    let now = setbacks(cache);
+    let grown = now.saturating_sub(*last);
+    if grown < u64::from(YIELD_AFTER) {
+        return YIELD_AFTER - grown as u32;
+    }
+    thread::yield_now();
+    *last = now;
+    YIELD_AFTER
+}
+
+/// Goes on with an allocation or a free of the heap that was interrupted, to its end.
+fn go_on<R: Wait>(rt: &R, heap: &Heap, cache: &mut Cache, last: &mut u64) -> Resumed
+    requires cache { IsCache heap.now cache.old }
+    requires under_way { IsResumable cache.old.pass }
+    ensures rests { RestsAt heap.now cache.new }
+    ensures keeps { KeepsMagazines cache.old cache.new }
+    ensures ended { (first : Pass) (call : Call) (made : ℕ) → IsCalling first call made cache.old.pass
+        → ResumesTo first call result cache.new.pass }
+{
+    for _ in rt.forever() {
+        let tries = tries(cache, last);
+        match cache.resume(heap, tries) {
+            Resumed::Busy => {}
+            ended => return ended,
+        }
+    }
+    unreachable!()
+}
+
+/// Allocates a block, from its magazine or of the heap.
+fn allocate<R: Wait>(
+    rt: &R,
+    heap: &Heap,
+    cache: &mut Cache,
+    last: &mut u64,
+    need: u32,
+) -> Allocated<Block>
+    requires rests { RestsAt heap.now cache.old }
+    requires need { need ≤ LARGE_MOST }
+    ensures { IsCachedCall heap.now cache.old (alloc need)
+        (allocated_as (λ (block : Block). block.place) (λ (block : Block). block.need) result) cache.new }
+{
+    ended_calls_are_whole();
+    let tries = tries(cache, last);
+    match cache.alloc(heap, need, tries) {
+        AllocAnswer::Given(block) => Allocated::Given(block),
+        AllocAnswer::Refused => Allocated::Refused,
+        AllocAnswer::Spent => Allocated::Spent,
+        AllocAnswer::TooLarge => unreachable!(),
+        AllocAnswer::Busy => match go_on(rt, heap, cache, last) {
+            Resumed::Given(block) => Allocated::Given(block),
+            Resumed::Refused => Allocated::Refused,
+            Resumed::Spent => Allocated::Spent,
+            _ => unreachable!(),
+        },
+    }
+}
+
+/// Frees the caller's block, into its magazine or to the heap.
+fn free_block<R: Wait>(rt: &R, heap: &Heap, cache: &mut Cache, last: &mut u64, block: Block)
+    requires rests { RestsAt heap.now cache.old }
+    requires held { HoldsAt cache.old block.place block.need }
+    ensures { IsCachedCall heap.now cache.old (free block.place block.need) reply.Freed cache.new }
+{
+    ended_calls_are_whole();
+    let tries = tries(cache, last);
+    match cache.free(heap, block, tries) {
+        FreeAnswer::Freed => {}
+        FreeAnswer::Busy => {
+            let _ = go_on(rt, heap, cache, last);
+        }
+    }
+}
+
+/// Writes a word of the caller's block.
+fn write_word(heap: &Heap, cache: &mut Cache, block: &Block, i: u32, v: u64)
+    requires rests { RestsAt heap.now cache.old }
+    requires held { HoldsAt cache.old block.now.place block.now.need }
+    requires word { i < usable_words block.now.need }
+    ensures { IsCachedCall heap.now cache.old (write block.now.place block.now.need i v) reply.Wrote cache.new }
+{
+    ended_calls_are_whole();
+    cache.write(heap, block, i, v);
+}
+
+/// Reads a word of the caller's block.
+fn read_word(heap: &Heap, cache: &mut Cache, block: &Block, i: u32) -> u64
+    requires rests { RestsAt heap.now cache.old }
+    requires held { HoldsAt cache.old block.now.place block.now.need }
+    requires word { i < usable_words block.now.need }
+    ensures { IsCachedCall heap.now cache.old (read block.now.place block.now.need i) (reply.Word result) cache.new }
+{
+    ended_calls_are_whole();
+    cache.read(heap, block, i)
+}
+
+/// Fills the caller's block: word i with from + i, modulo 2^64.
+fn fill_words(heap: &Heap, cache: &mut Cache, block: &Block, from: u64)
+    requires rests { RestsAt heap.now cache.old }
+    requires held { HoldsAt cache.old block.now.place block.now.need }
+    ensures rests { RestsAt heap.now cache.new }
+    ensures called { LeadsBy (IsCachedCall heap.now) cache.old
+        (wrote block.now.place block.now.need from (usable_words block.now.need)) cache.new }
+{
+    whole_calls_keep_blocks();
+    for i in 0..block.words() {
+        write_word(heap, cache, block, i, from.wrapping_add(u64::from(i)));
+    }
+}
+
+/// The sum of the words of the caller's block, modulo 2^64.
+fn sum_words(heap: &Heap, cache: &mut Cache, block: &Block) -> u64
+    requires rests { RestsAt heap.now cache.old }
+    requires held { HoldsAt cache.old block.now.place block.now.need }
+    ensures rests { RestsAt heap.now cache.new }
+    ensures called { Sums (IsCachedCall heap.now) cache.old block.now.place block.now.need result cache.new }
+{
+    whole_calls_keep_blocks();
+    let mut total = 0u64;
+    for i in 0..block.words() {
+        total = total.wrapping_add(read_word(heap, cache, block, i));
+    }
+    total
+}
+
+/// Reads a word of the caller's block; past the block's end it is 0, and nothing is read.
+fn read_or_zero(heap: &Heap, cache: &mut Cache, block: &Block, i: u32) -> u64
+    requires rests { RestsAt heap.now cache.old }
+    requires held { HoldsAt cache.old block.now.place block.now.need }
+    ensures read { i < usable_words block.now.need
+        → IsCachedCall heap.now cache.old (read block.now.place block.now.need i) (reply.Word result) cache.new }
+    ensures past { usable_words block.now.need ≤ i → (cache.new ≡ cache.old) × (result ≡ 0) }
+    ensures rests { RestsAt heap.now cache.new }
+    ensures keeps { (other : Block) → HoldsAt cache.old other.place other.need → HoldsAt cache.new other.place other.need }
+{
+    whole_calls_keep_blocks();
+    if i < block.words() {
+        read_word(heap, cache, block, i)
+    } else {
+        0
+    }
+}
+
+/// Copies the words of the caller's block into another one of its blocks, and fills the rest of that with 0.
+fn copy_words(heap: &Heap, cache: &mut Cache, from: &Block, to: &Block)
+    requires rests { RestsAt heap.now cache.old }
+    requires held { HoldsAt cache.old from.now.place from.now.need }
+    requires held_too { HoldsAt cache.old to.now.place to.now.need }
+    ensures rests { RestsAt heap.now cache.new }
+    ensures copied { Copies (IsCachedCall heap.now) cache.old from.now.place from.now.need to.now.place to.now.need cache.new }
+{
+    whole_calls_keep_blocks();
+    for i in 0..to.words() {
+        let word = read_or_zero(heap, cache, from, i);
+        write_word(heap, cache, to, i, word);
+    }
+}
+
+/// Empties all magazines, by frees of the heap.
+pub fn empty<R: Wait>(rt: &R, heap: &Heap, cache: &mut Cache)
+    requires rests { RestsAt heap.now cache.old }
+    ensures rests { RestsAt heap.now cache.new }
+    ensures emptied { HasEmptied heap.now cache.old cache.new }
+{
+    let mut last = setbacks(cache);
+    for _ in rt.forever() {
+        let tries = tries(cache, &mut last);
+        match cache.flush(heap, tries) {
+            FreeAnswer::Freed => return,
+            FreeAnswer::Busy => {
+                let _ = go_on(rt, heap, cache, &mut last);
+            }
+        }
+    }
+    unreachable!()
+}
+
+impl<'a> CachedCalls<'a> {
+    /// Whole calls through this cache.
+    pub fn new(heap: &'a Heap, cache: &'a mut Cache) -> CachedCalls<'a>
+        requires { RestsAt heap.now cache.old }
+        ensures same { result.cache.ghost_name ≡ cache.entry.ghost_name }
+        ensures cache { result.cache.now ≡ cache.old }
+        ensures heap { result.heap.now ≡ heap.now }
+    {
+        let last = setbacks(cache);
+        CachedCalls { heap, cache, last }
+    }
+}
+
+impl<'a> Calls for CachedCalls<'a> {
+    ghost use Rattle.std.specs.Prelude.{◌≡◌, ℕ};
+    ghost use Rattle.cached_calls.specs.declared.over_cache.CachedCalls.{CachedCalls};
+    ghost use Rattle.live_heap.specs.declared.heap.Heap.{Heap};
+    ghost use Rattle.block_cache.specs.Whole.{HoldsAt, RestsAt};
+    ghost use Rattle.lane_engine.specs.Whole.{KeepBlocks};
+    ghost use Rattle.cached_calls.specs.Calls.{IsCachedCall};
+
+    type Held = Block;
+
+    ghost stands = { λ e. RestsAt e.heap.now e.cache.now };
+
+    ghost owns = { λ e place need. HoldsAt e.cache.now place need };
+
+    ghost Base = { ℕ × Heap };
+
+    ghost runs_on = { λ e. (e.cache.ghost_name, e.heap.now) };
+
+    ghost called = { λ e call answer f. IsCachedCall e.heap.now e.cache.now call answer f.cache.now × (f.heap.now ≡ e.heap.now) };
+
+    fn allocate<R: Wait>(&mut self, rt: &R, need: u32) -> Allocated<Block> {
+        allocate(rt, self.heap, self.cache, &mut self.last, need)
+    }
+
+    fn free<R: Wait>(&mut self, rt: &R, held: Block) {
+        free_block(rt, self.heap, self.cache, &mut self.last, held);
+    }
+
+    fn fill(&mut self, held: &Block, from: u64) {
+        fill_words(self.heap, self.cache, held, from);
+    }
+
+    fn sum(&mut self, held: &Block) -> u64 {
+        sum_words(self.heap, self.cache, held)
+    }
+
+    fn copy(&mut self, from: &Block, to: &Block) {
+        copy_words(self.heap, self.cache, from, to);
+    }
+
+    fn put(&mut self, held: Block, shelf: u8) -> Option<Block> {
+        ended_calls_are_whole();
+        match self.cache.put(self.heap, held, shelf) {
+            Ok(()) => None,
+            Err(full) => Some(full.block),
+        }
+    }
+
+    fn take(&mut self, shelf: u8) -> Taken<Block> {
+        ended_calls_are_whole();
+        // A take that misses has lost an exchange, and is tried again: it yields as the others do.
+        let _ = tries(self.cache, &mut self.last);
+        match self.cache.take(self.heap, shelf) {
+            Found::Got(block) => Taken::Got(block),
+            Found::Empty => Taken::Empty,
+            Found::Missed { .. } => Taken::Missed,
+        }
+    }
+
+    fn calls_keep_blocks()
+        ensures { KeepBlocks {S = CachedCalls}
+            (λ e call answer f. IsCachedCall e.heap.now e.cache.now call answer f.cache.now × (f.heap.now ≡ e.heap.now))
+            (λ e place need. HoldsAt e.cache.now place need) }
+    {
+        whole_calls_keep_blocks();
+    }
+}

@@ -1,0 +1,3 @@
+mod CacheRuns
+mod PairLemmas
+mod ThreadLemmas

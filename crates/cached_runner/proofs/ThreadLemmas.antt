@@ -1,0 +1,144 @@
+-- Lanes through caches on threads: how they are run and taken back.
+use Rattle.std.proofs.Common.{ℕ, zero, suc, ◌≡◌, ◌<◌, ◌+◌, List, [], ◌∷◌, ◌++◌, Vec, Global, length, map, max, get_or, refl, sym, ap, ◌∙◌, subst, arith}
+use Rattle.std.specs.Prelude.{All}
+use Rattle.std.proofs.lemmas.List.{length-map}
+use Rattle.std.proofs.lemmas.List.Elements.{All-cons, All-nil}
+use Rattle.crossbeam_utils.specs.declared.cache_padded.CachePadded.{CachePadded}
+use Rattle.crossbeam_utils.specs.Padded.{padded_value}
+use Rattle.errand_steps.specs.Begins.{IsIdle}
+use Rattle.trace_text.specs.declared.trace.Trace.{Trace}
+use Rattle.trace_text.specs.Traces.{IsTrace}
+use Rattle.lane_outcomes.specs.declared.outcome.Outcome.{Outcome}
+use Rattle.lane_outcomes.specs.Passed.{AllPassed}
+use Rattle.live_heap.specs.declared.heap.Heap.{Heap}
+use Rattle.live_heap.specs.declared.pass.Pass.{Pass}
+use Rattle.live_heap.specs.Passes.{AreFrom, IsOf}
+use Rattle.lane_steps.specs.Paths.{FirstPassed}
+use Rattle.lane_runner.specs.Running.{operations_in}
+use Rattle.lane_runner.proofs.ThreadLemmas.{all-gone, down-done, down-find, from-at}
+use Rattle.cached_runner.specs.declared.run_cached.CacheThread.{CacheThread}
+use Rattle.cached_runner.specs.Threads.{AreDone, AreEnded, AreReady, HasEndedThrough, HasEndedWith, HasRunOn, HaveRunThrough, IsDone, IsPaired, IsReady}
+
+pub ready-paired : (trace : Trace) (h : Heap) (depth k : ℕ) (t : CacheThread) → IsReady trace h depth k t → IsPaired trace h depth t
+ready-paired trace h depth k t is = is.paired
+
+-- a thread has run its lane
+pub ready-done :
+    (passed : ℕ → ℕ → Type 0) (trace : Trace) (h : Heap) (depth k : ℕ) (t u : CacheThread) → IsReady trace h depth k t
+    → HasRunOn passed trace h t u → IsDone trace h depth k u
+ready-done passed trace h depth k t u is ran = record {
+  ended =
+      subst (λ n. HasEndedThrough h depth (operations_in trace n) n u.lane.outcomes.items u.cache) is.number
+      (record { first = t.cache; opened = is.paired.opened; through = ran.through; all = ran.all });
+}
+
+pub ready-passed :
+    (passed : ℕ → ℕ → Type 0) (trace : Trace) (h : Heap) (depth k : ℕ) (t u : CacheThread) → IsReady trace h depth k t
+    → HasRunOn passed trace h t u → FirstPassed passed k (length (operations_in trace k))
+ready-passed passed trace h depth k t u is ran =
+    subst (λ n. FirstPassed passed n (length (operations_in trace n))) is.number ran.gate
+
+-- what all threads have made of their lanes
+module _ (passed : ℕ → ℕ → Type 0) (trace : Trace) (h : Heap) (depth : ℕ) (xs ys : List (CachePadded CacheThread)) (same : length ys ≡ length xs) (all : length xs ≡ length trace.lanes) (readies : AreReady trace h depth 0 xs) (ran : (i : ℕ) (d : CachePadded CacheThread) → i < length xs → HasRunOn passed trace h (padded_value (get_or xs i d)) (padded_value (get_or ys i d))) where
+  pub threads-done : (length ys ≡ length trace.lanes) × AreDone trace h depth 0 ys
+  threads-done = (
+    same ∙ all,
+    down-done (λ k t. IsReady trace h depth k (padded_value t)) (λ k t. IsDone trace h depth k (padded_value t))
+        (λ t u. HasRunOn passed trace h (padded_value t) (padded_value u))
+        (λ k t u. ready-done passed trace h depth k (padded_value t) (padded_value u)) 0 xs ys same ran readies,
+  )
+
+  pub threads-gone : AllPassed passed trace.lanes
+  threads-gone =
+      let gone =
+      down-done (λ k t. IsReady trace h depth k (padded_value t)) (λ k t. FirstPassed passed k (length (operations_in trace k)))
+      (λ t u. HasRunOn passed trace h (padded_value t) (padded_value u))
+      (λ k t u. ready-passed passed trace h depth k (padded_value t) (padded_value u)) 0 xs ys same ran readies in
+      all-gone passed trace (λ k lt.
+      (down-find (λ k (t : CachePadded CacheThread). FirstPassed passed k (length (operations_in trace k))) 0 ys k (omega arith)
+      (omega (arith, lt, same, all)) gone).1)
+
+-- one more has ended
+pub ended-push :
+    (trace : Trace) (h : Heap) (depth k : ℕ) (ps : List Pass) (os : List (Vec Outcome Global)) (ns : List ℕ) (p : Pass) (o : Vec Outcome Global) (n : ℕ)
+    → AreEnded trace h depth k ps os ns
+    → HasEndedWith h depth (operations_in trace (k + length ps)) (k + length ps) p o.items n
+    → AreEnded trace h depth k (ps ++ p ∷ []) (os ++ o ∷ []) (ns ++ n ∷ [])
+ended-push trace h depth k [] [] [] p o n all one = (subst (λ m. HasEndedWith h depth (operations_in trace m) m p o.items n) (omega arith) one, tt)
+ended-push trace h depth k (q ∷ ps) (r ∷ os) (m ∷ ns) p o n all one = (
+  all.0,
+  ended-push trace h depth (suc k) ps os ns p o n all.1
+      (subst (λ m. HasEndedWith h depth (operations_in trace m) m p o.items n) (omega arith) one),
+)
+ended-push trace h depth k ps os ns p o n all one = absurd all
+
+pub ended-count :
+    (trace : Trace) (h : Heap) (depth k : ℕ) (ps : List Pass) (os : List (Vec Outcome Global)) (ns : List ℕ) → AreEnded trace h depth k ps os ns
+    → (length os ≡ length ps) × (length ns ≡ length ps)
+ended-count trace h depth k [] [] [] all = (refl, refl)
+ended-count trace h depth k (p ∷ ps) (o ∷ os) (n ∷ ns) all =
+    let rest = ended-count trace h depth (suc k) ps os ns all.1 in (ap suc rest.0, ap suc rest.1)
+ended-count trace h depth k ps os ns all = absurd all
+
+-- the one with this number
+pub ended-at :
+    (trace : Trace) (h : Heap) (depth k : ℕ) (ps : List Pass) (os : List (Vec Outcome Global)) (ns : List ℕ) (i : ℕ) (p : Pass)
+    → AreEnded trace h depth k ps os ns → i < length ps → p ≡ get_or ps i p
+    → HasEndedWith h depth (operations_in trace (k + i)) (k + i) p (get_or (map (λ (o : Vec Outcome Global). o.items) os) i []) (get_or ns i 0)
+ended-at trace h depth k [] [] [] i p all lt there = absurd (omega (arith, lt))
+ended-at trace h depth k (q ∷ ps) (o ∷ os) (n ∷ ns) zero p all lt there =
+    subst (λ m. HasEndedWith h depth (operations_in trace m) m p o.items n) (omega arith)
+    (subst (λ r. HasEndedWith h depth (operations_in trace k) k r o.items n) (sym there) all.0)
+ended-at trace h depth k (q ∷ ps) (o ∷ os) (n ∷ ns) (suc i) p all lt there =
+    subst (λ m. HasEndedWith h depth (operations_in trace m) m p (get_or (map (λ (o : Vec Outcome Global). o.items) os) i []) (get_or ns i 0)) (omega arith)
+    (ended-at trace h depth (suc k) ps os ns i p all.1 (omega (arith, lt)) there)
+ended-at trace h depth k ps os ns i p all lt there = absurd all
+
+pub ended-idle :
+    (trace : Trace) (h : Heap) (depth k : ℕ) (ps : List Pass) (os : List (Vec Outcome Global)) (ns : List ℕ) → AreEnded trace h depth k ps os ns
+    → All (λ p. IsOf h p × IsIdle p.errand) ps
+ended-idle trace h depth k [] [] [] all = All-nil (λ p. IsOf h p × IsIdle p.errand)
+ended-idle trace h depth k (p ∷ ps) (o ∷ os) (n ∷ ns) all =
+    let e = all.0 in
+    let rests = e.ended.through.rests in
+    let stands : IsOf h e.cache.pass × IsIdle e.cache.pass.errand = (rests.0.hand.of, rests.1) in
+    All-cons (λ p. IsOf h p × IsIdle p.errand) p ps (subst (λ (q : Pass). IsOf h q × IsIdle q.errand) (sym e.pass) stands)
+    (ended-idle trace h depth (suc k) ps os ns all.1)
+ended-idle trace h depth k ps os ns all = absurd all
+
+-- the lanes of a trace have run
+one-each : (n : ℕ) → 0 < n → max 1 n ≡ n
+one-each n some_one = omega (arith, some_one)
+
+pub have-run :
+    (trace : Trace) (h : Heap) (depth : ℕ) (ps : List Pass) (os : List (Vec Outcome Global)) (ns : List ℕ) → IsTrace trace → 0 < length trace.lanes
+    → length ps ≡ length trace.lanes → AreEnded trace h depth 0 ps os ns
+    → HaveRunThrough trace h depth ps (map (λ (o : Vec Outcome Global). o.items) os) ns
+have-run trace h depth ps os ns is some_lane all ended =
+    let counts = ended-count trace h depth 0 ps os ns ended in
+    record {
+      all = all ∙ sym (one-each (length trace.lanes) some_lane) ∙ sym is.callers;
+      lists = length-map os (λ (o : Vec Outcome Global). o.items) ∙ counts.0 ∙ all;
+      counts = counts.1 ∙ all;
+      each = λ lane p lt there.
+          subst
+          (λ n. HasEndedWith h depth (operations_in trace n) n p (get_or (map (λ (o : Vec Outcome Global). o.items) os) lane []) (get_or ns lane 0))
+          (omega arith) (ended-at trace h depth 0 ps os ns lane p ended (omega (arith, lt, all)) there);
+      rest = λ k p least lt there. absurd (omega (arith, least, lt, all));
+    }
+
+-- a trace without a lane has none to run
+pub none-run :
+    (trace : Trace) (h : Heap) (depth : ℕ) (ps : List Pass) (os : List (Vec Outcome Global)) (ns : List ℕ) → trace.lanes ≡ [] → os ≡ [] → ns ≡ []
+    → AreFrom h 0 ps → length ps ≡ trace.heap.callers → HaveRunThrough trace h depth ps (map (λ (o : Vec Outcome Global). o.items) os) ns
+none-run trace h depth ps os ns none empty no_hits fresh all =
+    let zero_lanes : length trace.lanes ≡ 0 = ap length none in
+    record {
+      all = all;
+      lists = length-map os (λ (o : Vec Outcome Global). o.items) ∙ ap length empty ∙ sym zero_lanes;
+      counts = ap length no_hits ∙ sym zero_lanes;
+      each = λ lane p lt there. absurd (omega (arith, lt, zero_lanes));
+      rest = λ k p least lt there.
+          let one = from-at h 0 ps k p fresh lt there in
+          (one.0, one.1 ∙ omega arith);
+    }
