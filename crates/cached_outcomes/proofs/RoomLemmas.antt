@@ -23,10 +23,10 @@ use Rattle.cached_outcomes.specs.Cached.{CachedFits, CachedLanesFit, CachedOutco
 use Rattle.cached_outcomes.specs.Magazines.{empty_magazines, emptying, freeing, given_from, is_kept, kept_with, last_in, magazine_of, magazines_freed, magazines_given, served_by}
 
 -- empty magazines serve nothing
-abbrev no_places : List ℕ
+abbrev pub no_places : List ℕ
 no_places = []
 
-none-in : (n class : ℕ) → get_or (replicate n no_places) class no_places ≡ no_places
+pub none-in : (n class : ℕ) → get_or (replicate n no_places) class no_places ≡ no_places
 none-in n class =
     elim (cases_lt class n) [
       | inl less ↦ get_or-replicate n class no_places no_places less

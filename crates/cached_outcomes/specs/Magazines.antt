@@ -1,9 +1,10 @@
 -- The magazines of a lane: for each class the places of the blocks that are kept there, the last one first.
-use Rattle.std.specs.Prelude.{ℕ, ◌∷◌, List, [], Bool, true, false, Option, Some, None, flat_map, length, map, nat_lt, replicate, slice_set}
+use Rattle.std.specs.Prelude.{ℕ, suc, ◌∷◌, ◌++◌, List, [], Bool, true, false, Option, Some, None, flat_map, length, map, nat_lt, replicate, slice_set}
 use Rattle.std.specs.List.{slice_index_or}
 use Rattle.heap_geometry.specs.declared.limits.TheConstants.{CLASSES}
 use Rattle.heap_geometry.specs.declared.need.Need.{Need}
 use Rattle.heap_geometry.specs.declared.need.Need.TheVariants.{Small, Large, TooLarge}
+use Rattle.heap_geometry.specs.Need.{usable_words}
 use Rattle.pool_model.specs.declared.event.Event.{Event}
 use Rattle.pool_model.specs.declared.event.Event.TheVariants.{Free}
 use Rattle.lane_outcomes.specs.declared.registers.Held.{Held}
@@ -63,3 +64,12 @@ freeing caller false place = Free caller place ∷ []
 -- those of emptying all magazines: the first class first, and of each the last block first
 abbrev pub emptying : ℕ → List (List ℕ) → List Event
 emptying caller magazines = map (λ place. Free caller place) (flat_map (λ magazine. magazine) magazines)
+
+-- a magazine's block as a register's
+abbrev pub kept_block : ℕ → ℕ → Held
+kept_block class place = record { place = place; words = usable_words (Small class); need = Small class }
+
+-- the blocks in magazines of the classes from `class` on, in the order in which emptying frees them
+abbrev pub kept_from : ℕ → List (List ℕ) → List Held
+kept_from class [] = []
+kept_from class (places ∷ magazines) = map (kept_block class) places ++ kept_from (suc class) magazines

@@ -29,7 +29,7 @@ pub ready-done :
 ready-done passed trace h depth k t u is ran = record {
   ended =
       subst (λ n. HasEndedThrough h depth (operations_in trace n) n u.lane.outcomes.items u.cache) is.number
-      (record { first = t.cache; opened = is.paired.opened; through = ran.through; all = ran.all });
+      (record { first = t.cache; opened = is.paired.opened; through = ran.through; all = ran.all; few = ran.few });
 }
 
 pub ready-passed :

@@ -1,5 +1,5 @@
 -- Lanes on threads, each through a cache of its own in front of one heap.
-use Rattle.std.specs.Prelude.{ℕ, suc, ◌≡◌, ◌<◌, ◌≤◌, List, [], ◌∷◌, None, Vec, length, replicate}
+use Rattle.std.specs.Prelude.{ℕ, suc, ◌≡◌, ◌<◌, ◌≤◌, ◌^◌, List, [], ◌∷◌, None, Vec, length, replicate}
 use Rattle.std.specs.declared.alloc.Global.{Global}
 use Rattle.std.specs.List.{slice_index_or}
 use Rattle.crossbeam_utils.specs.declared.cache_padded.CachePadded.{CachePadded}
@@ -38,12 +38,13 @@ pub record HasRunThrough (h : Heap) (operations : List Op) (outcomes : List Outc
   pub emptied : HasEmptied h ran after
   pub rests : RestsAt h after
 
--- so it has since its cache was opened, and has an outcome of each operation
+-- so it has since its cache was opened, and has an outcome of each operation, of which there are no more than memory has room for
 pub record HasEndedThrough (h : Heap) (depth : ℕ) (operations : List Op) (lane : ℕ) (outcomes : List Outcome) (c : Cache) : Type 0 where
   pub first : Cache
   pub opened : IsOpened h depth lane first
   pub through : HasRunThrough h operations outcomes first c
   pub all : length outcomes ≡ length operations
+  pub few : length operations < 2 ^ 64
 
 -- the pass of a lane that has ended so, and how many of its allocations its magazines have served
 pub record HasEndedWith (h : Heap) (depth : ℕ) (operations : List Op) (lane : ℕ) (p : Pass) (outcomes : List Outcome) (hits : ℕ) : Type 0 where
@@ -74,6 +75,7 @@ pub record HasRunOn (passed : ℕ → ℕ → Type 0) (trace : Trace) (h : Heap)
   pub same : after.lane.caller ≡ before.lane.caller
   pub through : HasRunThrough h (operations_in trace before.lane.caller) after.lane.outcomes.items before.cache after.cache
   pub all : length after.lane.outcomes.items ≡ length (operations_in trace before.lane.caller)
+  pub few : length (operations_in trace before.lane.caller) < 2 ^ 64
   pub gate : FirstPassed passed before.lane.caller (length (operations_in trace before.lane.caller))
 
 -- the lane of this number is before its first operation

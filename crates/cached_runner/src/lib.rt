@@ -1,4 +1,5 @@
 //! Whole runs of a trace whose lanes go through caches: on threads over a heap.
 #![tactic(auto)]
 
+pub mod laws;
 pub mod run_cached;

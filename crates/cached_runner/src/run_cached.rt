@@ -1,6 +1,6 @@
 //! The lanes of a trace over one heap, each on a thread of its own and through a cache of its own.
 
-ghost use Rattle.std.specs.Prelude.{ℕ, ◌≡◌, ◌<◌, ◌≤◌, [], IfOk, OnOk, All, map, length, vec_capacity, slice_index_or};
+ghost use Rattle.std.specs.Prelude.{ℕ, ◌≡◌, ◌<◌, ◌≤◌, ◌^◌, [], IfOk, OnOk, All, map, length, vec_capacity, slice_index_or};
 ghost use Rattle.crossbeam_utils.specs.Padded.{padded_value};
 ghost use Rattle.trace_text.specs.Traces.{IsOp, IsTrace};
 ghost use Rattle.lane_outcomes.specs.Passed.{AllPassed};
@@ -33,7 +33,8 @@ use trace_text::trace::{Op, Trace};
 /// The operations of a lane.
 fn lane_of(trace: &Trace, lane: usize) -> &[Op]
     requires { lane < length trace.now.lanes }
-    ensures { result.now ≡ operations_in trace.now lane }
+    ensures same { result.now ≡ operations_in trace.now lane }
+    ensures few { length result.now < 2 ^ 64 }
 {
     trace.lanes.as_slice()[lane].as_slice()
 }

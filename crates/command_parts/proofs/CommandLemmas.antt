@@ -1,130 +1,88 @@
 -- Words name one command.
-use Rattle.std.proofs.Common.{ℕ, ◌≡◌, ◌≢◌, ◌∷◌, List, [], None, Some, codes, get_or, length, refl, sym, ap, ◌∙◌, arith}
+use Rattle.std.proofs.Common.{ℕ, ◌≡◌, ◌<◌, ◌^◌, List, [], Option, None, Some, IfSome, codes, get_or, unwrap_or, refl, sym, ap, ◌∙◌, arith, if◌then◌else◌}
 use Rattle.std.specs.Fmt.{decimal}
-use Rattle.std.proofs.lemmas.Fmt.{decimal_injective}
+use Rattle.std.specs.Str.{bytes_eq}
+use Rattle.trace_text.specs.Numbers.{number_in}
+use Rattle.trace_text.proofs.NumberLemmas.{number_again}
 use Rattle.workloads.specs.declared.kind.Kind.{Kind}
 use Rattle.workloads.specs.declared.kind.Kind.TheVariants as kinds
-use Rattle.command_parts.specs.Command.{IsCommandLine, IsPiping, IsWorkload, kind_name, piping_words, workload_words}
+use Rattle.command_parts.specs.Command.{HasRanges, IsCommand, IsCommandLine, IsPiping, IsWorkload, kind_name, words_of}
 use Rattle.command_parts.specs.declared.command.Command.{Command}
-use Rattle.command_parts.specs.declared.command.Command.TheVariants.{Replay, Schedule, Census, Make, Print, Pipe}
+use Rattle.command_parts.specs.declared.command.Command.TheVariants.{Replay, Schedule, Census, Make, Print, Pipe, Store, Cache}
 use Rattle.command_parts.specs.declared.command.Piping.{Piping}
 use Rattle.command_parts.specs.declared.command.Workload.{Workload}
 
--- a kind by its name
-one_kind : (a b : Kind) → kind_name a ≡ kind_name b → a ≡ b
-one_kind kinds.Scalability kinds.Scalability e = refl
-one_kind kinds.Scalability kinds.Threadtest e = absurd (omega (arith, ap (λ w. get_or w 0 0) e))
-one_kind kinds.Scalability kinds.Larson e = absurd (omega (arith, ap (λ w. get_or w 0 0) e))
-one_kind kinds.Scalability kinds.Pipeline e = absurd (omega (arith, ap (λ w. get_or w 0 0) e))
-one_kind kinds.Threadtest kinds.Scalability e = absurd (omega (arith, ap (λ w. get_or w 0 0) e))
-one_kind kinds.Threadtest kinds.Threadtest e = refl
-one_kind kinds.Threadtest kinds.Larson e = absurd (omega (arith, ap (λ w. get_or w 0 0) e))
-one_kind kinds.Threadtest kinds.Pipeline e = absurd (omega (arith, ap (λ w. get_or w 0 0) e))
-one_kind kinds.Larson kinds.Scalability e = absurd (omega (arith, ap (λ w. get_or w 0 0) e))
-one_kind kinds.Larson kinds.Threadtest e = absurd (omega (arith, ap (λ w. get_or w 0 0) e))
-one_kind kinds.Larson kinds.Larson e = refl
-one_kind kinds.Larson kinds.Pipeline e = absurd (omega (arith, ap (λ w. get_or w 0 0) e))
-one_kind kinds.Pipeline kinds.Scalability e = absurd (omega (arith, ap (λ w. get_or w 0 0) e))
-one_kind kinds.Pipeline kinds.Threadtest e = absurd (omega (arith, ap (λ w. get_or w 0 0) e))
-one_kind kinds.Pipeline kinds.Larson e = absurd (omega (arith, ap (λ w. get_or w 0 0) e))
-one_kind kinds.Pipeline kinds.Pipeline e = refl
+-- the number that a word is
+value_of : List ℕ → ℕ
+value_of word = unwrap_or (number_in word) 0
 
-word_at : List (List ℕ) → ℕ → List ℕ
-word_at words i = get_or words i []
+value_back : (n : ℕ) → n < 2 ^ 64 → value_of (decimal n) ≡ n
+unfolding value_of
+value_back n small = ap (λ o. unwrap_or o 0) (number_again n small)
 
--- a workload by the words of a command on it
-one_workload :
-    (name other : List ℕ) (a b : Workload) → IsWorkload a → IsWorkload b → name ∷ workload_words a ≡ other ∷ workload_words b → a ≡ b
-unfolding word_at
-one_workload name other a b in_a in_b e =
-    let kind : kind_name a.kind ≡ kind_name b.kind = ap (λ w. word_at w 1) e in
-    let size : decimal a.size ≡ decimal b.size = ap (λ w. word_at w 2) e in
-    let start : decimal a.start ≡ decimal b.start = ap (λ w. word_at w 3) e in
-    let kinds_same = one_kind a.kind b.kind kind in
-    let sizes_same = decimal_injective a.size b.size (omega (arith, in_a.0)) (omega (arith, in_b.0)) size in
-    let starts_same = decimal_injective a.start b.start in_a.1 in_b.1 start in
-    let with_kind : Kind → Workload = λ kind. record { kind = kind; size = a.size; start = a.start } in
-    let with_size : ℕ → Workload = λ size. record { kind = b.kind; size = size; start = a.start } in
-    let with_start : ℕ → Workload = λ start. record { kind = b.kind; size = b.size; start = start } in
-    ap with_kind kinds_same ∙ ap with_size sizes_same ∙ ap with_start starts_same
+-- the kind that has this name
+kind_by : List ℕ → Kind
+kind_by name =
+    if bytes_eq name (codes "scalability") then kinds.Scalability
+    else if bytes_eq name (codes "threadtest") then kinds.Threadtest
+    else if bytes_eq name (codes "larson") then kinds.Larson
+    else kinds.Pipeline
 
-first_letter : List (List ℕ) → ℕ
-first_letter words = get_or (get_or words 0 []) 0 0
+kind_back : (kind : Kind) → kind_by (kind_name kind) ≡ kind
+unfolding kind_by
+kind_back kinds.Scalability = refl
+kind_back kinds.Threadtest = refl
+kind_back kinds.Larson = refl
+kind_back kinds.Pipeline = refl
 
-second_letter : List (List ℕ) → ℕ
-second_letter words = get_or (get_or words 0 []) 1 0
+-- the workload and the pipeline that three words name
+abbrev workload_by : List ℕ → List ℕ → List ℕ → Workload
+workload_by kind size start = record { kind = kind_by kind; size = value_of size; start = value_of start }
 
-first_word : List (List ℕ) → List ℕ
-first_word words = get_or words 0 []
+workload_back : (w : Workload) → IsWorkload w → workload_by (kind_name w.kind) (decimal w.size) (decimal w.start) ≡ w
+workload_back w ranges = rw (kind_back w.kind, value_back w.size (omega (arith, ranges.0)), value_back w.start ranges.1) refl
 
--- which command has this name and this workload
-pub only_make :
-    (word : List ℕ) (workload : Workload) (command : Command) → word ≡ codes "make" → IsWorkload workload
-    → IsCommandLine command (word ∷ workload_words workload) → Some (Make workload) ≡ Some command
-unfolding first_letter
-only_make word workload Replay is ranges line = absurd (omega (arith, ap length line.1))
-only_make word workload Schedule is ranges line = absurd (omega (arith, ap length line.1))
-only_make word workload Census is ranges line = absurd (omega (arith, ap length line.1))
-only_make word workload (Make other) is ranges line =
-    ap (λ w. Some (Make w)) (one_workload word (codes "make") workload other ranges line.0 line.1)
-only_make word workload (Print other) is ranges line =
-    absurd (omega (arith, ap (λ w. get_or w 0 0) is, ap first_letter line.1))
-only_make word workload (Pipe piping) is ranges line =
-    absurd (omega (arith, ap (λ w. get_or w 0 0) is, ap first_letter line.1))
+abbrev piping_by : List ℕ → List ℕ → List ℕ → Piping
+piping_by senders messages start = record { senders = value_of senders; messages = value_of messages; start = value_of start }
 
-pub only_print :
-    (word : List ℕ) (workload : Workload) (command : Command) → word ≡ codes "print" → IsWorkload workload
-    → IsCommandLine command (word ∷ workload_words workload) → Some (Print workload) ≡ Some command
-unfolding first_letter second_letter
-only_print word workload Replay is ranges line = absurd (omega (arith, ap length line.1))
-only_print word workload Schedule is ranges line = absurd (omega (arith, ap length line.1))
-only_print word workload Census is ranges line = absurd (omega (arith, ap length line.1))
-only_print word workload (Make other) is ranges line =
-    absurd (omega (arith, ap (λ w. get_or w 0 0) is, ap first_letter line.1))
-only_print word workload (Print other) is ranges line =
-    ap (λ w. Some (Print w)) (one_workload word (codes "print") workload other ranges line.0 line.1)
-only_print word workload (Pipe piping) is ranges line =
-    absurd (omega (arith, ap (λ w. get_or w 1 0) is, ap second_letter line.1))
+piping_back : (p : Piping) → IsPiping p → piping_by (decimal p.senders) (decimal p.messages) (decimal p.start) ≡ p
+piping_back p (least, senders, messages, start) =
+    rw (value_back p.senders (omega (arith, senders)), value_back p.messages (omega (arith, messages)), value_back p.start start) refl
 
--- no other name with a workload is a command
-pub no_other :
-    (word : List ℕ) (workload : Workload) (command : Command) → word ≢ codes "make" → word ≢ codes "print" → word ≢ codes "pipe"
-    → IsCommandLine command (word ∷ workload_words workload) → None ≡ Some command
-unfolding first_word
-no_other word workload Replay one two three line = absurd (omega (arith, ap length line.1))
-no_other word workload Schedule one two three line = absurd (omega (arith, ap length line.1))
-no_other word workload Census one two three line = absurd (omega (arith, ap length line.1))
-no_other word workload (Make other) one two three line = absurd (one (ap first_word line.1))
-no_other word workload (Print other) one two three line = absurd (two (ap first_word line.1))
-no_other word workload (Pipe piping) one two three line = absurd (three (ap first_word line.1))
+-- the command that words name, if they name one: by the first of them
+abbrev command_by : List (List ℕ) → Command
+command_by words =
+    let name = get_or words 0 [] in
+    let first = get_or words 1 [] in
+    let second = get_or words 2 [] in
+    let third = get_or words 3 [] in
+    if bytes_eq name (codes "replay") then Replay
+    else if bytes_eq name (codes "schedule") then Schedule
+    else if bytes_eq name (codes "census") then Census
+    else if bytes_eq name (codes "make") then Make (workload_by first second third)
+    else if bytes_eq name (codes "print") then Print (workload_by first second third)
+    else if bytes_eq name (codes "pipe") then Pipe (piping_by first second third)
+    else if bytes_eq name (codes "store") then Store (value_of first)
+    else Cache (value_of first)
 
--- a pipeline by its words
-pub one_piping : (a b : Piping) → IsPiping a → IsPiping b → piping_words a ≡ piping_words b → a ≡ b
-unfolding word_at
-one_piping a b in_a in_b e =
-    let (a_least, a_senders, a_messages, a_start) = in_a in
-    let (b_least, b_senders, b_messages, b_start) = in_b in
-    let senders = decimal_injective a.senders b.senders (omega (arith, a_senders)) (omega (arith, b_senders)) (ap (λ w. word_at w 0) e) in
-    let messages = decimal_injective a.messages b.messages (omega (arith, a_messages)) (omega (arith, b_messages)) (ap (λ w. word_at w 1) e) in
-    let start = decimal_injective a.start b.start a_start b_start (ap (λ w. word_at w 2) e) in
-    let with_senders : ℕ → Piping = λ n. record { senders = n; messages = a.messages; start = a.start } in
-    let with_messages : ℕ → Piping = λ n. record { senders = b.senders; messages = n; start = a.start } in
-    let with_start : ℕ → Piping = λ n. record { senders = b.senders; messages = b.messages; start = n } in
-    ap with_senders senders ∙ ap with_messages messages ∙ ap with_start start
+command_back : (command : Command) → HasRanges command → command_by (words_of command) ≡ command
+command_back Replay ranges = refl
+command_back Schedule ranges = refl
+command_back Census ranges = refl
+command_back (Make workload) ranges = ap Make (workload_back workload ranges)
+command_back (Print workload) ranges = ap Print (workload_back workload ranges)
+command_back (Pipe piping) ranges = ap Pipe (piping_back piping ranges)
+command_back (Store rounds) ranges = ap Store (value_back rounds (omega (arith, ranges)))
+command_back (Cache depth) ranges = ap Cache (value_back depth (omega (arith, ranges.1)))
 
-rest_of : List (List ℕ) → List (List ℕ)
-rest_of [] = []
-rest_of (word ∷ words) = words
+-- two commands with the same words are one
+one_command : (words : List (List ℕ)) (a b : Command) → IsCommandLine a words → IsCommandLine b words → a ≡ b
+one_command words a b of_a of_b =
+    sym (command_back a of_a.0) ∙ ap command_by (sym of_a.1 ∙ of_b.1) ∙ command_back b of_b.0
 
--- which command is a pipeline
-pub only_pipe :
-    (words : List (List ℕ)) (piping : Piping) (command : Command) → IsPiping piping → words ≡ piping_words piping
-    → IsCommandLine command (codes "pipe" ∷ words) → Some (Pipe piping) ≡ Some command
-unfolding first_letter second_letter rest_of
-only_pipe words piping Replay ranges is line = absurd (omega (arith, ap first_letter line.1))
-only_pipe words piping Schedule ranges is line = absurd (omega (arith, ap first_letter line.1))
-only_pipe words piping Census ranges is line = absurd (omega (arith, ap first_letter line.1))
-only_pipe words piping (Make other) ranges is line = absurd (omega (arith, ap first_letter line.1))
-only_pipe words piping (Print other) ranges is line = absurd (omega (arith, ap second_letter line.1))
-only_pipe words piping (Pipe other) ranges is line =
-    ap (λ p. Some (Pipe p)) (one_piping piping other ranges line.0 (sym is ∙ ap rest_of line.1))
+-- so one that was found for words is the only one
+pub only_found :
+    (words listed : List (List ℕ)) (found : Option Command) → words ≡ listed → IfSome found (λ command. IsCommandLine command listed)
+    → (found ≡ None → ¬ IsCommand listed) → (command : Command) → IsCommandLine command words → found ≡ Some command
+only_found words listed (Some found) same some none command line = ap Some (one_command listed found command some (rw same at line))
+only_found words listed None same some none command line = absurd (none refl (command, rw same at line))

@@ -11,7 +11,7 @@ use Rattle.clap.specs.Simple.{Shape}
 use Rattle.clap.specs.Takes.{bundle_passes, default_passes, entered_passes, flag_word_passes, is_valid, settle_passes, step_passes, takes, turn_passes, walk_passes, word_passes}
 use Rattle.command_parts.specs.Command.{HasRanges, IsCommand, IsCommandLine, IsPiping, IsWorkload, begins_with_hyphen, kind_name, parser_app, piping_words, words_of, workload_words}
 use Rattle.command_parts.specs.declared.command.Command.{Command}
-use Rattle.command_parts.specs.declared.command.Command.TheVariants.{Replay, Schedule, Census, Make, Print, Pipe}
+use Rattle.command_parts.specs.declared.command.Command.TheVariants.{Replay, Schedule, Census, Make, Print, Pipe, Store, Cache}
 use Rattle.command_parts.specs.declared.command.Piping.{Piping}
 use Rattle.command_parts.specs.declared.command.Workload.{Workload}
 use Rattle.command_parts.specs.declared.parsing.NoCommand.{NoCommand}
@@ -192,6 +192,10 @@ takes_command (Print workload) words line plain =
     subst Taken (sym line.1) (words_pass (codes "print") (workload_words workload) (subst NoOptions line.1 plain) (omega arith))
 takes_command (Pipe piping) words line plain =
     subst Taken (sym line.1) (words_pass (codes "pipe") (piping_words piping) (subst NoOptions line.1 plain) (omega arith))
+takes_command (Store rounds) words line plain =
+    subst Taken (sym line.1) (words_pass (codes "store") (decimal rounds ∷ []) (subst NoOptions line.1 plain) (omega arith))
+takes_command (Cache depth) words line plain =
+    subst Taken (sym line.1) (words_pass (codes "cache") (decimal depth ∷ []) (subst NoOptions line.1 plain) (omega arith))
 
 -- what the parser refuses is no command
 pub refused : (words : List Text) → NoOptions words → ¬ (takes parser_app words ≡ true) → ¬ IsCommand words
@@ -214,6 +218,8 @@ has_words Census = refl
 has_words (Make workload) = refl
 has_words (Print workload) = refl
 has_words (Pipe piping) = refl
+has_words (Store rounds) = refl
+has_words (Cache depth) = refl
 
 -- a command has words
 pub some_words : (words : List Text) → words ≡ [] → ¬ IsCommand words
@@ -251,6 +257,8 @@ plain_command Census ranges = refl
 plain_command (Make workload) ranges = plain_workload (codes "make") workload refl ranges
 plain_command (Print workload) ranges = plain_workload (codes "print") workload refl ranges
 plain_command (Pipe piping) ranges = plain_piping piping ranges
+plain_command (Store rounds) ranges = rw (plain_number rounds (omega (arith, ranges))) refl
+plain_command (Cache depth) ranges = rw (plain_number depth (omega (arith, ranges.1))) refl
 
 -- a command has no option
 pub no_command : (words : List Text) → list_any begins_with_hyphen words ≡ true → ¬ IsCommand words

@@ -6,9 +6,9 @@ use Rattle.workloads.specs.declared.kind.Kind.{Kind}
 use Rattle.workloads.specs.declared.kind.Kind.TheVariants as kinds
 use Rattle.workloads.specs.declared.making.TheConstants.{MAX_SIZE}
 use Rattle.command_parts.specs.declared.command.Command.{Command}
-use Rattle.command_parts.specs.declared.command.Command.TheVariants.{Replay, Schedule, Census, Make, Print, Pipe}
+use Rattle.command_parts.specs.declared.command.Command.TheVariants.{Replay, Schedule, Census, Make, Print, Pipe, Store, Cache}
 use Rattle.command_parts.specs.declared.command.Piping.{Piping}
-use Rattle.command_parts.specs.declared.command.TheConstants.{MAX_MESSAGES}
+use Rattle.command_parts.specs.declared.command.TheConstants.{MAX_DEPTH, MAX_MESSAGES, MAX_ROUNDS}
 use Rattle.command_parts.specs.declared.command.Workload.{Workload}
 
 -- how a kind of workload is named
@@ -34,6 +34,8 @@ words_of Census = codes "census" ∷ []
 words_of (Make workload) = codes "make" ∷ workload_words workload
 words_of (Print workload) = codes "print" ∷ workload_words workload
 words_of (Pipe piping) = codes "pipe" ∷ piping_words piping
+words_of (Store rounds) = codes "store" ∷ decimal rounds ∷ []
+words_of (Cache depth) = codes "cache" ∷ decimal depth ∷ []
 
 -- the numbers of a workload are in their ranges
 abbrev pub IsWorkload : Workload → Type 0
@@ -43,6 +45,10 @@ IsWorkload workload = (workload.size ≤ MAX_SIZE) × (workload.start < 2 ^ 64)
 abbrev pub IsPiping : Piping → Type 0
 IsPiping piping = (1 ≤ piping.senders) × (piping.senders ≤ 4) × (piping.messages ≤ MAX_MESSAGES) × (piping.start < 2 ^ 64)
 
+-- a cache has this depth
+abbrev pub IsDepth : ℕ → Type 0
+IsDepth depth = (1 ≤ depth) × (depth ≤ MAX_DEPTH)
+
 -- so are those of a command
 abbrev pub HasRanges : Command → Type 0
 HasRanges Replay = Unit {0}
@@ -51,6 +57,8 @@ HasRanges Census = Unit {0}
 HasRanges (Make workload) = IsWorkload workload
 HasRanges (Print workload) = IsWorkload workload
 HasRanges (Pipe piping) = IsPiping piping
+HasRanges (Store rounds) = rounds ≤ MAX_ROUNDS
+HasRanges (Cache depth) = IsDepth depth
 
 -- these are the words of the command
 abbrev pub IsCommandLine : Command → List (List ℕ) → Type 0
@@ -68,6 +76,8 @@ has_input Census = true
 has_input (Make workload) = false
 has_input (Print workload) = false
 has_input (Pipe piping) = false
+has_input (Store rounds) = false
+has_input (Cache depth) = true
 
 -- the word would be an option
 abbrev pub begins_with_hyphen : List ℕ → Bool

@@ -1,10 +1,9 @@
 //! The commands of the program, and how they are written.
 
-ghost use Rattle.std.specs.Prelude.{ℕ, ◌≡◌, ◌≢◌, ◌≤◌, ◌∷◌, [], Some, IfSome, codes, decimal};
+ghost use Rattle.std.specs.Prelude.{ℕ, ◌≡◌, ◌≤◌, ◌∷◌, [], None, Some, IfSome, decimal};
 ghost use Rattle.clap.specs.Walk.{texts};
 ghost use Rattle.workloads.specs.declared.kind.Kind.{Kind};
-ghost use Rattle.workloads.specs.declared.making.TheConstants.{MAX_SIZE};
-ghost use Rattle.command_parts.specs.Command.{IsCommandLine, IsPiping, IsWorkload, kind_name, piping_words, workload_words};
+ghost use Rattle.command_parts.specs.Command.{IsCommand, IsCommandLine, IsDepth, IsPiping, IsWorkload, kind_name, piping_words, workload_words};
 ghost use Rattle.command_parts.specs.declared.command.Command.{Command};
 ghost use Rattle.command_parts.specs.declared.command.Piping.{Piping};
 ghost use Rattle.command_parts.specs.declared.command.Workload.{Workload};
@@ -35,6 +34,12 @@ pub struct Piping {
     pub start: u64,
 }
 
+/// The most rounds of a store's script.
+pub const MAX_ROUNDS: u32 = 1_000_000;
+
+/// The most blocks of a class that a lane's cache keeps.
+pub const MAX_DEPTH: u8 = 64;
+
 /// A command of the program.
 #[derive(Clone, Copy, Debug, PartialEq, Eq)]
 pub enum Command {
@@ -50,6 +55,11 @@ pub enum Command {
     Print(Workload),
     /// Run a pipeline of blocks, and print what was received of each sender.
     Pipe(Piping),
+    /// Run so many rounds of the script of a store, at most `MAX_ROUNDS`, and tell what it holds.
+    Store(u32),
+    /// Run the trace as `Replay` does, each lane through a cache that keeps so many blocks of each class, from 1 to
+    /// `MAX_DEPTH`, and report it with how many allocations the caches served.
+    Cache(u8),
 }
 
 /// The name of a kind of workload.
@@ -78,17 +88,26 @@ fn kind_of(word: &str) -> Option<Kind>
     }
 }
 
-/// The size that a word is.
-fn size_of(word: &str) -> Option<u32>
-    ensures some { IfSome result (λ size. (size ≤ MAX_SIZE) × (word.now ≡ decimal size)) }
-    ensures only { (size : ℕ) → size ≤ MAX_SIZE → word.now ≡ decimal size → result ≡ Some size }
+/// The number that a word is, if it is no greater than this.
+fn number_to(word: &str, most: u32) -> Option<u32>
+    ensures some { IfSome result (λ n. (n ≤ most) × (word.now ≡ decimal n)) }
+    ensures only { (n : ℕ) → n ≤ most → word.now ≡ decimal n → result ≡ Some n }
 {
-    let size = number(word.as_bytes())?;
-    if size <= u64::from(MAX_SIZE) {
-        Some(size as u32)
+    let n = number(word.as_bytes())?;
+    if n <= u64::from(most) {
+        Some(n as u32)
     } else {
         None
     }
+}
+
+/// The depth of a cache that a word is.
+fn depth_of(word: &str) -> Option<u8>
+    ensures some { IfSome result (λ depth. IsDepth depth × (word.now ≡ decimal depth)) }
+    ensures only { (depth : ℕ) → IsDepth depth → word.now ≡ decimal depth → result ≡ Some depth }
+{
+    let depth = number_to(word, u32::from(MAX_DEPTH))?;
+    if depth == 0 { None } else { Some(depth as u8) }
 }
 
 /// The workload that these words name.
@@ -99,7 +118,7 @@ fn workload_of(kind: &str, size: &str, start: &str) -> Option<Workload>
         → kind.now ∷ size.now ∷ start.now ∷ [] ≡ workload_words workload → result ≡ Some workload }
 {
     let kind = kind_of(kind)?;
-    let size = size_of(size)?;
+    let size = number_to(size, MAX_SIZE)?;
     let start = number(start.as_bytes())?;
     Some(Workload { kind, size, start })
 }
@@ -128,7 +147,7 @@ fn piping_of(senders: &str, messages: &str, start: &str) -> Option<Piping>
 /// The command that is this one word.
 fn short_command(word: &str) -> Option<Command>
     ensures some { IfSome result (λ command. IsCommandLine command (word.now ∷ [])) }
-    ensures only { (command : Command) → IsCommandLine command (word.now ∷ []) → result ≡ Some command }
+    ensures none { result ≡ None → ¬ IsCommand (word.now ∷ []) }
 {
     match word {
         "replay" => Some(Command::Replay),
@@ -138,16 +157,14 @@ fn short_command(word: &str) -> Option<Command>
     }
 }
 
-/// The command on a workload that has this name.
-fn workload_command(word: &str, workload: Workload) -> Option<Command>
-    requires ranges { IsWorkload workload }
-    requires other { word.now ≢ codes "pipe" }
-    ensures some { IfSome result (λ command. IsCommandLine command (word.now ∷ workload_words workload)) }
-    ensures only { (command : Command) → IsCommandLine command (word.now ∷ workload_words workload) → result ≡ Some command }
+/// The command that is a word and a number.
+fn number_command(word: &str, argument: &str) -> Option<Command>
+    ensures some { IfSome result (λ command. IsCommandLine command (word.now ∷ argument.now ∷ [])) }
+    ensures none { result ≡ None → ¬ IsCommand (word.now ∷ argument.now ∷ []) }
 {
     match word {
-        "make" => Some(Command::Make(workload)),
-        "print" => Some(Command::Print(workload)),
+        "store" => Some(Command::Store(number_to(argument, MAX_ROUNDS)?)),
+        "cache" => Some(Command::Cache(depth_of(argument)?)),
         _ => None,
     }
 }
@@ -156,12 +173,13 @@ fn workload_command(word: &str, workload: Workload) -> Option<Command>
 fn long_command(word: &str, first: &str, second: &str, third: &str) -> Option<Command>
     ensures some { IfSome result (λ command.
         IsCommandLine command (word.now ∷ first.now ∷ second.now ∷ third.now ∷ [])) }
-    ensures only { (command : Command) → IsCommandLine command (word.now ∷ first.now ∷ second.now ∷ third.now ∷ [])
-        → result ≡ Some command }
+    ensures none { result ≡ None → ¬ IsCommand (word.now ∷ first.now ∷ second.now ∷ third.now ∷ []) }
 {
     match word {
+        "make" => Some(Command::Make(workload_of(first, second, third)?)),
+        "print" => Some(Command::Print(workload_of(first, second, third)?)),
         "pipe" => Some(Command::Pipe(piping_of(first, second, third)?)),
-        _ => workload_command(word, workload_of(first, second, third)?),
+        _ => None,
     }
 }
 
@@ -172,6 +190,7 @@ pub fn command_of(words: &[&str]) -> Option<Command>
 {
     match words {
         [word] => short_command(word),
+        [word, argument] => number_command(word, argument),
         [word, first, second, third] => long_command(word, first, second, third),
         _ => None,
     }

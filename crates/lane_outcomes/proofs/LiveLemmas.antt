@@ -1,6 +1,5 @@
 -- What lanes were given less what they freed is what is live.
-use Rattle.std.proofs.Common.{ℕ, suc, ◌≡◌, ◌+◌, ◌-◌, ◌*◌, ◌^◌, ◌<◌, ◌≤◌, List, [], ◌∷◌, Option, Some, None, Vec, Global, map, min, length, replicate, refl, sym, ◌∙◌, subst, arith, append-nil}
-use Rattle.std.specs.List.{AllByRecursion}
+use Rattle.std.proofs.Common.{ℕ, suc, ◌≡◌, ◌+◌, ◌-◌, ◌*◌, ◌^◌, ◌≤◌, List, [], ◌∷◌, Option, Some, None, Vec, Global, map, length, replicate, refl, sym, subst, arith, append-nil}
 use Rattle.std.proofs.Math.Pow.{pow_mono}
 use Rattle.heap_geometry.specs.declared.geometry.Geometry.{Geometry}
 use Rattle.heap_geometry.specs.declared.need.Need.{Need}
@@ -19,12 +18,10 @@ use Rattle.trace_text.specs.declared.trace.Op.TheVariants as op
 use Rattle.lane_outcomes.specs.declared.registers.Held.{Held}
 use Rattle.lane_outcomes.specs.declared.outcome.Outcome.{Outcome}
 use Rattle.lane_outcomes.specs.declared.outcome.Outcome.TheVariants as outcome
-use Rattle.lane_outcomes.specs.declared.live.Amount.{Amount}
-use Rattle.lane_outcomes.specs.declared.live.TheConstants.{NOTHING}
 use Rattle.lane_outcomes.specs.Lane.{Position, start, held_in, position_after}
 use Rattle.lane_outcomes.specs.Rows.{Setting, Moment, AllocRow, ResizeRow, FitsRow}
 use Rattle.lane_outcomes.specs.Fits.{Walks, Fits, LanesFit, OutcomesFit}
-use Rattle.lane_outcomes.specs.LaneCounts.{words_given, count_with, as_one, as_words, lane_given, lane_freed, lanes_given, lanes_freed, GrowsBy}
+use Rattle.lane_outcomes.specs.LaneCounts.{AreHeld, words_given, count_with, as_one, as_words, lane_given, lane_freed, lanes_given, lanes_freed, live_of}
 use Rattle.lane_outcomes.specs.Standing.{HoldsOwn}
 use Rattle.lane_outcomes.proofs.HoldLemmas.{holds-nothing}
 use Rattle.lane_outcomes.proofs.FollowLemmas.{FollowsAt}
@@ -100,8 +97,14 @@ words-bound (Large units) within = omega (arith, within.1)
 words-bound TooLarge within = omega arith
 
 -- a count that no block passes
-abbrev IsFew : (ℕ → ℕ) → Type 0
+abbrev pub IsFew : (ℕ → ℕ) → Type 0
 IsFew f = (need : ℕ) → f (usable_words (need_of need)) ≤ LARGE_MOST
+
+pub few-ones : IsFew as_one
+few-ones need = omega arith
+
+pub few-words : IsFew as_words
+few-words need = words-bound (need_of need) (need_of-within need)
 
 few-alloc :
     (f : ℕ → ℕ) (setting : Setting) (position : Position) (r need v : ℕ) (held : Option Held) (result : Outcome) (piece : List Event) → IsFew f
@@ -139,10 +142,6 @@ few-lane f setting from to (operation ∷ operations) (result ∷ results) few w
       few-lane f setting (position_after from operation result walks.0) to operations results few walks.2,
     )
 
--- the outcomes of each lane are as many as memory can hold
-abbrev pub AreHeld : List (List Outcome) → Type 0
-AreHeld outcomes = AllByRecursion (λ results. length results < 2 ^ 64) outcomes
-
 few-lanes :
     (f : ℕ → ℕ) (g : Geometry) (history : List Event) (lost lane : ℕ) (lanes : List (List Op)) (outcomes : List (List Outcome)) → IsFew f
     → AreHeld outcomes → LanesFit g history lost lane lanes outcomes → lanes_given f lanes outcomes ≤ LARGE_MOST * 2 ^ 64 * length lanes
@@ -162,34 +161,44 @@ pub held-lists : (vecs : List (Vec Outcome Global)) → AreHeld (map (λ lane. l
 held-lists [] = tt
 held-lists (vec ∷ vecs) = (omega (arith, vec.ok, vec.small), held-lists vecs)
 
--- what was counted is what is live, where it fits
-counted-live :
-    (live given freed counted_given counted_freed left result most : ℕ) → live + freed ≡ given → given < 2 ^ 128 - 1
-    → min counted_given (2 ^ 128 - 1) ≡ min (0 + given) (2 ^ 128 - 1) → min counted_freed (2 ^ 128 - 1) ≡ min (0 + freed) (2 ^ 128 - 1)
-    → left ≡ counted_given - counted_freed → result ≡ min left most → live ≤ most → result ≡ live
-counted-live live given freed counted_given counted_freed left result most total small gives frees left_is result_is fits = omega arith
+-- what the lanes were given is not too much to count, and less what they freed it is what is live
+pub record IsBalanced (f : ℕ → ℕ) (history : List Event) (lanes : List (List Op)) (outcomes : List (List Outcome)) : Type 0 where
+  pub total : measure f (pool_of history) + lanes_freed f lanes outcomes ≡ lanes_given f lanes outcomes
+  pub few : lanes_given f lanes outcomes ≤ LARGE_MOST * 2 ^ 64 * MAX_LANES
+
+-- then what the outcomes count is what is live
+live-of :
+    (f : ℕ → ℕ) (most live : ℕ) (history : List Event) (lanes : List (List Op)) (outcomes : List (List Outcome)) → IsBalanced f history lanes outcomes
+    → measure f (pool_of history) ≡ live → live ≤ most → live_of f most lanes outcomes ≡ live
+live-of f most live history lanes outcomes balanced is fits = omega (arith, balanced.total, balanced.few)
+
+pub live-balanced :
+    (g : Geometry) (history : List Event) (lanes : List (List Op)) (outcomes : List (List Outcome)) → IsChecked g → IsLegalWithoutCounts g history
+    → IsBalanced as_one history lanes outcomes → IsBalanced as_words history lanes outcomes
+    → (live_of as_one (2 ^ 32 - 1) lanes outcomes ≡ length (pool_of history)) × (live_of as_words (2 ^ 64 - 1) lanes outcomes ≡ live_words (pool_of history))
+live-balanced g history lanes outcomes checked legal blocks words =
+    let fits = live-fits g history legal in (
+      live-of as_one (2 ^ 32 - 1) (length (pool_of history)) history lanes outcomes blocks (measure-blocks (pool_of history))
+          (omega (arith, fits, checked.frames.1, checked.units.1)),
+      live-of as_words (2 ^ 64 - 1) (live_words (pool_of history)) history lanes outcomes words (measure-words (pool_of history))
+          (omega (arith, fits, checked.frames.1, checked.units.1)),
+    )
+
+balanced :
+    (f : ℕ → ℕ) (g : Geometry) (history : List Event) (lost : ℕ) (lanes : List (List Op)) (outcomes : List (List Outcome)) → IsFew f
+    → length lanes ≤ MAX_LANES → AreHeld outcomes → IsLegalWithoutCounts g history → OutcomesFit g history lost lanes outcomes
+    → IsBalanced f history lanes outcomes
+balanced f g history lost lanes outcomes few few_lanes held legal fit =
+    record {
+      total = live-total f g history lost lanes outcomes legal fit;
+      few = omega (arith, few-lanes f g history lost 0 lanes outcomes few held fit.lanes_fit);
+    }
 
 pub live-counted :
-    (g : Geometry) (history : List Event) (lost : ℕ) (lanes : List (List Op)) (outcomes : List (List Outcome)) (given freed : Amount)
-    (blocks_left words_left blocks words : ℕ) → IsChecked g → length lanes ≤ MAX_LANES → AreHeld outcomes → IsLegalWithoutCounts g history
-    → OutcomesFit g history lost lanes outcomes
-    → GrowsBy NOTHING given (lanes_given as_one lanes outcomes) (lanes_given as_words lanes outcomes)
-    → GrowsBy NOTHING freed (lanes_freed as_one lanes outcomes) (lanes_freed as_words lanes outcomes)
-    → blocks_left ≡ given.blocks - freed.blocks → words_left ≡ given.words - freed.words
-    → blocks ≡ min blocks_left (2 ^ 32 - 1) → words ≡ min words_left (2 ^ 64 - 1)
-    → (blocks ≡ length (pool_of history)) × (words ≡ live_words (pool_of history))
-live-counted g history lost lanes outcomes given freed blocks_left words_left blocks words checked few held legal fit gives frees blocks_left_is words_left_is blocks_are words_are =
-    let fits = live-fits g history legal in
-    let few_blocks = few-lanes as_one g history lost 0 lanes outcomes (λ need. omega arith) held fit.lanes_fit in
-    let few_words = few-lanes as_words g history lost 0 lanes outcomes (λ need. words-bound (need_of need) (need_of-within need)) held fit.lanes_fit in
-    let blocks_total = live-total as_one g history lost lanes outcomes legal fit in
-    let words_total = live-total as_words g history lost lanes outcomes legal fit in
-    let is_blocks = measure-blocks (pool_of history) in
-    let is_words = measure-words (pool_of history) in (
-      counted-live (measure as_one (pool_of history)) (lanes_given as_one lanes outcomes) (lanes_freed as_one lanes outcomes) given.blocks freed.blocks
-          blocks_left blocks (2 ^ 32 - 1) blocks_total (omega (arith, few_blocks)) gives.blocks_grow frees.blocks_grow blocks_left_is blocks_are
-          (omega (arith, is_blocks, fits, checked.frames.1, checked.units.1)) ∙ is_blocks,
-      counted-live (measure as_words (pool_of history)) (lanes_given as_words lanes outcomes) (lanes_freed as_words lanes outcomes) given.words freed.words
-          words_left words (2 ^ 64 - 1) words_total (omega (arith, few_words)) gives.words_grow frees.words_grow words_left_is words_are
-          (omega (arith, is_words, fits, checked.frames.1, checked.units.1)) ∙ is_words,
-    )
+    (g : Geometry) (history : List Event) (lost : ℕ) (lanes : List (List Op)) (outcomes : List (List Outcome)) → IsChecked g → length lanes ≤ MAX_LANES
+    → AreHeld outcomes → IsLegalWithoutCounts g history → OutcomesFit g history lost lanes outcomes
+    → (live_of as_one (2 ^ 32 - 1) lanes outcomes ≡ length (pool_of history)) × (live_of as_words (2 ^ 64 - 1) lanes outcomes ≡ live_words (pool_of history))
+live-counted g history lost lanes outcomes checked few_lanes held legal fit =
+    live-balanced g history lanes outcomes checked legal
+    (balanced as_one g history lost lanes outcomes few-ones few_lanes held legal fit)
+    (balanced as_words g history lost lanes outcomes few-words few_lanes held legal fit)

@@ -137,7 +137,7 @@ alloc-filled f g setting position need words place value after calls piece given
     (given-events caller need place fill position.done calls piece is piece_is)
     refl refl at_filled
 
-given-after :
+pub given-after :
     (f : ℕ → ℕ) (g : Geometry) (setting : Setting) (position : Position) (r need words place : ℕ) (value : ℕ → ℕ) (calls piece : List Event)
     (given freed : ℕ) → IsLegalWithoutCounts g setting.history → words ≡ usable_words (need_of need) → IsGiven setting.caller need place calls
     → piece ≡ calls ++ writing setting.caller place words value → Before f setting position given freed

@@ -1,5 +1,6 @@
 -- What the outcomes of lanes give and free, block by block.
-use Rattle.std.specs.Prelude.{ℕ, ◌+◌, ◌-◌, ◌^◌, ◌≡◌, ◌∷◌, List, [], Option, Some, None, min, replicate}
+use Rattle.std.specs.Prelude.{ℕ, ◌+◌, ◌-◌, ◌^◌, ◌<◌, ◌≡◌, ◌∷◌, List, [], Option, Some, None, length, min, replicate}
+use Rattle.std.specs.List.{AllByRecursion}
 use Rattle.std.specs.Option.{option_map}
 use Rattle.trace_text.specs.declared.limits.TheConstants.{REGISTERS}
 use Rattle.trace_text.specs.declared.trace.Op.{Op}
@@ -63,6 +64,10 @@ lanes_freed f (operations ∷ lanes) (results ∷ outcomes) =
 -- and the difference at most `most`
 abbrev pub live_of : (ℕ → ℕ) → ℕ → List (List Op) → List (List Outcome) → ℕ
 live_of f most lanes outcomes = min (min (lanes_given f lanes outcomes) (2 ^ 128 - 1) - min (lanes_freed f lanes outcomes) (2 ^ 128 - 1)) most
+
+-- the outcomes of each lane are as many as memory can hold
+abbrev pub AreHeld : List (List Outcome) → Type 0
+AreHeld outcomes = AllByRecursion (λ results. length results < 2 ^ 64) outcomes
 
 -- a number has grown by so much, or both it and what it should be are past the most that is counted
 abbrev pub Grows : ℕ → ℕ → ℕ → Type 0

@@ -48,7 +48,7 @@ nothing-more : (xs ys : List Event) → xs ++ ys ≡ xs → ys ≡ []
 nothing-more xs [] same = refl
 nothing-more xs (y ∷ ys) same = absurd (omega (arith, length-append xs (y ∷ ys), ap length same))
 
-seen-all : (caller : ℕ) (before after : List Event) (more : List Event) → after ≡ before ++ more → own caller after ≡ own caller before
+pub seen-all : (caller : ℕ) (before after : List Event) (more : List Event) → after ≡ before ++ more → own caller after ≡ own caller before
     → HasSeenMore caller before after
 seen-all caller before after more is same = record {
   more = more;
@@ -57,7 +57,7 @@ seen-all caller before after more is same = record {
 }
 
 -- each event of a legal history has a caller of the heap; and where those from a number on have none, it has one below
-events-below :
+pub events-below :
     (g : Geometry) (count : ℕ) (history before events : List Event) → IsLegal g history → history ≡ before ++ events
     → ((k : ℕ) → count ≤ k → k < g.callers → own k events ≡ []) → AllByRecursion (λ event. caller_of event < count) events
 events-below g count history before [] legal is none = tt
@@ -72,11 +72,11 @@ events-below g count history before (event ∷ events) legal is none = (
       (λ k least has. (own-none k event events (none k least has)).1),
 )
 
-at-least-one : (n m : ℕ) → m ≡ max 1 n → n ≤ m
+pub at-least-one : (n m : ℕ) → m ≡ max 1 n → n ≤ m
 at-least-one n m is = omega (arith, is)
 
 -- a lane that has no turn left has none later; and one that was told so has none at its end
-spent-on : (spent : Bool) (result : Outcome) → spent ≡ true → spent_after spent result ≡ true
+pub spent-on : (spent : Bool) (result : Outcome) → spent ≡ true → spent_after spent result ≡ true
 spent-on spent outcome.Spent is = refl
 spent-on spent result is = is
 

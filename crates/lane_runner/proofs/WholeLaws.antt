@@ -69,7 +69,7 @@ pub leads-rest : (h : Heap) (p q : Pass) (made : List Made) → IsAtRest h p →
 leads-rest h p q [] rests leads = subst (IsAtRest h) (sym leads) rests
 leads-rest h p q (m ∷ made) rests (t, one, leads) = leads-rest h t q made one.2 leads
 
-skipped-so : (registers : List (Option Held)) (operation : Op) (slot : Option Held) → held_in registers (register_of operation) ≡ slot → Skips slot operation → IsSkipped registers operation
+pub skipped-so : (registers : List (Option Held)) (operation : Op) (slot : Option Held) → held_in registers (register_of operation) ≡ slot → Skips slot operation → IsSkipped registers operation
 skipped-so registers (op.Alloc r need v) (Some held) is skips = (held, is)
 skipped-so registers (op.Take r shelf) (Some held) is skips = (held, is)
 skipped-so registers (op.Free r) None is skips = is
@@ -85,7 +85,7 @@ skipped-so registers (op.Check r) (Some held) is skips = absurd skips
 skipped-so registers (op.Put r shelf) (Some held) is skips = absurd skips
 skipped-so registers (op.Resize r need) (Some held) is skips = absurd skips
 
-given-steps : (p q : Pass) (call : Call) (place : ℕ) (need : Need) → MadeByPass p call (reply.Given place need) q
+pub given-steps : (p q : Pass) (call : Call) (place : ℕ) (need : Need) → MadeByPass p call (reply.Given place need) q
     → (steps : ℕ) × HasCalled p call steps (reply.Given place need) q
 given-steps p q call place need (by_steps ended) = ended
 given-steps p q call place need (at_once words is spent once) = absurd (cc)
@@ -93,7 +93,7 @@ given-steps p q call place need (at_once words is spent once) = absurd (cc)
 from-zero : (n m : ℕ) → n ≡ m → 0 + n ≡ m
 from-zero n m is = omega (arith, is)
 
-less-suc : (m : ℕ) → 0 < m → (n : ℕ) × (suc n ≡ m)
+pub less-suc : (m : ℕ) → 0 < m → (n : ℕ) × (suc n ≡ m)
 less-suc zero some = absurd (omega arith)
 less-suc (suc n) some = (n, refl)
 

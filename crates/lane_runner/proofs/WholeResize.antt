@@ -16,7 +16,8 @@ use Rattle.pool_model.specs.Calls.{Ended, EventsOf}
 use Rattle.pool_model.specs.Calls as ended
 use Rattle.pool_model.specs.Histories.{own}
 use Rattle.pool_model.specs.Owned.{if_of}
-use Rattle.pool_model.specs.Pool.{Block, pool_of}
+use Rattle.pool_model.specs.Legal.{IsLegal}
+use Rattle.pool_model.specs.Pool.{Block, block_at, pool_of}
 use Rattle.pool_model.specs.WellFormed.{IsWellFormed}
 use Rattle.pool_model.proofs.HistoryLemmas.{legal-weaker}
 use Rattle.pool_model.proofs.OwnedLemmas.{of-self}
@@ -50,8 +51,8 @@ use Rattle.lane_engine.proofs.CopyLemmas.{copied-past, copied-read}
 use Rattle.lane_outcomes.specs.declared.registers.Held.{Held}
 use Rattle.lane_outcomes.specs.declared.outcome.Outcome.{Outcome}
 use Rattle.lane_outcomes.specs.declared.outcome.Outcome.TheVariants as outcome
-use Rattle.lane_outcomes.specs.Lane.{held_in, registers_after, writing}
-use Rattle.lane_outcomes.specs.Rows.{IsCopy, IsSpent, IsWord, MayAsk, ResizeRow, Setting}
+use Rattle.lane_outcomes.specs.Lane.{Position, held_in, registers_after, writing}
+use Rattle.lane_outcomes.specs.Rows.{IsCopy, IsSpent, IsWord, MayAsk, Moment, ResizeRow, Setting}
 use Rattle.lane_outcomes.specs.Standing.{OwnsHeld, setting_in}
 use Rattle.lane_steps.specs.declared.stage.Stage.TheVariants as stage
 use Rattle.lane_steps.specs.Lanes.{IsLane}
@@ -73,7 +74,7 @@ pub record IsOnward (e f : ErrandFields) (before after : List Event) : Type 0 wh
   pub same_geometry : f.geometry ≡ e.geometry
   pub at_limit : e.turns ≡ e.geometry.turn_limit → f.turns ≡ f.geometry.turn_limit
 
-onward-none : (e : ErrandFields) (events : List Event) → IsOnward e e events events
+pub onward-none : (e : ErrandFields) (events : List Event) → IsOnward e e events events
 onward-none e events = record {
   rest = [];
   sees = sym (append-nil events);
@@ -83,7 +84,7 @@ onward-none e events = record {
   at_limit = λ is. is;
 }
 
-onward-then :
+pub onward-then :
     (e f g : ErrandFields) (one two three : List Event) → IsOnward e f one two → IsOnward f g two three → IsOnward e g one three
 onward-then e f g one two three a b = record {
   rest = a.rest ++ b.rest;
@@ -104,7 +105,7 @@ onward-begun e f call events begun = record {
   at_limit = λ is. begun.at_limit is ∙ ap (λ (g : Geometry). g.turn_limit) (sym begun.same_geometry);
 }
 
-onward-step : (e f : ErrandFields) (before after : List Event) (answer : Progress) → IsMoment e f before after answer → IsOnward e f before after
+pub onward-step : (e f : ErrandFields) (before after : List Event) (answer : Progress) → IsMoment e f before after answer → IsOnward e f before after
 onward-step e f before after answer moment =
     let moved = moved-on e f before after answer (settled-of e f before after answer moment) in
     record {
@@ -116,14 +117,14 @@ onward-step e f before after answer moment =
       at_limit = λ is. moved.at_limit is ∙ ap (λ (g : Geometry). g.turn_limit) (sym moved.same_geometry);
     }
 
-onward-steps : (steps : ℕ) (e f : ErrandFields) (before after : List Event) → StepsOn e before steps f after → IsOnward e f before after
+pub onward-steps : (steps : ℕ) (e f : ErrandFields) (before after : List Event) → StepsOn e before steps f after → IsOnward e f before after
 onward-steps zero e f before after on =
     subst (λ (d : ErrandFields). IsOnward e d before after) (sym on.0) (subst (λ h. IsOnward e e before h) (sym on.1) (onward-none e before))
 onward-steps (suc steps) e f before after (last, sight, answer, on, moment, busy) =
     onward-then e last f before sight after (onward-steps steps e last before sight on) (onward-step last f sight after answer moment)
 
 -- so has the caller of a pass by a whole call
-call-onward :
+pub call-onward :
     (h : Heap) (p q : Pass) (call : Call) (steps : ℕ) (answer : Reply) → IsAtRest h p → OwnsFor p call → HasCalled p call steps answer q
     → IsOnward p.errand q.errand (seen p) (seen q)
 call-onward h p q call steps answer rests owned called =
@@ -135,7 +136,7 @@ call-onward h p q call steps answer rests owned called =
     (onward-step called.last q.errand called.sight (seen q) (progress.Done answer) called.moment)
 
 -- which events a call that answered so has added
-ended-as :
+pub ended-as :
     (caller : ℕ) (call : Call) (answer : Reply) (events : List Event) (end : Ended) → HasEnded caller call answer events
     → end_of call answer ≡ Some end → EventsOf caller end events
 ended-as caller call answer events end ended is =
@@ -151,7 +152,7 @@ below-both i m n one two =
     ]
 
 -- calls, and then others
-leads-split :
+pub leads-split :
     {S : Type 0} (called : S → Call → Reply → S → Type 0) (s u : S) (made more : List Made) → LeadsBy called s (made ++ more) u
     → (t : S) × LeadsBy called s made t × LeadsBy called t more u
 leads-split called s u [] more leads = (s, refl, leads)
@@ -162,6 +163,36 @@ leads-split called s u (m ∷ made) more (t, one, leads) =
 abbrev pub value_of : List ℕ → ℕ → ℕ
 value_of words i = slice_index_or words i 0
 
+-- a live block has all its words
+pub contents-long :
+    (g : Geometry) (events : List Event) (place : ℕ) (block : Block) → IsLegal g events → block_at place (pool_of events) ≡ Some block
+    → length block.contents ≡ usable_words block.need
+contents-long g events place block legal live =
+    (every-found (IsWellFormed g) place (pool_of events) block (sound-of g events (legal-weaker g events legal)).each live).full
+
+-- words of a held block as it was at a moment, and 0 behind them
+pub copy-of :
+    (setting : Setting) (position : Position) (held : Held) (block : Block) (words : ℕ) (found : List ℕ) (moment : Moment setting position.done)
+    → block_at held.place (pool_of moment.before) ≡ Some block → length block.contents ≡ held.words → length found ≡ min held.words words
+    → ((j : ℕ) → 0 ≤ j → j < 0 + words → j < length found → IsWord (slice_index_or block.contents j None) (value_of found j))
+    → IsCopy setting position held words (value_of found)
+copy-of setting position held block words found moment live size all each = record {
+  moment = moment;
+  block = block;
+  live = live;
+  each = λ i inside.
+      elim (cases_lt i held.words) [
+        | inl below ↦
+            let found_here : i < length found = subst (λ n. i < n) (sym all) (below-both i held.words words below inside) in
+            subst (λ w. IsWord w (value_of found i)) (get_or_default block.contents i None (Some 0) (omega (arith, below, size)))
+            (each i (omega arith) (omega (arith, inside)) found_here)
+        | inr past ↦
+            let short : length found ≤ held.words = subst (λ n. n ≤ held.words) (sym all) (min-le_left held.words words) in
+            let none : slice_index_or block.contents i (Some 0) ≡ Some 0 = get_or_past block.contents i (Some 0) (omega (arith, past, size)) in
+            subst (λ w. IsWord w (value_of found i)) (sym none) (get_or_past found i 0 (omega (arith, short, past)))
+      ];
+}
+
 module _ (h : Heap) (p : Pass) (at : ℕ) (block : Block) where
   -- since the pass stood so its caller has added these events, and its block at this place is as it was
   pub record HasKept (t : Pass) (added : List Event) : Type 0 where
@@ -171,7 +202,7 @@ module _ (h : Heap) (p : Pass) (at : ℕ) (block : Block) where
     pub still : owned_in t at ≡ Some block
 
   -- it keeps it through a call that leaves it
-  kept-call :
+  pub kept-call :
       (t u : Pass) (added : List Event) (call : Call) (steps : ℕ) (answer : Reply) (k : HasKept t added) → OwnsFor t call → IsAtRest h u
       → (called : HasCalled t call steps answer u) → owned_in u at ≡ owned_in t at → HasKept u (added ++ called.added)
   kept-call t u added call steps answer k owned rests called same =
@@ -188,7 +219,7 @@ module _ (h : Heap) (p : Pass) (at : ℕ) (block : Block) where
       }
 
   -- a word of another block is written
-  kept-write :
+  pub kept-write :
       (t u : Pass) (added : List Event) (place : ℕ) (need : Need) (i v : ℕ) → HasKept t added → at ≢ place
       → WholeAt h t (write place need i v) reply.Wrote u → HasKept u (added ++ Write p.errand.caller place i v ∷ [])
   kept-write t u added place need i v k differ (made, owned, rests) =
@@ -202,7 +233,7 @@ module _ (h : Heap) (p : Pass) (at : ℕ) (block : Block) where
       (kept-call t u added call one.0 reply.Wrote k owned rests called (changed.others at differ))
 
   -- one of its own words is read: it is what the block holds there
-  kept-read :
+  pub kept-read :
       (t u : Pass) (added : List Event) (need : Need) (i word : ℕ) → HasKept t added → WholeAt h t (read at need i) (reply.Word word) u
       → HasKept u added × IsWord (slice_index_or block.contents i None) word
   kept-read t u added need i word k (made, owned, rests) =
@@ -231,14 +262,14 @@ module _ (h : Heap) (p : Pass) (at : ℕ) (block : Block) where
 
   module _ (from_need : Need) (place : ℕ) (need : Need) (differ : at ≢ place) (words : List ℕ) where
     -- some words are copied, from word i on
-    abbrev Copied : ℕ → ℕ → List Made
+    abbrev pub Copied : ℕ → ℕ → List Made
     Copied i n = flat_map (copied_word at from_need place need words) (range_with_len i n)
 
-    abbrev Written : ℕ → ℕ → List Event
+    abbrev pub Written : ℕ → ℕ → List Event
     Written i n = map (λ j. Write p.errand.caller place j (value_of words j)) (range_with_len i n)
 
     -- these words are what the block holds
-    abbrev AreWords : ℕ → ℕ → Type 0
+    abbrev pub AreWords : ℕ → ℕ → Type 0
     AreWords i n = (j : ℕ) → i ≤ j → j < i + n → j < length words → IsWord (slice_index_or block.contents j None) (value_of words j)
 
     -- one word is copied
@@ -268,7 +299,7 @@ module _ (h : Heap) (p : Pass) (at : ℕ) (block : Block) where
         ]
 
     -- and then the others
-    copy-walk :
+    pub copy-walk :
         (n i : ℕ) (t u : Pass) (added : List Event) → HasKept t added → LeadsBy (WholeAt h) t (Copied i n) u
         → HasKept u (added ++ Written i n) × AreWords i n
     copy-walk zero i t u added k same = (
@@ -417,35 +448,16 @@ module _ (h : Heap) (operations rest : List Op) (results : List Outcome) (regist
       mine = ap (if_of p.errand.caller) owns.live ∙ of-self p.errand.caller block owns.owned
 
       contents-size : length block.contents ≡ held.words
-      contents-size =
-          let formed : IsWellFormed h.layout block =
-          every-found (IsWellFormed h.layout) held.place (pool_of (seen p)) block
-          (sound-of h.layout (seen p) (legal-weaker h.layout (seen p) rests.0.served.legal)).each owns.live in
-          formed.full ∙ sym owns.words_are
+      contents-size = contents-long h.layout (seen p) held.place block rests.0.served.legal owns.live ∙ sym owns.words_are
 
       -- each word that is written is one of the held block, or 0
       copied-so :
           IsOnward p.errand q.errand (seen p) (seen q)
           → ((j : ℕ) → 0 ≤ j → j < 0 + words → j < length found → IsWord (slice_index_or block.contents j None) (value_of found j))
           → IsCopy setting_now lane.position held words (value_of found)
-      copied-so on each = record {
-        moment = record { before = seen p; begins = (on.rest, on.sees); own_done = between.2 };
-        block = block;
-        live = owns.live;
-        each = λ i inside.
-            elim (cases_lt i held.words) [
-              | inl below ↦
-                  let found_here : i < length found = subst (λ n. i < n) (sym all) (below-both i held.words words below inside) in
-                  subst (λ w. IsWord w (value_of found i))
-                  (get_or_default block.contents i None (Some 0) (omega (arith, below, contents-size)))
-                  (each i (omega arith) (omega (arith, inside)) found_here)
-              | inr past ↦
-                  let short : length found ≤ held.words = subst (λ n. n ≤ held.words) (sym all) (min-le_left held.words words) in
-                  let none : slice_index_or block.contents i (Some 0) ≡ Some 0 =
-                  get_or_past block.contents i (Some 0) (omega (arith, past, contents-size)) in
-                  subst (λ w. IsWord w (value_of found i)) (sym none) (get_or_past found i 0 (omega (arith, short, past)))
-            ];
-      }
+      copied-so on each =
+          copy-of setting_now lane.position held block words found
+          (record { before = seen p; begins = (on.rest, on.sees); own_done = between.2 }) owns.live contents-size all each
 
       -- the allocation made steps, and gave a block that is none of those that the lane had
       given-steps : (t : Pass) → MadeByPass p (alloc need) (reply.Given place (need_of need)) t

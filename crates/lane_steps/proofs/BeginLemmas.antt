@@ -117,7 +117,7 @@ IsSkipped registers (op.Put r shelf) = held_in registers r ≡ None
 IsSkipped registers (op.Take r shelf) = (held : Held) × (held_in registers r ≡ Some held)
 IsSkipped registers (op.Resize r need) = held_in registers r ≡ None
 
-skip-row :
+pub skip-row :
     (setting : Setting) (position : Position) (operation : Op) → IsSkipped position.registers operation
     → FitsRow setting position operation outcome.Skipped []
 skip-row setting position (op.Alloc r need v) is = subst (λ h. AllocRow setting position need v h outcome.Skipped []) (sym is.1) refl

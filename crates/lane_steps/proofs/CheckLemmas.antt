@@ -100,7 +100,7 @@ summed-more g caller before after held next total e f word added seen legal owns
     }
 
 -- with all words it is the block's sum
-zip-of :
+pub zip-of :
     (contents : List (Option ℕ)) (words : List ℕ) → length contents ≡ length words
     → ((i : ℕ) → i < length words → IsWord (slice_index_or contents i None) (slice_index_or words i 0)) → AllZip IsWord contents words
 zip-of [] [] same each = tt

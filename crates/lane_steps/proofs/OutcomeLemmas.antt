@@ -137,7 +137,7 @@ position-size g caller events e operations registers results at lane =
     ∙ length-replicate {A = Option Held} REGISTERS None
 
 -- a lane that is spent has begun all turns
-spent-still :
+pub spent-still :
     (spent : Bool) (result : Outcome) (all : Type 0) → (spent ≡ true → all) → (result ≡ outcome.Spent → all) → spent_after spent result ≡ true → all
 spent-still spent outcome.Spent all before now is = now refl
 spent-still spent result all before now is = before is

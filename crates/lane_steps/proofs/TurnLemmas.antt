@@ -58,14 +58,14 @@ looks-none : (caller by class count : ℕ) → answered_in caller (looks by clas
 looks-none caller by class zero = refl
 looks-none caller by class (suc count) = answered-cons caller (Looked by class) (looks by class count) ∙ ap (λ n. 0 + n) (looks-none caller by class count)
 
-writes-none : (caller count first by place : ℕ) (value : ℕ → ℕ) → answered_in caller (writes_of by place value first count) ≡ 0
+pub writes-none : (caller count first by place : ℕ) (value : ℕ → ℕ) → answered_in caller (writes_of by place value first count) ≡ 0
 writes-none caller zero first by place value = refl
 writes-none caller (suc count) first by place value =
     answered-cons caller (Write by place first (value first)) (writes_of by place value (first + 1) count)
     ∙ ap (λ n. 0 + n) (writes-none caller count (first + 1) by place value)
 
 -- which needs are small
-small-need : (need : ℕ) → is_small (need_of need) ≡ nat_le need SMALL_MOST
+pub small-need : (need : ℕ) → is_small (need_of need) ≡ nat_le need SMALL_MOST
 unfolding need_of
 small-need need =
     elim (cases_Bool (nat_le need SMALL_MOST)) [
@@ -86,7 +86,7 @@ given-one caller need place = let one = own-answer caller (nat_le need SMALL_MOS
 refused-one : (caller need : ℕ) → answered_in caller (Refuse caller need ∷ []) ≡ one_if (nat_le need SMALL_MOST)
 refused-one caller need = let one = own-answer caller (nat_le need SMALL_MOST) in let all = answered-cons caller (Refuse caller need) [] in omega arith
 
-giving-count :
+pub giving-count :
     (caller need place : ℕ) (n : Need) (piece : List Event) → IsGiving caller need place n piece
     → answered_in caller piece ≡ one_if (nat_le need SMALL_MOST)
 giving-count caller need place (Small class) piece giving =
@@ -120,17 +120,17 @@ spent-count setting position need piece true row = ap (answered_in setting.calle
 spent-count setting position need piece false row = spending-count setting.caller (need_of need) piece row.0
 
 -- a piece that has so many answers
-piece-count :
+pub piece-count :
     (caller : ℕ) (done piece : List Event) (answered more : ℕ) → answered ≡ answered_in caller done → answered_in caller piece ≡ more
     → answered + more ≡ answered_in caller (done ++ piece)
 piece-count caller done piece answered more so_far is = let all = answered-append caller done piece in omega arith
 
-piece-none :
+pub piece-none :
     (caller : ℕ) (done piece : List Event) (answered : ℕ) → answered ≡ answered_in caller done → answered_in caller piece ≡ 0
     → answered ≡ answered_in caller (done ++ piece)
 piece-none caller done piece answered so_far is = let all = answered-append caller done piece in omega arith
 
-counted : (b : Bool) (answered : ℕ) → (if b then suc answered else answered) ≡ answered + one_if b
+pub counted : (b : Bool) (answered : ℕ) → (if b then suc answered else answered) ≡ answered + one_if b
 counted true answered = omega arith
 counted false answered = omega arith
 

@@ -5,6 +5,8 @@
 #[cfg(test)]
 mod bounds;
 #[cfg(test)]
+mod caches;
+#[cfg(test)]
 mod censuses;
 #[cfg(test)]
 mod contests;
@@ -34,6 +36,8 @@ mod running;
 mod schedules;
 #[cfg(test)]
 mod statuses;
+#[cfg(test)]
+mod stores;
 #[cfg(test)]
 mod texts;
 #[cfg(test)]

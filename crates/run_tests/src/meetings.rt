@@ -99,28 +99,32 @@ fn run_meeting<R: Threads + Wait + AllocGlobal + Sync>(
     Ok((told, sink, gate.missed.get().is_none()))
 }
 
-/// All lanes meet, and the run has its report.
+/// All lanes of a run by this command meet, and it has its report and these lines behind it.
 fn meets<R: Threads + Wait + Abort + AllocGlobal + Sync>(
     rt: &R,
+    line: &str,
     heap: &str,
     lanes: usize,
+    more: &str,
 ) -> Result<(), Fail> {
     let trace = short_lanes(rt.alloc(), heap, lanes)?;
-    let (told, sink, all_met) = run_meeting(rt, "replay", trace.as_str(), lanes)?;
+    let (told, sink, all_met) = run_meeting(rt, line, trace.as_str(), lanes)?;
     assert_eq!(rt;
         (told, all_met),
         ((REPORTED, Left::Shared), true),
-        "{lanes} lanes"
+        "{line}: {lanes} lanes"
     );
-    let report = short_report(rt.alloc(), heap, lanes)?;
-    assert_eq!(rt; sink.bytes(), report.as_bytes(), "{lanes} lanes");
+    let mut report = short_report(rt.alloc(), heap, lanes)?;
+    report.push_str(more)?;
+    assert_eq!(rt; sink.bytes(), report.as_bytes(), "{line}: {lanes} lanes");
     Ok(())
 }
 
 #[test]
 fn all_lanes_are_on_their_way_at_once(rt: HostRuntime) -> Result<(), Fail> {
-    meets(&rt, "4 2 0", 2)?;
-    meets(&rt, "64 1 0", 16)
+    meets(&rt, "replay", "4 2 0", 2, "")?;
+    meets(&rt, "replay", "64 1 0", 16, "")?;
+    meets(&rt, "cache 1", "4 2 0", 2, "hits 0\n")
 }
 
 /// A pipeline ends so, and its senders meet, where there are some.

@@ -2,3 +2,4 @@ mod DrivenLemmas
 mod RunLemmas
 mod SerialLemmas
 mod CensusLemmas
+mod CachedLemmas

@@ -1,7 +1,8 @@
 -- What the program answers to a command and its input.
-use Rattle.std.specs.Prelude.{ℕ, ◌≡◌, ◌≢◌, ◌<◌, ◌⊎◌, ◌∷◌, ◌++◌, List, [], Option, None, Some, true, codes, length, Contains}
+use Rattle.std.specs.Prelude.{ℕ, ◌≡◌, ◌≢◌, ◌<◌, ◌⊎◌, ◌∷◌, ◌++◌, List, [], Option, None, Some, true, codes, length, sum, Contains}
 use Rattle.std.specs.List.{slice_index_or}
 use Rattle.std.specs.Fmt.{decimal}
+use Rattle.pool_model.specs.declared.event.Event.{Event}
 use Rattle.pool_model.specs.Legal.{IsLegal}
 use Rattle.trace_text.specs.declared.trace.Trace.{Trace}
 use Rattle.trace_text.specs.Reading.{IsRefused, Read, reading_of}
@@ -11,33 +12,44 @@ use Rattle.lane_outcomes.specs.declared.outcome.Outcome.TheVariants.{Spent}
 use Rattle.lane_outcomes.specs.Fits.{OutcomesFit}
 use Rattle.lane_outcomes.specs.Passed.{AllPassed}
 use Rattle.lane_outcomes.specs.Report.{report_of}
+use Rattle.cached_outcomes.specs.Cached.{CachedOutcomesFit}
 use Rattle.roomy_traces.specs.Roomy.{IsRoomy}
 use Rattle.roomy_traces.specs.Serial.{serial_report_of}
 use Rattle.heap_census.specs.declared.census.Census.{Census as Counts}
 use Rattle.workloads.specs.declared.kind.Kind.TheVariants.{Pipeline}
 use Rattle.trace_commands.specs.Censuses.{IsCensusOf, census_text}
-use Rattle.trace_commands.specs.Closings.{IsDrivenIn, IsSharedIn, geometry_of, history_of, lost_of, steps_of, turns_of}
+use Rattle.trace_commands.specs.Closings.{IsDrivenIn, IsSharedIn, IsSharedThroughIn, geometry_of, history_of, lost_of, steps_of, turns_of}
 use Rattle.command_parts.specs.Command.{has_input}
 use Rattle.command_parts.specs.Summaries.{serial_summary_of, summary_of, trace_of}
 use Rattle.trace_commands.specs.Pipes.{IsPiped}
+use Rattle.trace_commands.specs.Stored.{IsStoreTold}
 use Rattle.trace_commands.specs.declared.closing.Closing.{Closing}
 use Rattle.command_parts.specs.declared.command.Command.{Command}
-use Rattle.command_parts.specs.declared.command.Command.TheVariants.{Replay, Schedule, Census, Make, Print, Pipe}
+use Rattle.command_parts.specs.declared.command.Command.TheVariants.{Replay, Schedule, Census, Make, Print, Pipe, Store, Cache}
 use Rattle.command_parts.specs.declared.command.Workload.{Workload}
 use Rattle.command_parts.specs.declared.status.TheConstants.{REPORTED, REFUSED}
 
--- the lanes of a trace ran to their ends on this heap, which is the one that the trace asks for: each lane's outcomes
--- fit its operations and the one history of the heap, which is legal; a lane that was told to have no turn left has itself
--- taken as many as the limit; each operation passed the gate; and the heap was kept so, by a machine that made the steps in
--- an order, or by threads
-pub record IsRun (passed : ℕ → ℕ → Type 0) (trace : Trace) (kept : Closing → List (List Outcome) → Type 0) (closing : Closing) (outcomes : List (List Outcome)) : Type 0 where
+-- the lanes of a trace ran to their ends on this heap, which is the one that the trace asks for: by this rule each lane's
+-- outcomes fit its operations and the one history of the heap, which is legal; a lane that was told to have no turn left has
+-- itself taken as many as the limit; each operation passed the gate; and the heap was kept so, by a machine that made the steps
+-- in an order, or by threads
+pub record IsRunBy (fits : List Event → ℕ → List (List Outcome) → Type 0) (passed : ℕ → ℕ → Type 0) (trace : Trace) (kept : Closing → List (List Outcome) → Type 0) (closing : Closing) (outcomes : List (List Outcome)) : Type 0 where
   pub heap : geometry_of closing ≡ trace.heap
-  pub fit : OutcomesFit trace.heap (history_of closing) (lost_of closing) trace.lanes outcomes
+  pub fit : fits (history_of closing) (lost_of closing) outcomes
   pub legal : IsLegal trace.heap (history_of closing)
   pub spent :
       (lane : ℕ) → lane < length trace.lanes → Contains (slice_index_or outcomes lane []) Spent → turns_of closing lane ≡ trace.heap.turn_limit
   pub all_passed : AllPassed passed trace.lanes
   pub kept_so : kept closing outcomes
+
+-- the lanes ran on the heap itself, or each through a cache of its own of this depth, which served so many of its allocations
+abbrev pub IsRun : (ℕ → ℕ → Type 0) → Trace → (Closing → List (List Outcome) → Type 0) → Closing → List (List Outcome) → Type 0
+IsRun passed trace = IsRunBy (λ history lost outcomes. OutcomesFit trace.heap history lost trace.lanes outcomes) passed trace
+
+abbrev pub IsCachedRun : (ℕ → ℕ → Type 0) → Trace → ℕ → List ℕ → Closing → List (List Outcome) → Type 0
+IsCachedRun passed trace depth hits =
+    IsRunBy (λ history lost outcomes. CachedOutcomesFit trace.heap history lost depth trace.lanes outcomes (sum hits)) passed trace
+    (IsSharedThroughIn trace depth hits)
 
 -- a trace was run, and the text tells this of its outcomes and of the heap that it left; where the trace is roomy, the text is
 -- the one that is computed lane by lane, whatever the order of the steps was
@@ -62,6 +74,22 @@ counted_text trace counts outcomes closing = report_of trace outcomes (history_o
 abbrev pub make_text : Workload → List (List Outcome) → Closing → List ℕ
 make_text workload outcomes closing = summary_of workload outcomes (history_of closing)
 
+-- the line of how many allocations caches have served, and what `cache` tells
+abbrev pub hits_line : List ℕ → List ℕ
+hits_line hits = line (codes "hits" ∷ decimal (sum hits) ∷ [])
+
+abbrev pub cache_text : Trace → List (List Outcome) → List ℕ → Closing → List ℕ
+cache_text trace outcomes hits closing = report_of trace outcomes (history_of closing) ++ hits_line hits
+
+-- a trace was run through caches of this depth, and the text tells this of its outcomes and of what the caches served
+pub record IsCacheTold (passed : ℕ → ℕ → Type 0) (trace : Trace) (depth : ℕ) (closed : Option Closing) (text : List ℕ) : Type 0 where
+  pub outcomes : List (List Outcome)
+  pub hits : List ℕ
+  pub closing : Closing
+  pub closed_is : closed ≡ Some closing
+  pub run : IsCachedRun passed trace depth hits closing outcomes
+  pub text_is : text ≡ cache_text trace outcomes hits closing
+
 -- what they tell of a roomy trace: the machine's steps and the heap's census are still those of the run
 abbrev pub serial_replay : Trace → Closing → List ℕ
 serial_replay trace closing = serial_report_of trace
@@ -82,7 +110,8 @@ HasOneSummary workload text = workload.kind ≢ Pipeline → text ≡ serial_sum
 
 -- what each command writes where nothing is refused: `replay` runs the trace that the bytes are read as on threads,
 -- `schedule` on a machine in the order of its order runs, `census` on threads and counts the closed heap, and `make` the trace
--- of its workload on threads; `print` runs none; `pipe` runs a pipeline on threads
+-- of its workload on threads; `print` runs none; `pipe` runs a pipeline on threads, and `store` the script of a store on a heap of one caller; `cache` runs the trace
+-- that the bytes are read as on threads, each lane through a cache
 abbrev pub IsReport : (ℕ → ℕ → Type 0) → Command → List ℕ → Option Closing → List ℕ → Type 0
 IsReport passed Replay bytes closed text =
     (trace : Trace) × (reading_of bytes ≡ Read trace) × IsTold passed trace (IsSharedIn trace) (replay_text trace) (serial_replay trace) closed text
@@ -96,6 +125,8 @@ IsReport passed (Make workload) bytes closed text =
     IsTold passed (trace_of workload) (IsSharedIn (trace_of workload)) (make_text workload) (serial_make workload) closed text × HasOneSummary workload text
 IsReport passed (Print workload) bytes closed text = (closed ≡ None) × (text ≡ canonical_of (trace_of workload))
 IsReport passed (Pipe piping) bytes closed text = IsPiped passed piping closed text
+IsReport passed (Store rounds) bytes closed text = IsStoreTold rounds closed text
+IsReport passed (Cache depth) bytes closed text = (trace : Trace) × (reading_of bytes ≡ Read trace) × IsCacheTold passed trace depth closed text
 
 -- the line that tells where a text is refused, and for which cause
 abbrev pub refusal_line : ℕ → ℕ → List ℕ

@@ -13,6 +13,7 @@ use Rattle.trace_text.specs.declared.trace.Trace.{Trace}
 use Rattle.lane_outcomes.specs.declared.outcome.Outcome.{Outcome}
 use Rattle.lane_runner.specs.Driven.{IsDriven, lost_by_all}
 use Rattle.lane_runner.specs.Shared.{IsShared}
+use Rattle.cached_runner.specs.Shared.{IsSharedThrough}
 use Rattle.trace_commands.specs.declared.closing.Closing.{Closing}
 use Rattle.live_heap.specs.Endings.{ClosedFields}
 use Rattle.trace_commands.specs.declared.closing.Closing.TheVariants.{Plain, Stepped, Ran, Piped}
@@ -64,6 +65,13 @@ IsSharedIn trace (Plain pool) outcomes = ⊥
 IsSharedIn trace (Stepped core) outcomes = ⊥
 IsSharedIn trace (Ran closed) outcomes = IsShared trace closed outcomes
 IsSharedIn trace (Piped run) outcomes = ⊥
+
+-- so they did, but each lane through a cache of its own of this depth, which served so many of its allocations and was emptied at the lane's end
+abbrev pub IsSharedThroughIn : Trace → ℕ → List ℕ → Closing → List (List Outcome) → Type 0
+IsSharedThroughIn trace depth hits (Plain pool) outcomes = ⊥
+IsSharedThroughIn trace depth hits (Stepped core) outcomes = ⊥
+IsSharedThroughIn trace depth hits (Ran closed) outcomes = IsSharedThrough trace depth closed outcomes hits
+IsSharedThroughIn trace depth hits (Piped run) outcomes = ⊥
 
 -- what all callers of a machine cleared, as a whole number
 abbrev pub cleared_of : ErrandFields → ℕ

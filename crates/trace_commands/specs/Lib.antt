@@ -3,3 +3,4 @@ pub mod Answers
 pub mod Censuses
 pub mod Runs
 pub mod Pipes
+pub mod Stored

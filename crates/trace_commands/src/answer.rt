@@ -10,9 +10,11 @@ ghost use Rattle.command_parts.specs.Command.{HasRanges, has_input};
 ghost use Rattle.command_parts.specs.Input.{TakesMore, TakesSome};
 ghost use Rattle.trace_commands.specs.Runs.{ReadsInVain, TakesFor};
 
+use crate::cached::cached;
 use crate::closing::Closing;
 use crate::made::{make, print};
 use crate::piped::pipe;
+use crate::stored::store;
 use crate::told::{Told, counted, replay, schedule};
 use command_parts::command::Command;
 use command_parts::input::read_input;
@@ -72,6 +74,7 @@ fn told_of<R: Threads + Wait + Sync, G: Gate + Sync>(
     trace: Trace,
 ) -> Result<Told, AllocError>
     requires input { has_input command ≡ true }
+    requires ranges { HasRanges command }
     requires trace { IsTrace trace }
     ensures { IfOk result (λ told. (bytes : List ℕ) → reading_of bytes ≡ Read trace
         → IsReport (G.passed gate.now) command bytes (Some told.closing) told.text.items) }
@@ -80,7 +83,10 @@ fn told_of<R: Threads + Wait + Sync, G: Gate + Sync>(
         Command::Replay => replay(rt, alloc, gate, &trace),
         Command::Schedule => schedule(alloc, gate, &trace),
         Command::Census => counted(rt, alloc, gate, &trace),
-        Command::Make(_) | Command::Print(_) | Command::Pipe(_) => unreachable!(),
+        Command::Cache(depth) => cached(rt, alloc, gate, &trace, depth),
+        Command::Make(_) | Command::Print(_) | Command::Pipe(_) | Command::Store(_) => {
+            unreachable!()
+        }
     }
 }
 
@@ -93,6 +99,7 @@ fn answer_to_input<R: Threads + Wait + Sync, G: Gate + Sync>(
     bytes: &[u8],
 ) -> Result<Answer, AllocError>
     requires input { has_input command ≡ true }
+    requires ranges { HasRanges command }
     requires few { length bytes.now ≤ MAX_INPUT }
     ensures { IfOk result (λ answer.
         IsAnswerTo (G.passed gate.now) command bytes.now answer.status answer.closed answer.text.items) }
@@ -133,7 +140,13 @@ fn answer_alone<R: Threads + Wait + Sync, G: Gate + Sync>(
             let Told { text, closing } = pipe(rt, alloc, gate, piping)?;
             Ok(reported(text, Some(closing)))
         }
-        Command::Replay | Command::Schedule | Command::Census => unreachable!(),
+        Command::Store(rounds) => {
+            let Told { text, closing } = store(rt, alloc, rounds)?;
+            Ok(reported(text, Some(closing)))
+        }
+        Command::Replay | Command::Schedule | Command::Census | Command::Cache(_) => {
+            unreachable!()
+        }
     }
 }
 
@@ -143,7 +156,7 @@ fn has_input(command: Command) -> bool
 {
     matches!(
         command,
-        Command::Replay | Command::Schedule | Command::Census
+        Command::Replay | Command::Schedule | Command::Census | Command::Cache(_)
     )
 }
 

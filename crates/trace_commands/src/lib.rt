@@ -5,6 +5,7 @@
 #![tactic(auto)]
 
 mod answer;
+mod cached;
 mod census;
 pub mod closing;
 pub mod driven;
@@ -12,5 +13,6 @@ mod made;
 mod piped;
 pub mod run;
 mod steps;
+mod stored;
 mod threaded;
 pub mod told;

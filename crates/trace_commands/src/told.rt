@@ -6,6 +6,7 @@ ghost use Rattle.pool_model.specs.Legal.{IsLegal};
 ghost use Rattle.trace_text.specs.Traces.{IsTrace};
 ghost use Rattle.lane_outcomes.specs.Fits.{OutcomesFit};
 ghost use Rattle.lane_outcomes.specs.Report.{report_of};
+ghost use Rattle.cached_outcomes.specs.Cached.{CachedOutcomesFit};
 ghost use Rattle.heap_census.specs.declared.census.Census.{Census as Counts};
 ghost use Rattle.trace_commands.specs.Answers.{IsTold, counted_text, replay_text, schedule_text, serial_counted, serial_replay, serial_schedule};
 ghost use Rattle.trace_commands.specs.Censuses.{IsCensusOf};
@@ -16,6 +17,7 @@ use crate::closing::Closing;
 use crate::driven::{DrivenRun, drive};
 use crate::steps::steps_line;
 use crate::threaded::{ThreadedRun, run_on_threads};
+use cached_outcomes::laws::live_blocks_are_counted;
 use edge_io::gate::Gate;
 use heap_census::counting::census;
 use lane_outcomes::live::live_count;
@@ -33,13 +35,21 @@ pub struct Told {
     pub closing: Closing,
 }
 
-/// The report of a trace whose lanes had these outcomes.
-fn report_on(alloc: Global, trace: &Trace, outcomes: &[Vec<Outcome>]) -> Result<Vec<u8>, AllocError>
+/// The report of a trace whose lanes had these outcomes, also through caches.
+pub fn report_on(
+    alloc: Global,
+    trace: &Trace,
+    outcomes: &[Vec<Outcome>],
+) -> Result<Vec<u8>, AllocError>
     requires { IsTrace trace.now }
-    ensures { IfOk result (λ text. (history : List Event) (lost : ℕ) → IsLegal trace.now.heap history
+    ensures alone { IfOk result (λ text. (history : List Event) (lost : ℕ) → IsLegal trace.now.heap history
         → OutcomesFit trace.now.heap history lost trace.now.lanes (map (λ lane. lane.items) outcomes.now)
         → text.items ≡ report_of trace.now (map (λ lane. lane.items) outcomes.now) history) }
+    ensures cached { IfOk result (λ text. (history : List Event) (lost depth hits : ℕ) → IsLegal trace.now.heap history
+        → CachedOutcomesFit trace.now.heap history lost depth trace.now.lanes (map (λ lane. lane.items) outcomes.now) hits
+        → text.items ≡ report_of trace.now (map (λ lane. lane.items) outcomes.now) history) }
 {
+    live_blocks_are_counted();
     let (live, words) = live_count(trace, outcomes);
     report(alloc, trace, outcomes, live, words)
 }

@@ -18,6 +18,8 @@ use Rattle.live_heap.proofs.Changes.{called-changes}
 use Rattle.live_heap.proofs.Enough.{given-enough}
 use Rattle.live_heap.proofs.Exact.{called-exact}
 use Rattle.typed_store.specs.Passings.{Reads}
+use Rattle.pool_model.specs.Counts.{is_alloc, is_free}
+use Rattle.typed_store.proofs.CountLemmas.{allocs-blind, frees-blind, refused-none, spent-none}
 use Rattle.typed_store.proofs.PassLemmas.{called-rests, reads-self}
 use Rattle.typed_store.proofs.StayLemmas.{SameFor, given-same}
 
@@ -44,13 +46,23 @@ given-to h p q words steps hand block of called held =
 -- where none is given all is as before
 pub refused-reads : (h : Heap) (p q : Pass) (words steps : ℕ) → IsOf h q → HasCalled p (alloc words) steps reply.Refused q → Reads h p q
 refused-reads h p q words steps of called = record {
-  rests = called-rests h p q (alloc words) steps reply.Refused of called (λ blocks. refl);
+  rests =
+      called-rests h p q (alloc words) steps reply.Refused of called (λ blocks. refl)
+      (λ added has. (
+        refused-none is_alloc p.errand.caller words added allocs-blind has,
+        refused-none is_free p.errand.caller words added frees-blind has,
+      ));
   same = called-changes h p q (alloc words) steps reply.Refused of called;
 }
 
 pub spent-called-reads : (h : Heap) (p q : Pass) (words steps : ℕ) → IsOf h q → HasCalled p (alloc words) steps reply.Spent q → Reads h p q
 spent-called-reads h p q words steps of called = record {
-  rests = called-rests h p q (alloc words) steps reply.Spent of called (λ blocks. refl);
+  rests =
+      called-rests h p q (alloc words) steps reply.Spent of called (λ blocks. refl)
+      (λ added has. (
+        spent-none is_alloc p.errand.caller words added allocs-blind has,
+        spent-none is_free p.errand.caller words added frees-blind has,
+      ));
   same = called-changes h p q (alloc words) steps reply.Spent of called;
 }
 

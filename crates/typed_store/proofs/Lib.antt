@@ -1,3 +1,4 @@
+pub mod CountLemmas
 pub mod LinkLemmas
 pub mod PassLemmas
 pub mod SlotLemmas

@@ -1,5 +1,5 @@
 -- What reads and writes of a store's pass leave, and what a node's block contains.
-use Rattle.std.proofs.Common.{ℕ, zero, suc, ◌≡◌, ◌<◌, List, [], ◌∷◌, Option, Some, None, length, refl, sym, ◌∙◌, ap, subst, arith, slice_index_or}
+use Rattle.std.proofs.Common.{ℕ, zero, suc, ◌≡◌, ◌<◌, List, [], ◌∷◌, Option, Some, None, count_by, length, refl, sym, ◌∙◌, ap, subst, arith, slice_index_or}
 use Rattle.std.specs.Prelude.{option_map}
 use Rattle.std.proofs.lemmas.Option.{none-some, some_pair_parts}
 use Rattle.heap_geometry.specs.Need.{least, need_of, usable_words}
@@ -24,29 +24,46 @@ use Rattle.live_heap.specs.Passes.{IsOf, Owns, seen}
 use Rattle.live_heap.proofs.Changes.{called-changes}
 use Rattle.live_heap.proofs.Exact.{called-exact}
 use Rattle.typed_store.specs.Nodes.{node_at, node_of}
+use Rattle.call_events.specs.Ends.{HasEnded}
+use Rattle.pool_model.specs.declared.event.Event.{Event}
+use Rattle.pool_model.specs.Counts.{is_alloc, is_free}
 use Rattle.typed_store.specs.Passings.{Reads, Rests}
+use Rattle.typed_store.proofs.CountLemmas.{allocs-blind, counts-on, frees-blind, reads-none, writes-none}
+
+-- a call neither gives a block nor frees one
+abbrev pub IsCalm : ℕ → Call → Reply → Type 0
+IsCalm k call answer = (added : List Event) → HasEnded k call answer added → (count_by is_alloc added ≡ 0) × (count_by is_free added ≡ 0)
 
 -- a call that leaves the hand
 pub called-rests :
     (h : Heap) (p q : Pass) (call : Call) (steps : ℕ) (answer : Reply) → IsOf h q → HasCalled p call steps answer q
-    → ((blocks : List Block) → ChangesHand call answer blocks blocks) → Rests h p q
-called-rests h p q call steps answer of called same = record {
+    → ((blocks : List Block) → ChangesHand call answer blocks blocks) → IsCalm p.errand.caller call answer → Rests h p q
+called-rests h p q call steps answer of called same calm = record {
   of = of;
   idle = called.idle;
   caller = called.caller;
   hand = λ blocks holds. called-exact h p q call steps answer blocks blocks of called (same blocks) holds;
+  given = omega (arith, counts-on is_alloc 0 p q call steps answer (λ added has. (calm added has).0) called);
+  freed = omega (arith, counts-on is_free 0 p q call steps answer (λ added has. (calm added has).1) called);
 }
 
 pub read-reads :
     (h : Heap) (p q : Pass) (place i word : ℕ) (need : Need) → IsOf h q → HasCalled p (read place need i) 0 (reply.Word word) q → Reads h p q
 read-reads h p q place i word need of called = record {
-  rests = called-rests h p q (read place need i) 0 (reply.Word word) of called (λ blocks. refl);
+  rests =
+      called-rests h p q (read place need i) 0 (reply.Word word) of called (λ blocks. refl)
+      (λ added has. (reads-none is_alloc p.errand.caller place i word need added has, reads-none is_free p.errand.caller place i word need added has));
   same = called-changes h p q (read place need i) 0 (reply.Word word) of called;
 }
 
 pub write-rests :
     (h : Heap) (p q : Pass) (place i v : ℕ) (need : Need) → IsOf h q → HasCalled p (write place need i v) 0 reply.Wrote q → Rests h p q
-write-rests h p q place i v need of called = called-rests h p q (write place need i v) 0 reply.Wrote of called (λ blocks. refl)
+write-rests h p q place i v need of called =
+    called-rests h p q (write place need i v) 0 reply.Wrote of called (λ blocks. refl)
+    (λ added has. (
+      writes-none is_alloc p.errand.caller place i v need added allocs-blind has,
+      writes-none is_free p.errand.caller place i v need added frees-blind has,
+    ))
 
 pub write-changes :
     (h : Heap) (p q : Pass) (place i v : ℕ) (need : Need) → IsOf h q → HasCalled p (write place need i v) 0 reply.Wrote q
@@ -54,14 +71,21 @@ pub write-changes :
 write-changes h p q place i v need of called = called-changes h p q (write place need i v) 0 reply.Wrote of called
 
 pub rests-on : (h : Heap) (p q r : Pass) → Rests h p q → Rests h q r → Rests h p r
-rests-on h p q r a b = record { of = b.of; idle = b.idle; caller = b.caller ∙ a.caller; hand = λ blocks holds. b.hand blocks (a.hand blocks holds) }
+rests-on h p q r a b = record {
+  of = b.of;
+  idle = b.idle;
+  caller = b.caller ∙ a.caller;
+  hand = λ blocks holds. b.hand blocks (a.hand blocks holds);
+  given = b.given ∙ a.given;
+  freed = b.freed ∙ a.freed;
+}
 
 pub reads-on : (h : Heap) (p q r : Pass) → Reads h p q → Reads h q r → Reads h p r
 reads-on h p q r a b = record { rests = rests-on h p q r a.rests b.rests; same = λ place. b.same place ∙ a.same place }
 
 pub reads-self : (h : Heap) (p : Pass) → IsOf h p → Rattle.errand_steps.specs.Begins.IsIdle p.errand → Reads h p p
 reads-self h p of idle =
-    record { rests = record { of = of; idle = idle; caller = refl; hand = λ blocks holds. holds }; same = λ place. refl }
+    record { rests = record { of = of; idle = idle; caller = refl; hand = λ blocks holds. holds; given = refl; freed = refl }; same = λ place. refl }
 
 -- the block of a token
 pub owned-token : (p : Pass) (token : Block) → (owns : Owns p token) → owned_in p token.place ≡ Some owns.0

@@ -129,6 +129,11 @@ spare-out slots unused slot block (chain, leads, counted) is =
       omega (arith, counted, fewer, length-set slots slot (Spare unused)),
     )
 
+-- where no slot is spare, each has a token
+pub spare-none : (slots : List Slot) → IsSpare slots 0 → length (tokens_in slots) ≡ length slots
+spare-none slots ([], leads, counted) = omega (arith, counted)
+spare-none slots (u ∷ rest, (slot, next, is, here, left), counted) = absurd (omega (arith, is))
+
 -- a slot more
 pub spare-push : (slots : List Slot) → IsSpare slots 0 → IsSpare (slots ++ Spare 0 ∷ []) (suc (length slots))
 spare-push slots ([], leads, counted) =

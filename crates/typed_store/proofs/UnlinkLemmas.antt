@@ -147,7 +147,7 @@ free-under-way h t block tries q held built of tells = record {
 pub freed-behind :
     (h : Heap) (s : Store) (q : Pass) (tries : ℕ) (popped : Popped) (t : Store) → Reads h s.pass q → IsFreed h (record s { pass = q }) tries popped t
     → IsFreed h s tries popped t
-freed-behind h s q tries Empty t reads freed = tt
+freed-behind h s q tries Empty t reads freed = rests-on h s.pass q t.pass reads.rests freed
 freed-behind h s q tries (Got key value done) t reads (slot, block, between, is, rests, tells) =
     (slot, block, between, is, rests-on h s.pass q between reads.rests rests, tells)
 

@@ -21,12 +21,13 @@ use Rattle.typed_store.specs.declared.store.Stored.{Stored}
 use Rattle.typed_store.specs.declared.store.Stored.TheVariants.{Done, Refused, Spent, Busy}
 use Rattle.typed_store.specs.Passings.{Rests}
 
--- an allocation of so many words: it was given a block, or came to this
-abbrev pub IsAnswerOf : Pass → ℕ → ℕ → Stored → Pass → Type 0
-IsAnswerOf p words tries Done q = (block : Block) × (given : Pass) × AllocTells p words tries (alloc_answer.Given block) given
-IsAnswerOf p words tries Refused q = AllocTells p words tries alloc_answer.Refused q
-IsAnswerOf p words tries Spent q = AllocTells p words tries alloc_answer.Spent q
-IsAnswerOf p words tries Busy q = AllocTells p words tries alloc_answer.Busy q
+-- an allocation of so many words: it was given a block, and behind it there are reads and writes of the store's; or it came to this
+abbrev pub IsAnswerOf : Heap → Pass → ℕ → ℕ → Stored → Pass → Type 0
+IsAnswerOf h p words tries Done q =
+    (block : Block) × (given : Pass) × AllocTells p words tries (alloc_answer.Given block) given × Rests h given q
+IsAnswerOf h p words tries Refused q = AllocTells p words tries alloc_answer.Refused q
+IsAnswerOf h p words tries Spent q = AllocTells p words tries alloc_answer.Spent q
+IsAnswerOf h p words tries Busy q = AllocTells p words tries alloc_answer.Busy q
 
 -- the call that was under way has gone on to this
 abbrev pub GoesOnTo : Pass → ℕ → Resumed → Pass → Type 0
@@ -34,21 +35,22 @@ GoesOnTo p tries answer q =
     (first : Pass) (call : Call) (made : ℕ) → IsCalling first call made p → ResumeTells first call made p tries answer q
 
 -- so it is of a call of a store that goes on: of a free, or of an allocation
-abbrev pub IsResumedAnswer : Pending → Pass → ℕ → Stored → Pass → Type 0
-IsResumedAnswer Free p tries Done q = GoesOnTo p tries resumed.Freed q
-IsResumedAnswer pending p tries Done q = (block : Block) × (given : Pass) × GoesOnTo p tries (resumed.Given block) given
-IsResumedAnswer pending p tries Refused q = GoesOnTo p tries resumed.Refused q
-IsResumedAnswer pending p tries Spent q = GoesOnTo p tries resumed.Spent q
-IsResumedAnswer pending p tries Busy q = GoesOnTo p tries resumed.Busy q
+abbrev pub IsResumedAnswer : Heap → Pending → Pass → ℕ → Stored → Pass → Type 0
+IsResumedAnswer h Free p tries Done q = GoesOnTo p tries resumed.Freed q
+IsResumedAnswer h pending p tries Done q =
+    (block : Block) × (given : Pass) × GoesOnTo p tries (resumed.Given block) given × Rests h given q
+IsResumedAnswer h pending p tries Refused q = GoesOnTo p tries resumed.Refused q
+IsResumedAnswer h pending p tries Spent q = GoesOnTo p tries resumed.Spent q
+IsResumedAnswer h pending p tries Busy q = GoesOnTo p tries resumed.Busy q
 
 -- whether a free has ended
 abbrev pub free_answer_of : Bool → FreeAnswer
 free_answer_of true = free_answer.Freed
 free_answer_of false = free_answer.Busy
 
--- a node's block was freed, behind reads and writes of the store's, and that came to this
+-- a node's block was freed, behind reads and writes of the store's, and that came to this; where there is none, nothing was freed
 abbrev pub IsFreed : Heap → Store → ℕ → Popped → Store → Type 0
-IsFreed h s tries Empty t = Unit {0}
+IsFreed h s tries Empty t = Rests h s.pass t.pass
 IsFreed h s tries (Got key value freed) t =
     (slot : ℕ) × (block : Block) × (between : Pass) × (slice_get s.slots.items slot ≡ Some (Node block)) × Rests h s.pass between
     × FreeTells between block tries (free_answer_of freed) t.pass

@@ -1,22 +1,33 @@
 -- What the store's pass may do between two changes of its blocks, and where a walk along the list stands.
-use Rattle.std.specs.Prelude.{ℕ, suc, ◌≡◌, ◌==◌, ◌⊎◌, List, [], ◌∷◌, ◌++◌, Option, Some, None, length, if◌then◌else◌}
+use Rattle.std.specs.Prelude.{ℕ, suc, ◌≡◌, ◌==◌, ◌⊎◌, List, [], ◌∷◌, ◌++◌, Option, Some, None, count_by, length, if◌then◌else◌}
+use Rattle.pool_model.specs.Counts.{is_alloc, is_free}
+use Rattle.pool_model.specs.Histories.{own}
 use Rattle.errand_steps.specs.Begins.{IsIdle}
 use Rattle.live_heap.specs.declared.block.Block.{Block}
 use Rattle.live_heap.specs.declared.heap.Heap.{Heap}
 use Rattle.live_heap.specs.declared.pass.Pass.{Pass}
 use Rattle.live_heap.specs.Contents.{OwnsSame}
 use Rattle.live_heap.specs.Holdings.{HoldsExactly}
-use Rattle.live_heap.specs.Passes.{IsOf}
+use Rattle.live_heap.specs.Passes.{IsOf, seen}
 use Rattle.typed_store.specs.declared.seeking.Sought.{Sought}
 use Rattle.typed_store.specs.Links.{Leads}
 use Rattle.typed_store.specs.Nodes.{first_with}
 
--- the pass is in no call, and holds the blocks that it held
+-- how often the caller of a pass was given a block, and how often it freed one, by the events that the pass has seen
+abbrev pub given_in : Pass → ℕ
+given_in p = count_by is_alloc (own p.errand.caller (seen p))
+
+abbrev pub freed_in : Pass → ℕ
+freed_in p = count_by is_free (own p.errand.caller (seen p))
+
+-- the pass is in no call, holds the blocks that it held, and was given and has freed none since
 pub record Rests (h : Heap) (p q : Pass) : Type 0 where
   pub of : IsOf h q
   pub idle : IsIdle q.errand
   pub caller : q.errand.caller ≡ p.errand.caller
   pub hand : (blocks : List Block) → HoldsExactly p blocks → HoldsExactly q blocks
+  pub given : given_in q ≡ given_in p
+  pub freed : freed_in q ≡ freed_in p
 
 -- and they have the words that they had
 pub record Reads (h : Heap) (p q : Pass) : Type 0 where

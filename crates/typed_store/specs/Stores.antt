@@ -34,6 +34,10 @@ HasRecords s records = AllZip (λ block words. IsRecord s.pass block words) s.re
 abbrev pub blocks_of : Store → List Block
 blocks_of s = tokens_in s.slots.items ++ s.records.items
 
+-- how many slots it has, with a node or without
+abbrev pub slot_count : Store → ℕ
+slot_count s = length s.slots.items
+
 -- it has a list and records; no slot holds a token but for a node of the list, and the other slots are chained
 pub record IsBuilt (s : Store) : Type 0 where
   pub pairs : List (ℕ × ℕ)

@@ -5,7 +5,7 @@
 #![tactic(auto)]
 
 pub mod laws;
-mod nodes;
+pub mod nodes;
 mod records;
 mod seeking;
 pub mod slot;

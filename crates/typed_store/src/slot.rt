@@ -1,6 +1,6 @@
 //! Slots: where a store keeps the tokens of its nodes.
 
-ghost use Rattle.std.specs.Prelude.{ℕ, ◌≡◌, ◌≢◌, ◌-◌, ◌+◌, ◌<◌, Option, Some, OnOk, slice_set, slice_get};
+ghost use Rattle.std.specs.Prelude.{ℕ, ◌≡◌, ◌≢◌, ◌-◌, ◌+◌, ◌<◌, Option, Some, OnOk, OnErr, length, max, slice_set, slice_get};
 ghost use Rattle.live_heap.specs.declared.block.Block.{Block};
 ghost use Rattle.pool_model.specs.Pool.{Block as PoolBlock};
 ghost use Rattle.typed_store.specs.declared.slot.Slot.TheVariants as kind;
@@ -39,6 +39,8 @@ pub(crate) fn make_room(slots: &mut Vec<Slot>, unused: &mut u64) -> Result<(), A
     ensures tokens { tokens_in slots.new.items ≡ tokens_in slots.old.items }
     ensures nodes { (owned : ℕ → Option PoolBlock) (slot : ℕ) → nodes_at owned slots.new.items slot ≡ nodes_at owned slots.old.items slot }
     ensures none { unused.old ≢ 0 → slots.new.items ≡ slots.old.items }
+    ensures many { OnOk result (length slots.new.items ≡ max (length slots.old.items) (length (tokens_in slots.old.items) + 1)) }
+    ensures err { OnErr result (slots.new.items ≡ slots.old.items) }
 {
     if *unused == 0 {
         slots.push(Slot::Spare(0))?;

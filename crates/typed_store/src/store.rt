@@ -1,6 +1,6 @@
 //! A store, and the calls on its list.
 
-ghost use Rattle.std.specs.Prelude.{ℕ, Bool, ◌≡◌, ◌≢◌, ◌≤◌, ◌<◌, ◌+◌, ◌++◌, List, [], ◌∷◌, Option, Some, IfOk, IfErr, OnErr, OnOk, Ok, length, drop, slice_get, option_map};
+ghost use Rattle.std.specs.Prelude.{ℕ, Bool, ◌≡◌, ◌≢◌, ◌≤◌, ◌<◌, ◌+◌, ◌++◌, List, [], ◌∷◌, Option, Some, IfOk, IfErr, OnErr, OnOk, Ok, length, max, drop, slice_get, option_map};
 ghost use Rattle.std.specs.Vec.{vec_capacity, vec_len};
 ghost use Rattle.heap_geometry.specs.Need.{usable_words};
 ghost use Rattle.pool_model.specs.Pool.{fresh_block};
@@ -14,8 +14,8 @@ ghost use Rattle.typed_store.specs.declared.store.Popped.TheVariants as popped;
 ghost use Rattle.typed_store.specs.declared.store.Stored.TheVariants as stored;
 ghost use Rattle.typed_store.specs.Causes.{IsAnswerOf, IsFreed, IsResumedAnswer};
 ghost use Rattle.typed_store.specs.Nodes.{first_with, nodes_at, without_first};
-ghost use Rattle.typed_store.specs.Passings.{Stands};
-ghost use Rattle.typed_store.specs.Stores.{HasList, HasRecords, IsBuilt, IsReady, IsUnderWay, Leaves, LeavesPopped, TellsPopped, blocks_of, pairs_after, records_after, with_pair, with_record};
+ghost use Rattle.typed_store.specs.Passings.{Rests, Stands};
+ghost use Rattle.typed_store.specs.Stores.{HasList, HasRecords, IsBuilt, IsReady, IsUnderWay, Leaves, LeavesPopped, TellsPopped, blocks_of, pairs_after, records_after, slot_count, with_pair, with_record};
 
 use crate::nodes::{NODE_WORDS, Node, read_node, write_node};
 use crate::records::{read_record, record_token, write_record};
@@ -91,6 +91,7 @@ impl Store {
         ensures list { HasList result [] }
         ensures records { HasRecords result [] }
         ensures pass { result.pass ≡ pass }
+        ensures slots { slot_count result ≡ 0 }
     {
         Store {
             pass,
@@ -119,7 +120,9 @@ impl Store {
             → HasList self.new (with_pair stored (key, value) pairs)) }
         ensures err { OnErr result (IsReady heap.now self.new × ((pairs : List (ℕ × ℕ)) → HasList self.old pairs → HasList self.new pairs)) }
         ensures records { (records : List (List ℕ)) → HasRecords self.old records → HasRecords self.new records }
-        ensures cause { IfOk result (λ stored. IsAnswerOf self.old.pass 3 tries stored self.new.pass) }
+        ensures cause { IfOk result (λ stored. IsAnswerOf heap.now self.old.pass 3 tries stored self.new.pass) }
+        ensures slots { OnOk result ((pairs : List (ℕ × ℕ)) → HasList self.old pairs → slot_count self.new ≡ max (slot_count self.old) (length pairs + 1)) }
+        ensures none { OnErr result (slot_count self.new ≡ slot_count self.old) }
     {
         make_room(&mut self.slots, &mut self.unused)?;
         Ok(self.ask_for_node(heap, key, value, tries))
@@ -133,7 +136,8 @@ impl Store {
         ensures left { Leaves heap.now result (pending.Pair key value) self.new }
         ensures list { (pairs : List (ℕ × ℕ)) → HasList self.old pairs → HasList self.new (with_pair result (key, value) pairs) }
         ensures records { (records : List (List ℕ)) → HasRecords self.old records → HasRecords self.new records }
-        ensures cause { IsAnswerOf self.old.pass 3 tries result self.new.pass }
+        ensures cause { IsAnswerOf heap.now self.old.pass 3 tries result self.new.pass }
+        ensures slots { slot_count self.new ≡ slot_count self.old }
     {
         match heap.alloc(&mut self.pass, NODE_WORDS, tries) {
             AllocAnswer::Given(block) => {
@@ -160,8 +164,10 @@ impl Store {
         requires built { IsBuilt self.old }
         requires room { self.old.unused ≢ 0 }
         ensures ready { IsReady heap.now self.new }
+        ensures rests { Rests heap.now self.old.pass self.new.pass }
         ensures list { (pairs : List (ℕ × ℕ)) → HasList self.old pairs → HasList self.new ((key, value) ∷ pairs) }
         ensures records { (records : List (List ℕ)) → HasRecords self.old records → HasRecords self.new records }
+        ensures slots { slot_count self.new ≡ slot_count self.old }
     {
         let node = Node {
             next: self.head,
@@ -181,6 +187,7 @@ impl Store {
         ensures list { (pairs : List (ℕ × ℕ)) → HasList self.old pairs → TellsPopped (slice_get pairs 0) result × HasList self.new (drop 1 pairs) }
         ensures records { (records : List (List ℕ)) → HasRecords self.old records → HasRecords self.new records }
         ensures cause { IsFreed heap.now self.old tries result self.new }
+        ensures slots { slot_count self.new ≡ slot_count self.old }
     {
         if self.head == 0 {
             return Popped::Empty;
@@ -204,6 +211,7 @@ impl Store {
             → TellsPopped (first_with key pairs) result × HasList self.new (without_first key pairs) }
         ensures records { (records : List (List ℕ)) → HasRecords self.old records → HasRecords self.new records }
         ensures cause { IsFreed heap.now self.old tries result self.new }
+        ensures slots { slot_count self.new ≡ slot_count self.old }
     {
         match seek(
             heap,
@@ -230,6 +238,7 @@ impl Store {
             → HasList self.new (before ++ after) }
         ensures records { (records : List (List ℕ)) → HasRecords self.old records → HasRecords self.new records }
         ensures cause { IsFreed heap.now self.old tries result self.new }
+        ensures slots { slot_count self.new ≡ slot_count self.old }
     {
         relink(heap, &mut self.pass, &self.slots, &mut self.head, &sought);
         self.count -= 1;
@@ -256,9 +265,11 @@ impl Store {
     pub fn get(&mut self, heap: &Heap, key: u64) -> Option<u64>
         requires { IsReady heap.now self.old }
         ensures ready { IsReady heap.now self.new }
+        ensures rests { Rests heap.now self.old.pass self.new.pass }
         ensures list { (pairs : List (ℕ × ℕ)) → HasList self.old pairs
             → (result ≡ option_map (λ pair. pair.1) (first_with key pairs)) × HasList self.new pairs }
         ensures records { (records : List (List ℕ)) → HasRecords self.old records → HasRecords self.new records }
+        ensures slots { slot_count self.new ≡ slot_count self.old }
     {
         match seek(
             heap,
@@ -277,9 +288,11 @@ impl Store {
     pub fn list(&mut self, alloc: Global, heap: &Heap) -> Result<Vec<(u64, u64)>, AllocError>
         requires { IsReady heap.now self.old }
         ensures ready { IsReady heap.now self.new }
+        ensures rests { Rests heap.now self.old.pass self.new.pass }
         ensures listed { IfOk result (λ listed. HasList self.old listed.items) }
         ensures list { (pairs : List (ℕ × ℕ)) → HasList self.old pairs → HasList self.new pairs }
         ensures records { (records : List (List ℕ)) → HasRecords self.old records → HasRecords self.new records }
+        ensures slots { slot_count self.new ≡ slot_count self.old }
     {
         list_pairs(
             alloc,
@@ -308,7 +321,8 @@ impl Store {
             → HasRecords self.new (with_record stored words.now records)) }
         ensures err { OnErr result (IsReady heap.now self.new × ((records : List (List ℕ)) → HasRecords self.old records → HasRecords self.new records)) }
         ensures list { (pairs : List (ℕ × ℕ)) → HasList self.old pairs → HasList self.new pairs }
-        ensures cause { IfOk result (λ stored. IsAnswerOf self.old.pass (length words.now + 1) tries stored self.new.pass) }
+        ensures cause { IfOk result (λ stored. IsAnswerOf heap.now self.old.pass (length words.now + 1) tries stored self.new.pass) }
+        ensures slots { slot_count self.new ≡ slot_count self.old }
     {
         self.records.reserve(1)?;
         Ok(self.ask_for_record(heap, words, tries))
@@ -324,7 +338,8 @@ impl Store {
         ensures left { Leaves heap.now result (pending.Record (length words.now)) self.new }
         ensures records { (records : List (List ℕ)) → HasRecords self.old records → HasRecords self.new (with_record result words.now records) }
         ensures list { (pairs : List (ℕ × ℕ)) → HasList self.old pairs → HasList self.new pairs }
-        ensures cause { IsAnswerOf self.old.pass (length words.now + 1) tries result self.new.pass }
+        ensures cause { IsAnswerOf heap.now self.old.pass (length words.now + 1) tries result self.new.pass }
+        ensures slots { slot_count self.new ≡ slot_count self.old }
     {
         let many = words.len() as u32;
         match heap.alloc(&mut self.pass, many + 1, tries) {
@@ -352,8 +367,10 @@ impl Store {
         requires room { self.old.recorded < 1000000 }
         requires reserved { vec_len self.old.records < vec_capacity self.old.records }
         ensures ready { IsReady heap.now self.new }
+        ensures rests { Rests heap.now self.old.pass self.new.pass }
         ensures records { (records : List (List ℕ)) → HasRecords self.old records → HasRecords self.new (records ++ words.now ∷ []) }
         ensures list { (pairs : List (ℕ × ℕ)) → HasList self.old pairs → HasList self.new pairs }
+        ensures slots { slot_count self.new ≡ slot_count self.old }
     {
         write_record(heap, &mut self.pass, &block, words);
         self.records.push_reserved(block);
@@ -369,10 +386,12 @@ impl Store {
     ) -> Result<Option<Vec<u64>>, AllocError>
         requires { IsReady heap.now self.old }
         ensures ready { IsReady heap.now self.new }
+        ensures rests { Rests heap.now self.old.pass self.new.pass }
         ensures found { IfOk result (λ found. (records : List (List ℕ)) → HasRecords self.old records
             → option_map (λ words. words.items) found ≡ slice_get records number) }
         ensures records { (records : List (List ℕ)) → HasRecords self.old records → HasRecords self.new records }
         ensures list { (pairs : List (ℕ × ℕ)) → HasList self.old pairs → HasList self.new pairs }
+        ensures slots { slot_count self.new ≡ slot_count self.old }
     {
         if number >= self.recorded {
             return Ok(None);
@@ -388,7 +407,8 @@ impl Store {
         self.recorded
     }
 
-    /// Goes on with the call that was interrupted: a record's call is given its words again.
+    /// Goes on with the call that was interrupted. A record's call is given its words again: the record has
+    /// those of the call that ends it.
     pub fn resume(&mut self, heap: &Heap, words: &[u64], tries: u32) -> Stored
         requires under_way { IsUnderWay heap.now self.old }
         requires tries { 0 < tries }
@@ -397,7 +417,8 @@ impl Store {
         ensures list { (pairs : List (ℕ × ℕ)) → HasList self.old pairs → HasList self.new (pairs_after self.old.pending result pairs) }
         ensures records { (records : List (List ℕ)) → HasRecords self.old records
             → HasRecords self.new (records_after self.old.pending words.now result records) }
-        ensures cause { IsResumedAnswer self.old.pending self.old.pass tries result self.new.pass }
+        ensures cause { IsResumedAnswer heap.now self.old.pending self.old.pass tries result self.new.pass }
+        ensures slots { slot_count self.new ≡ slot_count self.old }
     {
         match self.pending {
             Pending::Pair { key, value } => self.resume_pair(heap, key, value, tries),
@@ -415,7 +436,8 @@ impl Store {
         ensures left { Leaves heap.now result (pending.Pair key value) self.new }
         ensures list { (pairs : List (ℕ × ℕ)) → HasList self.old pairs → HasList self.new (with_pair result (key, value) pairs) }
         ensures records { (records : List (List ℕ)) → HasRecords self.old records → HasRecords self.new records }
-        ensures cause { IsResumedAnswer (pending.Pair key value) self.old.pass tries result self.new.pass }
+        ensures cause { IsResumedAnswer heap.now (pending.Pair key value) self.old.pass tries result self.new.pass }
+        ensures slots { slot_count self.new ≡ slot_count self.old }
     {
         match heap.resume(&mut self.pass, tries) {
             Resumed::Given(block) => {
@@ -437,7 +459,8 @@ impl Store {
         ensures left { Leaves heap.now result (pending.Record (length words.now)) self.new }
         ensures records { (records : List (List ℕ)) → HasRecords self.old records → HasRecords self.new (with_record result words.now records) }
         ensures list { (pairs : List (ℕ × ℕ)) → HasList self.old pairs → HasList self.new pairs }
-        ensures cause { IsResumedAnswer (pending.Record (length words.now)) self.old.pass tries result self.new.pass }
+        ensures cause { IsResumedAnswer heap.now (pending.Record (length words.now)) self.old.pass tries result self.new.pass }
+        ensures slots { slot_count self.new ≡ slot_count self.old }
     {
         match heap.resume(&mut self.pass, tries) {
             Resumed::Given(block) => {
@@ -459,7 +482,8 @@ impl Store {
         ensures left { Leaves heap.now result pending.Free self.new }
         ensures list { (pairs : List (ℕ × ℕ)) → HasList self.old pairs → HasList self.new pairs }
         ensures records { (records : List (List ℕ)) → HasRecords self.old records → HasRecords self.new records }
-        ensures cause { IsResumedAnswer pending.Free self.old.pass tries result self.new.pass }
+        ensures cause { IsResumedAnswer heap.now pending.Free self.old.pass tries result self.new.pass }
+        ensures slots { slot_count self.new ≡ slot_count self.old }
     {
         match heap.resume(&mut self.pass, tries) {
             Resumed::Freed => Stored::Done,

@@ -3,6 +3,3 @@ use Rattle.command_parts.proofs.command.short_command.Goals as goal
 
 pub returns-in-schedule-clause-some : goal.returns-in-schedule-clause-some
 returns-in-schedule-clause-some c = search rules
-
-pub returns-in-schedule-clause-only : goal.returns-in-schedule-clause-only
-returns-in-schedule-clause-only c = search rules

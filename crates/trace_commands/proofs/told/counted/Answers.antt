@@ -12,6 +12,6 @@ returns g c = (
   told-behind (g.G.Gate.passed c.args.gate.now) c.args.trace.now (IsSharedIn c.args.trace.now) (Ran c.in_ok-closed.field-0.closed)
       (map (λ lane. lane.items) c.in_ok-closed.field-0.outcomes.items) (λ closing. census_text c.census.result) c.in_ok-text.text.items
       c.as_slice-2.result.now c.extend_from_slice.new.self.items c.requires c.in_ok-closed.ensures
-      (rw c.as_slice.ensures.value at c.in_ok-text.ensures) (c.as_slice-2.ensures.value ∙ c.in_ok-counts.ensures)
+      (rw c.as_slice.ensures.value at c.in_ok-text.ensures.alone) (c.as_slice-2.ensures.value ∙ c.in_ok-counts.ensures)
       c.in_ok-extend_from_slice.ensures.items,
 )

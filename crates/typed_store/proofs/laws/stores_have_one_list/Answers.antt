@@ -1,4 +1,3 @@
-use Rattle.std.proofs.Common.{ℕ, ◌≡◌, ◌∙◌, List, sym}
 use Rattle.live_heap.specs.Contents.{owned_in}
 use Rattle.typed_store.specs.Nodes.{nodes_at}
 use Rattle.typed_store.proofs.LinkLemmas.{leads-one}

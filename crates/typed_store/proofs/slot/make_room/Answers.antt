@@ -1,9 +1,9 @@
-use Rattle.std.proofs.Common.{suc, ◌≡◌, List, [], ◌∷◌, length, length-append, sym, ap, ◌∙◌, subst, arith, ◌+◌}
+use Rattle.std.proofs.Common.{suc, ◌≡◌, max, List, [], ◌∷◌, length, length-append, sym, ap, ◌∙◌, subst, arith, ◌+◌}
 use Rattle.typed_store.specs.declared.slot.Slot.{Slot}
 use Rattle.typed_store.specs.declared.slot.Slot.TheVariants.{Spare}
 use Rattle.typed_store.specs.Nodes.{IsSpare, nodes_at, tokens_in}
 use Rattle.typed_store.proofs.SlotLemmas.{nodes-push, tokens-push}
-use Rattle.typed_store.proofs.StoreLemmas.{spare-push}
+use Rattle.typed_store.proofs.StoreLemmas.{spare-none, spare-push}
 use Rattle.typed_store.proofs.slot.make_room.Goals as goal
 
 pub returns-in_ok-push-clause-spare : goal.returns-in_ok-push-clause-spare
@@ -21,3 +21,10 @@ returns-in_ok-push-clause-tokens c = ap tokens_in c.in_ok-push.ensures.items ∙
 pub returns-in_ok-push-clause-nodes : goal.returns-in_ok-push-clause-nodes
 returns-in_ok-push-clause-nodes c = λ owned slot.
     ap (λ (l : List Slot). nodes_at owned l slot) c.in_ok-push.ensures.items ∙ nodes-push owned c.args.slots.now.items 0 slot
+
+pub returns-in_ok-push-clause-many : goal.returns-in_ok-push-clause-many
+returns-in_ok-push-clause-many c =
+    let was = c.args.slots.now.items in
+    let full = spare-none was (subst (IsSpare was) c.if-unused-eq0.true c.requires) in
+    let pushed : length c.push.new.self.items ≡ length was + 1 = ap (λ l. length l) c.in_ok-push.ensures.items ∙ length-append was (Spare 0 ∷ []) in
+    omega (arith, full, pushed)

@@ -45,3 +45,9 @@ pub returns-in-None-clause-records : goal.returns-in-None-clause-records
 returns-in-None-clause-records c = λ records has.
     let s = c.args.self.now in
     words-stay s c.seek.new.pass records (same-all s.pass c.seek.new.pass c.seek.ensures.reads.same (blocks_of s)) has
+
+pub returns-in-Some-clause-rests : goal.returns-in-Some-clause-rests
+returns-in-Some-clause-rests c = c.seek.ensures.reads.rests
+
+pub returns-in-None-clause-rests : goal.returns-in-None-clause-rests
+returns-in-None-clause-rests c = c.seek.ensures.reads.rests

@@ -2,8 +2,10 @@ use Rattle.std.proofs.Common.{suc, ◌-◌, ◌++◌, ◌∷◌, List, length, s
 use Rattle.live_heap.specs.Contents.{owned_in}
 use Rattle.live_heap.specs.Holdings.{HoldsExactly}
 use Rattle.typed_store.specs.declared.slot.Slot.{Slot}
+use Rattle.typed_store.specs.declared.slot.Slot.TheVariants.{Node}
 use Rattle.typed_store.specs.Nodes.{IsSpare, Spells, tokens_in}
 use Rattle.typed_store.specs.Stores.{blocks_of}
+use Rattle.typed_store.proofs.SlotLemmas.{length-set}
 use Rattle.typed_store.proofs.StayLemmas.{same-away, same-front}
 use Rattle.typed_store.proofs.StoreLemmas.{exact-in, list-linked, more-tokens, spare-has, spare-in, words-stay}
 use Rattle.typed_store.proofs.store.Store.link.Goals as goal
@@ -62,3 +64,8 @@ returns-clause-ready c =
             (spare-in s.slots.items s.unused c.put_in-self.new.unused c.args.block b.spare c.requires.room put.was);
       };
     }
+
+pub returns-clause-slots : goal.returns-clause-slots
+returns-clause-slots c =
+    let s = c.args.self.now in
+    ap (λ (l : List Slot). length l) c.put_in-self.ensures.slots ∙ length-set s.slots.items (s.unused - 1) (Node c.args.block)

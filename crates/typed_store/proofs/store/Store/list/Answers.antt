@@ -21,3 +21,6 @@ pub returns-clause-records : goal.returns-clause-records
 returns-clause-records c = λ records has.
     let s = c.args.self.now in
     words-stay s c.list_pairs.new.pass records (same-all s.pass c.list_pairs.new.pass c.list_pairs.ensures.reads.same (blocks_of s)) has
+
+pub returns-clause-rests : goal.returns-clause-rests
+returns-clause-rests c = c.list_pairs.ensures.reads.rests

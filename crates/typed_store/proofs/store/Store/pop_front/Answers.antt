@@ -78,3 +78,7 @@ pub returns-clause-cause : goal.returns-clause-cause
 returns-clause-cause c =
     freed-behind c.args.heap.now c.args.self.now c.read_node-node.new.pass c.args.tries c.unlink.result c.unlink.new.self c.read_node-node.ensures.reads
     c.unlink.ensures.cause
+
+pub returns-then-self-eq0-clause-cause : goal.returns-then-self-eq0-clause-cause
+returns-then-self-eq0-clause-cause c =
+    (reads-self c.args.heap.now c.args.self.now.pass c.requires.ready.of c.requires.ready.idle).rests

@@ -56,3 +56,9 @@ returns-clause-found c = λ records has.
     let s = c.args.self.now in
     let r = record-at s.pass s.records.items records c.args.number c.record_token-block.result.now has.0 c.record_token-block.ensures in
     ap (λ (l : List ℕ). Some l) (c.in_ok-read_record.ensures.words r.0 r.2) ∙ sym r.1
+
+pub returns-in_err-read_record-clause-rests : goal.returns-in_err-read_record-clause-rests
+returns-in_err-read_record-clause-rests c = c.read_record.ensures.reads.rests
+
+pub returns-clause-rests : goal.returns-clause-rests
+returns-clause-rests c = c.read_record.ensures.reads.rests

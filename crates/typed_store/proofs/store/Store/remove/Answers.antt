@@ -62,3 +62,6 @@ pub returns-in-None-clause-records : goal.returns-in-None-clause-records
 returns-in-None-clause-records c = λ records has.
     let s = c.args.self.now in
     words-stay s c.seek.new.pass records (same-all s.pass c.seek.new.pass c.seek.ensures.reads.same (blocks_of s)) has
+
+pub returns-in-None-clause-cause : goal.returns-in-None-clause-cause
+returns-in-None-clause-cause c = c.seek.ensures.reads.rests

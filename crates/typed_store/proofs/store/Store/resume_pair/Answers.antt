@@ -83,7 +83,7 @@ returns-in-Given-clause-records c = λ records has.
 
 pub returns-in-Given-clause-cause : goal.returns-in-Given-clause-cause
 returns-in-Given-clause-cause c =
-    (c.in-Given.block, c.resume.new.pass, c.in-Given.ensures.tells)
+    (c.in-Given.block, c.resume.new.pass, c.in-Given.ensures.tells, c.link.ensures.rests)
 
 pub returns-in-Refused-clause-left : goal.returns-in-Refused-clause-left
 returns-in-Refused-clause-left c =

@@ -1,10 +1,12 @@
-use Rattle.std.proofs.Common.{suc, ◌-◌, ◌++◌, arith, refl}
+use Rattle.std.proofs.Common.{suc, ◌-◌, ◌++◌, List, length, ap, ◌∙◌, arith, refl}
 use Rattle.std.specs.List.{slice_get}
 use Rattle.live_heap.specs.Contents.{owned_in}
+use Rattle.typed_store.specs.declared.slot.Slot.{Slot}
+use Rattle.typed_store.specs.declared.slot.Slot.TheVariants.{Spare}
 use Rattle.typed_store.specs.declared.store.Store.{Store}
 use Rattle.typed_store.specs.Nodes.{nodes_at}
 use Rattle.typed_store.specs.Stores.{blocks_of}
-use Rattle.typed_store.proofs.SlotLemmas.{node-token}
+use Rattle.typed_store.proofs.SlotLemmas.{length-set, node-token}
 use Rattle.typed_store.proofs.StayLemmas.{calling-free-same, freed-same}
 use Rattle.typed_store.proofs.StoreLemmas.{list-stays, words-stay}
 use Rattle.typed_store.proofs.UnlinkLemmas.{free-under-way, freed-ready, one-less, stands-whole, taken-out}
@@ -121,3 +123,13 @@ returns-in-Busy-clause-records c = λ records has.
     let e = c.in-Busy.ensures in
     let same = calling-free-same c.args.heap.now c.relink.new.pass c.free.new.pass c.take_out-block.result (suc e.tells.steps) (blocks_of t) e.of e.tells.calling o.exactly.0.1 in
     words-stay t c.free.new.pass records same (o.records records has)
+
+pub returns-in-Freed-clause-slots : goal.returns-in-Freed-clause-slots
+returns-in-Freed-clause-slots c =
+    let s = c.args.self.now in
+    ap (λ (l : List Slot). length l) c.take_out-block.ensures.slots ∙ length-set s.slots.items c.args.sought.slot (Spare s.unused)
+
+pub returns-in-Busy-clause-slots : goal.returns-in-Busy-clause-slots
+returns-in-Busy-clause-slots c =
+    let s = c.args.self.now in
+    ap (λ (l : List Slot). length l) c.take_out-block.ensures.slots ∙ length-set s.slots.items c.args.sought.slot (Spare s.unused)

@@ -1,0 +1,5 @@
+pub mod CallLemmas
+pub mod KeepLemmas
+pub mod ScriptLemmas
+pub mod RoundLemmas
+pub mod ClosedLemmas

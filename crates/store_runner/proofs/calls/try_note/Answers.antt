@@ -1,0 +1,29 @@
+use Rattle.std.proofs.Common.{suc, ◌+◌, length, subst}
+use Rattle.typed_store.specs.declared.store.Stored.{Stored}
+use Rattle.typed_store.specs.Causes.{IsAnswerOf}
+use Rattle.store_runner.proofs.CallLemmas.{refused-counts, spent-tells}
+use Rattle.store_runner.proofs.calls.try_note.Goals as goal
+
+pub returns-in-Busy-clause-counts : goal.returns-in-Busy-clause-counts
+returns-in-Busy-clause-counts g c =
+    let p = c.args.store.now.pass in
+    let q = c.add_record.new.self.pass in
+    let words = length c.args.words.now + 1 in
+    let e = subst (λ (x : Stored). IsAnswerOf c.args.heap.now p words 1000 x q) c.in-Busy.is c.in_ok-stored.ensures.cause in
+    c.go_on.ensures.counts p words (suc e.steps) e.calling
+
+pub returns-in-Refused-clause-counts : goal.returns-in-Refused-clause-counts
+returns-in-Refused-clause-counts g c =
+    let p = c.args.store.now.pass in
+    let q = c.add_record.new.self.pass in
+    let words = length c.args.words.now + 1 in
+    let e = subst (λ (x : Stored). IsAnswerOf c.args.heap.now p words 1000 x q) c.in-Refused.is c.in_ok-stored.ensures.cause in
+    refused-counts p q words e.steps e.called
+
+pub returns-in-Spent-clause-counts : goal.returns-in-Spent-clause-counts
+returns-in-Spent-clause-counts g c =
+    let p = c.args.store.now.pass in
+    let q = c.add_record.new.self.pass in
+    let words = length c.args.words.now + 1 in
+    spent-tells p q words 1000
+    (subst (λ (x : Stored). IsAnswerOf c.args.heap.now p words 1000 x q) c.in-Spent.is c.in_ok-stored.ensures.cause)

@@ -1,0 +1,11 @@
+use Rattle.std.proofs.Common.{suc, subst}
+use Rattle.typed_store.specs.declared.store.Stored.{Stored}
+use Rattle.typed_store.specs.Causes.{IsAnswerOf}
+use Rattle.store_runner.proofs.calls.try_push.Goals as goal
+
+pub returns-in-Busy-clause-counts : goal.returns-in-Busy-clause-counts
+returns-in-Busy-clause-counts g c =
+    let p = c.args.store.now.pass in
+    let q = c.push_front.new.self.pass in
+    let e = subst (λ (x : Stored). IsAnswerOf c.args.heap.now p 3 1000 x q) c.in-Busy.is c.in_ok-stored.ensures.cause in
+    c.go_on.ensures.counts p 3 (suc e.steps) e.calling

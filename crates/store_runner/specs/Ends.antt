@@ -1,0 +1,43 @@
+-- What the script leaves in the caller's blocks.
+use Rattle.std.specs.Prelude.{ℕ, suc, ◌≡◌, ◌≢◌, ◌+◌, List, [], ◌∷◌, ◌++◌, All, Option, Some, None, length, slice_get}
+use Rattle.std.specs.List.{EachIndex}
+use Rattle.pool_model.specs.Pool.{Block as PoolBlock}
+use Rattle.errand_steps.specs.Begins.{IsIdle}
+use Rattle.live_heap.specs.declared.block.Block.{Block}
+use Rattle.live_heap.specs.declared.heap.Heap.{Heap}
+use Rattle.live_heap.specs.Contents.{owned_in, word_of}
+use Rattle.live_heap.specs.Passes.{IsOf}
+use Rattle.typed_store.specs.declared.slot.Slot.{Slot}
+use Rattle.typed_store.specs.Nodes.{Spells, tokens_in}
+use Rattle.typed_store.specs.Passings.{freed_in, given_in}
+use Rattle.store_runner.specs.declared.script.Script.{Script}
+use Rattle.store_runner.specs.Scripts.{list_after, values_of}
+
+-- a block is owned at the place of each token, and no two of them are the same
+abbrev pub AreOwned : (ℕ → Option PoolBlock) → List Block → Type 0
+AreOwned owned [] = Unit {0}
+AreOwned owned (token ∷ tokens) =
+    ((block : PoolBlock) × (owned token.place ≡ Some block)) × All (λ other. other.place ≢ token.place) tokens × AreOwned owned tokens
+
+-- the blocks that are owned spell the pairs, with one node for each, and one block more spells the words: it begins with how many they are. No block is owned but these
+pub record Keeps (owned : ℕ → Option PoolBlock) (pairs : List (ℕ × ℕ)) (words : List ℕ) : Type 0 where
+  pub slots : List Slot
+  pub head : ℕ
+  pub list : Spells owned slots head pairs
+  pub nodes : length (tokens_in slots) ≡ length pairs
+  pub block : Block
+  pub counted : word_of (owned block.place) 0 ≡ Some (length words)
+  pub each : EachIndex words (λ i. word_of (owned block.place) (suc i) ≡ slice_get words i)
+  pub owns : AreOwned owned (tokens_in slots ++ block ∷ [])
+  pub others : (place : ℕ) → All (λ token. token.place ≢ place) (tokens_in slots ++ block ∷ []) → owned place ≡ None
+
+-- the script was run with so many rounds: the list and the record were read back, the caller's blocks spell them, it was given a block for each pair and for the record, and has freed all but those that it keeps
+pub record HasRun (h : Heap) (rounds : ℕ) (script : Script) : Type 0 where
+  pub of : IsOf h script.pass
+  pub idle : IsIdle script.pass.errand
+  pub caller : script.pass.errand.caller ≡ 0
+  pub pairs : script.pairs.items ≡ list_after rounds
+  pub words : script.words.items ≡ values_of (list_after rounds)
+  pub keeps : Keeps (owned_in script.pass) (list_after rounds) (values_of (list_after rounds))
+  pub given : given_in script.pass ≡ rounds + 1
+  pub freed : freed_in script.pass + length (list_after rounds) ≡ rounds

@@ -1,0 +1,5 @@
+pub mod Closings
+pub mod Counts
+pub mod Ends
+pub mod Scripts
+pub mod Texts
