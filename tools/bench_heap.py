@@ -2,10 +2,11 @@
 """Times the heap on threads beside bare atomics and beside malloc, as ratios; or puts it under stress.
 
     tools/bench_heap.py [--count N] [--runs N] [--threads N,..]
-    tools/bench_heap.py stress [--rounds N] [--threads N,..] [--seed N]
+    tools/bench_heap.py caches [--count N] [--runs N] [--threads N,..]
+    tools/bench_heap.py stress [--cached] [--rounds N] [--steps N] [--threads N,..] [--seed N]
 
 It builds crates/benches where that is not built yet, and a small C program beside it by `cc`, which
-makes pairs of glibc's malloc and free of the same size on as many threads. Each thread makes N (count):
+makes pairs of malloc and free of the same size on as many threads. Each thread makes N (count):
 
     bare    atomic loads, compares and exchanges, and stores at random places of as many words
     steps   steps of allocations of one word and of their frees
@@ -17,9 +18,15 @@ A figure is the least time of some runs, less that of a run with a count of 0, f
 processor time (user) of all threads together, and by the clock on the wall where as many threads as
 processors run. The programs take turns, so that all see the same load.
 
+`caches` makes pairs through a cache in front of each pass, which keeps 64 blocks of a class, beside the
+heap's own pairs and those of each allocator of the machine, and prints a table: nanoseconds of processor time
+for a pair, in brackets by the clock, and how many times that of the best of the allocators, and of glibc, a
+pair through a cache takes.
+
 `stress` makes rounds of calls of all kinds in which each block is filled and checked, with 2, 4, 8 and 16
 threads, in three heaps from roomy to crowded, and prints the counts; it ends with 1 where a word was
-wrong or a run failed.
+wrong or a run failed. With --cached a cache stands in front of each pass. With --steps it begins again, with
+other random numbers, until so many words were written and checked, each by a step of its own.
 """
 import argparse
 import os
@@ -29,9 +36,9 @@ import sys
 import tempfile
 import time
 
-HERE = os.path.dirname(os.path.abspath(__file__))
-CRATE = os.path.join(HERE, "..", "crates", "benches")
-PROGRAM = os.path.join(CRATE, "out", "benches")
+import timed
+
+PROGRAM = os.path.join(timed.CRATES, "benches", "out", "benches")
 HEAP = ["1000", "4", "8"]
 STRESSED = [["256", "4", "64"], ["24", "2", "8"], ["4", "1", "2"]]
 MODES = ["bare", "steps", "hold", "pairs", "malloc"]
@@ -45,8 +52,8 @@ static unsigned long count;
 static void *pairs(void *unused)
 {
     for (unsigned long k = 0; k < count; k++) {
-        void *volatile block = malloc(8);
-        *(volatile unsigned long *)block = k;
+        void *block = malloc(8);
+        __asm__ volatile("" : : "r"(block) : "memory");
         free(block);
     }
     return unused;
@@ -73,22 +80,6 @@ int main(int words, char **word)
 """
 
 
-def built():
-    """Builds the program, where it isn't built."""
-    if not os.path.exists(PROGRAM):
-        words = ["rt", "run", "--", "heap", "bare", "1", "1", "1", *HEAP]
-        subprocess.run(words, check=True, cwd=CRATE, stdout=subprocess.DEVNULL)
-
-
-def malloc_program(folder):
-    """The program that makes pairs of malloc and free."""
-    source, program = os.path.join(folder, "pairs.c"), os.path.join(folder, "pairs")
-    with open(source, "w") as out:
-        out.write(MALLOC)
-    subprocess.run(["cc", "-O2", "-pthread", "-o", program, source], check=True)
-    return program
-
-
 def seconds(malloc, mode, count, threads):
     """The user time of one run, and the time on the wall."""
     if mode == "malloc":
@@ -106,7 +97,7 @@ def bench(said):
     """Prints a line for each number of threads and each mode."""
     print(f"{os.cpu_count()} processors, load {os.getloadavg()[0]:.1f}, {said.count} a thread, least of {said.runs} runs")
     with tempfile.TemporaryDirectory() as folder:
-        malloc = malloc_program(folder)
+        malloc = timed.compiled(MALLOC, "pairs", folder)
         for threads in said.threads:
             times = {mode: [] for mode in MODES}
             for _ in range(said.runs):
@@ -125,40 +116,76 @@ def bench(said):
                   f"{user['pairs'] / user['steps']:.1f} times a step", flush=True)
 
 
-def stress(said):
-    """Prints the counts of each run, and answers whether all words were right."""
-    right = True
+def caches(said):
+    """Prints a table of pairs through caches and what stands beside them."""
+    print(timed.heading(said))
+    with tempfile.TemporaryDirectory() as folder:
+        malloc = timed.compiled(MALLOC, "pairs", folder)
+        found = timed.allocators()
+        print(timed.table_head(["threads", "through a cache", "the heap's own", *found, "to the best", "to glibc"]))
+        for threads in said.threads:
+            programs = {
+                "cache": lambda count: ([PROGRAM, "cache", "pairs", "1", str(count), str(threads), *HEAP], None),
+                "heap": lambda count: ([PROGRAM, "heap", "pairs", "1", str(count), str(threads), *HEAP], None),
+            }
+            for name, library in found.items():
+                programs[name] = lambda count, library=library: ([malloc, str(count), str(threads)], library)
+            taken, _ = timed.figures(programs, said.count, said.runs)
+            pair = {name: figure.of_each(threads) for name, figure in taken.items()}
+            best = min(pair[name].processor for name in found)
+            ours = pair["cache"].processor
+            print(timed.row([threads, *pair.values(), f"{ours / best:.2f}", f"{ours / pair['glibc'].processor:.2f}"]), flush=True)
+
+
+def stress_all(said, seed):
+    """Prints the counts of a run of each kind; answers whether all words were right, and how many they were."""
+    right, words = True, 0
+    place = "cache" if said.cached else "heap"
     for heap in STRESSED:
         for threads in said.threads:
-            words = [PROGRAM, "heap", "stress", str(said.seed), str(said.rounds), str(threads), *heap]
             began = time.perf_counter()
-            run = subprocess.run(words, stdout=subprocess.PIPE, text=True)
+            run = subprocess.run([PROGRAM, place, "stress", str(seed), str(said.rounds), str(threads), *heap], stdout=subprocess.PIPE, text=True)
             took = time.perf_counter() - began
             right = right and run.returncode == 0
-            print(f"frames {heap[0]} heaps {heap[1]} units {heap[2]} threads {threads} status {run.returncode} "
+            words += timed.counted(run.stdout).get("words", 0)
+            print(f"{place} frames {heap[0]} heaps {heap[1]} units {heap[2]} threads {threads} seed {seed} status {run.returncode} "
                   f"seconds {took:.1f}: {run.stdout.strip()}", flush=True)
+    return right, words
+
+
+def stress(said):
+    """Stress until so many words were written and checked, or one was wrong; answers whether all were right."""
+    right, words, seed = stress_all(said, said.seed) + (said.seed,)
+    while right and words < said.steps:
+        seed += 1
+        right, more = stress_all(said, seed)
+        words += more
+    print(f"words written and checked {words:,}, {'all right' if right else 'WRONG'}")
     return right
-
-
-def numbers(text):
-    return [int(word) for word in text.split(",")]
 
 
 def main():
     parser = argparse.ArgumentParser(description=__doc__.split("\n")[0])
-    parser.add_argument("what", nargs="?", choices=["bench", "stress"], default="bench")
-    parser.add_argument("--count", type=int, default=1_000_000)
-    parser.add_argument("--runs", type=int, default=5)
+    parser.add_argument("what", nargs="?", choices=["bench", "caches", "stress"], default="bench")
+    parser.add_argument("--count", type=int)
+    parser.add_argument("--runs", type=int)
     parser.add_argument("--rounds", type=int, default=20_000)
+    parser.add_argument("--steps", type=int, default=0)
     parser.add_argument("--seed", type=int, default=1)
-    parser.add_argument("--threads", type=numbers)
+    parser.add_argument("--cached", action="store_true")
+    parser.add_argument("--threads", type=timed.numbers)
     said = parser.parse_args()
-    built()
+    timed.program_of("benches", ["heap", "bare", "1", "1", "1", *HEAP])
     if said.what == "stress":
         said.threads = said.threads or [2, 4, 8, 16]
         sys.exit(0 if stress(said) else 1)
     said.threads = said.threads or [1, 2, 4]
-    bench(said)
+    if said.what == "caches":
+        said.count, said.runs = said.count or 10_000_000, said.runs or 7
+        caches(said)
+    else:
+        said.count, said.runs = said.count or 1_000_000, said.runs or 5
+        bench(said)
 
 
 if __name__ == "__main__":

@@ -1,100 +1,51 @@
 -- The blocks in a hand, as one more comes in or one of them goes.
-use Rattle.std.proofs.Common.{ℕ, zero, suc, ◌≡◌, ◌≢◌, ◌<◌, List, [], ◌∷◌, ◌++◌, length, slice_index_or, All, Option, Some, sym, subst, arith}
+use Rattle.std.proofs.Common.{ℕ, zero, suc, ◌≡◌, ◌<◌, ◌↔◌, List, [], ◌∷◌, ◌++◌, length, slice_index_or, refl, sym, ap, subst, append-nil, ◌∙◌, take, drop, arith}
+use Rattle.std.proofs.lemmas.List.{map-append}
+use Rattle.std.proofs.lemmas.Grind.{common_steps}
 use Rattle.std.specs.List.{remove}
-use Rattle.std.proofs.lemmas.List.Elements.{All-nil, All-cons, All-head, All-tail}
-use Rattle.errand_steps.specs.Calls.{Call}
-use Rattle.step_core.specs.Keeping.{Leaves}
 use Rattle.live_heap.specs.declared.block.Block.{Block}
-use Rattle.live_heap.specs.declared.heap.Heap.{Heap}
-use Rattle.live_heap.specs.declared.pass.Pass.{Pass}
-use Rattle.live_heap.specs.Holdings.{Holds}
-use Rattle.live_heap.specs.Passes.{Owns}
 use Rattle.benches.specs.declared.heap.worker.Held.{Held}
-use Rattle.benches.specs.Hands.{HasMade, Keeps, blocks_of}
+use Rattle.benches.specs.Hands.{blocks_of}
 
--- blocks that are owned still, each of them, are held still
-pub holds-but :
-    (L : Block → Type 0) (p q : Pass) → ((block : Block) → L block → Owns p block → Owns q block)
-    → (blocks : List Block) → All L blocks → Holds p blocks → Holds q blocks
-holds-but L p q keep [] left held = tt
-holds-but L p q keep (b ∷ bs) left held =
-    (keep b (All-head L b bs left) held.0, held.1, holds-but L p q keep bs (All-tail L b bs left) held.2)
+-- a block of the hand between the others
+record IsBetween (hand : List Held) (i : ℕ) (picked : Held) : Type 0 where
+  pub before : List Block
+  pub after : List Block
+  pub all : blocks_of hand ≡ before ++ picked.block ∷ after
+  pub others : blocks_of (remove hand i) ≡ before ++ after
 
-pub holds-keeps :
-    (p q : Pass) → ((block : Block) → Owns p block → Owns q block) → (blocks : List Block) → Holds p blocks → Holds q blocks
-holds-keeps p q keep [] held = tt
-holds-keeps p q keep (b ∷ bs) held = (keep b held.0, held.1, holds-keeps p q keep bs held.2)
+between : (hand : List Held) (i : ℕ) (d : Held) → i < length hand → IsBetween hand i (slice_index_or hand i d)
+between [] i d within = absurd (omega arith)
+between (x ∷ xs) zero d within = record { before = []; after = blocks_of xs; all = refl; others = refl }
+between (x ∷ xs) (suc i) d within =
+    let r = between xs i d (omega arith) in
+    record { before = x.block ∷ r.before; after = r.after; all = ap (λ l. x.block ∷ l) r.all; others = ap (λ l. x.block ∷ l) r.others }
 
--- what is so of each block that a pass owns is so of each that it holds
-pub holds-all : (p : Pass) (P : Block → Type 0) → ((block : Block) → Owns p block → P block) → (blocks : List Block) → Holds p blocks → All P blocks
-holds-all p P each [] held = All-nil P
-holds-all p P each (b ∷ bs) held = All-cons P b bs (each b held.0) (holds-all p P each bs held.2)
+module _
+    (H : List Block → Type 0)
+    (order : (before after : List Block) (block : Block) → H (before ++ block ∷ after) ↔ H (block ∷ before ++ after))
+  where
+    -- a block comes in behind the others
+    pub holds-push : (held : Held) (hand : List Held) → H (held.block ∷ blocks_of hand) → H (blocks_of (hand ++ held ∷ []))
+    holds-push held hand h =
+        let blocks = blocks_of hand in
+        subst H (sym (map-append (λ (other : Held). other.block) hand (held ∷ [])))
+        ((order blocks [] held.block).1 (subst (λ l. H (held.block ∷ l)) (sym (append-nil blocks)) h))
 
--- a list of blocks with one more behind them
-all-push :
-    (P : Block → Type 0) (held : Held) (hand : List Held) → All P (blocks_of hand) → P held.block → All P (blocks_of (hand ++ held ∷ []))
-all-push P held [] all one = All-cons P held.block [] one (All-nil P)
-all-push P held (x ∷ xs) all one =
-    All-cons P x.block (blocks_of (xs ++ held ∷ [])) (All-head P x.block (blocks_of xs) all) (all-push P held xs (All-tail P x.block (blocks_of xs) all) one)
+    -- a block is picked and the others are left, as `remove` says it
+    pub holds-picked :
+        (hand : List Held) (i : ℕ) (held : Held) (rest : List Held) → i < length hand → held ≡ slice_index_or hand i held
+        → rest ≡ remove hand i → H (blocks_of hand) → H (held.block ∷ blocks_of rest)
+    holds-picked hand i held rest within value items h =
+        let picked : Held = slice_index_or hand i held in
+        let b = between hand i held within in
+        let first : H (picked.block ∷ b.before ++ b.after) = (order b.before b.after picked.block).0 (subst H b.all h) in
+        let left : H (picked.block ∷ blocks_of (remove hand i)) = subst (λ l. H (picked.block ∷ l)) (sym b.others) first in
+        subst (λ (l : List Held). H (held.block ∷ blocks_of l)) (sym items)
+        (subst (λ (x : Held). H (x.block ∷ blocks_of (remove hand i))) (sym value) left)
 
--- a block comes in
-pub holds-push : (p : Pass) (held : Held) (hand : List Held) → Holds p (held.block ∷ blocks_of hand) → Holds p (blocks_of (hand ++ held ∷ []))
-holds-push p held [] h = h
-holds-push p held (x ∷ xs) h =
-    let A : Block → Type 0 = λ other. other.place ≢ held.block.place in
-    let X : Block → Type 0 = λ other. other.place ≢ x.block.place in
-    let differ : held.block.place ≢ x.block.place = λ e. All-head A x.block (blocks_of xs) h.1 (sym e) in
-    (h.2.0, all-push X held xs h.2.1 differ, holds-push p held xs (h.0, All-tail A x.block (blocks_of xs) h.1, h.2.2))
-
--- of all blocks in a hand, one that is picked and the others
-all-pick :
-    (P : Block → Type 0) (d : Held) (hand : List Held) (i : ℕ) → i < length hand → All P (blocks_of hand)
-    → P (slice_index_or hand i d).block × All P (blocks_of (remove hand i))
-all-pick P d [] i within all = absurd (omega arith)
-all-pick P d (x ∷ xs) zero within all = (All-head P x.block (blocks_of xs) all, All-tail P x.block (blocks_of xs) all)
-all-pick P d (x ∷ xs) (suc i) within all =
-    let r = all-pick P d xs i (omega arith) (All-tail P x.block (blocks_of xs) all) in
-    (r.0, All-cons P x.block (blocks_of (remove xs i)) (All-head P x.block (blocks_of xs) all) r.1)
-
--- a block is picked
-pub holds-pick :
-    (p : Pass) (d : Held) (hand : List Held) (i : ℕ) → i < length hand → Holds p (blocks_of hand)
-    → Holds p ((slice_index_or hand i d).block ∷ blocks_of (remove hand i))
-holds-pick p d [] i within h = absurd (omega arith)
-holds-pick p d (x ∷ xs) zero within h = h
-holds-pick p d (x ∷ xs) (suc i) within h =
-    let y : Block = (slice_index_or xs i d).block in
-    let r : Holds p (y ∷ blocks_of (remove xs i)) = holds-pick p d xs i (omega arith) h.2 in
-    let apart = all-pick (λ other. other.place ≢ x.block.place) d xs i (omega arith) h.1 in
-    let differ : x.block.place ≢ y.place = λ e. apart.0 (sym e) in
-    (r.0, All-cons (λ other. other.place ≢ y.place) x.block (blocks_of (remove xs i)) differ r.1, (h.0, apart.1, r.2))
-
--- a block that was held first is given away, behind what kept all
-pub holds-gone :
-    (p q r : Pass) (block : Block) (blocks : List Block) → Keeps p q
-    → ((other : Block) → other.place ≢ block.place → Owns q other → Owns r other) → Holds p (block ∷ blocks) → Holds r blocks
-holds-gone p q r block blocks keep but h =
-    holds-but (λ other. other.place ≢ block.place) p r (λ other differs owned. but other differs (keep other owned)) blocks h.1 h.2
-
--- a call that gives no block away brings one, or none
-pub holds-come :
-    (h : Heap) (p q : Pass) (call : Call) (block : Block) (blocks : List Block) → ((other : Block) → Leaves call other.place)
-    → HasMade h p call (Some block) q → Holds p blocks → Holds q (block ∷ blocks)
-holds-come h p q call block blocks leaves made held = (
-  made.new.0,
-  holds-all p (λ other. other.place ≢ block.place) made.new.1 blocks held,
-  holds-keeps p q (λ other owned. made.keeps other (leaves other) owned) blocks held,
-)
-
-pub holds-none :
-    (h : Heap) (p q : Pass) (call : Call) (got : Option Block) (blocks : List Block) → ((other : Block) → Leaves call other.place)
-    → HasMade h p call got q → Holds p blocks → Holds q blocks
-holds-none h p q call got blocks leaves made held = holds-keeps p q (λ other owned. made.keeps other (leaves other) owned) blocks held
-
--- a block is picked and the others are left, as `remove` says it
-pub holds-picked :
-    (p : Pass) (hand : List Held) (i : ℕ) (held : Held) (rest : List Held) → i < length hand → held ≡ slice_index_or hand i held
-    → rest ≡ remove hand i → Holds p (blocks_of hand) → Holds p (held.block ∷ blocks_of rest)
-holds-picked p hand i held rest within value items h =
-    subst (λ (l : List Held). Holds p (held.block ∷ blocks_of l)) (sym items)
-    (subst (λ (x : Held). Holds p (x.block ∷ blocks_of (remove hand i))) (sym value) (holds-pick p held hand i within h))
+-- a slice that was written whole is what was written
+pub written-whole : {X : Type 0} (xs ys : List X) (n : ℕ) → length xs ≡ n → length ys ≡ n → take n (xs ++ drop (length xs) ys) ≡ xs
+written-whole xs ys n a b =
+    let none : drop (length xs) ys ≡ [] = grind (arith, common_steps) in
+    ap (λ l. take n (xs ++ l)) none ∙ (ap (take n) (append-nil xs) ∙ grind (arith, common_steps))

@@ -1,2 +1,4 @@
+pub mod CacheLemmas
 pub mod HandLemmas
 pub mod MadeLemmas
+pub mod PassLemmas

@@ -1,8 +1,7 @@
 -- What a call that has ended leaves a pass with.
-use Rattle.std.proofs.Common.{ℕ, ◌≡◌, ◌≢◌, inl, inr, List, Option, Some, None, refl, sym, ap, ◌∙◌, subst}
+use Rattle.std.proofs.Common.{ℕ, ◌≡◌, ◌≢◌, inl, inr, Option, Some, None, refl, sym, ap, ◌∙◌, subst}
 use Rattle.std.proofs.lemmas.Bool.{cases_Bool}
 use Rattle.heap_geometry.specs.declared.need.Need.{Need}
-use Rattle.pool_model.specs.declared.event.Event.{Event}
 use Rattle.errand_steps.specs.declared.reply.Progress.TheVariants as progress
 use Rattle.errand_steps.specs.declared.reply.Reply.{Reply}
 use Rattle.errand_steps.specs.declared.reply.Reply.TheVariants as reply
@@ -11,7 +10,6 @@ use Rattle.errand_steps.specs.Calls.{Call, free, put}
 use Rattle.errand_steps.specs.Errands.{settle_of}
 use Rattle.errand_steps.specs.Points.{is_idle}
 use Rattle.errand_steps.proofs.AnswerLemmas.{done-told}
-use Rattle.step_core.specs.Cores.{OwnsAfter}
 use Rattle.step_core.specs.Keeping.{Leaves}
 use Rattle.step_core.specs.Moments.{IsMoment}
 use Rattle.step_core.proofs.MomentAnswers.{found, moment-given, moment-settles}

@@ -1,12 +1,11 @@
--- What calls of a pass leave it with.
-use Rattle.std.specs.Prelude.{◌≡◌, ◌≢◌, Option, IfSome, List, [], map}
+-- What calls leave a pass with, and a hand.
+use Rattle.std.specs.Prelude.{◌≡◌, ◌≢◌, ◌∷◌, Option, Some, None, IfSome, List, [], map}
 use Rattle.errand_steps.specs.Begins.{IsIdle}
 use Rattle.errand_steps.specs.Calls.{Call}
 use Rattle.step_core.specs.Keeping.{Leaves}
 use Rattle.live_heap.specs.declared.block.Block.{Block}
 use Rattle.live_heap.specs.declared.heap.Heap.{Heap}
 use Rattle.live_heap.specs.declared.pass.Pass.{Pass}
-use Rattle.live_heap.specs.Holdings.{Holds}
 use Rattle.live_heap.specs.Passes.{IsOf, Owns}
 use Rattle.benches.specs.declared.heap.worker.Held.{Held}
 use Rattle.benches.specs.declared.heap.worker.Worker.{Worker}
@@ -15,25 +14,33 @@ use Rattle.benches.specs.declared.heap.worker.Worker.{Worker}
 abbrev pub Rests : Heap → Pass → Type 0
 Rests h p = IsOf h p × IsIdle p.errand
 
--- the pass owns each block that it owned
-abbrev pub Keeps : Pass → Pass → Type 0
-Keeps p q = (block : Block) → Owns p block → Owns q block
-
 -- the pass has made this call: it rests again, and owns each block that it owned but the one that the call gave away; and the block that the call got is its own, and none of those that it had
 pub record HasMade (h : Heap) (p : Pass) (call : Call) (got : Option Block) (q : Pass) : Type 0 where
   pub rests : Rests h q
   pub keeps : (block : Block) → Leaves call block.place → Owns p block → Owns q block
   pub new : IfSome got (λ block. Owns q block × ((other : Block) → Owns p other → other.place ≢ block.place))
 
+-- the block that a call has got, if any
+abbrev pub got_by : Option Block → List Block
+got_by None = []
+got_by (Some block) = block ∷ []
+
 -- the blocks in a hand
 abbrev pub blocks_of : List Held → List Block
 blocks_of hand = map (λ held. held.block) hand
 
--- the worker's pass rests, and owns all blocks in its hand
-pub record IsWorking (h : Heap) (w : Worker) : Type 0 where
-  pub rests : Rests h w.pass
-  pub holds : Holds w.pass (blocks_of w.hand.items)
+-- whatever blocks a caller held it holds still
+abbrev pub Keeps : {F : Type 0} → (F → List Block → Type 0) → F → F → Type 0
+Keeps holds p q = (blocks : List Block) → holds p blocks → holds q blocks
 
--- so it does, and its hand is empty
-abbrev pub IsReady : Heap → Worker → Type 0
-IsReady h w = Rests h w.pass × (w.hand.items ≡ [])
+module _ {F : Type 0} (rests : Heap → F → Type 0) (holds : F → List Block → Type 0) where
+  -- the worker is in no call, and holds all blocks in its hand
+  pub record IsWorking (h : Heap) (w : Worker F) : Type 0 where
+    pub rests_at : rests h w.front
+    pub holds_all : holds w.front (blocks_of w.hand.items)
+
+  -- so it does, and its hand is empty
+  pub record IsReady (h : Heap) (w : Worker F) : Type 0 where
+    pub rests_at : rests h w.front
+    pub holds_none : holds w.front []
+    pub empty : w.hand.items ≡ []

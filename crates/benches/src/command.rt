@@ -10,13 +10,16 @@ use std::alloc::{AllocError, Global};
 /// How many words a command has.
 const WORDS: usize = 8;
 
-/// What the threads do with a heap.
+/// Steps of allocations of one word.
+#[derive(Clone, Copy, PartialEq, Eq)]
+pub struct Steps {
+    /// Whether each block is freed behind its allocation.
+    pub frees: bool,
+}
+
+/// What the threads do with a heap by whole calls.
 #[derive(Clone, Copy, PartialEq, Eq)]
 pub enum Task {
-    /// Steps of allocations of one word and of their frees.
-    Steps,
-    /// Steps of allocations of one word that frees nothing.
-    Hold,
     /// Allocations of one word, each with its free behind it.
     Pairs,
     /// A block of 31 words that is filled and checked again and again.
@@ -38,15 +41,32 @@ pub enum Mix {
     Mingled,
 }
 
+/// How another caller of the heap goes on beside a store.
+#[derive(Clone, Copy, PartialEq, Eq)]
+pub enum Company {
+    /// By turns, on one thread.
+    ByTurns,
+    /// On a thread of its own.
+    OnThreads,
+}
+
 /// What is timed.
 #[derive(Clone, Copy, PartialEq, Eq)]
 pub enum Bench {
     /// Atomic accesses alone, on threads.
     Atomics,
+    /// Steps of passes of a heap, on threads.
+    Steps(Steps),
     /// A heap at work, on threads.
     Heap(Task),
+    /// A heap at work through caches, on threads.
+    Cache(Task),
     /// Calls of a script on two heaps, on one thread.
     Script,
+    /// Pushes and pops through stores, on one thread.
+    Store,
+    /// Calls of a script on a store, with another caller by turns or on a thread of its own.
+    StoreScript(Company),
     /// Memory accesses alone, on one thread.
     Accesses,
     /// Steps of the machine, on one thread.
@@ -64,17 +84,29 @@ pub struct Command {
     pub geometry: Geometry,
 }
 
+/// The task of this mode.
+fn task_of(mode: &str) -> Option<Task> {
+    match mode {
+        "pairs" => Some(Task::Pairs),
+        "words" => Some(Task::Words),
+        "blocks" => Some(Task::Blocks),
+        "stress" => Some(Task::Stress),
+        _ => None,
+    }
+}
+
 /// The bench of this place and mode.
 fn bench_of(place: &str, mode: &str) -> Option<Bench> {
     match (place, mode) {
         ("heap", "bare") => Some(Bench::Atomics),
-        ("heap", "steps") => Some(Bench::Heap(Task::Steps)),
-        ("heap", "hold") => Some(Bench::Heap(Task::Hold)),
-        ("heap", "pairs") => Some(Bench::Heap(Task::Pairs)),
-        ("heap", "words") => Some(Bench::Heap(Task::Words)),
-        ("heap", "blocks") => Some(Bench::Heap(Task::Blocks)),
-        ("heap", "stress") => Some(Bench::Heap(Task::Stress)),
+        ("heap", "steps") => Some(Bench::Steps(Steps { frees: true })),
+        ("heap", "hold") => Some(Bench::Steps(Steps { frees: false })),
         ("heap", "script") => Some(Bench::Script),
+        ("heap", mode) => Some(Bench::Heap(task_of(mode)?)),
+        ("cache", mode) => Some(Bench::Cache(task_of(mode)?)),
+        ("store", "pairs") => Some(Bench::Store),
+        ("store", "turns") => Some(Bench::StoreScript(Company::ByTurns)),
+        ("store", "threads") => Some(Bench::StoreScript(Company::OnThreads)),
         ("machine", "bare") => Some(Bench::Accesses),
         ("machine", "hold") => Some(Bench::Machine(Mix::Hold)),
         ("machine", "all") => Some(Bench::Machine(Mix::All)),

@@ -2,7 +2,10 @@
 
 ghost use Rattle.heap_geometry.specs.Geometry.{IsChecked};
 
-use crate::command::{Command, Task};
+use crate::command::{Command, Steps, Task};
+use block_cache::cache::Cache;
+use live_heap::pass::Pass;
+use run::Outcome;
 use std::alloc::Global;
 use std::io;
 use std::io::Print;
@@ -10,11 +13,15 @@ use std::sync::Wait;
 use std::thread::Threads;
 
 mod bare;
+mod cached;
 mod calls;
+mod front;
+mod rounds;
 mod run;
 mod stamps;
 mod steps;
 mod tally;
+mod work;
 mod worker;
 
 /// Makes atomic accesses alone, and prints how many they were.
@@ -29,7 +36,20 @@ pub fn print_accesses<R: Print + Threads + Sync>(
     println!(rt; "accesses {accesses}")
 }
 
-/// Does the task, prints the counts, and answers how many words were wrong.
+/// Makes steps, each thread by its pass, and prints the counts.
+pub fn print_steps<R: Print + Threads + Wait + Sync>(
+    rt: &R,
+    alloc: Global,
+    steps: Steps,
+    command: Command,
+) -> io::Result<u64>
+    requires { IsChecked command.geometry }
+{
+    let outcome = run::run::<R, Pass, Steps>(rt, alloc, &steps, command)?;
+    print_outcome(rt, outcome)
+}
+
+/// Does the task, each thread by its pass, prints the counts, and answers how many words were wrong.
 pub fn print_counts<R: Print + Threads + Wait + Sync>(
     rt: &R,
     alloc: Global,
@@ -38,10 +58,29 @@ pub fn print_counts<R: Print + Threads + Wait + Sync>(
 ) -> io::Result<u64>
     requires { IsChecked command.geometry }
 {
-    let outcome = run::run(rt, alloc, task, command)?;
+    let outcome = run::run::<R, Pass, Task>(rt, alloc, &task, command)?;
+    print_outcome(rt, outcome)
+}
+
+/// Does the task, each thread through a cache in front of its pass, prints the counts, and answers how many
+/// words were wrong.
+pub fn print_cached<R: Print + Threads + Wait + Sync>(
+    rt: &R,
+    alloc: Global,
+    task: Task,
+    command: Command,
+) -> io::Result<u64>
+    requires { IsChecked command.geometry }
+{
+    let outcome = run::run::<R, Cache, Task>(rt, alloc, &task, command)?;
+    print_outcome(rt, outcome)
+}
+
+/// Prints the counts, and answers how many words were wrong.
+fn print_outcome<R: Print>(rt: &R, outcome: Outcome) -> io::Result<u64> {
     let tally = outcome.tally;
     println!(rt;
-        "made {} given {} refused {} freed {} put {} taken {} missed {} busy {} cleared {} wrong {} won {} lost {}",
+        "made {} given {} refused {} freed {} put {} taken {} missed {} busy {} cleared {} words {} wrong {} won {} lost {}",
         tally.made,
         tally.given,
         tally.refused,
@@ -51,6 +90,7 @@ pub fn print_counts<R: Print + Threads + Wait + Sync>(
         tally.missed,
         tally.busy,
         tally.cleared,
+        tally.words,
         tally.wrong,
         outcome.won,
         outcome.lost

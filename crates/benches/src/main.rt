@@ -10,6 +10,11 @@
 //! of a block that it keeps (`words`) or allocates for them (`blocks`), or COUNT rounds of calls of all
 //! kinds on blocks that it fills and checks (`stress`); or one thread makes COUNT calls of a random script
 //! for CALLERS callers of two heaps, on the one as wholes and on the other step by step (`script`).
+//! Where it is `cache`, each thread has a cache with magazines for 64 blocks of a class in front of its pass,
+//! through which it makes the calls of `pairs`, `words`, `blocks` or `stress`. Where it is `store`, one thread
+//! makes COUNT pushes, each with a pop behind it, through a store for each of the callers in turn (`pairs`);
+//! or a store of the first caller makes COUNT calls of a random script, beside plain lists, while the second
+//! caller makes steps of its own in between (`turns`) or on another thread (`threads`).
 //! Where it is `machine`, one thread loads a word, compares it and stores it, COUNT times, at random places
 //! of such a table (`bare`), or makes COUNT steps of a machine on which calls of a mix are begun (`hold`,
 //! `all`, `mingled`).
@@ -36,6 +41,8 @@ mod command;
 mod heap;
 mod machine;
 mod script;
+mod store;
+mod store_script;
 
 /// The exit status where something was wrong.
 const WRONG: u8 = 1;
@@ -65,8 +72,14 @@ fn print_counts<R: Print + Threads + Wait + Sync>(
 {
     match command.bench {
         Bench::Atomics => heap::print_accesses(rt, alloc, command)?,
+        Bench::Steps(steps) => return heap::print_steps(rt, alloc, steps, command),
         Bench::Heap(task) => return heap::print_counts(rt, alloc, task, command),
+        Bench::Cache(task) => return heap::print_cached(rt, alloc, task, command),
         Bench::Script => return script::print_sums(rt, alloc, command),
+        Bench::Store => store::print_sums(rt, alloc, command)?,
+        Bench::StoreScript(company) => {
+            return store_script::print_sums(rt, alloc, company, command);
+        }
         Bench::Accesses => machine::print_accesses(rt, alloc, command)?,
         Bench::Machine(mix) => machine::print_counts(rt, alloc, mix, command)?,
     }

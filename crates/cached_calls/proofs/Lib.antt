@@ -1,2 +1,2 @@
 mod FlushLemmas
-mod ThroughLemmas
+pub mod ThroughLemmas

@@ -5,3 +5,5 @@
 mod driver;
 #[cfg(test)]
 mod rows;
+#[cfg(test)]
+mod scripts;

@@ -74,22 +74,6 @@ counted_text trace counts outcomes closing = report_of trace outcomes (history_o
 abbrev pub make_text : Workload → List (List Outcome) → Closing → List ℕ
 make_text workload outcomes closing = summary_of workload outcomes (history_of closing)
 
--- the line of how many allocations caches have served, and what `cache` tells
-abbrev pub hits_line : List ℕ → List ℕ
-hits_line hits = line (codes "hits" ∷ decimal (sum hits) ∷ [])
-
-abbrev pub cache_text : Trace → List (List Outcome) → List ℕ → Closing → List ℕ
-cache_text trace outcomes hits closing = report_of trace outcomes (history_of closing) ++ hits_line hits
-
--- a trace was run through caches of this depth, and the text tells this of its outcomes and of what the caches served
-pub record IsCacheTold (passed : ℕ → ℕ → Type 0) (trace : Trace) (depth : ℕ) (closed : Option Closing) (text : List ℕ) : Type 0 where
-  pub outcomes : List (List Outcome)
-  pub hits : List ℕ
-  pub closing : Closing
-  pub closed_is : closed ≡ Some closing
-  pub run : IsCachedRun passed trace depth hits closing outcomes
-  pub text_is : text ≡ cache_text trace outcomes hits closing
-
 -- what they tell of a roomy trace: the machine's steps and the heap's census are still those of the run
 abbrev pub serial_replay : Trace → Closing → List ℕ
 serial_replay trace closing = serial_report_of trace
@@ -108,10 +92,26 @@ serial_make workload closing = serial_summary_of workload
 abbrev pub HasOneSummary : Workload → List ℕ → Type 0
 HasOneSummary workload text = workload.kind ≢ Pipeline → text ≡ serial_summary_of workload
 
+-- the line of how many allocations caches have served, and what `cache` tells: that line behind the report
+abbrev pub hits_line : List ℕ → List ℕ
+hits_line hits = line (codes "hits" ∷ decimal (sum hits) ∷ [])
+
+abbrev pub cache_text : Trace → List (List Outcome) → List ℕ → Closing → List ℕ
+cache_text trace outcomes hits closing = report_of trace outcomes (history_of closing) ++ hits_line hits
+
+-- a trace was run through caches of this depth, and the text tells this of its outcomes and of what the caches served
+pub record IsCacheTold (passed : ℕ → ℕ → Type 0) (trace : Trace) (depth : ℕ) (closed : Option Closing) (text : List ℕ) : Type 0 where
+  pub outcomes : List (List Outcome)
+  pub hits : List ℕ
+  pub closing : Closing
+  pub closed_is : closed ≡ Some closing
+  pub run : IsCachedRun passed trace depth hits closing outcomes
+  pub text_is : text ≡ cache_text trace outcomes hits closing
+
 -- what each command writes where nothing is refused: `replay` runs the trace that the bytes are read as on threads,
--- `schedule` on a machine in the order of its order runs, `census` on threads and counts the closed heap, and `make` the trace
--- of its workload on threads; `print` runs none; `pipe` runs a pipeline on threads, and `store` the script of a store on a heap of one caller; `cache` runs the trace
--- that the bytes are read as on threads, each lane through a cache
+-- `schedule` on a machine in the order of its order runs, `census` on threads and counts the closed heap, `cache` on threads
+-- through caches, and `make` the trace of its workload on threads; `print` runs none; `pipe` runs a pipeline on threads, and
+-- `store` the script of a store on a heap of one caller
 abbrev pub IsReport : (ℕ → ℕ → Type 0) → Command → List ℕ → Option Closing → List ℕ → Type 0
 IsReport passed Replay bytes closed text =
     (trace : Trace) × (reading_of bytes ≡ Read trace) × IsTold passed trace (IsSharedIn trace) (replay_text trace) (serial_replay trace) closed text

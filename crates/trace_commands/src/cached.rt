@@ -23,7 +23,7 @@ use trace_text::trace::Trace;
 /// A run of a trace through caches: the heap at its end, the outcomes of each lane, and how many of its
 /// allocations its cache has served.
 #[derive(Drop)]
-struct CachedRun {
+struct ClosedRun {
     closed: Closed,
     outcomes: Vec<Vec<Outcome>>,
     hits: Vec<u64>,
@@ -38,7 +38,7 @@ fn run_cached<R: Threads + Wait + Sync, G: Gate + Sync>(
     gate: &G,
     trace: &Trace,
     depth: u8,
-) -> Result<CachedRun, AllocError>
+) -> Result<ClosedRun, AllocError>
     requires trace { IsTrace trace.now }
     requires depth { IsDepth depth }
     ensures { IfOk result (λ run. IsCachedRun (G.passed gate.now) trace.now depth run.hits.items (Closing.Ran run.closed)
@@ -49,7 +49,7 @@ fn run_cached<R: Threads + Wait + Sync, G: Gate + Sync>(
     let (heap, passes) = Heap::open(alloc, trace.heap)?;
     let run = run_through_caches(rt, alloc, trace, &heap, passes, depth, gate)?;
     match heap.close(alloc, run.passes) {
-        Ok(closed) => Ok(CachedRun {
+        Ok(closed) => Ok(ClosedRun {
             closed,
             outcomes: run.outcomes,
             hits: run.hits,
@@ -63,8 +63,8 @@ fn total(hits: &[u64]) -> u128
     ensures { result ≡ sum hits.now }
 {
     let mut total = 0;
-    for i in 0..hits.len() {
-        total += u128::from(hits[i]);
+    for served in hits {
+        total += u128::from(*served);
     }
     total
 }

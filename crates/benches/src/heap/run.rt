@@ -7,9 +7,10 @@ ghost use Rattle.live_heap.specs.Passes.{AreFrom};
 ghost use Rattle.benches.specs.declared.heap.worker.Worker.{Worker};
 ghost use Rattle.benches.specs.Hands.{IsReady, Rests};
 
-use crate::command::{Command, Task};
-use crate::heap::steps::{make_blocks, make_pairs, make_steps, make_words};
+use crate::command::Command;
+use crate::heap::front::Front;
 use crate::heap::tally::Tally;
+use crate::heap::work::Work;
 use crate::heap::worker::{MOST_HELD, Worker};
 use crossbeam_utils::CachePadded;
 use heap_scripts::random::Random;
@@ -28,19 +29,19 @@ pub struct Outcome {
     pub lost: u64,
 }
 
-/// Opens a heap, lets each thread do the task, and closes the heap.
-pub fn run<R: Threads + Wait + Sync>(
+/// Opens a heap, lets each thread do the work through a front of its own, and closes the heap.
+pub fn run<R: Threads + Wait + Sync, F: Front + Send, W: Work<F> + Sync>(
     rt: &R,
     alloc: Global,
-    task: Task,
+    work: &W,
     command: Command,
 ) -> Result<Outcome, AllocError>
     requires { IsChecked command.geometry }
 {
     let (heap, passes) = Heap::open(alloc, command.geometry)?;
-    let mut workers = hire(alloc, &heap, passes, command.seed)?;
-    work_all(rt, &heap, workers.as_mut_slice(), task, command.count);
-    let (passes, tally) = dismiss(alloc, &heap, workers)?;
+    let mut workers = hire::<F>(alloc, &heap, passes, command.seed)?;
+    work_all(rt, &heap, workers.as_mut_slice(), work, command.count);
+    let (passes, tally) = dismiss(rt, alloc, &heap, workers)?;
     match heap.close(alloc, passes) {
         Ok(closed) => Ok(Outcome {
             tally,
@@ -52,20 +53,23 @@ pub fn run<R: Threads + Wait + Sync>(
 }
 
 /// A worker for each pass, with an empty hand.
-fn hire(
+fn hire<F: Front>(
     alloc: Global,
-    _heap: &Heap,
+    heap: &Heap,
     passes: Vec<Pass>,
     seed: u64,
-) -> Result<Vec<CachePadded<Worker>>, AllocError>
-    requires { AreFrom _heap.now 0 passes.items }
-    ensures { IfOk result (λ workers. All (λ w. IsReady _heap.now (padded_value {T = Worker} w)) workers.items × (length workers.items ≡ length passes.items)) }
+) -> Result<Vec<CachePadded<Worker<F>>>, AllocError>
+    requires { AreFrom heap.now 0 passes.items }
+    ensures { IfOk result (λ workers. All (λ w. IsReady F.rests F.holds heap.now (padded_value {T = Worker F} w)) workers.items × (length workers.items ≡ length passes.items)) }
 {
     let mut workers = Vec::new(alloc);
     for pass in passes {
-        let random = Random::new(seed, pass.caller());
+        let caller = pass.caller();
+        let front = F::open(alloc, heap, pass)?;
+        let random = Random::new(seed, caller);
         workers.push(CachePadded::new(Worker {
-            pass,
+            front,
+            caller,
             hand: Vec::with_capacity(alloc, MOST_HELD as usize)?,
             random,
             stamps: 0,
@@ -76,15 +80,15 @@ fn hire(
 }
 
 /// Each worker on a thread of its own.
-fn work_all<R: Threads + Wait + Sync>(
+fn work_all<R: Threads + Wait + Sync, F: Front + Send, W: Work<F> + Sync>(
     rt: &R,
     heap: &Heap,
-    workers: &mut [CachePadded<Worker>],
-    task: Task,
+    workers: &mut [CachePadded<Worker<F>>],
+    work: &W,
     count: u64,
 )
-    requires { All (λ w. IsReady heap.now (padded_value {T = Worker} w)) workers.old }
-    ensures { (i : ℕ) (d : _) → i < length workers.old → Rests heap.now (padded_value {T = Worker} (slice_index_or workers.new i d)).pass }
+    requires { All (λ w. IsReady F.rests F.holds heap.now (padded_value {T = Worker F} w)) workers.old }
+    ensures { (i : ℕ) (d : _) → i < length workers.old → F.rests heap.now (padded_value {T = Worker F} (slice_index_or workers.new i d)).front }
 {
     if workers.is_empty() {
         return;
@@ -94,62 +98,50 @@ fn work_all<R: Threads + Wait + Sync>(
         rt,
         workers,
         threads,
-        &|_, worker: &mut CachePadded<Worker>|
-            requires { IsReady heap.now (padded_value {T = Worker} worker.old) }
-            ensures { Rests heap.entry.now (padded_value {T = Worker} worker.new).pass }
-        { work_padded(rt, heap, worker, task, count) },
+        &|_, worker: &mut CachePadded<Worker<F>>|
+            requires { IsReady F.rests F.holds heap.now (padded_value {T = Worker F} worker.old) }
+            ensures { F.rests heap.entry.now (padded_value {T = Worker F} worker.new).front }
+        { work_padded(rt, heap, worker, work, count) },
     );
 }
 
-/// The task of the worker in its padding.
-fn work_padded<R: Wait>(
+/// The work of the worker in its padding.
+fn work_padded<R: Wait, F: Front, W: Work<F>>(
     rt: &R,
     heap: &Heap,
-    worker: &mut CachePadded<Worker>,
-    task: Task,
+    worker: &mut CachePadded<Worker<F>>,
+    work: &W,
     count: u64,
 )
-    requires { IsReady heap.now (padded_value {T = Worker} worker.old) }
-    ensures { Rests heap.now (padded_value {T = Worker} worker.new).pass }
+    requires { IsReady F.rests F.holds heap.now (padded_value {T = Worker F} worker.old) }
+    ensures { F.rests heap.now (padded_value {T = Worker F} worker.new).front }
 {
-    let worker: &mut Worker = worker;
-    work(rt, heap, worker, task, count);
-}
-
-/// The task of one worker.
-fn work<R: Wait>(rt: &R, heap: &Heap, worker: &mut Worker, task: Task, count: u64)
-    requires { IsReady heap.now worker.old }
-    ensures { Rests heap.now worker.new.pass }
-{
-    match task {
-        Task::Steps => make_steps(rt, heap, &mut worker.pass, count, true, &mut worker.tally),
-        Task::Hold => make_steps(rt, heap, &mut worker.pass, count, false, &mut worker.tally),
-        Task::Pairs => make_pairs(rt, heap, &mut worker.pass, count, &mut worker.tally),
-        Task::Words => make_words(rt, heap, &mut worker.pass, count, &mut worker.tally),
-        Task::Blocks => make_blocks(rt, heap, &mut worker.pass, count, &mut worker.tally),
-        Task::Stress => worker.stress(rt, heap, count),
-    }
+    let worker: &mut Worker<F> = worker;
+    work.work(rt, heap, worker, count);
 }
 
 /// The passes of the workers, and what these did together.
-fn dismiss(
+fn dismiss<R: Wait, F: Front>(
+    rt: &R,
     alloc: Global,
-    _heap: &Heap,
-    workers: Vec<CachePadded<Worker>>,
+    heap: &Heap,
+    workers: Vec<CachePadded<Worker<F>>>,
 ) -> Result<(Vec<Pass>, Tally), AllocError>
-    requires { All (λ w. Rests _heap.now (padded_value {T = Worker} w).pass) workers.items }
-    ensures { IfOk result (λ r. All (λ p. Rests _heap.now p) r.0.items × (length r.0.items ≡ length workers.items)) }
+    requires { All (λ w. F.rests heap.now (padded_value {T = Worker F} w).front) workers.items }
+    ensures { IfOk result (λ r. All (λ p. Rests heap.now p) r.0.items × (length r.0.items ≡ length workers.items)) }
 {
     let mut passes = Vec::new(alloc);
     let mut tally = Tally::new();
     for worker in workers {
         let Worker {
-            pass,
+            front,
+            caller: _,
             hand: _,
             random: _,
             stamps: _,
             tally: mut made,
         } = worker.into_inner();
+        let pass = front.close(rt, heap);
         made.cleared = pass.cleared();
         tally = tally.with(made);
         passes.push(pass)?;

@@ -1,22 +1,16 @@
-//! Steps in a row, and pairs of calls.
+//! Steps in a row.
 
-ghost use Rattle.live_heap.specs.Passes.{IsOf, Owns};
-ghost use Rattle.benches.specs.Hands.{Keeps, Rests};
+ghost use Rattle.live_heap.specs.Passes.{IsOf};
+ghost use Rattle.benches.specs.Hands.{IsReady, Rests};
 
-use crate::heap::calls::{allocate, release};
-use crate::heap::stamps::{fill, wrong_words};
+use crate::command::Steps;
 use crate::heap::tally::{Tally, count};
+use crate::heap::work::Work;
+use crate::heap::worker::Worker;
 use live_heap::answers::{Ending, Step};
-use live_heap::block::Block;
 use live_heap::heap::Heap;
 use live_heap::pass::Pass;
 use std::sync::Wait;
-
-/// How many tries a call has until it is interrupted.
-const TRIES: u32 = 4;
-
-/// How many usable words the blocks have that are filled and checked.
-const WORDS: u32 = 31;
 
 /// Makes so many steps, and those that end the last call: allocations of one word, and where `frees` says
 /// so the free of each block behind its allocation.
@@ -62,51 +56,15 @@ fn make_step(heap: &Heap, pass: &mut Pass, frees: bool, tally: &mut Tally)
     }
 }
 
-/// So many allocations of one word, each with its free behind it.
-pub fn make_pairs<R: Wait>(rt: &R, heap: &Heap, pass: &mut Pass, pairs: u64, tally: &mut Tally)
-    requires { Rests heap.now pass.old }
-    ensures { Rests heap.now pass.new }
-{
-    for _ in 0..pairs {
-        count(&mut tally.made);
-        if let Some(block) = allocate(rt, heap, pass, 1, TRIES, tally) {
-            release(rt, heap, pass, block, TRIES, tally);
-        }
-    }
-}
-
-/// Fills a block and checks it, so many times.
-pub fn make_words<R: Wait>(rt: &R, heap: &Heap, pass: &mut Pass, rounds: u64, tally: &mut Tally)
-    requires { Rests heap.now pass.old }
-    ensures { Rests heap.now pass.new }
-{
-    if let Some(block) = allocate(rt, heap, pass, WORDS, TRIES, tally) {
-        turn_over(heap, pass, &block, rounds, tally);
-        release(rt, heap, pass, block, TRIES, tally);
-    }
-}
-
-/// The rounds of one block.
-fn turn_over(heap: &Heap, pass: &mut Pass, block: &Block, rounds: u64, tally: &mut Tally)
-    requires rests { Rests heap.now pass.old }
-    requires owned { Owns pass.old block.now }
-    ensures rests { Rests heap.now pass.new }
-    ensures keeps { Keeps pass.old pass.new }
-{
-    for round in 0..rounds {
-        count(&mut tally.made);
-        fill(heap, pass, block, round);
-        let wrong = wrong_words(heap, pass, block, round);
-        tally.wrong = tally.wrong.saturating_add(wrong);
-    }
-}
-
-/// So many allocations that are filled, checked and freed.
-pub fn make_blocks<R: Wait>(rt: &R, heap: &Heap, pass: &mut Pass, rounds: u64, tally: &mut Tally)
-    requires { Rests heap.now pass.old }
-    ensures { Rests heap.now pass.new }
-{
-    for _ in 0..rounds {
-        make_words(rt, heap, pass, 1, tally);
+impl Work<Pass> for Steps {
+    fn work<R: Wait>(&self, rt: &R, heap: &Heap, worker: &mut Worker<Pass>, count: u64) {
+        make_steps(
+            rt,
+            heap,
+            &mut worker.front,
+            count,
+            self.frees,
+            &mut worker.tally,
+        );
     }
 }

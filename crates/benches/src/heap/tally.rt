@@ -1,5 +1,7 @@
 //! Counts of what threads did.
 
+use live_heap::block::Block;
+
 /// What one thread did, or all of them. Each count stands still at its end.
 #[derive(Clone, Copy)]
 pub struct Tally {
@@ -17,6 +19,8 @@ pub struct Tally {
     pub busy: u64,
     /// Empty superblocks that were taken for partial ones.
     pub cleared: u64,
+    /// Words of blocks that were written or checked, each by a step of its own.
+    pub words: u64,
     /// Words of a block that weren't what its owner had written there.
     pub wrong: u64,
 }
@@ -34,6 +38,7 @@ impl Tally {
             missed: 0,
             busy: 0,
             cleared: 0,
+            words: 0,
             wrong: 0,
         }
     }
@@ -50,8 +55,14 @@ impl Tally {
             missed: self.missed.saturating_add(other.missed),
             busy: self.busy.saturating_add(other.busy),
             cleared: self.cleared.saturating_add(other.cleared),
+            words: self.words.saturating_add(other.words),
             wrong: self.wrong.saturating_add(other.wrong),
         }
+    }
+
+    /// Counts the words of a block that was filled or checked.
+    pub fn count_words(&mut self, block: &Block) {
+        self.words = self.words.saturating_add(u64::from(block.words()));
     }
 }
 

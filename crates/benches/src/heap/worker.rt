@@ -1,17 +1,15 @@
 //! What one thread works with, and its rounds.
 
-ghost use Rattle.std.specs.Prelude.{◌≡◌, ◌<◌, IfSome};
-ghost use Rattle.heap_geometry.specs.declared.limits.TheConstants.{SHELVES};
-ghost use Rattle.live_heap.specs.Passes.{Owns};
+ghost use Rattle.std.specs.Prelude.{◌≡◌, ◌<◌, ◌≤◌, IfNone, IfSome};
+ghost use Rattle.heap_geometry.specs.declared.limits.TheConstants.{LARGE_MOST, SHELVES};
 
-use crate::heap::calls::{allocate, fetch, release, shelve};
+use crate::heap::front::Front;
 use crate::heap::stamps::{fill, first_word, wrong_words};
 use crate::heap::tally::{Tally, count};
 use heap_geometry::limits::{CLASSES, SMALL_MOST};
 use heap_scripts::random::Random;
 use live_heap::block::Block;
 use live_heap::heap::Heap;
-use live_heap::pass::Pass;
 use std::sync::Wait;
 
 /// The most blocks in a hand.
@@ -29,8 +27,11 @@ pub struct Held {
 
 /// What one thread works with.
 #[derive(Drop)]
-pub struct Worker {
-    pub pass: Pass,
+pub struct Worker<F> {
+    /// What it makes its calls through.
+    pub front: F,
+    /// The number of its caller.
+    pub caller: u32,
     pub hand: Vec<Held>,
     pub random: Random,
     /// How many stamps the thread has used.
@@ -40,7 +41,9 @@ pub struct Worker {
 
 /// The usable words that are asked for next: mostly those of a small block, of which half are as often of
 /// one class as of another, and now and then those of some units.
-fn next_need(random: &mut Random) -> u32 {
+fn next_need(random: &mut Random) -> u32
+    ensures { result ≤ LARGE_MOST }
+{
     match random.below(32) {
         0 => SMALL_MOST + 1 + random.below(6000),
         1..=15 => {
@@ -70,15 +73,15 @@ fn next_tries(random: &mut Random) -> u32
     }
 }
 
-impl Worker {
-    ghost use Rattle.std.specs.Prelude.{◌∷◌, ◌≢◌, All, vec_len, vec_capacity};
-    ghost use Rattle.live_heap.specs.Holdings.{Holds};
-    ghost use Rattle.benches.specs.Hands.{IsWorking, Keeps, Rests, blocks_of};
+impl<F: Front> Worker<F> {
+    ghost use Rattle.std.specs.Prelude.{◌∷◌, List, vec_len, vec_capacity};
+    ghost use Rattle.live_heap.specs.declared.block.Block.{Block};
+    ghost use Rattle.benches.specs.Hands.{IsWorking, Keeps, blocks_of};
 
     /// So many rounds of calls, and then all blocks in the hand are given back.
     pub fn stress<R: Wait>(&mut self, rt: &R, heap: &Heap, rounds: u64)
-        requires { IsWorking heap.now self.old }
-        ensures { IsWorking heap.now self.new }
+        requires { IsWorking F.rests F.holds heap.now self.old }
+        ensures { IsWorking F.rests F.holds heap.now self.new }
     {
         for _ in 0..rounds {
             self.round(rt, heap);
@@ -89,8 +92,8 @@ impl Worker {
 
     /// A call that is picked at random.
     fn round<R: Wait>(&mut self, rt: &R, heap: &Heap)
-        requires { IsWorking heap.now self.old }
-        ensures { IsWorking heap.now self.new }
+        requires { IsWorking F.rests F.holds heap.now self.old }
+        ensures { IsWorking F.rests F.holds heap.now self.new }
     {
         match self.random.below(8) {
             0 => self.put_one(rt, heap),
@@ -102,44 +105,45 @@ impl Worker {
 
     /// Gets a block, where the hand has room for it, and fills it with a stamp that no other block has.
     fn get<R: Wait>(&mut self, rt: &R, heap: &Heap)
-        requires { IsWorking heap.now self.old }
-        ensures { IsWorking heap.now self.new }
+        requires { IsWorking F.rests F.holds heap.now self.old }
+        ensures { IsWorking F.rests F.holds heap.now self.new }
     {
         if self.hand.len() == self.hand.capacity() {
             return;
         }
         let need = next_need(&mut self.random);
         let tries = next_tries(&mut self.random);
-        if let Some(block) = allocate(rt, heap, &mut self.pass, need, tries, &mut self.tally) {
+        if let Some(block) = self.front.allocate(rt, heap, need, tries, &mut self.tally) {
             let stamp = self.next_stamp();
-            fill(heap, &mut self.pass, &block, stamp);
+            fill(heap, &mut self.front, &block, stamp);
+            self.tally.count_words(&block);
             self.hold(block, stamp);
         }
     }
 
     /// A number that no other call gives, of this worker or another.
     fn next_stamp(&mut self) -> u64
-        ensures pass { self.new.pass ≡ self.old.pass }
+        ensures front { self.new.front ≡ self.old.front }
         ensures hand { self.new.hand ≡ self.old.hand }
     {
         self.stamps = self.stamps.wrapping_add(1);
         self.stamps
             .wrapping_mul(16)
-            .wrapping_add(u64::from(self.pass.caller()))
+            .wrapping_add(u64::from(self.caller))
     }
 
     /// Takes a block from a shelf, where the hand has room for it, and checks that all its words are the
     /// same.
     fn take_up(&mut self, heap: &Heap)
-        requires { IsWorking heap.now self.old }
-        ensures { IsWorking heap.now self.new }
+        requires { IsWorking F.rests F.holds heap.now self.old }
+        ensures { IsWorking F.rests F.holds heap.now self.new }
     {
         if self.hand.len() == self.hand.capacity() {
             return;
         }
         let shelf = next_shelf(&mut self.random);
-        if let Some(block) = fetch(heap, &mut self.pass, shelf, &mut self.tally) {
-            let stamp = first_word(heap, &mut self.pass, &block);
+        if let Some(block) = self.front.fetch(heap, shelf, &mut self.tally) {
+            let stamp = first_word(heap, &mut self.front, &block);
             self.check(heap, &block, stamp);
             self.hold(block, stamp);
         }
@@ -147,11 +151,12 @@ impl Worker {
 
     /// One of the blocks in the hand; none where the place that was picked is empty.
     fn pick(&mut self) -> Option<Held>
-        requires { Holds self.old.pass (blocks_of self.old.hand.items) }
-        ensures pass { self.new.pass ≡ self.old.pass }
-        ensures hand { Holds self.new.pass (blocks_of self.new.hand.items) }
-        ensures held { IfSome result (λ held. Holds self.new.pass (held.block ∷ blocks_of self.new.hand.items)) }
+        requires { F.holds self.old.front (blocks_of self.old.hand.items) }
+        ensures front { self.new.front ≡ self.old.front }
+        ensures none { IfNone result (self.new.hand ≡ self.old.hand) }
+        ensures held { IfSome result (λ held. F.holds self.new.front (held.block ∷ blocks_of self.new.hand.items)) }
     {
+        F::blocks_have_no_order();
         let place = self.random.below(MOST_HELD) as usize;
         if place < self.hand.len() {
             Some(self.hand.remove(place))
@@ -162,8 +167,8 @@ impl Worker {
 
     /// Frees one of the blocks in the hand.
     fn free_one<R: Wait>(&mut self, rt: &R, heap: &Heap)
-        requires { IsWorking heap.now self.old }
-        ensures { IsWorking heap.now self.new }
+        requires { IsWorking F.rests F.holds heap.now self.old }
+        ensures { IsWorking F.rests F.holds heap.now self.new }
     {
         if let Some(held) = self.pick() {
             self.give_back(rt, heap, held);
@@ -172,8 +177,8 @@ impl Worker {
 
     /// Puts one of them on a shelf.
     fn put_one<R: Wait>(&mut self, rt: &R, heap: &Heap)
-        requires { IsWorking heap.now self.old }
-        ensures { IsWorking heap.now self.new }
+        requires { IsWorking F.rests F.holds heap.now self.old }
+        ensures { IsWorking F.rests F.holds heap.now self.new }
     {
         if let Some(held) = self.pick() {
             self.put_down(rt, heap, held);
@@ -182,65 +187,61 @@ impl Worker {
 
     /// Checks a block from the hand, and frees it.
     fn give_back<R: Wait>(&mut self, rt: &R, heap: &Heap, held: Held)
-        requires rests { Rests heap.now self.old.pass }
-        requires holds { Holds self.old.pass (held.block ∷ blocks_of self.old.hand.items) }
-        ensures working { IsWorking heap.now self.new }
+        requires rests { F.rests heap.now self.old.front }
+        requires holds { F.holds self.old.front (held.block ∷ blocks_of self.old.hand.items) }
+        ensures working { IsWorking F.rests F.holds heap.now self.new }
         ensures hand { self.new.hand ≡ self.old.hand }
     {
         let Held { block, stamp } = held;
         self.check(heap, &block, stamp);
         let tries = next_tries(&mut self.random);
-        release(rt, heap, &mut self.pass, block, tries, &mut self.tally);
+        self.front.release(rt, heap, block, tries, &mut self.tally);
     }
 
     /// Checks a block from the hand, and puts it on a shelf.
     fn put_down<R: Wait>(&mut self, rt: &R, heap: &Heap, held: Held)
-        requires rests { Rests heap.now self.old.pass }
-        requires holds { Holds self.old.pass (held.block ∷ blocks_of self.old.hand.items) }
-        ensures { IsWorking heap.now self.new }
+        requires rests { F.rests heap.now self.old.front }
+        requires holds { F.holds self.old.front (held.block ∷ blocks_of self.old.hand.items) }
+        ensures { IsWorking F.rests F.holds heap.now self.new }
     {
         let Held { block, stamp } = held;
         self.check(heap, &block, stamp);
         let shelf = next_shelf(&mut self.random);
         let tries = next_tries(&mut self.random);
-        shelve(
-            rt,
-            heap,
-            &mut self.pass,
-            block,
-            shelf,
-            tries,
-            &mut self.tally,
-        );
+        self.front
+            .shelve(rt, heap, block, shelf, tries, &mut self.tally);
     }
 
     /// Counts the words of a block that are another number than its stamp.
     fn check(&mut self, heap: &Heap, block: &Block, stamp: u64)
-        requires rests { Rests heap.now self.old.pass }
-        requires owned { Owns self.old.pass block.now }
-        ensures rests { Rests heap.now self.new.pass }
-        ensures keeps { Keeps self.old.pass self.new.pass }
+        requires rests { F.rests heap.now self.old.front }
+        requires held { (others : List Block) × F.holds self.old.front (block.now ∷ others) }
+        ensures rests { F.rests heap.now self.new.front }
+        ensures keeps { Keeps F.holds self.old.front self.new.front }
         ensures hand { self.new.hand ≡ self.old.hand }
     {
-        let wrong = wrong_words(heap, &mut self.pass, block, stamp);
+        let wrong = wrong_words(heap, &mut self.front, block, stamp);
+        self.tally.count_words(block);
         self.tally.wrong = self.tally.wrong.saturating_add(wrong);
     }
 
     /// Puts a block into the hand.
     fn hold(&mut self, block: Block, stamp: u64)
         requires room { vec_len self.old.hand < vec_capacity self.old.hand }
-        requires holds { Holds self.old.pass (block ∷ blocks_of self.old.hand.items) }
-        ensures pass { self.new.pass ≡ self.old.pass }
-        ensures holds { Holds self.new.pass (blocks_of self.new.hand.items) }
+        requires holds { F.holds self.old.front (block ∷ blocks_of self.old.hand.items) }
+        ensures front { self.new.front ≡ self.old.front }
+        ensures holds { F.holds self.new.front (blocks_of self.new.hand.items) }
     {
+        F::blocks_have_no_order();
         self.hand.push_reserved(Held { block, stamp });
     }
 
     /// Checks all blocks in the hand, and frees them.
     fn give_all_back<R: Wait>(&mut self, rt: &R, heap: &Heap)
-        requires { IsWorking heap.now self.old }
-        ensures { IsWorking heap.now self.new }
+        requires { IsWorking F.rests F.holds heap.now self.old }
+        ensures { IsWorking F.rests F.holds heap.now self.new }
     {
+        F::blocks_have_no_order();
         while !self.hand.is_empty() {
             let held = self.hand.remove(0);
             self.give_back(rt, heap, held);

@@ -1,12 +1,14 @@
+use Rattle.std.proofs.Common.{◌∷◌}
 use Rattle.benches.proofs.heap.stamps.fill.Goals as goal
 
-pub write-requires-clause-owned : goal.write-requires-clause-owned
-write-requires-clause-owned c = c.loop-i.invariant.keeps c.args.block.now c.requires.owned
+pub write-requires-clause-held : goal.write-requires-clause-held
+write-requires-clause-held g c =
+    let held = c.requires.held in
+    (held.0, c.loop-i.invariant.keeps (c.args.block.now ∷ held.0) held.1)
 
 pub loop-i-preserved : goal.loop-i-preserved
-loop-i-preserved c =
-    let i = c.loop-i.invariant in
+loop-i-preserved g c =
     record {
-      rests = (c.write.ensures.of, c.write.ensures.called.idle);
-      keeps = λ block owned. c.passes_keep_their_blocks.ensures.called _ _ _ _ _ _ block i.rests.0 c.write.ensures.of c.write.ensures.called tt (i.keeps block owned);
+      rests = c.write.ensures.rests;
+      keeps = λ blocks held. c.write.ensures.holds blocks (c.loop-i.invariant.keeps blocks held);
     }

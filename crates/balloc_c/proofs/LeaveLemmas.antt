@@ -1,0 +1,143 @@
+-- The blocks of a table are freed one after the other.
+use Rattle.std.proofs.Common.{Bool, true, false, true≢false, Ok, Err, ◌≢◌, ℕ, zero, suc, ◌≡◌, ◌<◌, ◌≤◌, ◌+◌, Option, Some, None, List, [], ◌∷◌, ◌++◌, length, take, drop, slice_index_or, refl, sym, ap, ◌∙◌, subst, append-nil, arith}
+use Rattle.std.proofs.lemmas.List.{drop_all, take_all, take_more}
+use Rattle.std.proofs.lemmas.Bool.Decides.{eqb_tells}
+use Rattle.errand_steps.specs.Points.{is_idle}
+use Rattle.live_heap.specs.declared.answers.FreeAnswer.{FreeAnswer}
+use Rattle.live_heap.specs.declared.answers.FreeAnswer.TheVariants as free_answer
+use Rattle.live_heap.specs.declared.block.Block.{Block}
+use Rattle.live_heap.specs.declared.pass.Pass.{Pass}
+use Rattle.live_heap.specs.Answers.{FreeTells}
+use Rattle.balloc_c.specs.declared.calls.TheConstants.{TRIES}
+use Rattle.balloc_c.specs.declared.refusal.Refusal.TheVariants as refusal
+use Rattle.balloc_c.specs.declared.table.Slot.{Slot}
+use Rattle.balloc_c.specs.declared.table.Table.{Table}
+use Rattle.balloc_c.specs.Closed.{FreesAll, FreesSlot, FreesTable, HasFreedAll, StopsAt}
+use Rattle.balloc_c.specs.Outcomes.{barred, is_busy}
+use Rattle.balloc_c.specs.Slots.{block_at, blocks_of, list_of, no_slot, set_block, with_block}
+use Rattle.balloc_c.proofs.BarLemmas.{in-none, makes}
+use Rattle.balloc_c.proofs.Slots.{about, block-set_other, block-set_same, blocks-append, by_case}
+
+frees-more :
+    (p q r : Pass) (blocks : List Block) (block : Block) → FreesAll p blocks q → FreeTells q block TRIES free_answer.Freed r
+    → FreesAll p (blocks ++ block ∷ []) r
+frees-more p q r [] block freed one = (r, subst (λ (s : Pass). FreeTells s block TRIES free_answer.Freed r) freed one, refl)
+frees-more p q r (b ∷ bs) block freed one = (freed.0, freed.1, frees-more freed.0 q r bs block freed.2 one)
+
+frees-slot :
+    (p q r : Pass) (blocks : List Block) (slot : Option Block) → FreesAll p blocks q → FreesSlot q slot free_answer.Freed r
+    → FreesAll p (blocks ++ list_of slot) r
+frees-slot p q r blocks None freed one =
+    subst (λ (l : List Block). FreesAll p l r) (sym (append-nil blocks)) (subst (FreesAll p blocks) (sym one.1) freed)
+frees-slot p q r blocks (Some block) freed one = frees-more p q r blocks block freed one
+
+-- the slots up to one more are freed
+pub frees-next :
+    (p q r : Pass) (slots : List Slot) (i : ℕ) → i < length slots → FreesAll p (blocks_of (take i slots)) q
+    → FreesSlot q (block_at slots i) free_answer.Freed r → FreesAll p (blocks_of (take (i + 1) slots)) r
+frees-next p q r slots i within freed one =
+    let slot = slice_index_or slots i no_slot in
+    subst (λ (l : List Block). FreesAll p l r)
+    (sym (ap blocks_of (take_more slots i no_slot within) ∙ blocks-append (take i slots) (slot ∷ [])))
+    (frees-slot p q r (blocks_of (take i slots)) slot.block freed one)
+
+same-blocks : (xs ys : List Slot) → length xs ≡ length ys → ((k : ℕ) → block_at xs k ≡ block_at ys k) → blocks_of xs ≡ blocks_of ys
+same-blocks [] [] count each = refl
+same-blocks [] (y ∷ ys) count each = absurd (omega (arith, count))
+same-blocks (x ∷ xs) [] count each = absurd (omega (arith, count))
+same-blocks (x ∷ xs) (y ∷ ys) count each =
+    ap (λ (b : Option Block). with_block b (blocks_of xs)) (each 0)
+    ∙ ap (with_block y.block) (same-blocks xs ys (omega (arith, count)) (λ k. each (suc k)))
+
+-- the first slots have been emptied, and the others are as they were
+pub left-behind :
+    (before after : List Slot) (i : ℕ) → length after ≡ length before → ((k : ℕ) → k < i → block_at after k ≡ None)
+    → ((k : ℕ) → i ≤ k → block_at after k ≡ block_at before k) → blocks_of after ≡ blocks_of (drop i before)
+left-behind [] [] zero count empty rest = refl
+left-behind [] [] (suc i) count empty rest = refl
+left-behind [] (u ∷ us) i count empty rest = absurd (omega (arith, count))
+left-behind (t ∷ ts) [] i count empty rest = absurd (omega (arith, count))
+left-behind (t ∷ ts) (u ∷ us) zero count empty rest = same-blocks (u ∷ us) (t ∷ ts) count (λ k. rest k (omega arith))
+left-behind (t ∷ ts) (u ∷ us) (suc i) count empty rest =
+    ap (λ (b : Option Block). with_block b (blocks_of us)) (empty 0 (omega arith))
+    ∙ left-behind ts us i (omega (arith, count)) (λ k low. empty (suc k) (omega (arith, low))) (λ k high. rest (suc k) (omega (arith, high)))
+
+-- one slot more is empty, and those behind it are as they were
+pub empty-next :
+    (before slots after : List Slot) (i : ℕ) → i < length slots → ((k : ℕ) → block_at after k ≡ block_at (set_block slots i None) k)
+    → ((k : ℕ) → k < i → block_at slots k ≡ None) → (k : ℕ) → k < i + 1 → block_at after k ≡ None
+empty-next before slots after i within now empty k low =
+    let slot : Slot = record (slice_index_or slots i no_slot) { block = None } in
+    by_case
+    (λ at. now k ∙ subst (λ (n : ℕ). block_at (set_block slots i None) n ≡ None) (sym at.1) (block-set_same slots i slot within))
+    (λ apart. now k ∙ block-set_other slots i k slot apart.1 ∙ empty k (omega (arith, low, apart.1))) (eqb_tells k i)
+
+pub rest-next :
+    (before slots after : List Slot) (i : ℕ) → ((k : ℕ) → block_at after k ≡ block_at (set_block slots i None) k)
+    → ((k : ℕ) → i ≤ k → block_at slots k ≡ block_at before k) → (k : ℕ) → i + 1 ≤ k → block_at after k ≡ block_at before k
+rest-next before slots after i now rest k high =
+    let slot : Slot = record (slice_index_or slots i no_slot) { block = None } in
+    let apart : k ≢ i = λ at. omega (arith, high, at) in
+    now k ∙ block-set_other slots i k slot apart ∙ rest k (omega (arith, high))
+
+-- the slot that is freed next
+pub frees-on :
+    (p q r : Pass) (before slots : List Slot) (i : ℕ) (answer : FreeAnswer) → i < length before
+    → ((k : ℕ) → i ≤ k → block_at slots k ≡ block_at before k) → FreesAll p (blocks_of (take i before)) q
+    → FreesSlot q (block_at slots i) answer r → answer ≡ free_answer.Freed → FreesAll p (blocks_of (take (i + 1) before)) r
+frees-on p q r before slots i answer within rest freed one is =
+    frees-next p q r before i within freed
+    (subst (λ (a : FreeAnswer). FreesSlot q (block_at before i) a r) is
+    (subst (λ (b : Option Block). FreesSlot q b answer r) (rest i (omega arith)) one))
+
+is_freed : FreeAnswer → Bool
+is_freed free_answer.Freed = true
+is_freed free_answer.Busy = false
+
+busy≢freed : free_answer.Busy ≢ free_answer.Freed
+unfolding is_freed
+busy≢freed same = true≢false (sym (ap is_freed same))
+
+stops : (p next q : Pass) (before after : List Slot) (i : ℕ) (slot : Option Block) → i < length before → block_at before i ≡ slot
+    → FreesAll p (blocks_of (take i before)) next → FreesSlot next slot free_answer.Busy q → blocks_of after ≡ blocks_of (drop (i + 1) before)
+    → StopsAt p (blocks_of before) (blocks_of after) q
+stops p next q before after i None within is freed one left = absurd (busy≢freed one.0)
+stops p next q before after i (Some block) within is freed one left = record {
+  freed = blocks_of (take i before);
+  block = block;
+  order =
+      about before i within ∙ ap (λ (s : Option Block). blocks_of (take i before) ++ with_block s (blocks_of (drop (i + 1) before))) is
+      ∙ ap (λ (l : List Block). blocks_of (take i before) ++ block ∷ l) (sym left);
+  next = next;
+  before = freed;
+  stopped = one;
+}
+
+-- a free is interrupted
+pub stops-answers :
+    (p next q : Pass) (t u : Table) (slots : List Slot) (i : ℕ) (answer : FreeAnswer) → is_idle p.errand.point ≡ true → i < length t.slots.items
+    → i < length slots → length u.slots.items ≡ length t.slots.items → ((k : ℕ) → k < i → block_at slots k ≡ None)
+    → ((k : ℕ) → i ≤ k → block_at slots k ≡ block_at t.slots.items k)
+    → ((k : ℕ) → block_at u.slots.items k ≡ block_at (set_block slots i None) k) → FreesAll p (blocks_of (take i t.slots.items)) next
+    → FreesSlot next (block_at slots i) answer q → answer ≡ free_answer.Busy → HasFreedAll p t (Err refusal.Interrupted) q u
+stops-answers p next q t u slots i answer idle within here count empty rest now freed one is =
+    let before = t.slots.items in
+    let after = u.slots.items in
+    let left : blocks_of after ≡ blocks_of (drop (i + 1) before) =
+    left-behind before after (i + 1) count (empty-next before slots after i here now empty) (rest-next before slots after i now rest) in
+    makes (barred (is_busy p) refusal.InCall None) (FreesTable p t) p t (Err refusal.Interrupted) q u (in-none p None idle)
+    (stops p next q before after i (block_at before i) within refl freed
+    (subst (λ (a : FreeAnswer). FreesSlot next (block_at before i) a q) is
+    (subst (λ (b : Option Block). FreesSlot next b answer q) (rest i (omega arith)) one)) left)
+
+-- all are freed
+pub freed-answers :
+    (p q : Pass) (t u : Table) (i : ℕ) → is_idle p.errand.point ≡ true → length t.slots.items ≤ i → length u.slots.items ≡ length t.slots.items
+    → ((k : ℕ) → k < i → block_at u.slots.items k ≡ None) → ((k : ℕ) → i ≤ k → block_at u.slots.items k ≡ block_at t.slots.items k)
+    → FreesAll p (blocks_of (take i t.slots.items)) q → HasFreedAll p t (Ok tt) q u
+freed-answers p q t u i idle past count empty rest freed =
+    let before = t.slots.items in
+    makes (barred (is_busy p) refusal.InCall None) (FreesTable p t) p t (Ok tt) q u (in-none p None idle) (
+      subst (λ (l : List Slot). FreesAll p (blocks_of l) q) (take_all i before past) freed,
+      left-behind before u.slots.items i count empty rest ∙ ap blocks_of (drop_all i before past),
+    )

@@ -1,0 +1,10 @@
+mod BarLemmas
+mod CodesLemmas
+mod LeaveLemmas
+mod MadeCalls
+mod Numbers
+mod OpenLemmas
+mod RangeLemmas
+pub mod Seal
+mod Slots
+mod ToldLemmas

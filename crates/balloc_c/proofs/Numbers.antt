@@ -1,0 +1,202 @@
+-- What numbers name behind a change of a slot.
+use Rattle.std.proofs.Common.{ℕ, cond, arith, ◌≡◌, ◌≢◌, ◌<◌, ◌+◌, ◌*◌, ◌%◌, ◌^◌, ◌==◌, if◌then◌else◌, Bool, true, false, Option, Some, None, List, [], ◌∷◌, ◌++◌, length, slice_index_or, refl, sym, ap, ◌∙◌, subst}
+use Rattle.std.specs.Prelude.{count_by}
+use Rattle.std.proofs.lemmas.Bool.{eq-eqb, ne_eqb}
+use Rattle.std.proofs.lemmas.Bool.Decides.{eqb_tells}
+use Rattle.std.proofs.lemmas.Nat.{mod-mul-add}
+use Rattle.std.proofs.lemmas.List.Sums.{sum_by-append, sum_by_push}
+use Rattle.std.proofs.Math.Nat.{add_assoc, mod-add-mod, mod-eq_of_lt, mod-lt}
+use Rattle.live_heap.specs.declared.block.Block.{Block}
+use Rattle.balloc_c.specs.declared.table.Table.{Table}
+use Rattle.balloc_c.specs.Numbers.{Gains, GaveAway, Keeps, Loses, named, number_at}
+use Rattle.balloc_c.specs.declared.table.Slot.{Slot}
+use Rattle.balloc_c.specs.Slots.{HasAged, IsVacant, age_at, block_at, no_slot, set_block}
+use Rattle.balloc_c.proofs.Slots.{age-set, block-set_other, block-set_same, by_case}
+
+abbrev none : Option Block
+none = None
+
+both_none : (b : Bool) → (if b then none else none) ≡ none
+both_none true = refl
+both_none false = refl
+
+named-yes : (t : Table) (n : ℕ) → number_at t (n % 2 ^ 32) ≡ n → named t n ≡ block_at t.slots.items (n % 2 ^ 32)
+named-yes t n same = ap (λ (b : Bool). if b then block_at t.slots.items (n % 2 ^ 32) else None) (eq-eqb (number_at t (n % 2 ^ 32)) n same)
+
+named-no : (t : Table) (n : ℕ) → number_at t (n % 2 ^ 32) ≢ n → named t n ≡ None
+named-no t n other = ap (λ (b : Bool). if b then block_at t.slots.items (n % 2 ^ 32) else None) (ne_eqb (number_at t (n % 2 ^ 32)) n other)
+
+named-empty : (t : Table) (n : ℕ) → block_at t.slots.items (n % 2 ^ 32) ≡ None → named t n ≡ None
+named-empty t n empty =
+    ap (λ (s : Option Block). if number_at t (n % 2 ^ 32) == n then s else None) empty ∙ both_none (number_at t (n % 2 ^ 32) == n)
+
+-- the slot of a number is as it was
+named-same :
+    (t u : Table) (n : ℕ) → block_at u.slots.items (n % 2 ^ 32) ≡ block_at t.slots.items (n % 2 ^ 32)
+    → age_at u.slots.items (n % 2 ^ 32) ≡ age_at t.slots.items (n % 2 ^ 32) → named u n ≡ named t n
+named-same t u n block age =
+    ap (λ (a : ℕ). if a * 2 ^ 32 + n % 2 ^ 32 % 2 ^ 32 == n then block_at u.slots.items (n % 2 ^ 32) else None) age
+    ∙ ap (λ (s : Option Block). if number_at t (n % 2 ^ 32) == n then s else None) block
+
+-- a number that names a block is that of its slot
+pub names-itself : (t : Table) (n : ℕ) → named t n ≢ None → number_at t (n % 2 ^ 32) ≡ n
+names-itself t n names = by_case (λ same. same.1) (λ other. absurd (names (named-no t n other.1))) (eqb_tells (number_at t (n % 2 ^ 32)) n)
+
+gave-none : (t u : Table) → ((j : ℕ) → age_at u.slots.items j ≡ age_at t.slots.items j) → GaveAway t [] u
+gave-none t u ages j =
+    let zero : age_at t.slots.items j + 0 ≡ age_at t.slots.items j = omega arith in
+    ap (λ (a : ℕ). a % 2 ^ 32) (ages j ∙ sym zero)
+
+-- all slots are as they were
+pub keeps :
+    (t u : Table) → ((j : ℕ) → block_at u.slots.items j ≡ block_at t.slots.items j)
+    → ((j : ℕ) → age_at u.slots.items j ≡ age_at t.slots.items j) → Keeps t u
+keeps t u blocks ages = record {
+  all = λ n. named-same t u n (blocks (n % 2 ^ 32)) (ages (n % 2 ^ 32));
+  gave = gave-none t u ages;
+}
+
+slot-of : (t : Table) (i : ℕ) → i < 2 ^ 32 → number_at t i % 2 ^ 32 ≡ i
+slot-of t i small =
+    mod-mul-add (age_at t.slots.items i) (2 ^ 32) (i % 2 ^ 32) (mod-lt i (omega arith)) ∙ mod-eq_of_lt small
+
+-- a vacant slot has a block now
+pub gains :
+    (t u : Table) (i : ℕ) (block : Block) → i < 2 ^ 32 → block_at t.slots.items i ≡ None → block_at u.slots.items i ≡ Some block
+    → ((j : ℕ) → j ≢ i → block_at u.slots.items j ≡ block_at t.slots.items j)
+    → ((j : ℕ) → age_at u.slots.items j ≡ age_at t.slots.items j) → Gains t (number_at u i) block u
+gains t u i block small vacant full others ages =
+    let number = number_at u i in
+    let slot : number % 2 ^ 32 ≡ i = slot-of u i small in
+    record {
+      new = named-empty t number (ap (block_at t.slots.items) slot ∙ vacant);
+      here = named-yes u number (ap (number_at u) slot) ∙ ap (block_at u.slots.items) slot ∙ full;
+      others = λ n other. by_case
+          (λ same.
+          named-no u n (λ it. other (sym it ∙ ap (number_at u) same.1))
+          ∙ sym (named-empty t n (ap (block_at t.slots.items) same.1 ∙ vacant)))
+          (λ apart. named-same t u n (others (n % 2 ^ 32) apart.1) (ages (n % 2 ^ 32)))
+          (eqb_tells (n % 2 ^ 32) i);
+      gave = gave-none t u ages;
+    }
+
+twice : (a : ℕ) → a % 2 ^ 32 % 2 ^ 32 ≡ a % 2 ^ 32
+twice a = mod-eq_of_lt (mod-lt a (omega arith))
+
+-- a slot has given its block away
+pub loses :
+    (t u : Table) (n : ℕ) → named t n ≢ None → block_at u.slots.items (n % 2 ^ 32) ≡ None
+    → ((j : ℕ) → j ≢ n % 2 ^ 32 → block_at u.slots.items j ≡ block_at t.slots.items j)
+    → age_at u.slots.items (n % 2 ^ 32) ≡ (age_at t.slots.items (n % 2 ^ 32) + 1) % 2 ^ 32
+    → ((j : ℕ) → j ≢ n % 2 ^ 32 → age_at u.slots.items j ≡ age_at t.slots.items j) → Loses t n u
+loses t u n names gone others older ages =
+    let i = n % 2 ^ 32 in
+    record {
+      gone = named-empty u n gone;
+      others = λ m other. by_case
+          (λ same.
+          named-empty u m (ap (block_at u.slots.items) same.1 ∙ gone)
+          ∙ sym (named-no t m (λ it. other (sym it ∙ ap (number_at t) same.1 ∙ names-itself t n names))))
+          (λ apart. named-same t u m (others (m % 2 ^ 32) apart.1) (ages (m % 2 ^ 32) apart.1))
+          (eqb_tells (m % 2 ^ 32) i);
+      gave = λ j. by_case
+          (λ same.
+          let once : count_by (λ s. s == j) (i ∷ []) ≡ 1 =
+          sum_by_push (λ s. cond (s == j) 1 0) [] i ∙ ap (λ (b : Bool). 0 + cond b 1 0) same.0 in
+          let here : age_at u.slots.items j ≡ (age_at t.slots.items j + 1) % 2 ^ 32 =
+          subst (λ (k : ℕ). age_at u.slots.items k ≡ (age_at t.slots.items k + 1) % 2 ^ 32) same.1 older in
+          ap (λ (a : ℕ). a % 2 ^ 32) here ∙ twice (age_at t.slots.items j + 1) ∙ ap (λ (k : ℕ). (age_at t.slots.items j + k) % 2 ^ 32) (sym once))
+          (λ apart.
+          let never : count_by (λ s. s == j) (i ∷ []) ≡ 0 =
+          sum_by_push (λ s. cond (s == j) 1 0) [] i ∙ ap (λ (b : Bool). 0 + cond b 1 0) apart.0 in
+          let zero : age_at t.slots.items j + 0 ≡ age_at t.slots.items j = omega arith in
+          ap (λ (a : ℕ). a % 2 ^ 32) (ages j (λ same. apart.1 (sym same)) ∙ sym zero) ∙ ap (λ (k : ℕ). (age_at t.slots.items j + k) % 2 ^ 32) (sym never))
+          (eqb_tells i j);
+    }
+
+aged : (a b c r : ℕ) → b * 2 ^ 32 + r ≡ a * 2 ^ 32 + r → b % 2 ^ 32 ≡ (a + c) % 2 ^ 32 → 0 < c → c < 2 ^ 32 → ⊥
+aged a b c r same older went few =
+    let equal : b ≡ a = omega arith in
+    let again : a % 2 ^ 32 ≡ (a + c) % 2 ^ 32 = subst (λ (k : ℕ). k % 2 ^ 32 ≡ (a + c) % 2 ^ 32) equal older in
+    omega arith
+
+-- an old number names nothing until its slot's age has come round
+pub refused :
+    (t u : Table) (slots : List ℕ) (n : ℕ) → named t n ≢ None → GaveAway t slots u → 0 < count_by (λ s. s == n % 2 ^ 32) slots
+    → count_by (λ s. s == n % 2 ^ 32) slots < 2 ^ 32 → named u n ≡ None
+refused t u slots n names gave some_went few =
+    let i = n % 2 ^ 32 in
+    by_case
+    (λ same. absurd (aged (age_at t.slots.items i) (age_at u.slots.items i) (count_by (λ s. s == i) slots) (i % 2 ^ 32)
+    (same.1 ∙ sym (names-itself t n names)) (gave i) some_went few))
+    (λ other. named-no u n other.1) (eqb_tells (number_at u i) n)
+
+-- what was given away in two runs
+pub gave-more : (t u v : Table) (slots more : List ℕ) → GaveAway t slots u → GaveAway u more v → GaveAway t (slots ++ more) v
+gave-more t u v slots more gave later i =
+    let a = age_at t.slots.items i in
+    let b = age_at u.slots.items i in
+    let m = count_by (λ s. s == i) slots in
+    let n = count_by (λ s. s == i) more in
+    let both : count_by (λ s. s == i) (slots ++ more) ≡ m + n = sum_by-append (λ s. cond (s == i) 1 0) slots more in
+    later i ∙ sym (mod-add-mod b (2 ^ 32) n) ∙ ap (λ (k : ℕ). (k + n) % 2 ^ 32) (gave i) ∙ mod-add-mod (a + m) (2 ^ 32) n
+    ∙ ap (λ (k : ℕ). k % 2 ^ 32) (add_assoc a m n ∙ ap (λ (k : ℕ). a + k) (sym both))
+
+-- nothing has happened
+pub keeps-itself : (t : Table) → Keeps t t
+keeps-itself t = keeps t t (λ j. refl) (λ j. refl)
+
+-- a block was put into a vacant slot
+pub gains-set :
+    (t u : Table) (i : ℕ) (block : Block) → i < 2 ^ 32 → IsVacant t.slots.items i → u.slots.items ≡ set_block t.slots.items i (Some block)
+    → Gains t (number_at u i) block u
+gains-set t u i block small vacant set =
+    let slot : Slot = record (slice_index_or t.slots.items i no_slot) { block = Some block } in
+    gains t u i block small vacant.1
+    (ap (λ (l : List Slot). block_at l i) set ∙ block-set_same t.slots.items i slot vacant.0)
+    (λ j other. ap (λ (l : List Slot). block_at l j) set ∙ block-set_other t.slots.items i j slot other)
+    (λ j. ap (λ (l : List Slot). age_at l j) set ∙ age-set t.slots.items i (Some block) j vacant.0)
+
+-- a block was taken out of its slot for good
+pub loses-set :
+    (t u : Table) (l : List Slot) (n : ℕ) → named t n ≢ None → n % 2 ^ 32 < length t.slots.items → l ≡ set_block t.slots.items (n % 2 ^ 32) None
+    → HasAged l (n % 2 ^ 32) u.slots.items → Loses t n u
+loses-set t u l n names within set aged =
+    let i = n % 2 ^ 32 in
+    let slot : Slot = record (slice_index_or t.slots.items i no_slot) { block = None } in
+    let ages : (j : ℕ) → age_at l j ≡ age_at t.slots.items j =
+    λ j. ap (λ (k : List Slot). age_at k j) set ∙ age-set t.slots.items i None j within in
+    loses t u n names
+    (aged.same i ∙ ap (λ (k : List Slot). block_at k i) set ∙ block-set_same t.slots.items i slot within)
+    (λ j other. aged.same j ∙ ap (λ (k : List Slot). block_at k j) set ∙ block-set_other t.slots.items i j slot other)
+    (aged.here ∙ ap (λ (a : ℕ). (a + 1) % 2 ^ 32) (ages i))
+    (λ j other. aged.others j other ∙ ages j)
+
+-- a block was taken out of its slot and put back
+pub keeps-set :
+    (t u : Table) (l : List Slot) (i : ℕ) (block : Block) → i < length t.slots.items → i < length l → block_at t.slots.items i ≡ Some block
+    → l ≡ set_block t.slots.items i None → u.slots.items ≡ set_block l i (Some block) → Keeps t u
+keeps-set t u l i block within still was out back =
+    let none : Slot = record (slice_index_or t.slots.items i no_slot) { block = None } in
+    let some_block : Slot = record (slice_index_or l i no_slot) { block = Some block } in
+    keeps t u
+    (λ j. by_case
+    (λ same.
+    ap (block_at u.slots.items) same.1 ∙ ap (λ (k : List Slot). block_at k i) back ∙ block-set_same l i some_block still ∙ sym was
+    ∙ sym (ap (block_at t.slots.items) same.1))
+    (λ other.
+    ap (λ (k : List Slot). block_at k j) back ∙ block-set_other l i j some_block other.1 ∙ ap (λ (k : List Slot). block_at k j) out
+    ∙ block-set_other t.slots.items i j none other.1)
+    (eqb_tells j i))
+    (λ j.
+    ap (λ (k : List Slot). age_at k j) back ∙ age-set l i (Some block) j still ∙ ap (λ (k : List Slot). age_at k j) out
+    ∙ age-set t.slots.items i None j within)
+
+-- a block comes behind a change in which none came or went
+pub gains-behind : (t m : Table) (number : ℕ) (block : Block) (u : Table) → Keeps t m → Gains m number block u → Gains t number block u
+gains-behind t m number block u kept gained = record {
+  new = sym (kept.all number) ∙ gained.new;
+  here = gained.here;
+  others = λ other apart. gained.others other apart ∙ kept.all other;
+  gave = gave-more t m u [] [] kept.gave gained.gave;
+}

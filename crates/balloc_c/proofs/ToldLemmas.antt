@@ -1,0 +1,81 @@
+-- A call by a handle.
+use Rattle.std.proofs.Common.{w32, to_z, of_z, ℕ, ◌≡◌, Bool, Option, Some, None, Result, Ok, Err, refl, sym, ap, ◌∙◌, subst}
+use Rattle.std.specs.Prelude.{ℤ, pos}
+use Rattle.balloc_c.specs.declared.hand.Hand.{Hand}
+use Rattle.balloc_c.specs.declared.refusal.Refusal.{Refusal}
+use Rattle.balloc_c.specs.declared.refusal.Refusal.TheVariants as refusal
+use Rattle.balloc_c.specs.Closed.{Closes, Leaves, Shuts}
+use Rattle.balloc_c.specs.Codes.{code_in, code_of, resumed_code}
+use Rattle.balloc_c.specs.Outcomes.{Told}
+
+-- each code goes through a register of 32 bits
+pub cause-fits : (cause : Refusal) → to_z w32 (of_z w32 (code_of cause)) ≡ code_of cause
+cause-fits refusal.Closed = refl
+cause-fits refusal.InUse = refl
+cause-fits refusal.BadNumbers = refl
+cause-fits refusal.NoMemory = refl
+cause-fits refusal.InCall = refl
+cause-fits refusal.Interrupted = refl
+cause-fits refusal.Idle = refl
+cause-fits refusal.NoBlock = refl
+cause-fits refusal.NoWord = refl
+cause-fits refusal.NoShelf = refl
+cause-fits refusal.Exhausted = refl
+cause-fits refusal.TooLarge = refl
+cause-fits refusal.Spent = refl
+cause-fits refusal.ShelfFull = refl
+cause-fits refusal.ShelfEmpty = refl
+cause-fits refusal.ShelfMissed = refl
+
+code-fits : {A : Type 0} (outcome : Result A Refusal) → to_z w32 (of_z w32 (code_in outcome)) ≡ code_in outcome
+code-fits (Ok value) = refl
+code-fits (Err cause) = cause-fits cause
+
+resumed-fits : (outcome : Result (Option ℕ) Refusal) → to_z w32 (of_z w32 (resumed_code outcome)) ≡ resumed_code outcome
+resumed-fits (Ok (Some number)) = refl
+resumed-fits (Ok None) = refl
+resumed-fits (Err cause) = cause-fits cause
+
+pub shown : {A : Type 0} (outcome : Result A Refusal) (code : ℤ) → code ≡ code_in outcome → to_z w32 (of_z w32 code) ≡ code_in outcome
+shown outcome code is = ap (λ (z : ℤ). to_z w32 (of_z w32 z)) is ∙ code-fits outcome
+
+pub shown_resumed :
+    (outcome : Result (Option ℕ) Refusal) (code : ℤ) → code ≡ resumed_code outcome → to_z w32 (of_z w32 code) ≡ resumed_code outcome
+shown_resumed outcome code is = ap (λ (z : ℤ). to_z w32 (of_z w32 z)) is ∙ resumed-fits outcome
+
+pub shown_cause : (cause : Refusal) (code : ℤ) → code ≡ code_of cause → to_z w32 (of_z w32 code) ≡ code_of cause
+shown_cause cause code is = ap (λ (z : ℤ). to_z w32 (of_z w32 z)) is ∙ cause-fits cause
+
+pub told :
+    {A : Type 0} (Call : Hand → Result A Refusal → Hand → Type 0) (Shows : Result A Refusal → Type 0) (was now : Option Hand)
+    (before next : Hand) (result : Result A Refusal) → was ≡ Some before → now ≡ Some next → Shows result → Call before result next
+    → Told Call was Shows now
+told Call Shows was now before next result held holds shows called =
+    subst (λ (o : Option Hand). Told Call o Shows now) (sym held) (result, next, shows, holds, called)
+
+-- a close, and one that stays open
+pub closes :
+    (frees : Bool) (was now : Option Hand) (before next : Hand) (outcome : Result (Unit {0}) Refusal) (done : Unit {0}) (won lost won_told lost_told : ℕ)
+    → was ≡ Some before → Leaves frees before outcome next → outcome ≡ Ok done → won_told ≡ next.pass.errand.won
+    → lost_told ≡ next.pass.errand.lost → now ≡ None → Closes frees was (pos 0) won lost won_told lost_told now
+closes frees was now before next outcome done won lost won_told lost_told held leaves is won_is lost_is empty =
+    subst (λ (o : Option Hand). Closes frees o (pos 0) won lost won_told lost_told now) (sym held) (
+      outcome,
+      next,
+      leaves,
+      sym (ap code_in is),
+      subst (λ (r : Result (Unit {0}) Refusal). Shuts r next won lost won_told lost_told now) (sym is) (won_is, lost_is, empty),
+    )
+
+pub stays_open :
+    (frees : Bool) (was now : Option Hand) (before next : Hand) (outcome : Result (Unit {0}) Refusal) (cause : Refusal) (code : ℤ) (won lost : ℕ)
+    → was ≡ Some before → Leaves frees before outcome next → outcome ≡ Err cause → code ≡ code_of cause → now ≡ Some next
+    → Closes frees was code won lost won lost now
+stays_open frees was now before next outcome cause code won lost held leaves is told holds =
+    subst (λ (o : Option Hand). Closes frees o code won lost won lost now) (sym held) (
+      outcome,
+      next,
+      leaves,
+      told ∙ sym (ap code_in is),
+      subst (λ (r : Result (Unit {0}) Refusal). Shuts r next won lost won lost now) (sym is) (refl, refl, holds),
+    )

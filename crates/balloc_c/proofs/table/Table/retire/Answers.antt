@@ -1,0 +1,10 @@
+use Rattle.std.proofs.Common.{◌+◌, ◌%◌, ◌^◌, refl}
+use Rattle.balloc_c.specs.declared.table.Slot.{Slot}
+use Rattle.balloc_c.proofs.Slots.{aged-set}
+use Rattle.balloc_c.proofs.table.Table.retire.Goals as goal
+
+pub returns : goal.returns
+returns c =
+    let old : Slot = c.index_mut-slot.result.now in
+    let new : Slot = record old { age = (old.age + 1) % 2 ^ 32; next = c.args.self.now.spare } in
+    aged-set c.args.self.now.slots.items c.args.index new old c.requires c.index_mut-slot.ensures.value refl refl

@@ -1,0 +1,9 @@
+pub mod Closed
+pub mod Codes
+pub mod Numbers
+pub mod Opened
+pub mod Outcomes
+pub mod Owned
+pub mod Ranges
+pub mod Slots
+pub mod Tended

@@ -1,0 +1,77 @@
+-- Calls on the words of a block in a row.
+use Rattle.std.specs.Prelude.{ℕ, suc, ◌≡◌, ◌+◌, Bool, false, nat_lt, Option, Some, None, Result, Ok, Err, List, [], ◌∷◌, length}
+use Rattle.heap_geometry.specs.declared.need.Need.{Need}
+use Rattle.heap_geometry.specs.Need.{usable_words}
+use Rattle.errand_steps.specs.declared.reply.Reply.TheVariants as reply
+use Rattle.errand_steps.specs.Calls.{write}
+use Rattle.call_events.specs.Made.{LeadsBy, Made, Sums, answered, found_from, wrote}
+use Rattle.live_heap.specs.declared.block.Block.{Block}
+use Rattle.live_heap.specs.declared.heap.Heap.{Heap}
+use Rattle.live_heap.specs.declared.pass.Pass.{Pass}
+use Rattle.live_heap.specs.Passes.{IsOf}
+use Rattle.live_heap.specs.Words.{CallsOnWord}
+use Rattle.balloc_c.specs.declared.refusal.Refusal.{Refusal}
+use Rattle.balloc_c.specs.declared.refusal.Refusal.TheVariants as refusal
+use Rattle.balloc_c.specs.declared.table.Table.{Table}
+use Rattle.balloc_c.specs.Numbers.{named}
+use Rattle.balloc_c.specs.Outcomes.{Answers, Of, barred, free_bar, is_busy, names_none}
+
+-- a write for each of these words, from word i on
+abbrev pub wrote_from : ℕ → Need → ℕ → List ℕ → List Made
+wrote_from place need i [] = []
+wrote_from place need i (word ∷ words) = answered (write place need i word) reply.Wrote ∷ wrote_from place need (suc i) words
+
+-- the block has not all words of the range
+abbrev pub lacks_range : Option Block → ℕ → ℕ → Bool
+lacks_range None from count = false
+lacks_range (Some block) from count = nat_lt (usable_words block.need) (from + count)
+
+-- what bars a call on a range
+abbrev pub range_bar : Pass → Table → ℕ → ℕ → ℕ → Option Refusal
+range_bar pass table number from count =
+    barred (is_busy pass) refusal.InCall (barred (names_none table number) refusal.NoBlock
+    (barred (lacks_range (named table number) from count) refusal.NoWord None))
+
+-- a pass made these calls on words, one after the other, each of one step
+abbrev pub Leads : Pass → List Made → Pass → Type 0
+Leads p made q = (h : Heap) × IsOf h p × LeadsBy (CallsOnWord h) p made q
+
+-- each word of the range was written, in their order
+abbrev pub WritesRange : Pass → Table → ℕ → ℕ → List ℕ → Result (Unit {0}) Refusal → Pass → Table → Type 0
+WritesRange p t number from words (Ok done) q u = Of t number (λ block. Leads p (wrote_from block.place block.need from words) q) × (u ≡ t)
+WritesRange p t number from words (Err cause) q u = ⊥
+
+-- each word of the range was read, and these were found
+abbrev pub ReadsRange : Pass → Table → ℕ → ℕ → List ℕ → Result (Unit {0}) Refusal → Pass → Table → Type 0
+ReadsRange p t number from found (Ok done) q u = Of t number (λ block. Leads p (found_from block.place block.need from found) q) × (u ≡ t)
+ReadsRange p t number from found (Err cause) q u = ⊥
+
+-- each usable word was written: word i with from + i, modulo 2^64
+abbrev pub Fills : Pass → Table → ℕ → ℕ → Result (Unit {0}) Refusal → Pass → Table → Type 0
+Fills p t number from (Ok done) q u =
+    Of t number (λ block. Leads p (wrote block.place block.need from (usable_words block.need)) q) × (u ≡ t)
+Fills p t number from (Err cause) q u = ⊥
+
+-- each usable word was read, and they add up to this, modulo 2^64
+abbrev pub Adds : Pass → Table → ℕ → Result ℕ Refusal → Pass → Table → Type 0
+Adds p t number (Ok total) q u =
+    Of t number (λ block. (h : Heap) × IsOf h p × Sums (CallsOnWord h) p block.place block.need total q) × (u ≡ t)
+Adds p t number (Err cause) q u = ⊥
+
+-- what lies where the words go: what was found, or what lay there before
+abbrev pub IsFound : Result (Unit {0}) Refusal → List ℕ → List ℕ → Type 0
+IsFound (Ok done) before after = length after ≡ length before
+IsFound (Err cause) before after = after ≡ before
+
+-- each call, with what bars it
+abbrev pub HasWrittenRange : Pass → Table → ℕ → ℕ → List ℕ → Result (Unit {0}) Refusal → Pass → Table → Type 0
+HasWrittenRange p t number from words = Answers (range_bar p t number from (length words)) (WritesRange p t number from words) p t
+
+abbrev pub HasReadRange : Pass → Table → ℕ → ℕ → List ℕ → List ℕ → Result (Unit {0}) Refusal → Pass → Table → Type 0
+HasReadRange p t number from before after = Answers (range_bar p t number from (length before)) (ReadsRange p t number from after) p t
+
+abbrev pub HasFilled : Pass → Table → ℕ → ℕ → Result (Unit {0}) Refusal → Pass → Table → Type 0
+HasFilled p t number from = Answers (free_bar p t number) (Fills p t number from) p t
+
+abbrev pub HasSummed : Pass → Table → ℕ → Result ℕ Refusal → Pass → Table → Type 0
+HasSummed p t number = Answers (free_bar p t number) (Adds p t number) p t

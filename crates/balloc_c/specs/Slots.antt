@@ -1,0 +1,44 @@
+-- The blocks in the slots of a table.
+use Rattle.std.specs.Prelude.{ℕ, ◌≡◌, ◌≢◌, ◌<◌, ◌+◌, ◌%◌, ◌^◌, Option, Some, None, List, [], ◌∷◌, length, slice_index_or, slice_set}
+use Rattle.live_heap.specs.declared.block.Block.{Block}
+use Rattle.balloc_c.specs.declared.table.Slot.{Slot}
+
+-- a block, or none, before others
+abbrev pub with_block : Option Block → List Block → List Block
+with_block None blocks = blocks
+with_block (Some block) blocks = block ∷ blocks
+
+abbrev pub list_of : Option Block → List Block
+list_of block = with_block block []
+
+-- the blocks in slots
+abbrev pub blocks_of : List Slot → List Block
+blocks_of [] = []
+blocks_of (slot ∷ slots) = with_block slot.block (blocks_of slots)
+
+-- a slot that there is not
+abbrev pub no_slot : Slot
+no_slot = record { block = None; age = 0; next = 0 }
+
+-- the block in a slot, and how often the slot has given a block away
+abbrev pub block_at : List Slot → ℕ → Option Block
+block_at slots index = (slice_index_or slots index no_slot).block
+
+abbrev pub age_at : List Slot → ℕ → ℕ
+age_at slots index = (slice_index_or slots index no_slot).age
+
+-- there is such a slot, and it has no block
+abbrev pub IsVacant : List Slot → ℕ → Type 0
+IsVacant slots index = (index < length slots) × (block_at slots index ≡ None)
+
+-- the slots with another block, or none, in one of them
+abbrev pub set_block : List Slot → ℕ → Option Block → List Slot
+set_block slots index block = slice_set slots index (record (slice_index_or slots index no_slot) { block = block })
+
+-- one slot has given a block away once more
+pub record HasAged (before : List Slot) (index : ℕ) (after : List Slot) : Type 0 where
+  pub count : length after ≡ length before
+  pub blocks : blocks_of after ≡ blocks_of before
+  pub same : (other : ℕ) → block_at after other ≡ block_at before other
+  pub here : age_at after index ≡ (age_at before index + 1) % 2 ^ 32
+  pub others : (other : ℕ) → other ≢ index → age_at after other ≡ age_at before other

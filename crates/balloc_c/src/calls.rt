@@ -1,0 +1,252 @@
+//! Calls on a pass whose blocks have numbers.
+
+ghost use Rattle.std.specs.Prelude.{ℕ, ◌≡◌, ◌<◌, None, length};
+ghost use Rattle.errand_steps.specs.Begins.{IsIdle};
+ghost use Rattle.live_heap.specs.Hands.{IsHand};
+ghost use Rattle.balloc_c.specs.Outcomes.{Counts, HasAllocated, HasFreed, HasPut, HasRead, HasResumed, HasTaken, HasWritten};
+ghost use Rattle.balloc_c.specs.Closed.{FreesSlot, HasFreedAll};
+ghost use Rattle.balloc_c.specs.Slots.{block_at, blocks_of, set_block};
+
+use crate::refusal::Refusal;
+use crate::table::Table;
+use heap_geometry::limits::{LARGE_MOST, SHELVES};
+use live_heap::answers::{AllocAnswer, FreeAnswer, Full, Resumed, Taken};
+use live_heap::heap::Heap;
+use live_heap::laws::hands::hands_go_through_calls;
+use live_heap::pass::Pass;
+
+/// How many lost exchanges interrupt a call.
+pub const TRIES: u32 = 1000;
+
+/// An allocation of so many usable words. Answers the block's number.
+pub fn alloc(heap: &Heap, pass: &mut Pass, table: &mut Table, words: u32) -> Result<u64, Refusal>
+    requires hand { IsHand heap.now pass.old (blocks_of table.old.slots.items) }
+    ensures hand { IsHand heap.now pass.new (blocks_of table.new.slots.items) }
+    ensures answers { HasAllocated pass.old table.old words result pass.new table.new }
+{
+    if !pass.idle() {
+        return Err(Refusal::InCall);
+    }
+    if words > LARGE_MOST {
+        return Err(Refusal::TooLarge);
+    }
+    let index = match table.vacant() {
+        Ok(index) => index,
+        Err(refusal) => return Err(refusal),
+    };
+    hands_go_through_calls();
+    match heap.alloc(pass, words, TRIES) {
+        AllocAnswer::Given(block) => Ok(table.fill(index, block)),
+        AllocAnswer::Refused => Err(Refusal::Exhausted),
+        AllocAnswer::TooLarge => Err(Refusal::TooLarge),
+        AllocAnswer::Spent => Err(Refusal::Spent),
+        AllocAnswer::Busy => Err(Refusal::Interrupted),
+    }
+}
+
+/// The free of the block of this number.
+pub fn free(heap: &Heap, pass: &mut Pass, table: &mut Table, number: u64) -> Result<(), Refusal>
+    requires hand { IsHand heap.now pass.old (blocks_of table.old.slots.items) }
+    ensures hand { IsHand heap.now pass.new (blocks_of table.new.slots.items) }
+    ensures answers { HasFreed pass.old table.old number result pass.new table.new }
+{
+    if !pass.idle() {
+        return Err(Refusal::InCall);
+    }
+    let Some(index) = table.find(number) else {
+        return Err(Refusal::NoBlock);
+    };
+    let block = table.set(index, None).unwrap();
+    table.retire(index);
+    match heap.free(pass, block, TRIES) {
+        FreeAnswer::Freed => Ok(()),
+        FreeAnswer::Busy => Err(Refusal::Interrupted),
+    }
+}
+
+/// Frees all blocks, in the order of their slots. Where a free is interrupted the blocks behind it stay.
+pub fn free_all(heap: &Heap, pass: &mut Pass, table: &mut Table) -> Result<(), Refusal>
+    requires hand { IsHand heap.now pass.old (blocks_of table.old.slots.items) }
+    ensures hand { IsHand heap.now pass.new (blocks_of table.new.slots.items) }
+    ensures answers { HasFreedAll pass.old table.old result pass.new table.new }
+{
+    if !pass.idle() {
+        return Err(Refusal::InCall);
+    }
+    for index in 0..table.len() {
+        match free_slot(heap, pass, table, index) {
+            FreeAnswer::Freed => {}
+            FreeAnswer::Busy => return Err(Refusal::Interrupted),
+        }
+    }
+    Ok(())
+}
+
+/// Frees the block in a slot, where there is one.
+fn free_slot(heap: &Heap, pass: &mut Pass, table: &mut Table, index: usize) -> FreeAnswer
+    requires hand { IsHand heap.now pass.old (blocks_of table.old.slots.items) }
+    requires idle { IsIdle pass.old.errand }
+    requires within { index < length table.old.slots.items }
+    ensures hand { IsHand heap.now pass.new (blocks_of table.new.slots.items) }
+    ensures idle { result ≡ FreeAnswer.Freed → IsIdle pass.new.errand }
+    ensures blocks { blocks_of table.new.slots.items ≡ blocks_of (set_block table.old.slots.items index None) }
+    ensures count { length table.new.slots.items ≡ length table.old.slots.items }
+    ensures same { (other : ℕ) → block_at table.new.slots.items other ≡ block_at (set_block table.old.slots.items index None) other }
+    ensures freed { FreesSlot pass.old (block_at table.old.slots.items index) result pass.new }
+{
+    let Some(block) = table.set(index, None) else {
+        return FreeAnswer::Freed;
+    };
+    table.retire(index);
+    heap.free(pass, block, TRIES)
+}
+
+/// Goes on with the call that was interrupted. Answers the number of a block that it got.
+pub fn resume(heap: &Heap, pass: &mut Pass, table: &mut Table) -> Result<Option<u64>, Refusal>
+    requires hand { IsHand heap.now pass.old (blocks_of table.old.slots.items) }
+    ensures hand { IsHand heap.now pass.new (blocks_of table.new.slots.items) }
+    ensures answers { HasResumed pass.old table.old result pass.new table.new }
+{
+    if pass.idle() {
+        return Err(Refusal::Idle);
+    }
+    let index = match table.vacant() {
+        Ok(index) => index,
+        Err(refusal) => return Err(refusal),
+    };
+    hands_go_through_calls();
+    match heap.resume(pass, TRIES) {
+        Resumed::Given(block) => Ok(Some(table.fill(index, block))),
+        Resumed::Freed => Ok(None),
+        Resumed::Refused => Err(Refusal::Exhausted),
+        Resumed::Spent => Err(Refusal::Spent),
+        Resumed::Busy => Err(Refusal::Interrupted),
+    }
+}
+
+/// How many usable words the block of this number has.
+pub fn words(table: &Table, number: u64) -> Result<u64, Refusal>
+    ensures { Counts table.now number result }
+{
+    let Some(index) = table.find(number) else {
+        return Err(Refusal::NoBlock);
+    };
+    match table.block(index) {
+        Some(block) => Ok(u64::from(block.words())),
+        None => Err(Refusal::NoBlock),
+    }
+}
+
+/// Writes a word of the block of this number.
+pub fn write(
+    heap: &Heap,
+    pass: &mut Pass,
+    table: &Table,
+    number: u64,
+    i: u32,
+    value: u64,
+) -> Result<(), Refusal>
+    requires hand { IsHand heap.now pass.old (blocks_of table.now.slots.items) }
+    ensures hand { IsHand heap.now pass.new (blocks_of table.now.slots.items) }
+    ensures answers { HasWritten pass.old table.now number i value result pass.new table.now }
+{
+    if !pass.idle() {
+        return Err(Refusal::InCall);
+    }
+    let Some(index) = table.find(number) else {
+        return Err(Refusal::NoBlock);
+    };
+    let Some(block) = table.block(index) else {
+        return Err(Refusal::NoBlock);
+    };
+    if i >= block.words() {
+        return Err(Refusal::NoWord);
+    }
+    heap.write(pass, block, i, value);
+    Ok(())
+}
+
+/// Reads a word of the block of this number.
+pub fn read(
+    heap: &Heap,
+    pass: &mut Pass,
+    table: &Table,
+    number: u64,
+    i: u32,
+) -> Result<u64, Refusal>
+    requires hand { IsHand heap.now pass.old (blocks_of table.now.slots.items) }
+    ensures hand { IsHand heap.now pass.new (blocks_of table.now.slots.items) }
+    ensures answers { HasRead pass.old table.now number i result pass.new table.now }
+{
+    if !pass.idle() {
+        return Err(Refusal::InCall);
+    }
+    let Some(index) = table.find(number) else {
+        return Err(Refusal::NoBlock);
+    };
+    let Some(block) = table.block(index) else {
+        return Err(Refusal::NoBlock);
+    };
+    if i >= block.words() {
+        return Err(Refusal::NoWord);
+    }
+    Ok(heap.read(pass, block, i))
+}
+
+/// Puts the block of this number on a shelf. From a full one it comes back.
+pub fn put(
+    heap: &Heap,
+    pass: &mut Pass,
+    table: &mut Table,
+    number: u64,
+    shelf: u8,
+) -> Result<(), Refusal>
+    requires hand { IsHand heap.now pass.old (blocks_of table.old.slots.items) }
+    ensures hand { IsHand heap.now pass.new (blocks_of table.new.slots.items) }
+    ensures answers { HasPut pass.old table.old number shelf result pass.new table.new }
+{
+    if !pass.idle() {
+        return Err(Refusal::InCall);
+    }
+    let Some(index) = table.find(number) else {
+        return Err(Refusal::NoBlock);
+    };
+    if shelf >= SHELVES {
+        return Err(Refusal::NoShelf);
+    }
+    let block = table.set(index, None).unwrap();
+    match heap.put(pass, block, shelf) {
+        Ok(()) => {
+            table.retire(index);
+            Ok(())
+        }
+        Err(Full { block, found: _ }) => {
+            let _ = table.set(index, Some(block));
+            Err(Refusal::ShelfFull)
+        }
+    }
+}
+
+/// Takes the block that lies on a shelf. Answers its number.
+pub fn take(heap: &Heap, pass: &mut Pass, table: &mut Table, shelf: u8) -> Result<u64, Refusal>
+    requires hand { IsHand heap.now pass.old (blocks_of table.old.slots.items) }
+    ensures hand { IsHand heap.now pass.new (blocks_of table.new.slots.items) }
+    ensures answers { HasTaken pass.old table.old shelf result pass.new table.new }
+{
+    if !pass.idle() {
+        return Err(Refusal::InCall);
+    }
+    if shelf >= SHELVES {
+        return Err(Refusal::NoShelf);
+    }
+    let index = match table.vacant() {
+        Ok(index) => index,
+        Err(refusal) => return Err(refusal),
+    };
+    hands_go_through_calls();
+    match heap.take(pass, shelf) {
+        Taken::Got(block) => Ok(table.fill(index, block)),
+        Taken::Empty => Err(Refusal::ShelfEmpty),
+        Taken::Missed { .. } => Err(Refusal::ShelfMissed),
+    }
+}

@@ -1,0 +1,176 @@
+//! A pass with its share in the heap and its blocks.
+
+ghost use Rattle.std.specs.Prelude.{◌≡◌, []};
+ghost use Rattle.std.specs.Arc.{arc_value};
+ghost use Rattle.errand_steps.specs.Begins.{IsIdle};
+ghost use Rattle.live_heap.specs.Passes.{IsOf};
+
+use crate::refusal::Refusal;
+use crate::table::Table;
+use crate::{calls, ranges};
+use live_heap::heap::Heap;
+use live_heap::pass::Pass;
+use std::alloc::Global;
+use std::sync::Arc;
+
+/// A pass with its share in the heap and its blocks.
+#[derive(Drop)]
+pub struct Hand {
+    heap: Arc<Heap, Global>,
+    pass: Pass,
+    table: Table,
+}
+
+impl Hand {
+    ghost use Rattle.balloc_c.specs.Outcomes.{Counts, HasAllocated, HasFreed, HasPut, HasRead, HasResumed, HasTaken, HasWritten, Makes, counts_of};
+    ghost use Rattle.balloc_c.specs.Closed.{Leaves};
+    ghost use Rattle.balloc_c.specs.Slots.{blocks_of};
+    ghost use Rattle.balloc_c.specs.Ranges.{HasFilled, HasReadRange, HasSummed, HasWrittenRange, IsFound};
+    ghost use Rattle.balloc_c.specs.Tended.{IsTended};
+
+    /// A pass with no block.
+    pub fn new(alloc: Global, heap: Arc<Heap, Global>, pass: Pass) -> Hand
+        requires of { IsOf (arc_value heap) pass }
+        requires idle { IsIdle pass.errand }
+        ensures tended { IsTended result }
+        ensures parts { (arc_value result.heap ≡ arc_value heap) × (result.pass ≡ pass) × (blocks_of result.table.slots.items ≡ []) }
+    {
+        Hand {
+            heap,
+            pass,
+            table: Table::new(alloc),
+        }
+    }
+
+    /// An allocation of so many usable words. Answers the block's number.
+    pub fn alloc(&mut self, words: u32) -> Result<u64, Refusal>
+        requires { IsTended self.old }
+        ensures tended { IsTended self.new }
+        ensures made { Makes (λ p t. HasAllocated p t words) self.old result self.new }
+    {
+        calls::alloc(&self.heap, &mut self.pass, &mut self.table, words)
+    }
+
+    /// Frees the block of this number.
+    pub fn free(&mut self, number: u64) -> Result<(), Refusal>
+        requires { IsTended self.old }
+        ensures tended { IsTended self.new }
+        ensures made { Makes (λ p t. HasFreed p t number) self.old result self.new }
+    {
+        calls::free(&self.heap, &mut self.pass, &mut self.table, number)
+    }
+
+    /// Frees all its blocks, where they are to be freed.
+    pub fn leave(&mut self, frees: bool) -> Result<(), Refusal>
+        requires { IsTended self.old }
+        ensures tended { IsTended self.new }
+        ensures left { Leaves frees self.old result self.new }
+    {
+        if frees {
+            calls::free_all(&self.heap, &mut self.pass, &mut self.table)
+        } else {
+            Ok(())
+        }
+    }
+
+    /// Goes on with the call that was interrupted. Answers the number of a block that it got.
+    pub fn resume(&mut self) -> Result<Option<u64>, Refusal>
+        requires { IsTended self.old }
+        ensures tended { IsTended self.new }
+        ensures made { Makes (λ p t. HasResumed p t) self.old result self.new }
+    {
+        calls::resume(&self.heap, &mut self.pass, &mut self.table)
+    }
+
+    /// How many usable words the block of this number has.
+    pub fn words(&self, number: u64) -> Result<u64, Refusal>
+        ensures { Counts self.now.table number result }
+    {
+        calls::words(&self.table, number)
+    }
+
+    /// Writes a word of the block of this number.
+    pub fn write(&mut self, number: u64, i: u32, value: u64) -> Result<(), Refusal>
+        requires { IsTended self.old }
+        ensures tended { IsTended self.new }
+        ensures made { Makes (λ p t. HasWritten p t number i value) self.old result self.new }
+    {
+        calls::write(&self.heap, &mut self.pass, &self.table, number, i, value)
+    }
+
+    /// Reads a word of the block of this number.
+    pub fn read(&mut self, number: u64, i: u32) -> Result<u64, Refusal>
+        requires { IsTended self.old }
+        ensures tended { IsTended self.new }
+        ensures made { Makes (λ p t. HasRead p t number i) self.old result self.new }
+    {
+        calls::read(&self.heap, &mut self.pass, &self.table, number, i)
+    }
+
+    /// Writes words of the block of this number in a row, from one on.
+    pub fn write_range(&mut self, number: u64, from: u32, words: &[u64]) -> Result<(), Refusal>
+        requires { IsTended self.old }
+        ensures tended { IsTended self.new }
+        ensures made { Makes (λ p t. HasWrittenRange p t number from words.now) self.old result self.new }
+    {
+        ranges::write_range(&self.heap, &mut self.pass, &self.table, number, from, words)
+    }
+
+    /// Reads words of the block of this number in a row, from one on.
+    pub fn read_range(&mut self, number: u64, from: u32, words: &mut [u64]) -> Result<(), Refusal>
+        requires { IsTended self.old }
+        ensures tended { IsTended self.new }
+        ensures made { Makes (λ p t. HasReadRange p t number from words.old words.new) self.old result self.new }
+        ensures found { IsFound result words.old words.new }
+    {
+        ranges::read_range(&self.heap, &mut self.pass, &self.table, number, from, words)
+    }
+
+    /// Fills the block of this number: word i with from + i, modulo 2^64.
+    pub fn fill(&mut self, number: u64, from: u64) -> Result<(), Refusal>
+        requires { IsTended self.old }
+        ensures tended { IsTended self.new }
+        ensures made { Makes (λ p t. HasFilled p t number from) self.old result self.new }
+    {
+        ranges::fill(&self.heap, &mut self.pass, &self.table, number, from)
+    }
+
+    /// The sum of the words of the block of this number, modulo 2^64.
+    pub fn sum(&mut self, number: u64) -> Result<u64, Refusal>
+        requires { IsTended self.old }
+        ensures tended { IsTended self.new }
+        ensures made { Makes (λ p t. HasSummed p t number) self.old result self.new }
+    {
+        ranges::sum(&self.heap, &mut self.pass, &self.table, number)
+    }
+
+    /// Puts the block of this number on a shelf.
+    pub fn put(&mut self, number: u64, shelf: u8) -> Result<(), Refusal>
+        requires { IsTended self.old }
+        ensures tended { IsTended self.new }
+        ensures made { Makes (λ p t. HasPut p t number shelf) self.old result self.new }
+    {
+        calls::put(&self.heap, &mut self.pass, &mut self.table, number, shelf)
+    }
+
+    /// Takes the block that lies on a shelf. Answers its number.
+    pub fn take(&mut self, shelf: u8) -> Result<u64, Refusal>
+        requires { IsTended self.old }
+        ensures tended { IsTended self.new }
+        ensures made { Makes (λ p t. HasTaken p t shelf) self.old result self.new }
+    {
+        calls::take(&self.heap, &mut self.pass, &mut self.table, shelf)
+    }
+
+    /// What the pass has counted.
+    pub fn counts(&self) -> (u64, u64, u64, u64)
+        ensures { result ≡ counts_of self.now.pass }
+    {
+        (
+            self.pass.turns(),
+            self.pass.won(),
+            self.pass.lost(),
+            self.pass.cleared(),
+        )
+    }
+}

@@ -1,0 +1,87 @@
+//! The handle that C holds.
+
+ghost use Rattle.std.specs.Prelude.{◌≡◌, Option, Some, None, IfSome, is_some, option_map};
+
+use crate::hand::Hand;
+use crate::held::Held;
+use crate::parts::Parts;
+use std::alloc::Global;
+
+/// A pass, or nothing, on a cache line of its own. C holds it, and never copies it; all bytes zero are
+/// nothing.
+#[repr(C)]
+pub struct PassHandle {
+    live: bool,
+    held: Held,
+    /// What fills the cache line.
+    rest: [u64; 6],
+    ghost is_live: { live ≡ is_some held.hand },
+}
+
+impl PassHandle {
+    ghost use Rattle.balloc_c.specs.Tended.{IsTended};
+
+    /// Nothing.
+    fn empty(alloc: Global) -> PassHandle
+        ensures { result.held.hand ≡ None }
+    {
+        PassHandle {
+            live: false,
+            held: Held::none(alloc),
+            rest: [0; 6],
+        }
+    }
+
+    /// Whether it holds a pass.
+    pub fn live(&self) -> bool
+        ensures { result ≡ is_some self.now.held.hand }
+    {
+        self.live
+    }
+
+    /// Takes the pass out, where there is one.
+    pub fn take(&mut self, alloc: Global) -> Option<Box<Hand>>
+        ensures empty { self.new.held.hand ≡ None }
+        ensures tended { IfSome result (λ hand. IsTended hand.value) }
+        ensures value { self.old.held.hand ≡ option_map (λ hand. hand.value) result }
+    {
+        if self.live {
+            let full = std::mem::replace(self, PassHandle::empty(alloc));
+            let PassHandle {
+                live: _,
+                held,
+                rest: _,
+            } = full;
+            Some(held.into_parts().into_box())
+        } else {
+            None
+        }
+    }
+
+    /// Puts a pass in, where there is none.
+    pub fn give(&mut self, hand: Box<Hand>)
+        requires empty { self.old.held.hand ≡ None }
+        requires tended { IsTended hand.value }
+        ensures { self.new.held.hand ≡ Some hand.value }
+    {
+        let full = PassHandle {
+            live: true,
+            held: Held::of_parts(Parts::of(hand)),
+            rest: [0; 6],
+        };
+        let PassHandle {
+            live: _,
+            held,
+            rest: _,
+        } = std::mem::replace(self, full);
+        held.forget();
+    }
+}
+
+/// What may go to another thread.
+fn crosses<T: Send>() {}
+
+/// A handle may go to another thread: C may let threads take over each other's passes.
+pub fn handles_cross() {
+    crosses::<PassHandle>();
+}

@@ -1,0 +1,384 @@
+//! The heap for C: what a static library offers of it. `include/balloc.h` declares the same.
+//!
+//! A pass for C is a handle that holds a pass of the heap, its share in the heap and a table of its
+//! blocks; C names a block by a number. Each call tests the handle, the number and what else it is given,
+//! and answers a code; so none requires anything but what a handle is. Each says by its clause `told` what
+//! its code means: what the heap did, and what the numbers name from then on.
+#![tactic(auto)]
+
+mod calls;
+mod hand;
+mod handle;
+mod held;
+pub mod laws;
+mod opening;
+mod parts;
+mod ranges;
+mod refusal;
+mod table;
+
+ghost use Rattle.std.specs.Prelude.{ℕ, ◌≡◌, Result, length};
+ghost use Rattle.balloc_c.specs.declared.hand.Hand.{Hand};
+ghost use Rattle.balloc_c.specs.declared.refusal.Refusal.{Refusal};
+ghost use Rattle.balloc_c.specs.Codes.{code_in, resumed_code, resumed_number, value_in};
+ghost use Rattle.balloc_c.specs.Closed.{Closes, TellsCounts};
+ghost use Rattle.balloc_c.specs.Opened.{Opens, numbers};
+ghost use Rattle.balloc_c.specs.Ranges.{HasFilled, HasReadRange, HasSummed, HasWrittenRange, IsFound};
+ghost use Rattle.balloc_c.specs.Outcomes.{HasAllocated, HasCounted, HasFreed, HasPut, HasRead, HasResumed, HasTaken, HasWritten, Makes, Told};
+
+use handle::PassHandle;
+use heap_geometry::geometry::Geometry;
+use opening::open_all;
+use refusal::Refusal;
+use std::alloc::Global;
+
+/// The call was made.
+const DONE: i32 = 0;
+
+/// A free that was resumed has ended.
+const FREED: i32 = 1;
+
+/// The code of an outcome that has no value.
+fn code_of(outcome: Result<(), Refusal>) -> i32
+    ensures { result ≡ code_in outcome }
+{
+    match outcome {
+        Ok(()) => DONE,
+        Err(refusal) => refusal.code(),
+    }
+}
+
+/// The code of an outcome, whose value goes out.
+fn code_with(outcome: Result<u64, Refusal>, out: &mut u64) -> i32
+    ensures code { result ≡ code_in outcome }
+    ensures value { out.new ≡ value_in outcome out.old }
+{
+    match outcome {
+        Ok(value) => {
+            *out = value;
+            DONE
+        }
+        Err(refusal) => refusal.code(),
+    }
+}
+
+/// The code of a call that was resumed, and the number of a block that it got.
+fn code_resumed(outcome: Result<Option<u64>, Refusal>, out: &mut u64) -> i32
+    ensures code { result ≡ resumed_code outcome }
+    ensures value { out.new ≡ resumed_number outcome out.old }
+{
+    match outcome {
+        Ok(Some(number)) => {
+            *out = number;
+            DONE
+        }
+        Ok(None) => FREED,
+        Err(refusal) => refusal.code(),
+    }
+}
+
+/// Opens a heap with one caller for each handle, and puts a pass of it into each.
+#[unsafe(no_mangle)]
+pub extern "C" fn balloc_open(
+    alloc: Global,
+    frames: u32,
+    heaps: u32,
+    units: u32,
+    turn_limit: u64,
+    passes: &mut [PassHandle],
+) -> i32
+    ensures opened { (outcome : Result (Unit {0}) Refusal) × (result ≡ code_in outcome)
+        × Opens passes.old (numbers frames heaps units (length passes.old) turn_limit) outcome passes.new }
+{
+    let geometry = Geometry {
+        frames,
+        heaps,
+        units,
+        callers: passes.len().min(1000) as u32,
+        turn_limit,
+    };
+    code_of(open_all(alloc, geometry, passes))
+}
+
+/// Closes a pass, and tells how many exchanges it won and lost. Its blocks are freed first, or stay allocated.
+/// The last pass of a heap takes the heap with it.
+#[unsafe(no_mangle)]
+pub extern "C" fn balloc_close(
+    alloc: Global,
+    pass: &mut PassHandle,
+    frees: bool,
+    won: &mut u64,
+    lost: &mut u64,
+) -> i32
+    ensures told { Closes frees pass.old.held.hand result won.old lost.old won.new lost.new pass.new.held.hand }
+{
+    match pass.take(alloc) {
+        Some(mut hand) => match hand.leave(frees) {
+            Ok(()) => {
+                let (_, hand_won, hand_lost, _) = hand.counts();
+                *won = hand_won;
+                *lost = hand_lost;
+                DONE
+            }
+            Err(refusal) => {
+                pass.give(hand);
+                refusal.code()
+            }
+        },
+        None => Refusal::Closed.code(),
+    }
+}
+
+/// Tells what a pass has counted: its turns, the exchanges that it won and lost, and the empty superblocks that
+/// it took for partial ones.
+#[unsafe(no_mangle)]
+pub extern "C" fn balloc_counts(
+    alloc: Global,
+    pass: &mut PassHandle,
+    turns: &mut u64,
+    won: &mut u64,
+    lost: &mut u64,
+    cleared: &mut u64,
+) -> i32
+    ensures told { TellsCounts pass.old.held.hand result (turns.old, won.old, lost.old, cleared.old) (turns.new, won.new, lost.new, cleared.new) }
+    ensures same { pass.new.held.hand ≡ pass.old.held.hand }
+{
+    match pass.take(alloc) {
+        Some(hand) => {
+            let (hand_turns, hand_won, hand_lost, hand_cleared) = hand.counts();
+            *turns = hand_turns;
+            *won = hand_won;
+            *lost = hand_lost;
+            *cleared = hand_cleared;
+            pass.give(hand);
+            DONE
+        }
+        None => Refusal::Closed.code(),
+    }
+}
+
+/// Allocates a block of so many usable words, and tells its number.
+#[unsafe(no_mangle)]
+pub extern "C" fn balloc_alloc(
+    alloc: Global,
+    pass: &mut PassHandle,
+    words: u32,
+    id: &mut u64,
+) -> i32
+    ensures told { Told (Makes (λ p t. HasAllocated p t words)) pass.old.held.hand
+        (λ outcome. (result ≡ code_in outcome) × (id.new ≡ value_in outcome id.old)) pass.new.held.hand }
+{
+    match pass.take(alloc) {
+        Some(mut hand) => {
+            let outcome = hand.alloc(words);
+            pass.give(hand);
+            code_with(outcome, id)
+        }
+        None => Refusal::Closed.code(),
+    }
+}
+
+/// Frees a block.
+#[unsafe(no_mangle)]
+pub extern "C" fn balloc_free(alloc: Global, pass: &mut PassHandle, id: u64) -> i32
+    ensures told { Told (Makes (λ p t. HasFreed p t id)) pass.old.held.hand
+        (λ outcome. result ≡ code_in outcome) pass.new.held.hand }
+{
+    match pass.take(alloc) {
+        Some(mut hand) => {
+            let outcome = hand.free(id);
+            pass.give(hand);
+            code_of(outcome)
+        }
+        None => Refusal::Closed.code(),
+    }
+}
+
+/// Goes on with a call that was interrupted, and tells the number of the block that it got.
+#[unsafe(no_mangle)]
+pub extern "C" fn balloc_resume(alloc: Global, pass: &mut PassHandle, id: &mut u64) -> i32
+    ensures told { Told (Makes (λ p t. HasResumed p t)) pass.old.held.hand
+        (λ outcome. (result ≡ resumed_code outcome) × (id.new ≡ resumed_number outcome id.old)) pass.new.held.hand }
+{
+    match pass.take(alloc) {
+        Some(mut hand) => {
+            let outcome = hand.resume();
+            pass.give(hand);
+            code_resumed(outcome, id)
+        }
+        None => Refusal::Closed.code(),
+    }
+}
+
+/// Tells how many usable words a block has, which may be more than were asked for.
+#[unsafe(no_mangle)]
+pub extern "C" fn balloc_words(
+    alloc: Global,
+    pass: &mut PassHandle,
+    id: u64,
+    words: &mut u64,
+) -> i32
+    ensures told { Told (Makes (λ p t. HasCounted p t id)) pass.old.held.hand
+        (λ outcome. (result ≡ code_in outcome) × (words.new ≡ value_in outcome words.old)) pass.new.held.hand }
+{
+    match pass.take(alloc) {
+        Some(mut hand) => {
+            let outcome = hand.words(id);
+            pass.give(hand);
+            code_with(outcome, words)
+        }
+        None => Refusal::Closed.code(),
+    }
+}
+
+/// Writes a word of a block.
+#[unsafe(no_mangle)]
+pub extern "C" fn balloc_write(
+    alloc: Global,
+    pass: &mut PassHandle,
+    id: u64,
+    i: u32,
+    value: u64,
+) -> i32
+    ensures told { Told (Makes (λ p t. HasWritten p t id i value)) pass.old.held.hand
+        (λ outcome. result ≡ code_in outcome) pass.new.held.hand }
+{
+    match pass.take(alloc) {
+        Some(mut hand) => {
+            let outcome = hand.write(id, i, value);
+            pass.give(hand);
+            code_of(outcome)
+        }
+        None => Refusal::Closed.code(),
+    }
+}
+
+/// Reads a word of a block.
+#[unsafe(no_mangle)]
+pub extern "C" fn balloc_read(
+    alloc: Global,
+    pass: &mut PassHandle,
+    id: u64,
+    i: u32,
+    value: &mut u64,
+) -> i32
+    ensures told { Told (Makes (λ p t. HasRead p t id i)) pass.old.held.hand
+        (λ outcome. (result ≡ code_in outcome) × (value.new ≡ value_in outcome value.old)) pass.new.held.hand }
+{
+    match pass.take(alloc) {
+        Some(mut hand) => {
+            let outcome = hand.read(id, i);
+            pass.give(hand);
+            code_with(outcome, value)
+        }
+        None => Refusal::Closed.code(),
+    }
+}
+
+/// Writes words of a block in a row, from one on: all of them, or none.
+#[unsafe(no_mangle)]
+pub extern "C" fn balloc_write_range(
+    alloc: Global,
+    pass: &mut PassHandle,
+    id: u64,
+    from: u32,
+    words: &[u64],
+) -> i32
+    ensures told { Told (Makes (λ p t. HasWrittenRange p t id from words.now)) pass.old.held.hand
+        (λ outcome. result ≡ code_in outcome) pass.new.held.hand }
+{
+    match pass.take(alloc) {
+        Some(mut hand) => {
+            let outcome = hand.write_range(id, from, words);
+            pass.give(hand);
+            code_of(outcome)
+        }
+        None => Refusal::Closed.code(),
+    }
+}
+
+/// Reads words of a block in a row, from one on: all of them, or none.
+#[unsafe(no_mangle)]
+pub extern "C" fn balloc_read_range(
+    alloc: Global,
+    pass: &mut PassHandle,
+    id: u64,
+    from: u32,
+    words: &mut [u64],
+) -> i32
+    ensures told { Told (Makes (λ p t. HasReadRange p t id from words.old words.new)) pass.old.held.hand
+        (λ outcome. (result ≡ code_in outcome) × IsFound outcome words.old words.new) pass.new.held.hand }
+{
+    match pass.take(alloc) {
+        Some(mut hand) => {
+            let outcome = hand.read_range(id, from, words);
+            pass.give(hand);
+            code_of(outcome)
+        }
+        None => Refusal::Closed.code(),
+    }
+}
+
+/// Fills a block: word i with from + i, modulo 2^64.
+#[unsafe(no_mangle)]
+pub extern "C" fn balloc_fill(alloc: Global, pass: &mut PassHandle, id: u64, from: u64) -> i32
+    ensures told { Told (Makes (λ p t. HasFilled p t id from)) pass.old.held.hand
+        (λ outcome. result ≡ code_in outcome) pass.new.held.hand }
+{
+    match pass.take(alloc) {
+        Some(mut hand) => {
+            let outcome = hand.fill(id, from);
+            pass.give(hand);
+            code_of(outcome)
+        }
+        None => Refusal::Closed.code(),
+    }
+}
+
+/// Tells the sum of the words of a block, modulo 2^64.
+#[unsafe(no_mangle)]
+pub extern "C" fn balloc_sum(alloc: Global, pass: &mut PassHandle, id: u64, sum: &mut u64) -> i32
+    ensures told { Told (Makes (λ p t. HasSummed p t id)) pass.old.held.hand
+        (λ outcome. (result ≡ code_in outcome) × (sum.new ≡ value_in outcome sum.old)) pass.new.held.hand }
+{
+    match pass.take(alloc) {
+        Some(mut hand) => {
+            let outcome = hand.sum(id);
+            pass.give(hand);
+            code_with(outcome, sum)
+        }
+        None => Refusal::Closed.code(),
+    }
+}
+
+/// Puts a block on a shelf.
+#[unsafe(no_mangle)]
+pub extern "C" fn balloc_put(alloc: Global, pass: &mut PassHandle, id: u64, shelf: u8) -> i32
+    ensures told { Told (Makes (λ p t. HasPut p t id shelf)) pass.old.held.hand
+        (λ outcome. result ≡ code_in outcome) pass.new.held.hand }
+{
+    match pass.take(alloc) {
+        Some(mut hand) => {
+            let outcome = hand.put(id, shelf);
+            pass.give(hand);
+            code_of(outcome)
+        }
+        None => Refusal::Closed.code(),
+    }
+}
+
+/// Takes the block that lies on a shelf, and tells its number.
+#[unsafe(no_mangle)]
+pub extern "C" fn balloc_take(alloc: Global, pass: &mut PassHandle, shelf: u8, id: &mut u64) -> i32
+    ensures told { Told (Makes (λ p t. HasTaken p t shelf)) pass.old.held.hand
+        (λ outcome. (result ≡ code_in outcome) × (id.new ≡ value_in outcome id.old)) pass.new.held.hand }
+{
+    match pass.take(alloc) {
+        Some(mut hand) => {
+            let outcome = hand.take(shelf);
+            pass.give(hand);
+            code_with(outcome, id)
+        }
+        None => Refusal::Closed.code(),
+    }
+}

@@ -1,0 +1,170 @@
+//! The table of a pass's blocks. A number names a slot, and how often that slot has given a block away.
+
+ghost use Rattle.std.specs.Prelude.{ℕ, ◌≡◌, ◌≢◌, ◌<◌, ◌%◌, ◌^◌, [], length, None, Some, IfOk, IfSome};
+ghost use Rattle.std.specs.Result.{IfErr};
+ghost use Rattle.balloc_c.specs.declared.refusal.Refusal.TheVariants as refusal;
+
+use crate::refusal::Refusal;
+use live_heap::block::Block;
+use std::alloc::Global;
+
+/// No slot has this index.
+const NONE: u32 = 0xffff_ffff;
+
+/// A slot for a block.
+#[derive(Drop)]
+pub struct Slot {
+    block: Option<Block>,
+    /// How often the slot has given a block away, modulo 2^32.
+    age: u32,
+    /// The slot that was spare before this one.
+    next: u32,
+}
+
+/// The blocks of a pass.
+#[derive(Drop)]
+pub struct Table {
+    slots: Vec<Slot>,
+    /// The slot for the next block.
+    spare: u32,
+}
+
+impl Table {
+    ghost use Rattle.balloc_c.specs.Numbers.{Gains, HasSpare, IsReady, Keeps, named, number_at};
+    ghost use Rattle.balloc_c.specs.Slots.{IsVacant, HasAged, block_at, blocks_of, set_block};
+
+    /// No block.
+    pub fn new(alloc: Global) -> Table
+        ensures { blocks_of result.slots.items ≡ [] }
+    {
+        Table {
+            slots: Vec::new(alloc),
+            spare: NONE,
+        }
+    }
+
+    /// How many slots there are.
+    pub fn len(&self) -> usize
+        ensures { result ≡ length self.now.slots.items }
+    {
+        self.slots.len()
+    }
+
+    /// A slot with no block, which stays the spare one until it is filled: one that has given its block away,
+    /// or a new one.
+    pub fn vacant(&mut self) -> Result<usize, Refusal>
+        ensures blocks { blocks_of self.new.slots.items ≡ blocks_of self.old.slots.items }
+        ensures keeps { Keeps self.old self.new }
+        ensures vacant { IfOk result (λ index. IsVacant self.new.slots.items index × (index < 2 ^ 32)) }
+        ensures ready { IfOk result (λ index. IsReady self.old self.new) }
+        ensures refused { IfErr result (λ cause. cause ≡ refusal.NoMemory) }
+    {
+        let index = self.spare as usize;
+        if index < self.slots.len() && self.slots[index].block.is_none() {
+            return Ok(index);
+        }
+        self.grow()
+    }
+
+    /// One slot more, which is the spare one.
+    fn grow(&mut self) -> Result<usize, Refusal>
+        ensures blocks { blocks_of self.new.slots.items ≡ blocks_of self.old.slots.items }
+        ensures keeps { Keeps self.old self.new }
+        ensures vacant { IfOk result (λ index. IsVacant self.new.slots.items index × (index < 2 ^ 32)) }
+        ensures spare { IfOk result (λ index. HasSpare self.new) }
+        ensures refused { IfErr result (λ cause. cause ≡ refusal.NoMemory) }
+    {
+        let index = self.slots.len();
+        if index >= 0xffff_ffff {
+            return Err(Refusal::NoMemory);
+        }
+        let slot = Slot {
+            block: None,
+            age: 0,
+            next: self.spare,
+        };
+        match self.slots.push(slot) {
+            Ok(()) => {
+                self.spare = index as u32;
+                Ok(index)
+            }
+            Err(_) => Err(Refusal::NoMemory),
+        }
+    }
+
+    /// The number of the block in a slot.
+    fn number(&self, index: usize) -> u64
+        requires { index < length self.now.slots.items }
+        ensures { result ≡ number_at self.now index }
+    {
+        u64::from(self.slots[index].age) * 0x1_0000_0000 + index as u64 % 0x1_0000_0000
+    }
+
+    /// The slot of the block that has this number.
+    pub fn find(&self, number: u64) -> Option<usize>
+        ensures found { IfSome result (λ index. (index < length self.now.slots.items) × (index ≡ number % 2 ^ 32)
+            × (named self.now number ≡ block_at self.now.slots.items index) × (named self.now number ≢ None)) }
+        ensures lost { result ≡ None → named self.now number ≡ None }
+    {
+        let index = (number % 0x1_0000_0000) as usize;
+        if index < self.slots.len()
+            && self.number(index) == number
+            && self.slots[index].block.is_some()
+        {
+            Some(index)
+        } else {
+            None
+        }
+    }
+
+    /// The block in a slot, if there is one.
+    pub fn block(&self, index: usize) -> &Option<Block>
+        requires { index < length self.now.slots.items }
+        ensures { result.now ≡ block_at self.now.slots.items index }
+    {
+        &self.slots[index].block
+    }
+
+    /// Puts a block into a slot, or nothing, and answers what was there.
+    pub fn set(&mut self, index: usize, block: Option<Block>) -> Option<Block>
+        requires { index < length self.old.slots.items }
+        ensures slots { self.new.slots.items ≡ set_block self.old.slots.items index block }
+        ensures value { result ≡ block_at self.old.slots.items index }
+    {
+        std::mem::replace(&mut self.slots[index].block, block)
+    }
+
+    /// Puts a block into a slot that has none, and answers its number.
+    pub fn fill(&mut self, index: usize, block: Block) -> u64
+        requires vacant { IsVacant self.old.slots.items index }
+        requires small { index < 2 ^ 32 }
+        ensures slots { self.new.slots.items ≡ set_block self.old.slots.items index (Some block) }
+        ensures gains { Gains self.old result block self.new }
+    {
+        self.unspare(index);
+        let _ = self.set(index, Some(block));
+        self.number(index)
+    }
+
+    /// The slot is no more the spare one.
+    fn unspare(&mut self, index: usize)
+        requires { index < length self.old.slots.items }
+        ensures { self.new.slots.items ≡ self.old.slots.items }
+    {
+        if self.spare as usize == index {
+            self.spare = self.slots[index].next;
+        }
+    }
+
+    /// The block in the slot has been given away, and its number is no block's any more.
+    pub fn retire(&mut self, index: usize)
+        requires { index < length self.old.slots.items }
+        ensures { HasAged self.old.slots.items index self.new.slots.items }
+    {
+        let next = self.spare;
+        let slot = &mut self.slots[index];
+        slot.age = slot.age.wrapping_add(1);
+        slot.next = next;
+        self.spare = (index & 0xffff_ffff) as u32;
+    }
+}

@@ -1,0 +1,12 @@
+use Rattle.std.proofs.Common.{◌∷◌, [], refl}
+use Rattle.benches.proofs.heap.cached.CacheFront.write.Goals as goal
+
+pub write-requires-clause-held : goal.write-requires-clause-held
+write-requires-clause-held c =
+    let block = c.args.block.now in
+    let held = c.requires.held in
+    (c.caches_account_for_all_blocks.ensures.held c.args.heap.now c.args.self.now (block ∷ held.0) block c.requires.rests.0 c.requires.rests.1 held.1).1
+    ([], held.0, refl)
+
+pub returns-clause-rests : goal.returns-clause-rests
+returns-clause-rests c = (c.write.ensures.cache, c.write.ensures.called.idle)

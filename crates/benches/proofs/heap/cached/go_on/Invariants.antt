@@ -1,0 +1,17 @@
+use Rattle.std.proofs.Common.{ℕ}
+use Rattle.errand_steps.specs.Calls.{Call}
+use Rattle.live_heap.specs.declared.pass.Pass.{Pass}
+use Rattle.live_heap.specs.Calls.{IsCalling}
+use Rattle.block_cache.specs.declared.cache.Cache.{Cache}
+use Rattle.block_cache.specs.Caches.{Holds, IsCache}
+use Rattle.benches.specs.Hands.{Keeps}
+use Rattle.benches.proofs.heap.cached.go_on.Given as goal
+
+abbrev pub invariant-loop : goal.invariant-loop
+invariant-loop g l = record {
+  can_next : (goal.iterator-loop g).can_next l.iterator';
+  is_finite : (goal.iterator-loop g).is_finite l.iterator';
+  cache : IsCache l.heap l.cache;
+  keeps : Keeps {F = Cache} (λ c blocks. Holds c blocks) l.fn.cache l.cache;
+  calls : (first : Pass) (call : Call) (made : ℕ) → IsCalling first call made l.fn.cache.pass → (steps : ℕ) × IsCalling first call steps l.cache.pass;
+}

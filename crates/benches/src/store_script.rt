@@ -1,0 +1,63 @@
+//! A random script of calls on a store beside plain lists, while another caller of the heap goes on.
+
+ghost use Rattle.heap_geometry.specs.Geometry.{IsChecked};
+
+use crate::command::{Command, Company};
+use std::alloc::{AllocError, Global};
+use std::io;
+use std::io::Print;
+use std::thread::Threads;
+use store_scripts::sums::Sums;
+use store_scripts::together::{run_by_turns, run_on_threads};
+
+/// Makes the calls, prints what they came to, and answers how much differed.
+pub fn print_sums<R: Print + Threads + Sync>(
+    rt: &R,
+    alloc: Global,
+    company: Company,
+    command: Command,
+) -> io::Result<u64>
+    requires { IsChecked command.geometry }
+{
+    let Some(sums) = sums_of(rt, alloc, company, command)? else {
+        println!(rt; "there is no second caller")?;
+        return Ok(1);
+    };
+    println!(rt;
+        "calls {} stored {} taken {} refused {} spent {} busy_pairs {} busy_records {} busy_frees {} resumed {} read {} lost {} differed {}",
+        sums.calls,
+        sums.stored,
+        sums.taken,
+        sums.refused,
+        sums.spent,
+        sums.busy_pairs,
+        sums.busy_records,
+        sums.busy_frees,
+        sums.resumed,
+        sums.read,
+        sums.lost,
+        sums.differed
+    )?;
+    Ok(sums.differed)
+}
+
+/// What the calls come to.
+fn sums_of<R: Threads + Sync>(
+    rt: &R,
+    alloc: Global,
+    company: Company,
+    command: Command,
+) -> Result<Option<Sums>, AllocError>
+    requires { IsChecked command.geometry }
+{
+    let Command {
+        geometry,
+        seed,
+        count,
+        ..
+    } = command;
+    match company {
+        Company::ByTurns => run_by_turns(alloc, geometry, seed, count),
+        Company::OnThreads => run_on_threads(rt, alloc, geometry, seed, count),
+    }
+}
