@@ -4,9 +4,9 @@
 usage: python3 tools/try_failures.py PROGRAM, at the top of the repository; PROGRAM is the built one, as
 crates/balloc/out/balloc. Needs gcc. Ends with 1 where a run says something untrue.
 
-A run of `replay` and one of `census` on the plain trace, a run of `schedule` on a race, and a pipeline, which
-has no input, are made again for every call of the C library that the program makes for memory, for input or
-for output: the n-th one fails. Each such run has to end
+A run of `replay`, one of `census` and one of `cache` on the plain trace, a run of `schedule` on a race, and a
+pipeline and a store, which have no input, are made again for every call of the C library that the program makes
+for memory, for input or for output: the n-th one fails. Each such run has to end
 
 - with status 0 and its whole text, where the call wasn't needed after all,
 - with status 6 and nothing written, where memory was refused,
@@ -27,7 +27,9 @@ RUNS = [
     (["replay"], TRACES / "plain_run.trace"),
     (["census"], TRACES / "plain_run.trace"),
     (["schedule"], TRACES / "two_installs.trace"),
+    (["cache", "16"], TRACES / "plain_run.trace"),
     (["pipe", "4", "3", "7"], Path(os.devnull)),
+    (["store", "10"], Path(os.devnull)),
 ]
 
 # Stands before the C library: the call number FAIL_AT of the kind FAIL fails, or calls are cut to CUT bytes.
