@@ -11,7 +11,7 @@ import sys
 CRATE = "crates/balloc_c"
 LIMITS = {"BALLOC_MOST_FRAMES": "MAX_FRAMES", "BALLOC_MOST_HEAPS": "MAX_HEAPS", "BALLOC_MOST_UNITS": "MAX_UNITS",
           "BALLOC_MOST_PASSES": "MAX_CALLERS", "BALLOC_MOST_TURNS": "MAX_TURNS", "BALLOC_MOST_WORDS": "LARGE_MOST",
-          "BALLOC_SHELVES": "SHELVES"}
+          "BALLOC_MOST_DEPTH": "DEEPEST", "BALLOC_SHELVES": "SHELVES"}
 TYPES = {"bool": "bool", "u8": "uint8_t", "u32": "uint32_t", "u64": "uint64_t", "i32": "int32_t"}
 
 
@@ -77,7 +77,8 @@ def main():
         if codes.get(name) != constants.get(name):
             problems.append(f"{name}: {codes.get(name)} in the crate, {constants.get(name)} in the header")
 
-    limits = dict(re.findall(r"^pub const (\w+): \w+ = ([\w]+);", text_of("crates/heap_geometry/src/limits.rt"), flags=re.M))
+    limits = dict(re.findall(r"^(?:pub )?const (\w+): \w+ = (\w+);",
+                             text_of("crates/heap_geometry/src/limits.rt") + text_of(f"{CRATE}/src/opening.rt"), flags=re.M))
     defined = dict(re.findall(r"^#define (BALLOC_\w+) (\d+)$", header, flags=re.M))
     for name in sorted(LIMITS.keys() | defined.keys()):
         limit = limits.get(LIMITS.get(name))

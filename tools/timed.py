@@ -21,12 +21,12 @@ def program_of(crate, words):
     return program
 
 
-def compiled(text, name, folder):
-    """The program that `cc` makes of this text."""
+def compiled(text, name, folder, linked=()):
+    """The program that `cc` makes of this text, with what is linked to it."""
     source, program = os.path.join(folder, name + ".c"), os.path.join(folder, name)
     with open(source, "w") as out:
         out.write(text)
-    subprocess.run(["cc", "-std=gnu11", "-O2", "-pthread", "-o", program, source], check=True)
+    subprocess.run(["cc", "-std=gnu11", "-O2", "-pthread", "-o", program, source, *linked], check=True)
     return program
 
 

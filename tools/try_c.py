@@ -76,7 +76,8 @@ def main():
             build_c(f"{TOP}/examples/c/queue.c", program, linked, flags)
             failed += run(f"queue{kind}", program, [rounds])
             build_c(f"{TOP}/examples/c/hostile.c", program, linked, flags)
-            failed += run(f"hostile{kind}", program, ["4", rounds])
+            for depth in ["0", "8"]:
+                failed += run(f"hostile{kind}, magazines of {depth}", program, ["4", rounds, depth])
         if shutil.which("rustc"):
             build_rust(f"{TOP}/examples/rust/main.rs", program, linked)
             failed += run("rust", program, [rounds])

@@ -5,7 +5,7 @@
 int main(void) {
     static balloc_pass passes[2]; /* one for each thread; all zero */
     uint64_t id, word = 0, won, lost;
-    if (balloc_open(16, 2, 4, 1000000, passes, 2) != BALLOC_DONE) return 2;
+    if (balloc_open(16, 2, 4, 1000000, 0, passes, 2) != BALLOC_DONE) return 2;
     if (balloc_alloc(&passes[0], 31, &id) != BALLOC_DONE) return 3;
     balloc_write(&passes[0], id, 30, 7);
     balloc_put(&passes[0], id, 5);

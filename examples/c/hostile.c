@@ -1,7 +1,7 @@
 /* Threads that call a heap at random, with numbers of which half are wrong: freed and put ones, those of other passes,
  * made-up ones, words behind a block's end, shelves that there are not, needs that are too large. Each thread keeps what
  * it holds, with a copy of the words, and so knows what each call has to answer.
- * Usage: hostile THREADS CALLS. Ends with 0 where each code and each word was right and nothing was lost. */
+ * Usage: hostile THREADS CALLS DEPTH. Ends with 0 where each code and each word was right and nothing was lost. */
 #include "balloc.h"
 #include <inttypes.h>
 #include <pthread.h>
@@ -204,6 +204,7 @@ static void *work(void *at) {
 int main(int argc, char **argv) {
     int threads = argc > 1 ? atoi(argv[1]) : 4;
     uint64_t calls = argc > 2 ? strtoull(argv[2], NULL, 10) : 250000;
+    uint32_t depth = argc > 3 ? (uint32_t)atoi(argv[3]) : 0;
     static balloc_pass passes[MOST];
     static struct caller callers[MOST];
     pthread_t ids[MOST];
@@ -213,10 +214,11 @@ int main(int argc, char **argv) {
     /* what is empty, twice open or out of range is refused */
     all.wrong += balloc_alloc(&passes[0], 1, &id) != BALLOC_CLOSED;
     all.wrong += balloc_close(&passes[0], true, &won, &lost) != BALLOC_CLOSED;
-    all.wrong += balloc_open(0, 1, 1, 1000, passes, (size_t)threads) != BALLOC_BAD_NUMBERS;
-    all.wrong += balloc_open(1, 1, 1, 1000, passes, 0) != BALLOC_BAD_NUMBERS;
-    all.wrong += balloc_open(64, 4, 32, BALLOC_MOST_TURNS, passes, (size_t)threads) != BALLOC_DONE;
-    all.wrong += balloc_open(64, 4, 32, BALLOC_MOST_TURNS, passes, (size_t)threads) != BALLOC_IN_USE;
+    all.wrong += balloc_open(0, 1, 1, 1000, depth, passes, (size_t)threads) != BALLOC_BAD_NUMBERS;
+    all.wrong += balloc_open(1, 1, 1, 1000, depth, passes, 0) != BALLOC_BAD_NUMBERS;
+    all.wrong += balloc_open(1, 1, 1, 1000, BALLOC_MOST_DEPTH + 1, passes, (size_t)threads) != BALLOC_BAD_NUMBERS;
+    all.wrong += balloc_open(64, 4, 32, BALLOC_MOST_TURNS, depth, passes, (size_t)threads) != BALLOC_DONE;
+    all.wrong += balloc_open(64, 4, 32, BALLOC_MOST_TURNS, depth, passes, (size_t)threads) != BALLOC_IN_USE;
     for (int i = 0; i < threads; i++) {
         callers[i].pass = &passes[i], callers[i].calls = calls, callers[i].random = 88172645463325252u + 977u * (unsigned)i;
         if (pthread_create(&ids[i], NULL, work, &callers[i])) return 2;

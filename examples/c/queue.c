@@ -67,7 +67,7 @@ int main(int argc, char **argv) {
     pthread_t threads[MAKERS + WORKERS];
     uint64_t rounds = argc > 1 ? strtoull(argv[1], NULL, 10) : 100000;
     uint64_t sent = 0, got = 0, failed = 0, won, lost;
-    if (balloc_open(16, 2, 0, BALLOC_MOST_TURNS, passes, MAKERS + WORKERS) != BALLOC_DONE) return 2;
+    if (balloc_open(16, 2, 0, BALLOC_MOST_TURNS, 8, passes, MAKERS + WORKERS) != BALLOC_DONE) return 2;
     for (int i = 0; i < MAKERS + WORKERS; i++) {
         lanes[i].pass = &passes[i], lanes[i].rounds = rounds;
         if (pthread_create(&threads[i], NULL, i < MAKERS ? make : work, &lanes[i])) return 2;

@@ -18,7 +18,7 @@ struct Pass {
 unsafe impl Send for Pass {}
 
 extern "C" {
-    fn balloc_open(frames: u32, heaps: u32, units: u32, turns: u64, passes: *mut Pass, count: usize) -> i32;
+    fn balloc_open(frames: u32, heaps: u32, units: u32, turns: u64, depth: u32, passes: *mut Pass, count: usize) -> i32;
     fn balloc_close(pass: *mut Pass, frees: bool, won: *mut u64, lost: *mut u64) -> i32;
     fn balloc_alloc(pass: *mut Pass, words: u32, id: *mut u64) -> i32;
     fn balloc_free(pass: *mut Pass, id: u64) -> i32;
@@ -65,7 +65,7 @@ fn main() {
     let rounds = std::env::args().nth(1).map_or(100_000, |it| it.parse().expect("a number of rounds"));
     let empty = || Pass { live: false, at: std::ptr::null_mut(), rest: [0; 6] };
     let mut passes = [empty(), empty(), empty(), empty()];
-    assert_eq!(unsafe { balloc_open(64, 4, 0, 0xf_ffff_ffff, passes.as_mut_ptr(), passes.len()) }, DONE);
+    assert_eq!(unsafe { balloc_open(64, 4, 0, 0xf_ffff_ffff, 8, passes.as_mut_ptr(), passes.len()) }, DONE);
     let wrong: u64 = std::thread::scope(|scope| {
         let lanes: Vec<_> = passes.iter_mut().map(|pass| scope.spawn(move || lane(pass, rounds))).collect();
         lanes.into_iter().map(|it| it.join().expect("a lane")).sum()

@@ -42,6 +42,7 @@ typedef struct balloc_pass {
 #define BALLOC_MOST_UNITS 64
 #define BALLOC_MOST_PASSES 16
 #define BALLOC_MOST_TURNS 68719476735
+#define BALLOC_MOST_DEPTH 64
 #define BALLOC_MOST_WORDS 131071
 #define BALLOC_SHELVES 64
 
@@ -71,14 +72,16 @@ enum {
 /* Opens a heap with so many frames of 4,096 words for small blocks (1 to BALLOC_MOST_FRAMES), processor heaps (1 to
  * BALLOC_MOST_HEAPS) and units of 2,048 words for large ones (0 to BALLOC_MOST_UNITS), and one pass for each of the
  * `count` variables (1 to BALLOC_MOST_PASSES), each of which takes at most `turn_limit` turns (1 to BALLOC_MOST_TURNS):
- * a turn is one attempt of an allocation of at most 2,047 words.
+ * a turn is one attempt of an allocation of at most 2,047 words. A pass keeps at most `depth` blocks of each size that it
+ * frees in a magazine (0 to BALLOC_MOST_DEPTH; 0: none), and gives them again with no step on a word that others share:
+ * they are lost to the other passes until it closes and frees its blocks.
  * BALLOC_DONE, BALLOC_IN_USE, BALLOC_BAD_NUMBERS, BALLOC_NO_MEMORY */
-int32_t balloc_open(uint32_t frames, uint32_t heaps, uint32_t units, uint64_t turn_limit,
+int32_t balloc_open(uint32_t frames, uint32_t heaps, uint32_t units, uint64_t turn_limit, uint32_t depth,
                     balloc_pass *passes, size_t count);
 
 /* Closes a pass, and tells how many exchanges it won and lost: it is empty again. Its blocks are freed first where
- * `frees` says so; where that is interrupted the pass stays open, and balloc_resume and then another close go on with
- * it. Else they stay allocated, as does the block of a call that is under way. The last pass of a heap takes the heap
+ * `frees` says so, those in its magazines too; where that is interrupted the pass stays open, and balloc_resume and then another close go on with
+ * it. Else they stay allocated, those in magazines too, as does the block of a call that is under way. The last pass of a heap takes the heap
  * with it.
  * BALLOC_DONE, BALLOC_CLOSED; where it frees, BALLOC_IN_CALL, BALLOC_INTERRUPTED */
 int32_t balloc_close(balloc_pass *pass, bool frees, uint64_t *won, uint64_t *lost);
@@ -93,7 +96,8 @@ int32_t balloc_counts(balloc_pass *pass, uint64_t *turns, uint64_t *won, uint64_
  * BALLOC_SPENT, BALLOC_INTERRUPTED */
 int32_t balloc_alloc(balloc_pass *pass, uint32_t words, uint64_t *id);
 
-/* Frees a block: its number names none from then on, also where the free is interrupted.
+/* Frees a block: its number names none from then on, also where the free is interrupted, or where a magazine keeps the
+ * block.
  * BALLOC_DONE, BALLOC_CLOSED, BALLOC_IN_CALL, BALLOC_NO_BLOCK, BALLOC_INTERRUPTED */
 int32_t balloc_free(balloc_pass *pass, uint64_t id);
 

@@ -1,5 +1,5 @@
 -- What bars a call, and what one has come to that nothing bars.
-use Rattle.std.proofs.Common.{ℕ, ◌≡◌, ◌<◌, ◌≤◌, ◌+◌, Bool, true, false, Option, Some, None, Result, Ok, Err, refl, sym, ap, ◌∙◌, subst, arith}
+use Rattle.std.proofs.Common.{ℕ, ◌≡◌, ◌<◌, ◌≤◌, ◌+◌, Bool, true, false, Option, Some, None, Result, Err, refl, sym, ap, ◌∙◌, subst}
 use Rattle.std.specs.Prelude.{not, nat_lt, nat_le, is_none}
 use Rattle.std.proofs.lemmas.Bool.{le-ltb, lt-leb}
 use Rattle.heap_geometry.specs.declared.limits.TheConstants.{LARGE_MOST, SHELVES}
@@ -7,6 +7,7 @@ use Rattle.heap_geometry.specs.Need.{usable_words}
 use Rattle.errand_steps.specs.Points.{is_idle}
 use Rattle.live_heap.specs.declared.block.Block.{Block}
 use Rattle.live_heap.specs.declared.pass.Pass.{Pass}
+use Rattle.block_cache.specs.declared.cache.Cache.{Cache}
 use Rattle.balloc_c.specs.declared.refusal.Refusal.{Refusal}
 use Rattle.balloc_c.specs.declared.refusal.Refusal.TheVariants as refusal
 use Rattle.balloc_c.specs.declared.table.Table.{Table}
@@ -22,15 +23,15 @@ not-barred b cause rest is = ap (λ (x : Bool). barred x cause rest) is
 
 -- a call that is barred
 pub refuses :
-    {A : Type 0} (bar : Option Refusal) (cause : Refusal) (Makes : Result A Refusal → Pass → Table → Type 0) (p : Pass) (t : Table)
-    → bar ≡ Some cause → Answers bar Makes p t (Err cause) p t
-refuses bar cause Makes p t is = subst (λ (b : Option Refusal). Answers b Makes p t (Err cause) p t) (sym is) (refl, refl, refl)
+    {A : Type 0} (bar : Option Refusal) (cause : Refusal) (Makes : Result A Refusal → Cache → Table → Type 0) (c : Cache) (t : Table)
+    → bar ≡ Some cause → Answers bar Makes c t (Err cause) c t
+refuses bar cause Makes c t is = subst (λ (b : Option Refusal). Answers b Makes c t (Err cause) c t) (sym is) (refl, refl, refl)
 
 -- one that is made
 pub makes :
-    {A : Type 0} (bar : Option Refusal) (Makes : Result A Refusal → Pass → Table → Type 0) (p : Pass) (t : Table)
-    (result : Result A Refusal) (q : Pass) (u : Table) → bar ≡ None → Makes result q u → Answers bar Makes p t result q u
-makes bar Makes p t result q u is made = subst (λ (b : Option Refusal). Answers b Makes p t result q u) (sym is) made
+    {A : Type 0} (bar : Option Refusal) (Makes : Result A Refusal → Cache → Table → Type 0) (c : Cache) (t : Table)
+    (result : Result A Refusal) (d : Cache) (u : Table) → bar ≡ None → Makes result d u → Answers bar Makes c t result d u
+makes bar Makes c t result d u is made = subst (λ (b : Option Refusal). Answers b Makes c t result d u) (sym is) made
 
 -- a pass in a call is barred, and one in none isn't
 pub in-call : (p : Pass) (rest : Option Refusal) → is_idle p.errand.point ≡ false → barred (is_busy p) refusal.InCall rest ≡ Some refusal.InCall

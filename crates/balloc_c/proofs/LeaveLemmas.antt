@@ -1,31 +1,29 @@
 -- The blocks of a table are freed one after the other.
-use Rattle.std.proofs.Common.{Bool, true, false, true≢false, Ok, Err, ◌≢◌, ℕ, zero, suc, ◌≡◌, ◌<◌, ◌≤◌, ◌+◌, Option, Some, None, List, [], ◌∷◌, ◌++◌, length, take, drop, slice_index_or, refl, sym, ap, ◌∙◌, subst, append-nil, arith}
+use Rattle.std.proofs.Common.{Bool, true, false, true≢false, ◌≢◌, ℕ, zero, suc, ◌≡◌, ◌<◌, ◌≤◌, ◌+◌, Option, Some, None, List, [], ◌∷◌, ◌++◌, length, take, drop, slice_index_or, refl, sym, ap, ◌∙◌, subst, append-nil, arith, inl, inr}
 use Rattle.std.proofs.lemmas.List.{drop_all, take_all, take_more}
 use Rattle.std.proofs.lemmas.Bool.Decides.{eqb_tells}
-use Rattle.errand_steps.specs.Points.{is_idle}
 use Rattle.live_heap.specs.declared.answers.FreeAnswer.{FreeAnswer}
 use Rattle.live_heap.specs.declared.answers.FreeAnswer.TheVariants as free_answer
 use Rattle.live_heap.specs.declared.block.Block.{Block}
 use Rattle.live_heap.specs.declared.pass.Pass.{Pass}
-use Rattle.live_heap.specs.Answers.{FreeTells}
-use Rattle.balloc_c.specs.declared.calls.TheConstants.{TRIES}
-use Rattle.balloc_c.specs.declared.refusal.Refusal.TheVariants as refusal
+use Rattle.errand_steps.specs.Begins.{IsIdle}
+use Rattle.block_cache.specs.declared.cache.Cache.{Cache}
+use Rattle.block_cache.proofs.WholeLemmas.{room-or-not}
 use Rattle.balloc_c.specs.declared.table.Slot.{Slot}
 use Rattle.balloc_c.specs.declared.table.Table.{Table}
-use Rattle.balloc_c.specs.Closed.{FreesAll, FreesSlot, FreesTable, HasFreedAll, StopsAt}
-use Rattle.balloc_c.specs.Outcomes.{barred, is_busy}
+use Rattle.balloc_c.specs.Closed.{FreesAll, FreesSlot, FreesTable, StopsAt}
+use Rattle.balloc_c.specs.Through.{IsFree}
 use Rattle.balloc_c.specs.Slots.{block_at, blocks_of, list_of, no_slot, set_block, with_block}
-use Rattle.balloc_c.proofs.BarLemmas.{in-none, makes}
 use Rattle.balloc_c.proofs.Slots.{about, block-set_other, block-set_same, blocks-append, by_case}
 
 frees-more :
-    (p q r : Pass) (blocks : List Block) (block : Block) → FreesAll p blocks q → FreeTells q block TRIES free_answer.Freed r
+    (p q r : Cache) (blocks : List Block) (block : Block) → FreesAll p blocks q → IsFree q block free_answer.Freed r
     → FreesAll p (blocks ++ block ∷ []) r
-frees-more p q r [] block freed one = (r, subst (λ (s : Pass). FreeTells s block TRIES free_answer.Freed r) freed one, refl)
+frees-more p q r [] block freed one = (r, subst (λ (s : Cache). IsFree s block free_answer.Freed r) freed one, refl)
 frees-more p q r (b ∷ bs) block freed one = (freed.0, freed.1, frees-more freed.0 q r bs block freed.2 one)
 
 frees-slot :
-    (p q r : Pass) (blocks : List Block) (slot : Option Block) → FreesAll p blocks q → FreesSlot q slot free_answer.Freed r
+    (p q r : Cache) (blocks : List Block) (slot : Option Block) → FreesAll p blocks q → FreesSlot q slot free_answer.Freed r
     → FreesAll p (blocks ++ list_of slot) r
 frees-slot p q r blocks None freed one =
     subst (λ (l : List Block). FreesAll p l r) (sym (append-nil blocks)) (subst (FreesAll p blocks) (sym one.1) freed)
@@ -33,7 +31,7 @@ frees-slot p q r blocks (Some block) freed one = frees-more p q r blocks block f
 
 -- the slots up to one more are freed
 pub frees-next :
-    (p q r : Pass) (slots : List Slot) (i : ℕ) → i < length slots → FreesAll p (blocks_of (take i slots)) q
+    (p q r : Cache) (slots : List Slot) (i : ℕ) → i < length slots → FreesAll p (blocks_of (take i slots)) q
     → FreesSlot q (block_at slots i) free_answer.Freed r → FreesAll p (blocks_of (take (i + 1) slots)) r
 frees-next p q r slots i within freed one =
     let slot = slice_index_or slots i no_slot in
@@ -82,7 +80,7 @@ rest-next before slots after i now rest k high =
 
 -- the slot that is freed next
 pub frees-on :
-    (p q r : Pass) (before slots : List Slot) (i : ℕ) (answer : FreeAnswer) → i < length before
+    (p q r : Cache) (before slots : List Slot) (i : ℕ) (answer : FreeAnswer) → i < length before
     → ((k : ℕ) → i ≤ k → block_at slots k ≡ block_at before k) → FreesAll p (blocks_of (take i before)) q
     → FreesSlot q (block_at slots i) answer r → answer ≡ free_answer.Freed → FreesAll p (blocks_of (take (i + 1) before)) r
 frees-on p q r before slots i answer within rest freed one is =
@@ -98,7 +96,7 @@ busy≢freed : free_answer.Busy ≢ free_answer.Freed
 unfolding is_freed
 busy≢freed same = true≢false (sym (ap is_freed same))
 
-stops : (p next q : Pass) (before after : List Slot) (i : ℕ) (slot : Option Block) → i < length before → block_at before i ≡ slot
+stops : (p next q : Cache) (before after : List Slot) (i : ℕ) (slot : Option Block) → i < length before → block_at before i ≡ slot
     → FreesAll p (blocks_of (take i before)) next → FreesSlot next slot free_answer.Busy q → blocks_of after ≡ blocks_of (drop (i + 1) before)
     → StopsAt p (blocks_of before) (blocks_of after) q
 stops p next q before after i None within is freed one left = absurd (busy≢freed one.0)
@@ -114,30 +112,39 @@ stops p next q before after i (Some block) within is freed one left = record {
 }
 
 -- a free is interrupted
-pub stops-answers :
-    (p next q : Pass) (t u : Table) (slots : List Slot) (i : ℕ) (answer : FreeAnswer) → is_idle p.errand.point ≡ true → i < length t.slots.items
+pub stops-table :
+    (p next q : Cache) (t u : Table) (slots : List Slot) (i : ℕ) (answer : FreeAnswer) → i < length t.slots.items
     → i < length slots → length u.slots.items ≡ length t.slots.items → ((k : ℕ) → k < i → block_at slots k ≡ None)
     → ((k : ℕ) → i ≤ k → block_at slots k ≡ block_at t.slots.items k)
     → ((k : ℕ) → block_at u.slots.items k ≡ block_at (set_block slots i None) k) → FreesAll p (blocks_of (take i t.slots.items)) next
-    → FreesSlot next (block_at slots i) answer q → answer ≡ free_answer.Busy → HasFreedAll p t (Err refusal.Interrupted) q u
-stops-answers p next q t u slots i answer idle within here count empty rest now freed one is =
+    → FreesSlot next (block_at slots i) answer q → answer ≡ free_answer.Busy → FreesTable p t free_answer.Busy q u
+stops-table p next q t u slots i answer within here count empty rest now freed one is =
     let before = t.slots.items in
     let after = u.slots.items in
     let left : blocks_of after ≡ blocks_of (drop (i + 1) before) =
     left-behind before after (i + 1) count (empty-next before slots after i here now empty) (rest-next before slots after i now rest) in
-    makes (barred (is_busy p) refusal.InCall None) (FreesTable p t) p t (Err refusal.Interrupted) q u (in-none p None idle)
-    (stops p next q before after i (block_at before i) within refl freed
+    stops p next q before after i (block_at before i) within refl freed
     (subst (λ (a : FreeAnswer). FreesSlot next (block_at before i) a q) is
-    (subst (λ (b : Option Block). FreesSlot next b answer q) (rest i (omega arith)) one)) left)
+    (subst (λ (b : Option Block). FreesSlot next b answer q) (rest i (omega arith)) one)) left
 
 -- all are freed
-pub freed-answers :
-    (p q : Pass) (t u : Table) (i : ℕ) → is_idle p.errand.point ≡ true → length t.slots.items ≤ i → length u.slots.items ≡ length t.slots.items
+pub freed-table :
+    (p q : Cache) (t u : Table) (i : ℕ) → length t.slots.items ≤ i → length u.slots.items ≡ length t.slots.items
     → ((k : ℕ) → k < i → block_at u.slots.items k ≡ None) → ((k : ℕ) → i ≤ k → block_at u.slots.items k ≡ block_at t.slots.items k)
-    → FreesAll p (blocks_of (take i t.slots.items)) q → HasFreedAll p t (Ok tt) q u
-freed-answers p q t u i idle past count empty rest freed =
-    let before = t.slots.items in
-    makes (barred (is_busy p) refusal.InCall None) (FreesTable p t) p t (Ok tt) q u (in-none p None idle) (
+    → FreesAll p (blocks_of (take i t.slots.items)) q → FreesTable p t free_answer.Freed q u
+freed-table p q t u i past count empty rest freed =
+    let before = t.slots.items in (
       subst (λ (l : List Slot). FreesAll p (blocks_of l) q) (take_all i before past) freed,
       left-behind before u.slots.items i count empty rest ∙ ap blocks_of (drop_all i before past),
     )
+
+-- a free that has ended leaves the pass in no call
+pub freed-idle :
+    (c d : Cache) (block : Block) (answer : FreeAnswer) → IsIdle c.pass.errand → IsFree c block answer d → answer ≡ free_answer.Freed
+    → IsIdle d.pass.errand
+freed-idle c d block answer idle free is =
+    let freed : IsFree c block free_answer.Freed d = subst (λ (a : FreeAnswer). IsFree c block a d) is free in
+    elim (room-or-not c block.need) [
+      | inl room ↦ subst (λ (p : Pass). IsIdle p.errand) (sym (freed.kept room).1.pass) idle
+      | inr none ↦ (freed.asked none).0.called.idle
+    ]

@@ -1,5 +1,5 @@
 -- What the handles of a row hold.
-use Rattle.std.proofs.Common.{Bool, true, false, ◌+◌, ◌∙◌, sym, subst, ℕ, zero, suc, ◌≡◌, ◌≢◌, ◌<◌, ◌≤◌, Option, Some, None, List, [], ◌∷◌, length, get_or, refl, ap, arith}
+use Rattle.std.proofs.Common.{true, false, ◌+◌, ◌∙◌, sym, subst, ℕ, zero, suc, ◌≡◌, ◌≢◌, ◌<◌, ◌≤◌, Option, Some, None, List, [], ◌∷◌, length, get_or, refl, ap, arith}
 use Rattle.std.specs.Prelude.{IsSomeAnd, is_some, slice_set}
 use Rattle.std.proofs.lemmas.Bool.{false≢true}
 use Rattle.std.proofs.lemmas.Bool.Decides.{eqb_tells, leb_tells}
@@ -79,13 +79,13 @@ emptied-one handles i x within none each k low =
 
 -- one more that holds a pass
 pub given-one :
-    (h : Heap) (handles : List PassHandle) (i : ℕ) (x y : PassHandle) (hand : Hand) → i < length handles → y.held.hand ≡ Some hand
-    → IsNew h i hand → HoldNew h i handles → HoldNew h (i + 1) (slice_set (slice_set handles i x) i y)
-given-one h handles i x y hand within holds new each k low =
+    (h : Heap) (depth : ℕ) (handles : List PassHandle) (i : ℕ) (x y : PassHandle) (hand : Hand) → i < length handles → y.held.hand ≡ Some hand
+    → IsNew h i depth hand → HoldNew h depth i handles → HoldNew h depth (i + 1) (slice_set (slice_set handles i x) i y)
+given-one h depth handles i x y hand within holds new each k low =
     let middle = slice_set handles i x in
     let there : i < length middle = subst (λ (n : ℕ). i < n) (sym (length-set handles i x)) within in
     by_case
-    (λ at. subst (λ (n : ℕ). IsSomeAnd (held_at (slice_set middle i y) n) (IsNew h n)) (sym at.1)
-    (subst (λ (o : Option Hand). IsSomeAnd o (IsNew h i)) (sym (held-set_same middle i y there ∙ holds)) new))
-    (λ apart. subst (λ (o : Option Hand). IsSomeAnd o (IsNew h k)) (sym (held-set_other middle i k y apart.1 ∙ held-set_other handles i k x apart.1))
+    (λ at. subst (λ (n : ℕ). IsSomeAnd (held_at (slice_set middle i y) n) (IsNew h n depth)) (sym at.1)
+    (subst (λ (o : Option Hand). IsSomeAnd o (IsNew h i depth)) (sym (held-set_same middle i y there ∙ holds)) new))
+    (λ apart. subst (λ (o : Option Hand). IsSomeAnd o (IsNew h k depth)) (sym (held-set_other middle i k y apart.1 ∙ held-set_other handles i k x apart.1))
     (each k (omega (arith, low, apart.1)))) (eqb_tells k i)

@@ -1,17 +1,38 @@
 -- One word more of a range.
-use Rattle.std.proofs.Common.{ℕ, suc, ◌≡◌, ◌<◌, ◌≤◌, ◌+◌, ◌-◌, ◌++◌, List, [], ◌∷◌, length, take, get_or, sym, ap, ◌∙◌, subst, arith}
+use Rattle.std.proofs.Common.{ℕ, suc, ◌≡◌, ◌≢◌, ◌<◌, ◌≤◌, ◌+◌, ◌-◌, ◌++◌, List, [], ◌∷◌, length, take, get_or, sym, ap, ◌∙◌, subst, arith}
+use Rattle.std.specs.Prelude.{All}
 use Rattle.std.proofs.lemmas.List.{length-take-le, take_more}
 use Rattle.heap_geometry.specs.declared.need.Need.{Need}
+use Rattle.errand_steps.specs.declared.reply.Reply.{Reply}
 use Rattle.errand_steps.specs.declared.reply.Reply.TheVariants as reply
-use Rattle.errand_steps.specs.Begins.{IsIdle}
-use Rattle.errand_steps.specs.Calls.{write, read}
+use Rattle.errand_steps.specs.Calls.{Call, write, read}
 use Rattle.call_events.specs.Made.{LeadsBy, answered, found_from}
 use Rattle.call_events.proofs.MadeLemmas.{found-more, leads-more}
 use Rattle.live_heap.specs.declared.block.Block.{Block}
 use Rattle.live_heap.specs.declared.heap.Heap.{Heap}
 use Rattle.live_heap.specs.declared.pass.Pass.{Pass}
 use Rattle.live_heap.specs.Words.{CallsOnWord}
+use Rattle.live_heap.proofs.MadeLemmas.{word-whole}
+use Rattle.live_heap.proofs.WholeLaws.{pass-keeps}
+use Rattle.step_core.specs.Keeping.{Leaves}
+use Rattle.block_cache.specs.declared.cache.Cache.{Cache}
+use Rattle.block_cache.specs.declared.magazines.Magazines.{Magazines}
+use Rattle.block_cache.specs.Caches.{HoldsBlock, KeepsMagazines}
+use Rattle.block_cache.specs.Magazines.{all_in, stacks_of}
 use Rattle.balloc_c.specs.Ranges.{wrote_from}
+
+-- the heap was asked twice
+pub keeps-on : (c d e : Cache) → KeepsMagazines c d → KeepsMagazines d e → KeepsMagazines c e
+keeps-on c d e one other = record { magazines = other.magazines ∙ one.magazines; hits = other.hits ∙ one.hits }
+
+-- a block that is held still is behind a call on a word
+pub held-on :
+    (h : Heap) (c d : Cache) (block : Block) (call : Call) (answer : Reply) → CallsOnWord h c.pass call answer d.pass → Leaves call block.place
+    → KeepsMagazines c d → HoldsBlock c block → HoldsBlock d block
+held-on h c d block call answer one leaves keeps held = (
+  pass-keeps h h c.pass d.pass call answer block.place block.need (word-whole h c.pass d.pass call answer one) leaves held.0,
+  subst (λ (m : Magazines). All (λ (other : Block). other.place ≢ block.place) (all_in (stacks_of m.stacks.items))) (sym keeps.magazines) held.1,
+)
 
 wrote-push :
     (place : ℕ) (need : Need) (i : ℕ) (words : List ℕ) (word j : ℕ) → j ≡ i + length words

@@ -1,90 +1,17 @@
 -- A block is taken out of its slot, and put into a vacant one.
 use Rattle.std.proofs.Common.{◌%◌, ◌^◌, ℕ, suc, zero, ◌≡◌, ◌≢◌, ◌<◌, ◌+◌, Option, Some, None, List, [], ◌∷◌, ◌++◌, length, take, drop, slice_index_or, refl, sym, ap, ◌∙◌, subst, append-nil, length-set, ◌⊎◌, inl, inr}
-use Rattle.std.specs.Prelude.{All, slice_set}
+use Rattle.std.specs.Prelude.{slice_set}
 use Rattle.std.proofs.lemmas.Bool.Decides.{eqb_tells}
 use Rattle.std.proofs.lemmas.List.{take-append-drop, drop_more, take-set, drop-set, get_or_read, get_or-set_same, get_or-set_other}
-use Rattle.std.proofs.lemmas.List.Elements.{All-cons, All-head, All-tail}
-use Rattle.step_core.specs.Keeping.{Leaves}
 use Rattle.live_heap.specs.declared.block.Block.{Block}
 use Rattle.live_heap.specs.declared.heap.Heap.{Heap}
-use Rattle.live_heap.specs.declared.pass.Pass.{Pass}
-use Rattle.live_heap.specs.Hands.{IsHand}
-use Rattle.live_heap.specs.Holdings.{Holds}
-use Rattle.live_heap.specs.Passes.{Owns}
+use Rattle.errand_steps.specs.Begins.{IsIdle}
+use Rattle.block_cache.specs.declared.cache.Cache.{Cache}
+use Rattle.block_cache.specs.Caches.{Holds, HoldsBlock}
+use Rattle.block_cache.proofs.TogetherLemmas.{among-held, ordered}
 use Rattle.balloc_c.specs.declared.table.Slot.{Slot}
-use Rattle.balloc_c.specs.Slots.{HasAged, IsVacant, age_at, block_at, blocks_of, list_of, no_slot, set_block, with_block}
-
--- the other blocks lie elsewhere
-abbrev Apart : Block → List Block → Type 0
-Apart block blocks = All (λ other. other.place ≢ block.place) blocks
-
--- what is so of all is so of one, and of the others
-all-out : (P : Block → Type 0) (before after : List Block) (block : Block) → All P (before ++ block ∷ after) → P block × All P (before ++ after)
-all-out P [] after block all = (All-head P block after all, All-tail P block after all)
-all-out P (b ∷ bs) after block all =
-    let rest = all-out P bs after block (All-tail P b (bs ++ block ∷ after) all) in
-    (rest.0, All-cons P b (bs ++ after) (All-head P b (bs ++ block ∷ after) all) rest.1)
-
-all-in : (P : Block → Type 0) (before after : List Block) (block : Block) → P block → All P (before ++ after) → All P (before ++ block ∷ after)
-all-in P [] after block here rest = All-cons P block after here rest
-all-in P (b ∷ bs) after block here rest =
-    All-cons P b (bs ++ block ∷ after) (All-head P b (bs ++ after) rest) (all-in P bs after block here (All-tail P b (bs ++ after) rest))
-
--- a held block is owned, and lies apart from the others, which are held
-holds-out :
-    (p : Pass) (before after : List Block) (block : Block) → Holds p (before ++ block ∷ after)
-    → Owns p block × Apart block (before ++ after) × Holds p (before ++ after)
-holds-out p [] after block held = held
-holds-out p (b ∷ bs) after block held =
-    let rest = holds-out p bs after block held.2 in
-    let out = all-out (λ other. other.place ≢ b.place) bs after block held.1 in (
-      rest.0,
-      All-cons (λ (other : Block). other.place ≢ block.place) b (bs ++ after) (λ same. out.0 (sym same)) rest.1,
-      (held.0, out.1, rest.2),
-    )
-
-holds-in :
-    (p : Pass) (before after : List Block) (block : Block) → Owns p block → Apart block (before ++ after) → Holds p (before ++ after)
-    → Holds p (before ++ block ∷ after)
-holds-in p [] after block owns apart held = (owns, apart, held)
-holds-in p (b ∷ bs) after block owns apart held =
-    let here : b.place ≢ block.place = All-head (λ (other : Block). other.place ≢ block.place) b (bs ++ after) apart in (
-      held.0,
-      all-in (λ other. other.place ≢ b.place) bs after block (λ same. here (sym same)) held.1,
-      holds-in p bs after block owns (All-tail (λ (other : Block). other.place ≢ block.place) b (bs ++ after) apart) held.2,
-    )
-
--- a last block that goes in between
-all-moved : (P : Block → Type 0) (before after : List Block) (block : Block) → All P ((before ++ after) ++ block ∷ []) → All P (before ++ block ∷ after)
-all-moved P before after block all =
-    let out = all-out P (before ++ after) [] block all in
-    all-in P before after block out.0 (subst (All P) (append-nil (before ++ after)) out.1)
-
-holds-moved : (p : Pass) (before after : List Block) (block : Block) → Holds p ((before ++ after) ++ block ∷ []) → Holds p (before ++ block ∷ after)
-holds-moved p before after block held =
-    let out = holds-out p (before ++ after) [] block held in
-    holds-in p before after block out.0 (subst (Apart block) (append-nil (before ++ after)) out.1) (subst (Holds p) (append-nil (before ++ after)) out.2)
-
-hand-moved :
-    (h : Heap) (q : Pass) (before after : List Block) (block : Block) → IsHand h q ((before ++ after) ++ block ∷ [])
-    → IsHand h q (before ++ block ∷ after)
-hand-moved h q before after block hand =
-    record {
-      of = hand.of;
-      holds = λ idle. holds-moved q before after block (hand.holds idle);
-      waits = λ busy.
-          let w = hand.waits busy in
-          record {
-            first = w.first;
-            of = w.of;
-            holds = holds-moved w.first before after block w.holds;
-            call = w.call;
-            steps = w.steps;
-            calling = w.calling;
-            tried = w.tried;
-            leaves = all-moved (λ b. Leaves w.call b.place) before after block w.leaves;
-          };
-    }
+use Rattle.balloc_c.specs.Slots.{HasAged, IsVacant, age_at, block_at, blocks_of, no_slot, set_block, with_block}
+use Rattle.balloc_c.specs.Tended.{Tends}
 
 -- the blocks of two rows of slots
 with-append : (slot : Option Block) (xs ys : List Block) → with_block slot (xs ++ ys) ≡ with_block slot xs ++ ys
@@ -127,6 +54,13 @@ about-set slots i slot within =
     ap blocks_of (sym (take-append-drop i (slice_set slots i slot)) ∙ (λ j. take-set slots i slot j ++ drop-set slots i slot within j))
     ∙ blocks-append (take i slots) (slot ∷ drop (i + 1) slots)
 
+-- a slot with a block, and those about it
+whole-at :
+    (slots : List Slot) (i : ℕ) (block : Block) → i < length slots → block_at slots i ≡ Some block
+    → blocks_of slots ≡ blocks_of (take i slots) ++ block ∷ blocks_of (drop (i + 1) slots)
+whole-at slots i block within is =
+    about slots i within ∙ ap (λ (s : Option Block). blocks_of (take i slots) ++ with_block s (blocks_of (drop (i + 1) slots))) is
+
 -- another slot with the same block
 pub same-blocks : (slots : List Slot) (i : ℕ) (slot : Slot) → i < length slots → slot.block ≡ block_at slots i → blocks_of (slice_set slots i slot) ≡ blocks_of slots
 same-blocks slots i slot within same =
@@ -134,35 +68,35 @@ same-blocks slots i slot within same =
     ∙ ap (λ (b : Option Block). blocks_of (take i slots) ++ with_block b (blocks_of (drop (i + 1) slots))) same
     ∙ sym (about slots i within)
 
--- the block in a slot is owned, and apart from the others, which are held
+-- a block in a slot is one of those that are held, whichever comes first
 pub taken-out :
-    (p : Pass) (slots : List Slot) (i : ℕ) (block : Block) → i < length slots → block_at slots i ≡ Some block
-    → Holds p (blocks_of slots) → Holds p (block ∷ blocks_of (set_block slots i None))
-taken-out p slots i block within is held =
+    (c : Cache) (slots : List Slot) (i : ℕ) (block : Block) → i < length slots → block_at slots i ≡ Some block
+    → Holds c (blocks_of slots) → Holds c (block ∷ blocks_of (set_block slots i None))
+taken-out c slots i block within is held =
     let before = blocks_of (take i slots) in
     let after = blocks_of (drop (i + 1) slots) in
-    let whole : blocks_of slots ≡ before ++ block ∷ after =
-    about slots i within ∙ ap (λ (s : Option Block). before ++ with_block s after) is in
-    subst (λ (l : List Block). Owns p block × Apart block l × Holds p l) (sym (about-set slots i (record (slice_index_or slots i no_slot) { block = None }) within))
-    (holds-out p before after block (subst (Holds p) whole held))
-
-placed-at :
-    (h : Heap) (q : Pass) (before after : List Block) (slot : Option Block) → IsHand h q ((before ++ after) ++ list_of slot)
-    → IsHand h q (before ++ with_block slot after)
-placed-at h q before after None hand = subst (IsHand h q) (append-nil (before ++ after)) hand
-placed-at h q before after (Some block) hand = hand-moved h q before after block hand
+    subst (λ (l : List Block). Holds c (block ∷ l)) (sym (about-set slots i (record (slice_index_or slots i no_slot) { block = None }) within))
+    ((ordered c before after block).0 (subst (Holds c) (whole-at slots i block within is) held))
 
 -- a block that comes goes into a vacant slot
 pub placed :
-    (h : Heap) (q : Pass) (slots : List Slot) (i : ℕ) (slot : Option Block) → IsVacant slots i
-    → IsHand h q (blocks_of slots ++ list_of slot) → IsHand h q (blocks_of (set_block slots i slot))
-placed h q slots i slot vacant hand =
+    (c : Cache) (slots : List Slot) (i : ℕ) (block : Block) → IsVacant slots i → Holds c (block ∷ blocks_of slots)
+    → Holds c (blocks_of (set_block slots i (Some block)))
+placed c slots i block vacant held =
     let before = blocks_of (take i slots) in
     let after = blocks_of (drop (i + 1) slots) in
     let whole : blocks_of slots ≡ before ++ after =
     about slots i vacant.0 ∙ ap (λ (s : Option Block). before ++ with_block s after) vacant.1 in
-    subst (IsHand h q) (sym (about-set slots i (record (slice_index_or slots i no_slot) { block = slot }) vacant.0))
-    (placed-at h q before after slot (subst (λ (l : List Block). IsHand h q (l ++ list_of slot)) whole hand))
+    subst (Holds c) (sym (about-set slots i (record (slice_index_or slots i no_slot) { block = Some block }) vacant.0))
+    ((ordered c before after block).1 (subst (λ (l : List Block). Holds c (block ∷ l)) whole held))
+
+-- the caller of the cache holds the block in a slot
+pub held-at :
+    (h : Heap) (c : Cache) (slots : List Slot) (i : ℕ) (block : Block) → Tends h c (blocks_of slots) → IsIdle c.pass.errand → i < length slots
+    → block_at slots i ≡ Some block → HoldsBlock c block
+held-at h c slots i block tends idle within is =
+    (among-held h c (blocks_of slots) block tends.cache idle tends.holds).1
+    (blocks_of (take i slots), blocks_of (drop (i + 1) slots), whole-at slots i block within is)
 
 pub by_case : {A B C : Type 0} → (A → C) → (B → C) → A ⊎ B → C
 by_case f g (inl a) = f a

@@ -56,8 +56,8 @@ told Call Shows was now before next result held holds shows called =
 -- a close, and one that stays open
 pub closes :
     (frees : Bool) (was now : Option Hand) (before next : Hand) (outcome : Result (Unit {0}) Refusal) (done : Unit {0}) (won lost won_told lost_told : ℕ)
-    → was ≡ Some before → Leaves frees before outcome next → outcome ≡ Ok done → won_told ≡ next.pass.errand.won
-    → lost_told ≡ next.pass.errand.lost → now ≡ None → Closes frees was (pos 0) won lost won_told lost_told now
+    → was ≡ Some before → Leaves frees before outcome next → outcome ≡ Ok done → won_told ≡ next.cache.pass.errand.won
+    → lost_told ≡ next.cache.pass.errand.lost → now ≡ None → Closes frees was (pos 0) won lost won_told lost_told now
 closes frees was now before next outcome done won lost won_told lost_told held leaves is won_is lost_is empty =
     subst (λ (o : Option Hand). Closes frees o (pos 0) won lost won_told lost_told now) (sym held) (
       outcome,

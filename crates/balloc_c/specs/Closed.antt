@@ -1,11 +1,9 @@
 -- How a pass closes for C.
-use Rattle.std.specs.Prelude.{ℕ, ◌≡◌, Bool, true, false, ℤ, pos, negsuc, Option, Some, None, Result, Ok, Err, List, [], ◌∷◌, ◌++◌}
+use Rattle.std.specs.Prelude.{ℕ, ◌≡◌, Bool, true, false, ℤ, pos, negsuc, Option, Some, None, Result, Ok, Err, List, [], ◌∷◌, ◌++◌, ◌⊎◌}
 use Rattle.live_heap.specs.declared.answers.FreeAnswer.{FreeAnswer}
 use Rattle.live_heap.specs.declared.answers.FreeAnswer.TheVariants as free_answer
 use Rattle.live_heap.specs.declared.block.Block.{Block}
-use Rattle.live_heap.specs.declared.pass.Pass.{Pass}
-use Rattle.live_heap.specs.Answers.{FreeTells}
-use Rattle.balloc_c.specs.declared.calls.TheConstants.{TRIES}
+use Rattle.block_cache.specs.declared.cache.Cache.{Cache}
 use Rattle.balloc_c.specs.declared.hand.Hand.{Hand}
 use Rattle.balloc_c.specs.declared.refusal.Refusal.{Refusal}
 use Rattle.balloc_c.specs.declared.refusal.Refusal.TheVariants as refusal
@@ -13,36 +11,46 @@ use Rattle.balloc_c.specs.declared.table.Table.{Table}
 use Rattle.balloc_c.specs.Codes.{code_in}
 use Rattle.balloc_c.specs.Outcomes.{Answers, Makes, barred, counts_of, is_busy}
 use Rattle.balloc_c.specs.Slots.{blocks_of}
+use Rattle.balloc_c.specs.Through.{IsFlush, IsFree}
 
 -- the block of a slot was freed, or that is under way; where there is none nothing has happened
-abbrev pub FreesSlot : Pass → Option Block → FreeAnswer → Pass → Type 0
-FreesSlot p None answer q = (answer ≡ free_answer.Freed) × (q ≡ p)
-FreesSlot p (Some block) answer q = FreeTells p block TRIES answer q
+abbrev pub FreesSlot : Cache → Option Block → FreeAnswer → Cache → Type 0
+FreesSlot c None answer d = (answer ≡ free_answer.Freed) × (d ≡ c)
+FreesSlot c (Some block) answer d = IsFree c block answer d
 
 -- these blocks were freed, one after the other
-abbrev pub FreesAll : Pass → List Block → Pass → Type 0
-FreesAll p [] q = q ≡ p
-FreesAll p (block ∷ blocks) q = (next : Pass) × FreeTells p block TRIES free_answer.Freed next × FreesAll next blocks q
+abbrev pub FreesAll : Cache → List Block → Cache → Type 0
+FreesAll c [] d = d ≡ c
+FreesAll c (block ∷ blocks) d = (next : Cache) × IsFree c block free_answer.Freed next × FreesAll next blocks d
 
 -- some were, the free of the next one is interrupted, and the others are left
-pub record StopsAt (p : Pass) (had left : List Block) (q : Pass) : Type 0 where
+pub record StopsAt (c : Cache) (had left : List Block) (d : Cache) : Type 0 where
   pub freed : List Block
   pub block : Block
   pub order : had ≡ freed ++ block ∷ left
-  pub next : Pass
-  pub before : FreesAll p freed next
-  pub stopped : FreeTells next block TRIES free_answer.Busy q
+  pub next : Cache
+  pub before : FreesAll c freed next
+  pub stopped : IsFree next block free_answer.Busy d
 
 -- all blocks of the table were freed, in the order of their slots; or one of these frees is interrupted
-abbrev pub FreesTable : Pass → Table → Result (Unit {0}) Refusal → Pass → Table → Type 0
-FreesTable p t (Ok done) q u = FreesAll p (blocks_of t.slots.items) q × (blocks_of u.slots.items ≡ [])
-FreesTable p t (Err refusal.Interrupted) q u = StopsAt p (blocks_of t.slots.items) (blocks_of u.slots.items) q
-FreesTable p t (Err cause) q u = ⊥
+abbrev pub FreesTable : Cache → Table → FreeAnswer → Cache → Table → Type 0
+FreesTable c t free_answer.Freed d u = FreesAll c (blocks_of t.slots.items) d × (blocks_of u.slots.items ≡ [])
+FreesTable c t free_answer.Busy d u = StopsAt c (blocks_of t.slots.items) (blocks_of u.slots.items) d
 
-abbrev pub HasFreedAll : Pass → Table → Result (Unit {0}) Refusal → Pass → Table → Type 0
-HasFreedAll p t = Answers (barred (is_busy p) refusal.InCall None) (FreesTable p t) p t
+-- the table has been emptied so, and then the magazines
+abbrev pub FreesThenFlushes : Cache → Table → FreeAnswer → Cache → Table → Type 0
+FreesThenFlushes c t answer d u = (next : Cache) × FreesTable c t free_answer.Freed next u × IsFlush next answer d
 
--- before a pass closes its blocks are freed, or they stay as they are
+-- the pass has no block left; or the free of one is interrupted, of the table or of a magazine
+abbrev pub Empties : Cache → Table → Result (Unit {0}) Refusal → Cache → Table → Type 0
+Empties c t (Ok done) d u = FreesThenFlushes c t free_answer.Freed d u
+Empties c t (Err refusal.Interrupted) d u = FreesTable c t free_answer.Busy d u ⊎ FreesThenFlushes c t free_answer.Busy d u
+Empties c t (Err cause) d u = ⊥
+
+abbrev pub HasFreedAll : Cache → Table → Result (Unit {0}) Refusal → Cache → Table → Type 0
+HasFreedAll c t = Answers (barred (is_busy c.pass) refusal.InCall None) (Empties c t) c t
+
+-- before a pass closes its blocks are freed, those in magazines too, or they stay as they are
 abbrev pub Leaves : Bool → Hand → Result (Unit {0}) Refusal → Hand → Type 0
 Leaves true hand outcome next = Makes HasFreedAll hand outcome next
 Leaves false hand outcome next = (outcome ≡ Ok tt) × (next ≡ hand)
@@ -50,7 +58,7 @@ Leaves false hand outcome next = (outcome ≡ Ok tt) × (next ≡ hand)
 -- it is closed, and what it won and lost is told; or it stays open
 abbrev pub Shuts : Result (Unit {0}) Refusal → Hand → ℕ → ℕ → ℕ → ℕ → Option Hand → Type 0
 Shuts (Ok done) hand won lost won_told lost_told after =
-    (won_told ≡ hand.pass.errand.won) × (lost_told ≡ hand.pass.errand.lost) × (after ≡ None)
+    (won_told ≡ hand.cache.pass.errand.won) × (lost_told ≡ hand.cache.pass.errand.lost) × (after ≡ None)
 Shuts (Err cause) hand won lost won_told lost_told after = (won_told ≡ won) × (lost_told ≡ lost) × (after ≡ Some hand)
 
 abbrev pub Closes : Bool → Option Hand → ℤ → ℕ → ℕ → ℕ → ℕ → Option Hand → Type 0
@@ -63,4 +71,4 @@ Closes frees (Some hand) code won lost won_told lost_told after =
 -- what a pass has counted is told, or that there is none
 abbrev pub TellsCounts : Option Hand → ℤ → ℕ × ℕ × ℕ × ℕ → ℕ × ℕ × ℕ × ℕ → Type 0
 TellsCounts None code before told = (code ≡ negsuc 0) × (told ≡ before)
-TellsCounts (Some hand) code before told = (code ≡ pos 0) × (told ≡ counts_of hand.pass)
+TellsCounts (Some hand) code before told = (code ≡ pos 0) × (told ≡ counts_of hand.cache.pass)

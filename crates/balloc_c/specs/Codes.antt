@@ -1,5 +1,5 @@
 -- The numbers that C gets.
-use Rattle.std.specs.Prelude.{ℕ, ◌≡◌, ℤ, pos, negsuc, Option, Some, None, Result, Ok, Err}
+use Rattle.std.specs.Prelude.{ℕ, ℤ, pos, negsuc, Option, Some, None, Result, Ok, Err}
 use Rattle.balloc_c.specs.declared.refusal.Refusal.{Refusal}
 use Rattle.balloc_c.specs.declared.refusal.Refusal.TheVariants as refusal
 

@@ -7,3 +7,4 @@ pub mod Owned
 pub mod Ranges
 pub mod Slots
 pub mod Tended
+pub mod Through

@@ -1,10 +1,11 @@
 -- How a heap opens for C.
-use Rattle.std.specs.Prelude.{ℕ, zero, suc, ◌≡◌, ◌<◌, Option, Some, None, IsSomeAnd, Result, Ok, Err, List, [], ◌∷◌, min}
+use Rattle.std.specs.Prelude.{ℕ, zero, suc, ◌≡◌, ◌<◌, ◌≤◌, Option, None, IsSomeAnd, Result, Ok, Err, List, [], ◌∷◌, min}
 use Rattle.std.specs.Arc.{arc_value}
 use Rattle.heap_geometry.specs.declared.geometry.Geometry.{Geometry}
 use Rattle.heap_geometry.specs.Geometry.{IsChecked}
 use Rattle.live_heap.specs.declared.heap.Heap.{Heap}
 use Rattle.live_heap.specs.Passes.{IsFresh}
+use Rattle.block_cache.specs.Caches.{cached_in}
 use Rattle.balloc_c.specs.declared.hand.Hand.{Hand}
 use Rattle.balloc_c.specs.declared.handle.PassHandle.{PassHandle}
 use Rattle.balloc_c.specs.declared.refusal.Refusal.{Refusal}
@@ -26,29 +27,36 @@ held_at (handle ∷ handles) (suc number) = held_at handles number
 abbrev pub AreEmpty : List PassHandle → Type 0
 AreEmpty handles = (number : ℕ) → held_at handles number ≡ None
 
--- the pass of this caller of the heap, which has made no step and has no block
-pub record IsNew (h : Heap) (number : ℕ) (hand : Hand) : Type 0 where
+-- the numbers are in their ranges, and magazines have room for so many blocks
+abbrev pub Fit : Geometry → ℕ → Type 0
+Fit g depth = IsChecked g × (depth ≤ 64)
+
+-- the pass of this caller of the heap, which has made no step and has no block; its magazines are empty, and have room for so many each
+pub record IsNew (h : Heap) (number depth : ℕ) (hand : Hand) : Type 0 where
   pub heap : arc_value hand.heap ≡ h
-  pub fresh : IsFresh h hand.pass
-  pub caller : hand.pass.errand.caller ≡ number
+  pub fresh : IsFresh h hand.cache.pass
+  pub caller : hand.cache.pass.errand.caller ≡ number
   pub blocks : blocks_of hand.table.slots.items ≡ []
+  pub empty : cached_in hand.cache ≡ []
+  pub deep : hand.cache.magazines.depth ≡ depth
+  pub hits : hand.cache.hits ≡ 0
 
 -- the first handles hold the passes of the first callers of the heap
-abbrev pub HoldNew : Heap → ℕ → List PassHandle → Type 0
-HoldNew h count handles = (number : ℕ) → number < count → IsSomeAnd (held_at handles number) (IsNew h number)
+abbrev pub HoldNew : Heap → ℕ → ℕ → List PassHandle → Type 0
+HoldNew h depth count handles = (number : ℕ) → number < count → IsSomeAnd (held_at handles number) (IsNew h number depth)
 
 -- a heap with these numbers is opened for handles that were empty, and each handle holds a pass of it
-pub record HasOpened (before : List PassHandle) (g : Geometry) (after : List PassHandle) : Type 0 where
+pub record HasOpened (before : List PassHandle) (g : Geometry) (depth : ℕ) (after : List PassHandle) : Type 0 where
   pub empty : AreEmpty before
-  pub checked : IsChecked g
+  pub fit : Fit g depth
   pub heap : Heap
   pub layout : heap.layout ≡ g
-  pub new : HoldNew heap g.callers after
+  pub new : HoldNew heap depth g.callers after
 
 -- so it is; or the first cause that stands bars that, and the handles are as they were; or there is no memory, and they are empty as before
-abbrev pub Opens : List PassHandle → Geometry → Result (Unit {0}) Refusal → List PassHandle → Type 0
-Opens before g (Ok done) after = HasOpened before g after
-Opens before g (Err refusal.InUse) after = (¬ AreEmpty before) × (after ≡ before)
-Opens before g (Err refusal.BadNumbers) after = AreEmpty before × (¬ IsChecked g) × (after ≡ before)
-Opens before g (Err refusal.NoMemory) after = AreEmpty before × IsChecked g × AreEmpty after
-Opens before g (Err cause) after = ⊥
+abbrev pub Opens : List PassHandle → Geometry → ℕ → Result (Unit {0}) Refusal → List PassHandle → Type 0
+Opens before g depth (Ok done) after = HasOpened before g depth after
+Opens before g depth (Err refusal.InUse) after = (¬ AreEmpty before) × (after ≡ before)
+Opens before g depth (Err refusal.BadNumbers) after = AreEmpty before × (¬ Fit g depth) × (after ≡ before)
+Opens before g depth (Err refusal.NoMemory) after = AreEmpty before × Fit g depth × AreEmpty after
+Opens before g depth (Err cause) after = ⊥

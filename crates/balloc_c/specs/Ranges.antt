@@ -10,11 +10,13 @@ use Rattle.live_heap.specs.declared.heap.Heap.{Heap}
 use Rattle.live_heap.specs.declared.pass.Pass.{Pass}
 use Rattle.live_heap.specs.Passes.{IsOf}
 use Rattle.live_heap.specs.Words.{CallsOnWord}
+use Rattle.block_cache.specs.declared.cache.Cache.{Cache}
 use Rattle.balloc_c.specs.declared.refusal.Refusal.{Refusal}
 use Rattle.balloc_c.specs.declared.refusal.Refusal.TheVariants as refusal
 use Rattle.balloc_c.specs.declared.table.Table.{Table}
 use Rattle.balloc_c.specs.Numbers.{named}
 use Rattle.balloc_c.specs.Outcomes.{Answers, Of, barred, free_bar, is_busy, names_none}
+use Rattle.balloc_c.specs.Through.{Asked}
 
 -- a write for each of these words, from word i on
 abbrev pub wrote_from : ℕ → Need → ℕ → List ℕ → List Made
@@ -33,30 +35,30 @@ range_bar pass table number from count =
     (barred (lacks_range (named table number) from count) refusal.NoWord None))
 
 -- a pass made these calls on words, one after the other, each of one step
-abbrev pub Leads : Pass → List Made → Pass → Type 0
-Leads p made q = (h : Heap) × IsOf h p × LeadsBy (CallsOnWord h) p made q
+abbrev pub Leads : Cache → List Made → Cache → Type 0
+Leads c made d = (h : Heap) × IsOf h c.pass × Asked (λ p q. LeadsBy (CallsOnWord h) p made q) c d
 
 -- each word of the range was written, in their order
-abbrev pub WritesRange : Pass → Table → ℕ → ℕ → List ℕ → Result (Unit {0}) Refusal → Pass → Table → Type 0
-WritesRange p t number from words (Ok done) q u = Of t number (λ block. Leads p (wrote_from block.place block.need from words) q) × (u ≡ t)
-WritesRange p t number from words (Err cause) q u = ⊥
+abbrev pub WritesRange : Cache → Table → ℕ → ℕ → List ℕ → Result (Unit {0}) Refusal → Cache → Table → Type 0
+WritesRange c t number from words (Ok done) d u = Of t number (λ block. Leads c (wrote_from block.place block.need from words) d) × (u ≡ t)
+WritesRange c t number from words (Err cause) d u = ⊥
 
 -- each word of the range was read, and these were found
-abbrev pub ReadsRange : Pass → Table → ℕ → ℕ → List ℕ → Result (Unit {0}) Refusal → Pass → Table → Type 0
-ReadsRange p t number from found (Ok done) q u = Of t number (λ block. Leads p (found_from block.place block.need from found) q) × (u ≡ t)
-ReadsRange p t number from found (Err cause) q u = ⊥
+abbrev pub ReadsRange : Cache → Table → ℕ → ℕ → List ℕ → Result (Unit {0}) Refusal → Cache → Table → Type 0
+ReadsRange c t number from found (Ok done) d u = Of t number (λ block. Leads c (found_from block.place block.need from found) d) × (u ≡ t)
+ReadsRange c t number from found (Err cause) d u = ⊥
 
 -- each usable word was written: word i with from + i, modulo 2^64
-abbrev pub Fills : Pass → Table → ℕ → ℕ → Result (Unit {0}) Refusal → Pass → Table → Type 0
-Fills p t number from (Ok done) q u =
-    Of t number (λ block. Leads p (wrote block.place block.need from (usable_words block.need)) q) × (u ≡ t)
-Fills p t number from (Err cause) q u = ⊥
+abbrev pub Fills : Cache → Table → ℕ → ℕ → Result (Unit {0}) Refusal → Cache → Table → Type 0
+Fills c t number from (Ok done) d u =
+    Of t number (λ block. Leads c (wrote block.place block.need from (usable_words block.need)) d) × (u ≡ t)
+Fills c t number from (Err cause) d u = ⊥
 
 -- each usable word was read, and they add up to this, modulo 2^64
-abbrev pub Adds : Pass → Table → ℕ → Result ℕ Refusal → Pass → Table → Type 0
-Adds p t number (Ok total) q u =
-    Of t number (λ block. (h : Heap) × IsOf h p × Sums (CallsOnWord h) p block.place block.need total q) × (u ≡ t)
-Adds p t number (Err cause) q u = ⊥
+abbrev pub Adds : Cache → Table → ℕ → Result ℕ Refusal → Cache → Table → Type 0
+Adds c t number (Ok total) d u =
+    Of t number (λ block. (h : Heap) × IsOf h c.pass × Asked (λ p q. Sums (CallsOnWord h) p block.place block.need total q) c d) × (u ≡ t)
+Adds c t number (Err cause) d u = ⊥
 
 -- what lies where the words go: what was found, or what lay there before
 abbrev pub IsFound : Result (Unit {0}) Refusal → List ℕ → List ℕ → Type 0
@@ -64,14 +66,14 @@ IsFound (Ok done) before after = length after ≡ length before
 IsFound (Err cause) before after = after ≡ before
 
 -- each call, with what bars it
-abbrev pub HasWrittenRange : Pass → Table → ℕ → ℕ → List ℕ → Result (Unit {0}) Refusal → Pass → Table → Type 0
-HasWrittenRange p t number from words = Answers (range_bar p t number from (length words)) (WritesRange p t number from words) p t
+abbrev pub HasWrittenRange : Cache → Table → ℕ → ℕ → List ℕ → Result (Unit {0}) Refusal → Cache → Table → Type 0
+HasWrittenRange c t number from words = Answers (range_bar c.pass t number from (length words)) (WritesRange c t number from words) c t
 
-abbrev pub HasReadRange : Pass → Table → ℕ → ℕ → List ℕ → List ℕ → Result (Unit {0}) Refusal → Pass → Table → Type 0
-HasReadRange p t number from before after = Answers (range_bar p t number from (length before)) (ReadsRange p t number from after) p t
+abbrev pub HasReadRange : Cache → Table → ℕ → ℕ → List ℕ → List ℕ → Result (Unit {0}) Refusal → Cache → Table → Type 0
+HasReadRange c t number from before after = Answers (range_bar c.pass t number from (length before)) (ReadsRange c t number from after) c t
 
-abbrev pub HasFilled : Pass → Table → ℕ → ℕ → Result (Unit {0}) Refusal → Pass → Table → Type 0
-HasFilled p t number from = Answers (free_bar p t number) (Fills p t number from) p t
+abbrev pub HasFilled : Cache → Table → ℕ → ℕ → Result (Unit {0}) Refusal → Cache → Table → Type 0
+HasFilled c t number from = Answers (free_bar c.pass t number) (Fills c t number from) c t
 
-abbrev pub HasSummed : Pass → Table → ℕ → Result ℕ Refusal → Pass → Table → Type 0
-HasSummed p t number = Answers (free_bar p t number) (Adds p t number) p t
+abbrev pub HasSummed : Cache → Table → ℕ → Result ℕ Refusal → Cache → Table → Type 0
+HasSummed c t number = Answers (free_bar c.pass t number) (Adds c t number) c t

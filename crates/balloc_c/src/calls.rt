@@ -1,30 +1,29 @@
-//! Calls on a pass whose blocks have numbers.
+//! Calls on a pass with magazines, whose blocks have numbers.
 
 ghost use Rattle.std.specs.Prelude.{ℕ, ◌≡◌, ◌<◌, None, length};
 ghost use Rattle.errand_steps.specs.Begins.{IsIdle};
-ghost use Rattle.live_heap.specs.Hands.{IsHand};
 ghost use Rattle.balloc_c.specs.Outcomes.{Counts, HasAllocated, HasFreed, HasPut, HasRead, HasResumed, HasTaken, HasWritten};
-ghost use Rattle.balloc_c.specs.Closed.{FreesSlot, HasFreedAll};
+ghost use Rattle.balloc_c.specs.Closed.{FreesSlot, FreesTable, HasFreedAll};
 ghost use Rattle.balloc_c.specs.Slots.{block_at, blocks_of, set_block};
+ghost use Rattle.balloc_c.specs.Tended.{Tends};
 
 use crate::refusal::Refusal;
 use crate::table::Table;
+use block_cache::cache::Cache;
 use heap_geometry::limits::{LARGE_MOST, SHELVES};
 use live_heap::answers::{AllocAnswer, FreeAnswer, Full, Resumed, Taken};
 use live_heap::heap::Heap;
-use live_heap::laws::hands::hands_go_through_calls;
-use live_heap::pass::Pass;
 
 /// How many lost exchanges interrupt a call.
 pub const TRIES: u32 = 1000;
 
 /// An allocation of so many usable words. Answers the block's number.
-pub fn alloc(heap: &Heap, pass: &mut Pass, table: &mut Table, words: u32) -> Result<u64, Refusal>
-    requires hand { IsHand heap.now pass.old (blocks_of table.old.slots.items) }
-    ensures hand { IsHand heap.now pass.new (blocks_of table.new.slots.items) }
-    ensures answers { HasAllocated pass.old table.old words result pass.new table.new }
+pub fn alloc(heap: &Heap, cache: &mut Cache, table: &mut Table, words: u32) -> Result<u64, Refusal>
+    requires tends { Tends heap.now cache.old (blocks_of table.old.slots.items) }
+    ensures tends { Tends heap.now cache.new (blocks_of table.new.slots.items) }
+    ensures answers { HasAllocated cache.old table.old words result cache.new table.new }
 {
-    if !pass.idle() {
+    if !cache.idle() {
         return Err(Refusal::InCall);
     }
     if words > LARGE_MOST {
@@ -34,8 +33,7 @@ pub fn alloc(heap: &Heap, pass: &mut Pass, table: &mut Table, words: u32) -> Res
         Ok(index) => index,
         Err(refusal) => return Err(refusal),
     };
-    hands_go_through_calls();
-    match heap.alloc(pass, words, TRIES) {
+    match cache.alloc(heap, words, TRIES) {
         AllocAnswer::Given(block) => Ok(table.fill(index, block)),
         AllocAnswer::Refused => Err(Refusal::Exhausted),
         AllocAnswer::TooLarge => Err(Refusal::TooLarge),
@@ -45,12 +43,12 @@ pub fn alloc(heap: &Heap, pass: &mut Pass, table: &mut Table, words: u32) -> Res
 }
 
 /// The free of the block of this number.
-pub fn free(heap: &Heap, pass: &mut Pass, table: &mut Table, number: u64) -> Result<(), Refusal>
-    requires hand { IsHand heap.now pass.old (blocks_of table.old.slots.items) }
-    ensures hand { IsHand heap.now pass.new (blocks_of table.new.slots.items) }
-    ensures answers { HasFreed pass.old table.old number result pass.new table.new }
+pub fn free(heap: &Heap, cache: &mut Cache, table: &mut Table, number: u64) -> Result<(), Refusal>
+    requires tends { Tends heap.now cache.old (blocks_of table.old.slots.items) }
+    ensures tends { Tends heap.now cache.new (blocks_of table.new.slots.items) }
+    ensures answers { HasFreed cache.old table.old number result cache.new table.new }
 {
-    if !pass.idle() {
+    if !cache.idle() {
         return Err(Refusal::InCall);
     }
     let Some(index) = table.find(number) else {
@@ -58,64 +56,82 @@ pub fn free(heap: &Heap, pass: &mut Pass, table: &mut Table, number: u64) -> Res
     };
     let block = table.set(index, None).unwrap();
     table.retire(index);
-    match heap.free(pass, block, TRIES) {
+    match cache.free(heap, block, TRIES) {
         FreeAnswer::Freed => Ok(()),
         FreeAnswer::Busy => Err(Refusal::Interrupted),
     }
 }
 
-/// Frees all blocks, in the order of their slots. Where a free is interrupted the blocks behind it stay.
-pub fn free_all(heap: &Heap, pass: &mut Pass, table: &mut Table) -> Result<(), Refusal>
-    requires hand { IsHand heap.now pass.old (blocks_of table.old.slots.items) }
-    ensures hand { IsHand heap.now pass.new (blocks_of table.new.slots.items) }
-    ensures answers { HasFreedAll pass.old table.old result pass.new table.new }
+/// Frees all blocks, in the order of their slots, and then those in magazines. Where a free is interrupted the blocks
+/// behind it stay.
+pub fn free_all(heap: &Heap, cache: &mut Cache, table: &mut Table) -> Result<(), Refusal>
+    requires tends { Tends heap.now cache.old (blocks_of table.old.slots.items) }
+    ensures tends { Tends heap.now cache.new (blocks_of table.new.slots.items) }
+    ensures answers { HasFreedAll cache.old table.old result cache.new table.new }
 {
-    if !pass.idle() {
+    if !cache.idle() {
         return Err(Refusal::InCall);
     }
+    match free_slots(heap, cache, table) {
+        FreeAnswer::Freed => {}
+        FreeAnswer::Busy => return Err(Refusal::Interrupted),
+    }
+    match cache.flush(heap, TRIES) {
+        FreeAnswer::Freed => Ok(()),
+        FreeAnswer::Busy => Err(Refusal::Interrupted),
+    }
+}
+
+/// Frees the blocks in all slots.
+fn free_slots(heap: &Heap, cache: &mut Cache, table: &mut Table) -> FreeAnswer
+    requires tends { Tends heap.now cache.old (blocks_of table.old.slots.items) }
+    requires idle { IsIdle cache.old.pass.errand }
+    ensures tends { Tends heap.now cache.new (blocks_of table.new.slots.items) }
+    ensures idle { result ≡ FreeAnswer.Freed → IsIdle cache.new.pass.errand }
+    ensures freed { FreesTable cache.old table.old result cache.new table.new }
+{
     for index in 0..table.len() {
-        match free_slot(heap, pass, table, index) {
+        match free_slot(heap, cache, table, index) {
             FreeAnswer::Freed => {}
-            FreeAnswer::Busy => return Err(Refusal::Interrupted),
+            FreeAnswer::Busy => return FreeAnswer::Busy,
         }
     }
-    Ok(())
+    FreeAnswer::Freed
 }
 
 /// Frees the block in a slot, where there is one.
-fn free_slot(heap: &Heap, pass: &mut Pass, table: &mut Table, index: usize) -> FreeAnswer
-    requires hand { IsHand heap.now pass.old (blocks_of table.old.slots.items) }
-    requires idle { IsIdle pass.old.errand }
+fn free_slot(heap: &Heap, cache: &mut Cache, table: &mut Table, index: usize) -> FreeAnswer
+    requires tends { Tends heap.now cache.old (blocks_of table.old.slots.items) }
+    requires idle { IsIdle cache.old.pass.errand }
     requires within { index < length table.old.slots.items }
-    ensures hand { IsHand heap.now pass.new (blocks_of table.new.slots.items) }
-    ensures idle { result ≡ FreeAnswer.Freed → IsIdle pass.new.errand }
+    ensures tends { Tends heap.now cache.new (blocks_of table.new.slots.items) }
+    ensures idle { result ≡ FreeAnswer.Freed → IsIdle cache.new.pass.errand }
     ensures blocks { blocks_of table.new.slots.items ≡ blocks_of (set_block table.old.slots.items index None) }
     ensures count { length table.new.slots.items ≡ length table.old.slots.items }
     ensures same { (other : ℕ) → block_at table.new.slots.items other ≡ block_at (set_block table.old.slots.items index None) other }
-    ensures freed { FreesSlot pass.old (block_at table.old.slots.items index) result pass.new }
+    ensures freed { FreesSlot cache.old (block_at table.old.slots.items index) result cache.new }
 {
     let Some(block) = table.set(index, None) else {
         return FreeAnswer::Freed;
     };
     table.retire(index);
-    heap.free(pass, block, TRIES)
+    cache.free(heap, block, TRIES)
 }
 
 /// Goes on with the call that was interrupted. Answers the number of a block that it got.
-pub fn resume(heap: &Heap, pass: &mut Pass, table: &mut Table) -> Result<Option<u64>, Refusal>
-    requires hand { IsHand heap.now pass.old (blocks_of table.old.slots.items) }
-    ensures hand { IsHand heap.now pass.new (blocks_of table.new.slots.items) }
-    ensures answers { HasResumed pass.old table.old result pass.new table.new }
+pub fn resume(heap: &Heap, cache: &mut Cache, table: &mut Table) -> Result<Option<u64>, Refusal>
+    requires tends { Tends heap.now cache.old (blocks_of table.old.slots.items) }
+    ensures tends { Tends heap.now cache.new (blocks_of table.new.slots.items) }
+    ensures answers { HasResumed cache.old table.old result cache.new table.new }
 {
-    if pass.idle() {
+    if cache.idle() {
         return Err(Refusal::Idle);
     }
     let index = match table.vacant() {
         Ok(index) => index,
         Err(refusal) => return Err(refusal),
     };
-    hands_go_through_calls();
-    match heap.resume(pass, TRIES) {
+    match cache.resume(heap, TRIES) {
         Resumed::Given(block) => Ok(Some(table.fill(index, block))),
         Resumed::Freed => Ok(None),
         Resumed::Refused => Err(Refusal::Exhausted),
@@ -140,17 +156,17 @@ pub fn words(table: &Table, number: u64) -> Result<u64, Refusal>
 /// Writes a word of the block of this number.
 pub fn write(
     heap: &Heap,
-    pass: &mut Pass,
+    cache: &mut Cache,
     table: &Table,
     number: u64,
     i: u32,
     value: u64,
 ) -> Result<(), Refusal>
-    requires hand { IsHand heap.now pass.old (blocks_of table.now.slots.items) }
-    ensures hand { IsHand heap.now pass.new (blocks_of table.now.slots.items) }
-    ensures answers { HasWritten pass.old table.now number i value result pass.new table.now }
+    requires tends { Tends heap.now cache.old (blocks_of table.now.slots.items) }
+    ensures tends { Tends heap.now cache.new (blocks_of table.now.slots.items) }
+    ensures answers { HasWritten cache.old table.now number i value result cache.new table.now }
 {
-    if !pass.idle() {
+    if !cache.idle() {
         return Err(Refusal::InCall);
     }
     let Some(index) = table.find(number) else {
@@ -162,23 +178,23 @@ pub fn write(
     if i >= block.words() {
         return Err(Refusal::NoWord);
     }
-    heap.write(pass, block, i, value);
+    cache.write(heap, block, i, value);
     Ok(())
 }
 
 /// Reads a word of the block of this number.
 pub fn read(
     heap: &Heap,
-    pass: &mut Pass,
+    cache: &mut Cache,
     table: &Table,
     number: u64,
     i: u32,
 ) -> Result<u64, Refusal>
-    requires hand { IsHand heap.now pass.old (blocks_of table.now.slots.items) }
-    ensures hand { IsHand heap.now pass.new (blocks_of table.now.slots.items) }
-    ensures answers { HasRead pass.old table.now number i result pass.new table.now }
+    requires tends { Tends heap.now cache.old (blocks_of table.now.slots.items) }
+    ensures tends { Tends heap.now cache.new (blocks_of table.now.slots.items) }
+    ensures answers { HasRead cache.old table.now number i result cache.new table.now }
 {
-    if !pass.idle() {
+    if !cache.idle() {
         return Err(Refusal::InCall);
     }
     let Some(index) = table.find(number) else {
@@ -190,22 +206,22 @@ pub fn read(
     if i >= block.words() {
         return Err(Refusal::NoWord);
     }
-    Ok(heap.read(pass, block, i))
+    Ok(cache.read(heap, block, i))
 }
 
 /// Puts the block of this number on a shelf. From a full one it comes back.
 pub fn put(
     heap: &Heap,
-    pass: &mut Pass,
+    cache: &mut Cache,
     table: &mut Table,
     number: u64,
     shelf: u8,
 ) -> Result<(), Refusal>
-    requires hand { IsHand heap.now pass.old (blocks_of table.old.slots.items) }
-    ensures hand { IsHand heap.now pass.new (blocks_of table.new.slots.items) }
-    ensures answers { HasPut pass.old table.old number shelf result pass.new table.new }
+    requires tends { Tends heap.now cache.old (blocks_of table.old.slots.items) }
+    ensures tends { Tends heap.now cache.new (blocks_of table.new.slots.items) }
+    ensures answers { HasPut cache.old table.old number shelf result cache.new table.new }
 {
-    if !pass.idle() {
+    if !cache.idle() {
         return Err(Refusal::InCall);
     }
     let Some(index) = table.find(number) else {
@@ -215,7 +231,7 @@ pub fn put(
         return Err(Refusal::NoShelf);
     }
     let block = table.set(index, None).unwrap();
-    match heap.put(pass, block, shelf) {
+    match cache.put(heap, block, shelf) {
         Ok(()) => {
             table.retire(index);
             Ok(())
@@ -228,12 +244,12 @@ pub fn put(
 }
 
 /// Takes the block that lies on a shelf. Answers its number.
-pub fn take(heap: &Heap, pass: &mut Pass, table: &mut Table, shelf: u8) -> Result<u64, Refusal>
-    requires hand { IsHand heap.now pass.old (blocks_of table.old.slots.items) }
-    ensures hand { IsHand heap.now pass.new (blocks_of table.new.slots.items) }
-    ensures answers { HasTaken pass.old table.old shelf result pass.new table.new }
+pub fn take(heap: &Heap, cache: &mut Cache, table: &mut Table, shelf: u8) -> Result<u64, Refusal>
+    requires tends { Tends heap.now cache.old (blocks_of table.old.slots.items) }
+    ensures tends { Tends heap.now cache.new (blocks_of table.new.slots.items) }
+    ensures answers { HasTaken cache.old table.old shelf result cache.new table.new }
 {
-    if !pass.idle() {
+    if !cache.idle() {
         return Err(Refusal::InCall);
     }
     if shelf >= SHELVES {
@@ -243,8 +259,7 @@ pub fn take(heap: &Heap, pass: &mut Pass, table: &mut Table, shelf: u8) -> Resul
         Ok(index) => index,
         Err(refusal) => return Err(refusal),
     };
-    hands_go_through_calls();
-    match heap.take(pass, shelf) {
+    match cache.take(heap, shelf) {
         Taken::Got(block) => Ok(table.fill(index, block)),
         Taken::Empty => Err(Refusal::ShelfEmpty),
         Taken::Missed { .. } => Err(Refusal::ShelfMissed),

@@ -1,23 +1,23 @@
-//! A pass with its share in the heap and its blocks.
+//! A pass with its magazines, its share in the heap and its blocks.
 
 ghost use Rattle.std.specs.Prelude.{◌≡◌, []};
 ghost use Rattle.std.specs.Arc.{arc_value};
-ghost use Rattle.errand_steps.specs.Begins.{IsIdle};
-ghost use Rattle.live_heap.specs.Passes.{IsOf};
+ghost use Rattle.block_cache.specs.Caches.{Holds, IsCache};
 
 use crate::refusal::Refusal;
 use crate::table::Table;
 use crate::{calls, ranges};
+use block_cache::cache::Cache;
 use live_heap::heap::Heap;
-use live_heap::pass::Pass;
 use std::alloc::Global;
 use std::sync::Arc;
 
-/// A pass with its share in the heap and its blocks.
+/// A pass with its magazines, its share in the heap and its blocks. Magazines of depth 0 keep nothing: each call is
+/// the heap's.
 #[derive(Drop)]
 pub struct Hand {
     heap: Arc<Heap, Global>,
-    pass: Pass,
+    cache: Cache,
     table: Table,
 }
 
@@ -29,15 +29,15 @@ impl Hand {
     ghost use Rattle.balloc_c.specs.Tended.{IsTended};
 
     /// A pass with no block.
-    pub fn new(alloc: Global, heap: Arc<Heap, Global>, pass: Pass) -> Hand
-        requires of { IsOf (arc_value heap) pass }
-        requires idle { IsIdle pass.errand }
+    pub fn new(alloc: Global, heap: Arc<Heap, Global>, cache: Cache) -> Hand
+        requires cache { IsCache (arc_value heap) cache }
+        requires holds { Holds cache [] }
         ensures tended { IsTended result }
-        ensures parts { (arc_value result.heap ≡ arc_value heap) × (result.pass ≡ pass) × (blocks_of result.table.slots.items ≡ []) }
+        ensures parts { (arc_value result.heap ≡ arc_value heap) × (result.cache ≡ cache) × (blocks_of result.table.slots.items ≡ []) }
     {
         Hand {
             heap,
-            pass,
+            cache,
             table: Table::new(alloc),
         }
     }
@@ -46,28 +46,28 @@ impl Hand {
     pub fn alloc(&mut self, words: u32) -> Result<u64, Refusal>
         requires { IsTended self.old }
         ensures tended { IsTended self.new }
-        ensures made { Makes (λ p t. HasAllocated p t words) self.old result self.new }
+        ensures made { Makes (λ c t. HasAllocated c t words) self.old result self.new }
     {
-        calls::alloc(&self.heap, &mut self.pass, &mut self.table, words)
+        calls::alloc(&self.heap, &mut self.cache, &mut self.table, words)
     }
 
     /// Frees the block of this number.
     pub fn free(&mut self, number: u64) -> Result<(), Refusal>
         requires { IsTended self.old }
         ensures tended { IsTended self.new }
-        ensures made { Makes (λ p t. HasFreed p t number) self.old result self.new }
+        ensures made { Makes (λ c t. HasFreed c t number) self.old result self.new }
     {
-        calls::free(&self.heap, &mut self.pass, &mut self.table, number)
+        calls::free(&self.heap, &mut self.cache, &mut self.table, number)
     }
 
-    /// Frees all its blocks, where they are to be freed.
+    /// Frees all its blocks, those in magazines too, where they are to be freed.
     pub fn leave(&mut self, frees: bool) -> Result<(), Refusal>
         requires { IsTended self.old }
         ensures tended { IsTended self.new }
         ensures left { Leaves frees self.old result self.new }
     {
         if frees {
-            calls::free_all(&self.heap, &mut self.pass, &mut self.table)
+            calls::free_all(&self.heap, &mut self.cache, &mut self.table)
         } else {
             Ok(())
         }
@@ -77,9 +77,9 @@ impl Hand {
     pub fn resume(&mut self) -> Result<Option<u64>, Refusal>
         requires { IsTended self.old }
         ensures tended { IsTended self.new }
-        ensures made { Makes (λ p t. HasResumed p t) self.old result self.new }
+        ensures made { Makes (λ c t. HasResumed c t) self.old result self.new }
     {
-        calls::resume(&self.heap, &mut self.pass, &mut self.table)
+        calls::resume(&self.heap, &mut self.cache, &mut self.table)
     }
 
     /// How many usable words the block of this number has.
@@ -93,84 +93,98 @@ impl Hand {
     pub fn write(&mut self, number: u64, i: u32, value: u64) -> Result<(), Refusal>
         requires { IsTended self.old }
         ensures tended { IsTended self.new }
-        ensures made { Makes (λ p t. HasWritten p t number i value) self.old result self.new }
+        ensures made { Makes (λ c t. HasWritten c t number i value) self.old result self.new }
     {
-        calls::write(&self.heap, &mut self.pass, &self.table, number, i, value)
+        calls::write(&self.heap, &mut self.cache, &self.table, number, i, value)
     }
 
     /// Reads a word of the block of this number.
     pub fn read(&mut self, number: u64, i: u32) -> Result<u64, Refusal>
         requires { IsTended self.old }
         ensures tended { IsTended self.new }
-        ensures made { Makes (λ p t. HasRead p t number i) self.old result self.new }
+        ensures made { Makes (λ c t. HasRead c t number i) self.old result self.new }
     {
-        calls::read(&self.heap, &mut self.pass, &self.table, number, i)
+        calls::read(&self.heap, &mut self.cache, &self.table, number, i)
     }
 
     /// Writes words of the block of this number in a row, from one on.
     pub fn write_range(&mut self, number: u64, from: u32, words: &[u64]) -> Result<(), Refusal>
         requires { IsTended self.old }
         ensures tended { IsTended self.new }
-        ensures made { Makes (λ p t. HasWrittenRange p t number from words.now) self.old result self.new }
+        ensures made { Makes (λ c t. HasWrittenRange c t number from words.now) self.old result self.new }
     {
-        ranges::write_range(&self.heap, &mut self.pass, &self.table, number, from, words)
+        ranges::write_range(
+            &self.heap,
+            &mut self.cache,
+            &self.table,
+            number,
+            from,
+            words,
+        )
     }
 
     /// Reads words of the block of this number in a row, from one on.
     pub fn read_range(&mut self, number: u64, from: u32, words: &mut [u64]) -> Result<(), Refusal>
         requires { IsTended self.old }
         ensures tended { IsTended self.new }
-        ensures made { Makes (λ p t. HasReadRange p t number from words.old words.new) self.old result self.new }
+        ensures made { Makes (λ c t. HasReadRange c t number from words.old words.new) self.old result self.new }
         ensures found { IsFound result words.old words.new }
     {
-        ranges::read_range(&self.heap, &mut self.pass, &self.table, number, from, words)
+        ranges::read_range(
+            &self.heap,
+            &mut self.cache,
+            &self.table,
+            number,
+            from,
+            words,
+        )
     }
 
     /// Fills the block of this number: word i with from + i, modulo 2^64.
     pub fn fill(&mut self, number: u64, from: u64) -> Result<(), Refusal>
         requires { IsTended self.old }
         ensures tended { IsTended self.new }
-        ensures made { Makes (λ p t. HasFilled p t number from) self.old result self.new }
+        ensures made { Makes (λ c t. HasFilled c t number from) self.old result self.new }
     {
-        ranges::fill(&self.heap, &mut self.pass, &self.table, number, from)
+        ranges::fill(&self.heap, &mut self.cache, &self.table, number, from)
     }
 
     /// The sum of the words of the block of this number, modulo 2^64.
     pub fn sum(&mut self, number: u64) -> Result<u64, Refusal>
         requires { IsTended self.old }
         ensures tended { IsTended self.new }
-        ensures made { Makes (λ p t. HasSummed p t number) self.old result self.new }
+        ensures made { Makes (λ c t. HasSummed c t number) self.old result self.new }
     {
-        ranges::sum(&self.heap, &mut self.pass, &self.table, number)
+        ranges::sum(&self.heap, &mut self.cache, &self.table, number)
     }
 
     /// Puts the block of this number on a shelf.
     pub fn put(&mut self, number: u64, shelf: u8) -> Result<(), Refusal>
         requires { IsTended self.old }
         ensures tended { IsTended self.new }
-        ensures made { Makes (λ p t. HasPut p t number shelf) self.old result self.new }
+        ensures made { Makes (λ c t. HasPut c t number shelf) self.old result self.new }
     {
-        calls::put(&self.heap, &mut self.pass, &mut self.table, number, shelf)
+        calls::put(&self.heap, &mut self.cache, &mut self.table, number, shelf)
     }
 
     /// Takes the block that lies on a shelf. Answers its number.
     pub fn take(&mut self, shelf: u8) -> Result<u64, Refusal>
         requires { IsTended self.old }
         ensures tended { IsTended self.new }
-        ensures made { Makes (λ p t. HasTaken p t shelf) self.old result self.new }
+        ensures made { Makes (λ c t. HasTaken c t shelf) self.old result self.new }
     {
-        calls::take(&self.heap, &mut self.pass, &mut self.table, shelf)
+        calls::take(&self.heap, &mut self.cache, &mut self.table, shelf)
     }
 
     /// What the pass has counted.
     pub fn counts(&self) -> (u64, u64, u64, u64)
-        ensures { result ≡ counts_of self.now.pass }
+        ensures { result ≡ counts_of self.now.cache.pass }
     {
         (
-            self.pass.turns(),
-            self.pass.won(),
-            self.pass.lost(),
-            self.pass.cleared(),
+            self.cache.turns(),
+            self.cache.won(),
+            self.cache.lost(),
+            self.cache.cleared(),
         )
     }
 }

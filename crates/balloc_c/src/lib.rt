@@ -1,7 +1,7 @@
 //! The heap for C: what a static library offers of it. `include/balloc.h` declares the same.
 //!
-//! A pass for C is a handle that holds a pass of the heap, its share in the heap and a table of its
-//! blocks; C names a block by a number. Each call tests the handle, the number and what else it is given,
+//! A pass for C is a handle that holds a pass of the heap with its magazines, its share in the heap and a table of
+//! its blocks; C names a block by a number. Each call tests the handle, the number and what else it is given,
 //! and answers a code; so none requires anything but what a handle is. Each says by its clause `told` what
 //! its code means: what the heap did, and what the numbers name from then on.
 #![tactic(auto)]
@@ -77,7 +77,7 @@ fn code_resumed(outcome: Result<Option<u64>, Refusal>, out: &mut u64) -> i32
     }
 }
 
-/// Opens a heap with one caller for each handle, and puts a pass of it into each.
+/// Opens a heap with one caller for each handle, and puts a pass of it into each, with magazines of this depth.
 #[unsafe(no_mangle)]
 pub extern "C" fn balloc_open(
     alloc: Global,
@@ -85,10 +85,11 @@ pub extern "C" fn balloc_open(
     heaps: u32,
     units: u32,
     turn_limit: u64,
+    depth: u32,
     passes: &mut [PassHandle],
 ) -> i32
     ensures opened { (outcome : Result (Unit {0}) Refusal) × (result ≡ code_in outcome)
-        × Opens passes.old (numbers frames heaps units (length passes.old) turn_limit) outcome passes.new }
+        × Opens passes.old (numbers frames heaps units (length passes.old) turn_limit) depth outcome passes.new }
 {
     let geometry = Geometry {
         frames,
@@ -97,10 +98,11 @@ pub extern "C" fn balloc_open(
         callers: passes.len().min(1000) as u32,
         turn_limit,
     };
-    code_of(open_all(alloc, geometry, passes))
+    code_of(open_all(alloc, geometry, depth, passes))
 }
 
-/// Closes a pass, and tells how many exchanges it won and lost. Its blocks are freed first, or stay allocated.
+/// Closes a pass, and tells how many exchanges it won and lost. Its blocks are freed first, those in
+/// magazines too, or stay allocated.
 /// The last pass of a heap takes the heap with it.
 #[unsafe(no_mangle)]
 pub extern "C" fn balloc_close(
@@ -165,7 +167,7 @@ pub extern "C" fn balloc_alloc(
     words: u32,
     id: &mut u64,
 ) -> i32
-    ensures told { Told (Makes (λ p t. HasAllocated p t words)) pass.old.held.hand
+    ensures told { Told (Makes (λ c t. HasAllocated c t words)) pass.old.held.hand
         (λ outcome. (result ≡ code_in outcome) × (id.new ≡ value_in outcome id.old)) pass.new.held.hand }
 {
     match pass.take(alloc) {
@@ -181,7 +183,7 @@ pub extern "C" fn balloc_alloc(
 /// Frees a block.
 #[unsafe(no_mangle)]
 pub extern "C" fn balloc_free(alloc: Global, pass: &mut PassHandle, id: u64) -> i32
-    ensures told { Told (Makes (λ p t. HasFreed p t id)) pass.old.held.hand
+    ensures told { Told (Makes (λ c t. HasFreed c t id)) pass.old.held.hand
         (λ outcome. result ≡ code_in outcome) pass.new.held.hand }
 {
     match pass.take(alloc) {
@@ -197,7 +199,7 @@ pub extern "C" fn balloc_free(alloc: Global, pass: &mut PassHandle, id: u64) -> 
 /// Goes on with a call that was interrupted, and tells the number of the block that it got.
 #[unsafe(no_mangle)]
 pub extern "C" fn balloc_resume(alloc: Global, pass: &mut PassHandle, id: &mut u64) -> i32
-    ensures told { Told (Makes (λ p t. HasResumed p t)) pass.old.held.hand
+    ensures told { Told (Makes (λ c t. HasResumed c t)) pass.old.held.hand
         (λ outcome. (result ≡ resumed_code outcome) × (id.new ≡ resumed_number outcome id.old)) pass.new.held.hand }
 {
     match pass.take(alloc) {
@@ -218,7 +220,7 @@ pub extern "C" fn balloc_words(
     id: u64,
     words: &mut u64,
 ) -> i32
-    ensures told { Told (Makes (λ p t. HasCounted p t id)) pass.old.held.hand
+    ensures told { Told (Makes (λ c t. HasCounted c t id)) pass.old.held.hand
         (λ outcome. (result ≡ code_in outcome) × (words.new ≡ value_in outcome words.old)) pass.new.held.hand }
 {
     match pass.take(alloc) {
@@ -240,7 +242,7 @@ pub extern "C" fn balloc_write(
     i: u32,
     value: u64,
 ) -> i32
-    ensures told { Told (Makes (λ p t. HasWritten p t id i value)) pass.old.held.hand
+    ensures told { Told (Makes (λ c t. HasWritten c t id i value)) pass.old.held.hand
         (λ outcome. result ≡ code_in outcome) pass.new.held.hand }
 {
     match pass.take(alloc) {
@@ -262,7 +264,7 @@ pub extern "C" fn balloc_read(
     i: u32,
     value: &mut u64,
 ) -> i32
-    ensures told { Told (Makes (λ p t. HasRead p t id i)) pass.old.held.hand
+    ensures told { Told (Makes (λ c t. HasRead c t id i)) pass.old.held.hand
         (λ outcome. (result ≡ code_in outcome) × (value.new ≡ value_in outcome value.old)) pass.new.held.hand }
 {
     match pass.take(alloc) {
@@ -284,7 +286,7 @@ pub extern "C" fn balloc_write_range(
     from: u32,
     words: &[u64],
 ) -> i32
-    ensures told { Told (Makes (λ p t. HasWrittenRange p t id from words.now)) pass.old.held.hand
+    ensures told { Told (Makes (λ c t. HasWrittenRange c t id from words.now)) pass.old.held.hand
         (λ outcome. result ≡ code_in outcome) pass.new.held.hand }
 {
     match pass.take(alloc) {
@@ -306,7 +308,7 @@ pub extern "C" fn balloc_read_range(
     from: u32,
     words: &mut [u64],
 ) -> i32
-    ensures told { Told (Makes (λ p t. HasReadRange p t id from words.old words.new)) pass.old.held.hand
+    ensures told { Told (Makes (λ c t. HasReadRange c t id from words.old words.new)) pass.old.held.hand
         (λ outcome. (result ≡ code_in outcome) × IsFound outcome words.old words.new) pass.new.held.hand }
 {
     match pass.take(alloc) {
@@ -322,7 +324,7 @@ pub extern "C" fn balloc_read_range(
 /// Fills a block: word i with from + i, modulo 2^64.
 #[unsafe(no_mangle)]
 pub extern "C" fn balloc_fill(alloc: Global, pass: &mut PassHandle, id: u64, from: u64) -> i32
-    ensures told { Told (Makes (λ p t. HasFilled p t id from)) pass.old.held.hand
+    ensures told { Told (Makes (λ c t. HasFilled c t id from)) pass.old.held.hand
         (λ outcome. result ≡ code_in outcome) pass.new.held.hand }
 {
     match pass.take(alloc) {
@@ -338,7 +340,7 @@ pub extern "C" fn balloc_fill(alloc: Global, pass: &mut PassHandle, id: u64, fro
 /// Tells the sum of the words of a block, modulo 2^64.
 #[unsafe(no_mangle)]
 pub extern "C" fn balloc_sum(alloc: Global, pass: &mut PassHandle, id: u64, sum: &mut u64) -> i32
-    ensures told { Told (Makes (λ p t. HasSummed p t id)) pass.old.held.hand
+    ensures told { Told (Makes (λ c t. HasSummed c t id)) pass.old.held.hand
         (λ outcome. (result ≡ code_in outcome) × (sum.new ≡ value_in outcome sum.old)) pass.new.held.hand }
 {
     match pass.take(alloc) {
@@ -354,7 +356,7 @@ pub extern "C" fn balloc_sum(alloc: Global, pass: &mut PassHandle, id: u64, sum:
 /// Puts a block on a shelf.
 #[unsafe(no_mangle)]
 pub extern "C" fn balloc_put(alloc: Global, pass: &mut PassHandle, id: u64, shelf: u8) -> i32
-    ensures told { Told (Makes (λ p t. HasPut p t id shelf)) pass.old.held.hand
+    ensures told { Told (Makes (λ c t. HasPut c t id shelf)) pass.old.held.hand
         (λ outcome. result ≡ code_in outcome) pass.new.held.hand }
 {
     match pass.take(alloc) {
@@ -370,7 +372,7 @@ pub extern "C" fn balloc_put(alloc: Global, pass: &mut PassHandle, id: u64, shel
 /// Takes the block that lies on a shelf, and tells its number.
 #[unsafe(no_mangle)]
 pub extern "C" fn balloc_take(alloc: Global, pass: &mut PassHandle, shelf: u8, id: &mut u64) -> i32
-    ensures told { Told (Makes (λ p t. HasTaken p t shelf)) pass.old.held.hand
+    ensures told { Told (Makes (λ c t. HasTaken c t shelf)) pass.old.held.hand
         (λ outcome. (result ≡ code_in outcome) × (id.new ≡ value_in outcome id.old)) pass.new.held.hand }
 {
     match pass.take(alloc) {

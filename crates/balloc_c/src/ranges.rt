@@ -1,36 +1,37 @@
 //! Calls on the words of a block in a row: one loop over words.
 
-ghost use Rattle.std.specs.Prelude.{◌≡◌, ◌<◌, ◌+◌, ◌≤◌, None, IfSome, length};
+ghost use Rattle.std.specs.Prelude.{◌≡◌, ◌<◌, ◌+◌, ◌≤◌, List, None, IfSome, length};
 ghost use Rattle.heap_geometry.specs.Need.{usable_words};
-ghost use Rattle.call_events.specs.Made.{LeadsBy, found_from};
+ghost use Rattle.call_events.specs.Made.{LeadsBy, Sums, found_from, wrote};
 ghost use Rattle.errand_steps.specs.Begins.{IsIdle};
 ghost use Rattle.live_heap.specs.declared.block.Block.{Block};
-ghost use Rattle.live_heap.specs.Hands.{IsHand};
-ghost use Rattle.live_heap.specs.Passes.{IsOf, Owns};
 ghost use Rattle.live_heap.specs.Words.{CallsOnWord};
+ghost use Rattle.block_cache.specs.Caches.{Holds, HoldsBlock, IsCache};
 ghost use Rattle.balloc_c.specs.Ranges.{HasFilled, HasReadRange, HasSummed, HasWrittenRange, IsFound, wrote_from};
 ghost use Rattle.balloc_c.specs.Slots.{blocks_of};
+ghost use Rattle.balloc_c.specs.Tended.{Tends};
+ghost use Rattle.balloc_c.specs.Through.{Asked};
 
 use crate::refusal::Refusal;
 use crate::table::Table;
+use block_cache::cache::Cache;
 use live_heap::block::Block;
 use live_heap::heap::Heap;
-use live_heap::pass::Pass;
 
 /// Writes words of the block of this number in a row, from one on. Where it hasn't all of them none is written.
 pub fn write_range(
     heap: &Heap,
-    pass: &mut Pass,
+    cache: &mut Cache,
     table: &Table,
     number: u64,
     from: u32,
     words: &[u64],
 ) -> Result<(), Refusal>
-    requires hand { IsHand heap.now pass.old (blocks_of table.now.slots.items) }
-    ensures hand { IsHand heap.now pass.new (blocks_of table.now.slots.items) }
-    ensures answers { HasWrittenRange pass.old table.now number from words.now result pass.new table.now }
+    requires tends { Tends heap.now cache.old (blocks_of table.now.slots.items) }
+    ensures tends { Tends heap.now cache.new (blocks_of table.now.slots.items) }
+    ensures answers { HasWrittenRange cache.old table.now number from words.now result cache.new table.now }
 {
-    if !pass.idle() {
+    if !cache.idle() {
         return Err(Refusal::InCall);
     }
     let Some(index) = table.find(number) else {
@@ -42,25 +43,25 @@ pub fn write_range(
     let Some(end) = range_end(block, from, words.len()) else {
         return Err(Refusal::NoWord);
     };
-    write_words(heap, pass, block, from, end, words);
+    write_words(heap, cache, block, from, end, words);
     Ok(())
 }
 
 /// Reads words of the block of this number in a row, from one on. Where it hasn't all of them none is read.
 pub fn read_range(
     heap: &Heap,
-    pass: &mut Pass,
+    cache: &mut Cache,
     table: &Table,
     number: u64,
     from: u32,
     words: &mut [u64],
 ) -> Result<(), Refusal>
-    requires hand { IsHand heap.now pass.old (blocks_of table.now.slots.items) }
-    ensures hand { IsHand heap.now pass.new (blocks_of table.now.slots.items) }
-    ensures answers { HasReadRange pass.old table.now number from words.old words.new result pass.new table.now }
+    requires tends { Tends heap.now cache.old (blocks_of table.now.slots.items) }
+    ensures tends { Tends heap.now cache.new (blocks_of table.now.slots.items) }
+    ensures answers { HasReadRange cache.old table.now number from words.old words.new result cache.new table.now }
     ensures found { IsFound result words.old words.new }
 {
-    if !pass.idle() {
+    if !cache.idle() {
         return Err(Refusal::InCall);
     }
     let Some(index) = table.find(number) else {
@@ -72,23 +73,23 @@ pub fn read_range(
     let Some(end) = range_end(block, from, words.len()) else {
         return Err(Refusal::NoWord);
     };
-    read_words(heap, pass, block, from, end, words);
+    read_words(heap, cache, block, from, end, words);
     Ok(())
 }
 
 /// Fills the block of this number: word i with from + i, modulo 2^64.
 pub fn fill(
     heap: &Heap,
-    pass: &mut Pass,
+    cache: &mut Cache,
     table: &Table,
     number: u64,
     from: u64,
 ) -> Result<(), Refusal>
-    requires hand { IsHand heap.now pass.old (blocks_of table.now.slots.items) }
-    ensures hand { IsHand heap.now pass.new (blocks_of table.now.slots.items) }
-    ensures answers { HasFilled pass.old table.now number from result pass.new table.now }
+    requires tends { Tends heap.now cache.old (blocks_of table.now.slots.items) }
+    ensures tends { Tends heap.now cache.new (blocks_of table.now.slots.items) }
+    ensures answers { HasFilled cache.old table.now number from result cache.new table.now }
 {
-    if !pass.idle() {
+    if !cache.idle() {
         return Err(Refusal::InCall);
     }
     let Some(index) = table.find(number) else {
@@ -97,17 +98,17 @@ pub fn fill(
     let Some(block) = table.block(index) else {
         return Err(Refusal::NoBlock);
     };
-    heap.fill(pass, block, from);
+    fill_words(heap, cache, block, from);
     Ok(())
 }
 
 /// The sum of the words of the block of this number, modulo 2^64.
-pub fn sum(heap: &Heap, pass: &mut Pass, table: &Table, number: u64) -> Result<u64, Refusal>
-    requires hand { IsHand heap.now pass.old (blocks_of table.now.slots.items) }
-    ensures hand { IsHand heap.now pass.new (blocks_of table.now.slots.items) }
-    ensures answers { HasSummed pass.old table.now number result pass.new table.now }
+pub fn sum(heap: &Heap, cache: &mut Cache, table: &Table, number: u64) -> Result<u64, Refusal>
+    requires tends { Tends heap.now cache.old (blocks_of table.now.slots.items) }
+    ensures tends { Tends heap.now cache.new (blocks_of table.now.slots.items) }
+    ensures answers { HasSummed cache.old table.now number result cache.new table.now }
 {
-    if !pass.idle() {
+    if !cache.idle() {
         return Err(Refusal::InCall);
     }
     let Some(index) = table.find(number) else {
@@ -116,7 +117,7 @@ pub fn sum(heap: &Heap, pass: &mut Pass, table: &Table, number: u64) -> Result<u
     let Some(block) = table.block(index) else {
         return Err(Refusal::NoBlock);
     };
-    Ok(heap.sum(pass, block))
+    Ok(sum_words(heap, cache, block))
 }
 
 /// Where a range of a block ends; nowhere, if the block hasn't all its words.
@@ -133,35 +134,63 @@ fn range_end(block: &Block, from: u32, count: usize) -> Option<u32>
 }
 
 /// Writes the words of a block from one on, up to another, with these.
-fn write_words(heap: &Heap, pass: &mut Pass, block: &Block, from: u32, end: u32, words: &[u64])
-    requires of { IsOf heap.now pass.old }
-    requires idle { IsIdle pass.old.errand }
-    requires owned { Owns pass.old block.now }
+fn write_words(heap: &Heap, cache: &mut Cache, block: &Block, from: u32, end: u32, words: &[u64])
+    requires cache { IsCache heap.now cache.old }
+    requires idle { IsIdle cache.old.pass.errand }
+    requires held { HoldsBlock cache.old block.now }
     requires within { end ≤ usable_words block.now.need }
     requires count { from + length words.now ≡ end }
-    ensures of { IsOf heap.now pass.new }
-    ensures idle { IsIdle pass.new.errand }
-    ensures keeps { (other : Block) → Owns pass.old other → Owns pass.new other }
-    ensures wrote { LeadsBy (CallsOnWord heap.now) pass.old (wrote_from block.now.place block.now.need from words.now) pass.new }
+    ensures cache { IsCache heap.now cache.new }
+    ensures holds { (held : List Block) → Holds cache.old held → Holds cache.new held }
+    ensures wrote { Asked (λ p q. LeadsBy (CallsOnWord heap.now) p (wrote_from block.now.place block.now.need from words.now) q) cache.old cache.new }
 {
     for i in from..end {
-        heap.write(pass, block, i, words[(i - from) as usize]);
+        cache.write(heap, block, i, words[(i - from) as usize]);
     }
 }
 
 /// Reads the words of a block from one on, up to another, into these.
-fn read_words(heap: &Heap, pass: &mut Pass, block: &Block, from: u32, end: u32, words: &mut [u64])
-    requires of { IsOf heap.now pass.old }
-    requires idle { IsIdle pass.old.errand }
-    requires owned { Owns pass.old block.now }
+fn read_words(heap: &Heap, cache: &mut Cache, block: &Block, from: u32, end: u32, words: &mut [u64])
+    requires cache { IsCache heap.now cache.old }
+    requires idle { IsIdle cache.old.pass.errand }
+    requires held { HoldsBlock cache.old block.now }
     requires within { end ≤ usable_words block.now.need }
     requires count { from + length words.old ≡ end }
-    ensures of { IsOf heap.now pass.new }
-    ensures idle { IsIdle pass.new.errand }
-    ensures keeps { (other : Block) → Owns pass.old other → Owns pass.new other }
-    ensures found { LeadsBy (CallsOnWord heap.now) pass.old (found_from block.now.place block.now.need from words.new) pass.new }
+    ensures cache { IsCache heap.now cache.new }
+    ensures holds { (held : List Block) → Holds cache.old held → Holds cache.new held }
+    ensures found { Asked (λ p q. LeadsBy (CallsOnWord heap.now) p (found_from block.now.place block.now.need from words.new) q) cache.old cache.new }
 {
     for i in from..end {
-        words[(i - from) as usize] = heap.read(pass, block, i);
+        words[(i - from) as usize] = cache.read(heap, block, i);
     }
+}
+
+/// Writes all words of a block: word i with from + i, modulo 2^64.
+fn fill_words(heap: &Heap, cache: &mut Cache, block: &Block, from: u64)
+    requires cache { IsCache heap.now cache.old }
+    requires idle { IsIdle cache.old.pass.errand }
+    requires held { HoldsBlock cache.old block.now }
+    ensures cache { IsCache heap.now cache.new }
+    ensures holds { (held : List Block) → Holds cache.old held → Holds cache.new held }
+    ensures wrote { Asked (λ p q. LeadsBy (CallsOnWord heap.now) p (wrote block.now.place block.now.need from (usable_words block.now.need)) q) cache.old cache.new }
+{
+    for i in 0..block.words() {
+        cache.write(heap, block, i, from.wrapping_add(u64::from(i)));
+    }
+}
+
+/// Reads all words of a block, and adds them up, modulo 2^64.
+fn sum_words(heap: &Heap, cache: &mut Cache, block: &Block) -> u64
+    requires cache { IsCache heap.now cache.old }
+    requires idle { IsIdle cache.old.pass.errand }
+    requires held { HoldsBlock cache.old block.now }
+    ensures cache { IsCache heap.now cache.new }
+    ensures holds { (held : List Block) → Holds cache.old held → Holds cache.new held }
+    ensures sums { Asked (λ p q. Sums (CallsOnWord heap.now) p block.now.place block.now.need result q) cache.old cache.new }
+{
+    let mut total = 0u64;
+    for i in 0..block.words() {
+        total = total.wrapping_add(cache.read(heap, block, i));
+    }
+    total
 }

@@ -59,7 +59,7 @@ resumable h c is busy =
 -- a cache whose pass went on
 pub passed : (h : Heap) (c : Cache) (q : Pass) → IsCache h c → IsHand h q (cached_in c)
     → IsCache h (record { pass = q; magazines = c.magazines; hits = c.hits })
-passed h c q is hand = record { hand = hand; magazines = is.magazines; some = is.some; few = is.few }
+passed h c q is hand = record { hand = hand; magazines = is.magazines; few = is.few }
 
 -- a cache with other magazines
 pub refilled : (h : Heap) (c : Cache) (p : Pass) (m : Magazines) (hits : ℕ) → IsCache h c → m.depth ≡ c.magazines.depth
@@ -69,7 +69,6 @@ refilled h c p m hits is depth ready hand =
     record {
       hand = hand;
       magazines = subst (λ k. AreForClasses k m.stacks.items) (sym depth) ready;
-      some = subst (λ k. 1 ≤ k) (sym depth) is.some;
       few = subst (λ k. k ≤ 64) (sym depth) is.few;
     }
 

@@ -1,6 +1,7 @@
 -- Whole calls through a cache.
-use Rattle.std.proofs.Common.{ℕ, ◌≡◌, ◌≢◌, ◌<◌, ◌⊎◌, inl, inr, refl, sym, ap, ◌∙◌, subst, arith, length}
+use Rattle.std.proofs.Common.{ℕ, zero, suc, ◌≡◌, ◌≢◌, ◌<◌, ◌≤◌, ◌⊎◌, List, [], ◌∷◌, Vec, inl, inr, refl, sym, ap, ◌∙◌, subst, arith, length}
 use Rattle.std.specs.Prelude.{All}
+use Rattle.std.specs.declared.alloc.Global.{Global}
 use Rattle.std.proofs.lemmas.Bool.{cases_lt}
 use Rattle.heap_geometry.specs.declared.need.Need.{Need}
 use Rattle.heap_geometry.specs.declared.need.Need.TheVariants.{Small, Large, TooLarge}
@@ -25,13 +26,13 @@ use Rattle.live_heap.specs.Holdings.{Holds}
 use Rattle.live_heap.proofs.WholeLaws.{pass-apart, pass-hands, pass-keeps}
 use Rattle.block_cache.specs.declared.cache.Cache.{Cache}
 use Rattle.block_cache.specs.declared.magazines.Magazines.{Magazines}
-use Rattle.block_cache.specs.Magazines.{all_in, stacks_of}
+use Rattle.block_cache.specs.Magazines.{AreMagazines, all_in, stack_at, stacks_of}
 use Rattle.block_cache.specs.Caches.{HasFor, HasKept, HasRoom, HasServed, HoldsBlock, IsCache, KeepsMagazines, cached_in, magazine_in, stacks_in}
 use Rattle.block_cache.specs.Whole.{Asks, EndsAs, HoldsAt, IsWholeCall, RestsAt, asked, kept, served}
 use Rattle.block_cache.proofs.MagazineLemmas.{top-splits}
 
 -- it is known whether a magazine has a block for a need, and whether one has room
-for-or-not : (c : Cache) (need : Need) → HasFor c need ⊎ ¬ HasFor c need
+pub for-or-not : (c : Cache) (need : Need) → HasFor c need ⊎ ¬ HasFor c need
 for-or-not c (Small class) =
     elim (cases_lt 0 (length (magazine_in c class))) [
       | inl some_there ↦ inl (class, refl, some_there)
@@ -43,7 +44,7 @@ for-or-not c (Small class) =
 for-or-not c (Large units) = inr (λ (other, is, has). let e : Large units ≡ Small other = is in absurd (cc))
 for-or-not c TooLarge = inr (λ (other, is, has). let e : TooLarge ≡ Small other = is in absurd (cc))
 
-room-or-not : (c : Cache) (need : Need) → HasRoom c need ⊎ ¬ HasRoom c need
+pub room-or-not : (c : Cache) (need : Need) → HasRoom c need ⊎ ¬ HasRoom c need
 room-or-not c (Small class) =
     elim (cases_lt (length (magazine_in c class)) c.magazines.depth) [
       | inl some_there ↦ inl (class, refl, some_there)
@@ -54,6 +55,18 @@ room-or-not c (Small class) =
     ]
 room-or-not c (Large units) = inr (λ (other, is, has). let e : Large units ≡ Small other = is in absurd (cc))
 room-or-not c TooLarge = inr (λ (other, is, has). let e : TooLarge ≡ Small other = is in absurd (cc))
+
+-- no magazine has more blocks than the depth says; with a depth of 0 none has a block or room
+stack-few : (class depth number : ℕ) (magazines : List (Vec Block Global)) → AreMagazines class depth magazines
+    → length (stack_at (stacks_of magazines) number) ≤ depth
+stack-few class depth number [] are = omega arith
+stack-few class depth zero (m ∷ ms) are = are.0.few
+stack-few class depth (suc number) (m ∷ ms) are = stack-few (suc class) depth number ms are.1
+
+pub no-depth : (h : Heap) (c : Cache) (need : Need) → IsCache h c → c.magazines.depth ≡ 0 → (¬ HasFor c need) × (¬ HasRoom c need)
+no-depth h c need is none =
+    let few = λ (class : ℕ). stack-few 0 c.magazines.depth class c.magazines.stacks.items is.magazines.each in
+    (λ (class, of, some_there). omega (arith, some_there, none, few class), λ (class, of, room). omega (arith, room, none))
 
 -- who asks for a call on a block owns it
 asks-owns : (c : Cache) (call : Call) → Asks c call → OwnsFor c.pass call

@@ -26,7 +26,6 @@ cached_in c = all_in (stacks_in c)
 pub record IsCache (h : Heap) (c : Cache) : Type 0 where
   pub hand : IsHand h c.pass (cached_in c)
   pub magazines : AreForClasses c.magazines.depth c.magazines.stacks.items
-  pub some : 1 ≤ c.magazines.depth
   pub few : c.magazines.depth ≤ 64
 
 -- the blocks that its caller holds, which was given or has taken them, and has neither freed nor put them: with those in magazines they are all that it owns, each once, but for the one that a call under way is about

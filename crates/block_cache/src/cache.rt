@@ -45,11 +45,10 @@ pub struct CacheRefused {
 }
 
 impl Cache {
-    /// A cache in front of the pass, with empty magazines for so many blocks each, from 1 to 64. All memory
-    /// is taken here. The caller holds all blocks that it owns.
+    /// A cache in front of the pass, with empty magazines for so many blocks each, at most 64: with 0 none keeps a
+    /// block, and each call is the heap's. All memory is taken here. The caller holds all blocks that it owns.
     pub fn open(alloc: Global, pass: Pass, depth: u8) -> Result<Cache, CacheRefused>
         requires idle { IsIdle pass.errand }
-        requires some { 1 ≤ depth }
         requires few { depth ≤ 64 }
         ensures cache { IfOk result (λ cache. (h : Heap) → IsOf h pass → IsCache h cache) }
         ensures pass { IfOk result (λ cache. cache.pass ≡ pass) }

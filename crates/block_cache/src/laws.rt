@@ -79,3 +79,8 @@ pub fn magazines_are_hidden()
         → (stopped : HasStopped h c.pass (leaving (stacks_in c)) (leaving (stacks_in d)) tries d.pass)
         → HasEndedCall stopped.next (free stopped.block.place stopped.block.need) reply.Freed e.pass → KeepsMagazines d e → ShowsSame c e }
 {}
+
+/// A cache of depth 0 is its pass: no magazine has a block or room for one, so each call is the heap's.
+pub fn caches_without_depth_ask_the_heap()
+    ensures { (h : Heap) (c : Cache) (need : Need) → IsCache h c → c.magazines.depth ≡ 0 → (¬ HasFor c need) × (¬ HasRoom c need) }
+{}

@@ -6,7 +6,7 @@ use Rattle.balloc_c.proofs.balloc_close.Goals as goal
 
 pub returns-in-Ok : goal.returns-in-Ok
 returns-in-Ok c =
-    let counted = c.counts-hand_won.ensures ∙ ap (λ (hand : Hand). counts_of hand.pass) c.deref.ensures in
+    let counted = c.counts-hand_won.ensures ∙ ap (λ (hand : Hand). counts_of hand.cache.pass) c.deref.ensures in
     record {
       told = closes c.args.frees c.args.pass.now.held.hand c.take.new.self.held.hand c.deref_mut.result.now c.leave.new.self c.leave.result c.in-Ok.field-0
           c.args.won.now c.args.lost.now c.counts-hand_won.result.1 c.counts-hand_won.result.2

@@ -1,16 +1,15 @@
-use Rattle.std.proofs.Common.{w32, to_z, of_z, ℕ, ◌≡◌, Option, Some, Result, refl, sym, ap, ◌∙◌, subst}
-use Rattle.balloc_c.specs.declared.hand.Hand.{Hand}
+use Rattle.std.proofs.Common.{w32, to_z, of_z, ◌≡◌, Some, Result, sym, ap, ◌∙◌}
 use Rattle.balloc_c.specs.declared.refusal.Refusal.{Refusal}
-use Rattle.balloc_c.specs.Codes.{code_in, resumed_code, resumed_number, value_in}
-use Rattle.balloc_c.specs.Outcomes.{Counts, HasAllocated, HasCounted, HasFreed, HasPut, HasRead, HasResumed, HasTaken, HasWritten, Makes}
-use Rattle.balloc_c.specs.Ranges.{HasFilled, HasReadRange, HasSummed, HasWrittenRange, IsFound}
+use Rattle.balloc_c.specs.Codes.{code_in}
+use Rattle.balloc_c.specs.Outcomes.{Makes}
+use Rattle.balloc_c.specs.Ranges.{HasFilled}
 use Rattle.balloc_c.proofs.ToldLemmas.{shown, told as made}
 use Rattle.balloc_c.proofs.balloc_fill.Goals as goal
 
 pub returns-in-Some : goal.returns-in-Some
 returns-in-Some c =
     record {
-      told = made (Makes (λ p t. HasFilled p t c.args.id c.args.from))
+      told = made (Makes (λ s t. HasFilled s t c.args.id c.args.from))
           (λ (outcome : Result (Unit {0}) Refusal). to_z w32 (of_z w32 c.code_of.result) ≡ code_in outcome) c.args.pass.now.held.hand c.give.new.self.held.hand
           c.deref_mut.result.now c.fill-outcome.new.self c.fill-outcome.result (c.in-Some.ensures.value ∙ ap Some (sym c.deref_mut.ensures.value))
           c.give.ensures (shown c.fill-outcome.result c.code_of.result c.code_of.ensures) c.fill-outcome.ensures.made;

@@ -1,16 +1,14 @@
-use Rattle.std.proofs.Common.{w32, to_z, of_z, ℕ, ◌≡◌, Option, Some, Result, refl, sym, ap, ◌∙◌, subst}
-use Rattle.balloc_c.specs.declared.hand.Hand.{Hand}
+use Rattle.std.proofs.Common.{w32, to_z, of_z, ◌≡◌, Some, Result, sym, ap, ◌∙◌}
 use Rattle.balloc_c.specs.declared.refusal.Refusal.{Refusal}
-use Rattle.balloc_c.specs.Codes.{code_in, resumed_code, resumed_number, value_in}
-use Rattle.balloc_c.specs.Outcomes.{Counts, HasAllocated, HasCounted, HasFreed, HasPut, HasRead, HasResumed, HasTaken, HasWritten, Makes}
-use Rattle.balloc_c.specs.Ranges.{HasFilled, HasReadRange, HasSummed, HasWrittenRange, IsFound}
+use Rattle.balloc_c.specs.Codes.{code_in}
+use Rattle.balloc_c.specs.Outcomes.{HasFreed, Makes}
 use Rattle.balloc_c.proofs.ToldLemmas.{shown, told as made}
 use Rattle.balloc_c.proofs.balloc_free.Goals as goal
 
 pub returns-in-Some : goal.returns-in-Some
 returns-in-Some c =
     record {
-      told = made (Makes (λ p t. HasFreed p t c.args.id))
+      told = made (Makes (λ s t. HasFreed s t c.args.id))
           (λ (outcome : Result (Unit {0}) Refusal). to_z w32 (of_z w32 c.code_of.result) ≡ code_in outcome) c.args.pass.now.held.hand c.give.new.self.held.hand
           c.deref_mut.result.now c.free-outcome.new.self c.free-outcome.result (c.in-Some.ensures.value ∙ ap Some (sym c.deref_mut.ensures.value))
           c.give.ensures (shown c.free-outcome.result c.code_of.result c.code_of.ensures) c.free-outcome.ensures.made;

@@ -1,16 +1,14 @@
-use Rattle.std.proofs.Common.{w32, to_z, of_z, ℕ, ◌≡◌, Option, Some, Result, refl, sym, ap, ◌∙◌, subst}
-use Rattle.balloc_c.specs.declared.hand.Hand.{Hand}
+use Rattle.std.proofs.Common.{w32, to_z, of_z, ℕ, ◌≡◌, Option, Some, Result, sym, ap, ◌∙◌}
 use Rattle.balloc_c.specs.declared.refusal.Refusal.{Refusal}
-use Rattle.balloc_c.specs.Codes.{code_in, resumed_code, resumed_number, value_in}
-use Rattle.balloc_c.specs.Outcomes.{Counts, HasAllocated, HasCounted, HasFreed, HasPut, HasRead, HasResumed, HasTaken, HasWritten, Makes}
-use Rattle.balloc_c.specs.Ranges.{HasFilled, HasReadRange, HasSummed, HasWrittenRange, IsFound}
-use Rattle.balloc_c.proofs.ToldLemmas.{shown, shown_resumed, told as made}
+use Rattle.balloc_c.specs.Codes.{resumed_code, resumed_number}
+use Rattle.balloc_c.specs.Outcomes.{HasResumed, Makes}
+use Rattle.balloc_c.proofs.ToldLemmas.{shown_resumed, told as made}
 use Rattle.balloc_c.proofs.balloc_resume.Goals as goal
 
 pub returns-in-Some : goal.returns-in-Some
 returns-in-Some c =
     record {
-      told = made (Makes (λ p t. HasResumed p t))
+      told = made (Makes (λ s t. HasResumed s t))
           (λ (outcome : Result (Option ℕ) Refusal). (to_z w32 (of_z w32 c.code_resumed.result) ≡ resumed_code outcome) × (c.code_resumed.new.out ≡ resumed_number outcome c.args.id.now)) c.args.pass.now.held.hand c.give.new.self.held.hand
           c.deref_mut.result.now c.resume-outcome.new.self c.resume-outcome.result (c.in-Some.ensures.value ∙ ap Some (sym c.deref_mut.ensures.value))
           c.give.ensures (shown_resumed c.resume-outcome.result c.code_resumed.result c.code_resumed.ensures.code, c.code_resumed.ensures.value) c.resume-outcome.ensures.made;

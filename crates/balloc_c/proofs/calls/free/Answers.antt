@@ -1,80 +1,76 @@
-use Rattle.std.proofs.Common.{arith, rules, ◌≡◌, ◌<◌, ◌≤◌, ◌+◌, ◌-◌, true, false, Option, Some, None, length, get_or, refl, sym, ap, ◌∙◌, subst}
+use Rattle.std.proofs.Common.{rules, ◌≡◌, Some, sym, ◌∙◌}
 use Rattle.errand_steps.specs.Begins.{IsIdle}
-use Rattle.errand_steps.specs.Points.{is_idle}
-use Rattle.live_heap.specs.declared.block.Block.{Block}
-use Rattle.balloc_c.specs.Slots.{block_at, blocks_of}
-use Rattle.balloc_c.specs.Numbers.{named}
-use Rattle.heap_geometry.specs.Need.{usable_words}
-use Rattle.live_heap.specs.declared.answers.FreeAnswer.{FreeAnswer}
-use Rattle.live_heap.specs.Answers.{FreeTells}
-use Rattle.balloc_c.specs.declared.calls.TheConstants.{TRIES}
-use Rattle.balloc_c.specs.Numbers.{Loses}
-use Rattle.balloc_c.proofs.MadeCalls.{free-answers, free-stops, freed-hand, loses-at, owned-at}
+use Rattle.balloc_c.specs.Slots.{block_at}
+use Rattle.balloc_c.specs.Numbers.{Loses, named}
+use Rattle.balloc_c.proofs.Slots.{held-at}
+use Rattle.live_heap.specs.declared.answers.FreeAnswer.TheVariants as free_answer
+use Rattle.balloc_c.specs.Through.{IsFree}
+use Rattle.balloc_c.proofs.MadeCalls.{free-answers, free-stops, gone-tends, loses-at}
 use Rattle.balloc_c.proofs.calls.free.Goals as goal
 
-pub free-requires-clause-owned : goal.free-requires-clause-owned
-free-requires-clause-owned c =
+pub free-requires-clause-held : goal.free-requires-clause-held
+free-requires-clause-held c =
     let h = c.args.heap.now in
-    let p = c.args.pass.now in
+    let s = c.args.cache.now in
     let t = c.args.table.now in
     let index = c.in-Some.index in
     let block = c.unwrap-block.result in
-    let idle : IsIdle p.errand = search rules in
     let is : block_at t.slots.items index ≡ Some block = sym c.set.ensures.value ∙ c.unwrap-block.ensures in
-    owned-at h p t.slots.items index block c.requires.hand idle c.in-Some.ensures.found.0 is
+    let idle : IsIdle s.pass.errand = search rules in
+    held-at h s t.slots.items index block c.requires.tends idle c.in-Some.ensures.found.0 is
 
-pub returns-in-Freed-clause-hand : goal.returns-in-Freed-clause-hand
-returns-in-Freed-clause-hand c =
+pub returns-in-Freed-clause-tends : goal.returns-in-Freed-clause-tends
+returns-in-Freed-clause-tends c =
     let h = c.args.heap.now in
-    let p = c.args.pass.now in
+    let s = c.args.cache.now in
     let t = c.args.table.now in
     let index = c.in-Some.index in
     let block = c.unwrap-block.result in
-    let idle : IsIdle p.errand = search rules in
     let is : block_at t.slots.items index ≡ Some block = sym c.set.ensures.value ∙ c.unwrap-block.ensures in
-    freed-hand h p c.free.new.pass t.slots.items c.set.new.self.slots.items c.retire.new.self.slots.items index block c.free.result c.requires.hand idle
-    c.in-Some.ensures.found.0 is c.set.ensures.slots c.retire.ensures.blocks c.free.ensures.of c.free.ensures.tells
+    gone-tends h s c.free.new.self t.slots.items c.set.new.self.slots.items c.retire.new.self.slots.items index block c.requires.tends
+    c.in-Some.ensures.found.0 is c.set.ensures.slots c.retire.ensures.blocks c.free.ensures.cache c.free.ensures.holds
 
 pub returns-in-Freed-clause-answers : goal.returns-in-Freed-clause-answers
 returns-in-Freed-clause-answers c =
     let h = c.args.heap.now in
-    let p = c.args.pass.now in
+    let s = c.args.cache.now in
     let t = c.args.table.now in
     let index = c.in-Some.index in
     let block = c.unwrap-block.result in
-    let idle : IsIdle p.errand = search rules in
     let is : block_at t.slots.items index ≡ Some block = sym c.set.ensures.value ∙ c.unwrap-block.ensures in
+    let idle : IsIdle s.pass.errand = search rules in
     let names : named t c.args.number ≡ Some block = c.in-Some.ensures.found.2 ∙ is in
     let loses : Loses t c.args.number c.retire.new.self =
     loses-at t c.retire.new.self c.set.new.self.slots.items index c.args.number c.in-Some.ensures.found.1 c.in-Some.ensures.found.3
     c.in-Some.ensures.found.0 c.set.ensures.slots c.retire.ensures in
-    free-answers p t c.args.number block c.free.new.pass c.retire.new.self idle names
-    (subst (λ (a : FreeAnswer). FreeTells p block TRIES a c.free.new.pass) c.in-Freed.is c.free.ensures.tells) loses
+    let told : IsFree s block free_answer.Freed c.free.new.self =
+    record { kept = c.in-Freed.ensures.kept; asked = c.in-Freed.ensures.asked; depth = c.free.ensures.depth } in
+    free-answers s t c.args.number block c.free.new.self c.retire.new.self idle names told loses
 
-pub returns-in-Busy-clause-hand : goal.returns-in-Busy-clause-hand
-returns-in-Busy-clause-hand c =
+pub returns-in-Busy-clause-tends : goal.returns-in-Busy-clause-tends
+returns-in-Busy-clause-tends c =
     let h = c.args.heap.now in
-    let p = c.args.pass.now in
+    let s = c.args.cache.now in
     let t = c.args.table.now in
     let index = c.in-Some.index in
     let block = c.unwrap-block.result in
-    let idle : IsIdle p.errand = search rules in
     let is : block_at t.slots.items index ≡ Some block = sym c.set.ensures.value ∙ c.unwrap-block.ensures in
-    freed-hand h p c.free.new.pass t.slots.items c.set.new.self.slots.items c.retire.new.self.slots.items index block c.free.result c.requires.hand idle
-    c.in-Some.ensures.found.0 is c.set.ensures.slots c.retire.ensures.blocks c.free.ensures.of c.free.ensures.tells
+    gone-tends h s c.free.new.self t.slots.items c.set.new.self.slots.items c.retire.new.self.slots.items index block c.requires.tends
+    c.in-Some.ensures.found.0 is c.set.ensures.slots c.retire.ensures.blocks c.free.ensures.cache c.free.ensures.holds
 
 pub returns-in-Busy-clause-answers : goal.returns-in-Busy-clause-answers
 returns-in-Busy-clause-answers c =
     let h = c.args.heap.now in
-    let p = c.args.pass.now in
+    let s = c.args.cache.now in
     let t = c.args.table.now in
     let index = c.in-Some.index in
     let block = c.unwrap-block.result in
-    let idle : IsIdle p.errand = search rules in
     let is : block_at t.slots.items index ≡ Some block = sym c.set.ensures.value ∙ c.unwrap-block.ensures in
+    let idle : IsIdle s.pass.errand = search rules in
     let names : named t c.args.number ≡ Some block = c.in-Some.ensures.found.2 ∙ is in
     let loses : Loses t c.args.number c.retire.new.self =
     loses-at t c.retire.new.self c.set.new.self.slots.items index c.args.number c.in-Some.ensures.found.1 c.in-Some.ensures.found.3
     c.in-Some.ensures.found.0 c.set.ensures.slots c.retire.ensures in
-    free-stops p t c.args.number block c.free.new.pass c.retire.new.self idle names
-    (subst (λ (a : FreeAnswer). FreeTells p block TRIES a c.free.new.pass) c.in-Busy.is c.free.ensures.tells) loses
+    let told : IsFree s block free_answer.Busy c.free.new.self =
+    record { kept = c.in-Busy.ensures.kept; asked = c.in-Busy.ensures.asked; depth = c.free.ensures.depth } in
+    free-stops s t c.args.number block c.free.new.self c.retire.new.self idle names told loses

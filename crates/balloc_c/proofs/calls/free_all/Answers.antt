@@ -1,43 +1,58 @@
-use Rattle.std.proofs.Common.{arith, rules, ◌≡◌, ◌<◌, ◌≤◌, ◌+◌, ◌-◌, true, false, Option, Some, None, length, get_or, refl, sym, ap, ◌∙◌, subst}
+use Rattle.std.proofs.Common.{rules, None, Ok, Err, inl, inr}
 use Rattle.errand_steps.specs.Begins.{IsIdle}
-use Rattle.errand_steps.specs.Points.{is_idle}
-use Rattle.live_heap.specs.declared.block.Block.{Block}
-use Rattle.balloc_c.specs.Slots.{block_at, blocks_of}
-use Rattle.balloc_c.proofs.LeaveLemmas.{empty-next, freed-answers, frees-on, rest-next, stops-answers}
+use Rattle.live_heap.specs.declared.answers.FreeAnswer.TheVariants as free_answer
+use Rattle.balloc_c.specs.declared.refusal.Refusal.TheVariants as refusal
+use Rattle.balloc_c.specs.Closed.{Empties}
+use Rattle.balloc_c.specs.Outcomes.{barred, is_busy}
+use Rattle.balloc_c.specs.Slots.{blocks_of}
+use Rattle.balloc_c.specs.Through.{IsFlush}
+use Rattle.balloc_c.proofs.BarLemmas.{in-none, makes}
 use Rattle.balloc_c.proofs.calls.free_all.Goals as goal
 
 pub returns-in-Busy-clause-answers : goal.returns-in-Busy-clause-answers
 returns-in-Busy-clause-answers c =
-    let i = c.loop-index.invariant in
+    let s = c.args.cache.now in
     let t = c.args.table.now in
-    let slots = c.loop-index.table.slots.items in
-    let idle : IsIdle c.args.pass.now.errand = search rules in
-    let within : c.loop-index.index < length t.slots.items = omega (arith, c.loop-index-test.true, c.len-index-end.ensures) in
-    let here : c.loop-index.index < length slots = omega (arith, within, i.count) in
-    stops-answers c.args.pass.now c.loop-index.pass c.free_slot.new.pass t c.free_slot.new.table slots c.loop-index.index c.free_slot.result idle within
-    here (c.free_slot.ensures.count ∙ i.count) i.empty i.rest c.free_slot.ensures.same i.freed c.free_slot.ensures.freed c.in-Busy.is
+    let idle : IsIdle s.pass.errand = search rules in
+    makes (barred (is_busy s.pass) refusal.InCall None) (Empties s t) s t (Err refusal.Interrupted) c.free_slots.new.cache c.free_slots.new.table
+    (in-none s.pass None idle) (inl c.in-Busy.ensures.freed)
 
-pub loop-index-preserved : goal.loop-index-preserved
-loop-index-preserved c =
-    let i = c.loop-index.invariant in
-    let before = c.args.table.now.slots.items in
-    let slots = c.loop-index.table.slots.items in
-    let after = c.free_slot.new.table.slots.items in
-    let within : c.loop-index.index < length before = omega (arith, c.loop-index-test.true, c.len-index-end.ensures) in
-    let here : c.loop-index.index < length slots = omega (arith, within, i.count) in
-    record {
-      hand = c.free_slot.ensures.hand;
-      idle = c.free_slot.ensures.idle c.in-Freed.is;
-      count = c.free_slot.ensures.count ∙ i.count;
-      empty = empty-next before slots after c.loop-index.index here c.free_slot.ensures.same i.empty;
-      rest = rest-next before slots after c.loop-index.index c.free_slot.ensures.same i.rest;
-      freed = frees-on c.args.pass.now c.loop-index.pass c.free_slot.new.pass before slots c.loop-index.index c.free_slot.result within i.rest i.freed
-          c.free_slot.ensures.freed c.in-Freed.is;
-    }
+pub returns-in-Freed-flush-clause-tends : goal.returns-in-Freed-flush-clause-tends
+returns-in-Freed-flush-clause-tends c =
+    let blocks = blocks_of c.free_slots.new.table.slots.items in
+    record { cache = c.flush.ensures.cache; holds = c.flush.ensures.holds blocks c.free_slots.ensures.tends.holds }
 
-pub returns-clause-answers : goal.returns-clause-answers
-returns-clause-answers c =
-    let i = c.loop-index.invariant in
-    let idle : IsIdle c.args.pass.now.errand = search rules in
-    freed-answers c.args.pass.now c.loop-index.pass c.args.table.now c.loop-index.table c.loop-index.index idle
-    (omega (arith, c.loop-index-test.false, c.len-index-end.ensures)) i.count i.empty i.rest i.freed
+pub returns-in-Freed-flush-clause-answers : goal.returns-in-Freed-flush-clause-answers
+returns-in-Freed-flush-clause-answers c =
+    let s = c.args.cache.now in
+    let t = c.args.table.now in
+    let idle : IsIdle s.pass.errand = search rules in
+    let told : IsFlush c.free_slots.new.cache free_answer.Freed c.flush.new.self = record {
+      heap = c.args.heap.now;
+      of = c.free_slots.ensures.tends.cache.hand.of;
+      tells = c.in-Freed-flush.ensures.tells;
+      depth = c.flush.ensures.depth;
+      hits = c.flush.ensures.hits;
+    } in
+    makes (barred (is_busy s.pass) refusal.InCall None) (Empties s t) s t (Ok tt) c.flush.new.self c.free_slots.new.table
+    (in-none s.pass None idle) (c.free_slots.new.cache, c.in-Freed.ensures.freed, told)
+
+pub returns-in-Busy-flush-clause-tends : goal.returns-in-Busy-flush-clause-tends
+returns-in-Busy-flush-clause-tends c =
+    let blocks = blocks_of c.free_slots.new.table.slots.items in
+    record { cache = c.flush.ensures.cache; holds = c.flush.ensures.holds blocks c.free_slots.ensures.tends.holds }
+
+pub returns-in-Busy-flush-clause-answers : goal.returns-in-Busy-flush-clause-answers
+returns-in-Busy-flush-clause-answers c =
+    let s = c.args.cache.now in
+    let t = c.args.table.now in
+    let idle : IsIdle s.pass.errand = search rules in
+    let told : IsFlush c.free_slots.new.cache free_answer.Busy c.flush.new.self = record {
+      heap = c.args.heap.now;
+      of = c.free_slots.ensures.tends.cache.hand.of;
+      tells = c.in-Busy-flush.ensures.tells;
+      depth = c.flush.ensures.depth;
+      hits = c.flush.ensures.hits;
+    } in
+    makes (barred (is_busy s.pass) refusal.InCall None) (Empties s t) s t (Err refusal.Interrupted) c.flush.new.self c.free_slots.new.table
+    (in-none s.pass None idle) (inr (c.free_slots.new.cache, c.in-Freed.ensures.freed, told))

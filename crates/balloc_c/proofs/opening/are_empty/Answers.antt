@@ -1,4 +1,4 @@
-use Rattle.std.proofs.Common.{arith, sym, ◌∙◌}
+use Rattle.std.proofs.Common.{sym, ◌∙◌}
 use Rattle.balloc_c.proofs.OpenLemmas.{all-empty, not-empty, one-more-empty}
 use Rattle.balloc_c.proofs.opening.are_empty.Goals as goal
 

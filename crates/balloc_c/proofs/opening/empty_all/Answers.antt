@@ -1,4 +1,4 @@
-use Rattle.std.proofs.Common.{arith, ◌<◌, ◌≤◌, length}
+use Rattle.std.proofs.Common.{arith, ◌<◌, length}
 use Rattle.balloc_c.proofs.OpenLemmas.{all-empty, emptied-one}
 use Rattle.balloc_c.proofs.opening.empty_all.Goals as goal
 

@@ -1,4 +1,4 @@
-use Rattle.std.proofs.Common.{ℕ, ◌≡◌, ◌+◌, length}
+use Rattle.std.proofs.Common.{◌≡◌, ◌+◌, length}
 use Rattle.std.specs.Arc.{arc_value}
 use Rattle.live_heap.specs.Passes.{AreFrom}
 use Rattle.balloc_c.specs.Opened.{HoldNew}
@@ -10,5 +10,5 @@ invariant-loop-pass l = record {
   is_finite : (goal.iterator-loop-pass).is_finite l.pass-iterator;
   left : AreFrom (arc_value l.heap) l.number l.pass-iterator.rest.items;
   count : l.number + length l.pass-iterator.rest.items ≡ length l.passes;
-  given : HoldNew (arc_value l.heap) l.number l.passes;
+  given : HoldNew (arc_value l.heap) l.depth l.number l.passes;
 }

@@ -1,4 +1,4 @@
-use Rattle.std.proofs.Common.{◌≡◌, ap, ◌∙◌, subst, rules}
+use Rattle.std.proofs.Common.{ℕ, ◌≡◌, ◌∙◌, subst, rules}
 use Rattle.heap_geometry.specs.declared.geometry.Geometry.{Geometry}
 use Rattle.balloc_c.specs.Opened.{HoldNew}
 use Rattle.balloc_c.proofs.opening.open_all.Goals as goal
@@ -7,10 +7,12 @@ pub returns-in-Ok : goal.returns-in-Ok
 returns-in-Ok c =
     let opened = c.in-Ok.ensures in
     let same : c.in-Some.geometry ≡ c.args.geometry = c.in-Some.ensures.some.0 in
+    let deep : c.in-Some.depth ≡ c.args.depth = c.in-Some.ensures.some.1 in
     record {
       empty = c.are_empty.ensures.yes (search rules);
-      checked = c.in-Some.ensures.some.1;
+      fit = c.in-Some.ensures.some.2;
       heap = opened.0;
       layout = opened.1 ∙ same;
-      new = subst (λ (g : Geometry). HoldNew opened.0 g.callers c.give_all.new.passes) same opened.2;
+      new = subst (λ (g : Geometry). HoldNew opened.0 c.args.depth g.callers c.give_all.new.passes) same
+          (subst (λ (n : ℕ). HoldNew opened.0 n c.in-Some.geometry.callers c.give_all.new.passes) deep opened.2);
     }

@@ -1,38 +1,35 @@
-use Rattle.std.proofs.Common.{arith, rules, ◌≡◌, ◌<◌, ◌≤◌, ◌+◌, ◌-◌, true, false, Option, Some, None, length, get_or, refl, sym, ap, ◌∙◌, subst}
+use Rattle.std.proofs.Common.{rules, ◌≡◌, Some, sym, ◌∙◌}
 use Rattle.errand_steps.specs.Begins.{IsIdle}
-use Rattle.errand_steps.specs.Points.{is_idle}
-use Rattle.live_heap.specs.declared.block.Block.{Block}
 use Rattle.balloc_c.specs.Slots.{block_at, blocks_of}
 use Rattle.balloc_c.specs.Numbers.{named}
-use Rattle.heap_geometry.specs.Need.{usable_words}
-use Rattle.live_heap.proofs.Holding.{kept-hand}
-use Rattle.balloc_c.proofs.MadeCalls.{sum-answers, owned-at}
+use Rattle.balloc_c.proofs.Slots.{held-at}
+use Rattle.balloc_c.proofs.MadeCalls.{sum-answers}
 use Rattle.balloc_c.proofs.ranges.sum.Goals as goal
 
-pub sum-requires-clause-owned : goal.sum-requires-clause-owned
-sum-requires-clause-owned c =
+pub sum_words-requires-clause-held : goal.sum_words-requires-clause-held
+sum_words-requires-clause-held c =
     let h = c.args.heap.now in
-    let p = c.args.pass.now in
+    let s = c.args.cache.now in
     let t = c.args.table.now in
     let block = c.in-Some-block.block in
-    let idle : IsIdle p.errand = search rules in
     let is : block_at t.slots.items c.in-Some.index ≡ Some block = sym c.block.ensures ∙ c.in-Some-block.is in
-    let names : named t c.args.number ≡ Some block = c.in-Some.ensures.found.2 ∙ is in
-    owned-at h p t.slots.items c.in-Some.index block c.requires.hand idle c.in-Some.ensures.found.0 is
+    let idle : IsIdle s.pass.errand = search rules in
+    held-at h s t.slots.items c.in-Some.index block c.requires.tends idle c.in-Some.ensures.found.0 is
 
-pub returns-clause-hand : goal.returns-clause-hand
-returns-clause-hand c =
-    let idle : IsIdle c.args.pass.now.errand = search rules in
-    kept-hand c.args.heap.now c.args.pass.now c.sum.new.pass (blocks_of c.args.table.now.slots.items) c.sum.ensures.of c.sum.ensures.idle
-    c.sum.ensures.keeps (c.requires.hand.holds idle)
+pub returns-clause-tends : goal.returns-clause-tends
+returns-clause-tends c =
+    record {
+      cache = c.sum_words.ensures.cache;
+      holds = c.sum_words.ensures.holds (blocks_of c.args.table.now.slots.items) c.requires.tends.holds;
+    }
 
 pub returns-clause-answers : goal.returns-clause-answers
 returns-clause-answers c =
     let h = c.args.heap.now in
-    let p = c.args.pass.now in
+    let s = c.args.cache.now in
     let t = c.args.table.now in
     let block = c.in-Some-block.block in
-    let idle : IsIdle p.errand = search rules in
     let is : block_at t.slots.items c.in-Some.index ≡ Some block = sym c.block.ensures ∙ c.in-Some-block.is in
+    let idle : IsIdle s.pass.errand = search rules in
     let names : named t c.args.number ≡ Some block = c.in-Some.ensures.found.2 ∙ is in
-    sum-answers h p t c.args.number c.sum.result block c.sum.new.pass idle names c.requires.hand.of c.sum.ensures.sums
+    sum-answers h s t c.args.number c.sum_words.result block c.sum_words.new.cache idle names c.requires.tends.cache.hand.of c.sum_words.ensures.sums

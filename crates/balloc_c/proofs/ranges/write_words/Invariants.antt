@@ -1,16 +1,18 @@
-use Rattle.std.proofs.Common.{◌-◌, take}
+use Rattle.std.proofs.Common.{◌-◌, List, take}
 use Rattle.errand_steps.specs.Begins.{IsIdle}
 use Rattle.call_events.specs.Made.{LeadsBy}
 use Rattle.live_heap.specs.declared.block.Block.{Block}
-use Rattle.live_heap.specs.Passes.{IsOf, Owns}
 use Rattle.live_heap.specs.Words.{CallsOnWord}
+use Rattle.block_cache.specs.Caches.{Holds, HoldsBlock, IsCache, KeepsMagazines}
 use Rattle.balloc_c.specs.Ranges.{wrote_from}
 use Rattle.balloc_c.proofs.ranges.write_words.Given as goal
 
 abbrev pub invariant-loop-i : goal.invariant-loop-i
 invariant-loop-i l = record {
-  of : IsOf l.heap l.pass;
-  idle : IsIdle l.pass.errand;
-  keeps : (other : Block) → Owns l.fn.pass other → Owns l.pass other;
-  wrote : LeadsBy (CallsOnWord l.heap) l.fn.pass (wrote_from l.block.place l.block.need l.from (take (l.i - l.from) l.words)) l.pass;
+  cache : IsCache l.heap l.cache;
+  idle : IsIdle l.cache.pass.errand;
+  held : HoldsBlock l.cache l.block;
+  keeps : KeepsMagazines l.fn.cache l.cache;
+  holds : (held : List Block) → Holds l.fn.cache held → Holds l.cache held;
+  wrote : LeadsBy (CallsOnWord l.heap) l.fn.cache.pass (wrote_from l.block.place l.block.need l.from (take (l.i - l.from) l.words)) l.cache.pass;
 }

@@ -5,7 +5,7 @@ use Rattle.std.specs.Prelude.{Some}
 use seplogic.Ra.Ura.{Ura}
 use mir.Val.{Val}
 use base.Logic.{SProp, ent, id⊢}
-use base.Fml.{ftrue, fsep, fex}
+use base.Fml.{ftrue, fsep}
 use prog.Memory.{Memory}
 use prog.Routine.{Routine}
 use prog.Wp.{WpFn, Tables}

@@ -1,0 +1,17 @@
+use Rattle.std.proofs.Common.{List}
+use Rattle.errand_steps.specs.Begins.{IsIdle}
+use Rattle.call_events.specs.Made.{LeadsBy, wrote}
+use Rattle.live_heap.specs.declared.block.Block.{Block}
+use Rattle.live_heap.specs.Words.{CallsOnWord}
+use Rattle.block_cache.specs.Caches.{Holds, HoldsBlock, IsCache, KeepsMagazines}
+use Rattle.balloc_c.proofs.ranges.fill_words.Given as goal
+
+abbrev pub invariant-loop-i : goal.invariant-loop-i
+invariant-loop-i l = record {
+  cache : IsCache l.heap l.cache;
+  idle : IsIdle l.cache.pass.errand;
+  held : HoldsBlock l.cache l.block;
+  keeps : KeepsMagazines l.fn.cache l.cache;
+  holds : (held : List Block) → Holds l.fn.cache held → Holds l.cache held;
+  wrote : LeadsBy (CallsOnWord l.heap) l.fn.cache.pass (wrote l.block.place l.block.need l.from l.i) l.cache.pass;
+}

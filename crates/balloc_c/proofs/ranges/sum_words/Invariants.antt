@@ -1,0 +1,20 @@
+use Rattle.std.proofs.Common.{ℕ, List, length, ◌≡◌, ◌%◌, ◌^◌}
+use Rattle.errand_steps.specs.Begins.{IsIdle}
+use Rattle.call_events.specs.Made.{LeadsBy, found_from}
+use Rattle.live_heap.specs.declared.block.Block.{Block}
+use Rattle.live_heap.specs.Words.{CallsOnWord}
+use Rattle.block_cache.specs.Caches.{Holds, HoldsBlock, IsCache, KeepsMagazines}
+use Rattle.std.specs.Prelude.{sum}
+use Rattle.balloc_c.proofs.ranges.sum_words.Given as goal
+
+abbrev pub invariant-loop-i : goal.invariant-loop-i
+invariant-loop-i l = record {
+  cache : IsCache l.heap l.cache;
+  idle : IsIdle l.cache.pass.errand;
+  held : HoldsBlock l.cache l.block;
+  keeps : KeepsMagazines l.fn.cache l.cache;
+  holds : (held : List Block) → Holds l.fn.cache held → Holds l.cache held;
+  sums :
+      (words : List ℕ) × (length words ≡ l.i) × (l.total ≡ sum words % 2 ^ 64)
+      × LeadsBy (CallsOnWord l.heap) l.fn.cache.pass (found_from l.block.place l.block.need 0 words) l.cache.pass;
+}
